@@ -54,9 +54,13 @@ run eq query bank log = (outcome query bank, noted_all eq bank log (asked query 
 abbrev pub Agree : {K V : Type 0} → List K → (K → V) → (K → V) → Type 0
 Agree keys bank other = All (λ k. other k ≡ bank k) keys
 
+-- each answer in the log is the bank's
+abbrev pub HoldsIn : {K V : Type 0} → (K → V) → List (K × V) → Type 0
+HoldsIn bank log = All (λ e. e.1 ≡ bank e.0) log
+
 -- the log has these keys and no others, each once, with its answer in the bank
 pub record IsLogOf {K V : Type 0} (keys : List K) (bank : K → V) (log : List (K × V)) : Type 0 where
   pub whole : All (λ k. Contains (map (λ e. e.0) log) k) keys
   pub within : All (λ e. Contains keys e.0) log
   pub once : AllPairs (λ e f. e.0 ≢ f.0) log
-  pub answers : All (λ e. e.1 ≡ bank e.0) log
+  pub answers : HoldsIn bank log

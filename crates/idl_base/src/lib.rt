@@ -4,14 +4,15 @@
 //! answer or a text whose results are kept. Nothing here knows of files, names or IDL.
 #![tactic(auto)]
 
-
 mod datum;
 mod query;
 mod seq;
 mod text;
 
-
 pub use datum::Datum;
-pub use query::agreement;
+pub use query::{agreement, logging, sequence};
 pub use seq::Seq;
 pub use text::Text;
+
+#[cfg(test)]
+mod tests;

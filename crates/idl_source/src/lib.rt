@@ -1,13 +1,37 @@
-// A library with one function.
+//! Names, lines and files as they are handed in, and the devices that bytes come from and go to.
+//!
+//! Nothing here reads a disk: a file is a list of lines that a caller handed in.
 #![tactic(auto)]
 
-ghost use Rattle.std.specs.Prelude.{◌≡◌};
-ghost use Rattle.idl_source.specs.Echo.{echo_of};
+mod device;
+mod entries;
+mod file;
+mod files;
+mod line;
+mod memory;
+mod name;
+mod parts;
+mod refusal;
 
-// The `ensures` clause is the contract: what `echo` returns is `echo_of` of its argument, a definition
-// in `specs/Echo.antt`, which a caller's clause can cite too.
-pub fn echo(x: usize) -> usize
-    ensures { result ≡ echo_of x }
-{
-    x
-}
+pub use device::{ReadFailed, Sink, Source, WriteFailed, write_all};
+pub use file::File;
+pub use files::Files;
+pub use line::{Line, NEWLINE};
+pub use memory::{BufferSink, SliceSource};
+pub use name::Name;
+pub use refusal::Refusal;
+
+/// Bytes that a name has at most.
+pub const MAX_NAME: usize = 255;
+
+/// Files at most.
+pub const MAX_FILES: usize = 4096;
+
+/// Lines that a file has at most.
+pub const MAX_LINES: usize = 200_000;
+
+/// Bytes that a line of a file has at most.
+pub const MAX_LINE: usize = 4096;
+
+#[cfg(test)]
+mod tests;

@@ -1,0 +1,5 @@
+pub mod DeviceLemmas
+pub mod EntryLemmas
+pub mod Ordered
+pub mod PartLemmas
+pub mod TextLemmas

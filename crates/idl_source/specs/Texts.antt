@@ -1,0 +1,30 @@
+-- The files of a project: a finite map from names to lists of lines.
+use Rattle.std.specs.Prelude.{ℕ, Bool, ◌&&◌, ◌||◌, List, is_none, nat_le, nat_lt, length, Result, Ok, Err, if◌then◌else◌}
+use Rattle.std.specs.Coded.{Coded, coded_list, coded_ℕ}
+use Rattle.std.specs.List.{list_any}
+use Rattle.std.specs.Ordering.{nat_cmp}
+use Rattle.std.specs.Cmp.Lexicographic.{slice_cmp}
+use Rattle.std.specs.FinMap as map
+use Rattle.idl_source.specs.Name.{is_name}
+use Rattle.idl_source.specs.declared.refusal.Refusal.{Refusal}
+use Rattle.idl_source.specs.declared.refusal.Refusal.TheVariants.{BadName, OverLimit}
+use Rattle.idl_source.specs.declared.TheConstants.{MAX_FILES, MAX_LINES, MAX_LINE}
+
+-- files by name: each is a list of lines, and a line a list of bytes
+abbrev pub Texts : Type 0
+Texts = map.FinMap (slice_cmp nat_cmp) (List (List ℕ))
+
+abbrev pub texts_code : Coded Texts
+texts_code = map.code (coded_list coded_ℕ) (coded_list (coded_list coded_ℕ))
+
+-- a file of these lines under this name goes past a limit
+abbrev pub is_over : Texts → List ℕ → List (List ℕ) → Bool
+is_over files name lines =
+    nat_lt MAX_LINES (length lines)
+    || (list_any (λ line. nat_lt MAX_LINE (length line)) lines
+    || (nat_le MAX_FILES (map.len files) && is_none (map.get files name)))
+
+-- the files after a put, or the least refusal
+abbrev pub after_put : Texts → List ℕ → List (List ℕ) → Result Texts Refusal
+after_put files name lines =
+    if is_name name then (if is_over files name lines then Err OverLimit else Ok (map.insert files name lines)) else Err BadName

@@ -1,0 +1,126 @@
+use crate::{File, Files, Line, MAX_FILES, MAX_LINE, MAX_LINES, Refusal};
+use std::alloc::{AllocError, Global};
+use std::test::Fail;
+
+fn line_of(alloc: Global, bytes: &[u8]) -> Result<Line, Fail> {
+    Ok(Line::new(alloc, bytes)?.ok_or("a newline")?)
+}
+
+fn lines_of(alloc: Global, texts: &[&[u8]]) -> Result<Vec<Line>, Fail> {
+    let mut lines = Vec::new(alloc);
+    for text in texts {
+        lines.push(line_of(alloc, text)?)?;
+    }
+    Ok(lines)
+}
+
+fn repeated(alloc: Global, line: &Line, count: usize) -> Result<Vec<Line>, AllocError> {
+    let mut lines = Vec::new(alloc);
+    for _ in 0..count {
+        lines.push(line.clone()?)?;
+    }
+    Ok(lines)
+}
+
+#[test]
+fn a_put_leaves_the_old_files_as_they_are(rt: HostRuntime) -> Result<(), Fail> {
+    let alloc = rt.alloc();
+    let none = Files::new(alloc);
+    let one = none.put(b"b.idl", lines_of(alloc, &[b"one".as_slice(), b"two"])?)?;
+    let two = one.put(b"a.idl", lines_of(alloc, &[b"".as_slice()])?)?;
+    let changed = two.put(b"b.idl", lines_of(alloc, &[b"three".as_slice()])?)?;
+    for (files, name, want) in [
+        (&none, b"b.idl".as_slice(), None),
+        (&one, b"b.idl", Some(b"one".as_slice())),
+        (&one, b"a.idl", None),
+        (&two, b"b.idl", Some(b"one".as_slice())),
+        (&two, b"a.idl", Some(b"".as_slice())),
+        (&changed, b"b.idl", Some(b"three".as_slice())),
+        (&changed, b"a.idl", Some(b"".as_slice())),
+        (&changed, b"c.idl", None),
+        (&changed, b"a//b", None),
+    ] {
+        let first = files.get(name).and_then(|file| file.lines().first());
+        assert_eq!(rt; first.map(|line| line.as_bytes()), want, "{name:?}");
+    }
+    assert_eq!(rt;
+        (none.len(), one.len(), two.len(), changed.len()),
+        (0, 1, 2, 2)
+    );
+    assert!(rt; none.is_empty() && !one.is_empty());
+    Ok(())
+}
+
+#[test]
+fn the_least_refusal_is_the_answer(rt: HostRuntime) -> Result<(), Fail> {
+    let alloc = rt.alloc();
+    let files = Files::new(alloc);
+    let long = [b'x'; MAX_LINE + 1];
+    let at_limit = line_of(alloc, &long[..MAX_LINE])?;
+    let over = line_of(alloc, &long)?;
+    let short = line_of(alloc, b";")?;
+    for (name, line, count, want) in [
+        (b"a.idl".as_slice(), &short, 4096, None),
+        (b"a.idl", &at_limit, 1, None),
+        (b"a.idl", &over, 1, Some(Refusal::OverLimit)),
+        (b"a.idl", &short, MAX_LINES, None),
+        (b"a.idl", &short, MAX_LINES + 1, Some(Refusal::OverLimit)),
+        (b"a//b", &over, 1, Some(Refusal::BadName)),
+        (b"a//b", &short, 1, Some(Refusal::BadName)),
+    ] {
+        let refused = files.put(name, repeated(alloc, line, count)?).err();
+        assert_eq!(rt; refused, want, "{name:?} with {count} lines");
+    }
+    Ok(())
+}
+
+#[test]
+fn there_are_at_most_so_many_files(rt: HostRuntime) -> Result<(), Fail> {
+    let alloc = rt.alloc();
+    let mut files = Files::new(alloc);
+    for i in 0..MAX_FILES {
+        let name = format!(in alloc; "{i}")?;
+        files = files.put(name.as_bytes(), Vec::new(alloc))?;
+    }
+    assert_eq!(rt; files.len(), MAX_FILES);
+    assert_eq!(rt;
+        files.put(b"new", Vec::new(alloc)).err(),
+        Some(Refusal::OverLimit)
+    );
+    let changed = files.put(b"17", lines_of(alloc, &[b"there".as_slice()])?)?;
+    assert_eq!(rt; changed.get(b"17").map(|file| file.lines().len()), Some(1));
+    assert_eq!(rt; files.get(b"17").map(|file| file.lines().len()), Some(0));
+    Ok(())
+}
+
+#[test]
+fn files_of_the_same_lines_are_equal(rt: HostRuntime) -> Result<(), Fail> {
+    let alloc = rt.alloc();
+    let file = File::new(alloc, lines_of(alloc, &[b"a".as_slice(), b"b"])?)?;
+    let same = File::new(alloc, lines_of(alloc, &[b"a".as_slice(), b"b"])?)?;
+    let other = File::new(alloc, lines_of(alloc, &[b"ab".as_slice()])?)?;
+    assert!(rt; file == same && file == file.clone()?);
+    assert!(rt; file != other);
+    Ok(())
+}
+
+// Where memory is refused the old files stand, and the put asked again is accepted.
+#[test]
+fn a_put_that_meets_want_of_memory_changes_nothing(rt: HostRuntime) -> Result<(), Fail> {
+    let alloc = rt.alloc();
+    let one = Files::new(alloc).put(b"a.idl", lines_of(alloc, &[b"one".as_slice()])?)?;
+    let lines = lines_of(alloc, &[b"two".as_slice()])?;
+    let again = lines_of(alloc, &[b"two".as_slice()])?;
+    let two = match one.put(b"b.idl", lines) {
+        Ok(two) => two,
+        Err(refusal) => {
+            assert_eq!(rt; refusal, Refusal::NoMemory);
+            assert_eq!(rt; one.len(), 1);
+            assert_eq!(rt; one.get(b"a.idl").map(|file| file.lines().len()), Some(1));
+            assert!(rt; one.get(b"b.idl").is_none());
+            one.put(b"b.idl", again)?
+        }
+    };
+    assert_eq!(rt; two.len(), 2);
+    Ok(())
+}
