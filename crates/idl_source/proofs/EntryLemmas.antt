@@ -1,5 +1,5 @@
 -- The entries of files: what a search among them answers, and what stands in them after an edit.
-use Rattle.std.proofs.Common.{◌≡◌, ℕ, zero, suc, set, ◌+◌, ◌<◌, ◌≤◌, true, List, [], ◌∷◌, map, length, Result, Ok, Err, IfOk, IfErr, IsTrue, T, refl, sym, ap, subst, ◌∙◌, arith}
+use Rattle.std.proofs.Common.{◌≡◌, ℕ, zero, suc, set, List, [], ◌∷◌, map, length, Result, Ok, Err, IfOk, IfErr, IsTrue, T, refl, sym, ap, subst, ◌∙◌}
 use Rattle.std.specs.Global.{Global}
 use Rattle.std.specs.List.{AllZip, insert}
 use Rattle.std.specs.List.Sorted.{IsSearchInRange, IsBinarySearchResult}

@@ -1,8 +1,8 @@
 -- Entries in the order of their keys: what a binary search finds among them, and what an edit at that place does.
-use Rattle.std.proofs.Common.{◌≡◌, ℕ, zero, suc, ◌+◌, ◌<◌, ◌≤◌, Bool, true, false, ◌&&◌, List, [], ◌∷◌, ◌++◌, map, length, get_or, set, take, drop, Some, None, refl, sym, ap, ◌∙◌, subst, arith, add-one, T, cond}
+use Rattle.std.proofs.Common.{◌≡◌, ℕ, zero, suc, ◌<◌, ◌≤◌, Bool, true, false, ◌&&◌, List, [], ◌∷◌, map, length, get_or, set, Some, None, refl, sym, ap, ◌∙◌, arith, add-one, T, cond}
 use Rattle.std.specs.List.{AllWithin, insert}
 use Rattle.std.specs.List.Sorted.{IsSortedBy, IsNonDecreasingBy}
-use Rattle.std.specs.Ordering.{is_lt, ordering_reverse, ordering_index, eq_by_cmp, is_eq}
+use Rattle.std.specs.Ordering.{is_lt, ordering_reverse, ordering_index, is_eq}
 use Rattle.std.specs.declared.cmp.Ordering.{Ordering}
 use Rattle.std.specs.declared.cmp.Ordering.TheVariants.{Less, Equal, Greater}
 use Rattle.std.specs.Cmp.{IsTotalOrder, tied_itself}

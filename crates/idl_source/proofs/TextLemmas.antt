@@ -1,5 +1,5 @@
 -- The files as a finite map: what entries in the order of their names are a map of.
-use Rattle.std.proofs.Common.{◌≡◌, ℕ, List, [], map, length, true, IsTrue, Option, Some, None, Ok, Err, cond, get_or, T, false, refl, sym, ap, subst, ◌∙◌}
+use Rattle.std.proofs.Common.{◌≡◌, ℕ, List, length, true, IsTrue, Some, None, Ok, Err, cond, get_or, T, false, refl, sym, ap, subst, ◌∙◌}
 use Rattle.std.specs.Global.{Global}
 use Rattle.std.specs.Ordering.{nat_cmp}
 use Rattle.std.specs.Cmp.Lexicographic.{slice_cmp, nat_list_cmp_total}

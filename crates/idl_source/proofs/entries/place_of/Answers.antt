@@ -1,4 +1,4 @@
-use Rattle.std.proofs.Common.{List, ℕ, rules}
+use Rattle.std.proofs.Common.{rules}
 use Rattle.std.specs.Global.{Global}
 use Rattle.std.specs.Ordering.{nat_cmp}
 use Rattle.std.specs.Cmp.Lexicographic.{slice_cmp}

@@ -1,5 +1,4 @@
-use Rattle.std.proofs.Common.{◌≡◌, ◌<◌, ◌≤◌, ◌++◌, ◌∷◌, ◌+◌, ◌∙◌, ℕ, true, false, eqb, get_or, take, drop, length, arith, sym, ap, refl, eq-eqb}
-use Rattle.std.specs.List.{All, slice_split}
+use Rattle.std.proofs.Common.{◌≡◌, ◌+◌, false, eqb, get_or, take, arith}
 use Rattle.std.proofs.lemmas.List.{take_all, take_rest}
 use Rattle.std.proofs.lemmas.List.Splits.{slice_split_none}
 use Rattle.std.proofs.lemmas.List.Elements.{All-more}

@@ -1,4 +1,4 @@
-use Rattle.std.proofs.Common.{◌≡◌, ◌∙◌, ap, sym, subst, List, ℕ, Some}
+use Rattle.std.proofs.Common.{◌∙◌, ap, sym, subst, List, Some}
 use Rattle.std.specs.Global.{Global}
 use Rattle.std.specs.FinMap as finite
 use Rattle.std.specs.declared.rc.Rc.{Rc}

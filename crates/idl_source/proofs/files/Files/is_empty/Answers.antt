@@ -1,5 +1,4 @@
-use Rattle.std.proofs.Common.{◌≡◌, ◌==◌, ◌∙◌, ap, sym, eqb-true, arith}
-use Rattle.std.proofs.lemmas.Bool.Decides.{nat_tests}
+use Rattle.std.proofs.Common.{◌==◌, ◌∙◌, ap, sym, eqb-true}
 use Rattle.idl_source.proofs.TextLemmas.{no-entries}
 use Rattle.idl_source.proofs.files.Files.is_empty.Goals as goal
 

@@ -1,4 +1,4 @@
-use Rattle.std.proofs.Common.{◌≡◌, ◌∙◌, ap, sym}
+use Rattle.std.proofs.Common.{◌∙◌, ap, sym}
 use Rattle.std.specs.FinMap as finite
 use Rattle.idl_source.proofs.TextLemmas.{len-texts}
 use Rattle.idl_source.proofs.files.Files.len.Goals as goal

@@ -1,6 +1,5 @@
-use Rattle.std.proofs.Common.{◌≡◌, List, ℕ, [], refl, sym, ap, ◌∙◌}
+use Rattle.std.proofs.Common.{List, [], refl, ap, ◌∙◌}
 use Rattle.std.specs.Global.{Global}
-use Rattle.std.specs.FinMap as finite
 use Rattle.std.specs.declared.rc.Rc.{Rc}
 use Rattle.idl_source.specs.declared.entries.Entry.{Entry}
 use Rattle.idl_source.specs.Entries.{entries_of}
