@@ -1,6 +1,6 @@
 -- Questions put to a bank of answers, one after another: each next question may depend on the answers before it.
 -- A bank is a function from its keys. Where a key may have no answer, V is an Option, and an absence is an answer too.
-use Rattle.std.specs.Prelude.{◌≡◌, ◌≢◌, Bool, List, [], ◌∷◌, ◌++◌, map, All, AllPairs, Contains, if◌then◌else◌}
+use Rattle.std.specs.Prelude.{◌≡◌, ◌≢◌, Bool, List, [], ◌∷◌, ◌++◌, Option, None, Some, map, All, AllPairs, Contains, if◌then◌else◌}
 use Rattle.std.specs.List.{list_any}
 
 -- a query: it is done, or asks a key and goes on with the answer, or tells an item and goes on
@@ -27,11 +27,63 @@ asked (Done a) bank = []
 asked (Ask k next) bank = k ∷ asked (next (bank k)) bank
 asked (Tell x query) bank = asked query bank
 
+-- a step of a query that is seen from outside: a key that is asked, or an item that is told
+pub data Mark (K X : Type 0) : Type 0 where
+  Asked : K → Mark K X
+  Told : X → Mark K X
+
+-- the steps that it takes over a bank, in order
+abbrev pub trace : {K V X A : Type 0} → Query K V X A → (K → V) → List (Mark K X)
+trace (Done a) bank = []
+trace (Ask k next) bank = Asked k ∷ trace (next (bank k)) bank
+trace (Tell x query) bank = Told x ∷ trace query bank
+
+-- the keys asked in a trace
+abbrev pub asked_in : {K X : Type 0} → List (Mark K X) → List K
+asked_in [] = []
+asked_in (Asked k ∷ marks) = k ∷ asked_in marks
+asked_in (Told x ∷ marks) = asked_in marks
+
+-- the items told in a trace
+abbrev pub told_in : {K X : Type 0} → List (Mark K X) → List X
+told_in [] = []
+told_in (Asked k ∷ marks) = told_in marks
+told_in (Told x ∷ marks) = x ∷ told_in marks
+
 -- one query after another
 abbrev pub and_then : {K V X A B : Type 0} → Query K V X A → (A → Query K V X B) → Query K V X B
 and_then (Done a) f = f a
 and_then (Ask k next) f = Ask k (λ v. and_then (next v) f)
 and_then (Tell x query) f = Tell x (and_then query f)
+
+-- what is left of an allowance after these items, or nothing where one of them is past it
+abbrev pub left_after : {X L : Type 0} → (L → X → Option L) → L → List X → Option L
+left_after spend left [] = Some left
+left_after spend left (x ∷ xs) = elim (spend left x) [ None ↦ None | Some rest ↦ left_after spend rest xs ]
+
+-- a trace and the same trace under an allowance: all of it, or as far as the first item past the allowance, and a last item
+-- in the place of that one
+pub data IsCut {K X L : Type 0} (spend : L → X → Option L) (last : X) (left : L) (whole cut : List (Mark K X)) : Type 0 where
+  within : (rest : L) → left_after spend left (told_in whole) ≡ Some rest → cut ≡ whole → IsCut spend last left whole cut
+  past : (before after : List (Mark K X)) (x : X) (rest : L) → whole ≡ before ++ Told x ∷ after → left_after spend left (told_in before) ≡ Some rest → spend rest x ≡ None
+      → cut ≡ before ++ Told last ∷ [] → IsCut spend last left whole cut
+
+-- a query that ends at the first item past its allowance: a last item stands in the place of that one, and nothing more is
+-- asked or told; then there is no outcome
+abbrev pub limited : {K V X A L : Type 0} → (L → X → Option L) → X → L → Query K V X A → Query K V X (Option A)
+limited spend last left (Done a) = Done (Some a)
+limited spend last left (Ask k next) = Ask k (λ v. limited spend last left (next v))
+limited spend last left (Tell x query) = elim (spend left x) [ None ↦ Tell last (Done None) | Some rest ↦ Tell x (limited spend last rest query) ]
+
+-- the query that asks the same and tells nothing: what would be told is gathered behind these items, beside the outcome
+abbrev pub gathered_after : {K V X Y A : Type 0} → List X → Query K V X A → Query K V Y (List X × A)
+gathered_after items (Done a) = Done (items, a)
+gathered_after items (Ask k next) = Ask k (λ v. gathered_after items (next v))
+gathered_after items (Tell x query) = gathered_after (items ++ x ∷ []) query
+
+-- the query that asks the same and tells nothing: the items are given with the outcome
+abbrev pub gathered : {K V X Y A : Type 0} → Query K V X A → Query K V Y (List X × A)
+gathered query = gathered_after [] query
 
 -- whether the log has the key, by a test of equality
 abbrev pub is_logged : {K V : Type 0} → (K → K → Bool) → List (K × V) → K → Bool

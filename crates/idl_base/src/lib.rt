@@ -10,7 +10,7 @@ mod seq;
 mod text;
 
 pub use datum::Datum;
-pub use query::{agreement, logging, sequence};
+pub use query::{agreement, gathering, limited_sequence, limiting, logging, sequence, tracing};
 pub use seq::Seq;
 pub use text::Text;
 

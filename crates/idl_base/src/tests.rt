@@ -1,6 +1,8 @@
 //! Texts, lists, pairs and options as their callers use them, and the laws of queries at plain types.
 
-use crate::{Datum, Seq, Text, agreement, logging, sequence};
+use crate::{
+    Datum, Seq, Text, agreement, gathering, limited_sequence, limiting, logging, sequence, tracing,
+};
 use std::alloc::{AllocError, Global};
 use std::cmp::Ordering;
 use std::hash::{FoldHasher, Hash, Hasher};
@@ -112,6 +114,10 @@ fn all_data_is_copied_alike(rt: HostRuntime) -> Result<(), Fail> {
 #[test]
 fn the_laws_of_queries_can_be_called() {
     agreement::<u8, bool, char, u64>();
+    tracing::<u8, bool, char, u64>();
     sequence::<u8, bool, char, u64, u64>();
+    limiting::<u8, bool, char, u64, u32>();
+    gathering::<u8, bool, char, (), u64>();
+    limited_sequence::<u8, bool, char, (), u64, u64, u32>();
     logging::<Text, bool, char, u64>();
 }
