@@ -1,0 +1,16 @@
+//! An example of a bank and of a task that asks it: a library, and trails through its pages.
+//!
+//! A key holds a list and a text, the next key follows from the last answer, and a key may have no answer. The titles on a
+//! trail have limited room, and what has none is not followed.
+#![tactic(auto)]
+
+mod library;
+mod page;
+mod trail;
+
+pub use library::{Library, Reference};
+pub use page::Page;
+pub use trail::{Start, Trail};
+
+#[cfg(test)]
+mod tests;
