@@ -1,0 +1,3 @@
+pub mod LongestLemmas
+pub mod TableLemmas
+pub mod TextLemmas
