@@ -1,0 +1,5 @@
+pub mod UnitLemmas
+pub mod TypedefLemmas
+pub mod VerdictLemmas
+pub mod RowLemmas
+pub mod FileLemmas

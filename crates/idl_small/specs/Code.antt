@@ -1,0 +1,16 @@
+-- The codes of diagnostics.
+use Rattle.std.specs.Prelude.{ℕ, ◌+◌, ◌/◌, ◌%◌, List, [], ◌∷◌}
+use Rattle.idl_small.specs.declared.code.Code.{Code}
+use Rattle.idl_small.specs.declared.code.Code.TheVariants.{BadToken, FileNotFound, NoTree, LeftOut, AlreadyDeclared, LikeKeyword}
+
+abbrev pub number_of : Code → ℕ
+number_of BadToken = 1
+number_of FileNotFound = 10
+number_of NoTree = 20
+number_of LeftOut = 21
+number_of AlreadyDeclared = 33
+number_of LikeKeyword = 36
+
+-- `E` and the two digits of the number
+abbrev pub text_of : Code → List ℕ
+text_of code = 69 ∷ (48 + number_of code / 10) ∷ (48 + number_of code % 10) ∷ []

@@ -1,0 +1,7 @@
+pub mod Code
+pub mod Unit
+pub mod Typedef
+pub mod Verdict
+pub mod Judge
+pub mod Row
+pub mod File

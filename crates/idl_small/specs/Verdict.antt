@@ -1,0 +1,79 @@
+-- The faults of units, and the names that units without fault declare.
+use Rattle.std.specs.Prelude.{ℕ, ◌+◌, ◌&&◌, ◌||◌, List, [], ◌∷◌, ◌++◌, flat_map, filter, fold, map, nat_eq, nat_lt, Option, None, Some, if◌then◌else◌}
+use Rattle.std.specs.Str.{bytes_eq}
+use Rattle.std.specs.List.{list_any}
+use Rattle.std.specs.Option.{option_or, option_to_list}
+use Rattle.idl_lex.specs.Keywords.{folded}
+use Rattle.idl_lex.specs.Kind.{name_of}
+use Rattle.idl_lex.specs.declared.kind.Kind.{Kind}
+use Rattle.idl_lex.specs.declared.kind.Kind.TheVariants.{Accepted, Refused, Identifier, Escaped, Miscased, Punctuation, Bad}
+use Rattle.idl_lex.specs.declared.token.Token.{Token}
+use Rattle.idl_small.specs.Code.{number_of}
+use Rattle.idl_small.specs.Typedef.{is_typedef}
+use Rattle.idl_small.specs.declared.code.Code.{Code}
+use Rattle.idl_small.specs.declared.code.Code.TheVariants.{BadToken, NoTree, LeftOut, AlreadyDeclared, LikeKeyword}
+use Rattle.idl_small.specs.declared.verdict.Fault.{Fault}
+
+-- the codes of a token, wherever it stands
+abbrev pub token_codes : Kind → List Code
+token_codes (Bad defect) = BadToken ∷ []
+token_codes Refused = LeftOut ∷ []
+token_codes Miscased = LikeKeyword ∷ []
+token_codes (Accepted keyword) = []
+token_codes Identifier = []
+token_codes Escaped = []
+token_codes (Punctuation mark) = []
+
+-- the faults that tokens have by these codes; the first token has this number
+abbrev pub faults_at : (Token → List Code) → ℕ → List Token → List Fault
+faults_at codes_of n [] = []
+faults_at codes_of n (t ∷ ts) = map (λ code. record { token = n; code = code }) (codes_of t) ++ faults_at codes_of (n + 1) ts
+
+-- the first step: tokens that may not stand in a unit
+abbrev pub token_faults : List Token → List Fault
+token_faults unit = faults_at (λ t. token_codes t.kind) 0 unit
+
+-- the second step: no tree has this spelling
+abbrev pub tree_faults : List Token → List Fault
+tree_faults unit = if is_typedef unit then [] else record { token = 0; code = NoTree } ∷ []
+
+-- the folded names that a token is: one if it is an identifier
+abbrev pub names_at : Token → List (List ℕ)
+names_at t = map folded (option_to_list (name_of t.kind t.spelling))
+
+-- the codes of a token whose name is declared before
+abbrev pub name_codes : List (List ℕ) → Token → List Code
+name_codes declared t = map (λ name. AlreadyDeclared) (filter (λ name. list_any (bytes_eq name) declared) (names_at t))
+
+-- the third step: names that are declared before
+abbrev pub name_faults : List (List ℕ) → List Token → List Fault
+name_faults declared unit = faults_at (name_codes declared) 0 unit
+
+-- the lesser of two faults: by the token, and at one token by the code
+abbrev pub lesser : Fault → Fault → Fault
+lesser f g = if nat_lt g.token f.token || (nat_eq g.token f.token && nat_lt (number_of g.code) (number_of f.code)) then g else f
+
+abbrev pub least : List Fault → Option Fault
+least [] = None
+least (f ∷ fs) = Some (fold lesser f fs)
+
+-- the fault of a unit before which these names are declared: the least of the first step that has one
+abbrev pub fault_of : List (List ℕ) → List Token → Option Fault
+fault_of declared unit =
+    option_or (least (token_faults unit)) (option_or (least (tree_faults unit)) (least (name_faults declared unit)))
+
+-- a unit, and its fault
+pub record Judged : Type 0 where
+  pub unit : List Token
+  pub fault : Option Fault
+
+-- the names that a unit declares: none if it is faulty
+abbrev pub added : List Token → Option Fault → List (List ℕ)
+added unit None = flat_map names_at unit
+added unit (Some fault) = []
+
+-- the units in order, each with its fault, where these names are declared before the first
+abbrev pub judged_after : List (List ℕ) → List (List Token) → List Judged
+judged_after declared [] = []
+judged_after declared (u ∷ us) =
+    record { unit = u; fault = fault_of declared u } ∷ judged_after (declared ++ added u (fault_of declared u)) us

@@ -1,0 +1,46 @@
+//! The codes of diagnostics.
+
+ghost use Rattle.std.specs.Prelude.{◌≡◌, ◌≤◌};
+ghost use Rattle.idl_small.specs.Code.{number_of, text_of};
+
+/// What is wrong, as a diagnostic's code says it.
+#[derive(Clone, Copy, Debug, PartialEq, Eq)]
+pub enum Code {
+    /// A token that is none of IDL.
+    BadToken,
+    /// The file isn't there.
+    FileNotFound,
+    /// No tree has this spelling.
+    NoTree,
+    /// A keyword that this profile leaves out.
+    LeftOut,
+    /// The name is declared already.
+    AlreadyDeclared,
+    /// A name that differs from a keyword in the case of letters alone.
+    LikeKeyword,
+}
+
+impl Code {
+    /// The number of the code, of two digits at most.
+    pub fn number(self) -> u8
+        ensures number { result ≡ number_of self }
+        ensures below { result ≤ 99 }
+    {
+        match self {
+            Code::BadToken => 1,
+            Code::FileNotFound => 10,
+            Code::NoTree => 20,
+            Code::LeftOut => 21,
+            Code::AlreadyDeclared => 33,
+            Code::LikeKeyword => 36,
+        }
+    }
+
+    /// The code as a row shows it: `E` and the two digits of its number.
+    pub fn text(self) -> [u8; 3]
+        ensures { result ≡ text_of self }
+    {
+        let number = self.number();
+        [b'E', b'0' + number / 10, b'0' + number % 10]
+    }
+}
