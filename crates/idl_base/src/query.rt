@@ -4,6 +4,7 @@
 
 ghost use Rattle.std.specs.Prelude.{◌≡◌, ◌++◌, [], Bool, List, Option, None, Some};
 ghost use Rattle.std.specs.Option.{option_map};
+ghost use Rattle.idl_base.specs.Progress.{Progress, after};
 ghost use Rattle.idl_base.specs.Query.{Query, outcome, told, asked, trace, asked_in, told_in, and_then, left_after, IsCut, limited, gathered_after, run, Agree, HoldsIn, IsLogOf};
 
 use crate::Datum;
@@ -34,13 +35,13 @@ pub fn sequence<K, V, X, A, B>()
     ensures run { (eq : K → K → Bool) (query : Query K V X A) (next : A → Query K V X B) (bank : K → V) (log : List (K × V)) → let first = run eq query bank log in run eq (and_then query next) bank log ≡ run eq (next first.0) bank first.1 }
 {}
 
-/// Under an allowance the trace of a query is all of it, or is cut at the first item past the allowance, where a last item
-/// stands in its place. So what is asked is a beginning of what is asked without allowance, and there is an outcome, the
+/// Under an allowance the trace of a query is all of it, or is cut at the first item past the allowance, where a last item,
+/// made of that one, stands in its place. So what is asked is a beginning of what is asked without allowance, and there is an outcome, the
 /// same one, where all items are within it.
 pub fn limiting<K, V, X, A, L>()
-    ensures cut { (spend : L → X → Option L) (last : X) (left : L) (query : Query K V X A) (bank : K → V) → IsCut spend last left (trace query bank) (trace (limited spend last left query) bank) }
-    ensures asked { (spend : L → X → Option L) (last : X) (left : L) (query : Query K V X A) (bank : K → V) → (after : List K) × (asked query bank ≡ asked (limited spend last left query) bank ++ after) }
-    ensures outcome { (spend : L → X → Option L) (last : X) (left : L) (query : Query K V X A) (bank : K → V) → outcome (limited spend last left query) bank ≡ option_map (λ _. outcome query bank) (left_after spend left (told query bank)) }
+    ensures cut { (spend : L → X → Option L) (last : X → X) (left : L) (query : Query K V X A) (bank : K → V) → IsCut spend last left (trace query bank) (trace (limited spend last left query) bank) }
+    ensures asked { (spend : L → X → Option L) (last : X → X) (left : L) (query : Query K V X A) (bank : K → V) → (after : List K) × (asked query bank ≡ asked (limited spend last left query) bank ++ after) }
+    ensures outcome { (spend : L → X → Option L) (last : X → X) (left : L) (query : Query K V X A) (bank : K → V) → outcome (limited spend last left query) bank ≡ option_map (λ _. outcome query bank) (left_after spend left (told query bank)) }
 {}
 
 /// A query whose items are gathered asks what it asked before, tells nothing, and gives the items behind those that were
@@ -51,13 +52,15 @@ pub fn gathering<K, V, X, Y, A>()
     ensures asked { (items : List X) (query : Query K V X A) (bank : K → V) → asked (gathered_after {Y = Y} items query) bank ≡ asked query bank }
 {}
 
-/// One query after another, under an allowance: where the first is past it, the second is not begun. Where the first is
-/// within it, the second goes on with what is left of the allowance, with the items gathered so far, and with the log.
-pub fn limited_sequence<K, V, X, Y, A, B, L>()
-    ensures past { (spend : L → X → Option L) (last : X) (left : L) (query : Query K V X A) (next : A → Query K V X B) (bank : K → V) → left_after spend left (told query bank) ≡ None
-        → trace (limited spend last left (and_then query next)) bank ≡ trace (limited spend last left query) bank }
-    ensures within { (spend : L → X → Option L) (last : X) (left rest : L) (eq : K → K → Bool) (query : Query K V X A) (next : A → Query K V X B) (bank : K → V) (items : List X) (log : List (K × V)) → left_after spend left (told query bank) ≡ Some rest
-        → let first = run eq query bank log in run eq (gathered_after {Y = Y} items (limited spend last left (and_then query next))) bank log ≡ run eq (gathered_after {Y = Y} (items ++ told query bank) (limited spend last rest (next first.0))) bank first.1 }
+/// How far a query comes under an allowance: one query after another, where the first comes to the second goes on. Once an
+/// item is past the allowance, nothing changes any more. A run under the allowance ends where the query comes to.
+pub fn progress<K, V, X, Y, A, B, L>()
+    ensures sequence { (spend : L → X → Option L) (last : X → X) (eq : K → K → Bool) (bank : K → V) (query : Query K V X A) (next : A → Query K V X B) (p : Progress K V X L)
+        → after spend last eq bank (and_then query next) p ≡ after spend last eq bank (next (outcome query bank)) (after spend last eq bank query p) }
+    ensures over { (spend : L → X → Option L) (last : X → X) (eq : K → K → Bool) (bank : K → V) (query : Query K V X A) (p : Progress K V X L) → p.left ≡ None → after spend last eq bank query p ≡ p }
+    ensures run { (spend : L → X → Option L) (last : X → X) (eq : K → K → Bool) (bank : K → V) (items : List X) (query : Query K V X A) (left : L) (log : List (K × V))
+        → let end = after spend last eq bank query (record { told = items; left = Some left; log = log })
+        in run eq (gathered_after {Y = Y} items (limited spend last left query)) bank log ≡ ((end.told, option_map (λ _. outcome query bank) end.left), end.log) }
 {}
 
 /// A run from the empty log leaves the log of the keys asked, and a bank in which that log holds agrees on those keys.

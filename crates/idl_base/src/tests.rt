@@ -1,7 +1,7 @@
 //! Texts, lists, pairs and options as their callers use them, and the laws of queries at plain types.
 
 use crate::{
-    Datum, Seq, Text, agreement, gathering, limited_sequence, limiting, logging, sequence, tracing,
+    Datum, Seq, Text, agreement, gathering, limiting, logging, progress, sequence, tracing,
 };
 use std::alloc::{AllocError, Global};
 use std::cmp::Ordering;
@@ -118,6 +118,6 @@ fn the_laws_of_queries_can_be_called() {
     sequence::<u8, bool, char, u64, u64>();
     limiting::<u8, bool, char, u64, u32>();
     gathering::<u8, bool, char, (), u64>();
-    limited_sequence::<u8, bool, char, (), u64, u64, u32>();
+    progress::<u8, bool, char, (), u64, u64, u32>();
     logging::<Text, bool, char, u64>();
 }

@@ -22,11 +22,11 @@ module _ (eq : Page → Page → Bool) (bank : Page → Option (List ℕ)) (titl
 
   -- what follows an answer
   abbrev after_answer : Option (List ℕ) → Query Page (Option (List ℕ)) (List ℕ) (Option (Unit {0}))
-  after_answer next = limited spend more room (elim next [ None ↦ Done tt | Some title ↦ Tell title (trail n (record page { title = title })) ])
+  after_answer next = limited spend (λ _. more) room (elim next [ None ↦ Done tt | Some title ↦ Tell title (trail n (record page { title = title })) ])
 
   -- what follows a title, by what is left of the room
   abbrev after_title : List ℕ → Option ℕ → Query Page (Option (List ℕ)) (List ℕ) (Option (Unit {0}))
-  after_title title left = elim left [ None ↦ Tell more (Done None) | Some rest ↦ Tell title (limited spend more rest (trail n (record page { title = title }))) ]
+  after_title title left = elim left [ None ↦ Tell more (Done None) | Some rest ↦ Tell title (limited spend (λ _. more) rest (trail n (record page { title = title }))) ]
 
   -- where it leads to a title for which there is no room, nothing more is asked
   pub run-past : (title : List ℕ) → bank page ≡ Some title → room < length title → run eq (rest_of_trail titles room (suc n) page) bank log ≡ (titles ++ more ∷ [], noted eq bank log page)

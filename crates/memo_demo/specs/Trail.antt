@@ -21,7 +21,7 @@ more = codes "..."
 
 -- the rest of a trail, behind the titles that were told: all titles are its outcome
 abbrev pub rest_of_trail : List (List ℕ) → ℕ → ℕ → Page → Query Page (Option (List ℕ)) (Unit {0}) (List (List ℕ))
-rest_of_trail titles room n page = and_then (gathered_after titles (limited spend more room (trail n page))) (λ given. Done given.0)
+rest_of_trail titles room n page = and_then (gathered_after titles (limited spend (λ _. more) room (trail n page))) (λ given. Done given.0)
 
 -- what a start asks, and the titles that come of it
 abbrev pub trail_from : Start → Query Page (Option (List ℕ)) (Unit {0}) (List (List ℕ))
