@@ -1,7 +1,7 @@
 -- The entries of files: what a search among them answers, and what stands in them after an edit.
 use Rattle.std.proofs.Common.{◌≡◌, ℕ, zero, suc, set, List, [], ◌∷◌, map, length, Result, Ok, Err, IfOk, IfErr, IsTrue, T, refl, sym, ap, subst, ◌∙◌}
 use Rattle.std.specs.Global.{Global}
-use Rattle.std.specs.List.{AllZip, insert}
+use Rattle.std.specs.List.{AllZip, insert, remove}
 use Rattle.std.specs.List.Sorted.{IsSearchInRange, IsBinarySearchResult}
 use Rattle.std.specs.Ordering.{nat_cmp}
 use Rattle.std.specs.Cmp.Lexicographic.{slice_cmp, nat_list_cmp_total}
@@ -55,3 +55,14 @@ entries_of-insert entries clones entry i same gap =
     map-insert entry_of clones i entry
     ∙ ap (λ (es : List (List ℕ × List (List ℕ))). insert es i (entry_of entry)) same
     ∙ sym (put_gap (slice_cmp nat_cmp) nat_list_cmp_total (λ (e : Rc Entry Global). e.value.name) (λ (e : Rc Entry Global). e.value.file) entries entry.value.name entry.value.file i gap.in_range gap.lower_before gap.higher_after)
+
+-- a function of each element passes a removal
+pub map-remove : {X Y : Type 0} (f : X → Y) (xs : List X) (i : ℕ) → map f (remove xs i) ≡ remove (map f xs) i
+map-remove f [] zero = refl
+map-remove f [] (suc i) = refl
+map-remove f (x ∷ xs) zero = refl
+map-remove f (x ∷ xs) (suc i) = ap (λ l. f x ∷ l) (map-remove f xs i)
+
+-- the entries without one
+pub entries_of-remove : (entries clones : List (Rc Entry Global)) (i : ℕ) → entries_of clones ≡ entries_of entries → entries_of (remove clones i) ≡ remove (entries_of entries) i
+entries_of-remove entries clones i same = map-remove entry_of clones i ∙ ap (λ (es : List (List ℕ × List (List ℕ))). remove es i) same

@@ -1,12 +1,12 @@
 -- Entries in the order of their keys: what a binary search finds among them, and what an edit at that place does.
-use Rattle.std.proofs.Common.{◌≡◌, ℕ, zero, suc, ◌<◌, ◌≤◌, Bool, true, false, ◌&&◌, List, [], ◌∷◌, map, length, get_or, set, Some, None, refl, sym, ap, ◌∙◌, arith, add-one, T, cond}
-use Rattle.std.specs.List.{AllWithin, insert}
+use Rattle.std.proofs.Common.{◌≡◌, ℕ, zero, suc, ◌<◌, ◌≤◌, Bool, true, false, not, ◌&&◌, List, [], ◌∷◌, map, length, get_or, set, Some, None, refl, sym, subst, ap, ◌∙◌, arith, add-one, T, cond}
+use Rattle.std.specs.List.{AllWithin, insert, remove}
 use Rattle.std.specs.List.Sorted.{IsSortedBy, IsNonDecreasingBy}
-use Rattle.std.specs.Ordering.{is_lt, ordering_reverse, ordering_index, is_eq}
+use Rattle.std.specs.Ordering.{eq_by_cmp, is_lt, ordering_reverse, ordering_index, is_eq}
 use Rattle.std.specs.declared.cmp.Ordering.{Ordering}
 use Rattle.std.specs.declared.cmp.Ordering.TheVariants.{Less, Equal, Greater}
 use Rattle.std.specs.Cmp.{IsTotalOrder, tied_itself}
-use Rattle.std.specs.FinMap.Entries.{put, find, is_sorted, below_all, by_order}
+use Rattle.std.specs.FinMap.Entries.{put, find, is_sorted, below_all, by_order, where_key}
 use Rattle.std.proofs.lemmas.List.Sorted.{searchable_from_sorted}
 
 first : (a b : Bool) → T (a && b) → T a
@@ -89,3 +89,22 @@ module _ {E K X : Type 0} (R : K → K → Ordering) (o : IsTotalOrder R) (key :
       let rest = put_gap es k v i (omega arith) (λ j d low lt. lower (suc j) d (omega arith) (omega arith)) (λ j d low lt. higher (suc j) d (omega arith) (omega arith)) in
       ap (λ r. by_order r ((k, v) ∷ pairs (e ∷ es)) ((key e, v) ∷ pairs es) ((key e, value e) ∷ put R k v (pairs es))) here
       ∙ ap (λ l. (key e, value e) ∷ l) rest
+
+  -- a key below all ties with none
+  none_tied : (x : K) (es : List E) → T (below_all R x (pairs es)) → where_key R (λ y. not (eq_by_cmp R x y)) (pairs es) ≡ pairs es
+  none_tied x [] h = refl
+  none_tied x (e ∷ es) h =
+      ap (λ r. cond (not (is_eq r)) ((key e, value e) ∷ where_key R (λ y. not (eq_by_cmp R x y)) (pairs es)) (where_key R (λ y. not (eq_by_cmp R x y)) (pairs es))) (less _ (first _ _ h))
+      ∙ ap (λ l. (key e, value e) ∷ l) (none_tied x es (second _ _ h))
+
+  -- the entries with other keys are those without the one at its place
+  pub where_key-found : (es : List E) (k : K) (i : ℕ) (d : E) → i < length es → key (get_or es i d) ≡ k → T (is_sorted R (pairs es)) → where_key R (λ y. not (eq_by_cmp R k y)) (pairs es) ≡ remove (pairs es) i
+  where_key-found [] k i d lt is h = absurd (omega arith)
+  where_key-found (e ∷ es) k zero d lt is h =
+      let tied : R k (key e) ≡ Equal = ap (R k) is ∙ tied_itself o k in
+      ap (λ r. cond (not (is_eq r)) ((key e, value e) ∷ where_key R (λ y. not (eq_by_cmp R k y)) (pairs es)) (where_key R (λ y. not (eq_by_cmp R k y)) (pairs es))) tied
+      ∙ none_tied k es (subst (λ x. T (below_all R x (pairs es))) is (first _ _ h))
+  where_key-found (e ∷ es) k (suc i) d lt is h =
+      let below : R (key e) k ≡ Less = ap (R (key e)) (sym is) ∙ below_at (key e) es i d (omega arith) (first _ _ h) in
+      ap (λ r. cond (not (is_eq r)) ((key e, value e) ∷ where_key R (λ y. not (eq_by_cmp R k y)) (pairs es)) (where_key R (λ y. not (eq_by_cmp R k y)) (pairs es))) (turned (key e) k Less below)
+      ∙ ap (λ l. (key e, value e) ∷ l) (where_key-found es k i d (omega arith) is (second _ _ h))

@@ -1,20 +1,26 @@
 -- The files as a finite map: what entries in the order of their names are a map of.
-use Rattle.std.proofs.Common.{◌≡◌, ℕ, List, length, true, IsTrue, Some, None, Ok, Err, cond, get_or, T, false, refl, sym, ap, subst, ◌∙◌}
+use Rattle.std.proofs.Common.{◌≡◌, ◌≤◌, ◌+◌, ◌-◌, ◌++◌, ◌&&◌, ◌||◌, ℕ, Bool, not, ltb, leb, List, [], ◌∷◌, length, take, drop, true, IsTrue, Option, Some, None, is_none, Ok, Err, cond, get_or, T, false, refl, sym, ap, subst, ◌∙◌, arith, length-append, length-drop, length-take}
 use Rattle.std.specs.Global.{Global}
-use Rattle.std.specs.Ordering.{nat_cmp}
+use Rattle.std.specs.List.{list_any, remove}
+use Rattle.std.proofs.lemmas.Bool.Decides.{nat_tests}
+use Rattle.idl_source.specs.declared.TheConstants.{MAX_LINE, MAX_LINES}
+use Rattle.std.specs.Cmp.{alike_right}
+use Rattle.std.specs.Ordering.{eq_by_cmp, is_eq, nat_cmp, ordering_reverse}
+use Rattle.std.specs.declared.cmp.Ordering.{Ordering}
+use Rattle.std.specs.declared.cmp.Ordering.TheVariants.{Less, Equal, Greater}
 use Rattle.std.specs.Cmp.Lexicographic.{slice_cmp, nat_list_cmp_total}
 use Rattle.std.specs.FinMap as finite
 use Rattle.std.specs.FinMap.{is_sorted, put}
-use Rattle.std.specs.FinMap.Entries.{is_sorted-put}
+use Rattle.std.specs.FinMap.Entries.{find, find-where_key, is_sorted-put, is_sorted-where_key, where_key}
 use Rattle.std.specs.declared.rc.Rc.{Rc}
 use Rattle.std.proofs.lemmas.List.{length-map}
 use Rattle.idl_source.specs.declared.entries.Entry.{Entry}
-use Rattle.idl_source.specs.declared.refusal.Refusal.TheVariants.{OverLimit, BadName}
+use Rattle.idl_source.specs.declared.refusal.Refusal.TheVariants.{BadName, NoSuchFile, OutsideFile, OverLimit}
 use Rattle.idl_source.specs.Entries.{entry_of, entries_of, IsAt, IsGapFor}
 use Rattle.idl_source.specs.Name.{is_name}
-use Rattle.idl_source.specs.Texts.{Texts, is_over, after_put}
+use Rattle.idl_source.specs.Texts.{Texts, after_put, after_remove, after_splice, after_splice_of, is_inside, is_over, is_splice_over, spliced}
 use Rattle.idl_source.proofs.EntryLemmas.{holds}
-use Rattle.idl_source.proofs.Ordered.{find_found, find_gap}
+use Rattle.idl_source.proofs.Ordered.{find_found, find_gap, where_key-found}
 
 abbrev pub AreSorted : List (List ℕ × List (List ℕ)) → Type 0
 AreSorted es = IsTrue (is_sorted (slice_cmp nat_cmp) es)
@@ -81,3 +87,93 @@ no-entries entries sorted = (
   (λ none. finite.empty_of_len _ (len-texts entries sorted ∙ none)),
   (λ none. sym (len-texts entries sorted) ∙ ap finite.len none ∙ finite.len-empty (slice_cmp nat_cmp) (List (List ℕ))),
 )
+
+tie_turned : (r : Ordering) → is_eq (ordering_reverse r) ≡ is_eq r
+tie_turned Less = refl
+tie_turned Equal = refl
+tie_turned Greater = refl
+
+cond_not : {X : Type 0} (b : Bool) (x y : X) → cond (not b) x y ≡ cond b y x
+cond_not true x y = refl
+cond_not false x y = refl
+
+-- the entries with other names are in order, and the map without this one
+texts-where : (es : List (List ℕ × List (List ℕ))) (name : List ℕ) → AreSorted es
+    → let left = where_key (slice_cmp nat_cmp) (λ x. not (eq_by_cmp (slice_cmp nat_cmp) name x)) es in AreSorted left × ◌≡◌ {A = Texts} (finite.remove (texts es) name) (texts left)
+texts-where es name sorted =
+    let R = slice_cmp nat_cmp in
+    let o = nat_list_cmp_total in
+    let others : List ℕ → Bool = λ x. not (eq_by_cmp R name x) in
+    let still = is_sorted-where_key R others es (holds _ sorted) in
+    let same : (q : List ℕ) → finite.get (finite.remove (texts es) name) q ≡ finite.get (texts (where_key R others es)) q = λ q.
+    finite.get-remove o (texts es) name q
+    ∙ ap (cond (eq_by_cmp R q name) None) (finite.get-from_sorted R es q (holds _ sorted))
+    ∙ sym (cond_not (eq_by_cmp R q name) (find R q es) None)
+    ∙ ap (λ b. cond (not b) (find R q es) None) (sym (ap is_eq (o.antisymm name q) ∙ tie_turned (R q name)))
+    ∙ sym (find-where_key R others q (λ x t. ap (λ r. not (is_eq r)) (sym (alike_right o q x name t))) es)
+    ∙ sym (finite.get-from_sorted R (where_key R others es) q still) in
+    (true_from _ still, finite.same_map o (finite.slice_cmp-IsAntisymmetric finite.nat_cmp-IsAntisymmetric) _ _ same)
+
+-- a name that has a place has a file
+pub is_none-texts-at : (entries : List (Rc Entry Global)) (name : List ℕ) (i : ℕ) → AreSorted (entries_of entries) → IsAt entries name i → is_none (finite.get (texts (entries_of entries)) name) ≡ false
+is_none-texts-at [] name i sorted at = absurd (omega (arith, at.in_range))
+is_none-texts-at (e ∷ es) name i sorted at = ap is_none (get-texts-at (e ∷ es) name i e sorted at)
+
+-- entries without the one at the place of a name
+pub remove-entries : (entries : List (Rc Entry Global)) (fs : List (List ℕ × List (List ℕ))) (name : List ℕ) (i : ℕ) → AreSorted (entries_of entries) → IsAt entries name i → fs ≡ remove (entries_of entries) i
+    → AreSorted fs × ◌≡◌ {A = Texts} (finite.remove (texts (entries_of entries)) name) (texts fs)
+remove-entries [] fs name i sorted at is = absurd (omega (arith, at.in_range))
+remove-entries (e ∷ es) fs name i sorted at is =
+    let left = where_key-found (slice_cmp nat_cmp) nat_list_cmp_total (λ (e : Rc Entry Global). e.value.name) (λ (e : Rc Entry Global). e.value.file) (e ∷ es) name i e at.in_range (at.has_name e) (holds _ sorted) ∙ sym is in
+    let sides = texts-where (entries_of (e ∷ es)) name sorted in
+    (subst AreSorted left sides.0, sides.1 ∙ ap texts left)
+
+-- a removal is accepted where there is such a file
+pub remove-accepted : (files after : Texts) (name : List ℕ) → is_name name ≡ true → is_none (finite.get files name) ≡ false → finite.remove files name ≡ after → after_remove files name ≡ Ok after
+remove-accepted files after name allowed there is =
+    ap (λ b. cond b (cond (is_none (finite.get files name)) (Err NoSuchFile) (Ok (finite.remove files name))) (Err BadName)) allowed
+    ∙ ap (λ b. cond b (Err NoSuchFile) (Ok (finite.remove files name))) there
+    ∙ ap Ok is
+
+pub remove-refused : (files : Texts) (name : List ℕ) → is_name name ≡ true → finite.get files name ≡ None → after_remove files name ≡ Err NoSuchFile
+remove-refused files name allowed absent =
+    ap (λ b. cond b (cond (is_none (finite.get files name)) (Err NoSuchFile) (Ok (finite.remove files name))) (Err BadName)) allowed
+    ∙ ap (λ (o : Option (List (List ℕ))). cond (is_none o) (Err NoSuchFile) (Ok (finite.remove files name))) absent
+
+-- a splice of a file that is there
+pub splice-there : (files : Texts) (name : List ℕ) (old : List (List ℕ)) (from del : ℕ) (lines : List (List ℕ)) → is_name name ≡ true → finite.get files name ≡ Some old
+    → after_splice files name from del lines ≡ after_splice_of files name (Some old) from del lines
+splice-there files name old from del lines allowed there =
+    ap (λ b. cond b (after_splice_of files name (finite.get files name) from del lines) (Err BadName)) allowed
+    ∙ ap (λ (o : Option (List (List ℕ))). after_splice_of files name o from del lines) there
+
+-- it is refused where it is over a limit, and else accepted
+pub splice-over : (files : Texts) (name : List ℕ) (old : List (List ℕ)) (from del : ℕ) (lines : List (List ℕ)) → is_inside old from del ≡ true → is_splice_over old from del lines ≡ true
+    → after_splice_of files name (Some old) from del lines ≡ Err OverLimit
+splice-over files name old from del lines inside over =
+    ap (λ b. cond b (cond (is_splice_over old from del lines) (Err OverLimit) (Ok (finite.insert files name (spliced old from del lines)))) (Err OutsideFile)) inside
+    ∙ ap (λ b. cond b (Err OverLimit) (Ok (finite.insert files name (spliced old from del lines)))) over
+
+pub splice-accepted : (files after : Texts) (name : List ℕ) (old : List (List ℕ)) (from del : ℕ) (lines : List (List ℕ)) → is_inside old from del ≡ true → is_splice_over old from del lines ≡ false
+    → finite.insert files name (spliced old from del lines) ≡ after → after_splice_of files name (Some old) from del lines ≡ Ok after
+splice-accepted files after name old from del lines inside within is =
+    ap (λ b. cond b (cond (is_splice_over old from del lines) (Err OverLimit) (Ok (finite.insert files name (spliced old from del lines)))) (Err OutsideFile)) inside
+    ∙ ap (λ b. cond b (Err OverLimit) (Ok (finite.insert files name (spliced old from del lines)))) within
+    ∙ ap Ok is
+
+-- how many lines there are then
+length-spliced : (old : List (List ℕ)) (from del : ℕ) (lines : List (List ℕ)) → 1 ≤ from → from - 1 + del ≤ length old → length (spliced old from del lines) ≡ length old - del + length lines
+length-spliced old from del lines first inside =
+    omega (arith, length-append (take (from - 1) old) (lines ++ drop (from - 1 + del) old), length-append lines (drop (from - 1 + del) old), length-take (from - 1) old, length-drop (from - 1 + del) old)
+
+-- the tests of a splice, as they are made on numbers
+pub inside-from : (old : List (List ℕ)) (from del : ℕ) → (from ≡ 0 → ⊥) → from - 1 ≤ length old → del ≤ length old - (from - 1) → is_inside old from del ≡ true
+inside-from old from del first begin end =
+    let a : leb 1 from ≡ true = grind (arith, nat_tests) in
+    let b : leb (from - 1 + del) (length old) ≡ true = grind (arith, nat_tests) in
+    λ i. a i && b i
+
+pub is_splice_over-length : (old : List (List ℕ)) (from del : ℕ) (lines : List (List ℕ)) → (from ≡ 0 → ⊥) → from - 1 ≤ length old → del ≤ length old - (from - 1)
+    → (ltb MAX_LINES (length old - del + length lines) || list_any (λ line. ltb MAX_LINE (length line)) lines) ≡ is_splice_over old from del lines
+is_splice_over-length old from del lines first begin end =
+    ap (λ n. ltb MAX_LINES n || list_any (λ line. ltb MAX_LINE (length line)) lines) (sym (length-spliced old from del lines (omega arith) (omega arith)))

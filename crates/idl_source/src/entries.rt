@@ -1,6 +1,7 @@
 //! The files of a set in the order of their names: where a name stands, and the entries with one more.
 
-ghost use Rattle.std.specs.Prelude.{◌≡◌, IfOk, IfErr, IsTrue};
+ghost use Rattle.std.specs.Prelude.{◌≡◌, ◌<◌, IfOk, IfErr, IsTrue, length};
+ghost use Rattle.std.specs.List.{remove as without_at};
 ghost use Rattle.std.specs.Ordering.{nat_cmp};
 ghost use Rattle.std.specs.Cmp.Lexicographic.{slice_cmp};
 ghost use Rattle.std.specs.FinMap.{is_sorted, put};
@@ -49,6 +50,16 @@ pub fn entries_with(
             Ok(with)
         }
     }
+}
+
+/// The entries without the one at this place. They share the other ones.
+pub fn entries_without(entries: &Vec<Rc<Entry>>, place: usize) -> Result<Vec<Rc<Entry>>, AllocError>
+    requires { place < length entries.now.items }
+    ensures { IfOk result (λ without. entries_of without.items ≡ without_at (entries_of entries.now.items) place) }
+{
+    let mut without = entries.clone()?;
+    without.remove(place);
+    Ok(without)
 }
 
 // How the entry's name stands to this one.

@@ -1,18 +1,19 @@
 //! Files by name, and the edits of a set of files.
 
-ghost use Rattle.std.specs.Prelude.{◌≡◌, ◌≢◌, ◌↔◌, IsTrue, IfOk, IfErr, length, nat_lt};
+ghost use Rattle.std.specs.Prelude.{◌≡◌, ◌≢◌, ◌↔◌, ◌+◌, ◌++◌, ◌||◌, IsFalse, IsTrue, IfOk, IfErr, Some, None, is_some, length, nat_lt, if◌then◌else◌};
 ghost use Rattle.std.specs.List.{list_any};
 ghost use Rattle.std.specs.Option.{option_copied};
 ghost use Rattle.std.specs.FinMap as map;
-ghost use Rattle.idl_source.specs.Texts.{after_put, is_over};
+ghost use Rattle.idl_source.specs.Name.{is_name};
+ghost use Rattle.idl_source.specs.Texts.{after_put, after_remove, after_splice, is_over};
 
-use crate::entries::{Entry, entries_with, place_of};
+use crate::entries::{Entry, entries_with, entries_without, place_of};
 use crate::file::File;
 use crate::line::Line;
 use crate::name::Name;
 use crate::refusal::Refusal;
 use crate::{MAX_FILES, MAX_LINE, MAX_LINES};
-use std::alloc::Global;
+use std::alloc::{AllocError, Global};
 use std::marker::Model;
 use std::rc::Rc;
 
@@ -84,12 +85,78 @@ impl Files {
         ensures ok { IfOk result (λ files. after_put self.now name.now lines.items ≡ Ok files) }
         ensures err { IfErr result (λ refusal. refusal ≢ Refusal.NoMemory → after_put self.now name.now lines.items ≡ Err refusal) }
     {
-        let Some(name) = Name::new(name) else {
-            return Err(Refusal::BadName);
-        };
+        let name = allowed_name(name)?;
         if self.is_over(&name, &lines) {
             return Err(Refusal::OverLimit);
         }
+        let files = self.with(name, lines)?;
+        Ok(files)
+    }
+
+    /// The files with new lines in the place of `del` lines of this file, from line `from` on, where 1 is the first. The
+    /// old files stay as they are, and the lines that stay are shared.
+    ///
+    /// It is refused, in this order, where the name isn't one, where there is no such file, where those lines aren't all in
+    /// it, and where it would have more than [`MAX_LINES`] lines or a new line has more than [`MAX_LINE`] bytes. Memory may
+    /// be refused too.
+    pub fn splice(
+        &self,
+        name: &[u8],
+        from: usize,
+        del: usize,
+        lines: Vec<Line>,
+    ) -> Result<Files, Refusal>
+        ensures ok { IfOk result (λ files. after_splice self.now name.now from del lines.items ≡ Ok files) }
+        ensures err { IfErr result (λ refusal. refusal ≢ Refusal.NoMemory → after_splice self.now name.now from del lines.items ≡ Err refusal) }
+    {
+        let name = allowed_name(name)?;
+        let Some(file) = self.get(name.as_bytes()) else {
+            return Err(Refusal::NoSuchFile);
+        };
+        let old = file.lines();
+        if from == 0 || old.len() < from - 1 || old.len() - (from - 1) < del {
+            return Err(Refusal::OutsideFile);
+        }
+        if is_splice_over(old.len() - del, &lines) {
+            return Err(Refusal::OverLimit);
+        }
+        let start = from - 1;
+        let lines = spliced(&old[..start], lines, &old[start + del..])?;
+        let files = self.with(name, lines)?;
+        Ok(files)
+    }
+
+    /// The files without the one of this name. The old files stay as they are.
+    ///
+    /// It is refused, in this order, where the name isn't one, and where there is no such file. Memory may be refused too.
+    pub fn remove(&self, name: &[u8]) -> Result<Files, Refusal>
+        ensures ok { IfOk result (λ files. after_remove self.now name.now ≡ Ok files) }
+        ensures err { IfErr result (λ refusal. refusal ≢ Refusal.NoMemory → after_remove self.now name.now ≡ Err refusal) }
+    {
+        let name = allowed_name(name)?;
+        match place_of(&self.entries, name.as_bytes()) {
+            Ok(place) => {
+                let entries = entries_without(&self.entries, place)?;
+                Ok(Files { entries })
+            }
+            Err(_) => Err(Refusal::NoSuchFile),
+        }
+    }
+
+    /// The name as these files hold it, where there is a file of that name.
+    pub fn held(&self, name: &[u8]) -> Option<&Name>
+        ensures { option_copied result ≡ (if is_some (map.get self.now name.now) then Some name.now else None) }
+    {
+        match place_of(&self.entries, name) {
+            Ok(place) => Some(&self.entries[place].name),
+            Err(_) => None,
+        }
+    }
+
+    // The files with these lines under this name.
+    fn with(&self, name: Name, lines: Vec<Line>) -> Result<Files, AllocError>
+        ensures { IfOk result (λ files. files ≡ map.insert self.now name lines.items) }
+    {
         let alloc = *self.entries.allocator();
         let file = File::new(alloc, lines)?;
         let entry = Rc::new(alloc, Entry { name, file })?;
@@ -111,8 +178,40 @@ impl Files {
     }
 }
 
+// The name of these bytes, or the refusal of what is none.
+fn allowed_name(bytes: &[u8]) -> Result<Name, Refusal>
+    ensures ok { IfOk result (λ name. IsTrue (is_name bytes.now) × (name ≡ bytes.now)) }
+    ensures err { IfErr result (λ refusal. IsFalse (is_name bytes.now) × (refusal ≡ Refusal.BadName)) }
+{
+    match Name::new(bytes) {
+        Some(name) => Ok(name),
+        None => Err(Refusal::BadName),
+    }
+}
+
 fn has_long_line(lines: &[Line]) -> bool
     ensures { result ≡ list_any (λ line. nat_lt MAX_LINE (length line)) lines.now }
 {
     lines.iter().any(|line| line.len() > MAX_LINE)
+}
+
+// Whether so many lines and new ones are too many, or a new one is too long.
+fn is_splice_over(kept: usize, lines: &[Line]) -> bool
+    ensures { result ≡ (nat_lt MAX_LINES (kept + length lines.now) || list_any (λ line. nat_lt MAX_LINE (length line)) lines.now) }
+{
+    if kept > MAX_LINES || lines.len() > MAX_LINES - kept {
+        return true;
+    }
+    has_long_line(lines)
+}
+
+// The lines in a row. Those before and after are shared.
+fn spliced(before: &[Line], mut lines: Vec<Line>, after: &[Line]) -> Result<Vec<Line>, AllocError>
+    ensures { IfOk result (λ all. all.items ≡ before.now ++ (lines.items ++ after.now)) }
+{
+    let mut all = Vec::new(*lines.allocator());
+    all.extend_with_clones(before)?;
+    all.append(&mut lines)?;
+    all.extend_with_clones(after)?;
+    Ok(all)
 }

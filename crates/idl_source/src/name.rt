@@ -75,7 +75,7 @@ impl Name {
     }
 }
 
-fn is_name(bytes: &[u8]) -> bool
+pub fn is_name(bytes: &[u8]) -> bool
     ensures { result ≡ is_name bytes.now }
 {
     !bytes.is_empty() && bytes.len() <= MAX_NAME && are_visible(bytes) && is_path(bytes)
@@ -131,13 +131,13 @@ fn climbs(bytes: &[u8]) -> bool
     }
 }
 
-fn is_up(segment: &[u8]) -> bool
+pub fn is_up(segment: &[u8]) -> bool
     ensures { result ≡ is_up segment.now }
 {
     segment == b"..".as_slice()
 }
 
-fn is_plain(segment: &[u8]) -> bool
+pub fn is_plain(segment: &[u8]) -> bool
     ensures { result ≡ is_plain segment.now }
 {
     !segment.is_empty() && segment != b".".as_slice() && !is_up(segment)

@@ -2,3 +2,4 @@
 
 mod files;
 mod names;
+mod paths;
