@@ -1,3 +1,9 @@
-pub mod LongestLemmas
+pub mod CountLemmas
+pub mod CutLemmas
+pub mod LineLemmas
+pub mod LiteralLemmas
+pub mod LogicalLemmas
+pub mod NumberLemmas
+pub mod PieceLemmas
 pub mod TableLemmas
-pub mod TextLemmas
+pub mod TokensLemmas

@@ -1,12 +1,14 @@
 -- What a token counts as in IDL, by its spelling.
-use Rattle.std.specs.Prelude.{ℕ, Bool, List, [], ◌∷◌, is_some, nat_eq, Option, None, Some, if◌then◌else◌}
+use Rattle.std.specs.Prelude.{ℕ, Bool, true, false, ◌&&◌, List, [], ◌∷◌, get_or, is_some, length, nat_eq, Option, None, Some, if◌then◌else◌}
 use Rattle.std.specs.Str.{bytes_eq}
-use Rattle.idl_lex.specs.Byte.{is_letter}
+use Rattle.idl_lex.specs.Byte.{is_letter, is_digit, is_quote}
 use Rattle.idl_lex.specs.Keywords.{like_keyword}
+use Rattle.idl_lex.specs.Literal.{literal_kind}
+use Rattle.idl_lex.specs.Marks.{mark_kind}
+use Rattle.idl_lex.specs.Number.{number_kind}
 use Rattle.idl_lex.specs.declared.kind.Kind.{Kind}
-use Rattle.idl_lex.specs.declared.kind.Kind.TheVariants.{Accepted, Refused, Identifier, Escaped, Miscased, Punctuation, Bad}
-use Rattle.idl_lex.specs.declared.kind.Mark.TheVariants.{Semicolon}
-use Rattle.idl_lex.specs.declared.kind.Defect.TheVariants.{UnknownByte, NothingEscaped}
+use Rattle.idl_lex.specs.declared.kind.Kind.TheVariants.{Identifier, Escaped, Miscased, HeaderName, Bad}
+use Rattle.idl_lex.specs.declared.kind.Defect.TheVariants.{UnknownByte, NothingEscaped, UnclosedComment}
 
 -- whether a word is a keyword but for the case of letters, or is one
 abbrev pub is_like_keyword : List ℕ → Bool
@@ -26,13 +28,55 @@ abbrev pub escaped_kind : List ℕ → Kind
 escaped_kind [] = Bad NothingEscaped
 escaped_kind (b ∷ rest) = if is_letter b then Escaped else Bad NothingEscaped
 
+-- the kind of what begins with a letter: a wide literal, or a word
+abbrev pub letter_kind : ℕ → List ℕ → Kind
+letter_kind b [] = word_kind (b ∷ [])
+letter_kind b (c ∷ rest) = if nat_eq b 76 && is_quote c then literal_kind true c rest else word_kind (b ∷ c ∷ rest)
+
+-- a `.` and a digit
+abbrev pub is_fraction : ℕ → List ℕ → Bool
+is_fraction b [] = false
+is_fraction b (c ∷ rest) = if nat_eq b 46 then is_digit c else false
+
+-- `*` comes first
+abbrev pub begins_star : List ℕ → Bool
+begins_star [] = false
+begins_star (b ∷ rest) = nat_eq b 42
+
+-- a comment is open here
+abbrev pub begins_block : List ℕ → Bool
+begins_block [] = false
+begins_block (b ∷ rest) = nat_eq b 47 && begins_star rest
+
+-- it ends in `>`
+abbrev pub ends_greater : List ℕ → Bool
+ends_greater [] = false
+ends_greater (b ∷ rest) = nat_eq (get_or (b ∷ rest) (length rest) 0) 62
+
+-- the kind of what is no mark: an included file's name in `<` and `>`, a comment that isn't closed, or a byte that begins no token
+abbrev pub unmarked_kind : ℕ → List ℕ → Kind
+unmarked_kind b rest =
+    if nat_eq b 60 && ends_greater rest then HeaderName
+    else (if begins_block (b ∷ rest) then Bad UnclosedComment else Bad UnknownByte)
+
+-- the kind of a mark, if it is one
+abbrev pub kind_of_mark : Option Kind → ℕ → List ℕ → Kind
+kind_of_mark None b rest = unmarked_kind b rest
+kind_of_mark (Some kind) b rest = kind
+
+-- the kind of what begins with another byte
+abbrev pub other_kind : ℕ → List ℕ → Kind
+other_kind b rest = if is_fraction b rest then number_kind (b ∷ rest) else kind_of_mark (mark_kind (b ∷ rest)) b rest
+
 -- the kind of the token with this spelling
 abbrev pub kind_of : List ℕ → Kind
 kind_of [] = Bad UnknownByte
 kind_of (b ∷ rest) =
-    if is_letter b then word_kind (b ∷ rest)
+    if is_letter b then letter_kind b rest
     else (if nat_eq b 95 then escaped_kind rest
-    else (if nat_eq b 59 then Punctuation Semicolon else Bad UnknownByte))
+    else (if is_digit b then number_kind (b ∷ rest)
+    else (if is_quote b then literal_kind false b rest
+    else other_kind b rest)))
 
 -- what stands after the `_`
 abbrev pub unescaped : List ℕ → Option (List ℕ)
@@ -43,8 +87,4 @@ unescaped (b ∷ rest) = Some rest
 abbrev pub name_of : Kind → List ℕ → Option (List ℕ)
 name_of Identifier spelling = Some spelling
 name_of Escaped spelling = unescaped spelling
-name_of (Accepted keyword) spelling = None
-name_of Refused spelling = None
-name_of Miscased spelling = None
-name_of (Punctuation mark) spelling = None
-name_of (Bad defect) spelling = None
+name_of other spelling = None

@@ -1,6 +1,15 @@
 pub mod Byte
 pub mod Keywords
 pub mod KeywordTable
+pub mod Marks
+pub mod Number
+pub mod Literal
 pub mod Kind
-pub mod Longest
+pub mod Piece
+pub mod Scan
+pub mod Context
+pub mod Text
+pub mod Logical
 pub mod Tokens
+pub mod Cut
+pub mod Lexer

@@ -1,48 +1,52 @@
--- The tokens of a text: each is the longest that can begin at its place, and white space is dropped.
-use Rattle.std.specs.Prelude.{ℕ, zero, suc, ◌+◌, List, [], ◌∷◌, ◌++◌, map, take, if◌then◌else◌}
+-- The tokens of a text: each piece is the longest that can begin at its place, and those that are no tokens are dropped.
+use Rattle.std.specs.Prelude.{ℕ, zero, suc, ◌-◌, List, [], ◌∷◌, ◌++◌, codes, not, take, if◌then◌else◌}
 use Rattle.std.specs.List.{prefix_len}
-use Rattle.idl_source.specs.declared.line.TheConstants.{NEWLINE}
-use Rattle.idl_lex.specs.Byte.{is_space, is_word_start, is_word_byte}
-use Rattle.idl_lex.specs.Kind.{kind_of}
+use Rattle.idl_lex.specs.Context.{line_start, is_nothing, is_include, is_gap, context_after}
+use Rattle.idl_lex.specs.Kind.{begins_block, kind_of}
+use Rattle.idl_lex.specs.Piece.{is_piece, longest}
+use Rattle.idl_lex.specs.Text.{Placed, bytes_of, joined}
+use Rattle.idl_lex.specs.declared.context.Context.{Context}
 use Rattle.idl_lex.specs.declared.token.Token.{Token}
 
--- a byte of a text, and the number of its line
-pub record Placed : Type 0 where
-  pub byte : ℕ
-  pub line : ℕ
-
--- a line's bytes, and the newline that ends it
-abbrev pub line_text : ℕ → List ℕ → List Placed
-line_text number bytes = map (λ b. record { byte = b; line = number }) (bytes ++ NEWLINE ∷ [])
-
--- the bytes of the lines from this number on
-abbrev pub text_from : ℕ → List (List ℕ) → List Placed
-text_from number [] = []
-text_from number (bytes ∷ lines) = line_text number bytes ++ text_from (number + 1) lines
-
-abbrev pub bytes_of : List Placed → List ℕ
-bytes_of text = map (λ p. p.byte) text
-
--- how many bytes after its first byte the longest token has
-abbrev pub rest_len : ℕ → List ℕ → ℕ
-rest_len b rest = if is_word_start b then prefix_len is_word_byte rest else 0
-
 -- the token with this spelling, on this line
-abbrev pub token_of : List ℕ → ℕ → Token
-token_of spelling line = record { kind = kind_of spelling; spelling = spelling; line = line }
+abbrev pub token_of : Context → List ℕ → ℕ → Token
+token_of c spelling line =
+    record { kind = kind_of spelling; spelling = spelling; line = line; starts_line = is_nothing c.beginning; follows_word = c.follows_word }
 
--- the token of these bytes
-abbrev pub token_at : Placed → List Placed → Token
-token_at first rest = token_of (first.byte ∷ bytes_of rest) first.line
+-- a token as it is spelled: a comment that isn't closed is `/*`
+abbrev pub spelled : List ℕ → List ℕ
+spelled piece = if begins_block piece then codes "/*" else piece
+
+-- the token that a piece is, if it is one
+abbrev pub token_if : Context → List ℕ → ℕ → List Token
+token_if c piece line = if is_gap piece then [] else token_of c (spelled piece) line ∷ []
+
+-- how many bytes the longest piece has after its first one
+abbrev pub piece_rest : Context → Placed → List Placed → ℕ
+piece_rest c first text = longest (is_piece (is_include c.beginning)) (first.byte ∷ bytes_of text) - 1
 
 -- the tokens after the first n bytes
-abbrev pub tokens_after : ℕ → List Placed → List Token
-tokens_after n [] = []
-tokens_after (suc n) (p ∷ text) = tokens_after n text
-tokens_after zero (p ∷ text) =
-    if is_space p.byte then tokens_after zero text
-    else token_at p (take (rest_len p.byte (bytes_of text)) text) ∷ tokens_after (rest_len p.byte (bytes_of text)) text
+unfoldable pub tokens_after : Context → ℕ → List Placed → List Token
+tokens_after c n [] = []
+tokens_after c (suc n) (p ∷ text) = tokens_after c n text
+tokens_after c zero (p ∷ text) =
+    token_if c (p.byte ∷ bytes_of (take (piece_rest c p text) text)) p.line
+    ++ tokens_after (context_after c (p.byte ∷ bytes_of (take (piece_rest c p text) text))) (piece_rest c p text) text
 
 -- the tokens of a file of these lines, the first of which has the number 1
-abbrev pub tokens_of : List (List ℕ) → List Token
-tokens_of lines = tokens_after zero (text_from 1 lines)
+unfoldable pub tokens_of : List (List ℕ) → List Token
+tokens_of lines = tokens_after line_start zero (joined 1 lines)
+
+-- how many tokens stand on a line after its first one: those before the next token that starts a line
+abbrev pub line_rest : List Token → ℕ
+line_rest tokens = prefix_len (λ t. not t.starts_line) tokens
+
+-- the lines of the tokens after the first n
+abbrev pub lines_after : ℕ → List Token → List (List Token)
+lines_after n [] = []
+lines_after (suc n) (t ∷ tokens) = lines_after n tokens
+lines_after zero (t ∷ tokens) = (t ∷ take (line_rest tokens) tokens) ∷ lines_after (line_rest tokens) tokens
+
+-- tokens by lines
+unfoldable pub lines_of : List Token → List (List Token)
+lines_of tokens = lines_after zero tokens

@@ -1,11 +1,15 @@
 //! Kinds of tokens, each decided by the token's spelling.
 
-ghost use Rattle.std.specs.Prelude.{◌≡◌};
-ghost use Rattle.idl_lex.specs.Kind.{kind_of, word_kind, escaped_kind, is_like_keyword};
+ghost use Rattle.std.specs.Prelude.{◌≡◌, ◌∷◌};
+ghost use Rattle.idl_lex.specs.Kind.{kind_of, word_kind, escaped_kind, letter_kind, other_kind, is_fraction, unmarked_kind, is_like_keyword};
 
-use crate::byte::is_letter;
+use crate::byte::{is_digit, is_letter, is_quote};
 use crate::keyword::Keyword;
 use crate::keyword_table::like_keyword;
+use crate::literal::literal_kind;
+use crate::mark::{Mark, PreprocessorMark};
+use crate::mark_table::mark_kind;
+use crate::number::number_kind;
 
 /// What a token counts as in IDL.
 #[derive(Clone, Copy, Debug, PartialEq, Eq)]
@@ -14,23 +18,30 @@ pub enum Kind {
     Accepted(Keyword),
     /// A keyword of the standard that this profile leaves out.
     Refused,
+    /// A word that differs from a keyword in the case of letters alone.
+    Miscased,
     /// A word that is no keyword.
     Identifier,
     /// `_` and an identifier, which may be spelled as a keyword.
     Escaped,
-    /// A word that differs from a keyword in the case of letters alone.
-    Miscased,
-    /// A mark.
+    /// An integer, with its value.
+    Integer(u64),
+    /// A literal of one character in `'`.
+    Character,
+    /// A literal of one character in `'`, with `L` before it.
+    WideCharacter,
+    /// A literal in `"`.
+    String,
+    /// A literal in `"`, with `L` before it.
+    WideString,
+    /// A mark of the language.
     Punctuation(Mark),
+    /// The name of an included file in `<` and `>`.
+    HeaderName,
+    /// A mark that the preprocessor alone knows.
+    Preprocessing(PreprocessorMark),
     /// No token of IDL.
     Bad(Defect),
-}
-
-/// A mark.
-#[derive(Clone, Copy, Debug, PartialEq, Eq)]
-pub enum Mark {
-    /// `;`
-    Semicolon,
 }
 
 /// Why a token is none of IDL.
@@ -40,6 +51,20 @@ pub enum Defect {
     UnknownByte,
     /// A word of `_` before no letter.
     NothingEscaped,
+    /// A literal that isn't closed on its line.
+    UnclosedLiteral,
+    /// A character literal that isn't one character.
+    NotOneCharacter,
+    /// A literal with a bad escape, or a string with the zero character in it.
+    BadEscape,
+    /// A number that is neither an integer nor a floating or fixed literal.
+    MalformedInteger,
+    /// A floating or fixed literal.
+    FloatingLiteral,
+    /// An integer of 2^64 or more.
+    IntegerTooLarge,
+    /// A comment that isn't closed.
+    UnclosedComment,
 }
 
 /// The kind of the token with this spelling.
@@ -47,10 +72,12 @@ pub fn kind_of(spelling: &[u8]) -> Kind
     ensures { result ≡ kind_of spelling.now }
 {
     match spelling {
+        [] => Kind::Bad(Defect::UnknownByte),
+        [b, rest @ ..] if is_letter(*b) => letter_kind(*b, rest, spelling),
         [b'_', rest @ ..] => escaped_kind(rest),
-        [b';', ..] => Kind::Punctuation(Mark::Semicolon),
-        [first, ..] if is_letter(*first) => word_kind(spelling),
-        _ => Kind::Bad(Defect::UnknownByte),
+        [b, ..] if is_digit(*b) => number_kind(spelling),
+        [b, rest @ ..] if is_quote(*b) => literal_kind(false, *b, rest),
+        [b, rest @ ..] => other_kind(*b, rest, spelling),
     }
 }
 
@@ -59,6 +86,17 @@ pub fn is_like_keyword(word: &[u8]) -> bool
     ensures { result ≡ is_like_keyword word.now }
 {
     like_keyword(word).is_some()
+}
+
+// The kind of a wide literal, or of a word that begins with a letter.
+fn letter_kind(b: u8, rest: &[u8], spelling: &[u8]) -> Kind
+    requires { spelling.now ≡ b ∷ rest.now }
+    ensures { result ≡ letter_kind b rest.now }
+{
+    match rest {
+        [quote, body @ ..] if b == b'L' && is_quote(*quote) => literal_kind(true, *quote, body),
+        _ => word_kind(spelling),
+    }
 }
 
 // The kind of a word that begins with a letter.
@@ -79,5 +117,40 @@ fn escaped_kind(rest: &[u8]) -> Kind
     match rest {
         [first, ..] if is_letter(*first) => Kind::Escaped,
         _ => Kind::Bad(Defect::NothingEscaped),
+    }
+}
+
+// The kind of a number that begins with a `.`, of a mark, or of what is none.
+fn other_kind(b: u8, rest: &[u8], spelling: &[u8]) -> Kind
+    requires { spelling.now ≡ b ∷ rest.now }
+    ensures { result ≡ other_kind b rest.now }
+{
+    if is_fraction(b, rest) {
+        return number_kind(spelling);
+    }
+    match mark_kind(spelling) {
+        Some(kind) => kind,
+        None => unmarked_kind(b, rest),
+    }
+}
+
+// Whether these are a `.` and a digit.
+fn is_fraction(b: u8, rest: &[u8]) -> bool
+    ensures { result ≡ is_fraction b rest.now }
+{
+    match rest {
+        [digit, ..] if b == b'.' => is_digit(*digit),
+        _ => false,
+    }
+}
+
+// The kind of what is no mark.
+fn unmarked_kind(b: u8, rest: &[u8]) -> Kind
+    ensures { result ≡ unmarked_kind b rest.now }
+{
+    match rest {
+        [.., b'>'] if b == b'<' => Kind::HeaderName,
+        [b'*', ..] if b == b'/' => Kind::Bad(Defect::UnclosedComment),
+        _ => Kind::Bad(Defect::UnknownByte),
     }
 }

@@ -1,15 +1,17 @@
 //! The tokens of a file.
 
-ghost use Rattle.std.specs.Prelude.{◌≡◌, ◌≤◌, ◌<◌, ◌+◌, ◌++◌, ℕ, List, length, drop, slice_index, IfOk, OnOk};
-ghost use Rattle.std.specs.List.{prefix_len};
-ghost use Rattle.idl_lex.specs.Byte.{is_word_byte};
-ghost use Rattle.idl_lex.specs.Longest.{AreTokensOf};
-ghost use Rattle.idl_lex.specs.Tokens.{Placed, line_text, rest_len, text_from, tokens_after, tokens_of};
+ghost use Rattle.std.specs.Prelude.{◌≡◌, ◌≤◌, ◌+◌, ◌<◌, ◌++◌, ◌∷◌, ◌↔◌, [], ℕ, List, length, IfOk, OnOk};
+ghost use Rattle.idl_lex.specs.Context.{line_start};
+ghost use Rattle.idl_lex.specs.Cut.{AreTokensOf};
+ghost use Rattle.idl_lex.specs.Lexer.{coming};
+ghost use Rattle.idl_lex.specs.Text.{joined};
+ghost use Rattle.idl_lex.specs.Tokens.{line_rest, lines_of, tokens_of};
+ghost use Rattle.idl_lex.specs.declared.token.Token.{Token};
 
-use crate::byte::{is_space, is_word_byte, is_word_start};
-use crate::spelling::Spelling;
+use crate::lexer::{Before, push_line};
+use crate::logical::{Logical, joined_count};
 use crate::token::Token;
-use idl_source::{File, Line};
+use idl_source::File;
 use std::alloc::{AllocError, Global};
 use std::marker::Model;
 
@@ -42,55 +44,52 @@ pub fn lex(alloc: Global, file: &File, _old: Option<&Lexed>) -> Result<Lexed, Al
     ensures { IfOk result (λ lexed. lexed ≡ tokens_of file.now) }
 {
     let mut tokens = Vec::new(alloc);
-    for (i, line) in file.lines().iter().enumerate() {
-        push_line(&mut tokens, line, i + 1)?;
+    let mut before = Before::Fresh;
+    let lines = file.lines();
+    let mut i = 0;
+    'lines: while i < lines.len() {
+        let end = i + joined_count(&lines[i..]);
+        let line = Logical::new(alloc, &lines[i..end], i + 1)?;
+        before = push_line(&mut tokens, &line, before)?;
+        i = end;
     }
+    finish(&mut tokens, before)?;
     Ok(Lexed { tokens })
 }
 
-/// The tokens of a file's text, with white space between them, are the longest that can begin at their places. This does
-/// nothing: it carries the law.
-pub fn longest_tokens()
-    ensures { (lines : List (List ℕ)) → AreTokensOf (text_from 1 lines) (tokens_of lines) }
-{}
-
-// The tokens of a line are the first ones of the text that it begins.
-fn push_line(tokens: &mut Vec<Token>, line: &Line, number: usize) -> Result<(), AllocError>
-    ensures { OnOk result ((rest : List Placed) →
-        tokens.new.items ++ tokens_after 0 rest ≡ tokens.old.items ++ tokens_after 0 (line_text number line.now ++ rest)) }
+// Puts in what is left at the end of a text: a comment that isn't closed.
+fn finish(tokens: &mut Vec<Token>, before: Before) -> Result<(), AllocError>
+    ensures { OnOk result (tokens.new.items ≡ tokens.old.items ++ coming before []) }
 {
-    let bytes = line.as_bytes();
-    let mut i = 0;
-    'bytes: while i < bytes.len() {
-        if is_space(bytes[i]) {
-            i += 1;
-        } else {
-            let end = token_end(bytes, i);
-            let spelling = Spelling::new(line.shared()?, i, end);
-            tokens.push(Token::new(spelling, number))?;
-            i = end;
+    match before {
+        Before::Fresh => Ok(()),
+        Before::Comment(opening, _) => {
+            tokens.push(opening)?;
+            Ok(())
         }
     }
-    Ok(())
 }
 
-// Where the longest token ends that begins at i.
-fn token_end(bytes: &[u8], i: usize) -> usize
-    requires { i < length bytes.now }
-    ensures len { result ≡ i + 1 + rest_len (slice_index bytes.now i) (drop (i + 1) bytes.now) }
-    ensures within { result ≤ length bytes.now }
+/// The tokens of a file's text are those of its pieces, each the longest that can begin at its place, and there is no other way to cut it so. This
+/// does nothing: it carries the law.
+pub fn longest_pieces()
+    ensures { (lines : List (List ℕ)) → (tokens : List Token) → AreTokensOf line_start (joined 1 lines) tokens ↔ (tokens ≡ tokens_of lines) }
+{}
+
+/// The tokens of the first line, and those after it.
+pub fn first_line(tokens: &[Token]) -> (&[Token], &[Token])
+    requires { 0 < length tokens.now }
+    ensures lines { lines_of tokens.entry.now ≡ result.0.now ∷ lines_of result.1.now }
+    ensures all { tokens.entry.now ≡ result.0.now ++ result.1.now }
+    ensures some { 0 < length result.0.now }
 {
-    if is_word_start(bytes[i]) {
-        i + 1 + word_len(&bytes[i + 1..])
-    } else {
-        i + 1
-    }
+    tokens.split_at(1 + line_rest(&tokens[1..]))
 }
 
-// How many bytes of a word stand here.
-fn word_len(bytes: &[u8]) -> usize
-    ensures len { result ≡ prefix_len is_word_byte bytes.now }
-    ensures within { result ≤ length bytes.now }
+// How many tokens stand on a line after its first one.
+fn line_rest(tokens: &[Token]) -> usize
+    ensures len { result ≡ line_rest tokens.now }
+    ensures within { result ≤ length tokens.now }
 {
-    bytes.iter().take_while(|b| is_word_byte(**b)).count()
+    tokens.iter().take_while(|token| !token.starts_line).count()
 }

@@ -1,20 +1,30 @@
-//! The tokens of a file: words, marks and bytes that begin no token, each with its kind, its spelling and its line.
+//! The tokens of a file, each with its kind, its spelling and its line: words, numbers, literals, marks, and what begins no token.
 //!
-//! A word's kind is what the word counts as in IDL, where it is emitted; its spelling is as written. Faults are kinds of
-//! tokens here, and no diagnostics.
+//! A token's kind is what it counts as in IDL, where it is emitted; its spelling is as written. Faults are kinds of tokens here, and no
+//! diagnostics. Joined lines and comments are dealt with here, and directives are not.
 #![tactic(auto)]
 
 mod byte;
+mod context;
 mod keyword;
 mod keyword_table;
 mod kind;
 mod lexed;
+mod lexer;
+mod literal;
+mod logical;
+mod mark;
+mod mark_table;
+mod number;
 mod spelling;
+mod state;
 mod token;
 
 pub use keyword::Keyword;
-pub use kind::{Defect, Kind, Mark, is_like_keyword, kind_of};
-pub use lexed::{Lexed, lex, longest_tokens};
+pub use kind::{Defect, Kind, is_like_keyword, kind_of};
+pub use lexed::{Lexed, first_line, lex, longest_pieces};
+pub use literal::decode;
+pub use mark::{Mark, PreprocessorMark};
 pub use spelling::Spelling;
 pub use token::Token;
 

@@ -1,8 +1,11 @@
-//! What no clause says: the words of the standard and of this profile, and whole files.
+//! What no clause says: the words, numbers, literals and marks of the standard and of this profile, and whole files.
 
-use crate::{Defect, Keyword, Kind, Lexed, Mark, Token, is_like_keyword, kind_of, lex};
+use crate::{
+    Defect, Keyword, Kind, Lexed, Mark, PreprocessorMark, decode, first_line, is_like_keyword,
+    kind_of, lex,
+};
 use idl_source::{File, Line};
-use std::alloc::Global;
+use std::alloc::{AllocError, Global};
 use std::test::Fail;
 
 #[test]
@@ -88,16 +91,15 @@ fn the_profile_refuses_these_keywords(rt: HostRuntime) -> Result<(), Fail> {
 }
 
 #[test]
-fn other_spellings_have_these_kinds(rt: HostRuntime) -> Result<(), Fail> {
+fn words_have_these_kinds(rt: HostRuntime) -> Result<(), Fail> {
     for (spelling, kind, like) in [
         ("Boolean", Kind::Miscased, true),
         ("TYPEDEF", Kind::Miscased, true),
         ("false", Kind::Miscased, true),
-        ("object", Kind::Miscased, true),
         ("Valuebase", Kind::Miscased, true),
         ("Foo", Kind::Identifier, false),
         ("i", Kind::Identifier, false),
-        ("int", Kind::Identifier, false),
+        ("L", Kind::Identifier, false),
         ("interfaces", Kind::Identifier, false),
         ("x_2", Kind::Identifier, false),
         ("_interface", Kind::Escaped, false),
@@ -105,12 +107,155 @@ fn other_spellings_have_these_kinds(rt: HostRuntime) -> Result<(), Fail> {
         ("_", Kind::Bad(Defect::NothingEscaped), false),
         ("_1", Kind::Bad(Defect::NothingEscaped), false),
         ("__a", Kind::Bad(Defect::NothingEscaped), false),
-        (";", Kind::Punctuation(Mark::Semicolon), false),
-        ("$", Kind::Bad(Defect::UnknownByte), false),
-        ("1", Kind::Bad(Defect::UnknownByte), false),
     ] {
         assert_eq!(rt; kind_of(spelling.as_bytes()), kind, "{spelling}");
         assert_eq!(rt; is_like_keyword(spelling.as_bytes()), like, "{spelling}");
+    }
+    Ok(())
+}
+
+#[test]
+fn numbers_have_these_kinds(rt: HostRuntime) -> Result<(), Fail> {
+    for (spelling, kind) in [
+        ("0", Kind::Integer(0)),
+        ("00", Kind::Integer(0)),
+        ("12", Kind::Integer(12)),
+        ("0755", Kind::Integer(493)),
+        ("0xfF", Kind::Integer(255)),
+        ("0X1e", Kind::Integer(30)),
+        ("18446744073709551615", Kind::Integer(18446744073709551615)),
+        (
+            "01777777777777777777777",
+            Kind::Integer(18446744073709551615),
+        ),
+        ("18446744073709551616", Kind::Bad(Defect::IntegerTooLarge)),
+        ("0x10000000000000000", Kind::Bad(Defect::IntegerTooLarge)),
+        ("08", Kind::Bad(Defect::MalformedInteger)),
+        ("0x", Kind::Bad(Defect::MalformedInteger)),
+        ("0xg", Kind::Bad(Defect::MalformedInteger)),
+        ("12u", Kind::Bad(Defect::MalformedInteger)),
+        ("1_", Kind::Bad(Defect::MalformedInteger)),
+        ("99999999999999999999z", Kind::Bad(Defect::MalformedInteger)),
+        (".5", Kind::Bad(Defect::FloatingLiteral)),
+        ("1.5", Kind::Bad(Defect::FloatingLiteral)),
+        ("1e+3", Kind::Bad(Defect::FloatingLiteral)),
+        ("1D", Kind::Bad(Defect::FloatingLiteral)),
+        ("0x1.", Kind::Bad(Defect::FloatingLiteral)),
+    ] {
+        assert_eq!(rt; kind_of(spelling.as_bytes()), kind, "{spelling}");
+    }
+    Ok(())
+}
+
+#[test]
+fn literals_have_these_kinds(rt: HostRuntime) -> Result<(), Fail> {
+    for (spelling, kind) in [
+        ("'a'", Kind::Character),
+        ("L'a'", Kind::WideCharacter),
+        ("'\\0'", Kind::Character),
+        ("\"\"", Kind::String),
+        ("L\"a\"", Kind::WideString),
+        ("\"'\"", Kind::String),
+        ("'a", Kind::Bad(Defect::UnclosedLiteral)),
+        ("L'", Kind::Bad(Defect::UnclosedLiteral)),
+        ("\"a\\\"", Kind::Bad(Defect::UnclosedLiteral)),
+        ("''", Kind::Bad(Defect::NotOneCharacter)),
+        ("'ab'", Kind::Bad(Defect::NotOneCharacter)),
+        ("'\\qa'", Kind::Bad(Defect::NotOneCharacter)),
+        ("'\\xg'", Kind::Bad(Defect::NotOneCharacter)),
+        ("'\\q'", Kind::Bad(Defect::BadEscape)),
+        ("'\\400'", Kind::Bad(Defect::BadEscape)),
+        ("L'\\400'", Kind::Bad(Defect::BadEscape)),
+        ("'\\u0041'", Kind::Bad(Defect::NotOneCharacter)),
+        ("\"\\u0041\"", Kind::Bad(Defect::BadEscape)),
+        ("L'\\u0041'", Kind::WideCharacter),
+        ("\"\\0\"", Kind::Bad(Defect::BadEscape)),
+        ("\"a\0\"", Kind::Bad(Defect::BadEscape)),
+    ] {
+        assert_eq!(rt; kind_of(spelling.as_bytes()), kind, "{spelling}");
+    }
+    Ok(())
+}
+
+#[test]
+fn literals_have_these_values(rt: HostRuntime) -> Result<(), Fail> {
+    let alloc = rt.alloc();
+    for (spelling, value) in [
+        ("'a'", Some([97].as_slice())),
+        ("\"\"", Some(&[])),
+        ("'\\0'", Some(&[0])),
+        (
+            "\"\\n\\t\\v\\b\\r\\f\\a\"",
+            Some(&[10, 9, 11, 8, 13, 12, 7]),
+        ),
+        ("\"\\\\\\?\\'\\\"\"", Some(&[92, 63, 39, 34])),
+        ("\"\\1018\\377\"", Some(&[65, 56, 255])),
+        ("\"\\x41a\\xfg\"", Some(&[65, 97, 15, 103])),
+        ("L\"\\u263a\\u41g\"", Some(&[9786, 65, 103])),
+        ("L\"\\u12345\"", Some(&[4660, 53])),
+        ("\"\\q\"", None),
+        ("\"\\400\"", None),
+        ("\"a", None),
+        ("a", None),
+        ("", None),
+    ] {
+        let got = decode(alloc, spelling.as_bytes())?;
+        assert_eq!(rt;
+            got.as_ref().map(|value| value.as_slice()),
+            value,
+            "{spelling}"
+        );
+    }
+    Ok(())
+}
+
+#[test]
+fn marks_have_these_kinds(rt: HostRuntime) -> Result<(), Fail> {
+    for (spelling, kind) in [
+        (";", Kind::Punctuation(Mark::Semicolon)),
+        (",", Kind::Punctuation(Mark::Comma)),
+        ("{", Kind::Punctuation(Mark::OpenBrace)),
+        ("}", Kind::Punctuation(Mark::CloseBrace)),
+        ("(", Kind::Punctuation(Mark::OpenParenthesis)),
+        (")", Kind::Punctuation(Mark::CloseParenthesis)),
+        ("::", Kind::Punctuation(Mark::ColonColon)),
+        (":", Kind::Punctuation(Mark::Colon)),
+        ("<", Kind::Punctuation(Mark::Less)),
+        (">", Kind::Punctuation(Mark::Greater)),
+        ("=", Kind::Punctuation(Mark::Equals)),
+        ("[", Kind::Punctuation(Mark::OpenBracket)),
+        ("]", Kind::Punctuation(Mark::CloseBracket)),
+        ("+", Kind::Punctuation(Mark::Plus)),
+        ("-", Kind::Punctuation(Mark::Minus)),
+        ("*", Kind::Punctuation(Mark::Star)),
+        ("/", Kind::Punctuation(Mark::Slash)),
+        ("%", Kind::Punctuation(Mark::Percent)),
+        ("~", Kind::Punctuation(Mark::Tilde)),
+        ("|", Kind::Punctuation(Mark::Bar)),
+        ("^", Kind::Punctuation(Mark::Caret)),
+        ("&", Kind::Punctuation(Mark::Ampersand)),
+        ("<<", Kind::Punctuation(Mark::ShiftLeft)),
+        (">>", Kind::Punctuation(Mark::ShiftRight)),
+        ("#", Kind::Preprocessing(PreprocessorMark::Hash)),
+        ("##", Kind::Preprocessing(PreprocessorMark::HashHash)),
+        ("!", Kind::Preprocessing(PreprocessorMark::Exclamation)),
+        ("?", Kind::Preprocessing(PreprocessorMark::Question)),
+        (".", Kind::Preprocessing(PreprocessorMark::Dot)),
+        ("&&", Kind::Preprocessing(PreprocessorMark::AndAnd)),
+        ("||", Kind::Preprocessing(PreprocessorMark::OrOr)),
+        ("==", Kind::Preprocessing(PreprocessorMark::EqualsEquals)),
+        ("!=", Kind::Preprocessing(PreprocessorMark::NotEquals)),
+        ("<=", Kind::Preprocessing(PreprocessorMark::LessEquals)),
+        (">=", Kind::Preprocessing(PreprocessorMark::GreaterEquals)),
+        ("<a b>", Kind::HeaderName),
+        ("<>", Kind::HeaderName),
+        ("/*", Kind::Bad(Defect::UnclosedComment)),
+        ("$", Kind::Bad(Defect::UnknownByte)),
+        ("@", Kind::Bad(Defect::UnknownByte)),
+        ("\\", Kind::Bad(Defect::UnknownByte)),
+        ("", Kind::Bad(Defect::UnknownByte)),
+    ] {
+        assert_eq!(rt; kind_of(spelling.as_bytes()), kind, "{spelling}");
     }
     Ok(())
 }
@@ -124,39 +269,66 @@ fn file_of(alloc: Global, texts: &[&str]) -> Result<File, Fail> {
     Ok(File::new(alloc, lines)?)
 }
 
-fn is(token: &Token, line: usize, spelling: &str, kind: Kind) -> bool {
-    token.line == line && token.spelling.as_bytes() == spelling.as_bytes() && token.kind == kind
+// Each token after the number of its line: with `^` before it where it begins its line, with `~` where it follows a word.
+fn printed(alloc: Global, lexed: &Lexed) -> Result<Vec<u8>, AllocError> {
+    let mut text = Vec::new(alloc);
+    for token in lexed.tokens() {
+        let line = token.line;
+        text.extend_from_slice(format!(in alloc; " {line}")?.as_bytes())?;
+        text.push(if token.starts_line { b'^' } else { b':' })?;
+        if token.follows_word {
+            text.push(b'~')?;
+        }
+        text.extend_from_slice(token.spelling.as_bytes())?;
+    }
+    Ok(text)
 }
 
 #[test]
-fn tokens_stand_in_their_lines(rt: HostRuntime) -> Result<(), Fail> {
+fn files_have_these_tokens(rt: HostRuntime) -> Result<(), Fail> {
     let alloc = rt.alloc();
-    let texts = ["typedef\t_long x1;", "", " \x0b;;12", "Void_", "é"];
-    let lexed = lex(alloc, &file_of(alloc, &texts)?, None)?;
-    let semicolon = Kind::Punctuation(Mark::Semicolon);
-    let unknown = Kind::Bad(Defect::UnknownByte);
-    let want = [
-        (1, "typedef", Kind::Accepted(Keyword::Typedef)),
-        (1, "_long", Kind::Escaped),
-        (1, "x1", Kind::Identifier),
-        (1, ";", semicolon),
-        (3, ";", semicolon),
-        (3, ";", semicolon),
-        (3, "1", unknown),
-        (3, "2", unknown),
-        (4, "Void_", Kind::Identifier),
-    ];
-    // The last line is one letter of two bytes, and each of these is a token.
-    assert_eq!(rt; lexed.tokens().len(), want.len() + 2);
-    for (token, (line, spelling, kind)) in lexed.tokens().iter().zip(want) {
-        assert!(rt;
-            is(token, line, spelling, kind),
-            "{spelling} in line {line}"
-        );
-    }
-    for token in lexed.tokens().iter().skip(want.len()) {
-        assert_eq!(rt; (token.line, token.spelling.as_bytes().len()), (5, 1));
-        assert_eq!(rt; token.kind, unknown);
+    for (texts, tokens) in [
+        ([].as_slice(), ""),
+        (&["", " \t\r\x0c", ""], ""),
+        (
+            &["typedef\t_long x1;", "", "\x0b;;12"],
+            " 1^typedef 1:_long 1:x1 1:~; 3^; 3:; 3:12",
+        ),
+        (&["a::b:::c"], " 1^a 1:~:: 1:b 1:~:: 1:: 1:c"),
+        (&["<<=>>=<=="], " 1^<< 1:= 1:>> 1:= 1:<= 1:="),
+        (
+            &["1e+2 0x1e+2 1.e-.5 a.5 ..5"],
+            " 1^1e+2 1:0x1e 1:+ 1:2 1:1.e-.5 1:a 1:~.5 1:. 1:.5",
+        ),
+        (
+            &["L'a'L\"b\"LL\"c\" L"],
+            " 1^L'a' 1:L\"b\" 1:LL 1:~\"c\" 1:L",
+        ),
+        (&["'a", "\"b\\", "\" c"], " 1^'a 2^\"b\" 3:c"),
+        (&["\"b\\\"", "x"], " 1^\"b\\\" 2^x"),
+        (
+            &["a//b", "c/*d*/e/**/(/ * /*/*/f"],
+            " 1^a 2^c 2:e 2:( 2:/ 2:* 2:f",
+        ),
+        (&["a/*b", "*/c/* /* */ d */"], " 1^a 2:c 2:d 2:* 2:/"),
+        (&["#a/*", "", "*/(", "b"], " 1^# 1:a 3:( 4^b"),
+        (&["a /*b", "*", "/"], " 1^a 1:/*"),
+        (&["X(X (X\\", "("], " 1^X 1:~( 1:X 1:( 1:X 2:~("),
+        (&["ab\\", "c\\", "\\", "d", "e\\"], " 1^abcd 5^e 5:~\\"),
+        (&["/\\", "/ a\\", "b", "c"], " 4^c"),
+        (&["/* *\\", "/a"], " 2^a"),
+        (
+            &[" # include <a/b> /*c*/ <d> x<", "<a> include <b>"],
+            " 1^# 1:include 1:<a/b> 1:<d> 1:x 1:~< 2^< 2:a 2:~> 2:include 2:< 2:b 2:~>",
+        ),
+        (
+            &["#include /*", "*/ <//>/**/>", "# include <a", ">"],
+            " 1^# 1:include 2:<//> 2:> 3^# 3:include 3:< 3:a 4^>",
+        ),
+    ] {
+        let lexed = lex(alloc, &file_of(alloc, texts)?, None)?;
+        let got = printed(alloc, &lexed)?;
+        assert_eq!(rt; got.as_slice(), tokens.as_bytes(), "{tokens}");
     }
     Ok(())
 }
@@ -175,18 +347,6 @@ fn names_are_those_of_identifiers(rt: HostRuntime) -> Result<(), Fail> {
     Ok(())
 }
 
-#[test]
-fn files_of_white_space_have_no_token(rt: HostRuntime) -> Result<(), Fail> {
-    let alloc = rt.alloc();
-    let old = lex(alloc, &file_of(alloc, &["struct"])?, None)?;
-    for texts in [[].as_slice(), &[""], &["", " \t\r\x0c", ""]] {
-        let file = file_of(alloc, texts)?;
-        assert_eq!(rt; lex(alloc, &file, None)?.tokens().len(), 0);
-        assert_eq!(rt; lex(alloc, &file, Some(&old))?.tokens().len(), 0);
-    }
-    Ok(())
-}
-
 fn lexed_again(alloc: Global, file: &File, old: &Lexed) -> Result<Lexed, Fail> {
     match lex(alloc, file, Some(old)) {
         Ok(lexed) => Ok(lexed),
@@ -199,11 +359,19 @@ fn lexed_again(alloc: Global, file: &File, old: &Lexed) -> Result<Lexed, Fail> {
 fn old_tokens_change_nothing(rt: HostRuntime) -> Result<(), Fail> {
     let alloc = rt.alloc();
     let old = lex(alloc, &file_of(alloc, &["struct S;", "union"])?, None)?;
-    let file = file_of(alloc, &["", "S"])?;
+    let file = file_of(alloc, &["", "#\\", "S/*", "*/", "T"])?;
     let lexed = lexed_again(alloc, &file, &old)?;
-    assert_eq!(rt; lexed.tokens().len(), 1);
-    for token in lexed.tokens() {
-        assert!(rt; is(token, 2, "S", Kind::Identifier));
+    assert_eq!(rt;
+        printed(alloc, &lexed)?.as_slice(),
+        b" 2^# 3:S 5^T".as_slice()
+    );
+    let mut left = lexed.tokens();
+    for want in [2, 1] {
+        assert!(rt; left.len() > 0);
+        let (line, rest) = first_line(left);
+        assert_eq!(rt; line.len(), want);
+        left = rest;
     }
+    assert_eq!(rt; left.len(), 0);
     Ok(())
 }

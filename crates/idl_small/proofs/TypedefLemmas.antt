@@ -7,7 +7,7 @@ use Rattle.idl_lex.specs.Kind.{name_of}
 use Rattle.idl_lex.specs.declared.keyword.Keyword.{Keyword}
 use Rattle.idl_lex.specs.declared.keyword.Keyword.TheVariants.{Typedef}
 use Rattle.idl_lex.specs.declared.kind.Kind.{Kind}
-use Rattle.idl_lex.specs.declared.kind.Kind.TheVariants.{Accepted, Refused, Identifier, Escaped, Miscased, Punctuation, Bad}
+use Rattle.idl_lex.specs.declared.kind.Kind.TheVariants.{Accepted, Identifier, Escaped}
 use Rattle.idl_lex.specs.declared.token.Token.{Token}
 use Rattle.idl_small.specs.Typedef.{basic_types, is_keyword, is_spelled, is_typedef, are_words, IsTree}
 use Rattle.idl_small.specs.Unit.{is_semicolon}
@@ -78,21 +78,14 @@ AreNameless (t ∷ ts) = (name_of t.kind t.spelling ≡ None) × AreNameless ts
 
 name_of-keyword : (w : Keyword) (kind : Kind) (spelling : List ℕ) → is_keyword w kind ≡ true → name_of kind spelling ≡ None
 name_of-keyword w (Accepted keyword) spelling e = refl
-name_of-keyword w Refused spelling e = refl
 name_of-keyword w Identifier spelling e = absurd (cc)
 name_of-keyword w Escaped spelling e = absurd (cc)
-name_of-keyword w Miscased spelling e = refl
-name_of-keyword w (Punctuation mark) spelling e = refl
-name_of-keyword w (Bad defect) spelling e = refl
+name_of-keyword w other spelling e = refl
 
 name_of-semicolon : (kind : Kind) (spelling : List ℕ) → is_semicolon kind ≡ true → name_of kind spelling ≡ None
-name_of-semicolon (Accepted keyword) spelling e = refl
-name_of-semicolon Refused spelling e = refl
 name_of-semicolon Identifier spelling e = absurd (cc)
 name_of-semicolon Escaped spelling e = absurd (cc)
-name_of-semicolon Miscased spelling e = refl
-name_of-semicolon (Punctuation mark) spelling e = refl
-name_of-semicolon (Bad defect) spelling e = refl
+name_of-semicolon other spelling e = refl
 
 AreNameless-are_words : (ws : List Keyword) (ts : List Token) → are_words ws ts ≡ true → AreNameless ts
 AreNameless-are_words [] [] e = tt

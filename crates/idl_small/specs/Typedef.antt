@@ -6,7 +6,7 @@ use Rattle.idl_lex.specs.contracts.keyword.KeywordPartialEq.TheImpl.{eq-value as
 use Rattle.idl_lex.specs.declared.keyword.Keyword.{Keyword}
 use Rattle.idl_lex.specs.declared.keyword.Keyword.TheVariants.{Any, Boolean, Char, Double, Float, Long, Object, Octet, Short, Typedef, Unsigned, Wchar}
 use Rattle.idl_lex.specs.declared.kind.Kind.{Kind}
-use Rattle.idl_lex.specs.declared.kind.Kind.TheVariants.{Accepted, Refused, Identifier, Escaped, Miscased, Punctuation, Bad}
+use Rattle.idl_lex.specs.declared.kind.Kind.TheVariants.{Accepted}
 use Rattle.idl_lex.specs.declared.token.Token.{Token}
 use Rattle.idl_small.specs.Unit.{is_semicolon}
 
@@ -20,12 +20,7 @@ basic_types =
 
 abbrev pub is_keyword : Keyword → Kind → Bool
 is_keyword keyword (Accepted accepted) = is_same_keyword.it accepted keyword
-is_keyword keyword Refused = false
-is_keyword keyword Identifier = false
-is_keyword keyword Escaped = false
-is_keyword keyword Miscased = false
-is_keyword keyword (Punctuation mark) = false
-is_keyword keyword (Bad defect) = false
+is_keyword keyword other = false
 
 -- an identifier and `;`
 abbrev pub is_declarator : List Token → Bool

@@ -2,18 +2,13 @@
 use Rattle.std.specs.Prelude.{Bool, true, false, List, [], ◌∷◌, if◌then◌else◌}
 use Rattle.std.specs.List.{onto_first}
 use Rattle.idl_lex.specs.declared.kind.Kind.{Kind}
-use Rattle.idl_lex.specs.declared.kind.Kind.TheVariants.{Accepted, Refused, Identifier, Escaped, Miscased, Punctuation, Bad}
-use Rattle.idl_lex.specs.declared.kind.Mark.TheVariants.{Semicolon}
+use Rattle.idl_lex.specs.declared.kind.Kind.TheVariants.{Punctuation}
+use Rattle.idl_lex.specs.declared.mark.Mark.TheVariants.{Semicolon}
 use Rattle.idl_lex.specs.declared.token.Token.{Token}
 
 abbrev pub is_semicolon : Kind → Bool
 is_semicolon (Punctuation Semicolon) = true
-is_semicolon (Accepted keyword) = false
-is_semicolon Refused = false
-is_semicolon Identifier = false
-is_semicolon Escaped = false
-is_semicolon Miscased = false
-is_semicolon (Bad defect) = false
+is_semicolon other = false
 
 -- a unit goes through the first `;`, or to the end of the tokens
 abbrev pub units : List Token → List (List Token)

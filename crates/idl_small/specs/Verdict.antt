@@ -6,23 +6,35 @@ use Rattle.std.specs.Option.{option_or, option_to_list}
 use Rattle.idl_lex.specs.Keywords.{folded}
 use Rattle.idl_lex.specs.Kind.{name_of}
 use Rattle.idl_lex.specs.declared.kind.Kind.{Kind}
-use Rattle.idl_lex.specs.declared.kind.Kind.TheVariants.{Accepted, Refused, Identifier, Escaped, Miscased, Punctuation, Bad}
+use Rattle.idl_lex.specs.declared.kind.Kind.TheVariants.{Refused, Miscased, Preprocessing, Bad}
+use Rattle.idl_lex.specs.declared.kind.Defect.{Defect}
+use Rattle.idl_lex.specs.declared.kind.Defect.TheVariants as defect
 use Rattle.idl_lex.specs.declared.token.Token.{Token}
 use Rattle.idl_small.specs.Code.{number_of}
 use Rattle.idl_small.specs.Typedef.{is_typedef}
 use Rattle.idl_small.specs.declared.code.Code.{Code}
-use Rattle.idl_small.specs.declared.code.Code.TheVariants.{BadToken, NoTree, LeftOut, AlreadyDeclared, LikeKeyword}
+use Rattle.idl_small.specs.declared.code.Code.TheVariants.{BadToken, UnclosedLiteral, NotOneCharacter, BadEscape, MalformedInteger, FloatingLiteral, IntegerTooLarge, UnclosedComment, NoTree, LeftOut, AlreadyDeclared, LikeKeyword}
 use Rattle.idl_small.specs.declared.verdict.Fault.{Fault}
 
--- the codes of a token, wherever it stands
+-- the code of a bad token
+abbrev pub defect_code : Defect → Code
+defect_code defect.UnknownByte = BadToken
+defect_code defect.NothingEscaped = BadToken
+defect_code defect.UnclosedLiteral = UnclosedLiteral
+defect_code defect.NotOneCharacter = NotOneCharacter
+defect_code defect.BadEscape = BadEscape
+defect_code defect.MalformedInteger = MalformedInteger
+defect_code defect.FloatingLiteral = FloatingLiteral
+defect_code defect.IntegerTooLarge = IntegerTooLarge
+defect_code defect.UnclosedComment = UnclosedComment
+
+-- the codes of a token, wherever it stands; a mark that the preprocessor alone knows is none of IDL
 abbrev pub token_codes : Kind → List Code
-token_codes (Bad defect) = BadToken ∷ []
+token_codes (Bad why) = defect_code why ∷ []
+token_codes (Preprocessing mark) = BadToken ∷ []
 token_codes Refused = LeftOut ∷ []
 token_codes Miscased = LikeKeyword ∷ []
-token_codes (Accepted keyword) = []
-token_codes Identifier = []
-token_codes Escaped = []
-token_codes (Punctuation mark) = []
+token_codes other = []
 
 -- the faults that tokens have by these codes; the first token has this number
 abbrev pub faults_at : (Token → List Code) → ℕ → List Token → List Fault

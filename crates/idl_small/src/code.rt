@@ -8,6 +8,20 @@ ghost use Rattle.idl_small.specs.Code.{number_of, text_of};
 pub enum Code {
     /// A token that is none of IDL.
     BadToken,
+    /// A literal that isn't closed on its line.
+    UnclosedLiteral,
+    /// A character literal that isn't one character.
+    NotOneCharacter,
+    /// A bad escape, or the zero character in a string.
+    BadEscape,
+    /// A number that is no integer.
+    MalformedInteger,
+    /// A floating or fixed literal.
+    FloatingLiteral,
+    /// An integer of 2^64 or more.
+    IntegerTooLarge,
+    /// A comment that isn't closed.
+    UnclosedComment,
     /// The file isn't there.
     FileNotFound,
     /// No tree has this spelling.
@@ -28,6 +42,13 @@ impl Code {
     {
         match self {
             Code::BadToken => 1,
+            Code::UnclosedLiteral => 2,
+            Code::NotOneCharacter => 3,
+            Code::BadEscape => 4,
+            Code::MalformedInteger => 5,
+            Code::FloatingLiteral => 6,
+            Code::IntegerTooLarge => 7,
+            Code::UnclosedComment => 9,
             Code::FileNotFound => 10,
             Code::NoTree => 20,
             Code::LeftOut => 21,

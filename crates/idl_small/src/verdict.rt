@@ -4,14 +4,14 @@ ghost use Rattle.std.specs.Prelude.{◌≡◌, ◌<◌, ◌∷◌, [], ⊤, flat
 ghost use Rattle.std.specs.Option.{option_to_list};
 ghost use Rattle.idl_small.specs.Judge.{MatchVerdict};
 ghost use Rattle.idl_small.specs.Row.{dump_row};
-ghost use Rattle.idl_small.specs.Verdict.{fault_of, least, names_at, token_codes, token_faults};
+ghost use Rattle.idl_small.specs.Verdict.{fault_of, least, names_at, defect_code, token_codes, token_faults};
 
 use crate::code::Code;
 use crate::name_table::NameTable;
 use crate::row::{dump_row, folded};
 use crate::tree::parse;
 use idl_base::Text;
-use idl_lex::{Kind, Token};
+use idl_lex::{Defect, Kind, Token};
 use std::alloc::{AllocError, Global};
 
 /// A fault of a unit: its code, and the number of the token at which it is decided, from 0.
@@ -75,9 +75,26 @@ fn token_code(kind: Kind) -> Option<Code>
     ensures { option_to_list result ≡ token_codes kind }
 {
     match kind {
-        Kind::Bad(_) => Some(Code::BadToken),
+        Kind::Bad(defect) => Some(defect_code(defect)),
+        Kind::Preprocessing(_) => Some(Code::BadToken),
         Kind::Refused => Some(Code::LeftOut),
         Kind::Miscased => Some(Code::LikeKeyword),
         _ => None,
+    }
+}
+
+// The code of a bad token.
+fn defect_code(defect: Defect) -> Code
+    ensures { result ≡ defect_code defect }
+{
+    match defect {
+        Defect::UnknownByte | Defect::NothingEscaped => Code::BadToken,
+        Defect::UnclosedLiteral => Code::UnclosedLiteral,
+        Defect::NotOneCharacter => Code::NotOneCharacter,
+        Defect::BadEscape => Code::BadEscape,
+        Defect::MalformedInteger => Code::MalformedInteger,
+        Defect::FloatingLiteral => Code::FloatingLiteral,
+        Defect::IntegerTooLarge => Code::IntegerTooLarge,
+        Defect::UnclosedComment => Code::UnclosedComment,
     }
 }

@@ -1,6 +1,14 @@
-use Rattle.std.proofs.Common.{◌≡◌, ◌++◌, ◌+◌, drop}
-use Rattle.idl_lex.specs.Tokens.{text_from, tokens_after, tokens_of}
+use Rattle.std.proofs.Common.{◌≡◌, ◌≤◌, ◌++◌, ◌+◌, ◌-◌, drop, length}
+use Rattle.idl_lex.specs.Lexer.{coming}
+use Rattle.idl_lex.specs.Text.{joined}
+use Rattle.idl_lex.specs.Tokens.{tokens_of}
 use Rattle.idl_lex.proofs.lexed.lex.Given as goal
 
-abbrev pub invariant-loop-i : goal.invariant-loop-i
-invariant-loop-i l = l.tokens.items ++ tokens_after 0 (text_from (l.i + 1) (drop l.i l.line-items)) ≡ tokens_of l.line-items
+abbrev pub invariant-lines : goal.invariant-lines
+invariant-lines l = record {
+  within : l.i ≤ length l.lines;
+  tokens : l.tokens.items ++ coming l.before (joined (l.i + 1) (drop l.i l.lines)) ≡ tokens_of l.lines;
+}
+
+abbrev pub decreases-lines : goal.decreases-lines
+decreases-lines l = length l.lines - l.i

@@ -1,0 +1,60 @@
+use Rattle.std.proofs.Common.{◌≡◌, ◌∙◌, ◌++◌, ◌+◌, ◌-◌, ◌≤◌, ◌<◌, append_assoc, ap, arith, codes, drop, get_or, length, sym, subst, false, take, true}
+use Rattle.std.proofs.lemmas.List.{drop_all}
+use Rattle.idl_lex.specs.Context.{is_include, context_after}
+use Rattle.idl_lex.specs.Lexer.{after_comment, ended, is_open}
+use Rattle.idl_lex.specs.Logical.{line_at}
+use Rattle.idl_lex.specs.Scan.{further}
+use Rattle.idl_lex.specs.Tokens.{token_if, token_of, tokens_after}
+use Rattle.idl_lex.proofs.TokensLemmas.{length-bytes_of, piece_of, EndsAt, tokens_after-piece_of, tokens_after-comment, tokens_after-newline, opening-spelled}
+use Rattle.idl_lex.proofs.lexer.push_pieces.Goals as goal
+
+pub returns-then-is_open : goal.returns-then-is_open
+returns-then-is_open c = λ newline rest.
+    let line = c.args.line.now in
+    let i = c.pieces.i in
+    let end = c.piece_end-end.result in
+    let now = c.pieces.now in
+    let same = c.as_bytes-bytes.ensures in
+    let within : i < length line = omega (arith, c.pieces-test.true, ap length same, length-bytes_of line) in
+    let is : EndsAt now line i end = subst (λ bs. end ≡ i + 1 + further (is_include now.beginning) (get_or bs i 0) (drop (i + 1) bs)) same c.piece_end-end.ensures.end in
+    let opened : is_open (piece_of line i end) ≡ true = sym (c.is_open.ensures ∙ ap (λ bs. is_open (take (end - i) (drop i bs))) same) ∙ c.if-is_open.true in
+    let opening : c.new-opening.result ≡ token_of now (codes "/*") (line_at line i) =
+    c.new-opening.ensures
+    ∙ ap (λ bs. token_of now bs c.line_at.result) (c.in_ok-spelling.ensures ∙ opening-spelled now line i end within is opened)
+    ∙ ap (λ n. token_of now (codes "/*") n) c.line_at.ensures in
+    ap (λ ts. c.pieces.tokens.items ++ ts)
+    (ap (λ t. after_comment t c.after.result rest) opening
+    ∙ ap (λ x. after_comment (token_of now (codes "/*") (line_at line i)) x rest) c.after.ensures
+    ∙ sym (tokens_after-comment now line i end newline rest within is opened))
+    ∙ c.pieces.invariant.tokens newline rest
+
+pub pieces-preserved : goal.pieces-preserved
+pieces-preserved c =
+    let line = c.args.line.now in
+    let i = c.pieces.i in
+    let end = c.piece_end-end.result in
+    let now = c.pieces.now in
+    let same = c.as_bytes-bytes.ensures in
+    let within : i < length line = omega (arith, c.pieces-test.true, ap length same, length-bytes_of line) in
+    let is : EndsAt now line i end = subst (λ bs. end ≡ i + 1 + further (is_include now.beginning) (get_or bs i 0) (drop (i + 1) bs)) same c.piece_end-end.ensures.end in
+    let closed : is_open (piece_of line i end) ≡ false = sym (c.is_open.ensures ∙ ap (λ bs. is_open (take (end - i) (drop i bs))) same) ∙ c.if-is_open.false in
+    let after : c.after-now.result ≡ context_after now (piece_of line i end) = c.after-now.ensures ∙ ap (λ bs. context_after now (take (end - i) (drop i bs))) same in
+    let token = token_if now (piece_of line i end) (line_at line i) in
+    record {
+      within = omega (arith, c.piece_end-end.ensures.within, ap length same, length-bytes_of line);
+      tokens = λ newline rest.
+          ap (λ ts. ts ++ tokens_after c.after-now.result 0 (drop end line ++ ended newline rest)) c.in_ok-push_piece.ensures
+          ∙ append_assoc c.pieces.tokens.items token (tokens_after c.after-now.result 0 (drop end line ++ ended newline rest))
+          ∙ ap (λ x. c.pieces.tokens.items ++ (token ++ tokens_after x 0 (drop end line ++ ended newline rest))) after
+          ∙ ap (λ ts. c.pieces.tokens.items ++ ts) (sym (tokens_after-piece_of now line i end newline rest within is closed))
+          ∙ c.pieces.invariant.tokens newline rest;
+    }
+
+pub returns : goal.returns
+returns c = λ newline rest.
+    let line = c.args.line.now in
+    let past : length line ≤ c.pieces.i = omega (arith, c.pieces-test.false, ap length c.as_bytes-bytes.ensures, length-bytes_of line) in
+    ap (λ ts. c.pieces.tokens.items ++ ts)
+    (sym (ap (λ ps. tokens_after c.pieces.now 0 (ps ++ ended newline rest)) (drop_all c.pieces.i line past)
+    ∙ tokens_after-newline c.pieces.now newline rest))
+    ∙ c.pieces.invariant.tokens newline rest

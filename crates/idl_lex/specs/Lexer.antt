@@ -1,0 +1,35 @@
+-- The tokens that are still to come, by what a line begins in.
+use Rattle.std.specs.Prelude.{ℕ, Bool, false, not, List, [], ◌∷◌, nat_eq, if◌then◌else◌}
+use Rattle.idl_source.specs.declared.line.TheConstants.{NEWLINE}
+use Rattle.idl_lex.specs.Context.{line_start, ends_block}
+use Rattle.idl_lex.specs.Scan.{taken}
+use Rattle.idl_lex.specs.Text.{Placed, bytes_of}
+use Rattle.idl_lex.specs.Tokens.{tokens_after}
+use Rattle.idl_lex.specs.declared.context.Context.{Context}
+use Rattle.idl_lex.specs.declared.lexer.Before.{Before}
+use Rattle.idl_lex.specs.declared.lexer.Before.TheVariants.{Fresh, Comment}
+use Rattle.idl_lex.specs.declared.state.State.TheVariants.{Block}
+use Rattle.idl_lex.specs.declared.token.Token.{Token}
+
+-- of a comment that was opened before this text, where that token is its opening: what comes after it, or the opening alone if it isn't closed
+abbrev pub after_comment : Token → Context → List Placed → List Token
+after_comment opening c text = if ends_block false (bytes_of text) then tokens_after c (taken (Block false) (bytes_of text)) text else opening ∷ []
+
+-- the tokens of a text that begins in this
+abbrev pub coming : Before → List Placed → List Token
+coming Fresh text = tokens_after line_start 0 text
+coming (Comment opening c) text = after_comment opening c text
+
+-- the newline that ends a line, and what comes after it
+abbrev pub ended : ℕ → List Placed → List Placed
+ended number rest = record { byte = NEWLINE; line = number } ∷ rest
+
+-- of a piece after a first `/`: a comment that isn't closed
+abbrev pub opens : List ℕ → Bool
+opens [] = false
+opens (b ∷ rest) = if nat_eq b 42 then not (ends_block false rest) else false
+
+-- a comment that isn't closed
+abbrev pub is_open : List ℕ → Bool
+is_open [] = false
+is_open (b ∷ rest) = if nat_eq b 47 then opens rest else false

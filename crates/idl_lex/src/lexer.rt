@@ -1,0 +1,117 @@
+//! Cutting a text into tokens, line by line of the joined text.
+
+ghost use Rattle.std.specs.Prelude.{◌≡◌, ◌≤◌, ◌<◌, ◌+◌, ◌++◌, ◌-◌, false, ℕ, List, drop, length, slice_index, take, IfOk, OnOk};
+ghost use Rattle.idl_lex.specs.Context.{is_include};
+ghost use Rattle.idl_lex.specs.Lexer.{coming, ended, is_open};
+ghost use Rattle.idl_lex.specs.Logical.{line_at};
+ghost use Rattle.idl_lex.specs.Scan.{further};
+ghost use Rattle.idl_lex.specs.Text.{Placed, bytes_of};
+ghost use Rattle.idl_lex.specs.Tokens.{token_if, tokens_after};
+
+use crate::context::{Context, ends_block, is_gap};
+use crate::logical::Logical;
+use crate::state::{State, further, taken};
+use crate::token::Token;
+use std::alloc::AllocError;
+
+/// What a line begins in.
+#[derive(Debug, Drop)]
+pub enum Before {
+    /// In nothing: the line before it has ended.
+    Fresh,
+    /// In a comment, which is this token if it isn't closed. Where it is closed this stands before what comes after it.
+    Comment(Token, Context),
+}
+
+/// Puts in the tokens of a line that begins in this, and answers what the next line begins in.
+pub fn push_line(
+    tokens: &mut Vec<Token>,
+    line: &Logical,
+    before: Before,
+) -> Result<Before, AllocError>
+    ensures { IfOk result (λ after. (newline : ℕ) → (rest : List Placed) →
+        tokens.new.items ++ coming after rest ≡ tokens.old.items ++ coming before (line.now ++ ended newline rest)) }
+{
+    match before {
+        Before::Fresh => push_pieces(tokens, line, 0, Context::line_start()),
+        Before::Comment(opening, context) => {
+            let bytes = line.as_bytes();
+            if !ends_block(bytes) {
+                return Ok(Before::Comment(opening, context));
+            }
+            let from = taken(State::Block(false), bytes);
+            let after = push_pieces(tokens, line, from, context)?;
+            Ok(after)
+        }
+    }
+}
+
+// Puts in the tokens from a place of a line on, where this stands before it, and answers what the next line begins in.
+fn push_pieces(
+    tokens: &mut Vec<Token>,
+    line: &Logical,
+    from: usize,
+    context: Context,
+) -> Result<Before, AllocError>
+    requires { from ≤ length line.now }
+    ensures { IfOk result (λ after. (newline : ℕ) → (rest : List Placed) →
+        tokens.new.items ++ coming after rest ≡ tokens.old.items ++ tokens_after context 0 (drop from line.now ++ ended newline rest)) }
+{
+    let bytes = line.as_bytes();
+    let mut i = from;
+    let mut now = context;
+    'pieces: while i < bytes.len() {
+        let end = piece_end(now, bytes, i);
+        let piece = &bytes[i..end];
+        if is_open(piece) {
+            let spelling = line.spelling(i, i + 2)?;
+            let opening = Token::new(now, spelling, line.line_at(i));
+            return Ok(Before::Comment(opening, now.after(b" ")));
+        }
+        push_piece(tokens, now, line, i, end)?;
+        now = now.after(piece);
+        i = end;
+    }
+    Ok(Before::Fresh)
+}
+
+// Puts in the token that a piece from one place of a line up to another is, if it is one.
+fn push_piece(
+    tokens: &mut Vec<Token>,
+    context: Context,
+    line: &Logical,
+    from: usize,
+    to: usize,
+) -> Result<(), AllocError>
+    requires order { from < to }
+    requires within { to ≤ length line.now }
+    requires closed { is_open (take (to - from) (drop from (bytes_of line.now))) ≡ false }
+    ensures { OnOk result (tokens.new.items
+        ≡ tokens.old.items ++ token_if context (take (to - from) (drop from (bytes_of line.now))) (line_at line.now from)) }
+{
+    if is_gap(&line.as_bytes()[from..to]) {
+        return Ok(());
+    }
+    let spelling = line.spelling(from, to)?;
+    tokens.push(Token::new(context, spelling, line.line_at(from)))?;
+    Ok(())
+}
+
+// Where the longest piece ends that begins at a place, of the bytes that stand there.
+fn piece_end(context: Context, bytes: &[u8], i: usize) -> usize
+    requires { i < length bytes.now }
+    ensures end { result ≡ i + 1 + further (is_include context.beginning) (slice_index bytes.now i) (drop (i + 1) bytes.now) }
+    ensures within { result ≤ length bytes.now }
+{
+    i + 1 + further(context.beginning.is_include(), bytes[i], &bytes[i + 1..])
+}
+
+// Whether a piece is a comment that isn't closed.
+fn is_open(piece: &[u8]) -> bool
+    ensures { result ≡ is_open piece.now }
+{
+    match piece {
+        [b'/', b'*', rest @ ..] => !ends_block(rest),
+        _ => false,
+    }
+}
