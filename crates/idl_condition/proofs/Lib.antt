@@ -1,0 +1,6 @@
+pub mod ChainLemmas
+pub mod ExpressionLemmas
+pub mod GrammarLemmas
+pub mod MarkLemmas
+pub mod NumberLemmas
+pub mod WaitingLemmas
