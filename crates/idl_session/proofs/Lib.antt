@@ -1,0 +1,6 @@
+pub mod BodyLemmas
+pub mod HeadingLemmas
+pub mod ReplyLemmas
+pub mod RunLemmas
+pub mod ServeLemmas
+pub mod StreamLemmas

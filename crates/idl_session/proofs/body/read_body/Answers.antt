@@ -1,0 +1,20 @@
+use Rattle.std.proofs.Common.{◌∙◌, refl, arith}
+use Rattle.idl_session.proofs.BodyLemmas.{gathering-none, gathering-more}
+use Rattle.idl_session.proofs.body.read_body.Goals as goal
+
+pub loop-i-init : goal.loop-i-init
+loop-i-init g c = record {
+  gathering = gathering-none c.args.count _ c.first_body-body.result c.first_body-body.ensures;
+  nearer = omega arith;
+  failures = refl;
+}
+
+pub loop-i-preserved : goal.loop-i-preserved
+loop-i-preserved g c =
+    let took = rw c.if-not-branch.false at c.in_ok-read_line.ensures.line in
+    let nearer = rw c.if-not-branch.false at c.in_ok-read_line.ensures.nearer in
+    record {
+      gathering = gathering-more c.args.count c.loop-i.i _ _ _ c.read_line.new.line _ c.loop-i.body c.with_line-body.result c.loop-i.invariant.gathering took c.get.ensures.same c.with_line-body.ensures;
+      nearer = omega (arith, nearer);
+      failures = c.in_ok-read_line.ensures.ok ∙ c.loop-i.invariant.failures;
+    }

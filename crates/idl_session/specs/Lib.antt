@@ -1,0 +1,11 @@
+pub mod Answers
+pub mod Bodies
+pub mod Commands
+pub mod Gathering
+pub mod Headings
+pub mod Lines
+pub mod Reading
+pub mod Replies
+pub mod Requests
+pub mod Serving
+pub mod Streams

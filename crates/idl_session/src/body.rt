@@ -1,0 +1,94 @@
+//! The lines that a `put` announces. They are taken where they can't be kept, too.
+
+ghost use Rattle.std.specs.Prelude.{◌≡◌, ◌≤◌, ◌<◌, ◌+◌, ◌-◌, ◌^◌, ◌∷◌, ◌++◌, [], ℕ, List, IfOk, IfErr, IfSome, OnOk, OnErr};
+ghost use Rattle.std.specs.Option.{option_copied};
+ghost use Rattle.idl_source.specs.Line.{IsLine};
+ghost use Rattle.idl_session.specs.Lines.{kept};
+ghost use Rattle.idl_session.specs.Streams.{lines_left, fuel};
+ghost use Rattle.idl_session.specs.Bodies.{IsGathered, TakesBody};
+
+use crate::feed::Feed;
+use crate::line_buffer::{LineBuffer, read_line};
+use idl_source::{Line, MAX_LINE, MAX_LINES, ReadFailed, Refusal, Source};
+use std::alloc::Global;
+
+/// The lines that a `put` announces, or why there are none to put.
+#[derive(Debug, Drop)]
+pub enum Body {
+    /// All of them.
+    Whole(Vec<Line>),
+    /// The input ended before the last of them.
+    Unfinished,
+    /// There are too many, or one is too long.
+    OverLimit,
+    /// There was no memory for one.
+    NoMemory,
+}
+
+/// Takes so many lines, or fewer at the end of the input.
+pub fn read_body<S: Source>(
+    alloc: Global,
+    source: &mut S,
+    feed: &mut Feed,
+    count: usize,
+) -> Result<Body, ReadFailed>
+    requires counts { S.failures source.old < 2 ^ 64 - 1 }
+
+    ensures taken { IfOk result (λ body. TakesBody count
+        (lines_left (S.remaining source.old) feed.old) (lines_left (S.remaining source.new) feed.new) body) }
+    ensures nearer { OnOk result (fuel (S.reads_left source.new) feed.new ≤ fuel (S.reads_left source.old) feed.old) }
+    ensures ok { OnOk result (S.failures source.new ≡ S.failures source.old) }
+
+    ensures err { OnErr result (S.failures source.new ≡ S.failures source.old + 1) }
+{
+    let mut line = LineBuffer::<MAX_LINE>::new();
+    let mut body = first_body(alloc, count);
+    for i in 0..count {
+        if !read_line(source, feed, &mut line)? {
+            return Ok(Body::Unfinished);
+        }
+        body = with_line(alloc, body, line.get());
+    }
+    Ok(body)
+}
+
+// The body before the first of so many lines.
+fn first_body(alloc: Global, count: usize) -> Body
+    ensures { IsGathered count [] result }
+{
+    if count > MAX_LINES {
+        return Body::OverLimit;
+    }
+    Body::Whole(Vec::new(alloc))
+}
+
+// The body with one line more, of which nothing was kept if it is too long.
+fn with_line(alloc: Global, body: Body, line: Option<&[u8]>) -> Body
+    requires one_line { IfSome line (λ l. IsLine l.now) }
+
+    ensures { (count : ℕ) (lines : List (List ℕ)) (next : List ℕ) → option_copied line.entry ≡ kept MAX_LINE next
+        → IsGathered count lines body → IsGathered count (lines ++ next ∷ []) result }
+{
+    match body {
+        Body::Whole(lines) => match line {
+            Some(line) => match with_kept(alloc, lines, line) {
+                Ok(lines) => Body::Whole(lines),
+                Err(_no_memory) => Body::NoMemory,
+            },
+            None => Body::OverLimit,
+        },
+        Body::Unfinished => Body::Unfinished,
+        Body::OverLimit => Body::OverLimit,
+        Body::NoMemory => Body::NoMemory,
+    }
+}
+
+fn with_kept(alloc: Global, mut lines: Vec<Line>, line: &[u8]) -> Result<Vec<Line>, Refusal>
+    requires one_line { IsLine line.now }
+
+    ensures ok { IfOk result (λ kept. kept.items ≡ lines.items ++ line.now ∷ []) }
+    ensures err { IfErr result (λ refusal. refusal ≡ Refusal.NoMemory) }
+{
+    lines.push(Line::new(alloc, line)?.unwrap())?;
+    Ok(lines)
+}

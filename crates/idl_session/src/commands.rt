@@ -1,0 +1,60 @@
+//! All commands of a source.
+
+ghost use Rattle.std.specs.Prelude.{◌≡◌, ◌<◌, ◌-◌, ◌^◌, ◌++◌, ℕ, List, Some, IfErr, IfSome, OnOk};
+ghost use Rattle.idl_session.specs.Answers.{IsReply};
+ghost use Rattle.idl_session.specs.Commands.{commands_of};
+ghost use Rattle.idl_session.specs.Serving.{IsCounted, IsBeginning};
+
+use crate::MAX_COMMAND;
+use crate::feed::Feed;
+use crate::line_buffer::{LineBuffer, read_line};
+use crate::serve::serve;
+use crate::stop::Stop;
+use idl_source::{Sink, Source};
+use idl_workspace::Session;
+
+/// Serves the commands that a source gives, one after the other until it ends, and writes the replies to a sink.
+///
+/// A command is a line of words, parted by one blank each; a word is of bytes 33 to 126. A number is `0`, or one to nine
+/// digits without leading zero. A last line without newline counts if it has a byte.
+///
+/// | Command | Reply |
+/// |---|---|
+/// | `put NAME N` and N lines: puts a file | `ok` |
+/// | `root NAME`: makes a file a root | `ok` |
+/// | `diagnostics NAME`, `dump NAME`: asks for the rows of a root | `rows N` and N lines |
+///
+/// What is refused has the reply `refused N`, N being the number of the [`Refusal`](crate::Refusal), and changes nothing.
+/// All else is a malformed command, and so is a line of more than [`MAX_COMMAND`] bytes. The lines that a `put` announces
+/// are taken where it is refused, too.
+///
+/// Each reply has gone out whole before the next line is read. Outside the edits no memory is taken.
+pub fn run<S: Source, K: Sink>(
+    session: &mut Session,
+    source: &mut S,
+    sink: &mut K,
+) -> Result<(), Stop>
+    // A device that counts its failures from 0 can't come near.
+    requires reads { S.failures source.old < 2 ^ 64 - 1 }
+    requires writes { K.failures sink.old < 2 ^ 64 - 1 }
+
+    // What went out is a reply to all that came in, and the session is in the state that it tells of.
+    ensures replied { OnOk result (IfSome (S.remaining source.old) (λ input. IfSome (K.written sink.old) (λ before.
+        (output : List ℕ) × (K.written sink.new ≡ Some (before ++ output)) × IsReply session.old input output session.new))) }
+
+    // A device failed in this call.
+    ensures stops { IfErr result (λ stop. IsCounted stop
+        (S.failures source.old) (S.failures source.new) (K.failures sink.old) (K.failures sink.new)) }
+    // What went out is a beginning of replies to the first commands, and the session is in the state that they tell of.
+    ensures begun { IfErr result (λ stop. IfSome (S.remaining source.old) (λ input.
+        IsBeginning stop session.old (commands_of input) (K.written sink.old) (K.written sink.new) session.new)) }
+{
+    let mut feed = Feed::new();
+    let mut line = LineBuffer::<MAX_COMMAND>::new();
+    'commands: loop {
+        if !read_line(source, &mut feed, &mut line)? {
+            return Ok(());
+        }
+        serve(session, source, &mut feed, &line, sink)?;
+    }
+}

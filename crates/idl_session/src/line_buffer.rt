@@ -1,0 +1,101 @@
+//! A line of bounded length, and how one is taken from a feed.
+
+ghost use Rattle.std.specs.Prelude.{◌≡◌, ◌≢◌, ◌≤◌, ◌<◌, ◌+◌, ◌-◌, ◌^◌, [], Some, IfOk, IfSome, OnOk, OnErr, MatchBool};
+ghost use Rattle.std.specs.Option.{option_copied};
+ghost use Rattle.idl_source.specs.Line.{IsLine};
+ghost use Rattle.idl_session.specs.Lines.{kept_with};
+ghost use Rattle.idl_session.specs.Streams.{lines_left, IsOver, fuel, TakesLine};
+
+use crate::feed::Feed;
+use arrayvec::ArrayVec;
+use idl_source::{NEWLINE, ReadFailed, Source};
+use std::marker::Model;
+
+/// A line of at most `N` bytes, none of them a newline. Of a longer one only that it is longer is known.
+#[derive(Drop)]
+pub struct LineBuffer<const N: usize> {
+    bytes: ArrayVec<u8, N>,
+    over: bool,
+}
+
+impl<const N: usize> Model for LineBuffer<N> {
+    ghost use Rattle.std.specs.Prelude.{List, ℕ, Option, Some, None, if◌then◌else◌};
+    ghost use Rattle.idl_source.specs.Line.{IsLine};
+
+    ghost Value = { Option (List ℕ) };
+
+    ghost view = { λ line. if line.over then None else Some line.bytes.items };
+
+    ghost invariant = { λ line. IsLine line.bytes.items };
+}
+
+impl<const N: usize> LineBuffer<N> {
+    /// An empty line.
+    pub fn new() -> LineBuffer<N>
+        ensures { result ≡ Some [] }
+    {
+        LineBuffer {
+            bytes: ArrayVec::new(),
+            over: false,
+        }
+    }
+
+    /// Makes the line empty.
+    pub fn clear(&mut self)
+        ensures { self.new ≡ Some [] }
+    {
+        self.bytes.clear();
+        self.over = false;
+    }
+
+    /// Adds a byte, or finds that the line is too long.
+    pub fn push(&mut self, byte: u8)
+        requires { byte ≢ NEWLINE }
+        ensures { self.new ≡ kept_with N self.old byte }
+    {
+        if !self.over && self.bytes.try_push(byte).is_err() {
+            self.over = true;
+        }
+    }
+
+    /// The line, where it isn't too long.
+    pub fn get(&self) -> Option<&[u8]>
+        ensures same { option_copied result ≡ self.now }
+        ensures one_line { IfSome result (λ line. IsLine line.now) }
+    {
+        if self.over { None } else { Some(&self.bytes) }
+    }
+}
+
+/// Takes the next line, if there is one. A last one without newline counts if it has a byte.
+pub fn read_line<S: Source, const N: usize>(
+    source: &mut S,
+    feed: &mut Feed,
+    line: &mut LineBuffer<N>,
+) -> Result<bool, ReadFailed>
+    requires counts { S.failures source.old < 2 ^ 64 - 1 }
+
+    ensures line { IfOk result (λ more. MatchBool more
+        (TakesLine N (lines_left (S.remaining source.old) feed.old) (lines_left (S.remaining source.new) feed.new) line.new)
+        (IsOver (lines_left (S.remaining source.old) feed.old)
+        × (lines_left (S.remaining source.new) feed.new ≡ lines_left (S.remaining source.old) feed.old))) }
+    ensures nearer { IfOk result (λ more. MatchBool more
+        (fuel (S.reads_left source.new) feed.new < fuel (S.reads_left source.old) feed.old)
+        (fuel (S.reads_left source.new) feed.new ≤ fuel (S.reads_left source.old) feed.old)) }
+    ensures ok { OnOk result (S.failures source.new ≡ S.failures source.old) }
+
+    ensures err { OnErr result (S.failures source.new ≡ S.failures source.old + 1) }
+{
+    line.clear();
+    let mut any = false;
+    'bytes: loop {
+        match feed.next(source)? {
+            None => return Ok(any),
+            Some(NEWLINE) => return Ok(true),
+            Some(b) => {
+                line.push(b);
+                any = true;
+            }
+        }
+    }
+}

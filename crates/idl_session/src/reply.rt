@@ -1,0 +1,150 @@
+//! Replies. Each is gathered, goes out in large pieces, and has gone out whole by its end.
+
+ghost use Rattle.std.specs.Prelude.{◌≡◌, ◌<◌, ◌+◌, ◌-◌, ◌^◌, [], ◌++◌, OnOk, OnErr};
+ghost use Rattle.idl_source.specs.Device.{append, WritesPart};
+ghost use Rattle.idl_session.specs.Replies.{ok_reply, refused_reply, rows_reply, ended, counted};
+ghost use Rattle.idl_session.specs.Gathering.{Sends};
+
+use arrayvec::ArrayVec;
+use idl_base::Text;
+use idl_source::{Refusal, Sink, WriteFailed, write_all};
+use itoa::Buffer;
+use std::marker::Model;
+
+/// `ok`
+pub fn write_ok<K: Sink>(sink: &mut K) -> Result<(), WriteFailed>
+    requires counts { K.failures sink.old < 2 ^ 64 - 1 }
+
+    ensures written { OnOk result (K.written sink.new ≡ append (K.written sink.old) ok_reply) }
+    ensures ok { OnOk result (K.failures sink.new ≡ K.failures sink.old) }
+
+    ensures part { OnErr result (WritesPart (K.written sink.old) ok_reply (K.written sink.new)) }
+    ensures err { OnErr result (K.failures sink.new ≡ K.failures sink.old + 1) }
+{
+    write_all(sink, b"ok\n")
+}
+
+/// `refused` and the number of the refusal
+pub fn write_refused<K: Sink>(sink: &mut K, refusal: Refusal) -> Result<(), WriteFailed>
+    requires counts { K.failures sink.old < 2 ^ 64 - 1 }
+
+    ensures written { OnOk result (K.written sink.new ≡ append (K.written sink.old) (refused_reply refusal)) }
+    ensures ok { OnOk result (K.failures sink.new ≡ K.failures sink.old) }
+
+    ensures part { OnErr result (WritesPart (K.written sink.old) (refused_reply refusal) (K.written sink.new)) }
+    ensures err { OnErr result (K.failures sink.new ≡ K.failures sink.old + 1) }
+{
+    let mut reply = Reply::new();
+    reply.push_counted(sink, b"refused ", usize::from(refusal.number()))?;
+    reply.finish(sink)
+}
+
+/// `rows`, how many there are, and each on a line of its own
+pub fn write_rows<K: Sink>(sink: &mut K, rows: &[Text]) -> Result<(), WriteFailed>
+    requires counts { K.failures sink.old < 2 ^ 64 - 1 }
+
+    ensures written { OnOk result (K.written sink.new ≡ append (K.written sink.old) (rows_reply rows.now)) }
+    ensures ok { OnOk result (K.failures sink.new ≡ K.failures sink.old) }
+
+    ensures part { OnErr result (WritesPart (K.written sink.old) (rows_reply rows.now) (K.written sink.new)) }
+    ensures err { OnErr result (K.failures sink.new ≡ K.failures sink.old + 1) }
+{
+    let mut reply = Reply::new();
+    reply.push_counted(sink, b"rows ", rows.len())?;
+    'rows: for row in rows {
+        reply.push_line(sink, row.as_bytes())?;
+    }
+    reply.finish(sink)
+}
+
+// What was gathered of a reply and hasn't gone out.
+#[derive(Drop)]
+struct Reply {
+    bytes: ArrayVec<u8, 4096>,
+}
+
+impl Model for Reply {
+    ghost use Rattle.std.specs.Prelude.{List, ℕ};
+
+    ghost Value = { List ℕ };
+
+    ghost view = { λ reply. reply.bytes.items };
+}
+
+impl Reply {
+    fn new() -> Reply
+        ensures { result ≡ [] }
+    {
+        Reply {
+            bytes: ArrayVec::new(),
+        }
+    }
+
+    // A word and a number, and the end of the line.
+    fn push_counted<K: Sink>(
+        &mut self,
+        sink: &mut K,
+        word: &[u8],
+        n: usize,
+    ) -> Result<(), WriteFailed>
+        requires counts { K.failures sink.old < 2 ^ 64 - 1 }
+
+        ensures sent { OnOk result (Sends (K.written sink.old) (self.old ++ counted word.now n) (K.written sink.new) self.new) }
+        ensures ok { OnOk result (K.failures sink.new ≡ K.failures sink.old) }
+
+        ensures part { OnErr result (WritesPart (K.written sink.old) (self.old ++ counted word.now n) (K.written sink.new)) }
+        ensures err { OnErr result (K.failures sink.new ≡ K.failures sink.old + 1) }
+    {
+        let mut buffer = Buffer::new();
+        self.push(sink, word)?;
+        self.push_line(sink, buffer.format(n).as_bytes())
+    }
+
+    // Bytes, and the end of the line.
+    fn push_line<K: Sink>(&mut self, sink: &mut K, line: &[u8]) -> Result<(), WriteFailed>
+        requires counts { K.failures sink.old < 2 ^ 64 - 1 }
+
+        ensures sent { OnOk result (Sends (K.written sink.old) (self.old ++ ended line.now) (K.written sink.new) self.new) }
+        ensures ok { OnOk result (K.failures sink.new ≡ K.failures sink.old) }
+
+        ensures part { OnErr result (WritesPart (K.written sink.old) (self.old ++ ended line.now) (K.written sink.new)) }
+        ensures err { OnErr result (K.failures sink.new ≡ K.failures sink.old + 1) }
+    {
+        self.push(sink, line)?;
+        self.push(sink, b"\n")
+    }
+
+    // Bytes of the reply: they and those before them go out now only where they don't fit.
+    fn push<K: Sink>(&mut self, sink: &mut K, bytes: &[u8]) -> Result<(), WriteFailed>
+        requires counts { K.failures sink.old < 2 ^ 64 - 1 }
+
+        ensures sent { OnOk result (Sends (K.written sink.old) (self.old ++ bytes.now) (K.written sink.new) self.new) }
+        ensures ok { OnOk result (K.failures sink.new ≡ K.failures sink.old) }
+
+        ensures part { OnErr result (WritesPart (K.written sink.old) (self.old ++ bytes.now) (K.written sink.new)) }
+        ensures err { OnErr result (K.failures sink.new ≡ K.failures sink.old + 1) }
+    {
+        if self.bytes.try_extend_from_slice(bytes).is_ok() {
+            return Ok(());
+        }
+        write_all(sink, &self.bytes)?;
+        self.bytes.clear();
+        if self.bytes.try_extend_from_slice(bytes).is_ok() {
+            return Ok(());
+        }
+        write_all(sink, bytes)
+    }
+
+    // The end of the reply: what was gathered goes out.
+    fn finish<K: Sink>(self, sink: &mut K) -> Result<(), WriteFailed>
+        requires counts { K.failures sink.old < 2 ^ 64 - 1 }
+
+        ensures written { OnOk result (K.written sink.new ≡ append (K.written sink.old) self) }
+        ensures ok { OnOk result (K.failures sink.new ≡ K.failures sink.old) }
+
+        ensures part { OnErr result (WritesPart (K.written sink.old) self (K.written sink.new)) }
+        ensures err { OnErr result (K.failures sink.new ≡ K.failures sink.old + 1) }
+    {
+        write_all(sink, self.bytes.as_slice())
+    }
+}

@@ -1,0 +1,141 @@
+//! One command: what its heading asks for is done, and the reply goes out.
+
+ghost use Rattle.std.specs.Prelude.{◌≡◌, ◌≤◌, ◌<◌, ◌+◌, ◌-◌, ◌^◌, ℕ, List, Err, IfErr, OnOk, OnErr, MatchBool, nat_eq, length};
+ghost use Rattle.std.specs.Option.{option_copied};
+ghost use Rattle.idl_source.specs.Device.{append, WritesPart};
+ghost use Rattle.idl_workspace.specs.Edits.{after_put};
+ghost use Rattle.idl_session.specs.Bodies.{IsBody};
+ghost use Rattle.idl_session.specs.Headings.{request_by};
+ghost use Rattle.idl_session.specs.Replies.{edit_reply, query_reply};
+ghost use Rattle.idl_session.specs.Requests.{request_kept};
+ghost use Rattle.idl_session.specs.Serving.{IsOutcome, SendsReply, IsCut, IsCounted};
+ghost use Rattle.idl_session.specs.Streams.{lines_left, fuel};
+
+use crate::MAX_COMMAND;
+use crate::body::{Body, read_body};
+use crate::feed::Feed;
+use crate::heading::{Heading, parse};
+use crate::line_buffer::LineBuffer;
+use crate::reply::{write_ok, write_refused, write_rows};
+use crate::stop::Stop;
+use idl_source::{Name, Refusal, Sink, Source, WriteFailed};
+use idl_workspace::{Row, Session, Work};
+
+/// Serves the command of this line, with the further lines that it takes.
+///
+/// Where a read failed nothing was done. Where a write failed the command was served, and of its reply a beginning went
+/// out.
+pub fn serve<S: Source, K: Sink>(
+    session: &mut Session,
+    source: &mut S,
+    feed: &mut Feed,
+    line: &LineBuffer<MAX_COMMAND>,
+    sink: &mut K,
+) -> Result<(), Stop>
+    requires reads { S.failures source.old < 2 ^ 64 - 1 }
+    requires writes { K.failures sink.old < 2 ^ 64 - 1 }
+
+    ensures served { OnOk result (SendsReply (request_kept line.now)
+        (lines_left (S.remaining source.old) feed.old) (lines_left (S.remaining source.new) feed.new)
+        (K.written sink.old) (K.written sink.new) session.old session.new) }
+    ensures nearer { OnOk result (fuel (S.reads_left source.new) feed.new ≤ fuel (S.reads_left source.old) feed.old) }
+    ensures reads { OnOk result (S.failures source.new ≡ S.failures source.old) }
+    ensures writes { OnOk result (K.failures sink.new ≡ K.failures sink.old) }
+
+    ensures cut { IfErr result (λ stop. IsCut stop (request_kept line.now)
+        (lines_left (S.remaining source.old) feed.old) (lines_left (S.remaining source.new) feed.new)
+        (K.written sink.old) (K.written sink.new) session.old session.new) }
+    ensures stops { IfErr result (λ stop. IsCounted stop
+        (S.failures source.old) (S.failures source.new) (K.failures sink.old) (K.failures sink.new)) }
+{
+    match heading_of(line) {
+        Heading::Malformed => {
+            write_refused(sink, Refusal::Malformed)?;
+            Ok(())
+        }
+        Heading::Put(name, count) => {
+            let body = read_body(session.allocator(), source, feed, count)?;
+            let outcome = put_body(session, name, body);
+            write_edit(sink, outcome)?;
+            Ok(())
+        }
+        Heading::AddRoot(name) => {
+            let outcome = session.add_root(name);
+            write_edit(sink, outcome)?;
+            Ok(())
+        }
+        Heading::Diagnostics(name) => {
+            write_query(sink, name, session.diagnostics(name))?;
+            Ok(())
+        }
+        Heading::Dump(name) => {
+            write_query(sink, name, session.dump(name))?;
+            Ok(())
+        }
+    }
+}
+
+// A line that is too long is no command.
+fn heading_of(line: &LineBuffer<MAX_COMMAND>) -> Heading<'_>
+    ensures { request_by result ≡ request_kept line.entry.now }
+{
+    match line.get() {
+        Some(line) => parse(line),
+        None => Heading::Malformed,
+    }
+}
+
+// Puts a file of the gathered lines.
+fn put_body(session: &mut Session, name: &[u8], body: Body) -> Result<Work, Refusal>
+    ensures { (count : ℕ) (lines : List (List ℕ)) → IsBody count lines body →
+        MatchBool (nat_eq (length lines) count)
+        (IsOutcome session.old (after_put session.old.project name.now lines) result session.new)
+        ((result ≡ Err Refusal.Unfinished) × (session.new ≡ session.old)) }
+{
+    match body {
+        Body::Whole(lines) => session.put(name, lines),
+        Body::Unfinished => Err(Refusal::Unfinished),
+        Body::OverLimit => {
+            if Name::new(name).is_some() {
+                Err(Refusal::OverLimit)
+            } else {
+                Err(Refusal::BadName)
+            }
+        }
+        Body::NoMemory => Err(Refusal::NoMemory),
+    }
+}
+
+fn write_edit<K: Sink>(sink: &mut K, outcome: Result<Work, Refusal>) -> Result<(), WriteFailed>
+    requires counts { K.failures sink.old < 2 ^ 64 - 1 }
+
+    ensures written { OnOk result (K.written sink.new ≡ append (K.written sink.old) (edit_reply outcome)) }
+    ensures ok { OnOk result (K.failures sink.new ≡ K.failures sink.old) }
+
+    ensures part { OnErr result (WritesPart (K.written sink.old) (edit_reply outcome) (K.written sink.new)) }
+    ensures err { OnErr result (K.failures sink.new ≡ K.failures sink.old + 1) }
+{
+    match outcome {
+        Ok(_work) => write_ok(sink),
+        Err(refusal) => write_refused(sink, refusal),
+    }
+}
+
+// The rows that a query of this name found, or why there are none.
+fn write_query<K: Sink>(sink: &mut K, name: &[u8], rows: Option<&[Row]>) -> Result<(), WriteFailed>
+    requires counts { K.failures sink.old < 2 ^ 64 - 1 }
+
+    ensures written { OnOk result (K.written sink.new ≡ append (K.written sink.old) (query_reply name.now (option_copied rows.entry))) }
+    ensures ok { OnOk result (K.failures sink.new ≡ K.failures sink.old) }
+
+    ensures part { OnErr result (WritesPart (K.written sink.old) (query_reply name.now (option_copied rows.entry)) (K.written sink.new)) }
+    ensures err { OnErr result (K.failures sink.new ≡ K.failures sink.old + 1) }
+{
+    if Name::new(name).is_none() {
+        return write_refused(sink, Refusal::BadName);
+    }
+    match rows {
+        Some(rows) => write_rows(sink, rows),
+        None => write_refused(sink, Refusal::NoSuchRoot),
+    }
+}

@@ -1,0 +1,34 @@
+use super::replies;
+use crate::Session;
+use std::test::Fail;
+
+const QUERIES: &[u8] = b"diagnostics a.idl\ndump a.idl\ndiagnostics b.idl\ndump b.idl\n";
+
+// Run with each allocation refused in turn, too: a refused edit changes nothing, and is accepted when it is asked again.
+#[test]
+fn an_edit_that_was_refused_memory_is_accepted_later(rt: HostRuntime) -> Result<(), Fail> {
+    let mut session = Session::new(rt.alloc());
+    for edit in [
+        "put a.idl 2\ntypedef long X;\ntypedef short X;\n",
+        "root a.idl\n",
+        "root b.idl\n",
+        "put b.idl 2\ntypedef long Y;\ntypedef char Z;\n",
+        "put a.idl 1\ntypedef float W;\n",
+    ] {
+        let before = replies(rt.alloc(), &mut session, QUERIES)?;
+        let first = replies(rt.alloc(), &mut session, edit.as_bytes())?;
+        if first.as_bytes() == b"refused 9\n".as_slice() {
+            let after = replies(rt.alloc(), &mut session, QUERIES)?;
+            assert_eq!(rt; after.as_bytes(), before.as_bytes(), "{edit}");
+            let again = replies(rt.alloc(), &mut session, edit.as_bytes())?;
+            assert_eq!(rt; again.as_bytes(), b"ok\n".as_slice(), "{edit}");
+        } else {
+            assert_eq!(rt; first.as_bytes(), b"ok\n".as_slice(), "{edit}");
+        }
+    }
+    let last = replies(rt.alloc(), &mut session, QUERIES)?;
+    let want =
+        "rows 0\nrows 1\ntypedef float W;\nrows 0\nrows 2\ntypedef long Y;\ntypedef char Z;\n";
+    assert_eq!(rt; last.as_bytes(), want.as_bytes());
+    Ok(())
+}
