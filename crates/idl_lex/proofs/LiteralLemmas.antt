@@ -1,12 +1,11 @@
 -- The characters of a literal, one after another.
-use Rattle.std.proofs.Common.{◌≡◌, ◌≢◌, ◌∙◌, ◌<◌, ◌≤◌, ◌+◌, ◌++◌, ℕ, zero, suc, nat_eq, Bool, true, false, ◌&&◌, if◌then◌else◌, List, [], ◌∷◌, append-nil, append_assoc, drop, get_or, length, Option, None, Some, refl, sym, ap, arith}
+use Rattle.std.proofs.Common.{◌≡◌, ◌≢◌, ◌∙◌, ◌<◌, ◌≤◌, ◌+◌, ◌++◌, ℕ, zero, suc, nat_eq, Bool, true, false, if◌then◌else◌, List, [], ◌∷◌, append-nil, drop, get_or, length, Option, None, Some, refl, sym, ap, arith}
 use Rattle.std.proofs.lemmas.List.{drop_more, drop_all}
-use Rattle.std.specs.List.{list_all}
 use Rattle.std.specs.Option.{option_map}
 use Rattle.idl_lex.proofs.CountLemmas.{eq-true, eq-false, counted-suc}
-use Rattle.idl_lex.specs.Literal.{closing, escape, characters, characters_after, character_kind, one_kind, string_kind, is_text_character, all_good}
+use Rattle.idl_lex.specs.Literal.{closing, escape, characters, characters_after, character_kind, one_kind, string_kind, all_good}
 use Rattle.idl_lex.specs.declared.kind.Kind.TheVariants.{String, WideString, Bad}
-use Rattle.idl_lex.specs.declared.kind.Defect.TheVariants.{NotOneCharacter, BadEscape}
+use Rattle.idl_lex.specs.declared.kind.Defect.TheVariants.{NotOneCharacter}
 
 -- the closing quote is sought from a place on
 closing-at : (quote : ℕ) (escaped : Bool) (rest : List ℕ) (i : ℕ) → i < length rest
@@ -112,18 +111,6 @@ pub character_kind-none : (wide : Bool) (body : List ℕ) → body ≡ [] → ch
 character_kind-none wide body e = ap (character_kind wide) (characters-nil wide body e)
 
 -- a string's characters
-pub string_kind-bad : (wide : Bool) (left : List ℕ) (c : Option ℕ) (n : ℕ) → characters wide left ≡ c ∷ characters wide (drop n left) → is_text_character c ≡ false
-    → string_kind wide (characters wide left) ≡ Bad BadEscape
-string_kind-bad wide left c n first bad =
-    ap (string_kind wide) first
-    ∙ ap (λ b. if (b && list_all is_text_character (characters wide (drop n left))) then (if wide then WideString else String) else Bad BadEscape) bad
-
-pub string_kind-next : (wide : Bool) (left : List ℕ) (c : Option ℕ) (n : ℕ) → characters wide left ≡ c ∷ characters wide (drop n left) → is_text_character c ≡ true
-    → string_kind wide (characters wide left) ≡ string_kind wide (characters wide (drop n left))
-string_kind-next wide left c n first good =
-    ap (string_kind wide) first
-    ∙ ap (λ b. if (b && list_all is_text_character (characters wide (drop n left))) then (if wide then WideString else String) else Bad BadEscape) good
-
 pub string_kind-end : (wide : Bool) (left : List ℕ) → left ≡ [] → string_kind wide (characters wide left) ≡ (if wide then WideString else String)
 string_kind-end wide left e = ap (string_kind wide) (characters-nil wide left e)
 
@@ -131,23 +118,5 @@ string_kind-end wide left e = ap (string_kind wide) (characters-nil wide left e)
 abbrev pub values_then : List ℕ → List (Option ℕ) → Option (List ℕ)
 values_then read cs = option_map (λ values. read ++ values) (all_good cs)
 
-then-cons : (read : List ℕ) (c : ℕ) (o : Option (List ℕ)) → option_map (λ vs. read ++ vs) (option_map (λ vs. c ∷ vs) o) ≡ option_map (λ vs. (read ++ c ∷ []) ++ vs) o
-then-cons read c None = refl
-then-cons read c (Some vs) = ap Some (sym (append_assoc read (c ∷ []) vs))
-
-pub values_then-bad : (wide : Bool) (read left : List ℕ) (n : ℕ) → characters wide left ≡ None ∷ characters wide (drop n left) → values_then read (characters wide left) ≡ None
-values_then-bad wide read left n first = ap (values_then read) first
-
-pub values_then-next : (wide : Bool) (read left : List ℕ) (c n : ℕ) → characters wide left ≡ Some c ∷ characters wide (drop n left)
-    → values_then read (characters wide left) ≡ values_then (read ++ c ∷ []) (characters wide (drop n left))
-values_then-next wide read left c n first = ap (values_then read) first ∙ then-cons read c (all_good (characters wide (drop n left)))
-
 pub values_then-end : (wide : Bool) (read left : List ℕ) → left ≡ [] → values_then read (characters wide left) ≡ Some read
 values_then-end wide read left e = ap (values_then read) (characters-nil wide left e) ∙ ap Some (append-nil read)
-
-pub values_then-nil : (wide : Bool) (body : List ℕ) → values_then [] (characters wide body) ≡ all_good (characters wide body)
-values_then-nil wide body = same (all_good (characters wide body))
-  where
-    same : (o : Option (List ℕ)) → option_map (λ vs. [] ++ vs) o ≡ o
-    same None = refl
-    same (Some vs) = refl

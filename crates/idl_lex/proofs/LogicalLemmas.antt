@@ -142,13 +142,6 @@ BeginsAt-joined lines i end lt is =
           ∙ ap (λ n. spliced (i + 1) (take n (drop i lines)) ++ record { byte = NEWLINE; line = begins.newline } ∷ joined (end + 1) (drop end lines)) size;
     }
 
-pub joined_count-at : (lines : List (List ℕ)) (i : ℕ) → i < length lines → 0 < joined_count (drop i lines)
-joined_count-at lines i lt = some (drop i lines) (omega (arith, length-drop i lines))
-  where
-    some : (ls : List (List ℕ)) → 0 < length ls → 0 < joined_count ls
-    some [] h = absurd (omega arith)
-    some (bytes ∷ ls) h = joined_count-some bytes ls
-
 pub joined-nil : (number : ℕ) → joined number [] ≡ []
 unfolding joined
 joined-nil number = refl

@@ -1,18 +1,16 @@
 -- The tokens of a text, piece by piece of its lines.
-use Rattle.std.proofs.Common.{◌≡◌, ◌∙◌, ◌<◌, ◌≤◌, ◌+◌, ◌-◌, ◌++◌, ℕ, zero, suc, nat_eq, Bool, true, false, not, ◌&&◌, ◌||◌, None, Some, if◌then◌else◌, List, [], ◌∷◌, drop, get_or, length, length-drop, take, refl, sym, ap, subst, arith}
-use Rattle.std.proofs.lemmas.Bool.{eqb-true, true≢false}
+use Rattle.std.proofs.Common.{◌≡◌, ◌∙◌, ◌<◌, ◌≤◌, ◌+◌, ◌-◌, ◌++◌, ℕ, zero, suc, nat_eq, Bool, true, false, ◌&&◌, ◌||◌, None, Some, if◌then◌else◌, List, [], ◌∷◌, drop, get_or, length, take, refl, sym, ap, arith}
 use Rattle.std.proofs.lemmas.List.{drop_all, drop-drop}
 use Rattle.std.specs.Prelude.{codes}
 use Rattle.idl_source.specs.declared.line.TheConstants.{NEWLINE}
 use Rattle.idl_lex.proofs.LineLemmas.{Opened, Opened-piece, further-closed, further-open, ends_block-taken, taken-open, taken-over, taken-closed, ends_block-over, ends_block-closed}
 use Rattle.idl_lex.proofs.PieceLemmas.{longest-further, further-within, taken-le}
-use Rattle.idl_lex.specs.Context.{beginning_after, ends_block, is_gap, is_include, is_word, context_after, line_start}
-use Rattle.idl_lex.specs.Kind.{begins_block}
+use Rattle.idl_lex.specs.Context.{beginning_after, ends_block, is_include, is_word, context_after, line_start}
 use Rattle.idl_lex.specs.Lexer.{after_comment, ended, is_open}
 use Rattle.idl_lex.specs.Logical.{line_at}
 use Rattle.idl_lex.specs.Scan.{further, taken}
 use Rattle.idl_lex.specs.Text.{Placed, bytes_of}
-use Rattle.idl_lex.specs.Tokens.{line_rest, lines_after, lines_of, piece_rest, spelled, token_if, token_of, tokens_after}
+use Rattle.idl_lex.specs.Tokens.{line_rest, lines_after, lines_of, piece_rest, token_if, token_of, tokens_after}
 use Rattle.idl_lex.specs.declared.context.Context.{Context}
 use Rattle.idl_lex.specs.declared.state.State.TheVariants.{Block, Whole}
 use Rattle.idl_lex.specs.declared.token.Token.{Token}
@@ -219,36 +217,6 @@ pub tokens_after-newline : (c : Context) (newline : ℕ) (rest : List Placed) �
 tokens_after-newline c newline rest =
     tokens_after-piece c (record { byte = NEWLINE; line = newline }) rest 0 (further-newline (is_include c.beginning) (bytes_of rest))
 
--- a piece that is neither a gap nor a comment that goes on is a token as it is spelled
-plain-cases : (slash star : Bool) (b d : ℕ) (rest : List ℕ) → nat_eq b 47 ≡ slash → nat_eq d 42 ≡ star → is_gap (b ∷ d ∷ rest) ≡ false → is_open (b ∷ d ∷ rest) ≡ false
-    → (slash && star) ≡ false
-plain-cases true true b d rest e f gap opened = absurd (contradiction (eqb-true b 47 e) (eqb-true d 42 f) gap opened)
-  where
-    opposite : (x : Bool) → x ≡ false → not x ≡ false → ⊥
-    opposite true h k = true≢false h
-    opposite false h k = true≢false k
-
-    contradiction : b ≡ 47 → d ≡ 42 → is_gap (b ∷ d ∷ rest) ≡ false → is_open (b ∷ d ∷ rest) ≡ false → ⊥
-    contradiction x y gap opened = opposite (ends_block false rest)
-        (subst (λ z. is_gap (47 ∷ z ∷ rest) ≡ false) y (subst (λ z. is_gap (z ∷ d ∷ rest) ≡ false) x gap))
-        (subst (λ z. is_open (47 ∷ z ∷ rest) ≡ false) y (subst (λ z. is_open (z ∷ d ∷ rest) ≡ false) x opened))
-plain-cases true false b d rest e f gap opened = refl
-plain-cases false star b d rest e f gap opened = refl
-
-and-false : (c : Bool) → (c && false) ≡ false
-and-false true = refl
-and-false false = refl
-
-spelled-plain : (piece : List ℕ) → is_gap piece ≡ false → is_open piece ≡ false → begins_block piece ≡ false
-spelled-plain [] gap opened = refl
-spelled-plain (b ∷ []) gap opened = and-false (nat_eq b 47)
-spelled-plain (b ∷ d ∷ rest) gap opened = plain-cases (nat_eq b 47) (nat_eq d 42) b d rest refl refl gap opened
-
-pub token_if-plain : (c : Context) (piece : List ℕ) (line : ℕ) → is_gap piece ≡ false → is_open piece ≡ false → token_if c piece line ≡ token_of c piece line ∷ []
-token_if-plain c piece line gap opened =
-    ap (λ b. if b then [] else token_of c (spelled piece) line ∷ []) gap
-    ∙ ap (λ b. token_of c (if b then codes "/*" else piece) line ∷ []) (spelled-plain piece gap opened)
-
 -- the piece of a line from one place up to another
 abbrev pub piece_of : List Placed → ℕ → ℕ → List ℕ
 piece_of line from to = take (to - from) (drop from (bytes_of line))
@@ -302,12 +270,6 @@ opening-spelled c line i end lt is opened =
     piece_of-cons line i (i + 2) 1 lt (omega arith)
     ∙ ap (λ b. b ∷ take 1 (bytes_of (drop (i + 1) line))) o.slash
     ∙ ap (λ bs. 47 ∷ take 1 bs) o.star
-
-pub opening-within : (c : Context) (line : List Placed) (i end : ℕ) → i < length line → EndsAt c line i end → is_open (piece_of line i end) ≡ true → i + 2 ≤ length line
-opening-within c line i end lt is opened =
-    let o = Opened-piece_of c line i end lt is opened in
-    let e = ap length o.star in
-    omega (arith, e, length-bytes_of (drop (i + 1) line), length-drop (i + 1) line)
 
 -- the lines of tokens
 lines_after-drop : (n : ℕ) (tokens : List Token) → lines_after n tokens ≡ lines_after 0 (drop n tokens)

@@ -1,13 +1,20 @@
 //! The bytes of a token, shared with the text that they stand in.
 
-ghost use Rattle.std.specs.Prelude.{◌≡◌, ◌≤◌, length, slice_range};
+ghost use Rattle.std.specs.Prelude.{◌≡◌, ◌≤◌, ◌↔◌, IsTrue, length, slice_range};
+ghost use Rattle.std.specs.Cmp.{partial_equiv_from_equiv};
+ghost use Rattle.std.specs.Cmp.Lexicographic.{bytes_decides, nat_list_eq_equiv};
+ghost use Rattle.std.specs.Hash as fed;
 ghost use Rattle.std.specs.Rc.{rc_slice_items};
+ghost use Rattle.std.specs.Str.{bytes_eq};
+ghost use Rattle.std.proofs.Common.{ap};
 
+use idl_base::Datum;
 use std::alloc::AllocError;
+use std::hash::{Hash, Hasher};
 use std::marker::Model;
 use std::rc::RcSlice;
 
-/// A part of shared bytes. Neither making nor cloning one copies a byte.
+/// A part of shared bytes. Neither making nor cloning one copies a byte. Two are equal where their bytes are.
 #[derive(Debug, Drop)]
 pub struct Spelling {
     bytes: RcSlice<u8>,
@@ -55,4 +62,37 @@ impl Clone for Spelling {
             to: self.to,
         })
     }
+}
+
+impl PartialEq for Spelling {
+    ghost eq = { bytes_eq };
+
+    ghost laws = { partial_equiv_from_equiv nat_list_eq_equiv };
+
+    fn eq(&self, other: &Spelling) -> bool
+        ensures by_byte { result ≡ bytes_eq self.now other.now }
+        ensures exact { IsTrue result ↔ (self.now ≡ other.now) }
+    {
+        self.as_bytes() == other.as_bytes()
+    }
+}
+
+impl Eq for Spelling {
+    ghost laws = { nat_list_eq_equiv };
+}
+
+impl Hash for Spelling {
+    ghost hash_input = { fed.slice fed.u8 };
+
+    ghost respects_eq = { λ x y h. ap (fed.slice fed.u8) ((bytes_decides x y).0 h) };
+
+    fn hash<H: Hasher>(&self, state: &mut H) {
+        self.as_bytes().hash(state);
+    }
+}
+
+impl Datum for Spelling {
+    ghost same = { λ x y. (bytes_decides x y).0 };
+
+    ghost copy = { λ x y h. h };
 }

@@ -10,7 +10,7 @@ use crate::kind::{Kind, kind_of};
 use crate::spelling::Spelling;
 
 /// A token: what it counts as in IDL, its bytes as written, the number of the line of its first byte, from 1 on, and what stands before it.
-#[derive(Debug, Drop)]
+#[derive(Clone, Debug, Drop)]
 pub struct Token {
     pub kind: Kind,
     pub spelling: Spelling,
