@@ -1,4 +1,4 @@
-//! What no clause says: outside values, limits, and want of memory.
+//! What no clause says: outside values, and want of memory.
 
 mod files;
 mod names;

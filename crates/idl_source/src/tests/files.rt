@@ -1,5 +1,5 @@
-use crate::{File, Files, Line, MAX_FILES, MAX_LINE, MAX_LINES, Refusal};
-use std::alloc::{AllocError, Global};
+use crate::{Files, Line, MAX_LINE, Refusal};
+use std::alloc::Global;
 use std::test::Fail;
 
 fn line_of(alloc: Global, bytes: &[u8]) -> Result<Line, Fail> {
@@ -10,14 +10,6 @@ fn lines_of(alloc: Global, texts: &[&[u8]]) -> Result<Vec<Line>, Fail> {
     let mut lines = Vec::new(alloc);
     for text in texts {
         lines.push(line_of(alloc, text)?)?;
-    }
-    Ok(lines)
-}
-
-fn repeated(alloc: Global, line: &Line, count: usize) -> Result<Vec<Line>, AllocError> {
-    let mut lines = Vec::new(alloc);
-    for _ in 0..count {
-        lines.push(line.clone()?)?;
     }
     Ok(lines)
 }
@@ -48,48 +40,6 @@ fn a_put_leaves_the_old_files_as_they_are(rt: HostRuntime) -> Result<(), Fail> {
         (0, 1, 2, 2)
     );
     assert!(rt; none.is_empty() && !one.is_empty());
-    Ok(())
-}
-
-#[test]
-fn the_least_refusal_is_the_answer(rt: HostRuntime) -> Result<(), Fail> {
-    let alloc = rt.alloc();
-    let files = Files::new(alloc);
-    let long = [b'x'; MAX_LINE + 1];
-    let at_limit = line_of(alloc, &long[..MAX_LINE])?;
-    let over = line_of(alloc, &long)?;
-    let short = line_of(alloc, b";")?;
-    for (name, line, count, want) in [
-        (b"a.idl".as_slice(), &short, 4096, None),
-        (b"a.idl", &at_limit, 1, None),
-        (b"a.idl", &over, 1, Some(Refusal::OverLimit)),
-        (b"a.idl", &short, MAX_LINES, None),
-        (b"a.idl", &short, MAX_LINES + 1, Some(Refusal::OverLimit)),
-        (b"a//b", &over, 1, Some(Refusal::BadName)),
-        (b"a//b", &short, 1, Some(Refusal::BadName)),
-    ] {
-        let refused = files.put(name, repeated(alloc, line, count)?).err();
-        assert_eq!(rt; refused, want, "{name:?} with {count} lines");
-    }
-    Ok(())
-}
-
-#[test]
-fn there_are_at_most_so_many_files(rt: HostRuntime) -> Result<(), Fail> {
-    let alloc = rt.alloc();
-    let mut files = Files::new(alloc);
-    for i in 0..MAX_FILES {
-        let name = format!(in alloc; "{i}")?;
-        files = files.put(name.as_bytes(), Vec::new(alloc))?;
-    }
-    assert_eq!(rt; files.len(), MAX_FILES);
-    assert_eq!(rt;
-        files.put(b"new", Vec::new(alloc)).err(),
-        Some(Refusal::OverLimit)
-    );
-    let changed = files.put(b"17", lines_of(alloc, &[b"there".as_slice()])?)?;
-    assert_eq!(rt; changed.get(b"17").map(|file| file.lines().len()), Some(1));
-    assert_eq!(rt; files.get(b"17").map(|file| file.lines().len()), Some(0));
     Ok(())
 }
 
@@ -138,24 +88,6 @@ fn a_splice_puts_lines_in_the_place_of_others(rt: HostRuntime) -> Result<(), Fai
 }
 
 #[test]
-fn a_splice_stops_at_the_limit_of_lines(rt: HostRuntime) -> Result<(), Fail> {
-    let alloc = rt.alloc();
-    let line = line_of(alloc, b";")?;
-    let files = Files::new(alloc).put(b"x", repeated(alloc, &line, MAX_LINES)?)?;
-    for (del, count, want) in [
-        (0, 1, Some(Refusal::OverLimit)),
-        (1, 2, Some(Refusal::OverLimit)),
-        (1, 1, None),
-    ] {
-        let refused = files
-            .splice(b"x", 2, del, repeated(alloc, &line, count)?)
-            .err();
-        assert_eq!(rt; refused, want, "{count} for {del}");
-    }
-    Ok(())
-}
-
-#[test]
 fn a_removal_takes_one_file(rt: HostRuntime) -> Result<(), Fail> {
     let alloc = rt.alloc();
     let mut files = Files::new(alloc);
@@ -179,17 +111,6 @@ fn a_removal_takes_one_file(rt: HostRuntime) -> Result<(), Fail> {
         }
     }
     assert_eq!(rt; files.len(), 3);
-    Ok(())
-}
-
-#[test]
-fn files_of_the_same_lines_are_equal(rt: HostRuntime) -> Result<(), Fail> {
-    let alloc = rt.alloc();
-    let file = File::new(alloc, lines_of(alloc, &[b"a".as_slice(), b"b"])?)?;
-    let same = File::new(alloc, lines_of(alloc, &[b"a".as_slice(), b"b"])?)?;
-    let other = File::new(alloc, lines_of(alloc, &[b"ab".as_slice()])?)?;
-    assert!(rt; file == same && file == file.clone()?);
-    assert!(rt; file != other);
     Ok(())
 }
 

@@ -1,5 +1,4 @@
-use crate::{Line, Name, Refusal};
-use std::cmp::Ordering;
+use crate::{Line, Name};
 use std::test::Fail;
 
 #[test]
@@ -41,21 +40,6 @@ fn names_are_visible_segments_between_single_slashes(rt: HostRuntime) {
 }
 
 #[test]
-fn names_are_compared_and_copied_byte_by_byte(rt: HostRuntime) -> Result<(), Fail> {
-    let a = Name::new(b"a/b").ok_or("a/b")?;
-    let b = Name::new(b"a/c").ok_or("a/c")?;
-    let c = Name::new(b"a/bb").ok_or("a/bb")?;
-    assert_eq!(rt; a.as_bytes(), b"a/b".as_slice());
-    assert!(rt; a.copied() == a);
-    assert!(rt; a.clone()? == a);
-    assert!(rt; a != b);
-    assert!(rt; a < c);
-    assert_eq!(rt; b.cmp(&c), Ordering::Greater);
-    assert_eq!(rt; a.partial_cmp(&a), Some(Ordering::Equal));
-    Ok(())
-}
-
-#[test]
 fn a_line_has_no_newline(rt: HostRuntime) -> Result<(), Fail> {
     for (bytes, allowed) in [
         (b"".as_slice(), true),
@@ -78,22 +62,4 @@ fn a_line_has_no_newline(rt: HostRuntime) -> Result<(), Fail> {
         }
     }
     Ok(())
-}
-
-#[test]
-fn refusals_have_the_numbers_one_to_ten(rt: HostRuntime) {
-    for (refusal, number) in [
-        (Refusal::Malformed, 1),
-        (Refusal::BadName, 2),
-        (Refusal::NoSuchFile, 3),
-        (Refusal::OutsideFile, 4),
-        (Refusal::OverLimit, 5),
-        (Refusal::BadMacro, 6),
-        (Refusal::NoSuchRoot, 7),
-        (Refusal::RootThere, 8),
-        (Refusal::NoMemory, 9),
-        (Refusal::Unfinished, 10),
-    ] {
-        assert_eq!(rt; refusal.number(), number, "{refusal}");
-    }
 }
