@@ -1,0 +1,7 @@
+pub mod AllowanceLemmas
+pub mod ConditionLemmas
+pub mod DirectiveLemmas
+pub mod MacroLemmas
+pub mod OutputLemmas
+pub mod ReplaceLemmas
+pub mod RoomLemmas

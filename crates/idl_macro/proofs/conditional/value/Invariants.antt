@@ -1,0 +1,6 @@
+use Rattle.std.proofs.Common.{◌≡◌, map, take}
+use Rattle.idl_condition.specs.Symbol.{symbol_of}
+use Rattle.idl_macro.proofs.conditional.value.Given as goal
+
+abbrev pub invariant-tokens : goal.invariant-tokens
+invariant-tokens l = l.symbols.items ≡ map (λ t. symbol_of t.spelling) (take l.token-index l.tokens)

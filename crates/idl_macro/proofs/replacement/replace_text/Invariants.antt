@@ -1,0 +1,14 @@
+use Rattle.std.proofs.Common.{◌≡◌, drop}
+use Rattle.idl_macro.specs.Macros.{reached}
+use Rattle.idl_macro.specs.Output.{item_of}
+use Rattle.idl_macro.specs.Replace.{text}
+use Rattle.idl_macro.specs.declared.replacement.Output.TheVariants as output
+use Rattle.idl_macro.proofs.replacement.replace_text.Given as goal
+
+abbrev pub invariant-tokens : goal.invariant-tokens
+invariant-tokens g l =
+    let bank = g.B.Bank.at l.bank in
+    record {
+      progress : reached bank (text l.file l.definitions l.tokens) l.fn.progress ≡ reached bank (text l.file l.definitions (drop l.token-index l.tokens)) l.progress;
+      item : item_of l.output ≡ item_of output.Text;
+    }

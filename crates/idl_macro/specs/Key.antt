@@ -1,0 +1,28 @@
+-- When two keys of a root are one.
+use Rattle.std.specs.Prelude.{◌≡◌, ℕ, Bool, true, List, [], ◌∷◌, refl}
+use Rattle.std.specs.Cmp.Lexicographic.{bytes_decides}
+use Rattle.std.specs.Str.{bytes_eq}
+use Rattle.std.proofs.Common.{ap}
+use Rattle.idl_macro.specs.declared.key.Key.{Key}
+use Rattle.idl_macro.specs.declared.key.Key.TheVariants.{Macro, File, Search}
+
+-- a key as a list: a number that tells what it asks about, and its word or name
+abbrev pub key_code : Key → List ℕ
+key_code (Macro word) = 0 ∷ word
+key_code (File name) = 1 ∷ name
+key_code Search = 2 ∷ []
+
+abbrev pub key_eq : Key → Key → Bool
+key_eq key other = bytes_eq (key_code key) (key_code other)
+
+-- keys that `==` finds equal are one
+pub same_key : (key other : Key) → key_eq key other ≡ true → key ≡ other
+same_key (Macro a) (Macro b) h = ap Macro ((bytes_decides a b).0 h)
+same_key (Macro a) (File b) h = cc
+same_key (Macro a) Search h = cc
+same_key (File a) (Macro b) h = cc
+same_key (File a) (File b) h = ap File ((bytes_decides a b).0 h)
+same_key (File a) Search h = cc
+same_key Search (Macro b) h = cc
+same_key Search (File b) h = cc
+same_key Search Search h = refl

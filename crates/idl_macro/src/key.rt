@@ -1,0 +1,87 @@
+//! What a root asks, and what it is answered.
+
+ghost use Rattle.std.specs.Prelude.{◌≡◌};
+ghost use Rattle.std.specs.Cmp.{on_equiv, on_per, partial_equiv_from_equiv};
+ghost use Rattle.std.specs.Cmp.Lexicographic.{nat_list_eq_equiv};
+ghost use Rattle.idl_macro.specs.Key.{key_code, key_eq};
+
+use crate::lexed_file::LexedFile;
+use idl_base::{Datum, Seq};
+use idl_lex::Spelling;
+use idl_source::{Directory, Name};
+
+/// What is asked of the bank of a root.
+#[derive(Clone, Debug, Hash, Drop)]
+pub enum Key {
+    /// The body of the session's macro with this word.
+    Macro(Spelling),
+    /// The file with this name.
+    File(Name),
+    /// The directories in which included files are searched.
+    Search,
+}
+
+/// What is answered.
+#[derive(Clone, Debug, PartialEq, Eq, Drop)]
+pub enum Answer {
+    /// A macro's body: a file of that one line.
+    Macro(LexedFile),
+    /// A file.
+    File(LexedFile),
+    /// The directories, in the order in which they are searched.
+    Search(Seq<Directory>),
+}
+
+impl PartialEq for Key {
+    ghost eq = { key_eq };
+
+    ghost laws = { on_per key_code (partial_equiv_from_equiv nat_list_eq_equiv) };
+
+    fn eq(&self, other: &Key) -> bool
+        ensures { result ≡ key_eq self.now other.now }
+    {
+        match (self, other) {
+            (Key::Macro(word), Key::Macro(other)) => word == other,
+            (Key::File(name), Key::File(other)) => name == other,
+            (Key::Search, Key::Search) => true,
+            _ => false,
+        }
+    }
+}
+
+impl Eq for Key {
+    ghost laws = { on_equiv key_code nat_list_eq_equiv };
+}
+
+impl Datum for Key {
+    ghost use Rattle.std.specs.Prelude.{refl};
+    ghost use Rattle.std.proofs.Common.{ap};
+    ghost use Rattle.idl_macro.specs.Key.{same_key};
+    ghost use Rattle.idl_macro.specs.declared.key.Key.TheVariants.{Macro, File, Search};
+
+    ghost same = { same_key };
+
+    ghost copy = { elim [
+      | Macro a ↦ elim [ Macro b ↦ λ h. ap Macro h | File b ↦ λ h. absurd h | Search ↦ λ h. absurd h ]
+      | File a ↦ elim [ Macro b ↦ λ h. absurd h | File b ↦ λ h. ap File h | Search ↦ λ h. absurd h ]
+      | Search ↦ elim [ Macro b ↦ λ h. absurd h | File b ↦ λ h. absurd h | Search ↦ λ h. refl ]
+    ] };
+}
+
+impl Datum for Answer {
+    ghost use Rattle.std.specs.Cmp.Lexicographic.{bytes_decides, pointwise_decides};
+    ghost use Rattle.std.proofs.Common.{ap};
+    ghost use Rattle.idl_macro.specs.declared.key.Answer.TheVariants.{Macro, File, Search};
+
+    ghost same = { elim [
+      | Macro a ↦ elim [ Macro b ↦ λ h. ap Macro ((pointwise_decides bytes_decides a b).0 h) | File b ↦ λ h. cc | Search b ↦ λ h. cc ]
+      | File a ↦ elim [ Macro b ↦ λ h. cc | File b ↦ λ h. ap File ((pointwise_decides bytes_decides a b).0 h) | Search b ↦ λ h. cc ]
+      | Search a ↦ elim [ Macro b ↦ λ h. cc | File b ↦ λ h. cc | Search b ↦ λ h. ap Search ((pointwise_decides bytes_decides a b).0 h) ]
+    ] };
+
+    ghost copy = { elim [
+      | Macro a ↦ elim [ Macro b ↦ λ h. ap Macro h | File b ↦ λ h. absurd h | Search b ↦ λ h. absurd h ]
+      | File a ↦ elim [ Macro b ↦ λ h. absurd h | File b ↦ λ h. ap File h | Search b ↦ λ h. absurd h ]
+      | Search a ↦ elim [ Macro b ↦ λ h. absurd h | File b ↦ λ h. absurd h | Search b ↦ λ h. ap Search h ]
+    ] };
+}

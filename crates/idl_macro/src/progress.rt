@@ -1,0 +1,120 @@
+//! How far the expansion of a root has come.
+
+ghost use Rattle.std.specs.Prelude.{◌≡◌, ◌↔◌, ◌++◌, ◌≤◌, [], None, Some, IfOk, OnOk, IsTrue};
+ghost use Rattle.std.specs.Option.{option_copied, option_to_list};
+ghost use Rattle.idl_base.specs.Progress.{after_item, after_key};
+ghost use Rattle.idl_macro.specs.Items.{event_of, rules, turns_left, beginning};
+ghost use Rattle.idl_macro.specs.Key.{key_eq};
+ghost use Rattle.idl_macro.specs.declared.allowance.TheConstants.{MAX_TURNS};
+
+use crate::allowance::Allowance;
+use crate::item::{Event, Item};
+use crate::key::{Answer, Key};
+use idl_memo::{Bank, Log};
+use std::alloc::{AllocError, Global};
+use std::marker::Model;
+
+/// The events of a root so far, what is left of its limits, and what was asked of the bank.
+///
+/// Once an item is past the limits, a fault stands in its place, nothing more is told, and nothing more is logged. After want
+/// of memory nothing is said of it.
+#[derive(Drop)]
+pub struct Progress<B: Bank<Key = Key, Answer = Answer>> {
+    kept: Vec<Event>,
+    left: Option<Allowance>,
+    log: Log<B>,
+}
+
+impl<B: Bank<Key = Key, Answer = Answer>> Model for Progress<B> {
+    ghost use Rattle.std.specs.Prelude.{Option, ◌≤◌};
+    ghost use Rattle.idl_base.specs.Progress.{Progress as Reached};
+    ghost use Rattle.idl_macro.specs.declared.allowance.Allowance.{Allowance};
+    ghost use Rattle.idl_macro.specs.declared.allowance.TheConstants.{MAX_TURNS};
+    ghost use Rattle.idl_macro.specs.declared.item.Event.{Event};
+    ghost use Rattle.idl_macro.specs.declared.key.Key.{Key};
+    ghost use Rattle.idl_macro.specs.declared.key.Answer.{Answer};
+    ghost use Rattle.idl_macro.specs.Items.{turns_left};
+
+    ghost Value = { Reached Key (Option Answer) Event Allowance };
+
+    ghost view = { λ p. record { kept = p.kept.items; left = p.left; log = p.log } };
+
+    ghost invariant = { λ p. turns_left p.left ≤ MAX_TURNS };
+}
+
+impl<B: Bank<Key = Key, Answer = Answer>> Progress<B> {
+    /// Nothing is told, and nothing of the limits is spent; what is asked goes behind the entries of the log. It takes no
+    /// memory.
+    pub fn new(alloc: Global, log: Log<B>) -> Progress<B>
+        ensures { result ≡ beginning log }
+    {
+        Progress {
+            kept: Vec::new(alloc),
+            left: Some(Allowance::new()),
+            log,
+        }
+    }
+
+    /// The events, and the log.
+    pub fn into_parts(self) -> (Vec<Event>, Log<B>)
+        ensures events { result.0.items ≡ self.kept }
+        ensures log { result.1 ≡ self.log }
+    {
+        (self.kept, self.log)
+    }
+
+    /// The events so far.
+    pub fn events(&self) -> &[Event]
+        ensures { result.now ≡ self.now.kept }
+    {
+        &self.kept
+    }
+
+    /// Whether an item was past the limits.
+    pub fn is_over(&self) -> bool
+        ensures over { IsTrue result ↔ (self.now.left ≡ None) }
+        ensures turns { turns_left self.now.left ≤ MAX_TURNS }
+    {
+        self.left.is_none()
+    }
+
+    /// One item more.
+    pub fn tell(&mut self, item: Item) -> Result<(), AllocError>
+        ensures { OnOk result (self.new ≡ after_item rules item self.old) }
+    {
+        let Some(left) = self.left else {
+            return Ok(());
+        };
+        match left.after(&item) {
+            Some(rest) => {
+                self.left = Some(rest);
+                keep(&mut self.kept, item)
+            }
+            None => {
+                self.left = None;
+                keep(&mut self.kept, item.past_limit())
+            }
+        }
+    }
+
+    /// The bank's answer at a key, which is logged.
+    pub fn ask<'b>(&mut self, key: &Key, bank: &'b B) -> Result<Option<&'b Answer>, AllocError>
+        ensures answer { IfOk result (λ answer. option_copied answer ≡ B.at bank.now key.now) }
+        ensures progress { OnOk result (self.new ≡ after_key key_eq (B.at bank.now) key.now self.old) }
+    {
+        if self.left.is_none() {
+            return Ok(bank.answer(key));
+        }
+        self.log.ask(key, bank)
+    }
+}
+
+// What is kept of an item goes behind the events.
+fn keep(kept: &mut Vec<Event>, item: Item) -> Result<(), AllocError>
+    ensures { OnOk result (kept.new.items ≡ kept.old.items ++ option_to_list (event_of item)) }
+{
+    if let Some(event) = item.event() {
+        kept.push(event)?;
+    }
+    Ok(())
+}

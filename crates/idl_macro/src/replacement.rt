@@ -1,0 +1,199 @@
+//! The replacement of macros: a word by the tokens of its body, which are scanned again.
+//!
+//! Replacements that stand in one another are kept on a stack of their own, so that no depth of them is too much.
+
+ghost use Rattle.std.specs.Prelude.{◌≡◌, ◌≢◌, ◌<◌, ◌∷◌, [], ℕ, List, Option, None, IfOk, OnOk, is_some, reverse};
+ghost use Rattle.std.specs.Map.{keys_of, lookup};
+ghost use Rattle.std.specs.Option.{option_copied};
+ghost use Rattle.std.specs.Str.{bytes_eq};
+ghost use Rattle.idl_base.specs.Progress.{after_item};
+ghost use Rattle.idl_base.specs.Query.{outcome};
+ghost use Rattle.idl_macro.specs.Items.{rules, turns_left};
+ghost use Rattle.idl_macro.specs.Macros.{Reached, reached};
+ghost use Rattle.idl_macro.specs.Output.{given, given_more, item_of};
+ghost use Rattle.idl_macro.specs.Replace.{operand, replaced, replaced_at, replacement, text};
+ghost use Rattle.idl_macro.specs.Words.{placed};
+
+use crate::definitions::Definitions;
+use crate::file_name::FileName;
+use crate::item::Item;
+use crate::key::{Answer, Key};
+use crate::place::Place;
+use crate::progress::Progress;
+use crate::word::is_word;
+use idl_lex::{Spelling, Token};
+use idl_memo::Bank;
+use indexmap::IndexMap;
+use std::alloc::{AllocError, Global};
+use std::slice::from_ref;
+
+/// Where the tokens go that come of a replacement.
+#[derive(Drop)]
+pub enum Output {
+    /// They are emitted, as tokens of the text.
+    Text,
+    /// They are counted, and given: the tokens of a condition, or of the operand of an `include`.
+    Operand(Vec<Token>),
+}
+
+/// The tokens of a text are replaced, each on its own line, and emitted.
+#[tactic(auto, unfolding(crate::specs::Replace::text))]
+pub fn replace_text<B: Bank<Key = Key, Answer = Answer>>(
+    alloc: Global,
+    file: &FileName,
+    definitions: &Definitions,
+    tokens: &[Token],
+    bank: &B,
+    progress: &mut Progress<B>,
+) -> Result<(), AllocError>
+    ensures { OnOk result (progress.new ≡ reached (B.at bank.now) (text file.now definitions.now tokens.now) progress.old) }
+{
+    let mut output = Output::Text;
+    'tokens: for token in tokens {
+        let place = Place {
+            file: file.clone()?,
+            line: token.line,
+        };
+        replace(
+            alloc,
+            &place,
+            definitions,
+            from_ref(token),
+            bank,
+            progress,
+            &mut output,
+        )?;
+    }
+    Ok(())
+}
+
+/// The tokens of a condition or of an operand are replaced at the place of the directive, counted, and given.
+///
+/// Where an item was past the limits, nothing is said of the tokens.
+#[tactic(auto, unfolding(crate::specs::Replace::operand))]
+pub fn replace_operand<B: Bank<Key = Key, Answer = Answer>>(
+    alloc: Global,
+    place: &Place,
+    definitions: &Definitions,
+    tokens: &[Token],
+    bank: &B,
+    progress: &mut Progress<B>,
+) -> Result<Vec<Token>, AllocError>
+    ensures progress { OnOk result (progress.new ≡ reached (B.at bank.now) (operand place.now definitions.now tokens.now) progress.old) }
+    ensures given { IfOk result (λ given. progress.new.left ≢ None → given.items ≡ outcome (operand place.now definitions.now tokens.now) (B.at bank.now)) }
+{
+    let mut output = Output::Operand(Vec::new(alloc));
+    replace(
+        alloc,
+        place,
+        definitions,
+        tokens,
+        bank,
+        progress,
+        &mut output,
+    )?;
+    match output {
+        Output::Text => Ok(Vec::new(alloc)),
+        Output::Operand(given) => Ok(given),
+    }
+}
+
+/// How many replacements may stand in one another is no bound: more room for them than there are turns left changes nothing.
+/// This does nothing: it carries the law.
+pub fn nesting()
+    ensures { (bank : Key → Option Answer) (item : Token → Item) (place : Place) (definitions : Definitions) (room more : ℕ) (hidden : List (List ℕ)) (t : Token) (p : Reached)
+        → turns_left p.left < room → turns_left p.left < more
+        → reached bank (replaced item place definitions room hidden t) p ≡ reached bank (replaced item place definitions more hidden t) p }
+{}
+
+// The tokens are replaced at one place. Words in whose replacement the work stands have an entry each, with what follows
+// them, the outermost first.
+fn replace<B: Bank<Key = Key, Answer = Answer>>(
+    alloc: Global,
+    place: &Place,
+    definitions: &Definitions,
+    tokens: &[Token],
+    bank: &B,
+    progress: &mut Progress<B>,
+    output: &mut Output,
+) -> Result<(), AllocError>
+    ensures item { OnOk result (item_of output.new ≡ item_of output.old) }
+    ensures progress { OnOk result (progress.new ≡ reached (B.at bank.now) (replaced_at (item_of output.old place.now) place.now definitions.now tokens.now) progress.old) }
+    ensures given { OnOk result (progress.new.left ≢ None → given output.new ≡ given_more (given output.old) (outcome (replaced_at (item_of output.old place.now) place.now definitions.now tokens.now) (B.at bank.now))) }
+{
+    let mut stack: IndexMap<Spelling, &[Token]> = IndexMap::new(alloc);
+    let mut left = tokens;
+    'steps: while !progress.is_over() {
+        match left.split_first() {
+            None => match stack.pop() {
+                None => return Ok(()),
+                Some((_word, rest)) => left = rest,
+            },
+            Some((token, rest)) => {
+                match replacement(&stack, definitions, token, bank, progress)? {
+                    None => {
+                        output.put(place, token, progress)?;
+                        left = rest;
+                    }
+                    Some(body) => {
+                        progress.tell(Item::Turn(place.clone()?))?;
+                        stack.insert(token.spelling.clone()?, rest)?;
+                        left = body;
+                    }
+                }
+            }
+        }
+    }
+    Ok(())
+}
+
+// The body that a token is replaced by: its macro's, if it is a word and doesn't stand in its own replacement.
+fn replacement<'a, B: Bank<Key = Key, Answer = Answer>>(
+    stack: &IndexMap<Spelling, &'a [Token]>,
+    definitions: &'a Definitions,
+    token: &Token,
+    bank: &'a B,
+    progress: &mut Progress<B>,
+) -> Result<Option<&'a [Token]>, AllocError>
+    ensures body { IfOk result (λ body. option_copied body ≡ outcome (replacement definitions.now (keys_of (reverse stack.now.entries)) token.now) (B.at bank.now)) }
+    ensures progress { OnOk result (progress.new ≡ reached (B.at bank.now) (replacement definitions.now (keys_of (reverse stack.now.entries)) token.now) progress.old) }
+{
+    if !is_word(token.kind) {
+        return Ok(None);
+    }
+    if is_open(stack, &token.spelling) {
+        return Ok(None);
+    }
+    definitions.macro_of(&token.spelling, bank, progress)
+}
+
+// Whether the work stands in the replacement of this word.
+fn is_open(stack: &IndexMap<Spelling, &[Token]>, word: &Spelling) -> bool
+    ensures { result ≡ is_some (lookup (bytes_eq word.now) stack.now.entries) }
+{
+    stack.contains_key(word)
+}
+
+impl Output {
+    // A token that stands for itself, on the line of the outermost word.
+    fn put<B: Bank<Key = Key, Answer = Answer>>(
+        &mut self,
+        place: &Place,
+        token: &Token,
+        progress: &mut Progress<B>,
+    ) -> Result<(), AllocError>
+        ensures item { OnOk result (item_of self.new ≡ item_of self.old) }
+        ensures given { OnOk result (given self.new ≡ given_more (given self.old) (placed place.now.line token.now ∷ [])) }
+        ensures progress { OnOk result (progress.new ≡ after_item rules (item_of self.old place.now (placed place.now.line token.now)) progress.old) }
+    {
+        let mut token = token.clone()?;
+        token.line = place.line;
+        match self {
+            Output::Text => progress.tell(Item::Emitted(place.file.clone()?, token)),
+            Output::Operand(given) => {
+                given.push(token)?;
+                progress.tell(Item::Counted(place.clone()?))
+            }
+        }
+    }
+}
