@@ -1,0 +1,11 @@
+pub mod DirectiveLemmas
+pub mod FileLemmas
+pub mod IncludeLemmas
+pub mod KindLemmas
+pub mod PassLemmas
+pub mod RootLemmas
+pub mod RootTaskLemmas
+pub mod StepLemmas
+pub mod TreeLemmas
+pub mod WalkLemmas
+pub mod WayLemmas

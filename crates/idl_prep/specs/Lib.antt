@@ -1,0 +1,9 @@
+pub mod Directive
+pub mod Include
+pub mod Line
+pub mod Pass
+pub mod Read
+pub mod Root
+pub mod State
+pub mod Tree
+pub mod Walk

@@ -1,0 +1,62 @@
+-- What is still to be done of a file, inside the groups that are open.
+use Rattle.std.specs.Prelude.{Bool, true, List, [], ◌∷◌, if◌then◌else◌, Option, None, Some}
+use Rattle.idl_base.specs.Query.{Done, and_then}
+use Rattle.idl_macro.specs.Macros.{Expansion, Reached}
+use Rattle.idl_macro.specs.declared.file_name.FileName.{FileName}
+use Rattle.idl_macro.specs.declared.key.Answer.{Answer}
+use Rattle.idl_macro.specs.declared.key.Key.{Key}
+use Rattle.idl_prep.specs.Directive.{Enter}
+use Rattle.idl_prep.specs.Line.{Line}
+use Rattle.idl_prep.specs.State.{State, Way, onward}
+use Rattle.idl_prep.specs.Tree.{Tree, Forest, Branches, Part, close, part, strays}
+use Rattle.idl_prep.specs.Walk.{skip, skip_branches, skip_tree, walk, walk_branches, walk_tree}
+use Rattle.idl_prep.specs.declared.groups.Group.{Group}
+use Rattle.idl_prep.specs.declared.inclusion.Inclusion.{Inclusion}
+use Rattle.idl_prep.specs.declared.kind.Kind.{Kind}
+use Rattle.idl_prep.specs.declared.kind.Kind.TheVariants.{Elif, Else, Endif}
+
+-- trees are walked, or skipped
+abbrev pub visit : Enter → FileName → Bool → Forest → State → Expansion State
+visit enter file active f s = if active then walk enter file f s else skip file f s
+
+abbrev pub visit_tree : Enter → FileName → Bool → Tree → State → Expansion State
+visit_tree enter file active t s = if active then walk_tree enter file t s else skip_tree file t s
+
+-- the branches that follow of an open group
+abbrev pub visit_branches : Enter → FileName → Group → Branches → State → Expansion State
+visit_branches enter file g bs s = if g.is_live then walk_branches enter file bs g.opener g.is_taken s else skip_branches file bs g.opener s
+
+-- What follows comes to this, inside these open groups, the innermost first: the innermost is closed by what follows, and
+-- what comes after it follows inside the others.
+unfoldable pub coming : Enter → FileName → List Group → Part → State → Expansion State
+coming enter file [] p s = walk enter file (strays p.front p.tail) s
+coming enter file (g ∷ gs) p s =
+    let c = close g.has_else p.front p.tail in
+    and_then (visit enter file g.is_active c.body s) (λ s'. and_then (visit_branches enter file g c.branches s') (coming enter file gs c.after))
+
+-- where a root comes to by these lines, inside these open groups
+abbrev pub to_come : (Key → Option Answer) → Enter → FileName → List Group → List Line → Way → Reached × Option State
+to_come bank enter file gs lines way = onward bank (coming enter file gs (part lines)) way
+
+-- another branch of a group begins
+abbrev pub IsBranch : Kind → Type 0
+IsBranch Elif = Unit {0}
+IsBranch Else = Unit {0}
+IsBranch other = ⊥
+
+-- a group goes on, or ends
+abbrev pub IsOfGroup : Kind → Type 0
+IsOfGroup Elif = Unit {0}
+IsOfGroup Else = Unit {0}
+IsOfGroup Endif = Unit {0}
+IsOfGroup other = ⊥
+
+-- whether lines are walked inside these groups
+abbrev pub is_walked : List Group → Bool
+is_walked [] = true
+is_walked (g ∷ gs) = g.is_active
+
+-- what becomes of a file that is to be entered, if there is one
+abbrev pub entered : Enter → Option Inclusion → State → Expansion State
+entered enter None s = Done s
+entered enter (Some i) s = enter i.place i.name i.file.now s

@@ -1,0 +1,59 @@
+-- The expansion of a root: its events, and what it asked.
+use Rattle.std.specs.Prelude.{ℕ, zero, suc, ◌-◌, List, [], ◌∷◌, Option, None, Some, flat_map}
+use Rattle.idl_base.specs.Progress.{kept_within}
+use Rattle.idl_base.specs.Query.{Query, Done, Ask, Tell, and_then, run}
+use Rattle.idl_macro.specs.Items.{rules, whole_allowance}
+use Rattle.idl_macro.specs.Key.{key_eq}
+use Rattle.idl_macro.specs.Macros.{Expansion}
+use Rattle.idl_macro.specs.declared.file_name.FileName.{FileName}
+use Rattle.idl_macro.specs.declared.item.Code.TheVariants.{NotFound}
+use Rattle.idl_macro.specs.declared.item.Event.{Event}
+use Rattle.idl_macro.specs.declared.item.Item.TheVariants.{Entered, Left, Fault, TooDeep}
+use Rattle.idl_macro.specs.declared.key.Answer.{Answer}
+use Rattle.idl_macro.specs.declared.key.Key.{Key}
+use Rattle.idl_macro.specs.declared.key.Key.TheVariants as key
+use Rattle.idl_prep.specs.Directive.{Enter}
+use Rattle.idl_prep.specs.Include.{file_in}
+use Rattle.idl_prep.specs.Line.{lines_in}
+use Rattle.idl_prep.specs.State.{State, nothing_said}
+use Rattle.idl_prep.specs.Tree.{tree}
+use Rattle.idl_prep.specs.Walk.{walk}
+use Rattle.idl_prep.specs.declared.TheConstants.{MAX_DEPTH}
+
+-- a file of these lines
+abbrev pub walk_file : Enter → FileName → List (List ℕ) → State → Expansion State
+walk_file enter file lines s = walk enter file (tree (lines_in lines)) s
+
+-- A file is entered, where so many may still be entered inside one another; else it is too deep. When its lines are done it is
+-- left.
+unfoldable pub enter : ℕ → Enter
+enter zero place file lines s = Tell (TooDeep place) (Done s)
+enter (suc room) place file lines s = Tell (Entered file) (and_then (walk_file (enter room) file lines s) (λ after. Tell (Left file) (Done after)))
+
+-- the lines of a root, in which one file less may be entered than may be open
+abbrev pub root_lines : FileName → Option (List (List ℕ)) → Expansion State
+root_lines root None = Tell (Fault (record { file = root; line = 0 }) NotFound (Some root)) (Done nothing_said)
+root_lines root (Some lines) = walk_file (enter (MAX_DEPTH - 1)) root lines nothing_said
+
+-- a root asks for its file first
+unfoldable pub root : FileName → Expansion State
+root name = Ask (key.File name) (λ found. root_lines name (file_in found))
+
+-- the expansion of a root, under the limits: it asks what the root asks, and gives the events
+unfoldable pub expansion : List ℕ → Query Key (Option Answer) (Unit {0}) (List Event)
+expansion name = and_then (kept_within (Unit {0}) rules [] whole_allowance (root name)) (λ given. Done given.0)
+
+-- the events of a root, and its log of what it asked, over a bank
+abbrev pub expanded : List ℕ → (Key → Option Answer) → List Event × List (Key × Option Answer)
+expanded name bank = run key_eq (expansion name) bank []
+
+-- the name of a file that was asked for and isn't there
+abbrev pub absent_file : Key × Option Answer → List (List ℕ)
+absent_file (key.Macro word, answer) = []
+absent_file (key.File name, None) = name ∷ []
+absent_file (key.File name, Some answer) = []
+absent_file (key.Search, answer) = []
+
+-- the files that were asked for and aren't there, in the order in which they were first asked
+unfoldable pub absent_files : List (Key × Option Answer) → List (List ℕ)
+absent_files log = flat_map absent_file log

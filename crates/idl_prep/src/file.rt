@@ -1,0 +1,67 @@
+//! The lines of a file, with the files that they include.
+
+ghost use Rattle.std.specs.Prelude.{◌≡◌, OnOk};
+ghost use Rattle.idl_prep.specs.Pass.{entered};
+ghost use Rattle.idl_prep.specs.Root.{enter, walk_file};
+ghost use Rattle.idl_prep.specs.State.{ended, onward};
+
+use crate::groups::Groups;
+use crate::inclusion::Inclusion;
+use crate::pass::{end_file, walk_line};
+use crate::root::Root;
+use idl_lex::first_line;
+use idl_macro::{Answer, FileName, Item, Key, LexedFile};
+use idl_memo::Bank;
+use std::alloc::{AllocError, Global};
+
+/// A file of these tokens, in which so many files may still be entered inside one another.
+#[cycle(files)]
+pub fn walk_file<B: Bank<Key = Key, Answer = Answer>>(
+    alloc: Global,
+    root: &mut Root<B>,
+    room: usize,
+    name: &FileName,
+    file: &LexedFile,
+    bank: &B,
+) -> Result<(), AllocError>
+    ensures { OnOk result (ended root.new ≡ onward (B.at bank.now) (walk_file (enter room) name.now file.now) root.old) }
+{
+    let mut groups = Groups::new(alloc);
+    let mut left = file.tokens();
+    'lines: while !left.is_empty() {
+        if root.is_over() {
+            return Ok(());
+        }
+        let (line, rest) = first_line(left);
+        let inclusion = walk_line(alloc, root, &mut groups, name, line, bank)?;
+        enter_file(alloc, root, room, inclusion, bank)?;
+        left = rest;
+    }
+    end_file(root, groups, name)?;
+    Ok(())
+}
+
+// A file is entered, if there is one, unless it is too deep, and left when its lines are done.
+#[cycle(files)]
+fn enter_file<B: Bank<Key = Key, Answer = Answer>>(
+    alloc: Global,
+    root: &mut Root<B>,
+    room: usize,
+    inclusion: Option<Inclusion<'_>>,
+    bank: &B,
+) -> Result<(), AllocError>
+    ensures { OnOk result (ended root.new ≡ onward (B.at bank.now) (entered (enter room) inclusion.entry) root.old) }
+{
+    let Some(inclusion) = inclusion else {
+        return Ok(());
+    };
+    if room == 0 {
+        root.tell(Item::TooDeep(inclusion.place))?;
+        return Ok(());
+    }
+    let name = &inclusion.name;
+    root.tell(Item::Entered(name.clone()?))?;
+    walk_file(alloc, root, room - 1, name, inclusion.file, bank)?;
+    root.tell(Item::Left(name.clone()?))?;
+    Ok(())
+}

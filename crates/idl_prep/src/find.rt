@@ -1,0 +1,112 @@
+//! The file that an include finds.
+
+ghost use Rattle.std.specs.Prelude.{◌≡◌, IfOk, OnOk};
+ghost use Rattle.std.specs.Option.{option_copied, option_map, option_to_list};
+ghost use Rattle.idl_macro.specs.Macros.{reached};
+ghost use Rattle.idl_base.specs.Query.{outcome};
+ghost use Rattle.idl_prep.specs.Include.{directories_in, file_in, file_of, first_present, present_along};
+ghost use Rattle.idl_source.specs.Path.{joined};
+
+use crate::operand::Operand;
+use idl_macro::{Answer, Key, LexedFile, Progress};
+use idl_memo::Bank;
+use idl_source::{Directory, Name, is_rooted, join};
+use std::alloc::AllocError;
+use std::marker::Model;
+
+/// A file that is there: its name, and the file.
+#[derive(Drop)]
+pub struct Found<'b> {
+    pub name: Name,
+    pub file: &'b LexedFile,
+}
+
+impl<'b> Model for Found<'b> {
+    ghost use Rattle.idl_prep.specs.Include as spec;
+
+    ghost Value = { spec.Found };
+
+    ghost view = { λ found. record { name = found.name; lines = found.file.now } };
+}
+
+/// The file that an operand finds from another file.
+pub fn find<'b, B: Bank<Key = Key, Answer = Answer>>(
+    from: &Name,
+    operand: &Operand,
+    bank: &'b B,
+    progress: &mut Progress<B>,
+) -> Result<Option<Found<'b>>, AllocError>
+    ensures found { IfOk result (λ found. found ≡ outcome (file_of from.now operand.now) (B.at bank.now)) }
+    ensures progress { OnOk result (progress.new ≡ reached (B.at bank.now) (file_of from.now operand.now) progress.old) }
+{
+    let beside = from.directory();
+    let name = operand.name();
+    if is_rooted(name) {
+        return Ok(present(&beside, name, bank, progress)?);
+    }
+    if !operand.is_quoted() {
+        return Ok(present_along(name, bank, progress)?);
+    }
+    match present(&beside, name, bank, progress)? {
+        Some(found) => Ok(Some(found)),
+        None => Ok(present_along(name, bank, progress)?),
+    }
+}
+
+// The first file along the search list.
+fn present_along<'b, B: Bank<Key = Key, Answer = Answer>>(
+    name: &[u8],
+    bank: &'b B,
+    progress: &mut Progress<B>,
+) -> Result<Option<Found<'b>>, AllocError>
+    ensures found { IfOk result (λ found. found ≡ outcome (present_along name.now) (B.at bank.now)) }
+    ensures progress { OnOk result (progress.new ≡ reached (B.at bank.now) (present_along name.now) progress.old) }
+{
+    let directories = directories_in(progress.ask(&Key::Search, bank)?);
+    'directories: for directory in directories {
+        if let Some(found) = present(directory, name, bank, progress)? {
+            return Ok(Some(found));
+        }
+    }
+    Ok(None)
+}
+
+// The file that the operand makes in the directory, where it is present.
+fn present<'b, B: Bank<Key = Key, Answer = Answer>>(
+    directory: &Directory,
+    name: &[u8],
+    bank: &'b B,
+    progress: &mut Progress<B>,
+) -> Result<Option<Found<'b>>, AllocError>
+    ensures found { IfOk result (λ found. found ≡ outcome (first_present (option_to_list (joined directory.now name.now))) (B.at bank.now)) }
+    ensures progress { OnOk result (progress.new ≡ reached (B.at bank.now) (first_present (option_to_list (joined directory.now name.now))) progress.old) }
+{
+    let Some(name) = join(directory, name) else {
+        return Ok(None);
+    };
+    let answer = progress.ask(&Key::File(name.copied()), bank)?;
+    match file_in(answer) {
+        Some(file) => Ok(Some(Found { name, file })),
+        None => Ok(None),
+    }
+}
+
+/// The file that is answered, if one is.
+pub fn file_in(answer: Option<&Answer>) -> Option<&LexedFile>
+    ensures { option_copied result ≡ file_in (option_copied answer.entry) }
+{
+    match answer {
+        Some(Answer::File(file)) => Some(file),
+        _ => None,
+    }
+}
+
+// The directories that are answered.
+fn directories_in(answer: Option<&Answer>) -> &[Directory]
+    ensures { result.now ≡ directories_in (option_copied answer.entry) }
+{
+    match answer {
+        Some(Answer::Search(directories)) => directories.as_slice(),
+        _ => &[],
+    }
+}

@@ -1,0 +1,212 @@
+//! One line of a file after another, inside the groups that are open.
+
+ghost use Rattle.std.specs.Prelude.{◌≡◌, ◌∷◌, [], List, Option, IfOk, OnOk};
+ghost use Rattle.idl_base.specs.Query.{and_then};
+ghost use Rattle.idl_prep.specs.Directive.{Enter};
+ghost use Rattle.idl_prep.specs.Line as spec;
+ghost use Rattle.idl_prep.specs.Line.{Directed, Text, Bare};
+ghost use Rattle.idl_prep.specs.Pass.{IsBranch, coming, entered, to_come};
+ghost use Rattle.idl_prep.specs.State.{ended, onward};
+ghost use Rattle.idl_prep.specs.Tree.{part};
+ghost use Rattle.idl_prep.specs.declared.kind.Kind.TheVariants.{Alone, Endif};
+
+use crate::branch::{begin_branch, begin_group, end_group};
+use crate::groups::Groups;
+use crate::inclusion::Inclusion;
+use crate::kind::{Kind, Plain};
+use crate::line::{Directive, Line, read};
+use crate::perform::{act_bare, act_directive, act_text};
+use crate::root::Root;
+use crate::stray::{stray_inside, stray_outside};
+use idl_lex::Token;
+use idl_macro::{Answer, Code, FileName, Key, Place};
+use idl_memo::Bank;
+use std::alloc::{AllocError, Global};
+
+/// The next line of a file: gives the file that is to be entered, if there is one.
+pub fn walk_line<'b, B: Bank<Key = Key, Answer = Answer>>(
+    alloc: Global,
+    root: &mut Root<B>,
+    groups: &mut Groups,
+    file: &FileName,
+    tokens: &[Token],
+    bank: &'b B,
+) -> Result<Option<Inclusion<'b>>, AllocError>
+    ensures { IfOk result (λ inclusion. (enter : Enter) (lines : List spec.Line) →
+        onward (B.at bank.now) (λ s. and_then (entered enter inclusion s) (coming enter file.now groups.new (part lines))) root.new
+        ≡ onward (B.at bank.now) (coming enter file.now groups.old (part (spec.read tokens.now ∷ lines))) root.old) }
+{
+    match read(tokens) {
+        Line::Text(text) => {
+            walk_text(alloc, root, groups, file, text, bank)?;
+            Ok(None)
+        }
+        Line::Bare(line) => {
+            walk_bare(root, groups, file, line)?;
+            Ok(None)
+        }
+        Line::Directed(directive) => walk_directive(alloc, root, groups, file, &directive, bank),
+    }
+}
+
+// A line of text.
+fn walk_text<B: Bank<Key = Key, Answer = Answer>>(
+    alloc: Global,
+    root: &mut Root<B>,
+    groups: &Groups,
+    file: &FileName,
+    tokens: &[Token],
+    bank: &B,
+) -> Result<(), AllocError>
+    ensures { OnOk result ((enter : Enter) (lines : List spec.Line) →
+        to_come (B.at bank.now) enter file.now groups.now lines root.new
+        ≡ to_come (B.at bank.now) enter file.now groups.now (Text tokens.now ∷ lines) root.old) }
+{
+    if !groups.is_walked() {
+        return Ok(());
+    }
+    act_text(alloc, root, file, tokens, bank)?;
+    Ok(())
+}
+
+// A `#` alone.
+fn walk_bare<B: Bank<Key = Key, Answer = Answer>>(
+    root: &mut Root<B>,
+    groups: &Groups,
+    file: &FileName,
+    line: usize,
+) -> Result<(), AllocError>
+    ensures { OnOk result ((bank : Key → Option Answer) (enter : Enter) (lines : List spec.Line) →
+        to_come bank enter file.now groups.now lines root.new
+        ≡ to_come bank enter file.now groups.now (Bare line ∷ lines) root.old) }
+{
+    if !groups.is_walked() {
+        return Ok(());
+    }
+    act_bare(root, file, line)?;
+    Ok(())
+}
+
+// A directive.
+fn walk_directive<'b, B: Bank<Key = Key, Answer = Answer>>(
+    alloc: Global,
+    root: &mut Root<B>,
+    groups: &mut Groups,
+    file: &FileName,
+    directive: &Directive<'_>,
+    bank: &'b B,
+) -> Result<Option<Inclusion<'b>>, AllocError>
+    ensures { IfOk result (λ inclusion. (enter : Enter) (lines : List spec.Line) →
+        onward (B.at bank.now) (λ s. and_then (entered enter inclusion s) (coming enter file.now groups.new (part lines))) root.new
+        ≡ to_come (B.at bank.now) enter file.now groups.old (Directed directive.now ∷ lines) root.old) }
+{
+    match directive.kind {
+        Kind::Alone(what) => walk_alone(alloc, root, groups, file, directive, what, bank),
+        Kind::Opening(what) => {
+            begin_group(alloc, root, groups, file, directive, what, bank)?;
+            Ok(None)
+        }
+        Kind::Elif | Kind::Else => {
+            walk_branch(alloc, root, groups, file, directive, bank)?;
+            Ok(None)
+        }
+        Kind::Endif => {
+            walk_endif(root, groups, file, directive)?;
+            Ok(None)
+        }
+    }
+}
+
+// A directive of one line.
+fn walk_alone<'b, B: Bank<Key = Key, Answer = Answer>>(
+    alloc: Global,
+    root: &mut Root<B>,
+    groups: &Groups,
+    file: &FileName,
+    directive: &Directive<'_>,
+    what: Plain,
+    bank: &'b B,
+) -> Result<Option<Inclusion<'b>>, AllocError>
+    requires { directive.now.kind ≡ Alone what }
+    ensures { IfOk result (λ inclusion. (enter : Enter) (lines : List spec.Line) →
+        onward (B.at bank.now) (λ s. and_then (entered enter inclusion s) (coming enter file.now groups.now (part lines))) root.new
+        ≡ to_come (B.at bank.now) enter file.now groups.now (Directed directive.now ∷ lines) root.old) }
+{
+    if !groups.is_walked() {
+        return Ok(None);
+    }
+    let inclusion = act_directive(alloc, root, file, directive, what, bank)?;
+    Ok(inclusion)
+}
+
+// An `elif` or `else`: the innermost group goes on with another branch, if one is open.
+fn walk_branch<B: Bank<Key = Key, Answer = Answer>>(
+    alloc: Global,
+    root: &mut Root<B>,
+    groups: &mut Groups,
+    file: &FileName,
+    directive: &Directive<'_>,
+    bank: &B,
+) -> Result<(), AllocError>
+    requires { IsBranch directive.now.kind }
+    ensures { OnOk result ((enter : Enter) (lines : List spec.Line) →
+        to_come (B.at bank.now) enter file.now groups.new lines root.new
+        ≡ to_come (B.at bank.now) enter file.now groups.old (Directed directive.now ∷ lines) root.old) }
+{
+    match groups.pop() {
+        None => {
+            stray_outside(root, file, directive)?;
+            Ok(())
+        }
+        Some(group) if group.has_else => {
+            stray_inside(root, groups, group, file, directive)?;
+            Ok(())
+        }
+        Some(group) => {
+            begin_branch(alloc, root, groups, group, file, directive, bank)?;
+            Ok(())
+        }
+    }
+}
+
+// An `endif`: the innermost group ends, if one is open.
+fn walk_endif<B: Bank<Key = Key, Answer = Answer>>(
+    root: &mut Root<B>,
+    groups: &mut Groups,
+    file: &FileName,
+    directive: &Directive<'_>,
+) -> Result<(), AllocError>
+    requires { directive.now.kind ≡ Endif }
+    ensures { OnOk result ((bank : Key → Option Answer) (enter : Enter) (lines : List spec.Line) →
+        to_come bank enter file.now groups.new lines root.new
+        ≡ to_come bank enter file.now groups.old (Directed directive.now ∷ lines) root.old) }
+{
+    match groups.pop() {
+        None => {
+            stray_outside(root, file, directive)?;
+            Ok(())
+        }
+        Some(group) => {
+            end_group(root, &group, file, directive)?;
+            Ok(())
+        }
+    }
+}
+
+/// The end of a file: the groups that are open are not closed, the innermost first.
+pub fn end_file<B: Bank<Key = Key, Answer = Answer>>(
+    root: &mut Root<B>,
+    mut groups: Groups,
+    file: &FileName,
+) -> Result<(), AllocError>
+    ensures { OnOk result ((enter : Enter) (bank : Key → Option Answer) → ended root.new ≡ onward bank (coming enter file.now groups (part [])) root.old) }
+{
+    'groups: while let Some(group) = groups.pop() {
+        let place = Place {
+            file: file.clone()?,
+            line: group.opener.line,
+        };
+        root.fault(place, Code::NotClosed, &group.opener.word)?;
+    }
+    Ok(())
+}

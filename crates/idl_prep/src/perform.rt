@@ -1,0 +1,91 @@
+//! Directives of one line, and lines of text.
+
+ghost use Rattle.std.specs.Prelude.{◌≡◌, IfOk, OnOk, Option};
+ghost use Rattle.idl_prep.specs.Directive.{Enter, act};
+ghost use Rattle.idl_prep.specs.Line.{Text, Bare, Directed};
+ghost use Rattle.idl_prep.specs.Pass.{entered};
+ghost use Rattle.idl_prep.specs.State.{ended, onward};
+ghost use Rattle.idl_prep.specs.declared.kind.Kind.TheVariants.{Alone};
+
+use crate::include::include;
+use crate::inclusion::Inclusion;
+use crate::kind::Plain;
+use crate::line::Directive;
+use crate::pragma::pragma;
+use crate::root::Root;
+use crate::text::parted;
+use idl_lex::Token;
+use idl_macro::{Answer, Code, FileName, Item, Key, Place};
+use idl_memo::Bank;
+use std::alloc::{AllocError, Global};
+
+/// A line of text, which isn't skipped.
+#[tactic(auto, unfolding(crate::specs::Directive::act))]
+pub fn act_text<B: Bank<Key = Key, Answer = Answer>>(
+    alloc: Global,
+    root: &mut Root<B>,
+    file: &FileName,
+    tokens: &[Token],
+    bank: &B,
+) -> Result<(), AllocError>
+    ensures { OnOk result ((enter : Enter) → ended root.new ≡ onward (B.at bank.now) (act enter file.now (Text tokens.now)) root.old) }
+{
+    root.emit(alloc, file, tokens, bank)?;
+    Ok(())
+}
+
+/// A `#` alone, which isn't skipped.
+#[tactic(auto, unfolding(crate::specs::Directive::act))]
+pub fn act_bare<B: Bank<Key = Key, Answer = Answer>>(
+    root: &mut Root<B>,
+    file: &FileName,
+    line: usize,
+) -> Result<(), AllocError>
+    ensures { OnOk result ((enter : Enter) (bank : Key → Option Answer) → ended root.new ≡ onward bank (act enter file.now (Bare line)) root.old) }
+{
+    root.tell(Item::Turn(Place {
+        file: file.clone()?,
+        line,
+    }))?;
+    Ok(())
+}
+
+/// A directive of one line, which isn't skipped: gives the file that is to be entered, if there is one.
+pub fn act_directive<'b, B: Bank<Key = Key, Answer = Answer>>(
+    alloc: Global,
+    root: &mut Root<B>,
+    file: &FileName,
+    directive: &Directive<'_>,
+    what: Plain,
+    bank: &'b B,
+) -> Result<Option<Inclusion<'b>>, AllocError>
+    requires { directive.now.kind ≡ Alone what }
+    ensures { IfOk result (λ inclusion. (enter : Enter) → onward (B.at bank.now) (entered enter inclusion) root.new ≡ onward (B.at bank.now) (act enter file.now (Directed directive.now)) root.old) }
+{
+    let place = directive.place(file)?;
+    root.tell(Item::Turn(place.clone()?))?;
+    match what {
+        Plain::Include => Ok(include(alloc, root, file, directive, bank)?),
+        Plain::Define => {
+            root.define(alloc, &place, directive.word(), directive.operands(), bank)?;
+            Ok(None)
+        }
+        Plain::Undef => {
+            root.undef(&place, directive.word(), directive.operands())?;
+            Ok(None)
+        }
+        Plain::Error => {
+            root.fault(place, Code::Error, &parted(alloc, directive.tokens())?)?;
+            Ok(None)
+        }
+        Plain::Pragma => {
+            pragma(alloc, root, file, directive)?;
+            Ok(None)
+        }
+        Plain::Ignored => Ok(None),
+        Plain::Unknown => {
+            root.fault(place, Code::UnknownDirective, directive.word())?;
+            Ok(None)
+        }
+    }
+}

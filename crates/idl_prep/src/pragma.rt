@@ -1,0 +1,63 @@
+//! `pragma`.
+
+ghost use Rattle.std.specs.Prelude.{◌≡◌, Option, OnOk, codes};
+ghost use Rattle.std.specs.Option.{option_copied};
+ghost use Rattle.std.specs.Str.{bytes_eq};
+ghost use Rattle.idl_prep.specs.Directive.{first_spelling, is_of_idl, pragma};
+ghost use Rattle.idl_prep.specs.State.{ended, onward};
+
+use crate::line::Directive;
+use crate::root::Root;
+use idl_lex::{Spelling, Token};
+use idl_macro::{Answer, FileName, Item, Key, TokenList};
+use idl_memo::Bank;
+use std::alloc::{AllocError, Global};
+
+/// `pragma`: `once` says that the file isn't to be entered again, and those that mean something to IDL are told.
+pub fn pragma<B: Bank<Key = Key, Answer = Answer>>(
+    alloc: Global,
+    root: &mut Root<B>,
+    file: &FileName,
+    directive: &Directive<'_>,
+) -> Result<(), AllocError>
+    ensures { OnOk result ((bank : Key → Option Answer) → ended root.new ≡ onward bank (λ s. pragma file.now directive.now s) root.old) }
+{
+    let Some(word) = first_spelling(directive.operands()) else {
+        return Ok(());
+    };
+    let word = word.as_bytes();
+    if is_once(word) {
+        root.mark_once(file.name())?;
+        return Ok(());
+    }
+    if is_of_idl(word) {
+        let tokens = TokenList::new(alloc, directive.tokens())?;
+        root.tell(Item::Pragma(file.clone()?, tokens))?;
+        return Ok(());
+    }
+    Ok(())
+}
+
+// How the first of the tokens is spelled.
+fn first_spelling(tokens: &[Token]) -> Option<&Spelling>
+    ensures { option_copied result ≡ first_spelling tokens.now }
+{
+    match tokens {
+        [token, ..] => Some(&token.spelling),
+        [] => None,
+    }
+}
+
+// Whether it says that the file isn't to be entered again.
+fn is_once(word: &[u8]) -> bool
+    ensures { result ≡ bytes_eq word.now (codes "once") }
+{
+    word == b"once".as_slice()
+}
+
+// Whether it is one of the three pragmas that mean something to IDL.
+fn is_of_idl(word: &[u8]) -> bool
+    ensures { result ≡ is_of_idl word.now }
+{
+    word == b"prefix".as_slice() || word == b"ID".as_slice() || word == b"version".as_slice()
+}

@@ -1,0 +1,141 @@
+//! The task of a root: its expansion over a bank.
+
+ghost use Rattle.std.specs.Prelude.{◌≡◌, IfOk, OnOk, flat_map, slice_get};
+ghost use Rattle.std.specs.Option.{option_copied, option_to_list};
+ghost use Rattle.idl_macro.specs.Macros.{reached};
+ghost use Rattle.idl_prep.specs.Root as spec;
+ghost use Rattle.idl_prep.specs.Root.{absent_files, expansion};
+ghost use Rattle.idl_prep.specs.State.{nothing_said};
+
+use crate::MAX_DEPTH;
+use crate::file::walk_file;
+use crate::find::file_in;
+use crate::root::Root;
+use crate::text::text_of;
+use idl_macro::{Answer, Code, Event, FileName, Key, Place};
+use idl_memo::{Bank, Kind, Log, Task};
+use idl_source::Name;
+use std::alloc::{AllocError, Global};
+use std::marker::Model;
+use std::mem::replace;
+
+/// What a root expands to: its events in order.
+#[derive(Drop)]
+pub struct Expansion {
+    events: Vec<Event>,
+}
+
+impl Model for Expansion {
+    ghost use Rattle.std.specs.Prelude.{List};
+    ghost use Rattle.idl_macro.specs.declared.item.Event.{Event};
+
+    ghost Value = { List Event };
+
+    ghost view = { λ expansion. expansion.events.items };
+}
+
+impl Expansion {
+    /// The events in order.
+    pub fn events(&self) -> &[Event]
+        ensures { result.now ≡ self.now }
+    {
+        &self.events
+    }
+}
+
+/// The expansion of the root with this name.
+#[derive(Drop)]
+pub struct RootTask {
+    name: Name,
+}
+
+impl RootTask {
+    /// The task of the root with this name. It takes no memory.
+    pub fn new(name: Name) -> RootTask
+        ensures { result.name ≡ name }
+    {
+        RootTask { name }
+    }
+}
+
+impl<B: Bank<Key = Key, Answer = Answer>> Task<B> for RootTask {
+    ghost use Rattle.std.specs.Prelude.{◌≡◌};
+    ghost use Rattle.idl_memo.specs.declared.task.Kind.TheVariants.{Expand};
+    ghost use Rattle.idl_prep.specs.Root.{expansion};
+
+    type Text = Name;
+
+    type Out = Expansion;
+
+    const KIND: Kind = Kind::Expand;
+
+    ghost KIND = { Expand };
+
+    ghost text_of = { λ task. task.name };
+
+    ghost query = { expansion };
+
+    fn text(&self) -> &Name {
+        &self.name
+    }
+
+    fn run(&self, alloc: Global, bank: &B, log: &mut Log<B>) -> Result<Expansion, AllocError> {
+        let before = replace(log, Log::new(alloc));
+        let mut root = Root::new(alloc, before);
+        expand(alloc, &mut root, &self.name, bank)?;
+        let (events, logged) = root.into_parts();
+        *log = logged;
+        Ok(Expansion { events })
+    }
+}
+
+// A root asks for its file, and where it is there its lines are walked.
+fn expand<B: Bank<Key = Key, Answer = Answer>>(
+    alloc: Global,
+    root: &mut Root<B>,
+    name: &Name,
+    bank: &B,
+) -> Result<(), AllocError>
+    requires { root.old.state ≡ nothing_said }
+    ensures { OnOk result (root.new.progress ≡ reached (B.at bank.now) (spec.root name.now) root.old.progress) }
+{
+    let file = FileName::new(alloc, name.copied())?;
+    match file_in(root.ask(&Key::File(name.copied()), bank)?) {
+        Some(lexed) => {
+            walk_file(alloc, root, MAX_DEPTH - 1, &file, lexed, bank)?;
+            Ok(())
+        }
+        None => {
+            let place = Place { file, line: 0 };
+            root.fault(place, Code::NotFound, &text_of(alloc, name.as_bytes())?)?;
+            Ok(())
+        }
+    }
+}
+
+/// The files that a root asked for and that aren't there, in the order in which they were first asked.
+pub fn absent<B: Bank<Key = Key, Answer = Answer>>(
+    alloc: Global,
+    log: &Log<B>,
+) -> Result<Vec<Name>, AllocError>
+    ensures { IfOk result (λ names. names.items ≡ absent_files log.now) }
+{
+    let mut names = Vec::new(alloc);
+    'entries: for index in 0..log.len() {
+        let Some(name) = absent_at(log, index) else {
+            continue;
+        };
+        names.push(name.copied())?;
+    }
+    Ok(names)
+}
+
+// The file of an entry that isn't there, if the entry is of one.
+fn absent_at<B: Bank<Key = Key, Answer = Answer>>(log: &Log<B>, index: usize) -> Option<&Name>
+    ensures { option_to_list (option_copied result) ≡ flat_map spec.absent_file (option_to_list (slice_get log.now index)) }
+{
+    match log.get(index) {
+        Some((Key::File(name), None)) => Some(name),
+        _ => None,
+    }
+}

@@ -1,0 +1,69 @@
+//! Directives of groups that are out of place.
+
+ghost use Rattle.std.specs.Prelude.{◌≡◌, ◌∷◌, [], true, List, Option, OnOk};
+ghost use Rattle.idl_prep.specs.Directive.{Enter};
+ghost use Rattle.idl_prep.specs.Line as spec;
+ghost use Rattle.idl_prep.specs.Line.{Directed};
+ghost use Rattle.idl_prep.specs.Pass.{IsBranch, IsOfGroup, to_come, visit_tree};
+ghost use Rattle.idl_prep.specs.State.{ended, onward};
+ghost use Rattle.idl_prep.specs.Tree.{Stray};
+
+use crate::groups::{Group, Groups};
+use crate::line::Directive;
+use crate::root::Root;
+use idl_macro::{Answer, Code, FileName, Item, Key};
+use idl_memo::Bank;
+use std::alloc::AllocError;
+
+/// Another branch would begin after the group's `else`: the lines of the last one go on.
+pub fn stray_inside<B: Bank<Key = Key, Answer = Answer>>(
+    root: &mut Root<B>,
+    groups: &mut Groups,
+    group: Group,
+    file: &FileName,
+    directive: &Directive<'_>,
+) -> Result<(), AllocError>
+    requires branch { IsBranch directive.now.kind }
+    requires has_else { group.has_else ≡ true }
+    ensures { OnOk result ((bank : Key → Option Answer) (enter : Enter) (lines : List spec.Line) →
+        to_come bank enter file.now groups.new lines root.new
+        ≡ to_come bank enter file.now (group ∷ groups.old) (Directed directive.now ∷ lines) root.old) }
+{
+    stray(root, group.is_active, file, directive)?;
+    groups.push(group)?;
+    Ok(())
+}
+
+/// A group would go on or end where none is open.
+pub fn stray_outside<B: Bank<Key = Key, Answer = Answer>>(
+    root: &mut Root<B>,
+    file: &FileName,
+    directive: &Directive<'_>,
+) -> Result<(), AllocError>
+    requires { IsOfGroup directive.now.kind }
+    ensures { OnOk result ((bank : Key → Option Answer) (enter : Enter) (lines : List spec.Line) →
+        to_come bank enter file.now [] lines root.new
+        ≡ to_come bank enter file.now [] (Directed directive.now ∷ lines) root.old) }
+{
+    stray(root, true, file, directive)?;
+    Ok(())
+}
+
+// A directive that is out of place, in lines that are walked or skipped.
+#[tactic(auto, unfolding(crate::specs::Walk::walk_tree, crate::specs::Walk::skip_tree))]
+fn stray<B: Bank<Key = Key, Answer = Answer>>(
+    root: &mut Root<B>,
+    is_active: bool,
+    file: &FileName,
+    directive: &Directive<'_>,
+) -> Result<(), AllocError>
+    ensures { OnOk result ((bank : Key → Option Answer) (enter : Enter) →
+        ended root.new ≡ onward bank (visit_tree enter file.now is_active (Stray directive.now)) root.old) }
+{
+    if is_active {
+        root.tell(Item::Turn(directive.place(file)?))?;
+    }
+    let place = directive.place(file)?;
+    root.fault(place, Code::OutOfPlace, &directive.word.spelling)?;
+    Ok(())
+}

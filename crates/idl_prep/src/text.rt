@@ -1,0 +1,31 @@
+//! Texts of faults.
+
+ghost use Rattle.std.specs.Prelude.{◌≡◌, IfOk};
+ghost use Rattle.idl_prep.specs.Directive.{parted};
+
+use idl_lex::{Spelling, Token};
+use std::alloc::{AllocError, Global};
+use std::rc::RcSlice;
+
+/// A text of these bytes.
+pub fn text_of(alloc: Global, bytes: &[u8]) -> Result<Spelling, AllocError>
+    ensures { IfOk result (λ text. text ≡ bytes.now) }
+{
+    let shared = RcSlice::from_slice(alloc, bytes)?;
+    Ok(Spelling::new(shared, 0, bytes.len()))
+}
+
+/// The text of the tokens, parted by one blank.
+pub fn parted(alloc: Global, tokens: &[Token]) -> Result<Spelling, AllocError>
+    ensures { IfOk result (λ text. text ≡ parted tokens.now) }
+{
+    let mut text = Vec::new(alloc);
+    'tokens: for token in tokens {
+        text.extend_from_slice(b" ")?;
+        text.extend_from_slice(token.spelling.as_bytes())?;
+    }
+    match text.as_slice() {
+        [_blank, rest @ ..] => Ok(text_of(alloc, rest)?),
+        [] => Ok(text_of(alloc, b"")?),
+    }
+}
