@@ -2,4 +2,5 @@ pub mod UnitLemmas
 pub mod TypedefLemmas
 pub mod VerdictLemmas
 pub mod RowLemmas
-pub mod FileLemmas
+pub mod MarkLemmas
+pub mod EventLemmas

@@ -6,9 +6,10 @@ use Rattle.std.specs.Str.{bytes_eq}
 use Rattle.std.proofs.lemmas.Bool.{or_from, and_left, le-ltb, ne_eqb, cond-false}
 use Rattle.idl_lex.specs.Keywords.{folded}
 use Rattle.idl_lex.specs.Kind.{name_of}
+use Rattle.idl_lex.specs.declared.kind.Kind.{Kind}
 use Rattle.idl_lex.specs.declared.token.Token.{Token}
 use Rattle.idl_small.specs.Typedef.{is_typedef, IsTree}
-use Rattle.idl_small.specs.Verdict.{faults_at, token_faults, tree_faults, name_faults, names_at, name_codes, lesser, least, fault_of}
+use Rattle.idl_small.specs.Verdict.{faults_at, token_codes, token_codes_after, token_faults, tree_faults, name_faults, names_at, name_codes, lesser, least, fault_of}
 use Rattle.idl_small.specs.declared.code.Code.{Code}
 use Rattle.idl_small.specs.declared.code.Code.TheVariants.{NoTree, AlreadyDeclared}
 use Rattle.idl_small.specs.declared.verdict.Fault.{Fault}
@@ -24,23 +25,37 @@ fold-codes f n (code ∷ codes) rest lt =
     ap (λ g. fold lesser g (map (λ (c : Code). record { token = n; code = c }) codes ++ rest)) (lesser-later f (record { token = n; code = code }) lt)
     ∙ fold-codes f n codes rest lt
 
-fold-faults_at : (codes_of : Token → List Code) (f : Fault) (n : ℕ) (ts : List Token) → f.token < n → fold lesser f (faults_at codes_of n ts) ≡ f
-fold-faults_at codes_of f n [] lt = refl
-fold-faults_at codes_of f n (t ∷ ts) lt =
-    fold-codes f n (codes_of t) (faults_at codes_of (n + 1) ts) lt ∙ fold-faults_at codes_of f (n + 1) ts (omega arith)
+fold-faults_at : (f : Fault) (n : ℕ) (codes : List (List Code)) → f.token < n → fold lesser f (faults_at n codes) ≡ f
+fold-faults_at f n [] lt = refl
+fold-faults_at f n (codes ∷ more) lt = fold-codes f n codes (faults_at (n + 1) more) lt ∙ fold-faults_at f (n + 1) more (omega arith)
 
 -- a token's one fault is less than those of later tokens
-pub least-faults_at : (codes_of : Token → List Code) (n : ℕ) (t : Token) (ts : List Token) (code : Code) → codes_of t ≡ code ∷ []
-    → least (faults_at codes_of n (t ∷ ts)) ≡ Some (record { token = n; code = code })
-least-faults_at codes_of n t ts code e =
-    ap (λ codes. least (map (λ (c : Code). record { token = n; code = c }) codes ++ faults_at codes_of (n + 1) ts)) e
-    ∙ ap Some (fold-faults_at codes_of (record { token = n; code = code }) (n + 1) ts (omega arith))
+least-faults_at : (n : ℕ) (codes : List Code) (more : List (List Code)) (code : Code) → codes ≡ code ∷ []
+    → least (faults_at n (codes ∷ more)) ≡ Some (record { token = n; code = code })
+least-faults_at n codes more code e =
+    ap (λ cs. least (map (λ (c : Code). record { token = n; code = c }) cs ++ faults_at (n + 1) more)) e
+    ∙ ap Some (fold-faults_at (record { token = n; code = code }) (n + 1) more (omega arith))
 
 -- a token without fault
-pub faults_at-none : (codes_of : Token → List Code) (n : ℕ) (t : Token) (ts : List Token) → codes_of t ≡ []
-    → faults_at codes_of n (t ∷ ts) ≡ faults_at codes_of (n + 1) ts
-faults_at-none codes_of n t ts e =
-    ap (λ codes. map (λ (c : Code). record { token = n; code = c }) codes ++ faults_at codes_of (n + 1) ts) e
+faults_at-none : (n : ℕ) (codes : List Code) (more : List (List Code)) → codes ≡ [] → faults_at n (codes ∷ more) ≡ faults_at (n + 1) more
+faults_at-none n codes more e = ap (λ cs. map (λ (c : Code). record { token = n; code = c }) cs ++ faults_at (n + 1) more) e
+
+-- the faults of the tokens from this one on, which stands after one of this kind
+abbrev pub token_faults_from : Option Kind → ℕ → List Token → List Fault
+token_faults_from before n tokens = faults_at n (token_codes_after before tokens)
+
+-- the first token that has a code
+pub least-token_faults : (before : Option Kind) (n : ℕ) (tokens : List Token) (t : Token) (ts : List Token) (code : Code) → tokens ≡ t ∷ ts
+    → token_codes before t.kind ≡ code ∷ [] → least (token_faults_from before n tokens) ≡ Some (record { token = n; code = code })
+least-token_faults before n tokens t ts code is e =
+    ap (λ us. least (token_faults_from before n us)) is
+    ∙ least-faults_at n (token_codes before t.kind) (token_codes_after (Some t.kind) ts) code e
+
+-- a token that has none
+pub token_faults-none : (before : Option Kind) (n : ℕ) (tokens : List Token) (t : Token) (ts : List Token) → tokens ≡ t ∷ ts
+    → token_codes before t.kind ≡ [] → token_faults_from before n tokens ≡ token_faults_from (Some t.kind) (n + 1) ts
+token_faults-none before n tokens t ts is e =
+    ap (token_faults_from before n) is ∙ faults_at-none n (token_codes before t.kind) (token_codes_after (Some t.kind) ts) e
 
 -- the first step decides
 pub fault_of-token : (declared : List (List ℕ)) (unit : List Token) (fault : Fault) → least (token_faults unit) ≡ Some fault → fault_of declared unit ≡ Some fault
@@ -65,13 +80,13 @@ abbrev codes_of_name : List (List ℕ) → Option (List ℕ) → List Code
 codes_of_name declared name = map (λ n. AlreadyDeclared) (filter (λ n. list_any (bytes_eq n) declared) (map folded (option_to_list name)))
 
 faults_at-nameless : (declared : List (List ℕ)) (n : ℕ) (ts rest : List Token) → AreNameless ts
-    → faults_at (name_codes declared) n (ts ++ rest) ≡ faults_at (name_codes declared) (n + length ts) rest
+    → faults_at n (map (name_codes declared) (ts ++ rest)) ≡ faults_at (n + length ts) (map (name_codes declared) rest)
 faults_at-nameless declared n [] rest none = rw add-zero refl
 faults_at-nameless declared n (t ∷ ts) rest none =
     let e : n + 1 + length ts ≡ n + length (t ∷ ts) = omega arith in
-    faults_at-none (name_codes declared) n t (ts ++ rest) (ap (codes_of_name declared) none.0)
+    faults_at-none n (name_codes declared t) (map (name_codes declared) (ts ++ rest)) (ap (codes_of_name declared) none.0)
     ∙ faults_at-nameless declared (n + 1) ts rest none.1
-    ∙ ap (λ m. faults_at (name_codes declared) m rest) e
+    ∙ ap (λ m. faults_at m (map (name_codes declared) rest)) e
 
 flat_map-nameless : (ts rest : List Token) → AreNameless ts → flat_map names_at (ts ++ rest) ≡ flat_map names_at rest
 flat_map-nameless [] rest none = refl
@@ -97,11 +112,11 @@ at_name true name n = refl
 at_name false name n = refl
 
 faults_at-declared : (declared : List (List ℕ)) (n : ℕ) (d end : Token) (name : List ℕ) → name_of d.kind d.spelling ≡ Some name → name_of end.kind end.spelling ≡ None
-    → faults_at (name_codes declared) n (d ∷ end ∷ []) ≡ name_fault (list_any (bytes_eq (folded name)) declared) n
+    → faults_at n (map (name_codes declared) (d ∷ end ∷ [])) ≡ name_fault (list_any (bytes_eq (folded name)) declared) n
 faults_at-declared declared n d end name some none =
-    ap (λ o. map (λ (c : Code). record { token = n; code = c }) (codes_of_name declared o) ++ faults_at (name_codes declared) (n + 1) (end ∷ [])) some
+    ap (λ o. map (λ (c : Code). record { token = n; code = c }) (codes_of_name declared o) ++ faults_at (n + 1) (map (name_codes declared) (end ∷ []))) some
     ∙ ap (λ fs. map (λ (c : Code). record { token = n; code = c }) (codes_of_name declared (Some name)) ++ fs)
-    (faults_at-none (name_codes declared) (n + 1) end [] (ap (codes_of_name declared) none))
+    (faults_at-none (n + 1) (name_codes declared end) [] (ap (codes_of_name declared) none))
     ∙ at_name (list_any (bytes_eq (folded name)) declared) (folded name) n
 
 name_faults-tree : (declared : List (List ℕ)) (words : List Token) (name : List ℕ) (unit : List Token) → IsTree words name unit
@@ -110,7 +125,7 @@ name_faults-tree declared words name unit t =
     let none = AreNameless-tree words name unit t in
     let e : 0 + length (t.first ∷ words) ≡ length unit - 2 =
     omega (arith, ap length t.tokens, length-append (t.first ∷ words) (t.declared ∷ t.end ∷ [])) in
-    ap (faults_at (name_codes declared) 0) t.tokens
+    ap (λ ts. faults_at 0 (map (name_codes declared) ts)) t.tokens
     ∙ faults_at-nameless declared 0 (t.first ∷ words) (t.declared ∷ t.end ∷ []) none.0
     ∙ faults_at-declared declared (0 + length (t.first ∷ words)) t.declared t.end name t.name_is none.1
     ∙ ap (name_fault (list_any (bytes_eq (folded name)) declared)) e

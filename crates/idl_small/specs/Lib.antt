@@ -3,5 +3,6 @@ pub mod Unit
 pub mod Typedef
 pub mod Verdict
 pub mod Judge
+pub mod Marks
 pub mod Row
-pub mod File
+pub mod Compile

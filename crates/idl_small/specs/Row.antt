@@ -1,27 +1,24 @@
 -- Rows of diagnostics and of dumps.
-use Rattle.std.specs.Prelude.{ℕ, List, [], ◌∷◌, ◌++◌, codes, decimal, map, slice_get, Option, None, Some, if◌then◌else◌}
+use Rattle.std.specs.Prelude.{ℕ, List, [], ◌∷◌, ◌++◌, codes, decimal, map, Option, None, Some, if◌then◌else◌}
 use Rattle.idl_lex.specs.Kind.{name_of, is_like_keyword}
 use Rattle.idl_lex.specs.declared.token.Token.{Token}
-use Rattle.idl_small.specs.Code.{text_of}
+use Rattle.idl_macro.specs.declared.item.Code.{Code as PreprocessorCode}
+use Rattle.idl_macro.specs.declared.place.Place.{Place}
+use Rattle.idl_small.specs.Code.{code_text, number_of, preprocessor_number}
 use Rattle.idl_small.specs.declared.code.Code.{Code}
-use Rattle.idl_small.specs.declared.code.Code.TheVariants.{FileNotFound}
-use Rattle.idl_small.specs.declared.verdict.Fault.{Fault}
 
--- `FILE:LINE: CODE TOKEN`
-abbrev pub diagnostic : List ℕ → ℕ → Code → List ℕ → List ℕ
-diagnostic file line code token = file ++ codes ":" ++ decimal line ++ codes ": " ++ text_of code ++ codes " " ++ token
+-- `FILE:LINE: CODE`
+abbrev pub place_row : List ℕ → ℕ → ℕ → List ℕ
+place_row file line number = file ++ codes ":" ++ decimal line ++ codes ": " ++ code_text number
 
-abbrev pub diagnostic_at : List ℕ → Code → Option Token → List ℕ
-diagnostic_at file code None = []
-diagnostic_at file code (Some token) = diagnostic file token.line code token.spelling
+-- the row of a unit's fault, which is decided at this token
+abbrev pub token_row : List ℕ → Token → Code → List ℕ
+token_row file token code = place_row file token.line (number_of code) ++ codes " " ++ token.spelling
 
--- the row of a unit's fault
-abbrev pub fault_row : List ℕ → List Token → Fault → List ℕ
-fault_row file unit fault = diagnostic_at file fault.code (slice_get unit fault.token)
-
--- the row of a file that isn't there
-abbrev pub absent_row : List ℕ → List ℕ
-absent_row file = diagnostic file 0 FileNotFound file
+-- the row of a fault of the preprocessor, with its text, if it has one
+abbrev pub fault_row : Place → PreprocessorCode → Option (List ℕ) → List ℕ
+fault_row place code None = place_row place.file place.line (preprocessor_number code)
+fault_row place code (Some text) = place_row place.file place.line (preprocessor_number code) ++ codes " " ++ text
 
 -- a name: with `_` before it where it is a keyword but for case
 abbrev pub written : List ℕ → List ℕ

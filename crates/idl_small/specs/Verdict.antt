@@ -1,19 +1,19 @@
 -- The faults of units, and the names that units without fault declare.
-use Rattle.std.specs.Prelude.{ℕ, ◌+◌, ◌&&◌, ◌||◌, List, [], ◌∷◌, ◌++◌, flat_map, filter, fold, map, nat_eq, nat_lt, Option, None, Some, if◌then◌else◌}
+use Rattle.std.specs.Prelude.{ℕ, ◌+◌, Bool, true, false, ◌&&◌, ◌||◌, List, [], ◌∷◌, ◌++◌, flat_map, filter, fold, map, nat_eq, nat_lt, Option, None, Some, if◌then◌else◌}
 use Rattle.std.specs.Str.{bytes_eq}
 use Rattle.std.specs.List.{list_any}
 use Rattle.std.specs.Option.{option_or, option_to_list}
 use Rattle.idl_lex.specs.Keywords.{folded}
 use Rattle.idl_lex.specs.Kind.{name_of}
 use Rattle.idl_lex.specs.declared.kind.Kind.{Kind}
-use Rattle.idl_lex.specs.declared.kind.Kind.TheVariants.{Refused, Miscased, Preprocessing, Bad}
+use Rattle.idl_lex.specs.declared.kind.Kind.TheVariants.{Refused, Miscased, String, WideString, Preprocessing, Bad}
 use Rattle.idl_lex.specs.declared.kind.Defect.{Defect}
 use Rattle.idl_lex.specs.declared.kind.Defect.TheVariants as defect
 use Rattle.idl_lex.specs.declared.token.Token.{Token}
 use Rattle.idl_small.specs.Code.{number_of}
 use Rattle.idl_small.specs.Typedef.{is_typedef}
 use Rattle.idl_small.specs.declared.code.Code.{Code}
-use Rattle.idl_small.specs.declared.code.Code.TheVariants.{BadToken, UnclosedLiteral, NotOneCharacter, BadEscape, MalformedInteger, FloatingLiteral, IntegerTooLarge, UnclosedComment, NoTree, LeftOut, AlreadyDeclared, LikeKeyword}
+use Rattle.idl_small.specs.declared.code.Code.TheVariants.{BadToken, UnclosedLiteral, NotOneCharacter, BadEscape, MalformedInteger, FloatingLiteral, IntegerTooLarge, MixedWidths, UnclosedComment, NoTree, LeftOut, AlreadyDeclared, LikeKeyword}
 use Rattle.idl_small.specs.declared.verdict.Fault.{Fault}
 
 -- the code of a bad token
@@ -28,22 +28,39 @@ defect_code defect.FloatingLiteral = FloatingLiteral
 defect_code defect.IntegerTooLarge = IntegerTooLarge
 defect_code defect.UnclosedComment = UnclosedComment
 
--- the codes of a token, wherever it stands; a mark that the preprocessor alone knows is none of IDL
-abbrev pub token_codes : Kind → List Code
-token_codes (Bad why) = defect_code why ∷ []
-token_codes (Preprocessing mark) = BadToken ∷ []
-token_codes Refused = LeftOut ∷ []
-token_codes Miscased = LikeKeyword ∷ []
-token_codes other = []
+-- a string literal, narrow or wide
+abbrev pub is_narrow : Option Kind → Bool
+is_narrow (Some String) = true
+is_narrow other = false
 
--- the faults that tokens have by these codes; the first token has this number
-abbrev pub faults_at : (Token → List Code) → ℕ → List Token → List Fault
-faults_at codes_of n [] = []
-faults_at codes_of n (t ∷ ts) = map (λ code. record { token = n; code = code }) (codes_of t) ++ faults_at codes_of (n + 1) ts
+abbrev pub is_wide : Option Kind → Bool
+is_wide (Some WideString) = true
+is_wide other = false
 
--- the first step: tokens that may not stand in a unit
+-- the codes of a token after one of this kind, if there is one before it: string literals side by side have one width, and a mark that the
+-- preprocessor alone knows is none of IDL
+abbrev pub token_codes : Option Kind → Kind → List Code
+token_codes before (Bad why) = defect_code why ∷ []
+token_codes before (Preprocessing mark) = BadToken ∷ []
+token_codes before Refused = LeftOut ∷ []
+token_codes before Miscased = LikeKeyword ∷ []
+token_codes before String = if is_wide before then MixedWidths ∷ [] else []
+token_codes before WideString = if is_narrow before then MixedWidths ∷ [] else []
+token_codes before other = []
+
+-- the codes of each of these tokens, the first of which stands after one of this kind
+abbrev pub token_codes_after : Option Kind → List Token → List (List Code)
+token_codes_after before [] = []
+token_codes_after before (t ∷ ts) = token_codes before t.kind ∷ token_codes_after (Some t.kind) ts
+
+-- the faults that tokens have by the codes of each; the first token has this number
+abbrev pub faults_at : ℕ → List (List Code) → List Fault
+faults_at n [] = []
+faults_at n (codes ∷ more) = map (λ code. record { token = n; code = code }) codes ++ faults_at (n + 1) more
+
+-- the first step: tokens that may not stand in a unit, or not there
 abbrev pub token_faults : List Token → List Fault
-token_faults unit = faults_at (λ t. token_codes t.kind) 0 unit
+token_faults unit = faults_at 0 (token_codes_after None unit)
 
 -- the second step: no tree has this spelling
 abbrev pub tree_faults : List Token → List Fault
@@ -59,7 +76,7 @@ name_codes declared t = map (λ name. AlreadyDeclared) (filter (λ name. list_an
 
 -- the third step: names that are declared before
 abbrev pub name_faults : List (List ℕ) → List Token → List Fault
-name_faults declared unit = faults_at (name_codes declared) 0 unit
+name_faults declared unit = faults_at 0 (map (name_codes declared) unit)
 
 -- the lesser of two faults: by the token, and at one token by the code
 abbrev pub lesser : Fault → Fault → Fault

@@ -1,10 +1,13 @@
-//! The small language, of typedefs of basic types in one scope: units of tokens, their faults, and the rows of a file.
+//! The small language, of typedefs of basic types in one scope: units of tokens, their faults, and the rows of a root.
 //!
-//! A file's units are judged in order. Nothing here knows where a file comes from, nor what became of other files.
+//! What is compiled is what a root expands to: the tokens of its text, from whatever files, and the faults of the preprocessor among them.
+//! Units are judged in order. Nothing here knows how the events came about, nor what became of other roots.
 #![tactic(auto)]
 
 mod code;
-mod compile;
+mod compiled;
+mod events;
+mod marks;
 mod name_table;
 mod row;
 mod tree;
@@ -12,7 +15,7 @@ mod unit;
 mod verdict;
 
 pub use code::Code;
-pub use compile::{Compiled, compile_absent, compile_file};
+pub use compiled::{Compiled, compile};
 pub use name_table::NameTable;
 pub use tree::{Typedef, parse};
 pub use unit::split;

@@ -1,58 +1,64 @@
 //! Rows of diagnostics and of dumps.
 
-ghost use Rattle.std.specs.Prelude.{◌≡◌, ◌<◌, ◌++◌, length, IfOk, OnOk};
+ghost use Rattle.std.specs.Prelude.{◌≡◌, ◌≤◌, ◌++◌, IfOk, OnOk};
 ghost use Rattle.idl_lex.specs.Keywords.{folded};
-ghost use Rattle.idl_small.specs.Row.{diagnostic, fault_row, absent_row, dump_row, written};
+ghost use Rattle.idl_small.specs.Row.{place_row, token_row, fault_row, dump_row, written};
 ghost use Rattle.idl_small.specs.Typedef.{IsTree};
 
-use crate::code::Code;
+use crate::code::{Code, code_text, preprocessor_number};
 use crate::tree::Typedef;
-use crate::verdict::Fault;
 use idl_base::Text;
-use idl_lex::{Token, is_like_keyword};
+use idl_lex::{Spelling, Token, is_like_keyword};
+use idl_macro::Place;
 use idl_source::Name;
 use itoa::Buffer;
 use std::alloc::{AllocError, Global};
 
-/// The row of a unit's fault.
+/// The row of a unit's fault, which is decided at this token of the file.
+pub fn token_row(alloc: Global, file: &Name, token: &Token, code: Code) -> Result<Text, AllocError>
+    ensures { IfOk result (λ row. row ≡ token_row file.now token.now code) }
+{
+    let mut row = place_row(alloc, file, token.line, code.number())?;
+    row.extend_from_slice(b" ")?;
+    row.extend_from_slice(token.spelling.as_bytes())?;
+    Ok(Text::from_vec(row))
+}
+
+/// The row of a fault of the preprocessor, with its text, if it has one.
 pub fn fault_row(
     alloc: Global,
-    file: &Name,
-    unit: &[Token],
-    fault: Fault,
+    place: &Place,
+    code: idl_macro::Code,
+    text: &Option<Spelling>,
 ) -> Result<Text, AllocError>
-    requires { fault.token < length unit.now }
-    ensures { IfOk result (λ row. row ≡ fault_row file.now unit.now fault) }
+    ensures { IfOk result (λ row. row ≡ fault_row place.now code text.now) }
 {
-    let at = &unit[fault.token];
-    diagnostic(alloc, file, at.line, fault.code, at.spelling.as_bytes())
+    let mut row = place_row(
+        alloc,
+        place.file.name(),
+        place.line,
+        preprocessor_number(code),
+    )?;
+    let Some(text) = text else {
+        return Ok(Text::from_vec(row));
+    };
+    row.extend_from_slice(b" ")?;
+    row.extend_from_slice(text.as_bytes())?;
+    Ok(Text::from_vec(row))
 }
 
-/// The row of a file that isn't there.
-pub fn absent_row(alloc: Global, file: &Name) -> Result<Text, AllocError>
-    ensures { IfOk result (λ row. row ≡ absent_row file.now) }
-{
-    diagnostic(alloc, file, 0, Code::FileNotFound, file.as_bytes())
-}
-
-fn diagnostic(
-    alloc: Global,
-    file: &Name,
-    line: usize,
-    code: Code,
-    token: &[u8],
-) -> Result<Text, AllocError>
-    ensures { IfOk result (λ row. row ≡ diagnostic file.now line code token.now) }
+// `FILE:LINE: CODE`
+fn place_row(alloc: Global, file: &Name, line: usize, number: u8) -> Result<Vec<u8>, AllocError>
+    requires { number ≤ 99 }
+    ensures { IfOk result (λ row. row.items ≡ place_row file.now line number) }
 {
     let mut buffer = Buffer::new();
     let mut row = Vec::from_slice(alloc, file.as_bytes())?;
     row.extend_from_slice(b":")?;
     row.extend_from_slice(buffer.format(line).as_bytes())?;
     row.extend_from_slice(b": ")?;
-    row.extend_from_slice(&code.text())?;
-    row.extend_from_slice(b" ")?;
-    row.extend_from_slice(token)?;
-    Ok(Text::from_vec(row))
+    row.extend_from_slice(&code_text(number))?;
+    Ok(row)
 }
 
 /// The row of a typedef in a dump, whose words are those of its unit, which ends in a name and `;`.

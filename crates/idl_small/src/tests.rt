@@ -1,17 +1,52 @@
-//! What no clause says: the rows of whole files, as they are printed.
+//! What no clause says: the rows of roots, as they are printed.
 
-use crate::{compile_absent, compile_file};
+use crate::compile;
 use idl_base::{Seq, Text};
+use idl_lex::{Spelling, lex};
+use idl_macro::{Code, Event, FileName, Place, TokenList};
 use idl_source::{File, Line, Name};
 use std::alloc::{AllocError, Global};
+use std::rc::RcSlice;
 use std::test::Fail;
 
-fn file_of(alloc: Global, lines: &[&str]) -> Result<File, Fail> {
+fn file_name(alloc: Global, name: &str) -> Result<FileName, Fail> {
+    let name = Name::new(name.as_bytes()).ok_or("no name")?;
+    Ok(FileName::new(alloc, name)?)
+}
+
+// The tokens of these lines of a file, which stand after so many others.
+fn emit(
+    alloc: Global,
+    events: &mut Vec<Event>,
+    name: &str,
+    before: usize,
+    lines: &[&str],
+) -> Result<(), Fail> {
     let mut file = Vec::new(alloc);
     for line in lines {
         file.push(Line::new(alloc, line.as_bytes())?.ok_or("a newline")?)?;
     }
-    Ok(File::new(alloc, file)?)
+    let lexed = lex(alloc, &File::new(alloc, file)?, None)?;
+    for token in lexed.tokens() {
+        let mut token = token.clone()?;
+        token.line = token.line.saturating_add(before);
+        events.push(Event::Emitted(file_name(alloc, name)?, token))?;
+    }
+    Ok(())
+}
+
+// A fault of the preprocessor, without text where that is empty.
+fn fault(alloc: Global, name: &str, line: usize, code: Code, text: &str) -> Result<Event, Fail> {
+    let place = Place {
+        file: file_name(alloc, name)?,
+        line,
+    };
+    if text.is_empty() {
+        return Ok(Event::Fault(place, code, None));
+    }
+    let bytes = RcSlice::from_slice(alloc, text.as_bytes())?;
+    let spelling = Spelling::new(bytes, 0, text.len());
+    Ok(Event::Fault(place, code, Some(spelling)))
 }
 
 // The rows, with a `|` after each.
@@ -27,7 +62,6 @@ fn printed(alloc: Global, rows: &Seq<Text>) -> Result<Vec<u8>, AllocError> {
 #[test]
 fn a_file_gives_these_rows(rt: HostRuntime) -> Result<(), Fail> {
     let alloc = rt.alloc();
-    let name = Name::new(b"a.idl").ok_or("no name")?;
     for (first, second, diagnostics, dump) in [
         ("", "", "", ""),
         (
@@ -68,6 +102,19 @@ fn a_file_gives_these_rows(rt: HostRuntime) -> Result<(), Fail> {
             "a.idl:1: E07 18446744073709551616|",
             "",
         ),
+        (
+            "typedef long \"a\" \"b\"",
+            "L\"c\" 'ab';",
+            "a.idl:2: E08 L\"c\"|",
+            "",
+        ),
+        (
+            "\"a\"; L\"b\" /* c */",
+            "\"d\";",
+            "a.idl:1: E20 \"a\"|a.idl:2: E08 \"d\"|",
+            "",
+        ),
+        ("\"a\" L\"\\q\";", "", "a.idl:1: E04 L\"\\q\"|", ""),
         ("typedef long x; /*", ";", "a.idl:1: E09 /*|", ""),
         ("typedef long 1;", "", "a.idl:1: E20 typedef|", ""),
         ("typedef long 1 $ 'ab';", "", "a.idl:1: E01 $|", ""),
@@ -93,8 +140,9 @@ fn a_file_gives_these_rows(rt: HostRuntime) -> Result<(), Fail> {
             "",
         ),
     ] {
-        let file = file_of(alloc, &[first, second])?;
-        let compiled = compile_file(alloc, &name, &file)?;
+        let mut events = Vec::new(alloc);
+        emit(alloc, &mut events, "a.idl", 0, &[first, second])?;
+        let compiled = compile(alloc, &events)?;
         let got = printed(alloc, &compiled.diagnostics)?;
         assert_eq!(rt; got.as_slice(), diagnostics.as_bytes(), "{first} {second}");
         let got = printed(alloc, &compiled.dump)?;
@@ -104,12 +152,33 @@ fn a_file_gives_these_rows(rt: HostRuntime) -> Result<(), Fail> {
 }
 
 #[test]
-fn an_absent_file_has_one_diagnostic(rt: HostRuntime) -> Result<(), Fail> {
+fn events_give_these_rows(rt: HostRuntime) -> Result<(), Fail> {
     let alloc = rt.alloc();
-    let name = Name::new(b"../b.idl").ok_or("no name")?;
-    let compiled = compile_absent(alloc, &name)?;
+    let mut events = Vec::new(alloc);
+    emit(alloc, &mut events, "a.idl", 0, &["typedef long"])?;
+    events.push(Event::Entered(file_name(alloc, "b.idl")?))?;
+    emit(alloc, &mut events, "b.idl", 6, &["_any"])?;
+    let tokens = TokenList::new(alloc, &[])?;
+    events.push(Event::Pragma(file_name(alloc, "b.idl")?, tokens))?;
+    events.push(Event::Left(file_name(alloc, "b.idl")?))?;
+    emit(alloc, &mut events, "a.idl", 2, &[";"])?;
+    let compiled = compile(alloc, &events)?;
     let got = printed(alloc, &compiled.diagnostics)?;
-    assert_eq!(rt; got.as_slice(), b"../b.idl:0: E10 ../b.idl|".as_slice());
-    assert_eq!(rt; compiled.dump.len(), 0);
+    assert_eq!(rt; got.as_slice(), b"".as_slice());
+    let got = printed(alloc, &compiled.dump)?;
+    assert_eq!(rt; got.as_slice(), b"typedef long _any;|".as_slice());
+
+    // A unit with a fault of the preprocessor before its first token, one before the token at which its own is decided, and one after it.
+    events.push(fault(alloc, "a.idl", 4, Code::BadCondition, "if")?)?;
+    emit(alloc, &mut events, "a.idl", 4, &["typedef long"])?;
+    events.push(fault(alloc, "c.idl", 0, Code::NotFound, "c.idl")?)?;
+    emit(alloc, &mut events, "b.idl", 5, &["ANY"])?;
+    events.push(fault(alloc, "a.idl", 7, Code::PastLimit, "")?)?;
+    let compiled = compile(alloc, &events)?;
+    let got = printed(alloc, &compiled.diagnostics)?;
+    let want = "a.idl:4: E18 if|c.idl:0: E10 c.idl|b.idl:6: E36 ANY|a.idl:7: E19|";
+    assert_eq!(rt; got.as_slice(), want.as_bytes());
+    let got = printed(alloc, &compiled.dump)?;
+    assert_eq!(rt; got.as_slice(), b"".as_slice());
     Ok(())
 }

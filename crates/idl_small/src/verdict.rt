@@ -4,7 +4,7 @@ ghost use Rattle.std.specs.Prelude.{◌≡◌, ◌<◌, ◌∷◌, [], ⊤, flat
 ghost use Rattle.std.specs.Option.{option_to_list};
 ghost use Rattle.idl_small.specs.Judge.{MatchVerdict};
 ghost use Rattle.idl_small.specs.Row.{dump_row};
-ghost use Rattle.idl_small.specs.Verdict.{fault_of, least, names_at, defect_code, token_codes, token_faults};
+ghost use Rattle.idl_small.specs.Verdict.{fault_of, least, names_at, defect_code, is_narrow, is_wide, token_codes, token_faults};
 
 use crate::code::Code;
 use crate::name_table::NameTable;
@@ -57,29 +57,53 @@ pub fn judge(alloc: Global, table: &NameTable, unit: &[Token]) -> Result<Verdict
     Ok(Verdict::Declares(name, dump_row(alloc, unit, &tree)?))
 }
 
-// The first token that may not stand in a unit.
+// The first token that may not stand in a unit, or not there.
 fn first_step(unit: &[Token]) -> Option<Fault>
     ensures least { result ≡ least (token_faults unit.now) }
     ensures within { IfSome result (λ fault. fault.token < length unit.now) }
 {
+    let mut before = None;
     for (token, t) in unit.iter().enumerate() {
-        if let Some(code) = token_code(t.kind) {
+        if let Some(code) = token_code(before, t.kind) {
             return Some(Fault { token, code });
         }
+        before = Some(t.kind);
     }
     None
 }
 
-// What is wrong with a token of this kind, wherever it stands.
-fn token_code(kind: Kind) -> Option<Code>
-    ensures { option_to_list result ≡ token_codes kind }
+// What is wrong with a token of this kind after one of that kind, if there is one before it.
+fn token_code(before: Option<Kind>, kind: Kind) -> Option<Code>
+    ensures { option_to_list result ≡ token_codes before kind }
 {
     match kind {
         Kind::Bad(defect) => Some(defect_code(defect)),
         Kind::Preprocessing(_) => Some(Code::BadToken),
         Kind::Refused => Some(Code::LeftOut),
         Kind::Miscased => Some(Code::LikeKeyword),
+        Kind::String if is_wide(before) => Some(Code::MixedWidths),
+        Kind::WideString if is_narrow(before) => Some(Code::MixedWidths),
         _ => None,
+    }
+}
+
+// Whether it is a string literal, and not a wide one.
+fn is_narrow(kind: Option<Kind>) -> bool
+    ensures { result ≡ is_narrow kind }
+{
+    match kind {
+        Some(Kind::String) => true,
+        _ => false,
+    }
+}
+
+// Whether it is a wide string literal.
+fn is_wide(kind: Option<Kind>) -> bool
+    ensures { result ≡ is_wide kind }
+{
+    match kind {
+        Some(Kind::WideString) => true,
+        _ => false,
     }
 }
 
