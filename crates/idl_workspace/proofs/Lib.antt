@@ -1,1 +1,3 @@
+pub mod BankLemmas
+pub mod FileLemmas
 pub mod RootLemmas

@@ -1,15 +1,17 @@
 -- What compiling a root from scratch gives.
-use Rattle.std.specs.Prelude.{ℕ, List, [], Option, None, Some}
-use Rattle.std.specs.FinMap.{get}
-use Rattle.idl_source.specs.Texts.{Texts}
-use Rattle.idl_small.specs.File.{file_diagnostics, file_dump, absent_diagnostics}
-use Rattle.idl_small.specs.declared.compile.Compiled.{Compiled}
+use Rattle.std.specs.Prelude.{ℕ, List, Option}
+use Rattle.idl_macro.specs.declared.key.Answer.{Answer}
+use Rattle.idl_macro.specs.declared.key.Key.{Key}
+use Rattle.idl_prep.specs.Root.{expanded, absent_files}
+use Rattle.idl_small.specs.Compile as small
+use Rattle.idl_workspace.specs.Bank.{bank_of}
+use Rattle.idl_workspace.specs.Project.{Inputs}
+use Rattle.idl_workspace.specs.declared.compile.CompiledRoot.{CompiledRoot}
 
--- by what its file is: the rows of the lines, or the one row of a file that isn't there
-abbrev pub compile_lines : List ℕ → Option (List (List ℕ)) → Compiled
-compile_lines root None = record { diagnostics = absent_diagnostics root; dump = [] }
-compile_lines root (Some lines) = record { diagnostics = file_diagnostics root lines; dump = file_dump lines }
+-- the rows of a root over these answers, and the files that it asks for and that aren't there
+unfoldable pub compile_over : (Key → Option Answer) → List ℕ → CompiledRoot
+compile_over bank root = let e = expanded root bank in record { rows = small.compile e.0; absent = absent_files e.1 }
 
--- the diagnostics and the dump of a root over these files
-abbrev pub compile : Texts → List ℕ → Compiled
-compile files root = compile_lines root (get files root)
+-- the same over these inputs
+abbrev pub compile : Inputs → List ℕ → CompiledRoot
+compile inputs root = compile_over (bank_of inputs) root

@@ -1,15 +1,16 @@
--- The claim: what a session answers is what compiling the present files from scratch gives.
+-- The claim: what a session answers is what compiling the present project from scratch gives.
 use Rattle.std.specs.Prelude.{◌≡◌, ℕ, List, All, IsTrue, Option, None, Some, refl, if◌then◌else◌}
 use Rattle.std.specs.Coded.{Coded, code_by, coded×, coded_ℕ}
 use Rattle.std.specs.List.{IsDistinct}
 use Rattle.std.specs.Map.{keys_of}
 use Rattle.std.specs.Option.{option_map}
 use Rattle.std.specs.Str.{bytes_eq}
+use Rattle.idl_macro.specs.declared.key.Answer.{Answer}
+use Rattle.idl_macro.specs.declared.key.Key.{Key}
 use Rattle.idl_source.specs.Name.{is_name}
-use Rattle.idl_source.specs.Texts.{Texts}
-use Rattle.idl_small.specs.declared.compile.Compiled.{Compiled}
-use Rattle.idl_workspace.specs.Compile.{compile}
+use Rattle.idl_workspace.specs.Compile.{compile, compile_over}
 use Rattle.idl_workspace.specs.Project.{Project, project_code, is_root}
+use Rattle.idl_workspace.specs.declared.compile.CompiledRoot.{CompiledRoot}
 use Rattle.idl_workspace.specs.declared.work.Work.{Work}
 
 -- what contracts see of a session: the project, and the work of the last accepted edit
@@ -18,26 +19,30 @@ pub record State : Type 0 where
   pub work : Work
 
 -- what a root compiles to from scratch; another name compiles to nothing
-abbrev pub compiled_of : Project → List ℕ → Option Compiled
-compiled_of project name = if is_root project name then Some (compile project.files name) else None
+abbrev pub compiled_of : Project → List ℕ → Option CompiledRoot
+compiled_of project name = if is_root project name then Some (compile project.inputs name) else None
 
 -- the diagnostics that are answered for a name
 abbrev pub diagnostics_of : Project → List ℕ → Option (List (List ℕ))
-diagnostics_of project name = option_map (λ compiled. compiled.diagnostics) (compiled_of project name)
+diagnostics_of project name = option_map (λ root. root.rows.diagnostics) (compiled_of project name)
 
 -- the dump that is answered for a name
 abbrev pub dump_of : Project → List ℕ → Option (List (List ℕ))
-dump_of project name = option_map (λ compiled. compiled.dump) (compiled_of project name)
+dump_of project name = option_map (λ root. root.rows.dump) (compiled_of project name)
 
--- the rows held for each root are those of compiling it from scratch
-abbrev pub HoldsRows : Texts → List (List ℕ × Compiled) → Type 0
-HoldsRows files held = All (λ root. root.1 ≡ compile files root.0) held
+-- the absent files that are answered for a name
+abbrev pub absent_of : Project → List ℕ → Option (List (List ℕ))
+absent_of project name = option_map (λ root. root.absent) (compiled_of project name)
 
--- what is held of the roots: distinct names, each with its rows
-pub record IsUpToDate (files : Texts) (held : List (List ℕ × Compiled)) : Type 0 where
+-- what is held for each root is what compiling it over these answers gives
+abbrev pub HoldsRows : (Key → Option Answer) → List (List ℕ × CompiledRoot) → Type 0
+HoldsRows bank held = All (λ root. root.1 ≡ compile_over bank root.0) held
+
+-- what is held of the roots: distinct names, each with what it compiles to
+pub record IsUpToDate (bank : Key → Option Answer) (held : List (List ℕ × CompiledRoot)) : Type 0 where
   pub names : All (λ name. IsTrue (is_name name)) (keys_of held)
   pub distinct : IsDistinct bytes_eq (keys_of held)
-  pub rows : HoldsRows files held
+  pub rows : HoldsRows bank held
 
 -- a state is stored as the tuple of its parts
 abbrev pub state_code : Coded State

@@ -1,18 +1,39 @@
 //! The compilation of a root.
 
 ghost use Rattle.std.specs.Prelude.{◌≡◌, IfOk};
-ghost use Rattle.idl_workspace.specs.Compile.{compile};
+ghost use Rattle.idl_workspace.specs.Compile.{compile_over};
 
-use idl_small::{Compiled, compile_absent, compile_file};
-use idl_source::{Files, Name};
+use idl_base::Seq;
+use idl_macro::{Answer, Key};
+use idl_memo::{Bank, Log, Task};
+use idl_prep::{RootTask, absent};
+use idl_small::Compiled;
+use idl_source::Name;
 use std::alloc::{AllocError, Global};
 
-/// Compiles a root from scratch over these files, of which its own may be absent.
-pub fn compile(alloc: Global, files: &Files, root: &Name) -> Result<Compiled, AllocError>
-    ensures { IfOk result (λ compiled. compiled ≡ compile files.now root.now) }
+/// What a root compiles to: its rows, and the files that it asks for and that aren't there, in the order first asked.
+#[derive(Drop)]
+pub struct CompiledRoot {
+    pub rows: Compiled,
+    pub absent: Seq<Name>,
+}
+
+/// Compiles a root from scratch over a bank, in which its own file may be absent.
+#[tactic(auto, unfolding(crate::specs::Compile::compile_over))]
+pub fn compile<B: Bank<Key = Key, Answer = Answer>>(
+    alloc: Global,
+    bank: &B,
+    root: &Name,
+) -> Result<CompiledRoot, AllocError>
+    ensures { IfOk result (λ compiled. compiled ≡ compile_over (B.at bank.now) root.now) }
 {
-    match files.get(root.as_bytes()) {
-        Some(file) => Ok(compile_file(alloc, root, file)?),
-        None => Ok(compile_absent(alloc, root)?),
-    }
+    let mut log = Log::new(alloc);
+    let task = RootTask::new(root.copied());
+    let expansion = task.run(alloc, bank, &mut log)?;
+    let rows = idl_small::compile(alloc, expansion.events())?;
+    let names = absent(alloc, &log)?;
+    Ok(CompiledRoot {
+        rows,
+        absent: Seq::from_vec(names),
+    })
 }

@@ -1,16 +1,30 @@
-//! A session: a project of files and roots, and the rows that each root compiles to, kept up to date through edits.
+//! A session: a project of files, macros, directories and roots, and the rows that each root compiles to, kept up to date
+//! through edits.
 //!
-//! Names and lines come from a caller, and rows are lent to one. Nothing here knows of commands, replies or devices.
+//! Names, words and lines come from a caller, and rows are lent to one. Nothing here knows of commands, replies or devices.
 #![tactic(auto)]
 
+mod bank;
 mod compile;
+mod directories;
+mod macro_body;
 mod root_table;
 mod session;
+mod word;
 mod work;
 
 use idl_base::Text;
 pub use session::Session;
 pub use work::Work;
+
+/// Macros that a session has at most.
+pub const MAX_MACROS: usize = 4096;
+
+/// Bytes that the body of a session's macro has at most.
+pub const MAX_BODY: usize = 4096;
+
+/// Directories in which included files are searched, at most.
+pub const MAX_DIRECTORIES: usize = 256;
 
 /// Roots that a project has at most.
 pub const MAX_ROOTS: usize = 256;

@@ -1,33 +1,34 @@
-//! Roots by name, each with the rows that it compiles to.
+//! Roots by name, each with what it compiles to.
 
 ghost use Rattle.std.specs.Prelude.{◌≡◌, ◌∷◌, ◌++◌, [], false, IfOk, OnOk, OnErr, length, nat_le};
 ghost use Rattle.std.specs.Option.{option_copied};
-ghost use Rattle.std.specs.List.{list_any};
-ghost use Rattle.std.specs.Map.{lookup, keys_of};
+ghost use Rattle.std.specs.List.{IsDistinct, list_any};
+ghost use Rattle.std.specs.Map.{lookup, keys_of, remove_entry};
 ghost use Rattle.std.specs.Str.{bytes_eq};
 ghost use Rattle.idl_workspace.specs.UpToDate.{HoldsRows};
 
 use crate::MAX_ROOTS;
-use crate::compile::compile;
-use idl_small::Compiled;
-use idl_source::{Files, Name};
+use crate::compile::{CompiledRoot, compile};
+use idl_macro::{Answer, Key};
+use idl_memo::Bank;
+use idl_source::Name;
 use indexmap::IndexMap;
 use std::alloc::{AllocError, Global};
 use std::marker::Model;
 
-/// Roots, each once, with the rows that it compiles to, in the order in which they were added.
+/// Roots, each once, with what it compiles to, in the order in which they were added.
 ///
 /// A look-up takes the same time whatever their number.
 #[derive(Drop)]
 pub struct RootTable {
-    roots: IndexMap<Name, Compiled>,
+    roots: IndexMap<Name, CompiledRoot>,
 }
 
 impl Model for RootTable {
     ghost use Rattle.std.specs.Prelude.{List, ℕ};
-    ghost use Rattle.idl_small.specs.declared.compile.Compiled.{Compiled};
+    ghost use Rattle.idl_workspace.specs.declared.compile.CompiledRoot.{CompiledRoot};
 
-    ghost Value = { List (List ℕ × Compiled) };
+    ghost Value = { List (List ℕ × CompiledRoot) };
 
     ghost view = { λ table. table.roots.entries };
 }
@@ -57,14 +58,14 @@ impl RootTable {
     }
 
     /// What the root of this name compiles to.
-    pub fn get(&self, root: &Name) -> Option<&Compiled>
+    pub fn get(&self, root: &Name) -> Option<&CompiledRoot>
         ensures { option_copied result ≡ lookup (bytes_eq root.now) self.now }
     {
         self.roots.get(root)
     }
 
     /// Adds a root that isn't there, at the end.
-    pub fn add(&mut self, root: Name, compiled: Compiled) -> Result<(), AllocError>
+    pub fn add(&mut self, root: Name, compiled: CompiledRoot) -> Result<(), AllocError>
         // Who adds a root has asked for it.
         requires { list_any (bytes_eq root) (keys_of self.old) ≡ false }
         ensures ok { OnOk result (self.new ≡ self.old ++ (root, compiled) ∷ []) }
@@ -74,14 +75,26 @@ impl RootTable {
         Ok(())
     }
 
-    /// The same roots, each compiled anew over these files.
-    pub fn compiled_over(&self, alloc: Global, files: &Files) -> Result<RootTable, AllocError>
+    /// Drops the root of this name, if there is one. The others stay in their order.
+    pub fn remove(&mut self, root: &Name)
+        ensures left { self.new ≡ remove_entry (bytes_eq root.now) self.old }
+        ensures distinct { IsDistinct bytes_eq (keys_of self.new) }
+    {
+        self.roots.shift_remove(root);
+    }
+
+    /// The same roots, each compiled anew over this bank.
+    pub fn compiled_over<B: Bank<Key = Key, Answer = Answer>>(
+        &self,
+        alloc: Global,
+        bank: &B,
+    ) -> Result<RootTable, AllocError>
         ensures roots { IfOk result (λ table. keys_of table ≡ keys_of self.now) }
-        ensures rows { IfOk result (λ table. HoldsRows files.now table) }
+        ensures rows { IfOk result (λ table. HoldsRows (B.at bank.now) table) }
     {
         let mut table = RootTable::new(alloc);
         for root in self.roots.keys() {
-            table.add(root.copied(), compile(alloc, files, root)?)?;
+            table.add(root.copied(), compile(alloc, bank, root)?)?;
         }
         Ok(table)
     }

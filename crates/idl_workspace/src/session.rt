@@ -1,55 +1,63 @@
 //! The session: its edits, and its queries.
 
-ghost use Rattle.std.specs.Prelude.{◌≡◌, ◌≢◌, Ok, Err, IfOk, IfErr, OnErr};
+ghost use Rattle.std.specs.Prelude.{◌≡◌, ◌≢◌, ℕ, List, true, Ok, Err, IfOk, IfErr, OnErr, IsTrue, map};
+ghost use Rattle.std.specs.Map.{keys_of};
 ghost use Rattle.std.specs.Option.{option_copied};
+ghost use Rattle.idl_source.specs.Name.{is_name};
+ghost use Rattle.idl_workspace.specs.Bank.{IsSameBeside, bank_of, changed};
 ghost use Rattle.idl_workspace.specs.Project.{no_project};
 ghost use Rattle.idl_workspace.specs.Work.{no_work};
-ghost use Rattle.idl_workspace.specs.Edits.{after_put, after_add_root};
-ghost use Rattle.idl_workspace.specs.UpToDate.{compiled_of, diagnostics_of, dump_of};
+ghost use Rattle.idl_workspace.specs.Edits.{are_too_long, after_put, after_splice, after_remove, after_define, after_undef, after_search, after_add_root, after_drop_root};
+ghost use Rattle.idl_workspace.specs.UpToDate.{HoldsRows, compiled_of, diagnostics_of, dump_of, absent_of};
 
-use crate::Row;
-use crate::compile::compile;
+use crate::bank::{EditedBank, SessionBank, file_answer};
+use crate::compile::{CompiledRoot, compile};
+use crate::directories::directories;
+use crate::macro_body::MacroBody;
 use crate::root_table::RootTable;
+use crate::word::{is_macro_word, spelled};
 use crate::work::Work;
-use idl_small::Compiled;
+use crate::{MAX_BODY, Row};
+use idl_base::Seq;
+use idl_macro::{Answer, Key};
 use idl_source::{Files, Line, Name, Refusal};
-use std::alloc::Global;
+use std::alloc::{AllocError, Global};
 use std::marker::Model;
 
-/// A project, and for each of its roots the rows that it compiles to.
+/// A project, and for each of its roots what it compiles to.
 ///
 /// An edit is accepted, and then all rows are those of the project after it, or it is refused, and then nothing has
 /// changed. Queries take no memory.
 #[derive(Drop)]
 pub struct Session {
     alloc: Global,
-    files: Files,
+    bank: SessionBank,
     roots: RootTable,
     work: Work,
 }
 
 impl Model for Session {
     ghost use Rattle.std.specs.Map.{keys_of};
-    ghost use Rattle.idl_workspace.specs.Project.{no_project};
+    ghost use Rattle.idl_workspace.specs.Bank.{bank_of};
     ghost use Rattle.idl_workspace.specs.UpToDate.{State, state_code, IsUpToDate};
 
     ghost Value = { State };
 
     ghost coded = { state_code };
 
-    ghost view = { λ session. record { project = record no_project { files = session.files; roots = keys_of session.roots }; work = session.work } };
+    ghost view = { λ session. record { project = record { inputs = session.bank; roots = keys_of session.roots }; work = session.work } };
 
-    ghost invariant = { λ session. IsUpToDate session.files session.roots };
+    ghost invariant = { λ session. IsUpToDate (bank_of session.bank) session.roots };
 }
 
 impl Session {
-    /// A session without files and roots. It takes no memory.
+    /// A session without files, macros, directories and roots. It takes no memory.
     pub fn new(alloc: Global) -> Session
         ensures { result ≡ record { project = no_project; work = no_work } }
     {
         Session {
             alloc,
-            files: Files::new(alloc),
+            bank: SessionBank::new(alloc),
             roots: RootTable::new(alloc),
             work: Work::none(),
         }
@@ -65,9 +73,108 @@ impl Session {
         ensures refused { IfErr result (λ refusal. refusal ≢ Refusal.NoMemory → after_put self.old.project name.now lines.items ≡ Err refusal) }
         ensures err { OnErr result (self.new ≡ self.old) }
     {
-        let files = self.files.put(name, lines)?;
-        let roots = self.roots.compiled_over(self.alloc, &files)?;
-        self.files = files;
+        let files = self.bank.files().put(name, lines)?;
+        let work = self.change_files(name, files)?;
+        Ok(work)
+    }
+
+    /// Puts these lines in the place of `del` lines of a file, from line `from` on, where 1 is the first.
+    ///
+    /// It is refused where the name isn't one, then where there is no such file, then where those lines aren't all in it, and
+    /// then where a limit of lines is passed. Memory may be refused too. A refusal gives up the lines.
+    pub fn splice(
+        &mut self,
+        name: &[u8],
+        from: usize,
+        del: usize,
+        lines: Vec<Line>,
+    ) -> Result<Work, Refusal>
+        ensures ok { IfOk result (λ work. after_splice self.old.project name.now from del lines.items ≡ Ok self.new.project) }
+        ensures work { IfOk result (λ work. (self.new.work ≡ work) × (work ≡ no_work)) }
+        ensures refused { IfErr result (λ refusal. refusal ≢ Refusal.NoMemory → after_splice self.old.project name.now from del lines.items ≡ Err refusal) }
+        ensures err { OnErr result (self.new ≡ self.old) }
+    {
+        let files = self.bank.files().splice(name, from, del, lines)?;
+        let work = self.change_files(name, files)?;
+        Ok(work)
+    }
+
+    /// Removes the file of this name. The name is a root or not as before.
+    ///
+    /// It is refused where the name isn't one, and then where there is no such file. Memory may be refused too.
+    pub fn remove(&mut self, name: &[u8]) -> Result<Work, Refusal>
+        ensures ok { IfOk result (λ work. after_remove self.old.project name.now ≡ Ok self.new.project) }
+        ensures work { IfOk result (λ work. (self.new.work ≡ work) × (work ≡ no_work)) }
+        ensures refused { IfErr result (λ refusal. refusal ≢ Refusal.NoMemory → after_remove self.old.project name.now ≡ Err refusal) }
+        ensures err { OnErr result (self.new ≡ self.old) }
+    {
+        let files = self.bank.files().remove(name)?;
+        let work = self.change_files(name, files)?;
+        Ok(work)
+    }
+
+    /// Defines a macro that stands before the first line of every root, in place of the one of that word if there is one.
+    ///
+    /// It is refused where the body has more than [`MAX_BODY`](crate::MAX_BODY) bytes, or the word is new and there are
+    /// [`MAX_MACROS`](crate::MAX_MACROS) macros, and then where the word isn't one, or is `defined`. Memory may be refused
+    /// too. A refusal gives up the body.
+    pub fn define(&mut self, word: &[u8], body: Line) -> Result<Work, Refusal>
+        ensures ok { IfOk result (λ work. after_define self.old.project word.now body ≡ Ok self.new.project) }
+        ensures work { IfOk result (λ work. (self.new.work ≡ work) × (work ≡ no_work)) }
+        ensures refused { IfErr result (λ refusal. refusal ≢ Refusal.NoMemory → after_define self.old.project word.now body ≡ Err refusal) }
+        ensures err { OnErr result (self.new ≡ self.old) }
+    {
+        let word = spelled(self.alloc, word)?;
+        if body.len() > MAX_BODY || self.bank.is_full_for(&word) {
+            return Err(Refusal::OverLimit);
+        }
+        if !is_macro_word(word.as_bytes()) {
+            return Err(Refusal::BadMacro);
+        }
+        let body = MacroBody::new(self.alloc, body)?;
+        let key = Key::Macro(word.clone()?);
+        let roots = self.compiled_with(&key, Some(body.answer()))?;
+        self.bank.define(word, body)?;
+        self.roots = roots;
+        self.work = Work::none();
+        Ok(self.work)
+    }
+
+    /// Takes the macro with this word out, if there is one.
+    ///
+    /// It is refused where the word isn't one, or is `defined`. Memory may be refused too.
+    pub fn undef(&mut self, word: &[u8]) -> Result<Work, Refusal>
+        ensures ok { IfOk result (λ work. after_undef self.old.project word.now ≡ Ok self.new.project) }
+        ensures work { IfOk result (λ work. (self.new.work ≡ work) × (work ≡ no_work)) }
+        ensures refused { IfErr result (λ refusal. refusal ≢ Refusal.NoMemory → after_undef self.old.project word.now ≡ Err refusal) }
+        ensures err { OnErr result (self.new ≡ self.old) }
+    {
+        if !is_macro_word(word) {
+            return Err(Refusal::BadMacro);
+        }
+        let word = spelled(self.alloc, word)?;
+        let key = Key::Macro(word.clone()?);
+        let roots = self.compiled_with(&key, None)?;
+        self.bank.undef(&word);
+        self.roots = roots;
+        self.work = Work::none();
+        Ok(self.work)
+    }
+
+    /// Searches included files in these directories from now on, in this order.
+    ///
+    /// It is refused where one of them is no directory, and then where there are more than
+    /// [`MAX_DIRECTORIES`](crate::MAX_DIRECTORIES). Memory may be refused too.
+    pub fn search(&mut self, list: &[&[u8]]) -> Result<Work, Refusal>
+        ensures ok { IfOk result (λ work. after_search self.old.project (map (λ bytes. bytes.now) list.now) ≡ Ok self.new.project) }
+        ensures work { IfOk result (λ work. (self.new.work ≡ work) × (work ≡ no_work)) }
+        ensures refused { IfErr result (λ refusal. refusal ≢ Refusal.NoMemory → after_search self.old.project (map (λ bytes. bytes.now) list.now) ≡ Err refusal) }
+        ensures err { OnErr result (self.new ≡ self.old) }
+    {
+        let list = directories(self.alloc, list)?;
+        let search = Answer::Search(Seq::from_vec(list));
+        let roots = self.compiled_with(&Key::Search, Some(&search))?;
+        self.bank.set_search(search);
         self.roots = roots;
         self.work = Work::none();
         Ok(self.work)
@@ -92,8 +199,28 @@ impl Session {
         if self.roots.is_full() {
             return Err(Refusal::OverLimit);
         }
-        let compiled = compile(self.alloc, &self.files, &root)?;
+        let compiled = compile(self.alloc, &self.bank, &root)?;
         self.roots.add(root, compiled)?;
+        self.work = Work::none();
+        Ok(self.work)
+    }
+
+    /// Makes the file of this name no root any more. The file stays. It takes no memory.
+    ///
+    /// It is refused where the name isn't one, and then where it is that of no root.
+    pub fn drop_root(&mut self, name: &[u8]) -> Result<Work, Refusal>
+        ensures ok { IfOk result (λ work. after_drop_root self.old.project name.now ≡ Ok self.new.project) }
+        ensures work { IfOk result (λ work. (self.new.work ≡ work) × (work ≡ no_work)) }
+        ensures refused { IfErr result (λ refusal. after_drop_root self.old.project name.now ≡ Err refusal) }
+        ensures err { OnErr result (self.new ≡ self.old) }
+    {
+        let Some(root) = Name::new(name) else {
+            return Err(Refusal::BadName);
+        };
+        if !self.roots.contains(&root) {
+            return Err(Refusal::NoSuchRoot);
+        }
+        self.roots.remove(&root);
         self.work = Work::none();
         Ok(self.work)
     }
@@ -103,7 +230,7 @@ impl Session {
         ensures { option_copied result ≡ diagnostics_of self.now.project root.now }
     {
         match self.compiled(root) {
-            Some(compiled) => Some(compiled.diagnostics.as_slice()),
+            Some(compiled) => Some(compiled.rows.diagnostics.as_slice()),
             None => None,
         }
     }
@@ -113,7 +240,18 @@ impl Session {
         ensures { option_copied result ≡ dump_of self.now.project root.now }
     {
         match self.compiled(root) {
-            Some(compiled) => Some(compiled.dump.as_slice()),
+            Some(compiled) => Some(compiled.rows.dump.as_slice()),
+            None => None,
+        }
+    }
+
+    /// The files that a root asks for and that aren't there, in the order first asked, or nothing where the name isn't one of
+    /// a root. It takes no memory.
+    pub fn absent(&self, root: &[u8]) -> Option<&[Name]>
+        ensures { option_copied result ≡ absent_of self.now.project root.now }
+    {
+        match self.compiled(root) {
+            Some(compiled) => Some(compiled.absent.as_slice()),
             None => None,
         }
     }
@@ -130,11 +268,71 @@ impl Session {
         self.alloc
     }
 
+    /// Why lines that are too many or too long for any file aren't put under this name: the least refusal. It takes no memory.
+    ///
+    /// A caller that doesn't keep such lines asks this in place of the edit.
+    pub fn refusal_of_long_put(&self, name: &[u8]) -> Refusal
+        ensures { (lines : List (List ℕ)) → are_too_long lines ≡ true → after_put self.now.project name.now lines ≡ Err result }
+    {
+        if Name::new(name).is_none() {
+            return Refusal::BadName;
+        }
+        Refusal::OverLimit
+    }
+
+    /// Why lines that are too many or too long for any file aren't spliced in there: the least refusal. It takes no memory.
+    pub fn refusal_of_long_splice(&self, name: &[u8], from: usize, del: usize) -> Refusal
+        ensures { (lines : List (List ℕ)) → are_too_long lines ≡ true → after_splice self.now.project name.now from del lines ≡ Err result }
+    {
+        if Name::new(name).is_none() {
+            return Refusal::BadName;
+        }
+        let Some(file) = self.bank.files().get(name) else {
+            return Refusal::NoSuchFile;
+        };
+        let len = file.lines().len();
+        if from == 0 || len < from - 1 || len - (from - 1) < del {
+            return Refusal::OutsideFile;
+        }
+        Refusal::OverLimit
+    }
+
     // What the root of this name compiles to.
-    fn compiled(&self, root: &[u8]) -> Option<&Compiled>
+    fn compiled(&self, root: &[u8]) -> Option<&CompiledRoot>
         ensures { option_copied result ≡ compiled_of self.now.project root.now }
     {
         let roots = &self.roots;
         roots.get(&Name::new(root)?)
+    }
+
+    // Puts other files in place, of which the one of this name alone is another.
+    fn change_files(&mut self, name: &[u8], files: Files) -> Result<Work, AllocError>
+        requires allowed { IsTrue (is_name name.now) }
+        requires beside { IsSameBeside name.now self.old.project.inputs.files files }
+        ensures ok { IfOk result (λ work. self.new.project ≡ record self.old.project { inputs = record self.old.project.inputs { files = files } }) }
+        ensures work { IfOk result (λ work. (self.new.work ≡ work) × (work ≡ no_work)) }
+        ensures err { OnErr result (self.new ≡ self.old) }
+    {
+        let name = Name::new(name).unwrap();
+        let answer = file_answer(self.alloc, &files, &name)?;
+        let key = Key::File(name.copied());
+        let roots = self.compiled_with(&key, answer.as_ref())?;
+        self.bank.set_files(name, files, answer)?;
+        self.roots = roots;
+        self.work = Work::none();
+        Ok(self.work)
+    }
+
+    // All roots, compiled over the bank with another answer at this key.
+    fn compiled_with(&self, key: &Key, answer: Option<&Answer>) -> Result<RootTable, AllocError>
+        ensures roots { IfOk result (λ table. keys_of table ≡ self.now.project.roots) }
+        ensures rows { IfOk result (λ table. HoldsRows (changed (bank_of self.now.project.inputs) key.now (option_copied answer.entry)) table) }
+    {
+        let bank = EditedBank {
+            base: &self.bank,
+            key,
+            answer,
+        };
+        self.roots.compiled_over(self.alloc, &bank)
     }
 }

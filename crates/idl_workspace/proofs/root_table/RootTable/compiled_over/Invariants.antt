@@ -6,8 +6,8 @@ use Rattle.idl_workspace.specs.UpToDate.{HoldsRows}
 use Rattle.idl_workspace.proofs.root_table.RootTable.compiled_over.Given as goal
 
 abbrev pub invariant-loop-root : goal.invariant-loop-root
-invariant-loop-root l = record {
+invariant-loop-root g l = record {
   roots : keys_of l.table ++ l.root-iterator ≡ keys_of l.fn.self;
   distinct : IsDistinct bytes_eq (keys_of l.table ++ l.root-iterator);
-  rows : HoldsRows l.files l.table;
+  rows : HoldsRows (g.B.Bank.at l.bank) l.table;
 }

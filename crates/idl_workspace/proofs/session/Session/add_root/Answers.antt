@@ -1,15 +1,15 @@
 use Rattle.std.proofs.Common.{◌≡◌, ◌∙◌, List, ℕ, true, refl, sym, ap, subst}
-use Rattle.idl_small.specs.declared.compile.Compiled.{Compiled}
 use Rattle.idl_source.specs.Name.{is_name}
+use Rattle.idl_workspace.specs.Bank.{bank_of}
 use Rattle.idl_workspace.specs.UpToDate.{IsUpToDate}
+use Rattle.idl_workspace.specs.declared.compile.CompiledRoot.{CompiledRoot}
 use Rattle.idl_workspace.proofs.RootLemmas.{IsUpToDate-push}
 use Rattle.idl_workspace.proofs.session.Session.add_root.Goals as goal
 
 pub invariant_of-self-2 : goal.invariant_of-self-2
 invariant_of-self-2 c =
-    let files = c.self.inside.files in
-    let held = c.self.inside.roots in
+    let bank = bank_of c.self.inside.bank in
     let root = c.in-Some.root in
     let allowed : is_name root ≡ true = ap is_name c.in-Some.ensures.same ∙ c.in-Some.ensures.allowed.0 refl in
-    subst (λ (after : List (List ℕ × Compiled)). IsUpToDate files after) (sym c.in_ok-add.ensures.ok)
-    (IsUpToDate-push files held root c.in_ok-compiled.compiled c.self.invariant allowed (sym c.contains.ensures ∙ c.if-contains.false) c.in_ok-compiled.ensures)
+    subst (λ (after : List (List ℕ × CompiledRoot)). IsUpToDate bank after) (sym c.in_ok-add.ensures.ok)
+    (IsUpToDate-push bank c.self.inside.roots root c.in_ok-compiled.compiled c.self.invariant allowed (sym c.contains.ensures ∙ c.if-contains.false) c.in_ok-compiled.ensures)

@@ -4,8 +4,10 @@ use Rattle.std.specs.List.{list_any}
 use Rattle.std.specs.Map.{keys_of, lookup}
 use Rattle.std.specs.Option.{option_copied}
 use Rattle.std.specs.Str.{bytes_eq}
-use Rattle.idl_small.specs.declared.compile.Compiled.{Compiled}
+use Rattle.idl_workspace.specs.Bank.{bank_of}
+use Rattle.idl_workspace.specs.Compile.{compile_over}
 use Rattle.idl_workspace.specs.UpToDate.{State, compiled_of}
+use Rattle.idl_workspace.specs.declared.compile.CompiledRoot.{CompiledRoot}
 use Rattle.idl_workspace.proofs.RootLemmas.{lookup-held, list_any-bad_name}
 use Rattle.idl_workspace.proofs.session.Session.compiled.Goals as goal
 
@@ -17,12 +19,12 @@ returns-in_err-new c =
     ap (λ (state : State). compiled_of state.project name) (sym c.self.view_is)
     ∙ cond-false (list_any (bytes_eq name) (keys_of held)) _ _
     (list_any-bad_name (keys_of held) name c.self.invariant.names (λ allowed. false≢true (c.in_err-new.ensures.allowed.1 allowed))) in
-    ap (λ (found : Option (Bor Compiled)). option_copied found) c.from_residual.ensures ∙ sym none
+    ap (λ (found : Option (Bor CompiledRoot)). option_copied found) c.from_residual.ensures ∙ sym none
 
 pub returns : goal.returns
 returns c =
     let name = c.args.root.now in
     c.get.ensures
     ∙ ap (λ (bytes : List ℕ). lookup (bytes_eq bytes) c.self.inside.roots) c.in_ok-new.ensures.same
-    ∙ lookup-held c.self.inside.files c.self.inside.roots name c.self.invariant.rows
+    ∙ lookup-held (compile_over (bank_of c.self.inside.bank)) c.self.inside.roots name c.self.invariant.rows
     ∙ ap (λ (state : State). compiled_of state.project name) c.self.view_is

@@ -1,0 +1,197 @@
+//! The bank of a session: what its roots are answered.
+
+ghost use Rattle.std.specs.Prelude.{◌≡◌, ◌||◌, ◌&&◌, [], ◌∷◌, IfOk, OnOk, OnErr, Some, None, length, nat_le, not, map};
+ghost use Rattle.std.specs.Map.{remove_entry};
+ghost use Rattle.std.specs.Option.{option_copied, option_map};
+ghost use Rattle.std.specs.FinMap as finite;
+ghost use Rattle.std.specs.Str.{bytes_eq};
+ghost use Rattle.indexmap.specs.IndexMap.{insert_entry};
+ghost use Rattle.idl_macro.specs.declared.key.Answer.TheVariants as answers;
+ghost use Rattle.idl_macro.specs.declared.key.Key.TheVariants as keys;
+ghost use Rattle.idl_workspace.specs.Bank.{IsSameBeside, bank_of, changed, searched};
+ghost use Rattle.idl_workspace.specs.Project.{is_defined, no_inputs};
+
+use crate::MAX_MACROS;
+use crate::macro_body::MacroBody;
+use idl_base::Seq;
+use idl_lex::Spelling;
+use idl_macro::{Answer, Key, LexedFile};
+use idl_memo::Bank;
+use idl_source::{Directory, Files, Name};
+use indexmap::IndexMap;
+use std::alloc::{AllocError, Global};
+use std::marker::Model;
+
+/// Files, macros and a search list, with the answers about them: each file and each body is cut into tokens once.
+#[derive(Drop)]
+pub struct SessionBank {
+    files: Files,
+    texts: IndexMap<Name, Answer>,
+    macros: IndexMap<Spelling, MacroBody>,
+    search: Answer,
+}
+
+impl Model for SessionBank {
+    ghost use Rattle.std.specs.Prelude.{◌≡◌, List, ℕ};
+    ghost use Rattle.std.specs.FinMap as finite;
+    ghost use Rattle.std.specs.Map.{lookup};
+    ghost use Rattle.std.specs.Option.{option_map};
+    ghost use Rattle.std.specs.Str.{bytes_eq};
+    ghost use Rattle.idl_macro.specs.declared.key.Answer.TheVariants as answers;
+    ghost use Rattle.idl_workspace.specs.Bank.{searched};
+    ghost use Rattle.idl_workspace.specs.Project.{Inputs, inputs_code};
+
+    ghost Value = { Inputs };
+
+    ghost coded = { inputs_code };
+
+    ghost view = { λ bank. record { files = bank.files; macros = bank.macros.entries; search = searched bank.search } };
+
+    // The texts say what the files say, and the search list is one.
+    ghost invariant = { λ bank. ((name : List ℕ) → lookup (bytes_eq name) bank.texts.entries ≡ option_map answers.File (finite.get bank.files name))
+        × (bank.search ≡ answers.Search (searched bank.search)) };
+}
+
+impl SessionBank {
+    /// No files, no macros and no directories. It takes no memory.
+    pub fn new(alloc: Global) -> SessionBank
+        ensures { result ≡ no_inputs }
+    {
+        SessionBank {
+            files: Files::new(alloc),
+            texts: IndexMap::new(alloc),
+            macros: IndexMap::new(alloc),
+            search: Answer::Search(Seq::new(alloc)),
+        }
+    }
+
+    /// The files.
+    pub fn files(&self) -> &Files
+        ensures { result.now ≡ self.now.files }
+    {
+        &self.files
+    }
+
+    /// Whether there are as many macros as there may be, and none with this word.
+    pub fn is_full_for(&self, word: &Spelling) -> bool
+        ensures { result ≡ (nat_le MAX_MACROS (length self.now.macros) && not (is_defined self.now.macros word.now)) }
+    {
+        self.macros.len() >= MAX_MACROS && !self.macros.contains_key(word)
+    }
+
+    /// Puts other files in place, of which the one of this name alone may be another, with the answer about it.
+    pub fn set_files(
+        &mut self,
+        name: Name,
+        files: Files,
+        answer: Option<Answer>,
+    ) -> Result<(), AllocError>
+        requires beside { IsSameBeside name self.old.files files }
+        requires answers { answer ≡ option_map answers.File (finite.get files name) }
+        ensures ok { OnOk result (self.new ≡ record self.old { files = files }) }
+        ensures bank { OnOk result (bank_of self.new ≡ changed (bank_of self.old) (keys.File name) answer) }
+        ensures err { OnErr result (self.new ≡ self.old) }
+    {
+        match answer {
+            Some(answer) => {
+                self.texts.insert(name, answer)?;
+                self.files = files;
+                Ok(())
+            }
+            None => {
+                self.texts.swap_remove(&name);
+                self.files = files;
+                Ok(())
+            }
+        }
+    }
+
+    /// Gives the macro with this word this body, as the last one if it is new.
+    pub fn define(&mut self, word: Spelling, body: MacroBody) -> Result<(), AllocError>
+        ensures ok { OnOk result (self.new ≡ record self.old { macros = insert_entry bytes_eq self.old.macros word body }) }
+        ensures bank { OnOk result (bank_of self.new ≡ changed (bank_of self.old) (keys.Macro word) (Some (answers.Macro (body ∷ [])))) }
+        ensures err { OnErr result (self.new ≡ self.old) }
+    {
+        self.macros.insert(word, body)?;
+        Ok(())
+    }
+
+    /// Takes the macro with this word out, if there is one.
+    pub fn undef(&mut self, word: &Spelling)
+        ensures left { self.new ≡ record self.old { macros = remove_entry (bytes_eq word.now) self.old.macros } }
+        ensures bank { bank_of self.new ≡ changed (bank_of self.old) (keys.Macro word.now) None }
+    {
+        self.macros.shift_remove(word);
+    }
+
+    /// Puts another search list in place.
+    pub fn set_search(&mut self, search: Answer)
+        requires { search ≡ answers.Search (searched search) }
+        ensures set { self.new ≡ record self.old { search = searched search } }
+        ensures bank { bank_of self.new ≡ changed (bank_of self.old) keys.Search (Some search) }
+    {
+        self.search = search;
+    }
+}
+
+impl Bank for SessionBank {
+    ghost use Rattle.idl_workspace.specs.Bank.{bank_of};
+
+    type Key = Key;
+
+    type Answer = Answer;
+
+    ghost at = { bank_of };
+
+    #[tactic(auto, unfolding(crate::specs::Bank::bank_of))]
+    fn answer(&self, key: &Key) -> Option<&Answer> {
+        match key {
+            Key::Macro(word) => match self.macros.get(word) {
+                Some(body) => Some(body.answer()),
+                None => None,
+            },
+            Key::File(name) => self.texts.get(name),
+            Key::Search => Some(&self.search),
+        }
+    }
+}
+
+/// A bank as it would be after an edit: it answers one key otherwise.
+#[derive(Clone, Copy)]
+pub struct EditedBank<'a> {
+    pub base: &'a SessionBank,
+    pub key: &'a Key,
+    pub answer: Option<&'a Answer>,
+}
+
+impl<'a> Bank for EditedBank<'a> {
+    ghost use Rattle.std.specs.Option.{option_copied};
+    ghost use Rattle.idl_workspace.specs.Bank.{bank_of, changed};
+
+    type Key = Key;
+
+    type Answer = Answer;
+
+    ghost at = { λ bank. changed (bank_of bank.base.now) bank.key.now (option_copied bank.answer) };
+
+    #[tactic(auto, unfolding(crate::specs::Bank::changed))]
+    fn answer(&self, key: &Key) -> Option<&Answer> {
+        if self.key == key {
+            return self.answer;
+        }
+        self.base.answer(key)
+    }
+}
+
+/// What is answered of a file, by what these files say of it. A file is cut into tokens here.
+pub fn file_answer(alloc: Global, files: &Files, name: &Name) -> Result<Option<Answer>, AllocError>
+    ensures { IfOk result (λ answer. answer ≡ option_map answers.File (finite.get files.now name.now)) }
+{
+    match files.get(name.as_bytes()) {
+        Some(file) => {
+            let text = LexedFile::new(alloc, file.clone()?)?;
+            Ok(Some(Answer::File(text)))
+        }
+        None => Ok(None),
+    }
+}

@@ -1,0 +1,50 @@
+//! The bodies of the session's macros.
+
+ghost use Rattle.std.specs.Prelude.{◌≡◌, ◌∷◌, [], IfOk};
+ghost use Rattle.idl_macro.specs.declared.key.Answer.TheVariants as answers;
+
+use idl_macro::{Answer, LexedFile};
+use idl_source::{File, Line};
+use std::alloc::{AllocError, Global};
+use std::marker::Model;
+
+/// The body of a macro: a line, and what is answered of the macro, a file of that line alone with its tokens.
+#[derive(Drop)]
+pub struct MacroBody {
+    line: Line,
+    answer: Answer,
+}
+
+impl Model for MacroBody {
+    ghost use Rattle.std.specs.Prelude.{◌≡◌, ◌∷◌, [], List, ℕ};
+    ghost use Rattle.idl_macro.specs.declared.key.Answer.TheVariants as answers;
+
+    ghost Value = { List ℕ };
+
+    ghost view = { λ body. body.line };
+
+    ghost invariant = { λ body. body.answer ≡ answers.Macro (body.line ∷ []) };
+}
+
+impl MacroBody {
+    /// The body of this line, which is cut into tokens here.
+    pub fn new(alloc: Global, line: Line) -> Result<MacroBody, AllocError>
+        ensures { IfOk result (λ body. body ≡ line) }
+    {
+        let mut lines = Vec::new(alloc);
+        lines.push(line.clone()?)?;
+        let file = File::new(alloc, lines)?;
+        let text = LexedFile::new(alloc, file)?;
+        Ok(MacroBody {
+            line,
+            answer: Answer::Macro(text),
+        })
+    }
+
+    /// What is answered of the macro.
+    pub fn answer(&self) -> &Answer
+        ensures { result.now ≡ answers.Macro (self.now ∷ []) }
+    {
+        &self.answer
+    }
+}
