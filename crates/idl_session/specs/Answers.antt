@@ -2,13 +2,13 @@
 use Rattle.std.specs.Prelude.{◌≡◌, ℕ, List, [], ◌∷◌, ◌++◌, nat_eq, length, Option, Result, Ok, Err, ◌⊎◌, MatchBool}
 use Rattle.idl_source.specs.declared.refusal.Refusal.{Refusal}
 use Rattle.idl_source.specs.declared.refusal.Refusal.TheVariants as refusal
-use Rattle.idl_workspace.specs.Edits.{after_put, after_add_root}
 use Rattle.idl_workspace.specs.Project.{Project}
-use Rattle.idl_workspace.specs.UpToDate.{State, diagnostics_of, dump_of}
+use Rattle.idl_workspace.specs.UpToDate.{State}
 use Rattle.idl_workspace.specs.Work.{no_work}
 use Rattle.idl_session.specs.Commands.{Command, commands_of}
+use Rattle.idl_session.specs.Effects.{after_placing, after_edit, rows_for}
 use Rattle.idl_session.specs.Replies.{ok_reply, refused_reply, query_reply}
-use Rattle.idl_session.specs.Requests.{Request, Malformed, Put, AddRoot, Diagnostics, Dump}
+use Rattle.idl_session.specs.Requests.{Request, Malformed, Place, Make, Ask}
 
 -- nothing but a refusal
 abbrev pub IsRefused : State → Refusal → List ℕ → State → Type 0
@@ -27,14 +27,13 @@ IsEdited s decided reply t = IsDecided s decided reply t ⊎ IsRefused s refusal
 abbrev pub IsAnswered : State → List ℕ → Option (List (List ℕ)) → List ℕ → State → Type 0
 IsAnswered s name rows reply t = (reply ≡ query_reply name rows) × (t ≡ s)
 
--- the reply to a request with its lines, and the state after it
+-- the reply to a request with its lines, and the state after it; an edit that lacks announced lines is unfinished
 abbrev pub Answers : State → Request → List (List ℕ) → List ℕ → State → Type 0
 Answers s Malformed lines reply t = IsRefused s refusal.Malformed reply t
-Answers s (Put name count) lines reply t =
-    MatchBool (nat_eq (length lines) count) (IsEdited s (after_put s.project name lines) reply t) (IsRefused s refusal.Unfinished reply t)
-Answers s (AddRoot name) lines reply t = IsEdited s (after_add_root s.project name) reply t
-Answers s (Diagnostics name) lines reply t = IsAnswered s name (diagnostics_of s.project name) reply t
-Answers s (Dump name) lines reply t = IsAnswered s name (dump_of s.project name) reply t
+Answers s (Place placing count) lines reply t =
+    MatchBool (nat_eq (length lines) count) (IsEdited s (after_placing s.project placing lines) reply t) (IsRefused s refusal.Unfinished reply t)
+Answers s (Make edit) lines reply t = IsEdited s (after_edit s.project edit) reply t
+Answers s (Ask question name) lines reply t = IsAnswered s name (rows_for s.project question name) reply t
 
 -- the replies to commands in order, end to end, and the state after all
 abbrev pub Replies : State → List Command → List ℕ → State → Type 0

@@ -1,4 +1,4 @@
--- The lines that a put announces, as they are gathered.
+-- The lines that a command announces, as they are gathered.
 use Rattle.std.specs.Prelude.{◌≡◌, ℕ, ◌<◌, Bool, true, ◌||◌, List, nat_lt, length, Option}
 use Rattle.std.specs.List.{list_any}
 use Rattle.idl_source.specs.Device.{prepend}

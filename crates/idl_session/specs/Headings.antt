@@ -1,11 +1,43 @@
 -- What a heading of the program asks for.
-use Rattle.idl_session.specs.Requests.{Request, Malformed, Put, AddRoot, Diagnostics, Dump}
+use Rattle.std.specs.Prelude.{ℕ, List, [], Option, None, Some}
+use Rattle.std.specs.Borrow.{Bor}
+use Rattle.idl_source.specs.Line.{IsLine}
+use Rattle.idl_session.specs.Requests.{Placing, Put, Splice, Edit, Remove, Define, Undef, Search, AddRoot, DropRoot, Request, Malformed, Place, Make, Ask, words}
+use Rattle.idl_session.specs.declared.heading.Change.{Change}
+use Rattle.idl_session.specs.declared.heading.Change.TheVariants as change
 use Rattle.idl_session.specs.declared.heading.Heading.{Heading}
 use Rattle.idl_session.specs.declared.heading.Heading.TheVariants as heading
+use Rattle.idl_session.specs.declared.heading.Placement.{Placement}
+use Rattle.idl_session.specs.declared.heading.Placement.TheVariants as placement
+
+abbrev pub placing_by : Placement → Placing
+placing_by (placement.Put name) = Put name.now
+placing_by (placement.Splice name from del) = Splice name.now from del
+
+-- the words after the first blank
+abbrev pub words_after : Option (Bor (List ℕ)) → List (List ℕ)
+words_after None = []
+words_after (Some rest) = words rest.now
+
+abbrev pub edit_by : Change → Edit
+edit_by (change.Remove name) = Remove name.now
+edit_by (change.Define word body) = Define word.now body.now
+edit_by (change.Undef word) = Undef word.now
+edit_by (change.Search rest) = Search (words_after rest)
+edit_by (change.AddRoot name) = AddRoot name.now
+edit_by (change.DropRoot name) = DropRoot name.now
 
 abbrev pub request_by : Heading → Request
 request_by heading.Malformed = Malformed
-request_by (heading.Put name count) = Put name.now count
-request_by (heading.AddRoot name) = AddRoot name.now
-request_by (heading.Diagnostics name) = Diagnostics name.now
-request_by (heading.Dump name) = Dump name.now
+request_by (heading.Place placement count) = Place (placing_by placement) count
+request_by (heading.Make what) = Make (edit_by what)
+request_by (heading.Ask question name) = Ask question name.now
+
+-- the body of a macro has no newline
+abbrev pub HasLine : Change → Type 0
+HasLine (change.Define word body) = IsLine body.now
+HasLine other = Unit {0}
+
+abbrev pub HasLines : Heading → Type 0
+HasLines (heading.Make what) = HasLine what
+HasLines other = Unit {0}

@@ -1,11 +1,13 @@
 pub mod Answers
 pub mod Bodies
 pub mod Commands
+pub mod Effects
 pub mod Gathering
 pub mod Headings
 pub mod Lines
 pub mod Reading
 pub mod Replies
 pub mod Requests
+pub mod Rows
 pub mod Serving
 pub mod Streams

@@ -1,17 +1,33 @@
 -- What a command line asks for.
 use Rattle.std.specs.Prelude.{ℕ, ◌+◌, ◌-◌, ◌*◌, Bool, false, ◌&&◌, ◌||◌, not, List, [], ◌∷◌, nat_le, nat_eq, length, codes, fold, Option, None, Some, if◌then◌else◌}
-use Rattle.std.specs.List.{slice_split, list_all}
+use Rattle.std.specs.List.{join_with_byte, slice_split, list_all}
 use Rattle.std.specs.Str.{bytes_eq}
 use Rattle.idl_source.specs.Name.{is_visible}
 use Rattle.idl_session.specs.Lines.{kept}
 use Rattle.idl_session.specs.declared.TheConstants.{MAX_COMMAND}
+use Rattle.idl_session.specs.declared.heading.Question.{Question}
+use Rattle.idl_session.specs.declared.heading.Question.TheVariants.{Diagnostics, Dump, Absent}
 
+-- where announced lines go: into a file of this name, or into a file from a line on, in the place of so many
+pub data Placing : Type 0 where
+  Put : List ℕ → Placing
+  Splice : List ℕ → ℕ → ℕ → Placing
+
+-- an edit of one line
+pub data Edit : Type 0 where
+  Remove : List ℕ → Edit
+  Define : List ℕ → List ℕ → Edit
+  Undef : List ℕ → Edit
+  Search : List (List ℕ) → Edit
+  AddRoot : List ℕ → Edit
+  DropRoot : List ℕ → Edit
+
+-- no command, an edit that so many lines follow, an edit of one line, or a question about a root
 pub data Request : Type 0 where
   Malformed : Request
-  Put : List ℕ → ℕ → Request
-  AddRoot : List ℕ → Request
-  Diagnostics : List ℕ → Request
-  Dump : List ℕ → Request
+  Place : Placing → ℕ → Request
+  Make : Edit → Request
+  Ask : Question → List ℕ → Request
 
 -- bytes 33 to 126, one at least
 abbrev pub is_word : List ℕ → Bool
@@ -34,18 +50,43 @@ abbrev pub value_of : List ℕ → ℕ
 value_of digits = fold (λ n d. 10 * n + (d - 48)) 0 digits
 
 abbrev pub put_request : List ℕ → List ℕ → Request
-put_request name count = if is_number count then Put name (value_of count) else Malformed
+put_request name count = if is_number count then Place (Put name) (value_of count) else Malformed
 
-abbrev pub request_of_words : List (List ℕ) → Request
-request_of_words (w ∷ name ∷ []) =
-    if bytes_eq w (codes "root") then AddRoot name
-    else (if bytes_eq w (codes "diagnostics") then Diagnostics name
-    else (if bytes_eq w (codes "dump") then Dump name else Malformed))
-request_of_words (w ∷ name ∷ count ∷ []) = if bytes_eq w (codes "put") then put_request name count else Malformed
-request_of_words others = Malformed
+abbrev pub splice_request : List ℕ → List ℕ → List ℕ → List ℕ → Request
+splice_request name from del count =
+    if is_number from && (is_number del && is_number count) then Place (Splice name (value_of from) (value_of del)) (value_of count) else Malformed
 
+-- a word and what it is about
+abbrev pub pair_request : List ℕ → List ℕ → Request
+pair_request w about =
+    if bytes_eq w (codes "remove") then Make (Remove about)
+    else (if bytes_eq w (codes "undef") then Make (Undef about)
+    else (if bytes_eq w (codes "root") then Make (AddRoot about)
+    else (if bytes_eq w (codes "unroot") then Make (DropRoot about)
+    else (if bytes_eq w (codes "diagnostics") then Ask Diagnostics about
+    else (if bytes_eq w (codes "dump") then Ask Dump about
+    else (if bytes_eq w (codes "absent") then Ask Absent about else Malformed))))))
+
+-- by how many words follow the first
+abbrev pub counted_request : List ℕ → List (List ℕ) → Request
+counted_request w (about ∷ []) = pair_request w about
+counted_request w (name ∷ count ∷ []) = if bytes_eq w (codes "put") then put_request name count else Malformed
+counted_request w (name ∷ from ∷ del ∷ count ∷ []) = if bytes_eq w (codes "splice") then splice_request name from del count else Malformed
+counted_request w others = Malformed
+
+-- the directories of `search` are the words after it, however many
+abbrev pub request_of_words : List ℕ → List (List ℕ) → Request
+request_of_words w ws = if bytes_eq w (codes "search") then Make (Search ws) else counted_request w ws
+
+-- the body of `define` is all bytes after the second blank
+abbrev pub define_request : List (List ℕ) → Request
+define_request [] = Malformed
+define_request (word ∷ rest) = if is_word word then Make (Define word (join_with_byte 32 rest)) else Malformed
+
+-- all words are of bytes 33 to 126, but for those of a body
 abbrev pub request_in_words : List (List ℕ) → Request
-request_in_words ws = if list_all is_word ws then request_of_words ws else Malformed
+request_in_words [] = Malformed
+request_in_words (w ∷ ws) = if bytes_eq w (codes "define") then define_request ws else (if list_all is_word (w ∷ ws) then request_of_words w ws else Malformed)
 
 -- what is asked by a line, of which nothing may be kept
 abbrev pub request_kept : Option (List ℕ) → Request
@@ -59,7 +100,6 @@ request_of line = request_kept (kept MAX_COMMAND line)
 -- how many further lines it takes
 abbrev pub lines_taken : Request → ℕ
 lines_taken Malformed = 0
-lines_taken (Put name count) = count
-lines_taken (AddRoot name) = 0
-lines_taken (Diagnostics name) = 0
-lines_taken (Dump name) = 0
+lines_taken (Place placing count) = count
+lines_taken (Make edit) = 0
+lines_taken (Ask question name) = 0

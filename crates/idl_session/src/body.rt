@@ -1,4 +1,4 @@
-//! The lines that a `put` announces. They are taken where they can't be kept, too.
+//! The lines that a command announces. They are taken where they can't be kept, too.
 
 ghost use Rattle.std.specs.Prelude.{◌≡◌, ◌≤◌, ◌<◌, ◌+◌, ◌-◌, ◌^◌, ◌∷◌, ◌++◌, [], ℕ, List, IfOk, IfErr, IfSome, OnOk, OnErr};
 ghost use Rattle.std.specs.Option.{option_copied};
@@ -12,7 +12,7 @@ use crate::line_buffer::{LineBuffer, read_line};
 use idl_source::{Line, MAX_LINE, MAX_LINES, ReadFailed, Refusal, Source};
 use std::alloc::Global;
 
-/// The lines that a `put` announces, or why there are none to put.
+/// The lines that a command announces, or why there are none to place.
 #[derive(Debug, Drop)]
 pub enum Body {
     /// All of them.

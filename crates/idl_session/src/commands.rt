@@ -15,18 +15,24 @@ use idl_workspace::Session;
 
 /// Serves the commands that a source gives, one after the other until it ends, and writes the replies to a sink.
 ///
-/// A command is a line of words, parted by one blank each; a word is of bytes 33 to 126. A number is `0`, or one to nine
+/// A command is a line of words, parted by one blank each; a word is of bytes 33 to 126. Only a body has other bytes. A number is `0`, or one to nine
 /// digits without leading zero. A last line without newline counts if it has a byte.
 ///
 /// | Command | Reply |
 /// |---|---|
 /// | `put NAME N` and N lines: puts a file | `ok` |
-/// | `root NAME`: makes a file a root | `ok` |
+/// | `splice NAME FROM DEL N` and N lines: puts them in the place of DEL lines from line FROM on, where 1 is the first | `ok` |
+/// | `remove NAME`: removes a file | `ok` |
+/// | `define WORD`, `define WORD BODY`: defines a macro before the first line of each root; the body is all bytes after the second blank | `ok` |
+/// | `undef WORD`: takes a macro out, if there is one | `ok` |
+/// | `search`, `search DIRECTORY ..`: where included files are searched | `ok` |
+/// | `root NAME`, `unroot NAME`: makes a file a root, or none any more | `ok` |
 /// | `diagnostics NAME`, `dump NAME`: asks for the rows of a root | `rows N` and N lines |
+/// | `absent NAME`: asks for the files that a root asked for and that aren't there | `rows N` and N lines |
 ///
 /// What is refused has the reply `refused N`, N being the number of the [`Refusal`](crate::Refusal), and changes nothing.
-/// All else is a malformed command, and so is a line of more than [`MAX_COMMAND`] bytes. The lines that a `put` announces
-/// are taken where it is refused, too.
+/// All else is a malformed command, and so is a line of more than [`MAX_COMMAND`] bytes. The lines that a `put` or a `splice`
+/// announces are taken where it is refused, too.
 ///
 /// Each reply has gone out whole before the next line is read. Outside the edits no memory is taken.
 pub fn run<S: Source, K: Sink>(

@@ -1,75 +1,202 @@
 //! Command lines: words parted by one blank each.
 
-ghost use Rattle.std.specs.Prelude.{◌≡◌, [], ◌∷◌, true, false, MatchOption};
+ghost use Rattle.std.specs.Prelude.{◌≡◌, [], ◌∷◌, true, false, IfSome, MatchOption};
 ghost use Rattle.idl_source.specs.Name.{is_visible};
-ghost use Rattle.idl_session.specs.Requests.{request_in_words, words, is_word, is_number, is_digit, value_of};
-ghost use Rattle.idl_session.specs.Headings.{request_by};
+ghost use Rattle.idl_source.specs.Line.{IsLine};
+ghost use Rattle.idl_session.specs.Requests.{request_in_words, define_request, counted_request, pair_request, words, is_word, is_number, is_digit, value_of};
+ghost use Rattle.idl_session.specs.Headings.{request_by, words_after, HasLines};
 ghost use Rattle.std.specs.List.{list_all};
 
 use idl_source::first_part;
+
+/// Where announced lines go.
+#[derive(Clone, Copy, Debug)]
+pub enum Placement<'a> {
+    /// Into a file of this name, as its lines.
+    Put(&'a [u8]),
+    /// Into a file of this name from a line on, in the place of so many.
+    Splice(&'a [u8], usize, usize),
+}
+
+/// An edit that no line follows.
+#[derive(Clone, Copy, Debug)]
+pub enum Change<'a> {
+    /// To remove a file.
+    Remove(&'a [u8]),
+    /// To define a macro with a body.
+    Define(&'a [u8], &'a [u8]),
+    /// To take a macro out.
+    Undef(&'a [u8]),
+    /// To search included files in the directories that follow, parted by one blank each, if any do.
+    Search(Option<&'a [u8]>),
+    /// To make a file a root.
+    AddRoot(&'a [u8]),
+    /// To make it none any more.
+    DropRoot(&'a [u8]),
+}
+
+/// What is asked of a root.
+#[derive(Clone, Copy, Debug, PartialEq, Eq)]
+pub enum Question {
+    Diagnostics,
+    Dump,
+    /// The files that it asks for and that aren't there.
+    Absent,
+}
 
 /// What a command line asks for. The words lie in the line.
 #[derive(Clone, Copy, Debug)]
 pub enum Heading<'a> {
     /// No command.
     Malformed,
-    /// To put a file of this name, whose lines follow, so many.
-    Put(&'a [u8], usize),
-    /// To make a file a root.
-    AddRoot(&'a [u8]),
-    /// The diagnostics of a root.
-    Diagnostics(&'a [u8]),
-    /// The dump of a root.
-    Dump(&'a [u8]),
+    /// To place lines, of which so many follow.
+    Place(Placement<'a>, usize),
+    /// To edit something else.
+    Make(Change<'a>),
+    /// A question about a root.
+    Ask(Question, &'a [u8]),
 }
 
 /// Reads a command line.
 pub fn parse(line: &[u8]) -> Heading<'_>
-    ensures { request_by result ≡ request_in_words (words line.entry.now) }
+    requires { IsLine line.now }
+    ensures request { request_by result ≡ request_in_words (words line.entry.now) }
+    ensures one_line { HasLines result }
 {
     let (first, rest) = first_part(line, b' ');
+    if first == b"define".as_slice() {
+        return parse_define(rest);
+    }
+    if !are_words(line) {
+        return Heading::Malformed;
+    }
+    if first == b"search".as_slice() {
+        return Heading::Make(Change::Search(rest));
+    }
+    match rest {
+        Some(rest) => parse_words(first, rest),
+        None => Heading::Malformed,
+    }
+}
+
+// A command that defines a macro: a word, and if a blank follows it a body.
+fn parse_define(rest: Option<&[u8]>) -> Heading<'_>
+    requires { IfSome rest (λ bytes. IsLine bytes.now) }
+    ensures request { request_by result ≡ define_request (words_after rest.entry) }
+    ensures one_line { HasLines result }
+{
     let Some(rest) = rest else {
         return Heading::Malformed;
     };
+    let (word, more) = first_part(rest, b' ');
+    if !is_word(word) {
+        return Heading::Malformed;
+    }
+    let Some(body) = more else {
+        return Heading::Make(Change::Define(word, b""));
+    };
+    Heading::Make(Change::Define(word, body))
+}
+
+// A command of a first word and the words in the rest.
+fn parse_words<'a>(first: &'a [u8], rest: &'a [u8]) -> Heading<'a>
+    ensures request { request_by result ≡ counted_request first.entry.now (words rest.entry.now) }
+    ensures one_line { HasLines result }
+{
     let (second, rest) = first_part(rest, b' ');
     let Some(rest) = rest else {
         return two_words(first, second);
     };
     let (third, rest) = first_part(rest, b' ');
+    let Some(rest) = rest else {
+        return three_words(first, second, third);
+    };
+    let (fourth, rest) = first_part(rest, b' ');
+    let Some(rest) = rest else {
+        return Heading::Malformed;
+    };
+    let (fifth, rest) = first_part(rest, b' ');
     match rest {
-        None => three_words(first, second, third),
+        None => five_words(first, second, third, fourth, fifth),
         Some(_more) => Heading::Malformed,
     }
 }
 
-fn two_words<'a>(first: &'a [u8], second: &'a [u8]) -> Heading<'a>
-    ensures { request_by result ≡ request_in_words (first.entry.now ∷ second.entry.now ∷ []) }
+fn two_words<'a>(first: &'a [u8], about: &'a [u8]) -> Heading<'a>
+    ensures request { request_by result ≡ pair_request first.entry.now about.entry.now }
+    ensures one_line { HasLines result }
 {
-    if !is_word(first) || !is_word(second) {
-        Heading::Malformed
+    if first == b"remove".as_slice() {
+        Heading::Make(Change::Remove(about))
+    } else if first == b"undef".as_slice() {
+        Heading::Make(Change::Undef(about))
     } else if first == b"root".as_slice() {
-        Heading::AddRoot(second)
+        Heading::Make(Change::AddRoot(about))
+    } else if first == b"unroot".as_slice() {
+        Heading::Make(Change::DropRoot(about))
     } else if first == b"diagnostics".as_slice() {
-        Heading::Diagnostics(second)
+        Heading::Ask(Question::Diagnostics, about)
     } else if first == b"dump".as_slice() {
-        Heading::Dump(second)
+        Heading::Ask(Question::Dump, about)
+    } else if first == b"absent".as_slice() {
+        Heading::Ask(Question::Absent, about)
     } else {
         Heading::Malformed
     }
 }
 
-fn three_words<'a>(first: &'a [u8], second: &'a [u8], third: &'a [u8]) -> Heading<'a>
-    ensures { request_by result ≡ request_in_words (first.entry.now ∷ second.entry.now ∷ third.entry.now ∷ []) }
+fn three_words<'a>(first: &'a [u8], name: &'a [u8], count: &'a [u8]) -> Heading<'a>
+    ensures request { request_by result ≡ counted_request first.entry.now (name.entry.now ∷ count.entry.now ∷ []) }
+    ensures one_line { HasLines result }
 {
-    if !is_word(first) || !is_word(second) || !is_word(third) {
-        return Heading::Malformed;
-    }
     if first != b"put".as_slice() {
         return Heading::Malformed;
     }
-    match parse_number(third) {
-        Some(count) => Heading::Put(second, count),
+    match parse_number(count) {
+        Some(count) => Heading::Place(Placement::Put(name), count),
         None => Heading::Malformed,
+    }
+}
+
+fn five_words<'a>(
+    first: &'a [u8],
+    name: &'a [u8],
+    from: &'a [u8],
+    del: &'a [u8],
+    count: &'a [u8],
+) -> Heading<'a>
+    ensures request { request_by result ≡ counted_request first.entry.now (name.entry.now ∷ from.entry.now ∷ del.entry.now ∷ count.entry.now ∷ []) }
+    ensures one_line { HasLines result }
+{
+    if first != b"splice".as_slice() {
+        return Heading::Malformed;
+    }
+    let Some(from) = parse_number(from) else {
+        return Heading::Malformed;
+    };
+    let Some(del) = parse_number(del) else {
+        return Heading::Malformed;
+    };
+    match parse_number(count) {
+        Some(count) => Heading::Place(Placement::Splice(name, from, del), count),
+        None => Heading::Malformed,
+    }
+}
+
+// Whether all parts between the blanks are words.
+fn are_words(line: &[u8]) -> bool
+    ensures { result ≡ list_all is_word (words line.now) }
+{
+    let mut left = line;
+    'words: loop {
+        let (word, rest) = first_part(left, b' ');
+        if !is_word(word) {
+            return false;
+        }
+        match rest {
+            Some(rest) => left = rest,
+            None => return true,
+        }
     }
 }
 

@@ -1,21 +1,23 @@
 //! Commands over a session: bytes come in, replies go out.
 //!
-//! A command is a line of words, and for a `put` the lines that it announces. Nothing here opens a file or a terminal: a
+//! A command is a line of words, and for a `put` or a `splice` the lines that it announces. Nothing here opens a file or a terminal: a
 //! caller hands in where the bytes come from and where the replies go.
 #![tactic(auto)]
 
 mod body;
 mod commands;
+mod edit;
 mod feed;
 mod heading;
 mod line_buffer;
 mod reply;
+mod rows;
 mod serve;
 mod stop;
 
 pub use commands::run;
 pub use idl_source::{Line, ReadFailed, Refusal, Sink, Source, WriteFailed};
-pub use idl_workspace::{MAX_ROOTS, Row, Session, Work};
+pub use idl_workspace::{MAX_BODY, MAX_DIRECTORIES, MAX_MACROS, MAX_ROOTS, Row, Session, Work};
 pub use stop::Stop;
 
 /// Bytes that a command line has at most.

@@ -4,9 +4,10 @@ ghost use Rattle.std.specs.Prelude.{◌≡◌, ◌<◌, ◌+◌, ◌-◌, ◌^�
 ghost use Rattle.idl_source.specs.Device.{append, WritesPart};
 ghost use Rattle.idl_session.specs.Replies.{ok_reply, refused_reply, rows_reply, ended, counted};
 ghost use Rattle.idl_session.specs.Gathering.{Sends};
+ghost use Rattle.idl_session.specs.Rows.{rows_of};
 
+use crate::rows::Rows;
 use arrayvec::ArrayVec;
-use idl_base::Text;
 use idl_source::{Refusal, Sink, WriteFailed, write_all};
 use itoa::Buffer;
 use std::marker::Model;
@@ -40,19 +41,19 @@ pub fn write_refused<K: Sink>(sink: &mut K, refusal: Refusal) -> Result<(), Writ
 }
 
 /// `rows`, how many there are, and each on a line of its own
-pub fn write_rows<K: Sink>(sink: &mut K, rows: &[Text]) -> Result<(), WriteFailed>
+pub fn write_rows<K: Sink>(sink: &mut K, rows: Rows<'_>) -> Result<(), WriteFailed>
     requires counts { K.failures sink.old < 2 ^ 64 - 1 }
 
-    ensures written { OnOk result (K.written sink.new ≡ append (K.written sink.old) (rows_reply rows.now)) }
+    ensures written { OnOk result (K.written sink.new ≡ append (K.written sink.old) (rows_reply (rows_of rows.entry))) }
     ensures ok { OnOk result (K.failures sink.new ≡ K.failures sink.old) }
 
-    ensures part { OnErr result (WritesPart (K.written sink.old) (rows_reply rows.now) (K.written sink.new)) }
+    ensures part { OnErr result (WritesPart (K.written sink.old) (rows_reply (rows_of rows.entry)) (K.written sink.new)) }
     ensures err { OnErr result (K.failures sink.new ≡ K.failures sink.old + 1) }
 {
     let mut reply = Reply::new();
     reply.push_counted(sink, b"rows ", rows.len())?;
-    'rows: for row in rows {
-        reply.push_line(sink, row.as_bytes())?;
+    'rows: for i in 0..rows.len() {
+        reply.push_line(sink, rows.get(i))?;
     }
     reply.finish(sink)
 }

@@ -1,25 +1,26 @@
 //! One command: what its heading asks for is done, and the reply goes out.
 
-ghost use Rattle.std.specs.Prelude.{◌≡◌, ◌≤◌, ◌<◌, ◌+◌, ◌-◌, ◌^◌, ℕ, List, Err, IfErr, OnOk, OnErr, MatchBool, nat_eq, length};
-ghost use Rattle.std.specs.Option.{option_copied};
+ghost use Rattle.std.specs.Prelude.{◌≡◌, ◌≤◌, ◌<◌, ◌+◌, ◌-◌, ◌^◌, IfErr, OnOk, OnErr};
+ghost use Rattle.std.specs.Option.{option_map};
 ghost use Rattle.idl_source.specs.Device.{append, WritesPart};
-ghost use Rattle.idl_workspace.specs.Edits.{after_put};
-ghost use Rattle.idl_session.specs.Bodies.{IsBody};
-ghost use Rattle.idl_session.specs.Headings.{request_by};
+ghost use Rattle.idl_session.specs.Headings.{request_by, HasLines};
 ghost use Rattle.idl_session.specs.Replies.{edit_reply, query_reply};
 ghost use Rattle.idl_session.specs.Requests.{request_kept};
-ghost use Rattle.idl_session.specs.Serving.{IsOutcome, SendsReply, IsCut, IsCounted};
+ghost use Rattle.idl_session.specs.Rows.{rows_of};
+ghost use Rattle.idl_session.specs.Serving.{SendsReply, IsCut, IsCounted};
 ghost use Rattle.idl_session.specs.Streams.{lines_left, fuel};
 
 use crate::MAX_COMMAND;
-use crate::body::{Body, read_body};
+use crate::body::read_body;
+use crate::edit::{make, place};
 use crate::feed::Feed;
 use crate::heading::{Heading, parse};
 use crate::line_buffer::LineBuffer;
 use crate::reply::{write_ok, write_refused, write_rows};
+use crate::rows::{Rows, ask};
 use crate::stop::Stop;
 use idl_source::{Name, Refusal, Sink, Source, WriteFailed};
-use idl_workspace::{Row, Session, Work};
+use idl_workspace::{Session, Work};
 
 /// Serves the command of this line, with the further lines that it takes.
 ///
@@ -53,23 +54,20 @@ pub fn serve<S: Source, K: Sink>(
             write_refused(sink, Refusal::Malformed)?;
             Ok(())
         }
-        Heading::Put(name, count) => {
+        Heading::Place(placement, count) => {
             let body = read_body(session.allocator(), source, feed, count)?;
-            let outcome = put_body(session, name, body);
+            let outcome = place(session, placement, body);
             write_edit(sink, outcome)?;
             Ok(())
         }
-        Heading::AddRoot(name) => {
-            let outcome = session.add_root(name);
+        Heading::Make(change) => {
+            let outcome = make(session, change);
             write_edit(sink, outcome)?;
             Ok(())
         }
-        Heading::Diagnostics(name) => {
-            write_query(sink, name, session.diagnostics(name))?;
-            Ok(())
-        }
-        Heading::Dump(name) => {
-            write_query(sink, name, session.dump(name))?;
+        Heading::Ask(question, name) => {
+            let rows = ask(session, question, name);
+            write_query(sink, name, rows)?;
             Ok(())
         }
     }
@@ -77,32 +75,12 @@ pub fn serve<S: Source, K: Sink>(
 
 // A line that is too long is no command.
 fn heading_of(line: &LineBuffer<MAX_COMMAND>) -> Heading<'_>
-    ensures { request_by result ≡ request_kept line.entry.now }
+    ensures request { request_by result ≡ request_kept line.entry.now }
+    ensures one_line { HasLines result }
 {
     match line.get() {
         Some(line) => parse(line),
         None => Heading::Malformed,
-    }
-}
-
-// Puts a file of the gathered lines.
-fn put_body(session: &mut Session, name: &[u8], body: Body) -> Result<Work, Refusal>
-    ensures { (count : ℕ) (lines : List (List ℕ)) → IsBody count lines body →
-        MatchBool (nat_eq (length lines) count)
-        (IsOutcome session.old (after_put session.old.project name.now lines) result session.new)
-        ((result ≡ Err Refusal.Unfinished) × (session.new ≡ session.old)) }
-{
-    match body {
-        Body::Whole(lines) => session.put(name, lines),
-        Body::Unfinished => Err(Refusal::Unfinished),
-        Body::OverLimit => {
-            if Name::new(name).is_some() {
-                Err(Refusal::OverLimit)
-            } else {
-                Err(Refusal::BadName)
-            }
-        }
-        Body::NoMemory => Err(Refusal::NoMemory),
     }
 }
 
@@ -122,13 +100,17 @@ fn write_edit<K: Sink>(sink: &mut K, outcome: Result<Work, Refusal>) -> Result<(
 }
 
 // The rows that a query of this name found, or why there are none.
-fn write_query<K: Sink>(sink: &mut K, name: &[u8], rows: Option<&[Row]>) -> Result<(), WriteFailed>
+fn write_query<K: Sink>(
+    sink: &mut K,
+    name: &[u8],
+    rows: Option<Rows<'_>>,
+) -> Result<(), WriteFailed>
     requires counts { K.failures sink.old < 2 ^ 64 - 1 }
 
-    ensures written { OnOk result (K.written sink.new ≡ append (K.written sink.old) (query_reply name.now (option_copied rows.entry))) }
+    ensures written { OnOk result (K.written sink.new ≡ append (K.written sink.old) (query_reply name.now (option_map rows_of rows.entry))) }
     ensures ok { OnOk result (K.failures sink.new ≡ K.failures sink.old) }
 
-    ensures part { OnErr result (WritesPart (K.written sink.old) (query_reply name.now (option_copied rows.entry)) (K.written sink.new)) }
+    ensures part { OnErr result (WritesPart (K.written sink.old) (query_reply name.now (option_map rows_of rows.entry)) (K.written sink.new)) }
     ensures err { OnErr result (K.failures sink.new ≡ K.failures sink.old + 1) }
 {
     if Name::new(name).is_none() {

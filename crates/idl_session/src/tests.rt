@@ -1,6 +1,6 @@
-//! What no clause says: worked replies, limits, and what becomes of a run whose device or whose memory fails.
+//! What no clause says: worked replies, the numbers of the limits, and what becomes of an edit that is refused memory.
 
-mod devices;
+mod deep;
 mod limits;
 mod memory;
 mod scripts;
@@ -12,15 +12,10 @@ use idl_source::{BufferSink, SliceSource};
 use std::alloc::{AllocError, Global};
 use std::test::Fail;
 
-const FIRST_RUN: &str =
-    "put a.idl 2\ntypedef long X;\ntypedef short X;\nroot a.idl\ndiagnostics a.idl\n";
-
-const FIRST_REPLIES: &str = "ok\nok\nrows 1\na.idl:2: E33 X\n";
-
 // The replies of a session to a script.
 fn replies(alloc: Global, session: &mut Session, script: &[u8]) -> Result<BufferSink, Fail> {
     let mut source = SliceSource::new(script);
-    let mut sink = sink_of(alloc, 4096)?;
+    let mut sink = sink_of(alloc, 16_384)?;
     run(session, &mut source, &mut sink).map_err(|_stop| Fail::from("stopped"))?;
     Ok(sink)
 }

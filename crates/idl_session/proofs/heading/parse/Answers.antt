@@ -1,12 +1,15 @@
-use Rattle.std.proofs.Common.{◌∙◌, ◌∷◌, List, ℕ, ap, sym, eqb}
-use Rattle.idl_session.specs.Requests.{request_in_words}
-use Rattle.idl_session.proofs.HeadingLemmas.{many_words}
+use Rattle.std.proofs.Common.{◌≡◌, ◌∷◌, List, ℕ, Option, None, Some, Bor, IfSome, eqb, []}
+use Rattle.std.specs.List.{slice_split}
+use Rattle.std.specs.Option.{MatchOption}
+use Rattle.idl_source.specs.Line.{IsLine}
+use Rattle.idl_session.proofs.HeadingLemmas.{IsLine-rest}
 use Rattle.idl_session.proofs.heading.parse.Goals as goal
 
-pub returns-in-Some-rest-2 : goal.returns-in-Some-rest-2
-returns-in-Some-rest-2 c =
-    let first = rw c.in-Some.is at c.first_part.ensures.parts in
-    let second = rw c.in-Some-rest.is at c.first_part-2.ensures.parts in
-    let third = rw c.in-Some-rest-2.is at c.first_part-3.ensures.parts in
-    sym (ap request_in_words (first ∙ ap (λ (ws : List (List ℕ)). c.first_part.result.0.now ∷ ws) (second ∙ ap (λ (ws : List (List ℕ)). c.first_part-2.result.0.now ∷ ws) third))
-    ∙ many_words c.first_part.result.0.now c.first_part-2.result.0.now c.first_part-3.result.0.now (λ b. eqb b 32) c.in-Some-rest-2._more.now)
+rest_line : (line first : List ℕ) (rest : Option (Bor (List ℕ)))
+    → MatchOption rest (slice_split (λ b. eqb b 32) line ≡ first ∷ []) (λ r. slice_split (λ b. eqb b 32) line ≡ first ∷ slice_split (λ b. eqb b 32) r.now)
+    → IsLine line → IfSome rest (λ bytes. IsLine bytes.now)
+rest_line line first None parts one_line = tt
+rest_line line first (Some rest) parts one_line = IsLine-rest line first rest.now parts one_line
+
+pub parse_define-requires : goal.parse_define-requires
+parse_define-requires c = rest_line c.args.line.now c.first_part.result.0.now c.first_part.result.1 c.first_part.ensures.parts c.requires
