@@ -1,5 +1,6 @@
 pub mod CountLemmas
 pub mod CutLemmas
+pub mod HeaderLemmas
 pub mod LineLemmas
 pub mod LiteralLemmas
 pub mod LogicalLemmas

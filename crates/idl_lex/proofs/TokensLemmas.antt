@@ -5,7 +5,8 @@ use Rattle.std.specs.Prelude.{codes}
 use Rattle.idl_source.specs.declared.line.TheConstants.{NEWLINE}
 use Rattle.idl_lex.proofs.LineLemmas.{Opened, Opened-piece, further-closed, further-open, ends_block-taken, taken-open, taken-over, taken-closed, ends_block-over, ends_block-closed}
 use Rattle.idl_lex.proofs.PieceLemmas.{longest-further, further-within, taken-le}
-use Rattle.idl_lex.specs.Context.{beginning_after, ends_block, is_include, is_word, context_after, line_start}
+use Rattle.idl_lex.specs.Context.{beginning_after, ends_block, is_include, context_after, line_start}
+use Rattle.idl_lex.specs.Word.{is_word}
 use Rattle.idl_lex.specs.Lexer.{after_comment, ended, is_open}
 use Rattle.idl_lex.specs.Logical.{line_at}
 use Rattle.idl_lex.specs.Scan.{further, taken}

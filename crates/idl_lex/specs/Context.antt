@@ -1,9 +1,9 @@
 -- What stands before a place on its line, as far as tokens depend on it.
 use Rattle.std.specs.Prelude.{ℕ, Bool, true, false, ◌&&◌, List, [], ◌∷◌, codes, nat_eq, if◌then◌else◌}
-use Rattle.std.specs.List.{list_all}
 use Rattle.std.specs.Str.{bytes_eq}
 use Rattle.idl_source.specs.declared.line.TheConstants.{NEWLINE}
-use Rattle.idl_lex.specs.Byte.{is_space, is_word_start, is_word_byte}
+use Rattle.idl_lex.specs.Byte.{is_space}
+use Rattle.idl_lex.specs.Word.{is_word}
 use Rattle.idl_lex.specs.declared.context.Beginning.{Beginning}
 use Rattle.idl_lex.specs.declared.context.Beginning.TheVariants.{Nothing, Hash, Include, Other}
 use Rattle.idl_lex.specs.declared.context.Context.{Context}
@@ -25,11 +25,6 @@ is_include Nothing = false
 is_include Hash = false
 is_include Include = true
 is_include Other = false
-
--- a word
-abbrev pub is_word : List ℕ → Bool
-is_word [] = false
-is_word (b ∷ rest) = if is_word_start b then list_all is_word_byte rest else false
 
 -- `*/` stands here
 abbrev pub ends_block : Bool → List ℕ → Bool

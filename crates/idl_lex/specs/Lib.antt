@@ -1,4 +1,5 @@
 pub mod Byte
+pub mod Word
 pub mod Keywords
 pub mod KeywordTable
 pub mod Marks

@@ -1,5 +1,5 @@
 -- The states in which a piece is read, and the step that a byte makes.
-use Rattle.std.specs.Prelude.{ℕ, suc, nat_eq, Bool, true, false, not, ◌&&◌, ◌||◌, List, [], ◌∷◌, if◌then◌else◌, Option, None, Some}
+use Rattle.std.specs.Prelude.{ℕ, zero, suc, nat_eq, Bool, true, false, not, ◌&&◌, ◌||◌, List, [], ◌∷◌, if◌then◌else◌, Option, None, Some}
 use Rattle.std.specs.Option.{option_map}
 use Rattle.idl_source.specs.declared.line.TheConstants.{NEWLINE}
 use Rattle.idl_lex.specs.Byte.{is_digit, is_word_start, is_word_byte, is_quote, is_x, is_e, is_sign}
@@ -50,6 +50,15 @@ taken s (b ∷ rest) = elim (step_of s b) [ None ↦ 0 | Some t ↦ suc (taken t
 unfoldable pub header_len : List ℕ → Option ℕ
 header_len [] = None
 header_len (b ∷ rest) = if nat_eq b NEWLINE then None else (if nat_eq b 62 then Some 1 else option_map (λ n. suc n) (header_len rest))
+
+-- where the last `>` ends, by whether a first byte is one and where the last one of the others ends; 0 where there is none
+abbrev pub closing_after : Bool → ℕ → ℕ
+closing_after is_closing zero = if is_closing then 1 else 0
+closing_after is_closing (suc n) = suc (suc n)
+
+unfoldable pub closing_end : List ℕ → ℕ
+closing_end [] = 0
+closing_end (b ∷ rest) = closing_after (nat_eq b 62) (closing_end rest)
 
 -- how many bytes the longest piece has after its first one
 abbrev pub further : Bool → ℕ → List ℕ → ℕ

@@ -1,11 +1,10 @@
 //! What stands before a place on its line, as far as the tokens there depend on it.
 
 ghost use Rattle.std.specs.Prelude.{◌≡◌, Bool};
-ghost use Rattle.std.specs.List.{list_all};
-ghost use Rattle.idl_lex.specs.Byte.{is_word_byte};
-ghost use Rattle.idl_lex.specs.Context.{is_word, closes, is_gap, is_newline, ends_block};
+ghost use Rattle.idl_lex.specs.Context.{closes, is_gap, is_newline, ends_block};
 
-use crate::byte::{is_space, is_word_byte, is_word_start};
+use crate::byte::is_space;
+use crate::word::is_word;
 use idl_source::NEWLINE;
 
 /// How a line begins, as far as it goes.
@@ -146,21 +145,4 @@ fn closes(rest: &[u8]) -> bool
         [b'*', rest @ ..] => ends_block(rest),
         _ => false,
     }
-}
-
-// Whether a piece is a word.
-fn is_word(piece: &[u8]) -> bool
-    ensures { result ≡ is_word piece.now }
-{
-    match piece {
-        [b, rest @ ..] if is_word_start(*b) => are_word_bytes(rest),
-        _ => false,
-    }
-}
-
-// Whether all bytes can stand in a word.
-fn are_word_bytes(bytes: &[u8]) -> bool
-    ensures { result ≡ list_all is_word_byte bytes.now }
-{
-    bytes.iter().all(|b| is_word_byte(*b))
 }

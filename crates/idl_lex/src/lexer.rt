@@ -4,13 +4,13 @@ ghost use Rattle.std.specs.Prelude.{◌≡◌, ◌≤◌, ◌<◌, ◌+◌, ◌+
 ghost use Rattle.idl_lex.specs.Context.{is_include};
 ghost use Rattle.idl_lex.specs.Lexer.{coming, ended, is_open};
 ghost use Rattle.idl_lex.specs.Logical.{line_at};
-ghost use Rattle.idl_lex.specs.Scan.{further};
+ghost use Rattle.idl_lex.specs.Scan.{closing_end, further};
 ghost use Rattle.idl_lex.specs.Text.{Placed, bytes_of};
 ghost use Rattle.idl_lex.specs.Tokens.{token_if, tokens_after};
 
 use crate::context::{Context, ends_block, is_gap};
 use crate::logical::Logical;
-use crate::state::{State, further, taken};
+use crate::state::{State, closing_end, further, taken};
 use crate::token::Token;
 use std::alloc::AllocError;
 
@@ -58,10 +58,11 @@ fn push_pieces(
         tokens.new.items ++ coming after rest ≡ tokens.old.items ++ tokens_after context 0 (drop from line.now ++ ended newline rest)) }
 {
     let bytes = line.as_bytes();
+    let closing = closing_end(bytes);
     let mut i = from;
     let mut now = context;
     'pieces: while i < bytes.len() {
-        let end = piece_end(now, bytes, i);
+        let end = piece_end(now, bytes, i, closing);
         let piece = &bytes[i..end];
         if is_open(piece) {
             let spelling = line.spelling(i, i + 2)?;
@@ -97,13 +98,16 @@ fn push_piece(
     Ok(())
 }
 
-// Where the longest piece ends that begins at a place, of the bytes that stand there.
-fn piece_end(context: Context, bytes: &[u8], i: usize) -> usize
-    requires { i < length bytes.now }
+// Where the longest piece ends that begins at a place, of the bytes that stand there, the last `>` of which ends at another place.
+fn piece_end(context: Context, bytes: &[u8], i: usize, closing: usize) -> usize
+    requires here { i < length bytes.now }
+    requires closing { closing ≡ closing_end bytes.now }
     ensures end { result ≡ i + 1 + further (is_include context.beginning) (slice_index bytes.now i) (drop (i + 1) bytes.now) }
     ensures within { result ≤ length bytes.now }
 {
-    i + 1 + further(context.beginning.is_include(), bytes[i], &bytes[i + 1..])
+    // Past the last `>` no name begins, and none is searched for.
+    let includes = i + 1 < closing && context.beginning.is_include();
+    i + 1 + further(includes, bytes[i], &bytes[i + 1..])
 }
 
 // Whether a piece is a comment that isn't closed.

@@ -19,6 +19,7 @@ mod number;
 mod spelling;
 mod state;
 mod token;
+mod word;
 
 pub use keyword::Keyword;
 pub use kind::{Defect, Kind, is_like_keyword, kind_of};
@@ -27,6 +28,7 @@ pub use literal::decode;
 pub use mark::{Mark, PreprocessorMark};
 pub use spelling::Spelling;
 pub use token::Token;
+pub use word::is_word;
 
 #[cfg(test)]
 mod tests;

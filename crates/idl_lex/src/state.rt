@@ -2,7 +2,7 @@
 
 ghost use Rattle.std.specs.Prelude.{◌≡◌, ◌≤◌, length, IfSome};
 ghost use Rattle.idl_lex.specs.Piece.{is_pair};
-ghost use Rattle.idl_lex.specs.Scan.{number_step, literal_step, taken, header_len, further};
+ghost use Rattle.idl_lex.specs.Scan.{number_step, literal_step, taken, header_len, closing_end, further};
 
 use crate::byte::{is_digit, is_e, is_quote, is_sign, is_word_byte, is_word_start, is_x};
 use idl_source::NEWLINE;
@@ -114,6 +114,19 @@ fn header_len(rest: &[u8]) -> Option<usize>
         }
     }
     None
+}
+
+/// Where the last `>` of these bytes ends, or 0 where there is none: no included file's name begins from there on.
+pub fn closing_end(bytes: &[u8]) -> usize
+    ensures { result ≡ closing_end bytes.now }
+{
+    let mut end = 0;
+    for (i, b) in bytes.iter().enumerate() {
+        if *b == b'>' {
+            end = i + 1;
+        }
+    }
+    end
 }
 
 fn number_step(is_hexadecimal: bool, is_after_e: bool, b: u8) -> Option<State>
