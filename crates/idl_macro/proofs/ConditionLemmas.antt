@@ -10,7 +10,7 @@ use Rattle.idl_lex.specs.declared.token.Token.{Token}
 use Rattle.idl_macro.specs.Condition.{condition, defined_at, defined_read, judged, judging, read_after, read_one, taken_by, truth_at, value}
 use Rattle.idl_macro.specs.Items.{rules}
 use Rattle.idl_macro.specs.Key.{key_eq}
-use Rattle.idl_macro.specs.Macros.{Reached, Definitions, Expansion, macro_of, reached}
+use Rattle.idl_macro.specs.Macros.{Reached, Definitions, Expanding, macro_of, reached}
 use Rattle.idl_macro.specs.Replace.{followed_by, operand}
 use Rattle.idl_macro.specs.declared.allowance.Allowance.{Allowance}
 use Rattle.idl_macro.specs.declared.item.Item.{Item}
@@ -46,7 +46,7 @@ module _ (definitions : Definitions) where
 
   module _ (bank : Key → Option Answer) (t : Token) (tokens : List Token) where
     -- what is read first, and then
-    abbrev read_first : Option (List ℕ × ℕ) → Expansion (List Token)
+    abbrev read_first : Option (List ℕ × ℕ) → Expanding (List Token)
     read_first name = followed_by (read_one definitions t name) (read_after definitions (taken_by name) tokens)
 
     -- a token that is no `defined X` is read as it is
@@ -59,7 +59,7 @@ module _ (definitions : Definitions) where
     outcome-read-token h = ap (λ name. outcome (read_first name) bank) (no_name tokens (defined_at t tokens) h) ∙ outcome-followed_by bank (Done (t ∷ [])) (defined_read definitions tokens)
 
     -- a `defined X` is read as one token, for which the macro is looked for, and then what follows it
-    abbrev answering : List ℕ → Expansion (List Token)
+    abbrev answering : List ℕ → Expanding (List Token)
     answering word = and_then (macro_of definitions word) (λ body. Done (truth_at t (is_some body) ∷ []))
 
     reached_by : (p : Reached) (word : List ℕ) (rest : List Token) (name : Option (List ℕ × ℕ)) → Some (word, rest) ≡ name_and_rest tokens name

@@ -9,7 +9,7 @@ use Rattle.idl_lex.specs.declared.token.Token.{Token}
 use Rattle.idl_macro.specs.Directives.{define, defining, definition_in, differs, first_word, ifdef, ifndef, is_macro_there, is_missing, is_there, same_tokens, saying, undef}
 use Rattle.idl_macro.specs.Items.{rules}
 use Rattle.idl_macro.specs.Key.{key_eq}
-use Rattle.idl_macro.specs.Macros.{Reached, Definitions, Expansion, macro_of, reached}
+use Rattle.idl_macro.specs.Macros.{Reached, Definitions, Expanding, macro_of, reached}
 use Rattle.idl_macro.specs.declared.item.Code.TheVariants.{MalformedMacro, OtherDefinition}
 use Rattle.idl_macro.specs.declared.item.Item.TheVariants.{Fault}
 use Rattle.idl_macro.specs.declared.key.Answer.{Answer}
@@ -28,7 +28,7 @@ same_tokens-drop body other i d h k = rw (add-one, drop-cons body i d, drop-cons
 
 module _ (bank : Key → Option Answer) (place : Place) (directive : List ℕ) (definitions : Definitions) (tokens : List Token) (p : Reached) where
   -- `undef`
-  abbrev removing : Option (List ℕ) → Expansion Definitions
+  abbrev removing : Option (List ℕ) → Expanding Definitions
   removing word = elim word [ None ↦ Tell (Fault place MalformedMacro (Some directive)) (Done definitions) | Some w ↦ Done (saying definitions w None) ]
 
   pub outcome-undef : (word : Option (List ℕ)) → first_word tokens ≡ word → outcome (undef place directive definitions tokens) bank ≡ outcome (removing word) bank
@@ -40,7 +40,7 @@ module _ (bank : Key → Option Answer) (place : Place) (directive : List ℕ) (
   reached-undef word first = ap (λ w. reached bank (removing w) p) first
 
   -- whether a macro is there
-  abbrev finding : Option (List ℕ) → Expansion (Option Bool)
+  abbrev finding : Option (List ℕ) → Expanding (Option Bool)
   finding word = elim word [
     | None ↦ Tell (Fault place MalformedMacro (Some directive)) (Done None)
     | Some w ↦ and_then (macro_of definitions w) (λ body. Done (Some (is_some body)))
@@ -80,7 +80,7 @@ module _ (bank : Key → Option Answer) (place : Place) (directive : List ℕ) (
   reached-ifndef = after-and_then rules key_eq bank (is_macro_there place directive definitions tokens) (λ t. Done (is_missing t)) p
 
   -- `define`
-  abbrev definition : Option (List ℕ × List Token) → Expansion Definitions
+  abbrev definition : Option (List ℕ × List Token) → Expanding Definitions
   definition found = elim found [
     | None ↦ Tell (Fault place MalformedMacro (Some directive)) (Done definitions)
     | Some d ↦ and_then (macro_of definitions d.0) (defining place definitions d.0 d.1)
@@ -95,7 +95,7 @@ module _ (bank : Key → Option Answer) (place : Place) (directive : List ℕ) (
   reached-define-malformed found = ap (λ d. reached bank (definition d) p) found
 
   module _ (word : List ℕ) (body : List Token) (found : definition_in tokens ≡ Some (word, body)) (is_other : Bool) (differs_is : differs (outcome (macro_of definitions word) bank) body ≡ is_other) where
-    abbrev chosen : Bool → Expansion Definitions
+    abbrev chosen : Bool → Expanding Definitions
     chosen b = if b then Tell (Fault place OtherDefinition (Some word)) (Done definitions) else Done (saying definitions word (Some body))
 
     pub outcome-define : outcome (define place directive definitions tokens) bank ≡ outcome (chosen is_other) bank

@@ -12,7 +12,7 @@ use Rattle.idl_base.specs.Progress.{after_key}
 use Rattle.idl_base.specs.Query.{Done, Ask, outcome}
 use Rattle.idl_lex.specs.declared.token.Token.{Token}
 use Rattle.idl_macro.specs.Key.{key_eq}
-use Rattle.idl_macro.specs.Macros.{Definitions, Expansion, Reached, body_in, macro_of, reached}
+use Rattle.idl_macro.specs.Macros.{Definitions, Expanding, Reached, body_in, macro_of, reached}
 use Rattle.idl_macro.specs.Replace.{replacement}
 use Rattle.idl_macro.specs.Words.{is_word}
 use Rattle.idl_macro.specs.declared.key.Answer.{Answer}
@@ -21,7 +21,7 @@ use Rattle.idl_macro.specs.declared.key.Key.TheVariants as key
 
 module _ (bank : Key → Option Answer) (definitions : Definitions) (word : List ℕ) where
   -- what follows from what the root said of the word
-  abbrev by_what_is_said : Option (Option (List Token)) → Expansion (Option (List Token))
+  abbrev by_what_is_said : Option (Option (List Token)) → Expanding (Option (List Token))
   by_what_is_said said = elim said [ None ↦ Ask (key.Macro word) (λ found. Done (body_in found)) | Some body ↦ Done body ]
 
   -- what the root said of the word is the macro

@@ -7,7 +7,7 @@ use Rattle.idl_base.specs.QueryLaws.{outcome-and_then}
 use Rattle.idl_lex.specs.declared.token.Token.{Token}
 use Rattle.idl_macro.specs.Items.{rules}
 use Rattle.idl_macro.specs.Key.{key_eq}
-use Rattle.idl_macro.specs.Macros.{Reached, Definitions, Expansion, reached}
+use Rattle.idl_macro.specs.Macros.{Reached, Definitions, Expanding, reached}
 use Rattle.idl_macro.specs.Output.{item_of}
 use Rattle.idl_macro.specs.Replace.{each, followed_by, replaced, replaced_at, replacement, stands, text}
 use Rattle.idl_macro.specs.Words.{placed}
@@ -25,24 +25,24 @@ Open = List ℕ × Bor (List Token)
 
 module _ (bank : Key → Option Answer) where
   -- where one comes to with two, one after the other
-  pub reached-followed_by : (query more : Expansion (List Token)) (p : Reached) → reached bank (followed_by query more) p ≡ reached bank more (reached bank query p)
+  pub reached-followed_by : (query more : Expanding (List Token)) (p : Reached) → reached bank (followed_by query more) p ≡ reached bank more (reached bank query p)
   reached-followed_by query more p =
       after-and_then rules key_eq bank query (λ first. and_then more (λ rest. Done (first ++ rest))) p
       ∙ after-and_then rules key_eq bank more (λ rest. Done (outcome query bank ++ rest)) (reached bank query p)
 
   -- what comes of two, one after the other
-  pub outcome-followed_by : (query more : Expansion (List Token)) → outcome (followed_by query more) bank ≡ outcome query bank ++ outcome more bank
+  pub outcome-followed_by : (query more : Expanding (List Token)) → outcome (followed_by query more) bank ≡ outcome query bank ++ outcome more bank
   outcome-followed_by query more =
       outcome-and_then query (λ first. and_then more (λ rest. Done (first ++ rest))) bank
       ∙ outcome-and_then more (λ rest. Done (outcome query bank ++ rest)) bank
 
   module _ (item : Token → Item) (place : Place) (definitions : Definitions) (room : ℕ) where
     -- a token inside these replacements
-    abbrev pub within : List Open → Token → Expansion (List Token)
+    abbrev pub within : List Open → Token → Expanding (List Token)
     within fs = replaced item place definitions (room - length fs) (keys_of fs)
 
     -- these tokens inside these replacements, the innermost first, and what follows those
-    abbrev pub pending : List Open → List Token → Expansion (List Token)
+    abbrev pub pending : List Open → List Token → Expanding (List Token)
     pending [] tokens = each (within []) tokens
     pending (f ∷ fs) tokens = followed_by (each (within (f ∷ fs)) tokens) (pending fs f.1.now)
 
@@ -74,7 +74,7 @@ module _ (bank : Key → Option Answer) where
         ∙ ap (λ ts. outcome (within (f ∷ fs) t) bank ++ ts) (sym (outcome-followed_by rest (pending fs f.1.now)))
 
     -- what is made of a token, by the body that it is replaced by
-    abbrev pub made : ℕ → List (List ℕ) → Token → Option (List Token) → Expansion (List Token)
+    abbrev pub made : ℕ → List (List ℕ) → Token → Option (List Token) → Expanding (List Token)
     made m hidden t body = elim body [
       | None ↦ stands item (placed place.line t)
       | Some tokens ↦ Tell (Turn place) (each (replaced item place definitions m (t.spelling ∷ hidden)) tokens)

@@ -5,7 +5,7 @@ use Rattle.idl_base.specs.Query.{Done, Ask, Tell, outcome}
 use Rattle.idl_lex.specs.declared.token.Token.{Token}
 use Rattle.idl_macro.specs.Items.{rules, turns_left}
 use Rattle.idl_macro.specs.Key.{key_eq}
-use Rattle.idl_macro.specs.Macros.{Reached, Definitions, Expansion, reached}
+use Rattle.idl_macro.specs.Macros.{Reached, Definitions, Expanding, reached}
 use Rattle.idl_macro.specs.Replace.{each, replaced, replacement}
 use Rattle.idl_macro.specs.declared.allowance.Allowance.{Allowance}
 use Rattle.idl_macro.specs.declared.item.Item.{Item}
@@ -50,7 +50,7 @@ turn_ends_or_fewer place (Some left) n m h k = ends_or_fewer left n m (nat_eq le
 
 module _ (bank : Key → Option Answer) where
   -- nothing gives turns back
-  pub turns-reached : {A : Type 0} (query : Expansion A) (p : Reached) → turns_left (reached bank query p).left ≤ turns_left p.left
+  pub turns-reached : {A : Type 0} (query : Expanding A) (p : Reached) → turns_left (reached bank query p).left ≤ turns_left p.left
   turns-reached (Done a) p = omega arith
   turns-reached (Ask k next) p =
       subst (λ (o : Option Allowance). turns_left (reached bank (next (bank k)) (after_key key_eq bank k p)).left ≤ turns_left o) (left-after_key bank k p)
@@ -61,7 +61,7 @@ module _ (bank : Key → Option Answer) where
       omega (arith, more, fewer)
 
   -- two that come to the same with each token do so with them all
-  each-same : (f g : Token → Expansion (List Token)) (bound : ℕ) → ((t : Token) (p : Reached) → turns_left p.left ≤ bound → reached bank (f t) p ≡ reached bank (g t) p)
+  each-same : (f g : Token → Expanding (List Token)) (bound : ℕ) → ((t : Token) (p : Reached) → turns_left p.left ≤ bound → reached bank (f t) p ≡ reached bank (g t) p)
       → (tokens : List Token) (p : Reached) → turns_left p.left ≤ bound → reached bank (each f tokens) p ≡ reached bank (each g tokens) p
   each-same f g bound same [] p h = refl
   each-same f g bound same (t ∷ tokens) p h =

@@ -7,7 +7,7 @@ use Rattle.idl_condition.specs.Condition.{condition as value_of}
 use Rattle.idl_condition.specs.Symbol.{symbol_of}
 use Rattle.idl_lex.specs.declared.kind.Kind.TheVariants.{Integer}
 use Rattle.idl_lex.specs.declared.token.Token.{Token}
-use Rattle.idl_macro.specs.Macros.{Definitions, Expansion, macro_of}
+use Rattle.idl_macro.specs.Macros.{Definitions, Expanding, macro_of}
 use Rattle.idl_macro.specs.Replace.{followed_by, operand}
 use Rattle.idl_macro.specs.Words.{is_word}
 use Rattle.idl_macro.specs.declared.item.Code.TheVariants.{BadCondition}
@@ -35,7 +35,7 @@ truth_at t true = record t { kind = Integer 1; spelling = codes "1" }
 truth_at t false = record t { kind = Integer 0; spelling = codes "0" }
 
 -- a token, or whether the macro with this name is there
-abbrev pub read_one : Definitions → Token → Option (List ℕ × ℕ) → Expansion (List Token)
+abbrev pub read_one : Definitions → Token → Option (List ℕ × ℕ) → Expanding (List Token)
 read_one definitions t None = Done (t ∷ [])
 read_one definitions t (Some name) = and_then (macro_of definitions name.0) (λ body. Done (truth_at t (is_some body) ∷ []))
 
@@ -45,14 +45,14 @@ taken_by None = 0
 taken_by (Some name) = name.1
 
 -- the tokens after the first n, in which each `defined X` is read
-unfoldable pub read_after : Definitions → ℕ → List Token → Expansion (List Token)
+unfoldable pub read_after : Definitions → ℕ → List Token → Expanding (List Token)
 read_after definitions n [] = Done []
 read_after definitions (suc n) (t ∷ tokens) = read_after definitions n tokens
 read_after definitions zero (t ∷ tokens) =
     followed_by (read_one definitions t (defined_at t tokens)) (read_after definitions (taken_by (defined_at t tokens)) tokens)
 
 -- each `defined X` is read, from left to right; a `defined` with no name behind it is left as it is
-abbrev pub defined_read : Definitions → List Token → Expansion (List Token)
+abbrev pub defined_read : Definitions → List Token → Expanding (List Token)
 defined_read definitions tokens = read_after definitions zero tokens
 
 -- the value of these tokens
@@ -60,14 +60,14 @@ abbrev pub value : List Token → Value
 value tokens = value_of (map (λ t. symbol_of t.spelling) tokens)
 
 -- a condition without a value is a fault, and doesn't hold; another one holds unless its value is zero
-abbrev pub judged : Place → List ℕ → Value → Expansion Bool
+abbrev pub judged : Place → List ℕ → Value → Expanding Bool
 judged place directive None = Tell (Fault place BadCondition (Some directive)) (Done false)
 judged place directive (Some z) = Done (not (is_zero z))
 
 -- the tokens that are left have their values as they stand
-abbrev pub judging : Place → List ℕ → Definitions → List Token → Expansion Bool
+abbrev pub judging : Place → List ℕ → Definitions → List Token → Expanding Bool
 judging place directive definitions read = and_then (operand place definitions read) (λ given. judged place directive (value given))
 
 -- `if` and `elif`: the directive's word, and the tokens after it; whether the condition holds
-unfoldable pub condition : Place → List ℕ → Definitions → List Token → Expansion Bool
+unfoldable pub condition : Place → List ℕ → Definitions → List Token → Expanding Bool
 condition place directive definitions tokens = and_then (defined_read definitions tokens) (judging place directive definitions)

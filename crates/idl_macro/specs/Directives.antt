@@ -5,7 +5,7 @@ use Rattle.std.specs.Str.{bytes_eq}
 use Rattle.indexmap.specs.IndexMap.{insert_entry}
 use Rattle.idl_base.specs.Query.{Done, Tell, and_then}
 use Rattle.idl_lex.specs.declared.token.Token.{Token}
-use Rattle.idl_macro.specs.Macros.{Definitions, Expansion, macro_of}
+use Rattle.idl_macro.specs.Macros.{Definitions, Expanding, macro_of}
 use Rattle.idl_macro.specs.Words.{is_word, opens_parameters}
 use Rattle.idl_macro.specs.declared.item.Code.TheVariants.{MalformedMacro, OtherDefinition}
 use Rattle.idl_macro.specs.declared.item.Item.TheVariants.{Fault}
@@ -44,27 +44,27 @@ differs None body = false
 differs (Some old) body = not (same_tokens old body)
 
 -- a macro is defined, unless it is there with other tokens, and then it stays
-abbrev pub defining : Place → Definitions → List ℕ → List Token → Option (List Token) → Expansion Definitions
+abbrev pub defining : Place → Definitions → List ℕ → List Token → Option (List Token) → Expanding Definitions
 defining place definitions word body old =
     if differs old body then Tell (Fault place OtherDefinition (Some word)) (Done definitions)
     else Done (saying definitions word (Some body))
 
 -- `define`: the directive's word, and the tokens after it
-unfoldable pub define : Place → List ℕ → Definitions → List Token → Expansion Definitions
+unfoldable pub define : Place → List ℕ → Definitions → List Token → Expanding Definitions
 define place directive definitions tokens = elim (definition_in tokens) [
   | None ↦ Tell (Fault place MalformedMacro (Some directive)) (Done definitions)
   | Some d ↦ and_then (macro_of definitions d.0) (defining place definitions d.0 d.1)
 ]
 
 -- `undef`: further tokens are passed over
-unfoldable pub undef : Place → List ℕ → Definitions → List Token → Expansion Definitions
+unfoldable pub undef : Place → List ℕ → Definitions → List Token → Expanding Definitions
 undef place directive definitions tokens = elim (first_word tokens) [
   | None ↦ Tell (Fault place MalformedMacro (Some directive)) (Done definitions)
   | Some word ↦ Done (saying definitions word None)
 ]
 
 -- whether the macro named by these tokens is there, where they name one; further tokens are passed over
-unfoldable pub is_macro_there : Place → List ℕ → Definitions → List Token → Expansion (Option Bool)
+unfoldable pub is_macro_there : Place → List ℕ → Definitions → List Token → Expanding (Option Bool)
 is_macro_there place directive definitions tokens = elim (first_word tokens) [
   | None ↦ Tell (Fault place MalformedMacro (Some directive)) (Done None)
   | Some word ↦ and_then (macro_of definitions word) (λ body. Done (Some (is_some body)))
@@ -81,9 +81,9 @@ is_missing None = false
 is_missing (Some there) = not there
 
 -- `ifdef`: whether its group is taken
-unfoldable pub ifdef : Place → List ℕ → Definitions → List Token → Expansion Bool
+unfoldable pub ifdef : Place → List ℕ → Definitions → List Token → Expanding Bool
 ifdef place directive definitions tokens = and_then (is_macro_there place directive definitions tokens) (λ there. Done (is_there there))
 
 -- `ifndef`: whether its group is taken
-unfoldable pub ifndef : Place → List ℕ → Definitions → List Token → Expansion Bool
+unfoldable pub ifndef : Place → List ℕ → Definitions → List Token → Expanding Bool
 ifndef place directive definitions tokens = and_then (is_macro_there place directive definitions tokens) (λ there. Done (is_missing there))

@@ -17,15 +17,15 @@ use Rattle.idl_macro.specs.declared.key.Key.{Key}
 use Rattle.idl_macro.specs.declared.key.Key.TheVariants as key
 
 -- what a root asks and tells, and what comes of it
-abbrev pub Expansion : Type 0 → Type 0
-Expansion A = Query Key (Option Answer) Item A
+abbrev pub Expanding : Type 0 → Type 0
+Expanding A = Query Key (Option Answer) Item A
 
 -- how far a root has come
 abbrev pub Reached : Type 0
 Reached = Progress Key (Option Answer) Event Allowance
 
 -- where it comes to with what is asked and told
-abbrev pub reached : {A : Type 0} → (Key → Option Answer) → Expansion A → Reached → Reached
+abbrev pub reached : {A : Type 0} → (Key → Option Answer) → Expanding A → Reached → Reached
 reached bank query p = after rules key_eq bank query p
 
 -- what the root itself has said of words: the tokens of a macro's body, or nothing where the macro was removed
@@ -40,6 +40,6 @@ body_in (Some (answer.File text)) = None
 body_in (Some (answer.Search directories)) = None
 
 -- the macro with this word: what the root said of it, else what is answered
-unfoldable pub macro_of : Definitions → List ℕ → Expansion (Option (List Token))
+unfoldable pub macro_of : Definitions → List ℕ → Expanding (Option (List Token))
 macro_of definitions word =
     elim (lookup (bytes_eq word) definitions) [ None ↦ Ask (key.Macro word) (λ found. Done (body_in found)) | Some body ↦ Done body ]

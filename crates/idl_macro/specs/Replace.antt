@@ -4,7 +4,7 @@ use Rattle.std.specs.List.{list_any}
 use Rattle.std.specs.Str.{bytes_eq}
 use Rattle.idl_base.specs.Query.{Done, Tell, and_then}
 use Rattle.idl_lex.specs.declared.token.Token.{Token}
-use Rattle.idl_macro.specs.Macros.{Definitions, Expansion, macro_of}
+use Rattle.idl_macro.specs.Macros.{Definitions, Expanding, macro_of}
 use Rattle.idl_macro.specs.Words.{is_word, placed}
 use Rattle.idl_macro.specs.declared.allowance.TheConstants.{MAX_TURNS}
 use Rattle.idl_macro.specs.declared.file_name.FileName.{FileName}
@@ -13,27 +13,27 @@ use Rattle.idl_macro.specs.declared.item.Item.TheVariants.{Emitted, Counted, Tur
 use Rattle.idl_macro.specs.declared.place.Place.{Place}
 
 -- two that give tokens, one after the other: the tokens of both, end to end
-abbrev pub followed_by : Expansion (List Token) → Expansion (List Token) → Expansion (List Token)
+abbrev pub followed_by : Expanding (List Token) → Expanding (List Token) → Expanding (List Token)
 followed_by query more = and_then query (λ first. and_then more (λ rest. Done (first ++ rest)))
 
 -- each token, end to end
-abbrev pub each : (Token → Expansion (List Token)) → List Token → Expansion (List Token)
+abbrev pub each : (Token → Expanding (List Token)) → List Token → Expanding (List Token)
 each f [] = Done []
 each f (t ∷ tokens) = followed_by (f t) (each f tokens)
 
 -- the body that a token is replaced by: its macro's, if it is a word and doesn't stand in its own replacement
-unfoldable pub replacement : Definitions → List (List ℕ) → Token → Expansion (Option (List Token))
+unfoldable pub replacement : Definitions → List (List ℕ) → Token → Expanding (Option (List Token))
 replacement definitions hidden t =
     if is_word t && not (list_any (bytes_eq t.spelling) hidden) then macro_of definitions t.spelling else Done None
 
 -- a token that stands for itself: it is told, and given
-abbrev pub stands : (Token → Item) → Token → Expansion (List Token)
+abbrev pub stands : (Token → Item) → Token → Expanding (List Token)
 stands item t = Tell (item t) (Done (t ∷ []))
 
 -- A token is replaced by the tokens of its macro's body, each of which is replaced in turn, with the macro's word among those
 -- that are hidden; other tokens stand for themselves, on the line of the outermost word. A replacement is a turn, so that no
 -- more of them than there are turns stand in one another.
-unfoldable pub replaced : (Token → Item) → Place → Definitions → ℕ → List (List ℕ) → Token → Expansion (List Token)
+unfoldable pub replaced : (Token → Item) → Place → Definitions → ℕ → List (List ℕ) → Token → Expanding (List Token)
 replaced item place definitions zero hidden t = stands item (placed place.line t)
 replaced item place definitions (suc room) hidden t =
     and_then (replacement definitions hidden t) (λ body. elim body [
@@ -42,13 +42,13 @@ replaced item place definitions (suc room) hidden t =
     ])
 
 -- tokens that are replaced at one place
-abbrev pub replaced_at : (Token → Item) → Place → Definitions → List Token → Expansion (List Token)
+abbrev pub replaced_at : (Token → Item) → Place → Definitions → List Token → Expanding (List Token)
 replaced_at item place definitions tokens = each (replaced item place definitions (MAX_TURNS + 1) []) tokens
 
 -- the tokens of a text, each of which is replaced on its own line
-unfoldable pub text : FileName → Definitions → List Token → Expansion (List Token)
+unfoldable pub text : FileName → Definitions → List Token → Expanding (List Token)
 text file definitions tokens = each (λ t. replaced_at (Emitted file) (record { file = file; line = t.line }) definitions (t ∷ [])) tokens
 
 -- the tokens of a condition or of an operand, all of which are replaced at the place of the directive, and counted
-unfoldable pub operand : Place → Definitions → List Token → Expansion (List Token)
+unfoldable pub operand : Place → Definitions → List Token → Expanding (List Token)
 operand place definitions tokens = replaced_at (λ _. Counted place) place definitions tokens

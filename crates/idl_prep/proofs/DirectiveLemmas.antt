@@ -4,7 +4,7 @@ use Rattle.std.specs.List.{list_any}
 use Rattle.std.specs.Str.{bytes_eq}
 use Rattle.indexmap.specs.IndexSet.{insert_key}
 use Rattle.idl_base.specs.Query.{Done, Tell}
-use Rattle.idl_macro.specs.Macros.{Expansion, Reached}
+use Rattle.idl_macro.specs.Macros.{Expanding, Reached}
 use Rattle.idl_macro.specs.declared.file_name.FileName.{FileName}
 use Rattle.idl_macro.specs.declared.item.Item.TheVariants as item
 use Rattle.idl_macro.specs.declared.key.Answer.{Answer}
@@ -59,7 +59,7 @@ module _ (bank : Key → Option Answer) (file : FileName) (d : Directive) (way :
   onward-pragma_by o first = ap (λ (o : Option (List ℕ)). onward bank (λ s. pragma_by file d s o) way) (sym first)
 
   -- by whether the word is `once`, and else whether it means something to IDL
-  abbrev by_word : Bool → Bool → Expansion State
+  abbrev by_word : Bool → Bool → Expanding State
   by_word is_once means =
       if is_once then Done (record way.state { once = insert_key bytes_eq way.state.once file })
       else (if means then Tell (item.Pragma file (d.word ∷ d.operands)) (Done way.state) else Done way.state)

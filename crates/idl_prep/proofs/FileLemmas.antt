@@ -18,11 +18,11 @@ use Rattle.idl_prep.specs.Tree.{part, tree}
 use Rattle.idl_prep.specs.declared.groups.Group.{Group}
 use Rattle.idl_prep.proofs.WalkLemmas.{onward-then}
 use Rattle.idl_prep.proofs.WayLemmas.{arrival-over}
-use Rattle.idl_macro.specs.Macros.{Expansion}
+use Rattle.idl_macro.specs.Macros.{Expanding}
 
 module _ (bank : Key → Option Answer) where
   -- once a limit was passed a root is where it comes to by anything
-  pub ended-over : (query : State → Expansion State) (way : Way) → way.progress.left ≡ None → ended way ≡ onward bank query way
+  pub ended-over : (query : State → Expanding State) (way : Way) → way.progress.left ≡ None → ended way ≡ onward bank query way
   ended-over query way over =
       ap (λ o. (way.progress, option_map (λ _. way.state) o)) over ∙ sym (arrival-over bank (query way.state) way.progress over)
 
@@ -44,7 +44,7 @@ module _ (bank : Key → Option Answer) where
   unfolding enter
   onward-enter room less place file lines old told mid new is enters came leaves =
       let query = walk_file (enter less) file lines in
-      let leave : State → Expansion State = λ after. Tell (Left file) (Done after) in
+      let leave : State → Expanding State = λ after. Tell (Left file) (Done after) in
       ap ended leaves
       ∙ onward-then bank query leave (λ s. and_then (query s) leave) told mid came refl
       ∙ ap (onward bank (λ s. and_then (query s) leave)) enters

@@ -10,7 +10,7 @@ use Rattle.idl_macro.specs.Items.{rules}
 use Rattle.idl_macro.specs.Replace.{operand}
 use Rattle.idl_lex.specs.declared.token.Token.{Token}
 use Rattle.idl_macro.specs.Key.{key_eq}
-use Rattle.idl_macro.specs.Macros.{Definitions, Expansion, Reached, macro_of, reached}
+use Rattle.idl_macro.specs.Macros.{Definitions, Expanding, Reached, macro_of, reached}
 use Rattle.idl_macro.specs.Words.{is_word}
 use Rattle.idl_macro.specs.declared.item.Item.TheVariants.{Counted}
 use Rattle.idl_macro.specs.declared.place.Place.{Place}
@@ -29,7 +29,7 @@ abbrev pub found_as : List ℕ → Option (List (List ℕ)) → Option Found
 found_as name lines = option_map (λ ls. record { name = name; lines = ls }) lines
 
 -- the search for one name, if there is one
-abbrev pub one : Option (List ℕ) → Expansion (Option Found)
+abbrev pub one : Option (List ℕ) → Expanding (Option Found)
 one name = first_present (option_to_list name)
 
 module _ (bank : Key → Option Answer) where
@@ -42,7 +42,7 @@ module _ (bank : Key → Option Answer) where
   reached-one-none o p none = ap (λ o. reached bank (one o) p) none
 
   -- what follows from the lines that are answered
-  abbrev by_lines : List ℕ → Option (List (List ℕ)) → Expansion (Option Found)
+  abbrev by_lines : List ℕ → Option (List (List ℕ)) → Expanding (Option Found)
   by_lines name lines = elim lines [ None ↦ first_present [] | Some ls ↦ Done (Some (record { name = name; lines = ls })) ]
 
   outcome-by_lines : (name : List ℕ) (lines : Option (List (List ℕ))) → outcome (by_lines name lines) bank ≡ found_as name lines
@@ -101,7 +101,7 @@ module _ (bank : Key → Option Answer) where
       ∙ ap (λ (r : Reached). elim (outcome (by_lines name lines) bank) [ None ↦ reached bank (first_present names) r | Some found ↦ r ]) (sym (reached-by_lines name lines q))
 
 -- the names along directories: that in the first, if there is one, and those along the others
-cons_option-append : {X : Type 0} (o : Option X) (xs : List X) → cons_option o xs ≡ option_to_list o ++ xs
+pub cons_option-append : {X : Type 0} (o : Option X) (xs : List X) → cons_option o xs ≡ option_to_list o ++ xs
 cons_option-append None xs = refl
 cons_option-append (Some x) xs = refl
 
@@ -156,14 +156,14 @@ module _ (bank : Key → Option Answer) (from : List ℕ) (o : Operand) (f : Opt
   pub outcome-file_of-quoted : is_rooted o.name ≡ false → o.is_quoted ≡ true → outcome (one (joined (directory_of from) o.name)) bank ≡ f
       → outcome (file_of from o) bank ≡ outcome (or_along o.name f) bank
   outcome-file_of-quoted h q found =
-      ap (λ (e : Expansion (Option Found)). outcome e bank) (file_of-quoted from o h q)
+      ap (λ (e : Expanding (Option Found)). outcome e bank) (file_of-quoted from o h q)
       ∙ outcome-and_then (one (joined (directory_of from) o.name)) (or_along o.name) bank
       ∙ ap (λ (f : Option Found). outcome (or_along o.name f) bank) found
 
   pub reached-file_of-quoted : (p : Reached) → is_rooted o.name ≡ false → o.is_quoted ≡ true → outcome (one (joined (directory_of from) o.name)) bank ≡ f
       → reached bank (file_of from o) p ≡ reached bank (or_along o.name f) (reached bank (one (joined (directory_of from) o.name)) p)
   reached-file_of-quoted p h q found =
-      ap (λ (e : Expansion (Option Found)). reached bank e p) (file_of-quoted from o h q)
+      ap (λ (e : Expanding (Option Found)). reached bank e p) (file_of-quoted from o h q)
       ∙ after-and_then rules key_eq bank (one (joined (directory_of from) o.name)) (or_along o.name) p
       ∙ ap (λ (f : Option Found). reached bank (or_along o.name f) (reached bank (one (joined (directory_of from) o.name)) p)) found
 
@@ -174,7 +174,7 @@ pub arrival-operand_at-word : (bank : Key → Option Answer) (place : Place) (de
 arrival-operand_at-word bank place definitions t body p p' none word given at =
     arrival-then bank (macro_of definitions t.spelling) (operand_by place definitions t) body p p'
     (arrived-unless_over bank (macro_of definitions t.spelling) body p p' at (λ _. given))
-    ∙ ap (λ (e : Expansion (Option Operand)). arrival bank e p) (sym (operand_at-word place definitions t none word))
+    ∙ ap (λ (e : Expanding (Option Operand)). arrival bank e p) (sym (operand_at-word place definitions t none word))
 
 -- what the tokens of its replacement give
 pub arrived-operand_by : (bank : Key → Option Answer) (place : Place) (definitions : Definitions) (t : Token) (body given : List Token) (o : Option Operand) (p p' : Reached)

@@ -1,3 +1,4 @@
+pub mod CandidateLemmas
 pub mod DirectiveLemmas
 pub mod FileLemmas
 pub mod IncludeLemmas

@@ -1,7 +1,7 @@
 -- What is still to be done of a file inside open groups, by its next line.
 use Rattle.std.proofs.Common.{◌≡◌, Bool, true, false, if◌then◌else◌, ◌||◌, List, [], ◌∷◌, refl, ap, sym, subst, ◌∙◌}
 use Rattle.idl_base.specs.Query.{Done, Tell, and_then}
-use Rattle.idl_macro.specs.Macros.{Expansion}
+use Rattle.idl_macro.specs.Macros.{Expanding}
 use Rattle.idl_macro.specs.declared.file_name.FileName.{FileName}
 use Rattle.idl_macro.specs.declared.item.Item.TheVariants.{Turn}
 use Rattle.idl_prep.specs.Directive.{Enter, act, test}
@@ -38,11 +38,11 @@ module _ (enter : Enter) (file : FileName) where
   visit-Empty false s = refl
 
   -- the branches of a group, and what comes after it
-  abbrev closing : Group → List Group → Closing → State → Expansion State
+  abbrev closing : Group → List Group → Closing → State → Expanding State
   closing g gs c s = and_then (visit_branches enter file g c.branches s) (coming enter file gs c.after)
 
   -- inside a group that is closed so
-  abbrev inside : Group → List Group → Closing → State → Expansion State
+  abbrev inside : Group → List Group → Closing → State → Expanding State
   inside g gs c s = and_then (visit enter file g.is_active c.body s) (closing g gs c)
 
   inside-body_grown : (g : Group) (gs : List Group) (t : Tree) (c : Closing) (s : State) → inside g gs (body_grown t c) s ≡ and_then (visit_tree enter file g.is_active t s) (inside g gs c)

@@ -1,7 +1,7 @@
 -- A test of a group's first lines, and lines that are walked, on a root that is held in parts.
 use Rattle.std.proofs.Common.{◌≡◌, Bool, Option, ap, sym, ◌∙◌}
 use Rattle.idl_base.specs.Query.{and_then, outcome}
-use Rattle.idl_macro.specs.Macros.{Definitions, Expansion, Reached, reached}
+use Rattle.idl_macro.specs.Macros.{Definitions, Expanding, Reached, reached}
 use Rattle.idl_macro.specs.declared.file_name.FileName.{FileName}
 use Rattle.idl_macro.specs.declared.key.Answer.{Answer}
 use Rattle.idl_macro.specs.declared.key.Key.{Key}
@@ -13,7 +13,7 @@ use Rattle.idl_prep.proofs.WayLemmas.{arrival-and_then}
 use Rattle.idl_prep.specs.declared.kind.Test.{Test}
 
 -- a test at the directive's place is that of the directive
-pub arrival-test : (bank : Key → Option Answer) (query : Place → Directive → Way → Expansion Bool) (file : FileName) (place : Place) (d d' : Directive) (what what' : Test) (way way' : Way)
+pub arrival-test : (bank : Key → Option Answer) (query : Place → Directive → Way → Expanding Bool) (file : FileName) (place : Place) (d d' : Directive) (what what' : Test) (way way' : Way)
     → ((d : Directive) (way : Way) → query (place_in file d) d way ≡ tested file d way.state what) → place ≡ place_in file d' → d ≡ d' → way ≡ way' → what' ≡ what
     → arrival bank (query place d way) way.progress ≡ arrival bank (test file d' what' way'.state) way'.progress
 unfolding test
@@ -21,11 +21,11 @@ arrival-test bank query file place d d' what what' way way' meant at same_direct
     ap (λ (d : Directive). arrival bank (query place d way) way.progress) same_directive
     ∙ ap (λ (way : Way). arrival bank (query place d' way) way.progress) same_way
     ∙ ap (λ (place : Place). arrival bank (query place d' way') way'.progress) at
-    ∙ ap (λ (q : Expansion Bool). arrival bank q way'.progress) (meant d' way')
+    ∙ ap (λ (q : Expanding Bool). arrival bank q way'.progress) (meant d' way')
     ∙ ap (λ (what : Test). arrival bank (tested file d' way'.state what) way'.progress) (sym same_test)
 
 -- definitions that a directive gives take the place of those that there were
-pub ended-redefined : (bank : Key → Option Answer) (query : Definitions → Expansion Definitions) (way : Way) (definitions : Definitions) (p : Reached)
+pub ended-redefined : (bank : Key → Option Answer) (query : Definitions → Expanding Definitions) (way : Way) (definitions : Definitions) (p : Reached)
     → definitions ≡ outcome (query way.state.definitions) bank → p ≡ reached bank (query way.state.definitions) way.progress
     → ended (record { state = record way.state { definitions = definitions }; progress = p }) ≡ onward bank (λ s. and_then (query s.definitions) (redefined s)) way
 ended-redefined bank query way definitions p given at =

@@ -1,7 +1,7 @@
 -- Where a root comes to, by steps that walk the next line.
 use Rattle.std.proofs.Common.{◌≡◌, Bool, true, false, ◌||◌, Option, List, [], ◌∷◌, ap, sym, ◌∙◌}
 use Rattle.idl_base.specs.Query.{Tell, and_then, outcome}
-use Rattle.idl_macro.specs.Macros.{Expansion, reached}
+use Rattle.idl_macro.specs.Macros.{Expanding, reached}
 use Rattle.idl_macro.specs.declared.file_name.FileName.{FileName}
 use Rattle.idl_macro.specs.declared.item.Item.{Item}
 use Rattle.idl_macro.specs.declared.item.Item.TheVariants.{Turn}
@@ -21,13 +21,13 @@ use Rattle.idl_prep.proofs.WayLemmas.{arrival-and_then, arrival-then}
 
 module _ (bank : Key → Option Answer) where
   -- after a step that comes to where a query does
-  pub onward-then : (query f whole : State → Expansion State) (old new : Way) → ended new ≡ onward bank query old → whole old.state ≡ and_then (query old.state) f
+  pub onward-then : (query f whole : State → Expanding State) (old new : Way) → ended new ≡ onward bank query old → whole old.state ≡ and_then (query old.state) f
       → onward bank f new ≡ onward bank whole old
   onward-then query f whole old new came is =
       arrival-then bank (query old.state) f new.state old.progress new.progress came ∙ ap (λ q. arrival bank q old.progress) (sym is)
 
   -- after an item, and a step that comes to where a question does
-  pub onward-decided : (item : Item) (question : State → Expansion Bool) (f : Bool → State → Expansion State) (holds : Bool) (old told new : Way)
+  pub onward-decided : (item : Item) (question : State → Expanding Bool) (f : Bool → State → Expanding State) (holds : Bool) (old told new : Way)
       → told ≡ telling item old → arrived holds new.progress ≡ arrival bank (question told.state) told.progress → new.state ≡ told.state
       → onward bank (f holds) new ≡ onward bank (λ s. Tell item (and_then (question s) (λ b. f b s))) old
   onward-decided item question f holds old told new tells came same =
@@ -42,7 +42,7 @@ module _ (bank : Key → Option Answer) (enter : Enter) (file : FileName) (gs : 
       onward-then bank (act enter file l) (coming enter file gs (part lines)) (coming enter file gs (part (l ∷ lines))) old new came (coming-act enter file gs l lines old.state alone walked)
 
   -- a line that is walked, which leaves something to be done first
-  pub to_come-act_first : (first : State → Expansion State) (old new : Way) → is_walked gs ≡ true → onward bank first new ≡ onward bank (act enter file l) old
+  pub to_come-act_first : (first : State → Expanding State) (old new : Way) → is_walked gs ≡ true → onward bank first new ≡ onward bank (act enter file l) old
       → onward bank (λ s. and_then (first s) (coming enter file gs (part lines))) new ≡ to_come bank enter file gs (l ∷ lines) old
   to_come-act_first first old new walked came =
       arrival-and_then bank (first new.state) (coming enter file gs (part lines)) new.progress

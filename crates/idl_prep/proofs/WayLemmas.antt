@@ -6,7 +6,7 @@ use Rattle.idl_base.specs.Query.{and_then, outcome}
 use Rattle.idl_base.specs.QueryLaws.{outcome-and_then}
 use Rattle.idl_macro.specs.Items.{rules}
 use Rattle.idl_macro.specs.Key.{key_eq}
-use Rattle.idl_macro.specs.Macros.{Expansion, Reached, reached}
+use Rattle.idl_macro.specs.Macros.{Expanding, Reached, reached}
 use Rattle.idl_macro.specs.declared.allowance.Allowance.{Allowance}
 use Rattle.idl_macro.specs.declared.key.Answer.{Answer}
 use Rattle.idl_macro.specs.declared.key.Key.{Key}
@@ -14,26 +14,26 @@ use Rattle.idl_prep.specs.State.{arrival, arrived}
 
 module _ (bank : Key → Option Answer) where
   -- once a limit was passed nothing changes
-  pub arrival-over : {A : Type 0} (query : Expansion A) (p : Reached) → p.left ≡ None → arrival bank query p ≡ (p, None)
+  pub arrival-over : {A : Type 0} (query : Expanding A) (p : Reached) → p.left ≡ None → arrival bank query p ≡ (p, None)
   arrival-over query p over =
       ap (arrived (outcome query bank)) (after-over rules key_eq bank query p over)
       ∙ ap (λ (o : Option Allowance). (p, option_map (λ _. outcome query bank) o)) over
 
   -- one query after another
-  pub arrival-and_then : {A B : Type 0} (query : Expansion A) (f : A → Expansion B) (p : Reached)
+  pub arrival-and_then : {A B : Type 0} (query : Expanding A) (f : A → Expanding B) (p : Reached)
       → arrival bank (and_then query f) p ≡ arrival bank (f (outcome query bank)) (reached bank query p)
   arrival-and_then query f p =
       ap (λ b. arrived b (reached bank (and_then query f) p)) (outcome-and_then query f bank)
       ∙ ap (arrived (outcome (f (outcome query bank)) bank)) (after-and_then rules key_eq bank query f p)
 
   -- what is given is the outcome, unless a limit was passed, and then it doesn't matter
-  given-outcome : {A B : Type 0} (f : A → Expansion B) (a b : A) (p : Reached) (left : Option Allowance) → p.left ≡ left
+  given-outcome : {A B : Type 0} (f : A → Expanding B) (a b : A) (p : Reached) (left : Option Allowance) → p.left ≡ left
       → option_map (λ _. a) left ≡ option_map (λ _. b) left → arrival bank (f a) p ≡ arrival bank (f b) p
   given-outcome f a b p None over same = arrival-over (f a) p over ∙ sym (arrival-over (f b) p over)
   given-outcome f a b p (Some left) h same = ap (λ c. arrival bank (f c) p) (ap (λ o. elim o [ None ↦ a | Some c ↦ c ]) same)
 
   -- after a step that comes to where a query does, a next one comes to where the one after the other does
-  pub arrival-then : {A B : Type 0} (query : Expansion A) (f : A → Expansion B) (a : A) (p p' : Reached) → arrived a p' ≡ arrival bank query p
+  pub arrival-then : {A B : Type 0} (query : Expanding A) (f : A → Expanding B) (a : A) (p p' : Reached) → arrived a p' ≡ arrival bank query p
       → arrival bank (f a) p' ≡ arrival bank (and_then query f) p
   arrival-then query f a p p' came =
       let r = reached bank query p in
@@ -47,7 +47,7 @@ module _ (bank : Key → Option Answer) where
   given_unless_over a b None h = refl
   given_unless_over a b (Some left) h = ap Some (h (λ no. cc))
 
-  pub arrived-unless_over : {A : Type 0} (query : Expansion A) (a : A) (p p' : Reached) → p' ≡ reached bank query p → (p'.left ≢ None → a ≡ outcome query bank)
+  pub arrived-unless_over : {A : Type 0} (query : Expanding A) (a : A) (p p' : Reached) → p' ≡ reached bank query p → (p'.left ≢ None → a ≡ outcome query bank)
       → arrived a p' ≡ arrival bank query p
   arrived-unless_over query a p p' at given =
       ap (λ o. (p', o)) (given_unless_over a (outcome query bank) p'.left given) ∙ ap (arrived (outcome query bank)) at

@@ -7,7 +7,7 @@ use Rattle.idl_base.specs.Query.{Done, Tell, and_then}
 use Rattle.idl_lex.specs.declared.token.Token.{Token}
 use Rattle.idl_macro.specs.Condition.{condition}
 use Rattle.idl_macro.specs.Directives.{define, undef, ifdef, ifndef}
-use Rattle.idl_macro.specs.Macros.{Definitions, Expansion}
+use Rattle.idl_macro.specs.Macros.{Definitions, Expanding}
 use Rattle.idl_macro.specs.Replace.{text}
 use Rattle.idl_macro.specs.declared.file_name.FileName.{FileName}
 use Rattle.idl_macro.specs.declared.item.Code.TheVariants as code
@@ -25,24 +25,24 @@ use Rattle.idl_prep.specs.declared.kind.Test.TheVariants.{If, Ifdef, Ifndef}
 
 -- what becomes of a file that is entered at a place, by its name and its lines
 abbrev pub Enter : Type 0
-Enter = Place → List ℕ → List (List ℕ) → State → Expansion State
+Enter = Place → List ℕ → List (List ℕ) → State → Expanding State
 
 -- definitions take the place of those that there were
-abbrev pub redefined : State → Definitions → Expansion State
+abbrev pub redefined : State → Definitions → Expanding State
 redefined s definitions = Done (record s { definitions = definitions })
 
 -- the file that was found is entered, unless it is not to be entered again
-abbrev pub entering : Enter → Place → Operand → State → Option Found → Expansion State
+abbrev pub entering : Enter → Place → Operand → State → Option Found → Expanding State
 entering enter place o s None = Tell (item.Fault place code.NotFound (Some o.spelling)) (Done s)
 entering enter place o s (Some found) = if list_any (bytes_eq found.name) s.once then Done s else enter place found.name found.lines s
 
 -- the file of an operand, if there is one
-abbrev pub including : Enter → FileName → Directive → State → Option Operand → Expansion State
+abbrev pub including : Enter → FileName → Directive → State → Option Operand → Expanding State
 including enter file d s None = Tell (item.Fault (place_in file d) code.MalformedInclude (Some d.word.spelling)) (Done s)
 including enter file d s (Some o) = and_then (file_of file o) (entering enter (place_in file d) o s)
 
 -- `include`
-unfoldable pub include : Enter → FileName → Directive → State → Expansion State
+unfoldable pub include : Enter → FileName → Directive → State → Expanding State
 include enter file d s = and_then (operand_of (place_in file d) s.definitions d.operands) (including enter file d s)
 
 -- the tokens, parted by one blank: each has one before it, but the first
@@ -59,7 +59,7 @@ first_spelling [] = None
 first_spelling (t ∷ tokens) = Some t.spelling
 
 -- `pragma` with this first word: the file is not to be entered again, or it means something to IDL, or nothing
-abbrev pub pragma_by : FileName → Directive → State → Option (List ℕ) → Expansion State
+abbrev pub pragma_by : FileName → Directive → State → Option (List ℕ) → Expanding State
 pragma_by file d s None = Done s
 pragma_by file d s (Some word) =
     if bytes_eq word (codes "once") then Done (record s { once = insert_key bytes_eq s.once file })
@@ -67,11 +67,11 @@ pragma_by file d s (Some word) =
     else Done s)
 
 -- `pragma`
-unfoldable pub pragma : FileName → Directive → State → Expansion State
+unfoldable pub pragma : FileName → Directive → State → Expanding State
 pragma file d s = pragma_by file d s (first_spelling d.operands)
 
 -- a directive of one line
-abbrev pub performed : Enter → FileName → Directive → State → Plain → Expansion State
+abbrev pub performed : Enter → FileName → Directive → State → Plain → Expanding State
 performed enter file d s Include = include enter file d s
 performed enter file d s Define = and_then (define (place_in file d) d.word.spelling s.definitions d.operands) (redefined s)
 performed enter file d s Undef = and_then (undef (place_in file d) d.word.spelling s.definitions d.operands) (redefined s)
@@ -80,21 +80,21 @@ performed enter file d s Pragma = pragma file d s
 performed enter file d s Ignored = Done s
 performed enter file d s Unknown = Tell (item.Fault (place_in file d) code.UnknownDirective (Some d.word.spelling)) (Done s)
 
-abbrev pub plain_or : Enter → FileName → Directive → State → Kind → Expansion State
+abbrev pub plain_or : Enter → FileName → Directive → State → Kind → Expanding State
 plain_or enter file d s (Alone what) = performed enter file d s what
 plain_or enter file d s other = Done s
 
 -- a line that isn't skipped and belongs to no group; a directive is a turn
-unfoldable pub act : Enter → FileName → Line → State → Expansion State
+unfoldable pub act : Enter → FileName → Line → State → Expanding State
 act enter file (Text tokens) s = and_then (text file s.definitions tokens) (λ given. Done s)
 act enter file (Bare line) s = Tell (item.Turn (record { file = file; line = line })) (Done s)
 act enter file (Directed d) s = Tell (item.Turn (place_in file d)) (plain_or enter file d s d.kind)
 
-abbrev pub tested : FileName → Directive → State → Test → Expansion Bool
+abbrev pub tested : FileName → Directive → State → Test → Expanding Bool
 tested file d s If = condition (place_in file d) d.word.spelling s.definitions d.operands
 tested file d s Ifdef = ifdef (place_in file d) d.word.spelling s.definitions d.operands
 tested file d s Ifndef = ifndef (place_in file d) d.word.spelling s.definitions d.operands
 
 -- whether the first lines of a group are taken
-unfoldable pub test : FileName → Directive → Test → State → Expansion Bool
+unfoldable pub test : FileName → Directive → Test → State → Expanding Bool
 test file d what s = tested file d s what

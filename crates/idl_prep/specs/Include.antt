@@ -7,7 +7,7 @@ use Rattle.idl_lex.specs.declared.kind.Kind.TheVariants.{HeaderName, String, Bad
 use Rattle.idl_lex.specs.declared.kind.Defect.{Defect}
 use Rattle.idl_lex.specs.declared.kind.Defect.TheVariants.{BadEscape}
 use Rattle.idl_lex.specs.declared.token.Token.{Token}
-use Rattle.idl_macro.specs.Macros.{Definitions, Expansion, macro_of}
+use Rattle.idl_macro.specs.Macros.{Definitions, Expanding, macro_of}
 use Rattle.idl_macro.specs.Replace.{operand}
 use Rattle.idl_macro.specs.Words.{is_word}
 use Rattle.idl_macro.specs.declared.file_name.FileName.{FileName}
@@ -40,17 +40,17 @@ pub record Found : Type 0 where
   pub lines : List (List ℕ)
 
 -- the first of these names that is present, each of which is asked in turn
-unfoldable pub first_present : List (List ℕ) → Expansion (Option Found)
+unfoldable pub first_present : List (List ℕ) → Expanding (Option Found)
 first_present [] = Done None
 first_present (name ∷ names) =
     Ask (key.File name) (λ found. elim (file_in found) [ None ↦ first_present names | Some lines ↦ Done (Some (record { name = name; lines = lines })) ])
 
 -- the first along the search list
-unfoldable pub present_along : List ℕ → Expansion (Option Found)
+unfoldable pub present_along : List ℕ → Expanding (Option Found)
 present_along spelled = Ask key.Search (λ found. first_present (along (directories_in found) spelled))
 
 -- the first beside the including file, and else along the search list
-abbrev pub or_along : List ℕ → Option Found → Expansion (Option Found)
+abbrev pub or_along : List ℕ → Option Found → Expanding (Option Found)
 or_along spelled (Some found) = Done (Some found)
 or_along spelled None = present_along spelled
 
@@ -62,7 +62,7 @@ pub record Operand : Type 0 where
 
 -- The file that an operand finds: one with a leading `/` asks for that name alone; another one along the search list, in
 -- quotes after the name beside the including file.
-unfoldable pub file_of : FileName → Operand → Expansion (Option Found)
+unfoldable pub file_of : FileName → Operand → Expanding (Option Found)
 file_of from o =
     if is_rooted o.name then first_present (option_to_list (joined (directory_of from) o.name))
     else (if o.is_quoted then and_then (first_present (option_to_list (joined (directory_of from) o.name))) (or_along o.name)
@@ -105,22 +105,22 @@ operand_given (t ∷ []) = if is_string t then operand_in t else None
 operand_given (t ∷ u ∷ tokens) = None
 
 -- the operand that a macro gives, if the word has one
-abbrev pub operand_by : Place → Definitions → Token → Option (List Token) → Expansion (Option Operand)
+abbrev pub operand_by : Place → Definitions → Token → Option (List Token) → Expanding (Option Operand)
 operand_by place definitions t None = Done None
 operand_by place definitions t (Some body) = and_then (operand place definitions (t ∷ [])) (λ given. Done (operand_given given))
 
 -- the operand of a token: one that is an operand counts, and a word is replaced
-abbrev pub operand_at : Place → Definitions → Token → Expansion (Option Operand)
+abbrev pub operand_at : Place → Definitions → Token → Expanding (Option Operand)
 operand_at place definitions t =
     if is_some (operand_in t) then Tell (Counted place) (Done (operand_in t))
     else (if is_word t then and_then (macro_of definitions t.spelling) (operand_by place definitions t)
     else Done None)
 
 -- the operand of the first token, if there is one
-abbrev pub operand_first : Place → Definitions → Option Token → Expansion (Option Operand)
+abbrev pub operand_first : Place → Definitions → Option Token → Expanding (Option Operand)
 operand_first place definitions None = Done None
 operand_first place definitions (Some t) = operand_at place definitions t
 
 -- the operand of the tokens after `include`; those after the first are passed over
-unfoldable pub operand_of : Place → Definitions → List Token → Expansion (Option Operand)
+unfoldable pub operand_of : Place → Definitions → List Token → Expanding (Option Operand)
 operand_of place definitions tokens = operand_first place definitions (slice_get tokens 0)

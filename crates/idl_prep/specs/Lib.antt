@@ -1,3 +1,4 @@
+pub mod Candidate
 pub mod Directive
 pub mod Include
 pub mod Line

@@ -1,7 +1,7 @@
 -- What is still to be done of a file, inside the groups that are open.
 use Rattle.std.specs.Prelude.{Bool, true, List, [], ◌∷◌, if◌then◌else◌, Option, None, Some}
 use Rattle.idl_base.specs.Query.{Done, and_then}
-use Rattle.idl_macro.specs.Macros.{Expansion, Reached}
+use Rattle.idl_macro.specs.Macros.{Expanding, Reached}
 use Rattle.idl_macro.specs.declared.file_name.FileName.{FileName}
 use Rattle.idl_macro.specs.declared.key.Answer.{Answer}
 use Rattle.idl_macro.specs.declared.key.Key.{Key}
@@ -16,19 +16,19 @@ use Rattle.idl_prep.specs.declared.kind.Kind.{Kind}
 use Rattle.idl_prep.specs.declared.kind.Kind.TheVariants.{Elif, Else, Endif}
 
 -- trees are walked, or skipped
-abbrev pub visit : Enter → FileName → Bool → Forest → State → Expansion State
+abbrev pub visit : Enter → FileName → Bool → Forest → State → Expanding State
 visit enter file active f s = if active then walk enter file f s else skip file f s
 
-abbrev pub visit_tree : Enter → FileName → Bool → Tree → State → Expansion State
+abbrev pub visit_tree : Enter → FileName → Bool → Tree → State → Expanding State
 visit_tree enter file active t s = if active then walk_tree enter file t s else skip_tree file t s
 
 -- the branches that follow of an open group
-abbrev pub visit_branches : Enter → FileName → Group → Branches → State → Expansion State
+abbrev pub visit_branches : Enter → FileName → Group → Branches → State → Expanding State
 visit_branches enter file g bs s = if g.is_live then walk_branches enter file bs g.opener g.is_taken s else skip_branches file bs g.opener s
 
 -- What follows comes to this, inside these open groups, the innermost first: the innermost is closed by what follows, and
 -- what comes after it follows inside the others.
-unfoldable pub coming : Enter → FileName → List Group → Part → State → Expansion State
+unfoldable pub coming : Enter → FileName → List Group → Part → State → Expanding State
 coming enter file [] p s = walk enter file (strays p.front p.tail) s
 coming enter file (g ∷ gs) p s =
     let c = close g.has_else p.front p.tail in
@@ -57,6 +57,6 @@ is_walked [] = true
 is_walked (g ∷ gs) = g.is_active
 
 -- what becomes of a file that is to be entered, if there is one
-abbrev pub entered : Enter → Option Inclusion → State → Expansion State
+abbrev pub entered : Enter → Option Inclusion → State → Expanding State
 entered enter None s = Done s
 entered enter (Some i) s = enter i.place i.name i.file.now s

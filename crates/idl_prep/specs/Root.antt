@@ -4,7 +4,7 @@ use Rattle.idl_base.specs.Progress.{kept_within}
 use Rattle.idl_base.specs.Query.{Query, Done, Ask, Tell, and_then, run}
 use Rattle.idl_macro.specs.Items.{rules, whole_allowance}
 use Rattle.idl_macro.specs.Key.{key_eq}
-use Rattle.idl_macro.specs.Macros.{Expansion}
+use Rattle.idl_macro.specs.Macros.{Expanding}
 use Rattle.idl_macro.specs.declared.file_name.FileName.{FileName}
 use Rattle.idl_macro.specs.declared.item.Code.TheVariants.{NotFound}
 use Rattle.idl_macro.specs.declared.item.Event.{Event}
@@ -21,7 +21,7 @@ use Rattle.idl_prep.specs.Walk.{walk}
 use Rattle.idl_prep.specs.declared.TheConstants.{MAX_DEPTH}
 
 -- a file of these lines
-abbrev pub walk_file : Enter → FileName → List (List ℕ) → State → Expansion State
+abbrev pub walk_file : Enter → FileName → List (List ℕ) → State → Expanding State
 walk_file enter file lines s = walk enter file (tree (lines_in lines)) s
 
 -- A file is entered, where so many may still be entered inside one another; else it is too deep. When its lines are done it is
@@ -31,12 +31,12 @@ enter zero place file lines s = Tell (TooDeep place) (Done s)
 enter (suc room) place file lines s = Tell (Entered file) (and_then (walk_file (enter room) file lines s) (λ after. Tell (Left file) (Done after)))
 
 -- the lines of a root, in which one file less may be entered than may be open
-abbrev pub root_lines : FileName → Option (List (List ℕ)) → Expansion State
+abbrev pub root_lines : FileName → Option (List (List ℕ)) → Expanding State
 root_lines root None = Tell (Fault (record { file = root; line = 0 }) NotFound (Some root)) (Done nothing_said)
 root_lines root (Some lines) = walk_file (enter (MAX_DEPTH - 1)) root lines nothing_said
 
 -- a root asks for its file first
-unfoldable pub root : FileName → Expansion State
+unfoldable pub root : FileName → Expanding State
 root name = Ask (key.File name) (λ found. root_lines name (file_in found))
 
 -- the expansion of a root, under the limits: it asks what the root asks, and gives the events

@@ -4,7 +4,7 @@ use Rattle.std.specs.Option.{option_map}
 use Rattle.idl_base.specs.Progress.{after_item}
 use Rattle.idl_base.specs.Query.{outcome}
 use Rattle.idl_macro.specs.Items.{rules}
-use Rattle.idl_macro.specs.Macros.{Definitions, Expansion, Reached, reached}
+use Rattle.idl_macro.specs.Macros.{Definitions, Expanding, Reached, reached}
 use Rattle.idl_macro.specs.declared.item.Item.{Item}
 use Rattle.idl_macro.specs.declared.key.Answer.{Answer}
 use Rattle.idl_macro.specs.declared.key.Key.{Key}
@@ -32,7 +32,7 @@ abbrev pub arrived : {A : Type 0} → A → Reached → Reached × Option A
 arrived a p = (p, option_map (λ _. a) p.left)
 
 -- where a query comes to
-abbrev pub arrival : {A : Type 0} → (Key → Option Answer) → Expansion A → Reached → Reached × Option A
+abbrev pub arrival : {A : Type 0} → (Key → Option Answer) → Expanding A → Reached → Reached × Option A
 arrival bank query p = arrived (outcome query bank) (reached bank query p)
 
 -- where a root is
@@ -40,5 +40,5 @@ abbrev pub ended : Way → Reached × Option State
 ended way = arrived way.state way.progress
 
 -- where a root comes to by a query of what it has said
-abbrev pub onward : {A : Type 0} → (Key → Option Answer) → (State → Expansion A) → Way → Reached × Option A
+abbrev pub onward : {A : Type 0} → (Key → Option Answer) → (State → Expanding A) → Way → Reached × Option A
 onward bank query way = arrival bank (query way.state) way.progress

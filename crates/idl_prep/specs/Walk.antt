@@ -1,7 +1,7 @@
 -- What the tree of a file asks and tells, from left to right.
 use Rattle.std.specs.Prelude.{Bool, true, false, ◌||◌, Some, if◌then◌else◌}
 use Rattle.idl_base.specs.Query.{Done, Tell, and_then}
-use Rattle.idl_macro.specs.Macros.{Expansion}
+use Rattle.idl_macro.specs.Macros.{Expanding}
 use Rattle.idl_macro.specs.declared.file_name.FileName.{FileName}
 use Rattle.idl_macro.specs.declared.item.Code.TheVariants.{OutOfPlace, NotClosed}
 use Rattle.idl_macro.specs.declared.item.Item.{Item}
@@ -26,39 +26,39 @@ abbrev pub not_closed : FileName → Opener → Item
 not_closed file o = Fault (record { file = file; line = o.line }) NotClosed (Some o.word)
 
 -- whether a branch after the first is taken: none is where one before it was, and else an `else` is
-abbrev pub decide : FileName → Directive → Bool → State → Expansion Bool
+abbrev pub decide : FileName → Directive → Bool → State → Expanding Bool
 decide file d true s = Done false
 decide file d false s = if is_else d.kind then Done true else test file d If s
 
 -- in skipped lines only the directives of groups count, and they are no turns
 unfoldable mutual
-  pub skip : FileName → Forest → State → Expansion State
+  pub skip : FileName → Forest → State → Expanding State
   skip file Empty s = Done s
   skip file (Grow t f) s = and_then (skip_tree file t s) (skip file f)
 
-  pub skip_tree : FileName → Tree → State → Expansion State
+  pub skip_tree : FileName → Tree → State → Expanding State
   skip_tree file (Leaf line) s = Done s
   skip_tree file (Stray d) s = Tell (out_of_place file d) (Done s)
   skip_tree file (Group d what f bs) s = and_then (skip file f s) (skip_branches file bs (opener_of d))
 
-  pub skip_branches : FileName → Branches → Opener → State → Expansion State
+  pub skip_branches : FileName → Branches → Opener → State → Expanding State
   skip_branches file (Closed d) opener s = Done s
   skip_branches file Unclosed opener s = Tell (not_closed file opener) (Done s)
   skip_branches file (Branch d f bs) opener s = and_then (skip file f s) (skip_branches file bs opener)
 
 unfoldable mutual
-  pub walk : Enter → FileName → Forest → State → Expansion State
+  pub walk : Enter → FileName → Forest → State → Expanding State
   walk enter file Empty s = Done s
   walk enter file (Grow t f) s = and_then (walk_tree enter file t s) (walk enter file f)
 
-  pub walk_tree : Enter → FileName → Tree → State → Expansion State
+  pub walk_tree : Enter → FileName → Tree → State → Expanding State
   walk_tree enter file (Leaf line) s = act enter file line s
   walk_tree enter file (Stray d) s = Tell (Turn (place_in file d)) (Tell (out_of_place file d) (Done s))
   walk_tree enter file (Group d what f bs) s =
       Tell (Turn (place_in file d)) (and_then (test file d what s) (λ b. and_then (if b then walk enter file f s else skip file f s) (walk_branches enter file bs (opener_of d) b)))
 
   -- the branches after the first: one before them was taken, or none
-  pub walk_branches : Enter → FileName → Branches → Opener → Bool → State → Expansion State
+  pub walk_branches : Enter → FileName → Branches → Opener → Bool → State → Expanding State
   walk_branches enter file (Closed d) opener taken s = Tell (Turn (place_in file d)) (Done s)
   walk_branches enter file Unclosed opener taken s = Tell (not_closed file opener) (Done s)
   walk_branches enter file (Branch d f bs) opener taken s =

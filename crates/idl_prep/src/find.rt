@@ -42,14 +42,14 @@ pub fn find<'b, B: Bank<Key = Key, Answer = Answer>>(
     let beside = from.directory();
     let name = operand.name();
     if is_rooted(name) {
-        return Ok(present(&beside, name, bank, progress)?);
+        return present(&beside, name, bank, progress);
     }
     if !operand.is_quoted() {
-        return Ok(present_along(name, bank, progress)?);
+        return present_along(name, bank, progress);
     }
     match present(&beside, name, bank, progress)? {
         Some(found) => Ok(Some(found)),
-        None => Ok(present_along(name, bank, progress)?),
+        None => present_along(name, bank, progress),
     }
 }
 

@@ -5,6 +5,7 @@
 #![tactic(auto)]
 
 mod branch;
+mod candidate;
 mod file;
 mod find;
 mod groups;
@@ -22,6 +23,7 @@ mod root_task;
 mod stray;
 mod text;
 
+pub use candidate::first_candidate;
 pub use kind::{Kind, Plain, Test};
 pub use root_task::{Expansion, RootTask, absent};
 

@@ -1,0 +1,87 @@
+-- An include finds the first of its candidates.
+use Rattle.std.proofs.Common.{◌≡◌, ℕ, List, [], ◌∷◌, Bool, true, false, cond, is_some, if◌then◌else◌, Option, None, Some, unwrap_or, refl, ap, sym, subst, ◌∙◌}
+use Rattle.std.specs.FinMap as finite
+use Rattle.std.specs.List.{cons_option}
+use Rattle.std.specs.Option.{option_map, option_to_list}
+use Rattle.idl_base.specs.Query.{Done, and_then, outcome}
+use Rattle.idl_base.specs.QueryLaws.{outcome-and_then}
+use Rattle.idl_macro.specs.declared.file_name.FileName.{FileName}
+use Rattle.idl_macro.specs.declared.key.Answer.{Answer}
+use Rattle.idl_macro.specs.declared.key.Answer.TheVariants as answer
+use Rattle.idl_macro.specs.declared.key.Key.{Key}
+use Rattle.idl_macro.specs.declared.key.Key.TheVariants as key
+use Rattle.idl_prep.specs.Candidate.{AnswersFrom, IsFirstPresent}
+use Rattle.idl_prep.specs.Include.{Found, Operand, directories_in, file_in, file_of, first_present, or_along, present_along}
+use Rattle.idl_prep.proofs.IncludeLemmas.{cons_option-append, one, outcome-first_present-more, outcome-present_along}
+use Rattle.idl_source.specs.Candidates.{along, candidates, found}
+use Rattle.idl_source.specs.Directory.{directory_of}
+use Rattle.idl_source.specs.Path.{is_rooted, joined}
+use Rattle.idl_source.specs.Texts.{Texts}
+
+-- over any bank: the first candidate along the search list that it answers with
+module _ (bank : Key → Option Answer) (from : FileName) (name : List ℕ) where
+  abbrev listed : List (List ℕ)
+  listed = directories_in (bank key.Search)
+
+  abbrev beside : Option (List ℕ)
+  beside = joined (directory_of from) name
+
+  outcome-or_along : (f : Option Found)
+      → outcome (or_along name f) bank ≡ elim f [ None ↦ outcome (first_present (along listed name)) bank | Some file ↦ Some file ]
+  outcome-or_along None = outcome-present_along bank name
+  outcome-or_along (Some file) = refl
+
+  outcome-beside : outcome (and_then (one beside) (or_along name)) bank ≡ outcome (first_present (cons_option beside (along listed name))) bank
+  outcome-beside =
+      outcome-and_then (one beside) (or_along name) bank
+      ∙ outcome-or_along (outcome (one beside) bank)
+      ∙ sym (outcome-first_present-more bank beside (along listed name))
+      ∙ ap (λ (names : List (List ℕ)). outcome (first_present names) bank) (sym (cons_option-append beside (along listed name)))
+
+  outcome-chosen : (rooted quoted : Bool)
+      → outcome (if rooted then one beside else (if quoted then and_then (one beside) (or_along name) else present_along name)) bank
+      ≡ outcome (first_present (if rooted then option_to_list beside else (if quoted then along (directory_of from ∷ listed) name else along listed name))) bank
+  outcome-chosen true quoted = refl
+  outcome-chosen false true = outcome-beside
+  outcome-chosen false false = outcome-present_along bank name
+
+pub outcome-file_of : (bank : Key → Option Answer) (from : FileName) (o : Operand)
+    → outcome (file_of from o) bank ≡ outcome (first_present (candidates (directories_in (bank key.Search)) from o.name o.is_quoted)) bank
+unfolding file_of candidates
+outcome-file_of bank from o = outcome-chosen bank from o.name (is_rooted o.name) o.is_quoted
+
+-- over a bank of files: the first of these names that is present, with its lines
+module _ (files : Texts) (directories : List (List ℕ)) (bank : Key → Option Answer) (answers : AnswersFrom files directories bank) where
+  lines_in : (lines : Option (List (List ℕ))) → file_in (option_map answer.File lines) ≡ lines
+  lines_in None = refl
+  lines_in (Some lines) = refl
+
+  file_in-bank : (name : List ℕ) → file_in (bank (key.File name)) ≡ finite.get files name
+  file_in-bank name = ap file_in (answers.by_name name) ∙ lines_in (finite.get files name)
+
+  first_by : (name : List ℕ) (names : List (List ℕ)) (lines : Option (List (List ℕ))) → finite.get files name ≡ lines
+      → IsFirstPresent files names (outcome (first_present names) bank)
+      → IsFirstPresent files (name ∷ names)
+      (outcome (elim lines [ None ↦ first_present names | Some ls ↦ Done (Some (record { name = name; lines = ls })) ]) bank)
+  first_by name names None is rest = record {
+    name = rest.name ∙ ap (λ (ls : Option (List (List ℕ))). cond (is_some ls) (Some name) (found files names)) (sym is);
+    lines = rest.lines;
+  }
+  first_by name names (Some ls) is rest = record {
+    name = ap (λ (ls : Option (List (List ℕ))). cond (is_some ls) (Some name) (found files names)) (sym is);
+    lines = λ f e. subst (λ (f : Found). finite.get files f.name ≡ Some f.lines) (ap (λ (o : Option Found). unwrap_or o f) e) is;
+  }
+
+  IsFirstPresent-first_present : (names : List (List ℕ)) → IsFirstPresent files names (outcome (first_present names) bank)
+  unfolding first_present
+  IsFirstPresent-first_present [] = record { name = refl; lines = λ f e. cc }
+  IsFirstPresent-first_present (name ∷ names) =
+      first_by name names (file_in (bank (key.File name))) (sym (file_in-bank name)) (IsFirstPresent-first_present names)
+
+  pub IsFirstPresent-file_of : (from : FileName) (o : Operand) → IsFirstPresent files (candidates directories from o.name o.is_quoted) (outcome (file_of from o) bank)
+  IsFirstPresent-file_of from o =
+      let names = candidates directories from o.name o.is_quoted in
+      let is : outcome (file_of from o) bank ≡ outcome (first_present names) bank =
+      outcome-file_of bank from o
+      ∙ ap (λ (directories : List (List ℕ)). outcome (first_present (candidates directories from o.name o.is_quoted)) bank) (ap directories_in answers.listed) in
+      subst (IsFirstPresent files names) (sym is) (IsFirstPresent-first_present names)

@@ -1,0 +1,21 @@
+-- The first candidate of an include, where answers come from files and a search list.
+use Rattle.std.specs.Prelude.{◌≡◌, ℕ, List, Option, Some}
+use Rattle.std.specs.FinMap as map
+use Rattle.std.specs.Option.{option_map}
+use Rattle.idl_macro.specs.declared.key.Answer.{Answer}
+use Rattle.idl_macro.specs.declared.key.Answer.TheVariants as answer
+use Rattle.idl_macro.specs.declared.key.Key.{Key}
+use Rattle.idl_macro.specs.declared.key.Key.TheVariants as key
+use Rattle.idl_prep.specs.Include.{Found}
+use Rattle.idl_source.specs.Candidates.{found}
+use Rattle.idl_source.specs.Texts.{Texts}
+
+-- the bank answers with these files and this search list
+pub record AnswersFrom (files : Texts) (directories : List (List ℕ)) (bank : Key → Option Answer) : Type 0 where
+  pub by_name : (name : List ℕ) → bank (key.File name) ≡ option_map answer.File (map.get files name)
+  pub listed : bank key.Search ≡ Some (answer.Search directories)
+
+-- the first of these names that is present, with its lines
+pub record IsFirstPresent (files : Texts) (names : List (List ℕ)) (file : Option Found) : Type 0 where
+  pub name : option_map (λ (f : Found). f.name) file ≡ found files names
+  pub lines : (f : Found) → file ≡ Some f → map.get files f.name ≡ Some f.lines
