@@ -1,5 +1,5 @@
 -- The roots that are held: what is found among them, and what is held with one more or one less.
-use Rattle.std.proofs.Common.{◌≡◌, ℕ, Bool, true, false, cond, ◌||◌, List, [], ◌∷◌, ◌++◌, All, IsTrue, Option, None, Some, is_some, map, map-id, subst, refl, sym, ap, ◌∙◌, if◌then◌else◌}
+use Rattle.std.proofs.Common.{◌≡◌, ℕ, Bool, true, false, cond, ◌||◌, List, [], ◌∷◌, ◌++◌, All, IsTrue, Option, None, Some, is_some, map-id, subst, refl, sym, ap, ◌∙◌, if◌then◌else◌}
 use Rattle.std.proofs.lemmas.Bool.{true≢false}
 use Rattle.std.proofs.lemmas.Map.Keys.{IsDistinct-head, IsDistinct-tail, IsDistinct-push}
 use Rattle.std.proofs.lemmas.Map.Made.{is_some-lookup}

@@ -9,7 +9,8 @@ ghost use Rattle.indexmap.specs.IndexMap.{insert_entry};
 ghost use Rattle.idl_macro.specs.declared.key.Answer.TheVariants as answers;
 ghost use Rattle.idl_macro.specs.declared.key.Key.TheVariants as keys;
 ghost use Rattle.idl_workspace.specs.Bank.{IsSameBeside, bank_of, changed, searched};
-ghost use Rattle.idl_workspace.specs.Project.{is_defined, no_inputs};
+ghost use Rattle.idl_prep.specs.Candidate.{AnswersFrom};
+ghost use Rattle.idl_workspace.specs.Project.{Inputs, is_defined, no_inputs};
 
 use crate::MAX_MACROS;
 use crate::macro_body::MacroBody;
@@ -182,6 +183,12 @@ impl<'a> Bank for EditedBank<'a> {
         self.base.answer(key)
     }
 }
+
+/// Answers of inputs come from their files and their search list, so that `first_candidate` of `idl_prep` speaks of a session:
+/// there too an include finds what `find` of `idl_source` gives. This does nothing: it carries the law.
+pub fn answers_come_from_inputs()
+    ensures { (inputs : Inputs) → AnswersFrom inputs.files inputs.search (bank_of inputs) }
+{}
 
 /// What is answered of a file, by what these files say of it. A file is cut into tokens here.
 pub fn file_answer(alloc: Global, files: &Files, name: &Name) -> Result<Option<Answer>, AllocError>

@@ -13,6 +13,7 @@ mod session;
 mod word;
 mod work;
 
+pub use bank::answers_come_from_inputs;
 use idl_base::Text;
 pub use session::Session;
 pub use work::Work;

@@ -1,4 +1,4 @@
-use Rattle.std.proofs.Common.{◌≡◌, ◌∙◌, ◌∷◌, [], Some, ap}
+use Rattle.std.proofs.Common.{◌∙◌, ◌∷◌, [], Some, ap}
 use Rattle.idl_macro.specs.declared.key.Answer.TheVariants as answers
 use Rattle.idl_macro.specs.declared.key.Key.TheVariants as keys
 use Rattle.idl_workspace.specs.Bank.{bank_of, changed, searched}

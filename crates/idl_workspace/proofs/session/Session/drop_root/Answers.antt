@@ -1,6 +1,6 @@
-use Rattle.std.proofs.Common.{◌≡◌, ◌∙◌, Bool, true, cond, not, List, ℕ, Ok, Err, refl, sym, ap, subst}
+use Rattle.std.proofs.Common.{◌≡◌, ◌∙◌, true, cond, not, List, ℕ, Ok, Err, refl, sym, ap, subst}
 use Rattle.std.specs.List.{IsDistinct}
-use Rattle.std.specs.Map.{keys_of, remove_entry}
+use Rattle.std.specs.Map.{keys_of}
 use Rattle.std.specs.Str.{bytes_eq}
 use Rattle.idl_workspace.specs.Bank.{bank_of}
 use Rattle.std.specs.Set.{remove_key}

@@ -1,4 +1,4 @@
-use Rattle.std.proofs.Common.{◌≡◌, ◌∙◌, ap, subst}
+use Rattle.std.proofs.Common.{◌∙◌, ap, subst}
 use Rattle.idl_source.specs.Texts.{Texts}
 use Rattle.idl_workspace.specs.Bank.{IsSameBeside}
 use Rattle.idl_workspace.specs.UpToDate.{State}
