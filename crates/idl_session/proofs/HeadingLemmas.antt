@@ -4,7 +4,7 @@ use Rattle.std.proofs.lemmas.List.Elements.{Contains-append_right}
 use Rattle.std.proofs.lemmas.List.Splits.{join_with_byte-slice_split, length-slice_split}
 use Rattle.std.specs.List.{slice_split, onto_first, join_with_byte}
 use Rattle.idl_source.specs.Line.{IsLine}
-use Rattle.idl_session.specs.Requests.{Request, Malformed, Make, Define, counted_request, define_request, is_word, words}
+use Rattle.idl_session.specs.Requests.{Malformed, Make, Define, counted_request, define_request, is_word, words}
 
 -- five words after the first are too many
 abbrev sixth_bad : List ℕ → List ℕ → List ℕ → List ℕ → List ℕ → List (List ℕ) → Type 0

@@ -6,7 +6,7 @@ use Rattle.idl_workspace.specs.Project.{Project}
 use Rattle.idl_workspace.specs.UpToDate.{State}
 use Rattle.idl_workspace.specs.Work.{no_work}
 use Rattle.idl_session.specs.Commands.{Command, commands_of}
-use Rattle.idl_session.specs.Effects.{after_placing, after_edit, rows_for}
+use Rattle.idl_session.specs.Effects.{after_placing, after_edit, takes_memory, rows_for}
 use Rattle.idl_session.specs.Replies.{ok_reply, refused_reply, query_reply}
 use Rattle.idl_session.specs.Requests.{Request, Malformed, Place, Make, Ask}
 
@@ -19,7 +19,7 @@ abbrev pub IsDecided : State → Result Project Refusal → List ℕ → State �
 IsDecided s (Ok project) reply t = (reply ≡ ok_reply) × (t ≡ record { project = project; work = no_work })
 IsDecided s (Err refusal) reply t = IsRefused s refusal reply t
 
--- a complete edit: memory may be refused in place of what its definition says
+-- a complete edit that takes memory, which may be refused in place of what its definition says
 abbrev pub IsEdited : State → Result Project Refusal → List ℕ → State → Type 0
 IsEdited s decided reply t = IsDecided s decided reply t ⊎ IsRefused s refusal.NoMemory reply t
 
@@ -32,7 +32,8 @@ abbrev pub Answers : State → Request → List (List ℕ) → List ℕ → Stat
 Answers s Malformed lines reply t = IsRefused s refusal.Malformed reply t
 Answers s (Place placing count) lines reply t =
     MatchBool (nat_eq (length lines) count) (IsEdited s (after_placing s.project placing lines) reply t) (IsRefused s refusal.Unfinished reply t)
-Answers s (Make edit) lines reply t = IsEdited s (after_edit s.project edit) reply t
+Answers s (Make edit) lines reply t =
+    MatchBool (takes_memory edit) (IsEdited s (after_edit s.project edit) reply t) (IsDecided s (after_edit s.project edit) reply t)
 Answers s (Ask question name) lines reply t = IsAnswered s name (rows_for s.project question name) reply t
 
 -- the replies to commands in order, end to end, and the state after all

@@ -1,5 +1,5 @@
 -- What requests make of a project, and find in it.
-use Rattle.std.specs.Prelude.{ℕ, List, Option, Result}
+use Rattle.std.specs.Prelude.{ℕ, Bool, true, false, List, Option, Result}
 use Rattle.idl_source.specs.declared.refusal.Refusal.{Refusal}
 use Rattle.idl_workspace.specs.Edits.{after_put, after_splice, after_remove, after_define, after_undef, after_search, after_add_root, after_drop_root}
 use Rattle.idl_workspace.specs.Project.{Project}
@@ -21,6 +21,11 @@ after_edit project (Undef word) = after_undef project word
 after_edit project (Search directories) = after_search project directories
 after_edit project (AddRoot name) = after_add_root project name
 after_edit project (DropRoot name) = after_drop_root project name
+
+-- all edits of one line take memory but one: a root is dropped without
+abbrev pub takes_memory : Edit → Bool
+takes_memory (DropRoot name) = false
+takes_memory other = true
 
 -- the rows that answer a question about a name, if it is that of a root
 abbrev pub rows_for : Project → Question → List ℕ → Option (List (List ℕ))

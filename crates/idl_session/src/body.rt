@@ -1,6 +1,6 @@
 //! The lines that a command announces. They are taken where they can't be kept, too.
 
-ghost use Rattle.std.specs.Prelude.{◌≡◌, ◌≤◌, ◌<◌, ◌+◌, ◌-◌, ◌^◌, ◌∷◌, ◌++◌, [], ℕ, List, IfOk, IfErr, IfSome, OnOk, OnErr};
+ghost use Rattle.std.specs.Prelude.{◌≡◌, ◌≤◌, ◌<◌, ◌+◌, ◌-◌, ◌^◌, ◌∷◌, ◌++◌, [], ℕ, List, IfOk, IfSome, OnOk, OnErr};
 ghost use Rattle.std.specs.Option.{option_copied};
 ghost use Rattle.idl_source.specs.Line.{IsLine};
 ghost use Rattle.idl_session.specs.Lines.{kept};
@@ -9,8 +9,8 @@ ghost use Rattle.idl_session.specs.Bodies.{IsGathered, TakesBody};
 
 use crate::feed::Feed;
 use crate::line_buffer::{LineBuffer, read_line};
-use idl_source::{Line, MAX_LINE, MAX_LINES, ReadFailed, Refusal, Source};
-use std::alloc::Global;
+use idl_source::{Line, MAX_LINE, MAX_LINES, ReadFailed, Source};
+use std::alloc::{AllocError, Global};
 
 /// The lines that a command announces, or why there are none to place.
 #[derive(Debug, Drop)]
@@ -83,11 +83,10 @@ fn with_line(alloc: Global, body: Body, line: Option<&[u8]>) -> Body
     }
 }
 
-fn with_kept(alloc: Global, mut lines: Vec<Line>, line: &[u8]) -> Result<Vec<Line>, Refusal>
+fn with_kept(alloc: Global, mut lines: Vec<Line>, line: &[u8]) -> Result<Vec<Line>, AllocError>
     requires one_line { IsLine line.now }
 
-    ensures ok { IfOk result (λ kept. kept.items ≡ lines.items ++ line.now ∷ []) }
-    ensures err { IfErr result (λ refusal. refusal ≡ Refusal.NoMemory) }
+    ensures { IfOk result (λ kept. kept.items ≡ lines.items ++ line.now ∷ []) }
 {
     lines.push(Line::new(alloc, line)?.unwrap())?;
     Ok(lines)

@@ -34,7 +34,7 @@ use idl_workspace::Session;
 /// All else is a malformed command, and so is a line of more than [`MAX_COMMAND`] bytes. The lines that a `put` or a `splice`
 /// announces are taken where it is refused, too.
 ///
-/// Each reply has gone out whole before the next line is read. Outside the edits no memory is taken.
+/// Each reply has gone out whole before the next line is read. Memory is taken by edits alone, and not by `unroot`.
 pub fn run<S: Source, K: Sink>(
     session: &mut Session,
     source: &mut S,

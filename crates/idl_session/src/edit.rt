@@ -1,10 +1,10 @@
 //! The edits that commands ask for.
 
-ghost use Rattle.std.specs.Prelude.{◌≡◌, ℕ, List, true, Err, IfOk, MatchBool, map, nat_eq, length};
+ghost use Rattle.std.specs.Prelude.{◌≡◌, ℕ, List, true, false, Err, IfOk, IfErr, MatchBool, map, nat_eq, length};
 ghost use Rattle.idl_source.specs.Line.{IsLine};
 ghost use Rattle.idl_workspace.specs.Edits.{after_define, after_search, are_too_long};
 ghost use Rattle.idl_session.specs.Bodies.{IsBody};
-ghost use Rattle.idl_session.specs.Effects.{after_edit, after_placing};
+ghost use Rattle.idl_session.specs.Effects.{after_edit, after_placing, takes_memory};
 ghost use Rattle.idl_session.specs.Headings.{HasLine, edit_by, placing_by, words_after};
 ghost use Rattle.idl_session.specs.Serving.{IsOutcome};
 
@@ -32,7 +32,9 @@ pub fn place(session: &mut Session, placement: Placement<'_>, body: Body) -> Res
 /// Makes an edit that no line follows.
 pub fn make(session: &mut Session, change: Change<'_>) -> Result<Work, Refusal>
     requires { HasLine change }
-    ensures { IsOutcome session.old (after_edit session.old.project (edit_by change.entry)) result session.new }
+    ensures outcome { IsOutcome session.old (after_edit session.old.project (edit_by change.entry)) result session.new }
+    ensures sure { takes_memory (edit_by change.entry) ≡ false
+        → IfErr result (λ refusal. after_edit session.old.project (edit_by change.entry) ≡ Err refusal) }
 {
     match change {
         Change::Remove(name) => session.remove(name),

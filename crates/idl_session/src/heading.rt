@@ -209,7 +209,7 @@ fn is_word(word: &[u8]) -> bool
 fn are_visible(bytes: &[u8]) -> bool
     ensures { result ≡ list_all is_visible bytes.now }
 {
-    bytes.iter().all(|b| 33 <= *b && *b <= 126)
+    bytes.iter().all(|b| b.is_ascii_graphic())
 }
 
 // The value of `0`, or of one to nine digits without leading zero.
@@ -232,8 +232,7 @@ fn is_number(digits: &[u8]) -> bool
     match digits {
         [] => false,
         [first, rest @ ..] => {
-            48 <= *first
-                && *first <= 57
+            first.is_ascii_digit()
                 && are_digits(rest)
                 && rest.len() <= 8
                 && (*first != b'0' || rest.is_empty())
@@ -244,5 +243,5 @@ fn is_number(digits: &[u8]) -> bool
 fn are_digits(bytes: &[u8]) -> bool
     ensures { result ≡ list_all is_digit bytes.now }
 {
-    bytes.iter().all(|b| 48 <= *b && *b <= 57)
+    bytes.iter().all(|b| b.is_ascii_digit())
 }

@@ -1,6 +1,5 @@
-use super::{replies, sink_of};
-use crate::{Session, run};
-use idl_source::SliceSource;
+use super::{has_replies, repeated};
+use std::alloc::{AllocError, Global};
 use std::test::Fail;
 
 #[test]
@@ -29,41 +28,54 @@ fn lines_words_and_bytes_are_bounded(rt: HostRuntime) -> Result<(), Fail> {
         ("root ", "x", 8187, "\n", "refused 2\n"),
         ("root ", "x", 8188, "\nroot a.idl\n", "refused 1\nok\n"),
     ] {
-        let mut script = String::new(rt.alloc());
-        script.push_str(head)?;
-        for _ in 0..count {
-            script.push_str(piece)?;
-        }
-        script.push_str(tail)?;
-        let mut session = Session::new(rt.alloc());
-        let sink = replies(rt.alloc(), &mut session, script.as_bytes())?;
-        assert_eq!(rt; sink.as_bytes(), want.as_bytes(), "{head} and {count}");
+        let script = repeated(rt.alloc(), head, piece, count, tail)?;
+        has_replies(&rt, script.as_str(), want, head)?;
     }
     Ok(())
 }
 
 #[test]
 fn files_roots_and_macros_are_bounded(rt: HostRuntime) -> Result<(), Fail> {
-    for (word, rest, count, again) in [
-        ("put", " 0", 4096, "ok\n"),
-        ("root", "", 256, "refused 8\n"),
-        ("define", " x", 4096, "ok\n"),
+    for (word, rest, count, last) in [
+        ("put", " 0", 4096, "refused 5\nok\n"),
+        ("root", "", 256, "refused 5\nrefused 8\n"),
+        ("define", " x", 4096, "refused 5\nok\n"),
     ] {
-        let mut script = String::new(rt.alloc());
-        let mut want = String::new(rt.alloc());
-        for i in 0..count {
-            script.push_str(format!(in rt.alloc(); "{word} f{i}{rest}\n")?.as_str())?;
-            want.push_str("ok\n")?;
-        }
-        // One more, and then one that is there already and goes past no limit.
-        script.push_str(format!(in rt.alloc(); "{word} more{rest}\n{word} f0{rest}\n")?.as_str())?;
-        want.push_str("refused 5\n")?;
-        want.push_str(again)?;
-        let mut session = Session::new(rt.alloc());
-        let mut source = SliceSource::new(script.as_bytes());
-        let mut sink = sink_of(rt.alloc(), 65_536)?;
-        assert_eq!(rt; run(&mut session, &mut source, &mut sink), Ok(()));
-        assert_eq!(rt; sink.as_bytes(), want.as_bytes(), "{word}");
+        let script = numbered(rt.alloc(), word, rest, count)?;
+        let want = repeated(rt.alloc(), "", "ok\n", count, last)?;
+        has_replies(&rt, script.as_str(), want.as_str(), word)?;
     }
     Ok(())
+}
+
+// Commands about so many names and one more, and then about the first, which goes past no limit.
+fn numbered(alloc: Global, word: &str, rest: &str, count: usize) -> Result<String, AllocError> {
+    let mut text = String::new(alloc);
+    for i in 0..=count {
+        text.push_str(format!(in alloc; "{word} f{i}{rest}\n")?.as_str())?;
+    }
+    text.push_str(format!(in alloc; "{word} f0{rest}\n")?.as_str())?;
+    Ok(text)
+}
+
+// Each macro but the last is replaced by ten of the next.
+#[test]
+fn the_tokens_of_a_root_are_bounded(rt: HostRuntime) -> Result<(), Fail> {
+    // A million of them are those of a condition.
+    let script =
+        "put p.idl 9\n#define M1 M2 M2 M2 M2 M2 M2 M2 M2 M2 M2\n#define M2 M3 M3 M3 M3 M3 M3 M3 M3 M3 M3\n#define M3 M4 M4 M4 M4 M4 M4 M4 M4 M4 M4\n#define M4 M5 M5 M5 M5 M5 M5 M5 M5 M5 M5\n#define M5 M6 M6 M6 M6 M6 M6 M6 M6 M6 M6\n#define M6 1 1 1 1 1 1 1 1 1 1\n#if M1\n#endif\n;\nroot p.idl\ndiagnostics p.idl\n";
+    has_replies(
+        &rt,
+        script,
+        "ok\nok\nrows 2\np.idl:7: E18 if\np.idl:9: E19\n",
+        "tokens",
+    )
+}
+
+#[test]
+fn the_turns_of_a_root_are_bounded(rt: HostRuntime) -> Result<(), Fail> {
+    // Six are directives, and the others replacements; the last directive is one more than a million.
+    let script =
+        "put p.idl 8\n#define M1 M2 M2 M2 M2 M2 M2 M2 M2 M2 M2\n#define M2 M3 M3 M3 M3 M3 M3 M3 M3 M3 M3\n#define M3 M4 M4 M4 M4 M4 M4 M4 M4 M4 M4\n#define M4 M5 M5 M5 M5 M5 M5 M5 M5 M5 M5\n#define M5 M6 M6 M6 M6 M6 M6 M6 M6 M6 M6\n#define M6\nM1 M1 M1 M1 M1 M1 M1 M1 M2 M2 M2 M2 M2 M2 M2 M2 M2 M3 M3 M3 M3 M3 M3 M3 M3 M3 M4 M4 M4 M4 M4 M4 M4 M4 M4 M5 M5 M5 M5 M5 M5 M5 M5 M5 M6 M6 M6 M6 M6 M6 M6 M6 M6 M6\n#\nroot p.idl\ndiagnostics p.idl\n";
+    has_replies(&rt, script, "ok\nok\nrows 1\np.idl:8: E19\n", "turns")
 }

@@ -1,5 +1,4 @@
-use super::replies;
-use crate::Session;
+use super::has_replies;
 use std::test::Fail;
 
 // Scripts with the replies of a new session to them.
@@ -113,9 +112,7 @@ const ALL_MALFORMED: &str =
 #[test]
 fn scripts_have_their_replies(rt: HostRuntime) -> Result<(), Fail> {
     for (script, want) in SCRIPTS {
-        let mut session = Session::new(rt.alloc());
-        let sink = replies(rt.alloc(), &mut session, script.as_bytes())?;
-        assert_eq!(rt; sink.as_bytes(), want.as_bytes(), "{script}");
+        has_replies(&rt, script, want, script)?;
     }
     Ok(())
 }

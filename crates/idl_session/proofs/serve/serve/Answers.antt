@@ -1,11 +1,11 @@
 use Rattle.std.proofs.Common.{◌≡◌, List, ℕ, Option, IfErr, refl, subst, rules}
 use Rattle.idl_source.specs.Device.{append, WritesPart}
-use Rattle.idl_session.specs.Effects.{after_edit, rows_for}
+use Rattle.idl_session.specs.Effects.{rows_for}
 use Rattle.idl_session.specs.Headings.{edit_by}
 use Rattle.idl_session.specs.Replies.{edit_reply, query_reply}
 use Rattle.idl_session.specs.Requests.{Make, Ask, request_kept}
 use Rattle.idl_session.specs.declared.stop.Stop.TheVariants.{WriteFailed}
-use Rattle.idl_session.proofs.ServeLemmas.{serves-alone, edited, cut-write}
+use Rattle.idl_session.proofs.ServeLemmas.{serves-alone, made, cut-write}
 use Rattle.idl_session.proofs.serve.serve.Goals as goal
 
 pub returns-in_err-write_edit-in-Make-clause-cut : goal.returns-in_err-write_edit-in-Make-clause-cut
@@ -19,7 +19,7 @@ returns-in_err-write_edit-in-Make-clause-cut g c =
     cut-write r (request_kept c.args.line.now) _ _ (g.K.Sink.written c.args.sink.now) (g.K.Sink.written c.write_edit-in-Make.new.sink) s t
     reply why c.in_err-write_edit-in-Make.ensures.part
     (serves-alone (request_kept c.args.line.now) (Make edit) _ s t reply c.in-Make.ensures.request refl
-    (edited s t (after_edit s.project edit) c.make-outcome.result c.make-outcome.ensures))
+    (made s t edit c.make-outcome.result c.make-outcome.ensures.outcome c.make-outcome.ensures.sure))
 
 pub returns-in_ok-write_edit-in-Make-clause-served : goal.returns-in_ok-write_edit-in-Make-clause-served
 returns-in_ok-write_edit-in-Make-clause-served g c =
@@ -30,7 +30,7 @@ returns-in_ok-write_edit-in-Make-clause-served g c =
       reply,
       c.in_ok-write_edit-in-Make.ensures.written,
       serves-alone (request_kept c.args.line.now) (Make edit) _ s t reply c.in-Make.ensures.request refl
-          (edited s t (after_edit s.project edit) c.make-outcome.result c.make-outcome.ensures),
+          (made s t edit c.make-outcome.result c.make-outcome.ensures.outcome c.make-outcome.ensures.sure),
     )
 
 pub returns-in_err-write_query-in-Ask-clause-cut : goal.returns-in_err-write_query-in-Ask-clause-cut
