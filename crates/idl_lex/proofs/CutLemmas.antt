@@ -10,7 +10,7 @@ use Rattle.idl_lex.specs.Scan.{further}
 use Rattle.idl_lex.specs.Text.{Placed, bytes_of}
 use Rattle.idl_lex.specs.Tokens.{token_if, tokens_after}
 use Rattle.idl_lex.specs.declared.context.Context.{Context}
-use Rattle.idl_lex.specs.declared.token.Token.{Token}
+use Rattle.idl_lex.specs.declared.token.PlacedToken.{PlacedToken}
 
 -- the further bytes of the longest piece
 abbrev rest_of : Context → Placed → List Placed → ℕ
@@ -56,13 +56,13 @@ AreTokensOf-after c zero (p ∷ text) =
     subst (λ ts. AreTokensOf c (p ∷ text) ts) (sym (tokens_after-piece c p text (rest_of c p text) refl)) (AreTokensOf-cons c p text (λ d n. AreTokensOf-after d n text))
 
 -- no other tokens are those of the text
-AreTokensOf-one : (c : Context) (text : List Placed) (tokens : List Token) → AreTokensOf c text tokens → tokens ≡ tokens_after c 0 text
+AreTokensOf-one : (c : Context) (text : List Placed) (tokens : List PlacedToken) → AreTokensOf c text tokens → tokens ≡ tokens_after c 0 text
 AreTokensOf-one c text tokens (nothing d) = sym (tokens_after-nil c)
 AreTokensOf-one c text tokens (piece d p later n rest long are) =
     let after = context_after c (p.byte ∷ bytes_of (take n later)) in
     ap (λ ts. token_if c (p.byte ∷ bytes_of (take n later)) p.line ++ ts) (AreTokensOf-one after (drop n later) rest are ∙ sym (tokens_after-drop after n later))
     ∙ sym (tokens_after-piece c p later n (IsLongest-one c p later n long))
 
-pub AreTokensOf-tokens_after : (c : Context) (text : List Placed) (tokens : List Token) → AreTokensOf c text tokens ↔ (tokens ≡ tokens_after c 0 text)
+pub AreTokensOf-tokens_after : (c : Context) (text : List Placed) (tokens : List PlacedToken) → AreTokensOf c text tokens ↔ (tokens ≡ tokens_after c 0 text)
 AreTokensOf-tokens_after c text tokens =
     (AreTokensOf-one c text tokens, λ e. subst (λ ts. AreTokensOf c text ts) (sym e) (AreTokensOf-after c 0 text))

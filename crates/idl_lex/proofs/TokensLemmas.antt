@@ -14,7 +14,7 @@ use Rattle.idl_lex.specs.Text.{Placed, bytes_of}
 use Rattle.idl_lex.specs.Tokens.{line_rest, lines_after, lines_of, piece_rest, token_if, token_of, tokens_after}
 use Rattle.idl_lex.specs.declared.context.Context.{Context}
 use Rattle.idl_lex.specs.declared.state.State.TheVariants.{Block, Whole}
-use Rattle.idl_lex.specs.declared.token.Token.{Token}
+use Rattle.idl_lex.specs.declared.token.PlacedToken.{PlacedToken}
 
 pub tokens_after-drop : (c : Context) (n : ℕ) (text : List Placed) → tokens_after c n text ≡ tokens_after c 0 (drop n text)
 unfolding tokens_after
@@ -68,7 +68,7 @@ drop-placed (p ∷ text) (suc i) lt =
     drop-placed text i (omega arith) ∙ ap (λ k. record { byte = get_or (bytes_of text) i 0; line = line_at text i } ∷ drop k (p ∷ text)) (sym e)
 
 -- the first piece of a text and what comes after it
-abbrev pub from_piece : Context → Placed → List Placed → ℕ → List Token
+abbrev pub from_piece : Context → Placed → List Placed → ℕ → List PlacedToken
 from_piece c p text n = token_if c (p.byte ∷ bytes_of (take n text)) p.line ++ tokens_after (context_after c (p.byte ∷ bytes_of (take n text))) n text
 
 piece_rest-further : (c : Context) (p : Placed) (text : List Placed) → piece_rest c p text ≡ further (is_include c.beginning) p.byte (bytes_of text)
@@ -134,7 +134,7 @@ tokens_after-over c line newline rest m n e =
 tokens_after-all : (c : Context) (n : ℕ) (text : List Placed) → length text ≤ n → tokens_after c n text ≡ []
 tokens_after-all c n text le = tokens_after-drop c n text ∙ ap (tokens_after c 0) (drop_all n text le) ∙ tokens_after-nil c
 
-comment-cases : (closed : Bool) (c : Context) (opening : Token) (other : Context) (rest : List Placed) → ends_block false (bytes_of rest) ≡ closed
+comment-cases : (closed : Bool) (c : Context) (opening : PlacedToken) (other : Context) (rest : List Placed) → ends_block false (bytes_of rest) ≡ closed
     → (if closed then [] else opening ∷ []) ++ tokens_after (if closed then c else other) (taken (Block false) (bytes_of rest)) rest ≡ after_comment opening c rest
 comment-cases true c opening other rest e =
     ap (λ b. if b then tokens_after c (taken (Block false) (bytes_of rest)) rest else opening ∷ []) (sym e)
@@ -171,7 +171,7 @@ tokens_after-open c p line newline rest o =
     ∙ comment-cases closed (after_gap c) opening other rest refl
 
 -- a comment goes on over a line
-pub after_comment-open : (opening : Token) (c : Context) (line : List Placed) (newline : ℕ) (rest : List Placed) → ends_block false (bytes_of line) ≡ false
+pub after_comment-open : (opening : PlacedToken) (c : Context) (line : List Placed) (newline : ℕ) (rest : List Placed) → ends_block false (bytes_of line) ≡ false
     → after_comment opening c rest ≡ after_comment opening c (line ++ ended newline rest)
 after_comment-open opening c line newline rest e =
     let rb = bytes_of rest in
@@ -185,7 +185,7 @@ after_comment-open opening c line newline rest e =
     ∙ ap (λ ts. if (ends_block false rb) then ts else opening ∷ []) (tokens_after-over c line newline rest m (taken (Block false) (bytes_of text)) len))
 
 -- or ends on it
-pub after_comment-closed : (opening : Token) (c : Context) (line : List Placed) (newline : ℕ) (rest : List Placed) → ends_block false (bytes_of line) ≡ true
+pub after_comment-closed : (opening : PlacedToken) (c : Context) (line : List Placed) (newline : ℕ) (rest : List Placed) → ends_block false (bytes_of line) ≡ true
     → tokens_after c 0 (drop (taken (Block false) (bytes_of line)) line ++ ended newline rest) ≡ after_comment opening c (line ++ ended newline rest)
 after_comment-closed opening c line newline rest e =
     let rb = bytes_of rest in
@@ -273,12 +273,12 @@ opening-spelled c line i end lt is opened =
     ∙ ap (λ bs. 47 ∷ take 1 bs) o.star
 
 -- the lines of tokens
-lines_after-drop : (n : ℕ) (tokens : List Token) → lines_after n tokens ≡ lines_after 0 (drop n tokens)
+lines_after-drop : (n : ℕ) (tokens : List PlacedToken) → lines_after n tokens ≡ lines_after 0 (drop n tokens)
 lines_after-drop zero tokens = refl
 lines_after-drop (suc n) [] = refl
 lines_after-drop (suc n) (t ∷ tokens) = lines_after-drop n tokens
 
-pub lines_of-first : (tokens : List Token) (n : ℕ) → 0 < length tokens → n ≡ 1 + line_rest (drop 1 tokens) → lines_of tokens ≡ take n tokens ∷ lines_of (drop n tokens)
+pub lines_of-first : (tokens : List PlacedToken) (n : ℕ) → 0 < length tokens → n ≡ 1 + line_rest (drop 1 tokens) → lines_of tokens ≡ take n tokens ∷ lines_of (drop n tokens)
 unfolding lines_of
 lines_of-first [] n some is = absurd (omega arith)
 lines_of-first (t ∷ tokens) n some is =

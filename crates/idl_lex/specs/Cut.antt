@@ -5,7 +5,7 @@ use Rattle.idl_lex.specs.Piece.{is_piece}
 use Rattle.idl_lex.specs.Text.{Placed, bytes_of}
 use Rattle.idl_lex.specs.Tokens.{token_if}
 use Rattle.idl_lex.specs.declared.context.Context.{Context}
-use Rattle.idl_lex.specs.declared.token.Token.{Token}
+use Rattle.idl_lex.specs.declared.token.PlacedToken.{PlacedToken}
 
 -- the first n bytes of a text
 abbrev pub first_bytes : ℕ → List Placed → List ℕ
@@ -18,8 +18,8 @@ pub record IsLongest (c : Context) (text : List Placed) (n : ℕ) : Type 0 where
   pub no_longer : (m : ℕ) → n < m → m ≤ length text → is_piece (is_include c.beginning) (first_bytes m text) ≡ false
 
 -- the tokens of a text before which this stands on its line: those of its longest first piece, and of the text after it
-pub data AreTokensOf : Context → List Placed → List Token → Type 0 where
+pub data AreTokensOf : Context → List Placed → List PlacedToken → Type 0 where
   nothing : (c : Context) → AreTokensOf c [] []
-  piece : (c : Context) (p : Placed) (text : List Placed) (n : ℕ) (tokens : List Token) → IsLongest c (p ∷ text) (suc n)
+  piece : (c : Context) (p : Placed) (text : List Placed) (n : ℕ) (tokens : List PlacedToken) → IsLongest c (p ∷ text) (suc n)
       → AreTokensOf (context_after c (first_bytes (suc n) (p ∷ text))) (drop n text) tokens
       → AreTokensOf c (p ∷ text) (token_if c (first_bytes (suc n) (p ∷ text)) p.line ++ tokens)

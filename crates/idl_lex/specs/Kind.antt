@@ -69,7 +69,7 @@ abbrev pub other_kind : ℕ → List ℕ → Kind
 other_kind b rest = if is_fraction b rest then number_kind (b ∷ rest) else kind_of_mark (mark_kind (b ∷ rest)) b rest
 
 -- the kind of the token with this spelling
-abbrev pub kind_of : List ℕ → Kind
+unfoldable pub kind_of : List ℕ → Kind
 kind_of [] = Bad UnknownByte
 kind_of (b ∷ rest) =
     if is_letter b then letter_kind b rest
@@ -84,7 +84,11 @@ unescaped [] = None
 unescaped (b ∷ rest) = Some rest
 
 -- the name that a token of this kind and spelling is: an identifier, or what stands after the `_` of an escaped one
-abbrev pub name_of : Kind → List ℕ → Option (List ℕ)
-name_of Identifier spelling = Some spelling
-name_of Escaped spelling = unescaped spelling
-name_of other spelling = None
+abbrev pub name_by : Kind → List ℕ → Option (List ℕ)
+name_by Identifier spelling = Some spelling
+name_by Escaped spelling = unescaped spelling
+name_by other spelling = None
+
+-- the name that the token with this spelling is
+abbrev pub name_of : List ℕ → Option (List ℕ)
+name_of spelling = name_by (kind_of spelling) spelling

@@ -1,5 +1,5 @@
 -- What a number counts as: an integer with its value, or a fault.
-use Rattle.std.specs.Prelude.{ℕ, ◌+◌, ◌*◌, ◌^◌, Bool, true, false, ◌&&◌, ◌||◌, List, [], ◌∷◌, fold, nat_eq, nat_lt, if◌then◌else◌}
+use Rattle.std.specs.Prelude.{ℕ, ◌+◌, ◌*◌, ◌^◌, Bool, true, false, ◌&&◌, ◌||◌, List, [], ◌∷◌, fold, nat_eq, nat_lt, Option, None, Some, if◌then◌else◌}
 use Rattle.std.specs.List.{list_all, list_any}
 use Rattle.idl_lex.specs.Byte.{is_x, is_e, is_d, digit_value, is_digit_of}
 use Rattle.idl_lex.specs.declared.kind.Kind.{Kind}
@@ -30,20 +30,31 @@ abbrev pub are_digits : ℕ → List ℕ → Bool
 are_digits base [] = false
 are_digits base (b ∷ digits) = list_all (is_digit_of base) (b ∷ digits)
 
+-- the base to which a number is written, and its digits
+abbrev pub based_after : List ℕ → List ℕ → ℕ × List ℕ
+based_after [] spelling = (8, spelling)
+based_after (b ∷ digits) spelling = if is_x b then (16, digits) else (8, spelling)
+
+abbrev pub based : List ℕ → ℕ × List ℕ
+based [] = (10, [])
+based (b ∷ rest) = if nat_eq b 48 then based_after rest (b ∷ rest) else (10, b ∷ rest)
+
 -- an integer is below 2^64
 abbrev pub limited : ℕ → Kind
-limited value = if nat_lt value (2 ^ 64) then Integer value else Bad IntegerTooLarge
+limited value = if nat_lt value (2 ^ 64) then Integer else Bad IntegerTooLarge
 
 -- these digits of a number to a base
 abbrev pub digits_kind : ℕ → List ℕ → List ℕ → Kind
 digits_kind base digits spelling = if are_digits base digits then limited (number base digits) else no_integer spelling
 
--- a number that begins with `0`, after which this stands
-abbrev pub zero_kind : List ℕ → List ℕ → Kind
-zero_kind [] spelling = digits_kind 8 spelling spelling
-zero_kind (b ∷ digits) spelling = if is_x b then digits_kind 16 digits spelling else digits_kind 8 spelling spelling
-
 -- the kind of a number
 abbrev pub number_kind : List ℕ → Kind
-number_kind [] = digits_kind 10 [] []
-number_kind (b ∷ rest) = if nat_eq b 48 then zero_kind rest (b ∷ rest) else digits_kind 10 (b ∷ rest) (b ∷ rest)
+number_kind spelling = digits_kind (based spelling).0 (based spelling).1 spelling
+
+-- the value of these digits to a base, if they are an integer
+abbrev pub digits_value : ℕ → List ℕ → Option ℕ
+digits_value base digits = if are_digits base digits && nat_lt (number base digits) (2 ^ 64) then Some (number base digits) else None
+
+-- the value of an integer
+abbrev pub integer_value : List ℕ → Option ℕ
+integer_value spelling = digits_value (based spelling).0 (based spelling).1

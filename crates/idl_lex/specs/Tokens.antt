@@ -2,23 +2,23 @@
 use Rattle.std.specs.Prelude.{ℕ, zero, suc, ◌-◌, List, [], ◌∷◌, ◌++◌, codes, not, take, if◌then◌else◌}
 use Rattle.std.specs.List.{prefix_len}
 use Rattle.idl_lex.specs.Context.{line_start, is_nothing, is_include, is_gap, context_after}
-use Rattle.idl_lex.specs.Kind.{begins_block, kind_of}
+use Rattle.idl_lex.specs.Kind.{begins_block}
 use Rattle.idl_lex.specs.Piece.{is_piece, longest}
 use Rattle.idl_lex.specs.Text.{Placed, bytes_of, joined}
 use Rattle.idl_lex.specs.declared.context.Context.{Context}
-use Rattle.idl_lex.specs.declared.token.Token.{Token}
+use Rattle.idl_lex.specs.declared.token.PlacedToken.{PlacedToken}
 
--- the token with this spelling, on this line
-abbrev pub token_of : Context → List ℕ → ℕ → Token
+-- the token with this spelling where it stands: on this line, and with this before it
+abbrev pub token_of : Context → List ℕ → ℕ → PlacedToken
 token_of c spelling line =
-    record { kind = kind_of spelling; spelling = spelling; line = line; starts_line = is_nothing c.beginning; follows_word = c.follows_word }
+    record { token = spelling; line = line; starts_line = is_nothing c.beginning; follows_word = c.follows_word }
 
 -- a token as it is spelled: a comment that isn't closed is `/*`
 abbrev pub spelled : List ℕ → List ℕ
 spelled piece = if begins_block piece then codes "/*" else piece
 
 -- the token that a piece is, if it is one
-abbrev pub token_if : Context → List ℕ → ℕ → List Token
+abbrev pub token_if : Context → List ℕ → ℕ → List PlacedToken
 token_if c piece line = if is_gap piece then [] else token_of c (spelled piece) line ∷ []
 
 -- how many bytes the longest piece has after its first one
@@ -26,7 +26,7 @@ abbrev pub piece_rest : Context → Placed → List Placed → ℕ
 piece_rest c first text = longest (is_piece (is_include c.beginning)) (first.byte ∷ bytes_of text) - 1
 
 -- the tokens after the first n bytes
-unfoldable pub tokens_after : Context → ℕ → List Placed → List Token
+unfoldable pub tokens_after : Context → ℕ → List Placed → List PlacedToken
 tokens_after c n [] = []
 tokens_after c (suc n) (p ∷ text) = tokens_after c n text
 tokens_after c zero (p ∷ text) =
@@ -34,19 +34,19 @@ tokens_after c zero (p ∷ text) =
     ++ tokens_after (context_after c (p.byte ∷ bytes_of (take (piece_rest c p text) text))) (piece_rest c p text) text
 
 -- the tokens of a file of these lines, the first of which has the number 1
-unfoldable pub tokens_of : List (List ℕ) → List Token
+unfoldable pub tokens_of : List (List ℕ) → List PlacedToken
 tokens_of lines = tokens_after line_start zero (joined 1 lines)
 
 -- how many tokens stand on a line after its first one: those before the next token that starts a line
-abbrev pub line_rest : List Token → ℕ
+abbrev pub line_rest : List PlacedToken → ℕ
 line_rest tokens = prefix_len (λ t. not t.starts_line) tokens
 
 -- the lines of the tokens after the first n
-abbrev pub lines_after : ℕ → List Token → List (List Token)
+abbrev pub lines_after : ℕ → List PlacedToken → List (List PlacedToken)
 lines_after n [] = []
 lines_after (suc n) (t ∷ tokens) = lines_after n tokens
 lines_after zero (t ∷ tokens) = (t ∷ take (line_rest tokens) tokens) ∷ lines_after (line_rest tokens) tokens
 
 -- tokens by lines
-unfoldable pub lines_of : List Token → List (List Token)
+unfoldable pub lines_of : List PlacedToken → List (List PlacedToken)
 lines_of tokens = lines_after zero tokens

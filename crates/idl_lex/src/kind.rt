@@ -24,8 +24,8 @@ pub enum Kind {
     Identifier,
     /// `_` and an identifier, which may be spelled as a keyword.
     Escaped,
-    /// An integer, with its value.
-    Integer(u64),
+    /// An integer below 2^64.
+    Integer,
     /// A literal of one character in `'`.
     Character,
     /// A literal of one character in `'`, with `L` before it.
@@ -68,6 +68,7 @@ pub enum Defect {
 }
 
 /// The kind of the token with this spelling.
+#[tactic(auto, unfolding(crate::specs::Kind::kind_of))]
 pub fn kind_of(spelling: &[u8]) -> Kind
     ensures { result ≡ kind_of spelling.now }
 {

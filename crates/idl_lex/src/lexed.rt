@@ -6,33 +6,33 @@ ghost use Rattle.idl_lex.specs.Cut.{AreTokensOf};
 ghost use Rattle.idl_lex.specs.Lexer.{coming};
 ghost use Rattle.idl_lex.specs.Text.{joined};
 ghost use Rattle.idl_lex.specs.Tokens.{line_rest, lines_of, tokens_of};
-ghost use Rattle.idl_lex.specs.declared.token.Token.{Token};
+ghost use Rattle.idl_lex.specs.declared.token.PlacedToken.{PlacedToken};
 
 use crate::lexer::{Before, push_line};
 use crate::logical::{Logical, joined_count};
-use crate::token::Token;
+use crate::token::PlacedToken;
 use idl_source::File;
 use std::alloc::{AllocError, Global};
 use std::marker::Model;
 
 /// The tokens of a file, in order.
-#[derive(Debug, Drop)]
+#[derive(Drop)]
 pub struct Lexed {
-    tokens: Vec<Token>,
+    tokens: Vec<PlacedToken>,
 }
 
 impl Model for Lexed {
     ghost use Rattle.std.specs.Prelude.{List};
-    ghost use Rattle.idl_lex.specs.declared.token.Token.{Token};
+    ghost use Rattle.idl_lex.specs.declared.token.PlacedToken.{PlacedToken};
 
-    ghost Value = { List Token };
+    ghost Value = { List PlacedToken };
 
     ghost view = { λ lexed. lexed.tokens.items };
 }
 
 impl Lexed {
     /// The tokens in order.
-    pub fn tokens(&self) -> &[Token]
+    pub fn tokens(&self) -> &[PlacedToken]
         ensures { result.now ≡ self.now }
     {
         &self.tokens
@@ -46,8 +46,9 @@ pub fn lex(alloc: Global, file: &File, _old: Option<&Lexed>) -> Result<Lexed, Al
     let mut tokens = Vec::new(alloc);
     let mut before = Before::Fresh;
     let lines = file.lines();
+    let count = file.line_count();
     let mut i = 0;
-    'lines: while i < lines.len() {
+    'lines: while i < count {
         let end = i + joined_count(&lines[i..]);
         let line = Logical::new(alloc, &lines[i..end], i + 1)?;
         before = push_line(&mut tokens, &line, before)?;
@@ -58,7 +59,7 @@ pub fn lex(alloc: Global, file: &File, _old: Option<&Lexed>) -> Result<Lexed, Al
 }
 
 // Puts in what is left at the end of a text: a comment that isn't closed.
-fn finish(tokens: &mut Vec<Token>, before: Before) -> Result<(), AllocError>
+fn finish(tokens: &mut Vec<PlacedToken>, before: Before) -> Result<(), AllocError>
     ensures { OnOk result (tokens.new.items ≡ tokens.old.items ++ coming before []) }
 {
     match before {
@@ -73,11 +74,11 @@ fn finish(tokens: &mut Vec<Token>, before: Before) -> Result<(), AllocError>
 /// The tokens of a file's text are those of its pieces, each the longest that can begin at its place, and there is no other way to cut it so. This
 /// does nothing: it carries the law.
 pub fn longest_pieces()
-    ensures { (lines : List (List ℕ)) → (tokens : List Token) → AreTokensOf line_start (joined 1 lines) tokens ↔ (tokens ≡ tokens_of lines) }
+    ensures { (lines : List (List ℕ)) → (tokens : List PlacedToken) → AreTokensOf line_start (joined 1 lines) tokens ↔ (tokens ≡ tokens_of lines) }
 {}
 
 /// The tokens of the first line, and those after it.
-pub fn first_line(tokens: &[Token]) -> (&[Token], &[Token])
+pub fn first_line(tokens: &[PlacedToken]) -> (&[PlacedToken], &[PlacedToken])
     requires { 0 < length tokens.now }
     ensures lines { lines_of tokens.entry.now ≡ result.0.now ∷ lines_of result.1.now }
     ensures all { tokens.entry.now ≡ result.0.now ++ result.1.now }
@@ -87,7 +88,7 @@ pub fn first_line(tokens: &[Token]) -> (&[Token], &[Token])
 }
 
 // How many tokens stand on a line after its first one.
-fn line_rest(tokens: &[Token]) -> usize
+fn line_rest(tokens: &[PlacedToken]) -> usize
     ensures len { result ≡ line_rest tokens.now }
     ensures within { result ≤ length tokens.now }
 {

@@ -11,21 +11,21 @@ ghost use Rattle.idl_lex.specs.Tokens.{token_if, tokens_after};
 use crate::context::{Context, ends_block, is_gap};
 use crate::logical::Logical;
 use crate::state::{State, closing_end, further, taken};
-use crate::token::Token;
+use crate::token::PlacedToken;
 use std::alloc::AllocError;
 
 /// What a line begins in.
-#[derive(Debug, Drop)]
+#[derive(Drop)]
 pub enum Before {
     /// In nothing: the line before it has ended.
     Fresh,
     /// In a comment, which is this token if it isn't closed. Where it is closed this stands before what comes after it.
-    Comment(Token, Context),
+    Comment(PlacedToken, Context),
 }
 
 /// Puts in the tokens of a line that begins in this, and answers what the next line begins in.
 pub fn push_line(
-    tokens: &mut Vec<Token>,
+    tokens: &mut Vec<PlacedToken>,
     line: &Logical,
     before: Before,
 ) -> Result<Before, AllocError>
@@ -48,7 +48,7 @@ pub fn push_line(
 
 // Puts in the tokens from a place of a line on, where this stands before it, and answers what the next line begins in.
 fn push_pieces(
-    tokens: &mut Vec<Token>,
+    tokens: &mut Vec<PlacedToken>,
     line: &Logical,
     from: usize,
     context: Context,
@@ -66,7 +66,7 @@ fn push_pieces(
         let piece = &bytes[i..end];
         if is_open(piece) {
             let spelling = line.spelling(i, i + 2)?;
-            let opening = Token::new(now, spelling, line.line_at(i));
+            let opening = PlacedToken::new(now, spelling, line.line_at(i));
             return Ok(Before::Comment(opening, now.after(b" ")));
         }
         push_piece(tokens, now, line, i, end)?;
@@ -78,7 +78,7 @@ fn push_pieces(
 
 // Puts in the token that a piece from one place of a line up to another is, if it is one.
 fn push_piece(
-    tokens: &mut Vec<Token>,
+    tokens: &mut Vec<PlacedToken>,
     context: Context,
     line: &Logical,
     from: usize,
@@ -94,7 +94,7 @@ fn push_piece(
         return Ok(());
     }
     let spelling = line.spelling(from, to)?;
-    tokens.push(Token::new(context, spelling, line.line_at(from)))?;
+    tokens.push(PlacedToken::new(context, spelling, line.line_at(from)))?;
     Ok(())
 }
 

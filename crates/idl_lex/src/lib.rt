@@ -26,9 +26,8 @@ pub use kind::{Defect, Kind, is_like_keyword, kind_of};
 pub use lexed::{Lexed, first_line, lex, longest_pieces};
 pub use literal::decode;
 pub use mark::{Mark, PreprocessorMark};
+pub use number::integer_value;
 pub use spelling::Spelling;
-pub use token::Token;
+pub use token::{PlacedToken, Token};
 pub use word::is_word;
 
-#[cfg(test)]
-mod tests;

@@ -12,12 +12,12 @@ use std::marker::Model;
 use std::rc::RcSlice;
 
 /// Bytes of a text without the newline that ends them, each with the number of its line. The bytes of one line of a file are shared with it.
-#[derive(Debug, Drop)]
+#[derive(Drop)]
 pub struct Logical {
     bytes: RcSlice<u8>,
     // The numbers of the first bytes' lines; all further bytes stand on the last line.
-    numbers: Vec<usize>,
-    last: usize,
+    numbers: Vec<u32>,
+    last: u32,
 }
 
 impl Model for Logical {
@@ -39,14 +39,14 @@ impl Logical {
     /// The lines, the first of which has this number, as one: each but the last without its last byte, the backslash.
     pub fn new(alloc: Global, lines: &[Line], number: usize) -> Result<Logical, AllocError>
         requires some { 0 < length lines.now }
-        requires room { number + length lines.now < 2 ^ 63 }
+        requires room { number + length lines.now < 2 ^ 32 }
         ensures { IfOk result (λ logical. logical ≡ spliced number lines.now) }
     {
         match lines {
             [line] => Ok(Logical {
                 bytes: line.shared()?,
                 numbers: Vec::new(alloc),
-                last: number,
+                last: number as u32,
             }),
             _ => join(alloc, lines, number),
         }
@@ -60,7 +60,7 @@ impl Logical {
     }
 
     /// The number of a byte's line.
-    pub fn line_at(&self, i: usize) -> usize
+    pub fn line_at(&self, i: usize) -> u32
         requires { i < length self.now }
         ensures { result ≡ line_at self.now i }
     {
@@ -97,7 +97,7 @@ pub fn joined_count(lines: &[Line]) -> usize
 
 // Joins lines, the first of which has this number.
 fn join(alloc: Global, lines: &[Line], number: usize) -> Result<Logical, AllocError>
-    requires room { number + length lines.now < 2 ^ 63 }
+    requires room { number + length lines.now < 2 ^ 32 }
     requires some { 0 < length lines.now }
     ensures { IfOk result (λ logical. logical ≡ spliced number lines.now) }
 {
@@ -107,19 +107,19 @@ fn join(alloc: Global, lines: &[Line], number: usize) -> Result<Logical, AllocEr
     'lines: while i + 1 < lines.len() {
         let front = front(lines[i].as_bytes());
         bytes.extend_from_slice(front)?;
-        push_number(&mut numbers, number + i, front.len())?;
+        push_number(&mut numbers, (number + i) as u32, front.len())?;
         i += 1;
     }
     bytes.extend_from_slice(lines[i].as_bytes())?;
     Ok(Logical {
         bytes: RcSlice::from_vec(bytes)?,
         numbers,
-        last: number + i,
+        last: (number + i) as u32,
     })
 }
 
 // Puts in a number this many times.
-fn push_number(numbers: &mut Vec<usize>, number: usize, count: usize) -> Result<(), AllocError>
+fn push_number(numbers: &mut Vec<u32>, number: u32, count: usize) -> Result<(), AllocError>
     ensures { OnOk result (numbers.new.items ≡ numbers.old.items ++ replicate count number) }
 {
     for _ in 0..count {

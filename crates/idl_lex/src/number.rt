@@ -3,7 +3,7 @@
 ghost use Rattle.std.specs.Prelude.{◌≡◌, ◌^◌, ◌<◌, ◌≤◌, ◌+◌, ◌*◌, ◌||◌, nat_eq, IfSome, IfNone};
 ghost use Rattle.std.specs.List.{list_all, list_any};
 ghost use Rattle.idl_lex.specs.Byte.{is_digit_of, is_e, is_d};
-ghost use Rattle.idl_lex.specs.Number.{number, number_kind, zero_kind, digits_kind, no_integer, is_floating, is_hexadecimal, are_digits};
+ghost use Rattle.idl_lex.specs.Number.{number, number_kind, integer_value, based, no_integer, is_floating, is_hexadecimal, are_digits};
 
 use crate::byte::{digit_value, is_d, is_digit_of, is_e, is_x};
 use crate::kind::{Defect, Kind};
@@ -12,33 +12,36 @@ use crate::kind::{Defect, Kind};
 pub fn number_kind(spelling: &[u8]) -> Kind
     ensures { result ≡ number_kind spelling.now }
 {
-    match spelling {
-        [b'0', rest @ ..] => zero_kind(rest, spelling),
-        _ => digits_kind(10, spelling, spelling),
-    }
-}
-
-// The kind of a number that begins with `0`, after which this stands.
-fn zero_kind(rest: &[u8], spelling: &[u8]) -> Kind
-    ensures { result ≡ zero_kind rest.now spelling.now }
-{
-    match rest {
-        [x, digits @ ..] if is_x(*x) => digits_kind(16, digits, spelling),
-        _ => digits_kind(8, spelling, spelling),
-    }
-}
-
-// The kind of a number whose digits to a base are these.
-fn digits_kind(base: u8, digits: &[u8], spelling: &[u8]) -> Kind
-    requires { base ≤ 36 }
-    ensures { result ≡ digits_kind base digits.now spelling.now }
-{
+    let (base, digits) = based(spelling);
     if !are_digits(base, digits) {
         return no_integer(spelling);
     }
     match number(base, digits) {
-        Some(value) => Kind::Integer(value),
+        Some(_) => Kind::Integer,
         None => Kind::Bad(Defect::IntegerTooLarge),
+    }
+}
+
+/// The value of the integer with this spelling; `None` of what is no integer below 2^64.
+pub fn integer_value(spelling: &[u8]) -> Option<u64>
+    ensures { result ≡ integer_value spelling.now }
+{
+    let (base, digits) = based(spelling);
+    if !are_digits(base, digits) {
+        return None;
+    }
+    number(base, digits)
+}
+
+// The base to which a number is written, and its digits.
+fn based(spelling: &[u8]) -> (u8, &[u8])
+    ensures same { (result.0, result.1.now) ≡ based spelling.entry.now }
+    ensures base { 0 < result.0 }
+{
+    match spelling {
+        [b'0', x, digits @ ..] if is_x(*x) => (16, digits),
+        [b'0', ..] => (8, spelling),
+        _ => (10, spelling),
     }
 }
 

@@ -1,43 +1,77 @@
-//! Tokens.
+//! Tokens, and where they stand in a file.
 
-ghost use Rattle.std.specs.Prelude.{◌≡◌};
+ghost use Rattle.std.specs.Prelude.{◌≡◌, ◌↔◌, IsTrue};
+ghost use Rattle.std.specs.Cmp.{partial_equiv_from_equiv};
+ghost use Rattle.std.specs.Cmp.Lexicographic.{bytes_decides, nat_list_eq_equiv};
+ghost use Rattle.std.specs.Hash as fed;
 ghost use Rattle.std.specs.Option.{option_copied};
-ghost use Rattle.idl_lex.specs.Kind.{name_of};
+ghost use Rattle.std.specs.Str.{bytes_eq};
+ghost use Rattle.std.proofs.Common.{ap};
+ghost use Rattle.idl_lex.specs.Kind.{kind_of, name_of};
 ghost use Rattle.idl_lex.specs.Tokens.{token_of};
 
 use crate::context::Context;
 use crate::kind::{Kind, kind_of};
 use crate::spelling::Spelling;
+use idl_base::Datum;
+use std::alloc::AllocError;
+use std::hash::{Hash, Hasher};
+use std::marker::Model;
 
-/// A token: what it counts as in IDL, its bytes as written, the number of the line of its first byte, from 1 on, and what stands before it.
-#[derive(Clone, Debug, Drop)]
+/// A token: its bytes as written, and what it counts as in IDL, which follows from them. To every contract it is its bytes,
+/// and two are equal where these are. A clone shares them.
+#[derive(Drop)]
 pub struct Token {
-    pub kind: Kind,
-    pub spelling: Spelling,
-    pub line: usize,
-    /// Whether it is the first token of its line, where joined lines are one, and a comment joins those that it spans.
-    pub starts_line: bool,
-    /// Whether a word ends where it begins, with nothing between.
-    pub follows_word: bool,
+    spelling: Spelling,
+    kind: Kind,
+}
+
+impl Model for Token {
+    ghost use Rattle.std.specs.Prelude.{◌≡◌, List, ℕ};
+    ghost use Rattle.idl_lex.specs.Kind.{kind_of};
+
+    ghost Value = { List ℕ };
+
+    ghost view = { λ token. token.spelling };
+
+    ghost invariant = { λ token. token.kind ≡ kind_of token.spelling };
 }
 
 impl Token {
-    /// The token with this spelling, on this line.
-    pub fn new(context: Context, spelling: Spelling, line: usize) -> Token
-        ensures { result ≡ token_of context spelling line }
+    /// The token with this spelling.
+    pub fn new(spelling: Spelling) -> Token
+        ensures { result ≡ spelling }
     {
         Token {
             kind: kind_of(spelling.as_bytes()),
             spelling,
-            line,
-            starts_line: context.beginning.is_nothing(),
-            follows_word: context.follows_word,
         }
+    }
+
+    /// What it counts as in IDL.
+    pub fn kind(&self) -> Kind
+        ensures { result ≡ kind_of self.now }
+    {
+        self.kind
+    }
+
+    /// Its bytes as written, shared.
+    pub fn spelling(&self) -> &Spelling
+        ensures { result.now ≡ self.now }
+    {
+        &self.spelling
+    }
+
+    /// Its bytes as written.
+    pub fn as_bytes(&self) -> &[u8]
+        ensures { result.now ≡ self.now }
+    {
+        self.spelling.as_bytes()
     }
 
     /// The name that an identifier is, without the `_` of an escaped one; `None` of any other token.
     pub fn name(&self) -> Option<&[u8]>
-        ensures { option_copied result ≡ name_of self.now.kind self.now.spelling }
+        ensures { option_copied result ≡ name_of self.now }
     {
         match self.kind {
             Kind::Identifier => Some(self.spelling.as_bytes()),
@@ -46,6 +80,80 @@ impl Token {
                 [] => None,
             },
             _ => None,
+        }
+    }
+}
+
+impl Clone for Token {
+    ghost is_clone = { λ token copy. copy ≡ token };
+
+    fn clone(&self) -> Result<Token, AllocError> {
+        let spelling = self.spelling.clone()?;
+        Ok(Token {
+            spelling,
+            kind: self.kind,
+        })
+    }
+}
+
+impl PartialEq for Token {
+    ghost eq = { bytes_eq };
+
+    ghost laws = { partial_equiv_from_equiv nat_list_eq_equiv };
+
+    fn eq(&self, other: &Token) -> bool
+        ensures by_byte { result ≡ bytes_eq self.now other.now }
+        ensures exact { IsTrue result ↔ (self.now ≡ other.now) }
+    {
+        self.spelling == other.spelling
+    }
+}
+
+impl Eq for Token {
+    ghost laws = { nat_list_eq_equiv };
+}
+
+impl Hash for Token {
+    ghost hash_input = { fed.slice fed.u8 };
+
+    ghost respects_eq = { λ x y h. ap (fed.slice fed.u8) ((bytes_decides x y).0 h) };
+
+    fn hash<H: Hasher>(&self, state: &mut H) {
+        self.spelling.hash(state);
+    }
+}
+
+impl Datum for Token {
+    ghost same = { λ x y. (bytes_decides x y).0 };
+
+    ghost copy = { λ x y h. h };
+}
+
+/// A token where it stands in a file.
+#[derive(Clone, Drop)]
+pub struct PlacedToken {
+    pub token: Token,
+    /// The number of the line of its first byte, from 1 on.
+    pub line: u32,
+    /// Whether it is the first token of its line, where joined lines are one, and a comment joins those that it spans.
+    pub starts_line: bool,
+    /// Whether a word ends where it begins, with nothing between.
+    pub follows_word: bool,
+}
+
+// A file has a hundred thousands of tokens.
+const _: () = prove!(size_of::<PlacedToken>() <= 40);
+
+impl PlacedToken {
+    /// The token with this spelling, on this line.
+    pub fn new(context: Context, spelling: Spelling, line: u32) -> PlacedToken
+        ensures { result ≡ token_of context spelling line }
+    {
+        PlacedToken {
+            token: Token::new(spelling),
+            line,
+            starts_line: context.beginning.is_nothing(),
+            follows_word: context.follows_word,
         }
     }
 }

@@ -1,6 +1,6 @@
 //! A file: a list of lines.
 
-ghost use Rattle.std.specs.Prelude.{◌≡◌, ◌↔◌, IsTrue, IfOk};
+ghost use Rattle.std.specs.Prelude.{◌≡◌, ◌↔◌, ◌≤◌, length, IsTrue, IfOk};
 ghost use Rattle.std.specs.Cmp.{partial_equiv_from_equiv};
 ghost use Rattle.std.specs.Cmp.Lexicographic.{pointwise, pointwise_decides, bytes_decides, lists_per, lists_equiv, nat_list_eq_equiv};
 ghost use Rattle.std.specs.Str.{bytes_eq};
@@ -11,23 +11,26 @@ use std::alloc::{AllocError, Global};
 use std::marker::Model;
 use std::rc::Rc;
 
-/// A file: a list of lines. A clone shares the lines.
+/// A file: a list of at most 200,000 lines. A clone shares the lines.
 #[derive(Debug, Drop)]
 pub struct File {
     lines: Rc<Vec<Line>>,
 }
 
 impl Model for File {
-    ghost use Rattle.std.specs.Prelude.{List, ℕ};
+    ghost use Rattle.std.specs.Prelude.{List, ℕ, ◌≤◌, length};
 
     ghost Value = { List (List ℕ) };
 
     ghost view = { λ file. file.lines.value.items };
+
+    ghost invariant = { λ file. length file.lines.value.items ≤ 200000 };
 }
 
 impl File {
-    /// The file of these lines. No line is copied.
+    /// The file of these lines, at most [`MAX_LINES`](crate::MAX_LINES). No line is copied.
     pub fn new(alloc: Global, lines: Vec<Line>) -> Result<File, AllocError>
+        requires { length lines.items ≤ 200000 }
         ensures { IfOk result (λ file. file ≡ lines.items) }
     {
         Ok(File {
@@ -40,6 +43,14 @@ impl File {
         ensures { result.now ≡ self.now }
     {
         &self.lines
+    }
+
+    /// How many lines there are.
+    pub fn line_count(&self) -> usize
+        ensures count { result ≡ length self.now }
+        ensures within { result ≤ 200000 }
+    {
+        self.lines.len()
     }
 }
 

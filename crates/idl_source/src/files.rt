@@ -1,6 +1,6 @@
 //! Files by name, and the edits of a set of files.
 
-ghost use Rattle.std.specs.Prelude.{◌≡◌, ◌≢◌, ◌↔◌, ◌+◌, ◌++◌, ◌||◌, IsFalse, IsTrue, IfOk, IfErr, Some, None, is_some, length, nat_lt, if◌then◌else◌};
+ghost use Rattle.std.specs.Prelude.{◌≡◌, ◌≢◌, ◌↔◌, ◌≤◌, ◌+◌, ◌++◌, ◌||◌, IsFalse, IsTrue, IfOk, IfErr, Some, None, is_some, length, nat_lt, if◌then◌else◌};
 ghost use Rattle.std.specs.List.{list_any};
 ghost use Rattle.std.specs.Option.{option_copied};
 ghost use Rattle.std.specs.FinMap as map;
@@ -155,6 +155,7 @@ impl Files {
 
     // The files with these lines under this name.
     fn with(&self, name: Name, lines: Vec<Line>) -> Result<Files, AllocError>
+        requires { length lines.items ≤ 200000 }
         ensures { IfOk result (λ files. files ≡ map.insert self.now name lines.items) }
     {
         let alloc = *self.entries.allocator();

@@ -1,4 +1,4 @@
-use Rattle.std.proofs.Common.{◌∙◌, ◌++◌, ◌+◌, ◌≤◌, ap, arith, drop, length, length-drop, subst, sym}
+use Rattle.std.proofs.Common.{◌∙◌, ◌++◌, ◌+◌, ◌≤◌, ◌<◌, ap, arith, drop, length, length-drop, subst, sym}
 use Rattle.std.proofs.lemmas.List.{drop_all, take_rest}
 use Rattle.idl_lex.specs.Context.{line_start}
 use Rattle.idl_lex.specs.Lexer.{coming, ended}
@@ -23,7 +23,8 @@ lines-preserved c =
     let i = c.lines.i in
     let count = c.joined_count.result in
     let left = take_rest lines i in
-    let at = BeginsAt-joined lines i (i + count) c.lines-test.true (ap (λ n. i + n) (c.joined_count.ensures.count ∙ ap joined_count left)) in
+    let here : i < length lines = omega (arith, c.lines-test.true, c.line_count-count.ensures.count, ap length c.lines-lines.ensures) in
+    let at = BeginsAt-joined lines i (i + count) here (ap (λ n. i + n) (c.joined_count.ensures.count ∙ ap joined_count left)) in
     let rest = joined (i + count + 1) (drop (i + count) lines) in
     let within : count ≤ length (drop i lines) = subst (λ ls. count ≤ length ls) left c.joined_count.ensures.within in
     record {
@@ -37,7 +38,8 @@ lines-preserved c =
 pub returns : goal.returns
 returns c =
     let lines = c.lines-lines.result.now in
+    let past : length lines ≤ c.lines.i = omega (arith, c.lines-test.false, c.line_count-count.ensures.count, ap length c.lines-lines.ensures) in
     c.in_ok-finish.ensures
-    ∙ ap (λ ps. c.lines.tokens.items ++ coming c.lines.before ps) (sym (ap (joined (c.lines.i + 1)) (drop_all c.lines.i lines c.lines-test.false) ∙ joined-nil (c.lines.i + 1)))
+    ∙ ap (λ ps. c.lines.tokens.items ++ coming c.lines.before ps) (sym (ap (joined (c.lines.i + 1)) (drop_all c.lines.i lines past) ∙ joined-nil (c.lines.i + 1)))
     ∙ c.lines.invariant.tokens
     ∙ ap tokens_of c.lines-lines.ensures
