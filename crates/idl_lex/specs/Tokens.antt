@@ -1,5 +1,5 @@
 -- The tokens of a text: each piece is the longest that can begin at its place, and those that are no tokens are dropped.
-use Rattle.std.specs.Prelude.{ℕ, zero, suc, ◌-◌, List, [], ◌∷◌, ◌++◌, codes, not, take, if◌then◌else◌}
+use Rattle.std.specs.Prelude.{ℕ, zero, suc, ◌-◌, List, [], ◌∷◌, ◌++◌, codes, map, not, take, if◌then◌else◌}
 use Rattle.std.specs.List.{prefix_len}
 use Rattle.idl_lex.specs.Context.{line_start, is_nothing, is_include, is_gap, context_after}
 use Rattle.idl_lex.specs.Kind.{begins_block}
@@ -36,6 +36,10 @@ tokens_after c zero (p ∷ text) =
 -- the tokens of a file of these lines, the first of which has the number 1
 unfoldable pub tokens_of : List (List ℕ) → List PlacedToken
 tokens_of lines = tokens_after line_start zero (joined 1 lines)
+
+-- what the tokens are, wherever they stand
+abbrev pub tokens_in : List PlacedToken → List (List ℕ)
+tokens_in tokens = map (λ t. t.token) tokens
 
 -- how many tokens stand on a line after its first one: those before the next token that starts a line
 abbrev pub line_rest : List PlacedToken → ℕ

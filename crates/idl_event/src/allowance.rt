@@ -1,9 +1,9 @@
 //! The limits of a root.
 
 ghost use Rattle.std.specs.Prelude.{◌≡◌};
-ghost use Rattle.idl_macro.specs.Items.{spend, whole_allowance};
+ghost use Rattle.idl_event.specs.Items.{spend, whole_allowance};
 
-use crate::item::Item;
+use crate::event::{Event, Item};
 
 /// Turns that a root makes at most: replacements, and directives that aren't skipped.
 pub const MAX_TURNS: usize = 1_000_000;
@@ -12,7 +12,7 @@ pub const MAX_TURNS: usize = 1_000_000;
 pub const MAX_TOKENS: usize = 1_000_000;
 
 /// What is left of the two limits.
-#[derive(Clone, Copy, Debug, PartialEq, Eq)]
+#[derive(Clone, Copy)]
 pub struct Allowance {
     pub turns: usize,
     pub tokens: usize,
@@ -38,14 +38,12 @@ impl Allowance {
                 turns: self.turns.checked_sub(1)?,
                 tokens: self.tokens,
             }),
-            Item::Emitted(_, _) | Item::Counted(_) => Some(Allowance {
+            Item::Kept(Event::Emitted(_, _)) | Item::Counted(_) => Some(Allowance {
                 turns: self.turns,
                 tokens: self.tokens.checked_sub(1)?,
             }),
             Item::TooDeep(_) => None,
-            Item::Entered(_) | Item::Left(_) | Item::Pragma(_, _) | Item::Fault(_, _, _) => Some(
-                self,
-            ),
+            Item::Kept(_) => Some(self),
         }
     }
 }

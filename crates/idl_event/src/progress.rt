@@ -3,12 +3,12 @@
 ghost use Rattle.std.specs.Prelude.{◌≡◌, ◌↔◌, ◌++◌, ◌≤◌, [], None, Some, IfOk, OnOk, IsTrue};
 ghost use Rattle.std.specs.Option.{option_copied, option_to_list};
 ghost use Rattle.idl_base.specs.Progress.{after_item, after_key};
-ghost use Rattle.idl_macro.specs.Items.{event_of, rules, turns_left, beginning};
-ghost use Rattle.idl_macro.specs.Key.{key_eq};
-ghost use Rattle.idl_macro.specs.declared.allowance.TheConstants.{MAX_TURNS};
+ghost use Rattle.idl_event.specs.Items.{event_of, rules, turns_left, beginning};
+ghost use Rattle.idl_event.specs.Key.{key_eq};
+ghost use Rattle.idl_event.specs.Limits.{turns_at_most};
 
 use crate::allowance::Allowance;
-use crate::item::{Event, Item};
+use crate::event::{Event, Item};
 use crate::key::{Answer, Key};
 use idl_memo::{Bank, Log};
 use std::alloc::{AllocError, Global};
@@ -28,18 +28,18 @@ pub struct Progress<B: Bank<Key = Key, Answer = Answer>> {
 impl<B: Bank<Key = Key, Answer = Answer>> Model for Progress<B> {
     ghost use Rattle.std.specs.Prelude.{Option, ◌≤◌};
     ghost use Rattle.idl_base.specs.Progress.{Progress as Reached};
-    ghost use Rattle.idl_macro.specs.declared.allowance.Allowance.{Allowance};
-    ghost use Rattle.idl_macro.specs.declared.allowance.TheConstants.{MAX_TURNS};
-    ghost use Rattle.idl_macro.specs.declared.item.Event.{Event};
-    ghost use Rattle.idl_macro.specs.declared.key.Key.{Key};
-    ghost use Rattle.idl_macro.specs.declared.key.Answer.{Answer};
-    ghost use Rattle.idl_macro.specs.Items.{turns_left};
+    ghost use Rattle.idl_event.specs.declared.allowance.Allowance.{Allowance};
+    ghost use Rattle.idl_event.specs.Limits.{turns_at_most};
+    ghost use Rattle.idl_event.specs.declared.event.Event.{Event};
+    ghost use Rattle.idl_event.specs.declared.key.Key.{Key};
+    ghost use Rattle.idl_event.specs.declared.key.Answer.{Answer};
+    ghost use Rattle.idl_event.specs.Items.{turns_left};
 
     ghost Value = { Reached Key (Option Answer) Event Allowance };
 
     ghost view = { λ p. record { kept = p.kept.items; left = p.left; log = p.log } };
 
-    ghost invariant = { λ p. turns_left p.left ≤ MAX_TURNS };
+    ghost invariant = { λ p. turns_left p.left ≤ turns_at_most };
 }
 
 impl<B: Bank<Key = Key, Answer = Answer>> Progress<B> {
@@ -70,10 +70,15 @@ impl<B: Bank<Key = Key, Answer = Answer>> Progress<B> {
         &self.kept
     }
 
+    /// Where its memory comes from.
+    pub fn allocator(&self) -> Global {
+        *self.kept.allocator()
+    }
+
     /// Whether an item was past the limits.
     pub fn is_over(&self) -> bool
         ensures over { IsTrue result ↔ (self.now.left ≡ None) }
-        ensures turns { turns_left self.now.left ≤ MAX_TURNS }
+        ensures turns { turns_left self.now.left ≤ turns_at_most }
     {
         self.left.is_none()
     }
@@ -92,7 +97,8 @@ impl<B: Bank<Key = Key, Answer = Answer>> Progress<B> {
             }
             None => {
                 self.left = None;
-                keep(&mut self.kept, item.past_limit())
+                self.kept.push(item.past_limit())?;
+                Ok(())
             }
         }
     }

@@ -3,26 +3,27 @@
 ghost use Rattle.std.specs.Prelude.{◌≡◌};
 ghost use Rattle.std.specs.Cmp.{on_equiv, on_per, partial_equiv_from_equiv};
 ghost use Rattle.std.specs.Cmp.Lexicographic.{nat_list_eq_equiv};
-ghost use Rattle.idl_macro.specs.Key.{key_code, key_eq};
+ghost use Rattle.idl_event.specs.Key.{key_code, key_eq};
 
+use crate::file_name::FileName;
 use crate::lexed_file::LexedFile;
 use idl_base::{Datum, Seq};
 use idl_lex::Spelling;
-use idl_source::{Directory, Name};
+use idl_source::Directory;
 
 /// What is asked of the bank of a root.
-#[derive(Clone, Debug, Hash, Drop)]
+#[derive(Clone, Hash, Drop)]
 pub enum Key {
     /// The body of the session's macro with this word.
     Macro(Spelling),
     /// The file with this name.
-    File(Name),
+    File(FileName),
     /// The directories in which included files are searched.
     Search,
 }
 
 /// What is answered.
-#[derive(Clone, Debug, PartialEq, Eq, Drop)]
+#[derive(Clone, PartialEq, Eq, Drop)]
 pub enum Answer {
     /// A macro's body: a file of that one line.
     Macro(LexedFile),
@@ -56,8 +57,8 @@ impl Eq for Key {
 impl Datum for Key {
     ghost use Rattle.std.specs.Prelude.{refl};
     ghost use Rattle.std.proofs.Common.{ap};
-    ghost use Rattle.idl_macro.specs.Key.{same_key};
-    ghost use Rattle.idl_macro.specs.declared.key.Key.TheVariants.{Macro, File, Search};
+    ghost use Rattle.idl_event.specs.Key.{same_key};
+    ghost use Rattle.idl_event.specs.declared.key.Key.TheVariants.{Macro, File, Search};
 
     ghost same = { same_key };
 
@@ -71,7 +72,7 @@ impl Datum for Key {
 impl Datum for Answer {
     ghost use Rattle.std.specs.Cmp.Lexicographic.{bytes_decides, pointwise_decides};
     ghost use Rattle.std.proofs.Common.{ap};
-    ghost use Rattle.idl_macro.specs.declared.key.Answer.TheVariants.{Macro, File, Search};
+    ghost use Rattle.idl_event.specs.declared.key.Answer.TheVariants.{Macro, File, Search};
 
     ghost same = { elim [
       | Macro a ↦ elim [ Macro b ↦ λ h. ap Macro ((pointwise_decides bytes_decides a b).0 h) | File b ↦ λ h. cc | Search b ↦ λ h. cc ]

@@ -7,14 +7,15 @@ ghost use Rattle.std.specs.Str.{bytes_eq};
 ghost use Rattle.idl_lex.specs.Tokens.{tokens_of};
 
 use idl_base::Datum;
-use idl_lex::{Lexed, Token, lex};
+use crate::token_range::FileTokens;
+use idl_lex::{Lexed, lex};
 use idl_source::File;
 use std::alloc::{AllocError, Global};
 use std::marker::Model;
 use std::rc::Rc;
 
 /// A file, and beside it its tokens, so that they are made once. Its lines alone are its value, and a clone shares both.
-#[derive(Debug, Drop)]
+#[derive(Drop)]
 pub struct LexedFile {
     file: File,
     tokens: Rc<Lexed>,
@@ -51,10 +52,10 @@ impl LexedFile {
     }
 
     /// Its tokens in order.
-    pub fn tokens(&self) -> &[Token]
-        ensures { result.now ≡ tokens_of self.now }
+    pub fn tokens(&self) -> FileTokens<'_>
+        ensures { result ≡ tokens_of self.now }
     {
-        self.tokens.tokens()
+        FileTokens::all(&self.tokens)
     }
 }
 

@@ -3,8 +3,8 @@ use Rattle.std.specs.Prelude.{◌≡◌, ℕ, Bool, true, List, [], ◌∷◌, r
 use Rattle.std.specs.Cmp.Lexicographic.{bytes_decides}
 use Rattle.std.specs.Str.{bytes_eq}
 use Rattle.std.proofs.Common.{ap}
-use Rattle.idl_macro.specs.declared.key.Key.{Key}
-use Rattle.idl_macro.specs.declared.key.Key.TheVariants.{Macro, File, Search}
+use Rattle.idl_event.specs.declared.key.Key.{Key}
+use Rattle.idl_event.specs.declared.key.Key.TheVariants.{Macro, File, Search}
 
 -- a key as a list: a number that tells what it asks about, and its word or name
 abbrev pub key_code : Key → List ℕ

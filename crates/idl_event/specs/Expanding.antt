@@ -1,0 +1,32 @@
+-- The expansion of a root as a query, and where one comes to with it.
+use Rattle.std.specs.Prelude.{Option}
+use Rattle.std.specs.Option.{option_map}
+use Rattle.idl_base.specs.Progress.{Progress, after}
+use Rattle.idl_base.specs.Query.{Query, outcome}
+use Rattle.idl_event.specs.Items.{rules}
+use Rattle.idl_event.specs.Key.{key_eq}
+use Rattle.idl_event.specs.declared.allowance.Allowance.{Allowance}
+use Rattle.idl_event.specs.declared.event.Event.{Event}
+use Rattle.idl_event.specs.declared.event.Item.{Item}
+use Rattle.idl_event.specs.declared.key.Answer.{Answer}
+use Rattle.idl_event.specs.declared.key.Key.{Key}
+
+-- what a root asks and tells, and what comes of it
+abbrev pub Expanding : Type 0 → Type 0
+Expanding A = Query Key (Option Answer) Item A
+
+-- how far a root has come
+abbrev pub Reached : Type 0
+Reached = Progress Key (Option Answer) Event Allowance
+
+-- where it comes to with what is asked and told
+abbrev pub reached : {A : Type 0} → (Key → Option Answer) → Expanding A → Reached → Reached
+reached bank query p = after rules key_eq bank query p
+
+-- where it ends: what was reached, and what came of it unless a limit was passed
+abbrev pub arrived : {A : Type 0} → A → Reached → Reached × Option A
+arrived a p = (p, option_map (λ _. a) p.left)
+
+-- where a query comes to
+abbrev pub arrival : {A : Type 0} → (Key → Option Answer) → Expanding A → Reached → Reached × Option A
+arrival bank query p = arrived (outcome query bank) (reached bank query p)

@@ -1,0 +1,6 @@
+pub mod Code
+pub mod Diagnostic
+pub mod Expanding
+pub mod Items
+pub mod Key
+pub mod Limits

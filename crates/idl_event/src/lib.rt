@@ -1,0 +1,27 @@
+//! What the expansion of a root is told in: names of files, places, codes, events, the questions that a root asks and their
+//! answers, and how far a root has come under its limits.
+//!
+//! Nothing here knows how a file is read, what a directive does, or what a unit is.
+#![tactic(auto)]
+
+mod allowance;
+mod code;
+mod diagnostic;
+mod event;
+mod file_name;
+mod key;
+mod lexed_file;
+mod place;
+mod progress;
+mod token_range;
+
+pub use allowance::{Allowance, MAX_TOKENS, MAX_TURNS};
+pub use code::Code;
+pub use diagnostic::diagnostic_row;
+pub use event::{Event, Item};
+pub use file_name::FileName;
+pub use key::{Answer, Key};
+pub use lexed_file::LexedFile;
+pub use place::Place;
+pub use progress::Progress;
+pub use token_range::{FileTokens, TokenRange};

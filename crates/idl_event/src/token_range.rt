@@ -1,0 +1,116 @@
+//! Ranges of a file's tokens: lent ones, which know where they stand, and shared ones.
+
+ghost use Rattle.std.specs.Prelude.{◌≡◌, ◌≤◌, drop, length, take, IfOk};
+ghost use Rattle.idl_lex.specs.Tokens.{tokens_in};
+
+use idl_lex::{Lexed, PlacedToken};
+use std::alloc::AllocError;
+use std::marker::Model;
+use std::rc::Rc;
+
+/// Tokens of a file from one place up to another, which are lent. To every contract they are their list.
+#[derive(Drop)]
+pub struct FileTokens<'a> {
+    file: &'a Rc<Lexed>,
+    from: usize,
+    to: usize,
+    tokens: &'a [PlacedToken],
+}
+
+impl<'a> Model for FileTokens<'a> {
+    ghost use Rattle.std.specs.Prelude.{◌≡◌, ◌≤◌, ◌+◌, ◌-◌, List, drop, length, take};
+    ghost use Rattle.idl_lex.specs.declared.token.PlacedToken.{PlacedToken};
+
+    ghost Value = { List PlacedToken };
+
+    ghost view = { λ range. range.tokens.now };
+
+    ghost invariant = { λ range. (range.from + length range.tokens.now ≡ range.to)
+        × (range.to ≤ length range.file.now.value)
+        × (range.tokens.now ≡ take (range.to - range.from) (drop range.from range.file.now.value)) };
+}
+
+impl<'a> FileTokens<'a> {
+    /// All tokens of a file.
+    pub fn all(file: &'a Rc<Lexed>) -> FileTokens<'a>
+        ensures { result ≡ file.now.value }
+    {
+        let tokens = file.tokens();
+        FileTokens {
+            file,
+            from: 0,
+            to: tokens.len(),
+            tokens,
+        }
+    }
+
+    /// The tokens in order.
+    pub fn as_slice(&self) -> &'a [PlacedToken]
+        ensures { result.now ≡ self.now }
+    {
+        self.tokens
+    }
+
+    /// The first `count` tokens, and those after them.
+    pub fn split_at(&self, count: usize) -> (FileTokens<'a>, FileTokens<'a>)
+        requires { count ≤ length self.now }
+        ensures front { result.0 ≡ take count self.now }
+        ensures back { result.1 ≡ drop count self.now }
+    {
+        let (front, back) = self.tokens.split_at(count);
+        let middle = self.from + count;
+        let first = FileTokens {
+            file: self.file,
+            from: self.from,
+            to: middle,
+            tokens: front,
+        };
+        let rest = FileTokens {
+            file: self.file,
+            from: middle,
+            to: self.to,
+            tokens: back,
+        };
+        (first, rest)
+    }
+
+    /// The tokens, shared with the file from now on.
+    pub fn shared(&self) -> Result<TokenRange, AllocError>
+        ensures { IfOk result (λ range. range ≡ tokens_in self.now) }
+    {
+        Ok(TokenRange {
+            file: self.file.clone()?,
+            from: self.from,
+            to: self.to,
+        })
+    }
+}
+
+/// Tokens of a file that are shared with it: those of a macro's body, or of a pragma. To every contract they are their list,
+/// wherever they stand.
+#[derive(Drop)]
+pub struct TokenRange {
+    file: Rc<Lexed>,
+    from: usize,
+    to: usize,
+}
+
+impl Model for TokenRange {
+    ghost use Rattle.std.specs.Prelude.{◌≤◌, List, ℕ, length, slice_range};
+    ghost use Rattle.idl_lex.specs.Tokens.{tokens_in};
+
+    ghost Value = { List (List ℕ) };
+
+    ghost view = { λ range. tokens_in (slice_range range.file.value range.from range.to) };
+
+    ghost invariant = { λ range. (range.from ≤ range.to) × (range.to ≤ length range.file.value) };
+}
+
+impl TokenRange {
+    /// The tokens in order.
+    pub fn as_slice(&self) -> &[PlacedToken]
+        ensures { tokens_in result.now ≡ self.now }
+    {
+        &self.file.tokens()[self.from..self.to]
+    }
+}
