@@ -8,6 +8,10 @@ use Rattle.idl_lex.specs.Text.{Placed, bytes_of, joined}
 use Rattle.idl_lex.specs.declared.context.Context.{Context}
 use Rattle.idl_lex.specs.declared.token.PlacedToken.{PlacedToken}
 
+-- a token, as contracts see it: its bytes as written
+abbrev pub Token : Type 0
+Token = List ℕ
+
 -- the token with this spelling where it stands: on this line, and with this before it
 abbrev pub token_of : Context → List ℕ → ℕ → PlacedToken
 token_of c spelling line =
@@ -38,7 +42,7 @@ unfoldable pub tokens_of : List (List ℕ) → List PlacedToken
 tokens_of lines = tokens_after line_start zero (joined 1 lines)
 
 -- what the tokens are, wherever they stand
-abbrev pub tokens_in : List PlacedToken → List (List ℕ)
+abbrev pub tokens_in : List PlacedToken → List Token
 tokens_in tokens = map (λ t. t.token) tokens
 
 -- how many tokens stand on a line after its first one: those before the next token that starts a line

@@ -9,10 +9,12 @@ ghost use Rattle.std.specs.Str.{bytes_eq};
 ghost use Rattle.std.proofs.Common.{ap};
 ghost use Rattle.idl_lex.specs.Kind.{kind_of, name_of};
 ghost use Rattle.idl_lex.specs.Tokens.{token_of};
+ghost use Rattle.idl_lex.specs.Word.{is_word};
 
 use crate::context::Context;
 use crate::kind::{Kind, kind_of};
 use crate::spelling::Spelling;
+use crate::word::is_word;
 use idl_base::Datum;
 use std::alloc::AllocError;
 use std::hash::{Hash, Hasher};
@@ -24,17 +26,20 @@ use std::marker::Model;
 pub struct Token {
     spelling: Spelling,
     kind: Kind,
+    // Whether it is a word.
+    word: bool,
 }
 
 impl Model for Token {
     ghost use Rattle.std.specs.Prelude.{◌≡◌, List, ℕ};
     ghost use Rattle.idl_lex.specs.Kind.{kind_of};
+    ghost use Rattle.idl_lex.specs.Word.{is_word};
 
     ghost Value = { List ℕ };
 
     ghost view = { λ token. token.spelling };
 
-    ghost invariant = { λ token. token.kind ≡ kind_of token.spelling };
+    ghost invariant = { λ token. (token.kind ≡ kind_of token.spelling) × (token.word ≡ is_word token.spelling) };
 }
 
 impl Token {
@@ -44,6 +49,7 @@ impl Token {
     {
         Token {
             kind: kind_of(spelling.as_bytes()),
+            word: is_word(spelling.as_bytes()),
             spelling,
         }
     }
@@ -53,6 +59,13 @@ impl Token {
         ensures { result ≡ kind_of self.now }
     {
         self.kind
+    }
+
+    /// Whether it is a word, whatever it counts as in IDL.
+    pub fn is_word(&self) -> bool
+        ensures { result ≡ is_word self.now }
+    {
+        self.word
     }
 
     /// Its bytes as written, shared.
@@ -92,6 +105,7 @@ impl Clone for Token {
         Ok(Token {
             spelling,
             kind: self.kind,
+            word: self.word,
         })
     }
 }

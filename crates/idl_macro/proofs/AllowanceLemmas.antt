@@ -5,21 +5,21 @@ use Rattle.std.specs.Map.{lookup}
 use Rattle.std.specs.Str.{bytes_eq}
 use Rattle.idl_base.specs.Progress.{after_item, after_key, with_item}
 use Rattle.idl_base.specs.Query.{Done, Ask, noted}
-use Rattle.idl_lex.specs.declared.token.Token.{Token}
-use Rattle.idl_macro.specs.Items.{rules, spend, turns_left}
-use Rattle.idl_macro.specs.Key.{key_eq}
-use Rattle.idl_macro.specs.Macros.{Definitions, Reached, body_in, macro_of, reached}
+use Rattle.idl_event.specs.Items.{rules, spend, turns_left}
+use Rattle.idl_event.specs.Key.{key_eq}
+use Rattle.idl_event.specs.Expanding.{Reached, reached}
+use Rattle.idl_macro.specs.Macros.{Definitions, body_in, macro_of}
 use Rattle.idl_macro.specs.Output.{item_of}
 use Rattle.idl_macro.specs.Replace.{replacement}
-use Rattle.idl_macro.specs.Words.{is_word}
-use Rattle.idl_macro.specs.declared.allowance.Allowance.{Allowance}
-use Rattle.idl_macro.specs.declared.allowance.TheConstants.{MAX_TURNS}
-use Rattle.idl_macro.specs.declared.item.Item.{Item}
-use Rattle.idl_macro.specs.declared.item.Item.TheVariants.{Turn}
-use Rattle.idl_macro.specs.declared.key.Answer.{Answer}
-use Rattle.idl_macro.specs.declared.key.Key.{Key}
-use Rattle.idl_macro.specs.declared.key.Key.TheVariants as key
-use Rattle.idl_macro.specs.declared.place.Place.{Place}
+use Rattle.idl_lex.specs.Word.{is_word}
+use Rattle.idl_event.specs.declared.allowance.Allowance.{Allowance}
+use Rattle.idl_event.specs.Limits.{turns_at_most}
+use Rattle.idl_event.specs.declared.event.Item.{Item}
+use Rattle.idl_event.specs.declared.event.Item.TheVariants.{Turn}
+use Rattle.idl_event.specs.declared.key.Answer.{Answer}
+use Rattle.idl_event.specs.declared.key.Key.{Key}
+use Rattle.idl_event.specs.declared.key.Key.TheVariants as key
+use Rattle.idl_event.specs.declared.place.Place.{Place}
 use Rattle.idl_macro.specs.declared.replacement.Output.{Output}
 use Rattle.idl_macro.specs.declared.replacement.Output.TheVariants.{Text, Operand}
 
@@ -35,7 +35,7 @@ pub left-after_key : (bank : Key → Option Answer) (k : Key) (p : Reached) → 
 left-after_key bank k p = left-with_key bank k p p.left
 
 -- nor does the macro of a word
-left-said : (bank : Key → Option Answer) (word : List ℕ) (p : Reached) (said : Option (Option (List Token)))
+left-said : (bank : Key → Option Answer) (word : List ℕ) (p : Reached) (said : Option (Option (List (List ℕ))))
     → (reached bank (elim said [ None ↦ Ask (key.Macro word) (λ found. Done (body_in found)) | Some body ↦ Done body ]) p).left ≡ p.left
 left-said bank word p None = left-after_key bank (key.Macro word) p
 left-said bank word p (Some body) = refl
@@ -50,21 +50,21 @@ left-if : (bank : Key → Option Answer) (definitions : Definitions) (word : Lis
 left-if bank definitions word p true = left-macro_of bank definitions word p
 left-if bank definitions word p false = refl
 
-pub left-replacement : (bank : Key → Option Answer) (definitions : Definitions) (hidden : List (List ℕ)) (t : Token) (p : Reached) → (reached bank (replacement definitions hidden t) p).left ≡ p.left
+pub left-replacement : (bank : Key → Option Answer) (definitions : Definitions) (hidden : List (List ℕ)) (t : List ℕ) (p : Reached) → (reached bank (replacement definitions hidden t) p).left ≡ p.left
 unfolding replacement
-left-replacement bank definitions hidden t p = left-if bank definitions t.spelling p (is_word t && not (list_any (bytes_eq t.spelling) hidden))
+left-replacement bank definitions hidden t p = left-if bank definitions t p (is_word t && not (list_any (bytes_eq t) hidden))
 
 -- so many replacements are open: each took a turn
 abbrev pub IsWithinTurns : Option Allowance → ℕ → Type 0
 IsWithinTurns None opened = Unit {0}
-IsWithinTurns (Some left) opened = opened ≤ MAX_TURNS - left.turns
+IsWithinTurns (Some left) opened = opened ≤ turns_at_most - left.turns
 
 -- what is left to do: a replacement costs a turn and opens one more, a token costs a token, and a replacement is closed
 abbrev pub work_left : Option Allowance → ℕ → ℕ
 work_left None opened = opened
 work_left (Some left) opened = 2 * left.turns + left.tokens + opened + 2
 
-pub IsWithinTurns-room : (left : Option Allowance) (opened : ℕ) → left ≢ None → IsWithinTurns left opened → opened < MAX_TURNS + 1
+pub IsWithinTurns-room : (left : Option Allowance) (opened : ℕ) → left ≢ None → IsWithinTurns left opened → opened < turns_at_most + 1
 IsWithinTurns-room None opened some h = absurd (some refl)
 IsWithinTurns-room (Some left) opened some h = omega arith
 
@@ -99,12 +99,12 @@ pub left-after_item : (item : Item) (p : Reached) → (after_item rules item p).
 left-after_item item p = left-item_more item p p.left refl
 
 -- a turn
-spend_turn_within : (left : Allowance) (opened : ℕ) (b : Bool) → (b ≡ false → left.turns ≢ 0) → opened ≤ MAX_TURNS - left.turns → left.turns ≤ MAX_TURNS
+spend_turn_within : (left : Allowance) (opened : ℕ) (b : Bool) → (b ≡ false → left.turns ≢ 0) → opened ≤ turns_at_most - left.turns → left.turns ≤ turns_at_most
     → IsWithinTurns (if b then None else Some (record left { turns = left.turns - 1 })) (opened + 1)
 spend_turn_within left opened true some h fits = tt {0}
 spend_turn_within left opened false some h fits = let more = some refl in omega arith
 
-pub IsWithinTurns-turn : (place : Place) (left : Option Allowance) (opened : ℕ) → IsWithinTurns left opened → turns_left left ≤ MAX_TURNS → IsWithinTurns (left_by (Turn place) left) (opened + 1)
+pub IsWithinTurns-turn : (place : Place) (left : Option Allowance) (opened : ℕ) → IsWithinTurns left opened → turns_left left ≤ turns_at_most → IsWithinTurns (left_by (Turn place) left) (opened + 1)
 IsWithinTurns-turn place None opened h fits = tt {0}
 IsWithinTurns-turn place (Some left) opened h fits = spend_turn_within left opened (nat_eq left.turns 0) (no_zero left.turns) h fits
 
@@ -118,12 +118,12 @@ work_left-turn place None opened some = absurd (some refl)
 work_left-turn place (Some left) opened some = spend_turn_work left opened (nat_eq left.turns 0) (no_zero left.turns)
 
 -- a token that comes of it
-spend_token_within : (left : Allowance) (opened : ℕ) (b : Bool) → opened ≤ MAX_TURNS - left.turns
+spend_token_within : (left : Allowance) (opened : ℕ) (b : Bool) → opened ≤ turns_at_most - left.turns
     → IsWithinTurns (if b then None else Some (record left { tokens = left.tokens - 1 })) opened
 spend_token_within left opened true h = tt {0}
 spend_token_within left opened false h = h
 
-pub IsWithinTurns-put : (output : Output) (place : Place) (t : Token) (left : Option Allowance) (opened : ℕ) → IsWithinTurns left opened → IsWithinTurns (left_by (item_of output place t) left) opened
+pub IsWithinTurns-put : (output : Output) (place : Place) (t : List ℕ) (left : Option Allowance) (opened : ℕ) → IsWithinTurns left opened → IsWithinTurns (left_by (item_of output place t) left) opened
 IsWithinTurns-put output place t None opened h = tt {0}
 IsWithinTurns-put Text place t (Some left) opened h = spend_token_within left opened (nat_eq left.tokens 0) h
 IsWithinTurns-put (Operand tokens) place t (Some left) opened h = spend_token_within left opened (nat_eq left.tokens 0) h
@@ -133,7 +133,7 @@ spend_token_work : (left : Allowance) (opened : ℕ) (b : Bool) → (b ≡ false
 spend_token_work left opened true some = omega arith
 spend_token_work left opened false some = let more = some refl in omega arith
 
-pub work_left-put : (output : Output) (place : Place) (t : Token) (left : Option Allowance) (opened : ℕ) → left ≢ None → work_left (left_by (item_of output place t) left) opened < work_left left opened
+pub work_left-put : (output : Output) (place : Place) (t : List ℕ) (left : Option Allowance) (opened : ℕ) → left ≢ None → work_left (left_by (item_of output place t) left) opened < work_left left opened
 work_left-put output place t None opened some = absurd (some refl)
 work_left-put Text place t (Some left) opened some = spend_token_work left opened (nat_eq left.tokens 0) (no_zero left.tokens)
 work_left-put (Operand tokens) place t (Some left) opened some = spend_token_work left opened (nat_eq left.tokens 0) (no_zero left.tokens)
@@ -143,7 +143,7 @@ pub not_over : (b : Bool) (left : Option Allowance) → b ≡ false → (left �
 not_over b left going ends e = let ended = ends e in cc
 
 -- what a step leaves: what is asked takes nothing, and then an item is told
-pub left-step : (bank : Key → Option Answer) (definitions : Definitions) (hidden : List (List ℕ)) (t : Token) (item : Item) (p asked told : Reached)
+pub left-step : (bank : Key → Option Answer) (definitions : Definitions) (hidden : List (List ℕ)) (t : List ℕ) (item : Item) (p asked told : Reached)
     → asked ≡ reached bank (replacement definitions hidden t) p → told ≡ after_item rules item asked → told.left ≡ left_by item p.left
 left-step bank definitions hidden t item p asked told ask tell =
     ap (λ (r : Reached). r.left) tell

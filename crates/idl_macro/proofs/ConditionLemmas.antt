@@ -6,33 +6,33 @@ use Rattle.idl_base.specs.Progress.{after_item, after-and_then, after-over}
 use Rattle.idl_base.specs.Query.{Done, Tell, and_then, outcome}
 use Rattle.idl_base.specs.QueryLaws.{outcome-and_then}
 use Rattle.idl_condition.specs.Arithmetic.{Value}
-use Rattle.idl_lex.specs.declared.token.Token.{Token}
 use Rattle.idl_macro.specs.Condition.{condition, defined_at, defined_read, judged, judging, read_after, read_one, taken_by, truth_at, value}
-use Rattle.idl_macro.specs.Items.{rules}
-use Rattle.idl_macro.specs.Key.{key_eq}
-use Rattle.idl_macro.specs.Macros.{Reached, Definitions, Expanding, macro_of, reached}
+use Rattle.idl_event.specs.Items.{rules}
+use Rattle.idl_event.specs.Key.{key_eq}
+use Rattle.idl_event.specs.Expanding.{Reached, Expanding, reached}
+use Rattle.idl_macro.specs.Macros.{Definitions, macro_of}
 use Rattle.idl_macro.specs.Replace.{followed_by, operand}
-use Rattle.idl_macro.specs.declared.allowance.Allowance.{Allowance}
-use Rattle.idl_macro.specs.declared.item.Item.{Item}
-use Rattle.idl_macro.specs.declared.key.Answer.{Answer}
-use Rattle.idl_macro.specs.declared.key.Key.{Key}
-use Rattle.idl_macro.specs.declared.place.Place.{Place}
+use Rattle.idl_event.specs.declared.allowance.Allowance.{Allowance}
+use Rattle.idl_event.specs.declared.event.Item.{Item}
+use Rattle.idl_event.specs.declared.key.Answer.{Answer}
+use Rattle.idl_event.specs.declared.key.Key.{Key}
+use Rattle.idl_event.specs.declared.place.Place.{Place}
 use Rattle.idl_macro.proofs.ReplaceLemmas.{outcome-followed_by, reached-followed_by}
 
 -- a name and what follows it, where it takes so many of these tokens
-abbrev pub name_and_rest : List Token → Option (List ℕ × ℕ) → Option (List ℕ × List Token)
-name_and_rest tokens name = option_map {U = List ℕ × List Token} (λ d. (d.0, drop d.1 tokens)) name
+abbrev pub name_and_rest : List (List ℕ) → Option (List ℕ × ℕ) → Option (List ℕ × List (List ℕ))
+name_and_rest tokens name = option_map {U = List ℕ × List (List ℕ)} (λ d. (d.0, drop d.1 tokens)) name
 
 some_same : {A : Type 0} {x y : A} → Some x ≡ Some y → x ≡ y
 some_same {x = x} h = ap (λ o. elim o [ None ↦ x | Some z ↦ z ]) h
 
-no_name : (tokens : List Token) (name : Option (List ℕ × ℕ)) → None ≡ name_and_rest tokens name → name ≡ None
+no_name : (tokens : List (List ℕ)) (name : Option (List ℕ × ℕ)) → None ≡ name_and_rest tokens name → name ≡ None
 no_name tokens None h = refl
 no_name tokens (Some d) h = cc
 
 module _ (definitions : Definitions) where
   -- tokens that a name takes are passed over
-  read_after-drop : (n : ℕ) (tokens : List Token) → read_after definitions n tokens ≡ defined_read definitions (drop n tokens)
+  read_after-drop : (n : ℕ) (tokens : List (List ℕ)) → read_after definitions n tokens ≡ defined_read definitions (drop n tokens)
   unfolding read_after
   read_after-drop zero [] = refl
   read_after-drop (suc n) [] = refl
@@ -44,9 +44,9 @@ module _ (definitions : Definitions) where
   unfolding read_after
   defined_read-nil = refl
 
-  module _ (bank : Key → Option Answer) (t : Token) (tokens : List Token) where
+  module _ (bank : Key → Option Answer) (t : List ℕ) (tokens : List (List ℕ)) where
     -- what is read first, and then
-    abbrev read_first : Option (List ℕ × ℕ) → Expanding (List Token)
+    abbrev read_first : Option (List ℕ × ℕ) → Expanding (List (List ℕ))
     read_first name = followed_by (read_one definitions t name) (read_after definitions (taken_by name) tokens)
 
     -- a token that is no `defined X` is read as it is
@@ -59,61 +59,61 @@ module _ (definitions : Definitions) where
     outcome-read-token h = ap (λ name. outcome (read_first name) bank) (no_name tokens (defined_at t tokens) h) ∙ outcome-followed_by bank (Done (t ∷ [])) (defined_read definitions tokens)
 
     -- a `defined X` is read as one token, for which the macro is looked for, and then what follows it
-    abbrev answering : List ℕ → Expanding (List Token)
+    abbrev answering : List ℕ → Expanding (List (List ℕ))
     answering word = and_then (macro_of definitions word) (λ body. Done (truth_at t (is_some body) ∷ []))
 
-    reached_by : (p : Reached) (word : List ℕ) (rest : List Token) (name : Option (List ℕ × ℕ)) → Some (word, rest) ≡ name_and_rest tokens name
+    reached_by : (p : Reached) (word : List ℕ) (rest : List (List ℕ)) (name : Option (List ℕ × ℕ)) → Some (word, rest) ≡ name_and_rest tokens name
         → reached bank (read_first name) p ≡ reached bank (defined_read definitions rest) (reached bank (macro_of definitions word) p)
     reached_by p word rest None h = cc
     reached_by p word rest (Some d) h =
         reached-followed_by bank (answering d.0) (read_after definitions d.1 tokens) p
         ∙ ap (reached bank (read_after definitions d.1 tokens)) (after-and_then rules key_eq bank (macro_of definitions d.0) (λ body. Done (truth_at t (is_some body) ∷ [])) p)
         ∙ ap (λ query. reached bank query (reached bank (macro_of definitions d.0) p)) (read_after-drop d.1 tokens)
-        ∙ ap (λ (e : List ℕ × List Token). reached bank (defined_read definitions e.1) (reached bank (macro_of definitions e.0) p)) (sym (some_same h))
+        ∙ ap (λ (e : List ℕ × List (List ℕ)). reached bank (defined_read definitions e.1) (reached bank (macro_of definitions e.0) p)) (sym (some_same h))
 
-    pub reached-read-name : (p : Reached) (word : List ℕ) (rest : List Token) → Some (word, rest) ≡ name_and_rest tokens (defined_at t tokens)
+    pub reached-read-name : (p : Reached) (word : List ℕ) (rest : List (List ℕ)) → Some (word, rest) ≡ name_and_rest tokens (defined_at t tokens)
         → reached bank (defined_read definitions (t ∷ tokens)) p ≡ reached bank (defined_read definitions rest) (reached bank (macro_of definitions word) p)
     unfolding read_after
     reached-read-name p word rest h = reached_by p word rest (defined_at t tokens) h
 
-    outcome_by : (word : List ℕ) (rest : List Token) (name : Option (List ℕ × ℕ)) → Some (word, rest) ≡ name_and_rest tokens name
+    outcome_by : (word : List ℕ) (rest : List (List ℕ)) (name : Option (List ℕ × ℕ)) → Some (word, rest) ≡ name_and_rest tokens name
         → outcome (read_first name) bank ≡ truth_at t (is_some (outcome (macro_of definitions word) bank)) ∷ outcome (defined_read definitions rest) bank
     outcome_by word rest None h = cc
     outcome_by word rest (Some d) h =
         outcome-followed_by bank (answering d.0) (read_after definitions d.1 tokens)
         ∙ ap (λ first. first ++ outcome (read_after definitions d.1 tokens) bank) (outcome-and_then (macro_of definitions d.0) (λ body. Done (truth_at t (is_some body) ∷ [])) bank)
         ∙ ap (λ query. truth_at t (is_some (outcome (macro_of definitions d.0) bank)) ∷ outcome query bank) (read_after-drop d.1 tokens)
-        ∙ ap (λ (e : List ℕ × List Token). truth_at t (is_some (outcome (macro_of definitions e.0) bank)) ∷ outcome (defined_read definitions e.1) bank) (sym (some_same h))
+        ∙ ap (λ (e : List ℕ × List (List ℕ)). truth_at t (is_some (outcome (macro_of definitions e.0) bank)) ∷ outcome (defined_read definitions e.1) bank) (sym (some_same h))
 
-    pub outcome-read-name : (word : List ℕ) (rest : List Token) → Some (word, rest) ≡ name_and_rest tokens (defined_at t tokens)
+    pub outcome-read-name : (word : List ℕ) (rest : List (List ℕ)) → Some (word, rest) ≡ name_and_rest tokens (defined_at t tokens)
         → outcome (defined_read definitions (t ∷ tokens)) bank ≡ truth_at t (is_some (outcome (macro_of definitions word) bank)) ∷ outcome (defined_read definitions rest) bank
     unfolding read_after
     outcome-read-name word rest h = outcome_by word rest (defined_at t tokens) h
 
 -- a token whose parts are those of another one
-pub same_token : (t u : Token) → (t.kind ≡ u.kind) × ((t.spelling ≡ u.spelling) × ((t.line ≡ u.line) × ((t.starts_line ≡ u.starts_line) × (t.follows_word ≡ u.follows_word)))) → t ≡ u
+pub same_token : (t u : Token) → (t.kind ≡ u.kind) × ((t ≡ u.spelling) × ((t.line ≡ u.line) × ((t.starts_line ≡ u.starts_line) × (t.follows_word ≡ u.follows_word)))) → t ≡ u
 same_token t u h = λ i. record { kind = h.0 i; spelling = h.1.0 i; line = h.1.1.0 i; starts_line = h.1.1.1.0 i; follows_word = h.1.1.1.1 i }
 
 -- a token more
-pub pushed : (items new : List Token) (u v : Token) (rest : List Token) → new ≡ items ++ u ∷ [] → u ≡ v → items ++ v ∷ rest ≡ new ++ rest
+pub pushed : (items new : List (List ℕ)) (u v : Token) (rest : List (List ℕ)) → new ≡ items ++ u ∷ [] → u ≡ v → items ++ v ∷ rest ≡ new ++ rest
 pushed items new u v rest push same = ap (λ w. items ++ w ∷ rest) (sym same) ∙ sym (append_assoc items (u ∷ []) rest) ∙ ap (λ ts. ts ++ rest) (sym push)
 
 -- what follows a `defined X` is shorter than the whole
-shorter : (tokens : List Token) (word : List ℕ) (rest : List Token) (name : Option (List ℕ × ℕ)) → Some (word, rest) ≡ name_and_rest tokens name → length rest ≤ length tokens
+shorter : (tokens : List (List ℕ)) (word : List ℕ) (rest : List (List ℕ)) (name : Option (List ℕ × ℕ)) → Some (word, rest) ≡ name_and_rest tokens name → length rest ≤ length tokens
 shorter tokens word rest None h = cc
 shorter tokens word rest (Some d) h =
-    let same : length rest ≡ length tokens - d.1 = ap (λ (e : List ℕ × List Token). length e.1) (some_same h) ∙ length-drop d.1 tokens in
+    let same : length rest ≡ length tokens - d.1 = ap (λ (e : List ℕ × List (List ℕ)). length e.1) (some_same h) ∙ length-drop d.1 tokens in
     omega (arith, same)
 
-pub rest-shorter : (t : Token) (tokens : List Token) (word : List ℕ) (rest : List Token) → Some (word, rest) ≡ name_and_rest tokens (defined_at t tokens) → length rest < length (t ∷ tokens)
+pub rest-shorter : (t : List ℕ) (tokens : List (List ℕ)) (word : List ℕ) (rest : List (List ℕ)) → Some (word, rest) ≡ name_and_rest tokens (defined_at t tokens) → length rest < length (t ∷ tokens)
 rest-shorter t tokens word rest h = let fewer = shorter tokens word rest (defined_at t tokens) h in omega (arith, fewer)
 
-module _ (bank : Key → Option Answer) (place : Place) (directive : List ℕ) (definitions : Definitions) (tokens : List Token) (p : Reached) where
+module _ (bank : Key → Option Answer) (place : Place) (directive : List ℕ) (definitions : Definitions) (tokens : List (List ℕ)) (p : Reached) where
   -- the tokens of the condition, once each `defined X` is read, and once macros are replaced
-  abbrev read_tokens : List Token
+  abbrev read_tokens : List (List ℕ)
   read_tokens = outcome (defined_read definitions tokens) bank
 
-  abbrev given_tokens : List Token
+  abbrev given_tokens : List (List ℕ)
   given_tokens = outcome (operand place definitions read_tokens) bank
 
   -- where one comes to with those
@@ -133,7 +133,7 @@ module _ (bank : Key → Option Answer) (place : Place) (directive : List ℕ) (
       ∙ after-and_then rules key_eq bank (operand place definitions read_tokens) (λ given. judged place directive (value given)) (reached bank (defined_read definitions tokens) p)
 
   -- what was read, given and found on the way, where it is known
-  module _ (read given : List Token) (found : Value) (q : Reached)
+  module _ (read given : List (List ℕ)) (found : Value) (q : Reached)
       (is_read : read ≡ outcome (defined_read definitions tokens) bank)
       (is_reached : q ≡ reached bank (operand place definitions read) (reached bank (defined_read definitions tokens) p))
       (is_given : q.left ≢ None → given ≡ outcome (operand place definitions read) bank)

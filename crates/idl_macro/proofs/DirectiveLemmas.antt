@@ -5,28 +5,28 @@ use Rattle.std.specs.Str.{bytes_eq}
 use Rattle.idl_base.specs.Progress.{after_item, after-and_then}
 use Rattle.idl_base.specs.Query.{Done, Tell, and_then, outcome}
 use Rattle.idl_base.specs.QueryLaws.{outcome-and_then}
-use Rattle.idl_lex.specs.declared.token.Token.{Token}
 use Rattle.idl_macro.specs.Directives.{define, defining, definition_in, differs, first_word, ifdef, ifndef, is_macro_there, is_missing, is_there, same_tokens, saying, undef}
-use Rattle.idl_macro.specs.Items.{rules}
-use Rattle.idl_macro.specs.Key.{key_eq}
-use Rattle.idl_macro.specs.Macros.{Reached, Definitions, Expanding, macro_of, reached}
-use Rattle.idl_macro.specs.declared.item.Code.TheVariants.{MalformedMacro, OtherDefinition}
-use Rattle.idl_macro.specs.declared.item.Item.TheVariants.{Fault}
-use Rattle.idl_macro.specs.declared.key.Answer.{Answer}
-use Rattle.idl_macro.specs.declared.key.Key.{Key}
-use Rattle.idl_macro.specs.declared.place.Place.{Place}
+use Rattle.idl_event.specs.Items.{rules}
+use Rattle.idl_event.specs.Key.{key_eq}
+use Rattle.idl_event.specs.Expanding.{Reached, Expanding, reached}
+use Rattle.idl_macro.specs.Macros.{Definitions, macro_of}
+use Rattle.idl_event.specs.declared.code.Code.TheVariants.{MalformedMacro, OtherDefinition}
+use Rattle.idl_event.specs.declared.event.Item.TheVariants.{Fault}
+use Rattle.idl_event.specs.declared.key.Answer.{Answer}
+use Rattle.idl_event.specs.declared.key.Key.{Key}
+use Rattle.idl_event.specs.declared.place.Place.{Place}
 
 -- what is there is there when it is read
-pub is_some-option_copied : (body : Option (Bor (List Token))) → is_some body ≡ is_some (option_copied body)
+pub is_some-option_copied : (body : Option (Bor (List (List ℕ)))) → is_some body ≡ is_some (option_copied body)
 is_some-option_copied None = refl
 is_some-option_copied (Some body) = refl
 
 -- bodies are the same if their first tokens are, and what follows them
-pub same_tokens-drop : (body other : List Token) (i : ℕ) (d : Token) → i < length body → i < length other
+pub same_tokens-drop : (body other : List (List ℕ)) (i : ℕ) (d : Token) → i < length body → i < length other
     → same_tokens (drop i body) (drop i other) ≡ (bytes_eq (get_or body i d).spelling (get_or other i d).spelling && same_tokens (drop (i + 1) body) (drop (i + 1) other))
 same_tokens-drop body other i d h k = rw (add-one, drop-cons body i d, drop-cons other i d) refl
 
-module _ (bank : Key → Option Answer) (place : Place) (directive : List ℕ) (definitions : Definitions) (tokens : List Token) (p : Reached) where
+module _ (bank : Key → Option Answer) (place : Place) (directive : List ℕ) (definitions : Definitions) (tokens : List (List ℕ)) (p : Reached) where
   -- `undef`
   abbrev removing : Option (List ℕ) → Expanding Definitions
   removing word = elim word [ None ↦ Tell (Fault place MalformedMacro (Some directive)) (Done definitions) | Some w ↦ Done (saying definitions w None) ]
@@ -80,7 +80,7 @@ module _ (bank : Key → Option Answer) (place : Place) (directive : List ℕ) (
   reached-ifndef = after-and_then rules key_eq bank (is_macro_there place directive definitions tokens) (λ t. Done (is_missing t)) p
 
   -- `define`
-  abbrev definition : Option (List ℕ × List Token) → Expanding Definitions
+  abbrev definition : Option (List ℕ × List (List ℕ)) → Expanding Definitions
   definition found = elim found [
     | None ↦ Tell (Fault place MalformedMacro (Some directive)) (Done definitions)
     | Some d ↦ and_then (macro_of definitions d.0) (defining place definitions d.0 d.1)
@@ -94,7 +94,7 @@ module _ (bank : Key → Option Answer) (place : Place) (directive : List ℕ) (
   unfolding define
   reached-define-malformed found = ap (λ d. reached bank (definition d) p) found
 
-  module _ (word : List ℕ) (body : List Token) (found : definition_in tokens ≡ Some (word, body)) (is_other : Bool) (differs_is : differs (outcome (macro_of definitions word) bank) body ≡ is_other) where
+  module _ (word : List ℕ) (body : List (List ℕ)) (found : definition_in tokens ≡ Some (word, body)) (is_other : Bool) (differs_is : differs (outcome (macro_of definitions word) bank) body ≡ is_other) where
     abbrev chosen : Bool → Expanding Definitions
     chosen b = if b then Tell (Fault place OtherDefinition (Some word)) (Done definitions) else Done (saying definitions word (Some body))
 

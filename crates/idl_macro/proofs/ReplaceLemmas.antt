@@ -4,45 +4,44 @@ use Rattle.std.specs.Map.{keys_of}
 use Rattle.idl_base.specs.Progress.{after_item, after-and_then}
 use Rattle.idl_base.specs.Query.{Done, Tell, and_then, outcome}
 use Rattle.idl_base.specs.QueryLaws.{outcome-and_then}
-use Rattle.idl_lex.specs.declared.token.Token.{Token}
-use Rattle.idl_macro.specs.Items.{rules}
-use Rattle.idl_macro.specs.Key.{key_eq}
-use Rattle.idl_macro.specs.Macros.{Reached, Definitions, Expanding, reached}
+use Rattle.idl_event.specs.Items.{rules}
+use Rattle.idl_event.specs.Key.{key_eq}
+use Rattle.idl_event.specs.Expanding.{Reached, Expanding, reached}
+use Rattle.idl_macro.specs.Macros.{Definitions}
 use Rattle.idl_macro.specs.Output.{item_of}
 use Rattle.idl_macro.specs.Replace.{each, followed_by, replaced, replaced_at, replacement, stands, text}
-use Rattle.idl_macro.specs.Words.{placed}
-use Rattle.idl_macro.specs.declared.item.Item.{Item}
-use Rattle.idl_macro.specs.declared.item.Item.TheVariants.{Emitted, Turn}
-use Rattle.idl_macro.specs.declared.key.Answer.{Answer}
-use Rattle.idl_macro.specs.declared.key.Key.{Key}
-use Rattle.idl_macro.specs.declared.place.Place.{Place}
+use Rattle.idl_event.specs.declared.event.Item.{Item}
+use Rattle.idl_event.specs.declared.event.Item.TheVariants.{Emitted, Turn}
+use Rattle.idl_event.specs.declared.key.Answer.{Answer}
+use Rattle.idl_event.specs.declared.key.Key.{Key}
+use Rattle.idl_event.specs.declared.place.Place.{Place}
 use Rattle.idl_macro.specs.declared.replacement.Output.{Output}
 use Rattle.idl_macro.specs.declared.replacement.Output.TheVariants.{Text}
 
 -- a word in whose replacement the work stands, and what follows it
 abbrev pub Open : Type 0
-Open = List ℕ × Bor (List Token)
+Open = List ℕ × Bor (List (List ℕ))
 
 module _ (bank : Key → Option Answer) where
   -- where one comes to with two, one after the other
-  pub reached-followed_by : (query more : Expanding (List Token)) (p : Reached) → reached bank (followed_by query more) p ≡ reached bank more (reached bank query p)
+  pub reached-followed_by : (query more : Expanding (List (List ℕ))) (p : Reached) → reached bank (followed_by query more) p ≡ reached bank more (reached bank query p)
   reached-followed_by query more p =
       after-and_then rules key_eq bank query (λ first. and_then more (λ rest. Done (first ++ rest))) p
       ∙ after-and_then rules key_eq bank more (λ rest. Done (outcome query bank ++ rest)) (reached bank query p)
 
   -- what comes of two, one after the other
-  pub outcome-followed_by : (query more : Expanding (List Token)) → outcome (followed_by query more) bank ≡ outcome query bank ++ outcome more bank
+  pub outcome-followed_by : (query more : Expanding (List (List ℕ))) → outcome (followed_by query more) bank ≡ outcome query bank ++ outcome more bank
   outcome-followed_by query more =
       outcome-and_then query (λ first. and_then more (λ rest. Done (first ++ rest))) bank
       ∙ outcome-and_then more (λ rest. Done (outcome query bank ++ rest)) bank
 
   module _ (item : Token → Item) (place : Place) (definitions : Definitions) (room : ℕ) where
     -- a token inside these replacements
-    abbrev pub within : List Open → Token → Expanding (List Token)
+    abbrev pub within : List Open → Token → Expanding (List (List ℕ))
     within fs = replaced item place definitions (room - length fs) (keys_of fs)
 
     -- these tokens inside these replacements, the innermost first, and what follows those
-    abbrev pub pending : List Open → List Token → Expanding (List Token)
+    abbrev pub pending : List Open → List (List ℕ) → Expanding (List (List ℕ))
     pending [] tokens = each (within []) tokens
     pending (f ∷ fs) tokens = followed_by (each (within (f ∷ fs)) tokens) (pending fs f.1.now)
 
@@ -54,7 +53,7 @@ module _ (bank : Key → Option Answer) where
     outcome-pending-end f fs = outcome-followed_by (Done []) (pending fs f.1.now)
 
     -- the first token comes first
-    pub reached-pending-first : (fs : List Open) (t : Token) (tokens : List Token) (p : Reached)
+    pub reached-pending-first : (fs : List Open) (t : List ℕ) (tokens : List (List ℕ)) (p : Reached)
         → reached bank (pending fs (t ∷ tokens)) p ≡ reached bank (pending fs tokens) (reached bank (within fs t) p)
     reached-pending-first [] t tokens p = reached-followed_by (within [] t) (each (within []) tokens) p
     reached-pending-first (f ∷ fs) t tokens p =
@@ -63,7 +62,7 @@ module _ (bank : Key → Option Answer) where
         ∙ ap (reached bank (pending fs f.1.now)) (reached-followed_by (within (f ∷ fs) t) rest p)
         ∙ sym (reached-followed_by rest (pending fs f.1.now) (reached bank (within (f ∷ fs) t) p))
 
-    pub outcome-pending-first : (fs : List Open) (t : Token) (tokens : List Token)
+    pub outcome-pending-first : (fs : List Open) (t : List ℕ) (tokens : List (List ℕ))
         → outcome (pending fs (t ∷ tokens)) bank ≡ outcome (within fs t) bank ++ outcome (pending fs tokens) bank
     outcome-pending-first [] t tokens = outcome-followed_by (within [] t) (each (within []) tokens)
     outcome-pending-first (f ∷ fs) t tokens =
@@ -74,13 +73,13 @@ module _ (bank : Key → Option Answer) where
         ∙ ap (λ ts. outcome (within (f ∷ fs) t) bank ++ ts) (sym (outcome-followed_by rest (pending fs f.1.now)))
 
     -- what is made of a token, by the body that it is replaced by
-    abbrev pub made : ℕ → List (List ℕ) → Token → Option (List Token) → Expanding (List Token)
+    abbrev pub made : ℕ → List (List ℕ) → Token → Option (List (List ℕ)) → Expanding (List (List ℕ))
     made m hidden t body = elim body [
-      | None ↦ stands item (placed place.line t)
-      | Some tokens ↦ Tell (Turn place) (each (replaced item place definitions m (t.spelling ∷ hidden)) tokens)
+      | None ↦ stands item t
+      | Some tokens ↦ Tell (Turn place) (each (replaced item place definitions m (t ∷ hidden)) tokens)
     ]
 
-    pub reached-replaced : (n m : ℕ) (hidden : List (List ℕ)) (t : Token) (body : Option (List Token)) (p : Reached) → n ≡ suc m → outcome (replacement definitions hidden t) bank ≡ body
+    pub reached-replaced : (n m : ℕ) (hidden : List (List ℕ)) (t : List ℕ) (body : Option (List (List ℕ))) (p : Reached) → n ≡ suc m → outcome (replacement definitions hidden t) bank ≡ body
         → reached bank (replaced item place definitions n hidden t) p ≡ reached bank (made m hidden t body) (reached bank (replacement definitions hidden t) p)
     unfolding replaced
     reached-replaced n m hidden t body p e found =
@@ -88,7 +87,7 @@ module _ (bank : Key → Option Answer) where
         ∙ after-and_then rules key_eq bank (replacement definitions hidden t) (made m hidden t) p
         ∙ ap (λ b. reached bank (made m hidden t b) (reached bank (replacement definitions hidden t) p)) found
 
-    pub outcome-replaced : (n m : ℕ) (hidden : List (List ℕ)) (t : Token) (body : Option (List Token)) → n ≡ suc m → outcome (replacement definitions hidden t) bank ≡ body
+    pub outcome-replaced : (n m : ℕ) (hidden : List (List ℕ)) (t : List ℕ) (body : Option (List (List ℕ))) → n ≡ suc m → outcome (replacement definitions hidden t) bank ≡ body
         → outcome (replaced item place definitions n hidden t) bank ≡ outcome (made m hidden t body) bank
     unfolding replaced
     outcome-replaced n m hidden t body e found =
@@ -97,41 +96,41 @@ module _ (bank : Key → Option Answer) where
         ∙ ap (λ b. outcome (made m hidden t b) bank) found
 
     -- a token that stands for itself
-    pub reached-pending-stands : (fs : List Open) (t : Token) (tokens : List Token) (p : Reached) → length fs < room → outcome (replacement definitions (keys_of fs) t) bank ≡ None
-        → reached bank (pending fs (t ∷ tokens)) p ≡ reached bank (pending fs tokens) (after_item rules (item (placed place.line t)) (reached bank (replacement definitions (keys_of fs) t) p))
+    pub reached-pending-stands : (fs : List Open) (t : List ℕ) (tokens : List (List ℕ)) (p : Reached) → length fs < room → outcome (replacement definitions (keys_of fs) t) bank ≡ None
+        → reached bank (pending fs (t ∷ tokens)) p ≡ reached bank (pending fs tokens) (after_item rules (item t) (reached bank (replacement definitions (keys_of fs) t) p))
     reached-pending-stands fs t tokens p lt none =
         let e : room - length fs ≡ suc (room - suc (length fs)) = omega arith in
         reached-pending-first fs t tokens p
         ∙ ap (reached bank (pending fs tokens)) (reached-replaced (room - length fs) (room - suc (length fs)) (keys_of fs) t None p e none)
 
-    pub outcome-pending-stands : (fs : List Open) (t : Token) (tokens : List Token) → length fs < room → outcome (replacement definitions (keys_of fs) t) bank ≡ None
-        → outcome (pending fs (t ∷ tokens)) bank ≡ placed place.line t ∷ outcome (pending fs tokens) bank
+    pub outcome-pending-stands : (fs : List Open) (t : List ℕ) (tokens : List (List ℕ)) → length fs < room → outcome (replacement definitions (keys_of fs) t) bank ≡ None
+        → outcome (pending fs (t ∷ tokens)) bank ≡ t ∷ outcome (pending fs tokens) bank
     outcome-pending-stands fs t tokens lt none =
         let e : room - length fs ≡ suc (room - suc (length fs)) = omega arith in
         outcome-pending-first fs t tokens
         ∙ ap (λ ts. ts ++ outcome (pending fs tokens) bank) (outcome-replaced (room - length fs) (room - suc (length fs)) (keys_of fs) t None e none)
 
     -- a token that is replaced: a turn, and the tokens of the body, inside one replacement more
-    pub reached-pending-replaced : (fs : List Open) (t : Token) (tokens : Bor (List Token)) (body : List Token) (p : Reached) → length fs < room → outcome (replacement definitions (keys_of fs) t) bank ≡ Some body
-        → reached bank (pending fs (t ∷ tokens.now)) p ≡ reached bank (pending ((t.spelling, tokens) ∷ fs) body) (after_item rules (Turn place) (reached bank (replacement definitions (keys_of fs) t) p))
+    pub reached-pending-replaced : (fs : List Open) (t : List ℕ) (tokens : Bor (List (List ℕ))) (body : List (List ℕ)) (p : Reached) → length fs < room → outcome (replacement definitions (keys_of fs) t) bank ≡ Some body
+        → reached bank (pending fs (t ∷ tokens.now)) p ≡ reached bank (pending ((t, tokens) ∷ fs) body) (after_item rules (Turn place) (reached bank (replacement definitions (keys_of fs) t) p))
     reached-pending-replaced fs t tokens body p lt found =
         let e : room - length fs ≡ suc (room - suc (length fs)) = omega arith in
         let q = after_item rules (Turn place) (reached bank (replacement definitions (keys_of fs) t) p) in
         reached-pending-first fs t tokens.now p
         ∙ ap (reached bank (pending fs tokens.now)) (reached-replaced (room - length fs) (room - suc (length fs)) (keys_of fs) t (Some body) p e found)
-        ∙ sym (reached-followed_by (each (within ((t.spelling, tokens) ∷ fs)) body) (pending fs tokens.now) q)
+        ∙ sym (reached-followed_by (each (within ((t, tokens) ∷ fs)) body) (pending fs tokens.now) q)
 
-    pub outcome-pending-replaced : (fs : List Open) (t : Token) (tokens : Bor (List Token)) (body : List Token) → length fs < room → outcome (replacement definitions (keys_of fs) t) bank ≡ Some body
-        → outcome (pending fs (t ∷ tokens.now)) bank ≡ outcome (pending ((t.spelling, tokens) ∷ fs) body) bank
+    pub outcome-pending-replaced : (fs : List Open) (t : List ℕ) (tokens : Bor (List (List ℕ))) (body : List (List ℕ)) → length fs < room → outcome (replacement definitions (keys_of fs) t) bank ≡ Some body
+        → outcome (pending fs (t ∷ tokens.now)) bank ≡ outcome (pending ((t, tokens) ∷ fs) body) bank
     outcome-pending-replaced fs t tokens body lt found =
         let e : room - length fs ≡ suc (room - suc (length fs)) = omega arith in
         outcome-pending-first fs t tokens.now
         ∙ ap (λ ts. ts ++ outcome (pending fs tokens.now) bank) (outcome-replaced (room - length fs) (room - suc (length fs)) (keys_of fs) t (Some body) e found)
-        ∙ sym (outcome-followed_by (each (within ((t.spelling, tokens) ∷ fs)) body) (pending fs tokens.now))
+        ∙ sym (outcome-followed_by (each (within ((t, tokens) ∷ fs)) body) (pending fs tokens.now))
 
 module _ (bank : Key → Option Answer) (file : List ℕ) (definitions : Definitions) where
   -- a text is replaced token by token, each on its own line
-  pub reached-text-drop : (tokens : List Token) (i : ℕ) (d : Token) (output : Output) (place : Place) (part : List Token) (p q : Reached) → i < length tokens
+  pub reached-text-drop : (tokens : List (List ℕ)) (i : ℕ) (d : Token) (output : Output) (place : Place) (part : List (List ℕ)) (p q : Reached) → i < length tokens
       → item_of output ≡ item_of Text → place ≡ record { file = file; line = (get_or tokens i d).line } → part ≡ get_or tokens i d ∷ []
       → q ≡ reached bank (replaced_at (item_of output place) place definitions part) p
       → reached bank (text file definitions (drop i tokens)) p ≡ reached bank (text file definitions (drop (i + 1) tokens)) q
@@ -140,6 +139,6 @@ module _ (bank : Key → Option Answer) (file : List ℕ) (definitions : Definit
       let t = get_or tokens i d in
       let rest = drop (i + 1) tokens in
       let first = replaced_at (Emitted file) (record { file = file; line = t.line }) definitions (t ∷ []) in
-      ap (λ (ts : List Token). reached bank (text file definitions ts) p) (drop-cons tokens i d lt ∙ ap (λ (n : ℕ). t ∷ drop n tokens) (sym (add-one i)))
+      ap (λ (ts : List (List ℕ)). reached bank (text file definitions ts) p) (drop-cons tokens i d lt ∙ ap (λ (n : ℕ). t ∷ drop n tokens) (sym (add-one i)))
       ∙ reached-followed_by bank first (text file definitions rest) p
       ∙ ap (reached bank (text file definitions rest)) (sym (made ∙ (λ j. reached bank (replaced_at (same j (here j)) (here j) definitions (one j)) p)))

@@ -2,17 +2,17 @@
 use Rattle.std.proofs.Common.{◌≡◌, ◌≢◌, ℕ, zero, suc, ◌-◌, ◌<◌, ◌≤◌, ◌⊎◌, inl, inr, Bool, true, false, nat_eq, if◌then◌else◌, List, [], ◌∷◌, Option, None, Some, refl, sym, ap, ◌∙◌, arith, subst}
 use Rattle.idl_base.specs.Progress.{after_item, after_key, after-over}
 use Rattle.idl_base.specs.Query.{Done, Ask, Tell, outcome}
-use Rattle.idl_lex.specs.declared.token.Token.{Token}
-use Rattle.idl_macro.specs.Items.{rules, turns_left}
-use Rattle.idl_macro.specs.Key.{key_eq}
-use Rattle.idl_macro.specs.Macros.{Reached, Definitions, Expanding, reached}
+use Rattle.idl_event.specs.Items.{rules, turns_left}
+use Rattle.idl_event.specs.Key.{key_eq}
+use Rattle.idl_event.specs.Expanding.{Reached, Expanding, reached}
+use Rattle.idl_macro.specs.Macros.{Definitions}
 use Rattle.idl_macro.specs.Replace.{each, replaced, replacement}
-use Rattle.idl_macro.specs.declared.allowance.Allowance.{Allowance}
-use Rattle.idl_macro.specs.declared.item.Item.{Item}
-use Rattle.idl_macro.specs.declared.item.Item.TheVariants.{Emitted, Counted, Turn, Entered, Left, Pragma, Fault, TooDeep}
-use Rattle.idl_macro.specs.declared.key.Answer.{Answer}
-use Rattle.idl_macro.specs.declared.key.Key.{Key}
-use Rattle.idl_macro.specs.declared.place.Place.{Place}
+use Rattle.idl_event.specs.declared.allowance.Allowance.{Allowance}
+use Rattle.idl_event.specs.declared.event.Item.{Item}
+use Rattle.idl_event.specs.declared.event.Item.TheVariants.{Emitted, Counted, Turn, Entered, Left, Pragma, Fault, TooDeep}
+use Rattle.idl_event.specs.declared.key.Answer.{Answer}
+use Rattle.idl_event.specs.declared.key.Key.{Key}
+use Rattle.idl_event.specs.declared.place.Place.{Place}
 use Rattle.idl_macro.proofs.AllowanceLemmas.{left-after_item, left-after_key, left-replacement, left_by, no_zero}
 use Rattle.idl_macro.proofs.ReplaceLemmas.{made, reached-followed_by, reached-replaced}
 
@@ -61,8 +61,8 @@ module _ (bank : Key → Option Answer) where
       omega (arith, more, fewer)
 
   -- two that come to the same with each token do so with them all
-  each-same : (f g : Token → Expanding (List Token)) (bound : ℕ) → ((t : Token) (p : Reached) → turns_left p.left ≤ bound → reached bank (f t) p ≡ reached bank (g t) p)
-      → (tokens : List Token) (p : Reached) → turns_left p.left ≤ bound → reached bank (each f tokens) p ≡ reached bank (each g tokens) p
+  each-same : (f g : Token → Expanding (List (List ℕ))) (bound : ℕ) → ((t : List ℕ) (p : Reached) → turns_left p.left ≤ bound → reached bank (f t) p ≡ reached bank (g t) p)
+      → (tokens : List (List ℕ)) (p : Reached) → turns_left p.left ≤ bound → reached bank (each f tokens) p ≡ reached bank (each g tokens) p
   each-same f g bound same [] p h = refl
   each-same f g bound same (t ∷ tokens) p h =
       let fewer = turns-reached (g t) p in
@@ -74,23 +74,23 @@ module _ (bank : Key → Option Answer) where
   module _ (item : Token → Item) (place : Place) (definitions : Definitions) where
     made-same : (n m : ℕ) → ((hidden : List (List ℕ)) (u : Token) (r : Reached) → turns_left r.left < n → turns_left r.left < m
         → reached bank (replaced item place definitions n hidden u) r ≡ reached bank (replaced item place definitions m hidden u) r)
-        → (hidden : List (List ℕ)) (t : Token) (body : Option (List Token)) (q : Reached) → turns_left q.left ≤ n → turns_left q.left ≤ m
+        → (hidden : List (List ℕ)) (t : List ℕ) (body : Option (List (List ℕ))) (q : Reached) → turns_left q.left ≤ n → turns_left q.left ≤ m
         → reached bank (made bank item place definitions 0 n hidden t body) q ≡ reached bank (made bank item place definitions 0 m hidden t body) q
     made-same n m same hidden t None q h k = refl
     made-same n m same hidden t (Some tokens) q h k =
         let r = after_item rules (Turn place) q in
-        let here = replaced item place definitions n (t.spelling ∷ hidden) in
-        let there = replaced item place definitions m (t.spelling ∷ hidden) in
+        let here = replaced item place definitions n (t ∷ hidden) in
+        let there = replaced item place definitions m (t ∷ hidden) in
         let left = left-after_item (Turn place) q in
         elim (turn_ends_or_fewer place q.left n m h k) [
           | inl ends ↦ after-over rules key_eq bank (each here tokens) r (left ∙ ends) ∙ sym (after-over rules key_eq bank (each there tokens) r (left ∙ ends))
           | inr fewer ↦
               let lt : turns_left r.left < n = subst (λ (o : Option Allowance). turns_left o < n) (sym left) fewer.0 in
               let lt' : turns_left r.left < m = subst (λ (o : Option Allowance). turns_left o < m) (sym left) fewer.1 in
-              each-same here there (turns_left r.left) (λ (u : Token) (s : Reached) le. same (t.spelling ∷ hidden) u s (omega (arith, le, lt)) (omega (arith, le, lt'))) tokens r (omega arith)
+              each-same here there (turns_left r.left) (λ (u : Token) (s : Reached) le. same (t ∷ hidden) u s (omega (arith, le, lt)) (omega (arith, le, lt'))) tokens r (omega arith)
         ]
 
-    pub replaced-room : (n m : ℕ) (hidden : List (List ℕ)) (t : Token) (p : Reached) → turns_left p.left < n → turns_left p.left < m
+    pub replaced-room : (n m : ℕ) (hidden : List (List ℕ)) (t : List ℕ) (p : Reached) → turns_left p.left < n → turns_left p.left < m
         → reached bank (replaced item place definitions n hidden t) p ≡ reached bank (replaced item place definitions m hidden t) p
     replaced-room zero m hidden t p h k = absurd (omega (arith, h))
     replaced-room (suc n) zero hidden t p h k = absurd (omega (arith, k))

@@ -5,39 +5,41 @@ use Rattle.idl_base.specs.Query.{Done, Tell, and_then}
 use Rattle.idl_condition.specs.Arithmetic.{Value, is_zero}
 use Rattle.idl_condition.specs.Condition.{condition as value_of}
 use Rattle.idl_condition.specs.Symbol.{symbol_of}
-use Rattle.idl_lex.specs.declared.kind.Kind.TheVariants.{Integer}
-use Rattle.idl_lex.specs.declared.token.Token.{Token}
-use Rattle.idl_macro.specs.Macros.{Definitions, Expanding, macro_of}
+use Rattle.idl_event.specs.Expanding.{Expanding}
+use Rattle.idl_macro.specs.Macros.{Definitions, macro_of}
 use Rattle.idl_macro.specs.Replace.{followed_by, operand}
-use Rattle.idl_macro.specs.Words.{is_word}
-use Rattle.idl_macro.specs.declared.item.Code.TheVariants.{BadCondition}
-use Rattle.idl_macro.specs.declared.item.Item.TheVariants.{Fault}
-use Rattle.idl_macro.specs.declared.place.Place.{Place}
+use Rattle.idl_lex.specs.Tokens.{Token, tokens_in}
+use Rattle.idl_lex.specs.Word.{is_word}
+use Rattle.idl_lex.specs.declared.token.PlacedToken.{PlacedToken}
+use Rattle.idl_event.specs.declared.code.Code.TheVariants.{BadCondition}
+use Rattle.idl_event.specs.declared.event.Event.TheVariants.{Fault}
+use Rattle.idl_event.specs.declared.event.Item.TheVariants.{Kept}
+use Rattle.idl_event.specs.declared.place.Place.{Place}
 
 -- a word and a `)` behind a `(`: the word, and how many tokens stand from the `(` on
 abbrev pub enclosed_name : List Token → Option (List ℕ × ℕ)
 enclosed_name [] = None
 enclosed_name (t ∷ []) = None
-enclosed_name (t ∷ close ∷ tokens) = if is_word t && bytes_eq close.spelling (codes ")") then Some (t.spelling, 3) else None
+enclosed_name (t ∷ close ∷ tokens) = if is_word t && bytes_eq close (codes ")") then Some (t, 3) else None
 
 -- the name behind a `defined`, with parentheses or without, and how many tokens it takes
 abbrev pub name_at : List Token → Option (List ℕ × ℕ)
 name_at [] = None
-name_at (t ∷ tokens) = if is_word t then Some (t.spelling, 1) else (if bytes_eq t.spelling (codes "(") then enclosed_name tokens else None)
+name_at (t ∷ tokens) = if is_word t then Some (t, 1) else (if bytes_eq t (codes "(") then enclosed_name tokens else None)
 
 -- the name that is asked for where this token and those after it are a `defined X`, and how many tokens it takes
 abbrev pub defined_at : Token → List Token → Option (List ℕ × ℕ)
-defined_at t tokens = if bytes_eq t.spelling (codes "defined") then name_at tokens else None
+defined_at t tokens = if bytes_eq t (codes "defined") then name_at tokens else None
 
 -- the token `1` or `0` in the place of a `defined`
-abbrev pub truth_at : Token → Bool → Token
-truth_at t true = record t { kind = Integer 1; spelling = codes "1" }
-truth_at t false = record t { kind = Integer 0; spelling = codes "0" }
+abbrev pub truth : Bool → Token
+truth true = codes "1"
+truth false = codes "0"
 
 -- a token, or whether the macro with this name is there
 abbrev pub read_one : Definitions → Token → Option (List ℕ × ℕ) → Expanding (List Token)
 read_one definitions t None = Done (t ∷ [])
-read_one definitions t (Some name) = and_then (macro_of definitions name.0) (λ body. Done (truth_at t (is_some body) ∷ []))
+read_one definitions t (Some name) = and_then (macro_of definitions name.0) (λ body. Done (truth (is_some body) ∷ []))
 
 -- how many tokens a name takes, if there is one
 abbrev pub taken_by : Option (List ℕ × ℕ) → ℕ
@@ -57,17 +59,17 @@ defined_read definitions tokens = read_after definitions zero tokens
 
 -- the value of these tokens
 abbrev pub value : List Token → Value
-value tokens = value_of (map (λ t. symbol_of t.spelling) tokens)
+value tokens = value_of (map symbol_of tokens)
 
 -- a condition without a value is a fault, and doesn't hold; another one holds unless its value is zero
 abbrev pub judged : Place → List ℕ → Value → Expanding Bool
-judged place directive None = Tell (Fault place BadCondition (Some directive)) (Done false)
-judged place directive (Some z) = Done (not (is_zero z))
+judged place word None = Tell (Kept (Fault place BadCondition (Some word))) (Done false)
+judged place word (Some z) = Done (not (is_zero z))
 
 -- the tokens that are left have their values as they stand
 abbrev pub judging : Place → List ℕ → Definitions → List Token → Expanding Bool
-judging place directive definitions read = and_then (operand place definitions read) (λ given. judged place directive (value given))
+judging place word definitions read = and_then (operand place definitions read) (λ given. judged place word (value given))
 
 -- `if` and `elif`: the directive's word, and the tokens after it; whether the condition holds
-unfoldable pub condition : Place → List ℕ → Definitions → List Token → Expanding Bool
-condition place directive definitions tokens = and_then (defined_read definitions tokens) (judging place directive definitions)
+unfoldable pub condition : Place → List ℕ → Definitions → List PlacedToken → Expanding Bool
+condition place word definitions operands = and_then (defined_read definitions (tokens_in operands)) (judging place word definitions)

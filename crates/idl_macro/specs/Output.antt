@@ -1,16 +1,17 @@
 -- Where the tokens go that come of a replacement.
 use Rattle.std.specs.Prelude.{List, ◌++◌, Option, None, Some}
 use Rattle.std.specs.Option.{option_map}
-use Rattle.idl_lex.specs.declared.token.Token.{Token}
-use Rattle.idl_macro.specs.declared.item.Item.{Item}
-use Rattle.idl_macro.specs.declared.item.Item.TheVariants.{Emitted, Counted}
-use Rattle.idl_macro.specs.declared.place.Place.{Place}
+use Rattle.idl_lex.specs.Tokens.{Token}
+use Rattle.idl_event.specs.declared.event.Item.{Item}
+use Rattle.idl_event.specs.declared.event.Event.TheVariants.{Emitted}
+use Rattle.idl_event.specs.declared.event.Item.TheVariants.{Kept, Counted}
+use Rattle.idl_event.specs.declared.place.Place.{Place}
 use Rattle.idl_macro.specs.declared.replacement.Output.{Output}
 use Rattle.idl_macro.specs.declared.replacement.Output.TheVariants.{Text, Operand}
 
 -- what is told of a token
 abbrev pub item_of : Output → Place → Token → Item
-item_of Text place = λ t. Emitted place.file t
+item_of Text place = λ t. Kept (Emitted place t)
 item_of (Operand tokens) place = λ t. Counted place
 
 -- the tokens that are given, if they are

@@ -1,26 +1,23 @@
 //! The condition of a line behind `if` or `elif`.
 
-ghost use Rattle.std.specs.Prelude.{◌≡◌, ◌≢◌, ℕ, List, None, Some, IfOk, OnOk, drop, not};
+ghost use Rattle.std.specs.Prelude.{◌≡◌, List, Option, Some, IfOk, OnOk, drop, map, not};
 ghost use Rattle.std.specs.Option.{option_map};
 ghost use Rattle.idl_base.specs.Progress.{after_item};
-ghost use Rattle.idl_base.specs.Query.{outcome};
 ghost use Rattle.idl_condition.specs.Arithmetic.{is_zero};
-ghost use Rattle.idl_lex.specs.declared.token.Token.{Token};
-ghost use Rattle.idl_macro.specs.Condition.{condition, defined_at, defined_read, truth_at, value};
-ghost use Rattle.idl_macro.specs.Items.{rules};
-ghost use Rattle.idl_macro.specs.Macros.{reached};
-ghost use Rattle.idl_macro.specs.declared.item.Code.TheVariants.{BadCondition};
-ghost use Rattle.idl_macro.specs.declared.item.Item.TheVariants.{Fault};
+ghost use Rattle.idl_event.specs.Expanding.{arrival, arrived};
+ghost use Rattle.idl_event.specs.Items.{rules};
+ghost use Rattle.idl_event.specs.declared.code.Code.TheVariants.{BadCondition};
+ghost use Rattle.idl_event.specs.declared.event.Event.TheVariants.{Fault};
+ghost use Rattle.idl_event.specs.declared.event.Item.TheVariants.{Kept};
+ghost use Rattle.idl_lex.specs.Tokens.{Token, tokens_in};
+ghost use Rattle.idl_macro.specs.Condition.{condition, defined_at, defined_read, truth, value};
 
-use crate::definitions::Definitions;
-use crate::item::{Code, Item};
-use crate::key::{Answer, Key};
-use crate::place::Place;
-use crate::progress::Progress;
+use crate::definitions::Macros;
+use crate::directive::Directive;
 use crate::replacement::replace_operand;
-use crate::word::is_word;
 use idl_condition::{Symbol, evaluate};
-use idl_lex::{Kind, Spelling, Token};
+use idl_event::{Answer, Code, Event, Item, Key, Progress};
+use idl_lex::{PlacedToken, Spelling, Token};
 use idl_memo::Bank;
 use std::alloc::{AllocError, Global};
 use std::rc::RcSlice;
@@ -30,23 +27,19 @@ use std::rc::RcSlice;
 /// Each `defined X` and `defined ( X )` is read first, then macros are replaced, and then the condition has a value, or it is
 /// faulty, which is a fault, and doesn't hold. Where an item was past the limits, nothing is said of the answer.
 pub fn condition<B: Bank<Key = Key, Answer = Answer>>(
-    alloc: Global,
-    place: &Place,
-    directive: &Spelling,
-    definitions: &Definitions,
-    tokens: &[Token],
-    bank: &B,
+    macros: &Macros<'_, B>,
+    directive: &Directive<'_>,
     progress: &mut Progress<B>,
 ) -> Result<bool, AllocError>
-    ensures taken { IfOk result (λ taken. progress.new.left ≢ None → taken ≡ outcome (condition place.now directive.now definitions.now tokens.now) (B.at bank.now)) }
-    ensures progress { OnOk result (progress.new ≡ reached (B.at bank.now) (condition place.now directive.now definitions.now tokens.now) progress.old) }
+    ensures { IfOk result (λ taken. arrived taken progress.new
+        ≡ arrival (B.at macros.now.bank.now) (condition directive.now.place directive.now.word.now macros.now.definitions.now directive.now.operands) progress.old) }
 {
-    let read = read_defined(alloc, definitions, tokens, bank, progress)?;
-    let given = replace_operand(alloc, place, definitions, &read, bank, progress)?;
-    match value(alloc, &given)? {
+    let read = read_defined(macros, directive.operands.as_slice(), progress)?;
+    let given = replace_operand(macros, &directive.place, &read, progress)?;
+    match value(progress.allocator(), &given)? {
         Some(value) => Ok(holds(value)),
         None => {
-            bad_condition(place, directive, progress)?;
+            bad_condition(directive, progress)?;
             Ok(false)
         }
     }
@@ -54,26 +47,25 @@ pub fn condition<B: Bank<Key = Key, Answer = Answer>>(
 
 // The tokens, in which each `defined X` is one token, `1` or `0`.
 fn read_defined<B: Bank<Key = Key, Answer = Answer>>(
-    alloc: Global,
-    definitions: &Definitions,
-    tokens: &[Token],
-    bank: &B,
+    macros: &Macros<'_, B>,
+    operands: &[PlacedToken],
     progress: &mut Progress<B>,
-) -> Result<Vec<Token>, AllocError>
-    ensures read { IfOk result (λ read. read.items ≡ outcome (defined_read definitions.now tokens.now) (B.at bank.now)) }
-    ensures progress { OnOk result (progress.new ≡ reached (B.at bank.now) (defined_read definitions.now tokens.now) progress.old) }
+) -> Result<Vec<PlacedToken>, AllocError>
+    ensures { IfOk result (λ read. arrived (tokens_in read.items) progress.new
+        ≡ arrival (B.at macros.now.bank.now) (defined_read macros.now.definitions.now (tokens_in operands.now)) progress.old) }
 {
+    let alloc = progress.allocator();
     let mut read = Vec::new(alloc);
-    let mut left = tokens;
-    'tokens: while let Some((token, rest)) = left.split_first() {
-        match defined_at(token, rest) {
+    let mut left = operands;
+    'tokens: while let Some((placed, rest)) = left.split_first() {
+        match defined_at(placed, rest) {
             Some((word, after)) => {
-                let body = definitions.macro_of(word, bank, progress)?;
-                read.push(truth_at(alloc, token, body.is_some())?)?;
+                let body = macros.definitions.macro_of(word, macros.bank, progress)?;
+                read.push(truth_at(alloc, placed, body.is_some())?)?;
                 left = after;
             }
             None => {
-                read.push(token.clone()?)?;
+                read.push(placed.clone()?)?;
                 left = rest;
             }
         }
@@ -82,33 +74,39 @@ fn read_defined<B: Bank<Key = Key, Answer = Answer>>(
 }
 
 // The name that is asked for where a token and the rest of the tokens are a `defined X`, and what follows it.
-fn defined_at<'a>(token: &Token, rest: &'a [Token]) -> Option<(&'a Spelling, &'a [Token])>
-    ensures { option_map (λ d. (d.0.now, d.1.now)) result ≡ option_map {U = List ℕ × List Token} (λ d. (d.0, drop d.1 rest.now)) (defined_at token.now rest.now) }
+fn defined_at<'a>(
+    first: &PlacedToken,
+    rest: &'a [PlacedToken],
+) -> Option<(&'a Spelling, &'a [PlacedToken])>
+    ensures { option_map (λ d. (d.0.now, tokens_in d.1.now)) result
+        ≡ option_map {U = Token × List Token} (λ d. (d.0, drop d.1 (tokens_in rest.entry.now))) (defined_at first.now.token (tokens_in rest.entry.now)) }
 {
-    if token.spelling.as_bytes() != b"defined".as_slice() {
+    if first.token.as_bytes() != b"defined".as_slice() {
         return None;
     }
     match rest {
-        [name, after @ ..] if is_word(name.kind) => Some((&name.spelling, after)),
+        [name, after @ ..] if name.token.is_word() => Some((name.token.spelling(), after)),
         [open, name, close, after @ ..]
-            if open.spelling.as_bytes() == b"(".as_slice()
-                && is_word(name.kind)
-                && close.spelling.as_bytes() == b")".as_slice() => { Some((&name.spelling, after)) }
+            if open.token.as_bytes() == b"(".as_slice()
+                && name.token.is_word()
+                && close.token.as_bytes() == b")".as_slice() => {
+            Some((name.token.spelling(), after))
+        }
         _ => None,
     }
 }
 
 // The token `1` or `0` in the place of a `defined`.
-fn truth_at(alloc: Global, token: &Token, is_there: bool) -> Result<Token, AllocError>
-    ensures { IfOk result (λ truth. truth ≡ truth_at token.now is_there) }
+fn truth_at(alloc: Global, first: &PlacedToken, is_there: bool) -> Result<PlacedToken, AllocError>
+    ensures { IfOk result (λ placed. placed.token ≡ truth is_there) }
 {
     let digit = if is_there { b"1" } else { b"0" };
-    Ok(Token {
-        kind: Kind::Integer(u64::from(is_there)),
-        spelling: Spelling::new(RcSlice::from_slice(alloc, digit)?, 0, 1),
-        line: token.line,
-        starts_line: token.starts_line,
-        follows_word: token.follows_word,
+    let spelling = Spelling::new(RcSlice::from_slice(alloc, digit)?, 0, 1);
+    Ok(PlacedToken {
+        token: Token::new(spelling),
+        line: first.line,
+        starts_line: first.starts_line,
+        follows_word: first.follows_word,
     })
 }
 
@@ -118,7 +116,7 @@ fn value(alloc: Global, tokens: &[Token]) -> Result<Option<i64>, AllocError>
 {
     let mut symbols = Vec::new(alloc);
     'tokens: for token in tokens {
-        symbols.push(Symbol::from_spelling(token.spelling.as_bytes()))?;
+        symbols.push(Symbol::from_spelling(token.as_bytes()))?;
     }
     evaluate(alloc, &symbols)
 }
@@ -132,11 +130,13 @@ fn holds(value: i64) -> bool
 
 // The condition has no value.
 fn bad_condition<B: Bank<Key = Key, Answer = Answer>>(
-    place: &Place,
-    directive: &Spelling,
+    directive: &Directive<'_>,
     progress: &mut Progress<B>,
 ) -> Result<(), AllocError>
-    ensures { OnOk result (progress.new ≡ after_item rules (Fault place.now BadCondition (Some directive.now)) progress.old) }
+    ensures { OnOk result (progress.new
+        ≡ after_item rules (Kept (Fault directive.now.place BadCondition (Some directive.now.word.now))) progress.old) }
 {
-    progress.tell(Item::Fault(place.clone()?, Code::BadCondition, Some(directive.clone()?)))
+    let text = directive.word.clone()?;
+    let place = directive.place.clone()?;
+    progress.tell(Item::Kept(Event::Fault(place, Code::BadCondition, Some(text))))
 }

@@ -1,34 +1,45 @@
 //! The macros of a root: those that the root itself defines or removes, and else those of the bank.
 
 ghost use Rattle.std.specs.Prelude.{◌≡◌, [], Some, None, IfOk, OnOk};
-ghost use Rattle.std.specs.Option.{option_copied};
+ghost use Rattle.std.specs.Option.{option_copied, option_map};
 ghost use Rattle.std.specs.Str.{bytes_eq};
 ghost use Rattle.indexmap.specs.IndexMap.{insert_entry};
-ghost use Rattle.idl_base.specs.Query.{outcome};
-ghost use Rattle.idl_macro.specs.Macros.{body_in, macro_of, reached};
+ghost use Rattle.idl_event.specs.Expanding.{arrival, arrived};
+ghost use Rattle.idl_lex.specs.Tokens.{tokens_in};
+ghost use Rattle.idl_macro.specs.Macros.{body_in, macro_of};
 
-use crate::key::{Answer, Key};
-use crate::progress::Progress;
-use crate::token_list::TokenList;
-use idl_lex::{Spelling, Token};
+use idl_event::{Answer, Key, Progress, TokenRange};
+use idl_lex::{PlacedToken, Spelling};
 use idl_memo::Bank;
 use indexmap::IndexMap;
 use std::alloc::{AllocError, Global};
 use std::marker::Model;
 
 /// What a root itself has said of words: the body of a macro, or that the macro is removed.
-#[derive(Drop)]
 pub struct Definitions {
-    entries: IndexMap<Spelling, Option<TokenList>>,
+    entries: IndexMap<Spelling, Option<TokenRange>>,
+}
+
+impl Drop for Definitions {
+    fn drop(self) {
+        let Definitions { entries: _entries } = self;
+    }
 }
 
 impl Model for Definitions {
     ghost use Rattle.std.specs.Prelude.{List, ℕ, Option};
-    ghost use Rattle.idl_lex.specs.declared.token.Token.{Token};
+    ghost use Rattle.idl_lex.specs.Tokens.{Token};
 
     ghost Value = { List (List ℕ × Option (List Token)) };
 
     ghost view = { λ definitions. definitions.entries.entries };
+}
+
+/// The macros of a root: what the root has said of them, and the bank that is asked of the others.
+#[derive(Clone, Copy)]
+pub struct Macros<'a, B> {
+    pub definitions: &'a Definitions,
+    pub bank: &'a B,
 }
 
 impl Definitions {
@@ -47,12 +58,12 @@ impl Definitions {
         word: &Spelling,
         bank: &'a B,
         progress: &mut Progress<B>,
-    ) -> Result<Option<&'a [Token]>, AllocError>
-        ensures body { IfOk result (λ body. option_copied body ≡ outcome (macro_of self.now word.now) (B.at bank.now)) }
-        ensures progress { OnOk result (progress.new ≡ reached (B.at bank.now) (macro_of self.now word.now) progress.old) }
+    ) -> Result<Option<&'a [PlacedToken]>, AllocError>
+        ensures { IfOk result (λ body. arrived (option_map tokens_in (option_copied body)) progress.new
+            ≡ arrival (B.at bank.now) (macro_of self.now word.now) progress.old) }
     {
         match self.entries.get(word) {
-            Some(said) => Ok(tokens_in(said.as_ref())),
+            Some(said) => Ok(tokens_of(said.as_ref())),
             None => {
                 let answer = progress.ask(&Key::Macro(word.clone()?), bank)?;
                 Ok(body_in(answer))
@@ -63,7 +74,7 @@ impl Definitions {
     /// The macro with this word has this body from now on, whatever was said of the word.
     ///
     /// Want of memory leaves everything as it was.
-    pub fn define(&mut self, word: &Spelling, body: TokenList) -> Result<(), AllocError>
+    pub fn define(&mut self, word: &Spelling, body: TokenRange) -> Result<(), AllocError>
         ensures { OnOk result (self.new ≡ insert_entry bytes_eq self.old word.now (Some body)) }
     {
         self.entries.insert(word.clone()?, Some(body))?;
@@ -82,18 +93,18 @@ impl Definitions {
 }
 
 // The tokens of a body, if there is one.
-fn tokens_in(body: Option<&TokenList>) -> Option<&[Token]>
-    ensures { option_copied result ≡ option_copied body.entry }
+fn tokens_of(body: Option<&TokenRange>) -> Option<&[PlacedToken]>
+    ensures { option_map tokens_in (option_copied result) ≡ option_copied body.entry }
 {
-    Some(body?.tokens())
+    Some(body?.as_slice())
 }
 
 // The tokens of the body that is answered, if one is.
-fn body_in(answer: Option<&Answer>) -> Option<&[Token]>
-    ensures { option_copied result ≡ body_in (option_copied answer.entry) }
+fn body_in(answer: Option<&Answer>) -> Option<&[PlacedToken]>
+    ensures { option_map tokens_in (option_copied result) ≡ body_in (option_copied answer.entry) }
 {
     match answer {
-        Some(Answer::Macro(text)) => Some(text.tokens()),
+        Some(Answer::Macro(text)) => Some(text.tokens().as_slice()),
         _ => None,
     }
 }

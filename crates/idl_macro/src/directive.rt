@@ -1,89 +1,79 @@
 //! The directives that define, remove and test macros.
 
-ghost use Rattle.std.specs.Prelude.{◌≡◌, Option, Some, IfOk, OnOk};
+ghost use Rattle.std.specs.Prelude.{◌≡◌, Option, Some, IfOk, OnOk, true};
 ghost use Rattle.std.specs.Option.{option_copied, option_map};
 ghost use Rattle.idl_base.specs.Progress.{after_item};
-ghost use Rattle.idl_base.specs.Query.{outcome};
-ghost use Rattle.idl_macro.specs.Directives.{define, undef, ifdef, ifndef, is_macro_there, definition_in, differs, first_word, same_tokens};
-ghost use Rattle.idl_macro.specs.Items.{rules};
-ghost use Rattle.idl_macro.specs.Macros.{reached};
-ghost use Rattle.idl_macro.specs.declared.item.Code.TheVariants.{MalformedMacro, OtherDefinition};
-ghost use Rattle.idl_macro.specs.declared.item.Item.TheVariants.{Fault};
+ghost use Rattle.idl_event.specs.Expanding.{arrival, arrived};
+ghost use Rattle.idl_event.specs.Items.{rules};
+ghost use Rattle.idl_event.specs.declared.code.Code.TheVariants.{MalformedMacro, OtherDefinition};
+ghost use Rattle.idl_event.specs.declared.event.Event.TheVariants.{Fault};
+ghost use Rattle.idl_event.specs.declared.event.Item.TheVariants.{Kept};
+ghost use Rattle.idl_lex.specs.Tokens.{tokens_in};
+ghost use Rattle.idl_macro.specs.Directives.{define, undef, ifdef, ifndef, is_macro_there, definition_in, differs, first_word, same_tokens, opens_parameters};
 
-use crate::definitions::Definitions;
-use crate::item::{Code, Item};
-use crate::key::{Answer, Key};
-use crate::place::Place;
-use crate::progress::Progress;
-use crate::token_list::TokenList;
-use crate::word::{is_word, opens_parameters};
-use idl_lex::{Spelling, Token};
+use crate::definitions::{Definitions, Macros};
+use idl_event::{Answer, Code, Event, FileTokens, Item, Key, Place, Progress};
+use idl_lex::{PlacedToken, Spelling};
 use idl_memo::Bank;
-use std::alloc::{AllocError, Global};
+use std::alloc::AllocError;
 
-/// `define`: a macro is defined, by the tokens after the directive's word. Where it is there with other tokens, that is a fault,
-/// and it stays.
+/// A directive where it stands: its word, and the tokens after that.
+#[derive(Drop)]
+pub struct Directive<'a> {
+    pub place: Place,
+    pub word: &'a Spelling,
+    pub operands: FileTokens<'a>,
+}
+
+/// `define`: a macro is defined. Where it is there with other tokens, that is a fault, and it stays.
 pub fn define<B: Bank<Key = Key, Answer = Answer>>(
-    alloc: Global,
-    place: &Place,
-    directive: &Spelling,
     definitions: &mut Definitions,
-    tokens: &[Token],
+    directive: &Directive<'_>,
     bank: &B,
     progress: &mut Progress<B>,
 ) -> Result<(), AllocError>
-    ensures definitions { OnOk result (definitions.new ≡ outcome (define place.now directive.now definitions.old tokens.now) (B.at bank.now)) }
-    ensures progress { OnOk result (progress.new ≡ reached (B.at bank.now) (define place.now directive.now definitions.old tokens.now) progress.old) }
+    ensures { OnOk result (arrived definitions.new progress.new
+        ≡ arrival (B.at bank.now) (define directive.now.place directive.now.word.now definitions.old directive.now.operands) progress.old) }
 {
-    let Some((word, body)) = definition_in(tokens) else {
-        malformed(place, directive, progress)?;
-        return Ok(());
+    let Some((word, body)) = definition_in(&directive.operands) else {
+        return malformed(directive, progress);
     };
     let old = definitions.macro_of(word, bank, progress)?;
-    if differs(old, body) {
-        other_definition(place, word, progress)?;
-        return Ok(());
+    if differs(old, body.as_slice()) {
+        return other_definition(directive, word, progress);
     }
-    definitions.define(word, TokenList::new(alloc, body)?)?;
+    definitions.define(word, body.shared()?)?;
     Ok(())
 }
 
 /// `undef`: the macro with the first word after the directive's is removed, if it is there.
 pub fn undef<B: Bank<Key = Key, Answer = Answer>>(
-    place: &Place,
-    directive: &Spelling,
     definitions: &mut Definitions,
-    tokens: &[Token],
+    directive: &Directive<'_>,
     progress: &mut Progress<B>,
 ) -> Result<(), AllocError>
-    ensures definitions { OnOk result ((bank : Key → Option Answer) → definitions.new ≡ outcome (undef place.now directive.now definitions.old tokens.now) bank) }
-    ensures progress { OnOk result ((bank : Key → Option Answer) → progress.new ≡ reached bank (undef place.now directive.now definitions.old tokens.now) progress.old) }
+    ensures { OnOk result ((bank : Key → Option Answer) → arrived definitions.new progress.new
+        ≡ arrival bank (undef directive.now.place directive.now.word.now definitions.old directive.now.operands) progress.old) }
 {
-    match first_word(tokens) {
+    match first_word(directive.operands.as_slice()) {
         Some(word) => {
             definitions.remove(word)?;
             Ok(())
         }
-        None => {
-            malformed(place, directive, progress)?;
-            Ok(())
-        }
+        None => malformed(directive, progress),
     }
 }
 
 /// `ifdef`: whether the macro with the first word after the directive's is there. Where there is no word, that is a fault.
 pub fn ifdef<B: Bank<Key = Key, Answer = Answer>>(
-    place: &Place,
-    directive: &Spelling,
-    definitions: &Definitions,
-    tokens: &[Token],
-    bank: &B,
+    macros: &Macros<'_, B>,
+    directive: &Directive<'_>,
     progress: &mut Progress<B>,
 ) -> Result<bool, AllocError>
-    ensures taken { IfOk result (λ taken. taken ≡ outcome (ifdef place.now directive.now definitions.now tokens.now) (B.at bank.now)) }
-    ensures progress { OnOk result (progress.new ≡ reached (B.at bank.now) (ifdef place.now directive.now definitions.now tokens.now) progress.old) }
+    ensures { IfOk result (λ taken. arrived taken progress.new
+        ≡ arrival (B.at macros.now.bank.now) (ifdef directive.now.place directive.now.word.now macros.now.definitions.now directive.now.operands) progress.old) }
 {
-    match is_macro_there(place, directive, definitions, tokens, bank, progress)? {
+    match is_macro_there(macros, directive, progress)? {
         Some(is_there) => Ok(is_there),
         None => Ok(false),
     }
@@ -91,41 +81,35 @@ pub fn ifdef<B: Bank<Key = Key, Answer = Answer>>(
 
 /// `ifndef`: whether the macro with the first word after the directive's isn't there. Where there is no word, that is a fault.
 pub fn ifndef<B: Bank<Key = Key, Answer = Answer>>(
-    place: &Place,
-    directive: &Spelling,
-    definitions: &Definitions,
-    tokens: &[Token],
-    bank: &B,
+    macros: &Macros<'_, B>,
+    directive: &Directive<'_>,
     progress: &mut Progress<B>,
 ) -> Result<bool, AllocError>
-    ensures taken { IfOk result (λ taken. taken ≡ outcome (ifndef place.now directive.now definitions.now tokens.now) (B.at bank.now)) }
-    ensures progress { OnOk result (progress.new ≡ reached (B.at bank.now) (ifndef place.now directive.now definitions.now tokens.now) progress.old) }
+    ensures { IfOk result (λ taken. arrived taken progress.new
+        ≡ arrival (B.at macros.now.bank.now) (ifndef directive.now.place directive.now.word.now macros.now.definitions.now directive.now.operands) progress.old) }
 {
-    match is_macro_there(place, directive, definitions, tokens, bank, progress)? {
+    match is_macro_there(macros, directive, progress)? {
         Some(is_there) => Ok(!is_there),
         None => Ok(false),
     }
 }
 
-// Whether the macro named by the tokens is there, where they name one.
+// Whether the macro named by the operands is there, where they name one.
 fn is_macro_there<B: Bank<Key = Key, Answer = Answer>>(
-    place: &Place,
-    directive: &Spelling,
-    definitions: &Definitions,
-    tokens: &[Token],
-    bank: &B,
+    macros: &Macros<'_, B>,
+    directive: &Directive<'_>,
     progress: &mut Progress<B>,
 ) -> Result<Option<bool>, AllocError>
-    ensures there { IfOk result (λ there. there ≡ outcome (is_macro_there place.now directive.now definitions.now tokens.now) (B.at bank.now)) }
-    ensures progress { OnOk result (progress.new ≡ reached (B.at bank.now) (is_macro_there place.now directive.now definitions.now tokens.now) progress.old) }
+    ensures { IfOk result (λ there. arrived there progress.new
+        ≡ arrival (B.at macros.now.bank.now) (is_macro_there directive.now.place directive.now.word.now macros.now.definitions.now directive.now.operands) progress.old) }
 {
-    match first_word(tokens) {
+    match first_word(directive.operands.as_slice()) {
         Some(word) => {
-            let body = definitions.macro_of(word, bank, progress)?;
+            let body = macros.definitions.macro_of(word, macros.bank, progress)?;
             Ok(Some(body.is_some()))
         }
         None => {
-            malformed(place, directive, progress)?;
+            malformed(directive, progress)?;
             Ok(None)
         }
     }
@@ -133,57 +117,68 @@ fn is_macro_there<B: Bank<Key = Key, Answer = Answer>>(
 
 // The directive names no macro, or gives one parameters.
 fn malformed<B: Bank<Key = Key, Answer = Answer>>(
-    place: &Place,
-    directive: &Spelling,
+    directive: &Directive<'_>,
     progress: &mut Progress<B>,
 ) -> Result<(), AllocError>
-    ensures { OnOk result (progress.new ≡ after_item rules (Fault place.now MalformedMacro (Some directive.now)) progress.old) }
+    ensures { OnOk result (progress.new
+        ≡ after_item rules (Kept (Fault directive.now.place MalformedMacro (Some directive.now.word.now))) progress.old) }
 {
-    progress.tell(Item::Fault(
-        place.clone()?,
-        Code::MalformedMacro,
-        Some(directive.clone()?),
-    ))
+    let text = directive.word.clone()?;
+    let place = directive.place.clone()?;
+    progress.tell(Item::Kept(Event::Fault(place, Code::MalformedMacro, Some(text))))
 }
 
 // A macro with this word is there with other tokens.
 fn other_definition<B: Bank<Key = Key, Answer = Answer>>(
-    place: &Place,
+    directive: &Directive<'_>,
     word: &Spelling,
     progress: &mut Progress<B>,
 ) -> Result<(), AllocError>
-    ensures { OnOk result (progress.new ≡ after_item rules (Fault place.now OtherDefinition (Some word.now)) progress.old) }
+    ensures { OnOk result (progress.new
+        ≡ after_item rules (Kept (Fault directive.now.place OtherDefinition (Some word.now))) progress.old) }
 {
-    progress.tell(Item::Fault(place.clone()?, Code::OtherDefinition, Some(word.clone()?)))
+    let text = word.clone()?;
+    let place = directive.place.clone()?;
+    progress.tell(Item::Kept(Event::Fault(place, Code::OtherDefinition, Some(text))))
 }
 
-// The word at which the tokens begin, if they do.
-fn first_word(tokens: &[Token]) -> Option<&Spelling>
-    ensures { option_copied result ≡ first_word tokens.now }
+// The word at which the operands begin, if they do.
+fn first_word(operands: &[PlacedToken]) -> Option<&Spelling>
+    ensures { option_copied result ≡ first_word operands.entry.now }
 {
-    match tokens {
-        [token, ..] if is_word(token.kind) => Some(&token.spelling),
+    match operands {
+        [first, ..] if first.token.is_word() => Some(first.token.spelling()),
         _ => None,
     }
 }
 
 // The word and the body of a well-formed definition.
-fn definition_in(tokens: &[Token]) -> Option<(&Spelling, &[Token])>
-    ensures { option_map (λ d. (d.0.now, d.1.now)) result ≡ definition_in tokens.now }
+fn definition_in<'a>(operands: &FileTokens<'a>) -> Option<(&'a Spelling, FileTokens<'a>)>
+    ensures { option_map (λ d. (d.0.now, tokens_in d.1)) result ≡ definition_in operands.now }
 {
-    let (token, body) = tokens.split_first()?;
-    if !is_word(token.kind) || token.spelling.as_bytes() == b"defined".as_slice() {
+    let (first, rest) = operands.as_slice().split_first()?;
+    if !first.token.is_word() || first.token.as_bytes() == b"defined".as_slice() {
         return None;
     }
-    match body {
+    match rest {
         [next, ..] if opens_parameters(next) => None,
-        _ => Some((&token.spelling, body)),
+        _ => {
+            let (_word, body) = operands.split_at(1);
+            Some((first.token.spelling(), body))
+        }
     }
 }
 
+// Whether the token is a `(` that a word ends before, so that a list of parameters would begin.
+fn opens_parameters(token: &PlacedToken) -> bool
+    ensures { result ≡ opens_parameters token.now }
+{
+    token.follows_word && token.token.as_bytes() == b"(".as_slice()
+}
+
 // Whether there is a macro with other tokens.
-fn differs(old: Option<&[Token]>, body: &[Token]) -> bool
-    ensures { result ≡ differs (option_copied old.entry) body.now }
+fn differs(old: Option<&[PlacedToken]>, body: &[PlacedToken]) -> bool
+    ensures { result ≡ differs (option_map tokens_in (option_copied old.entry)) (tokens_in body.now) }
 {
     match old {
         Some(old) => !are_same(old, body),
@@ -191,15 +186,15 @@ fn differs(old: Option<&[Token]>, body: &[Token]) -> bool
     }
 }
 
-// Whether two bodies have the same spellings, one after another.
-fn are_same(body: &[Token], other: &[Token]) -> bool
-    ensures { result ≡ same_tokens body.now other.now }
+// Whether two bodies have the same tokens, one after another.
+fn are_same(body: &[PlacedToken], other: &[PlacedToken]) -> bool
+    ensures { result ≡ same_tokens (tokens_in body.now) (tokens_in other.now) }
 {
     if body.len() != other.len() {
         return false;
     }
-    'tokens: for (i, token) in body.iter().enumerate() {
-        if token.spelling != other[i].spelling {
+    'tokens: for (i, placed) in body.iter().enumerate() {
+        if placed.token != other[i].token {
             return false;
         }
     }

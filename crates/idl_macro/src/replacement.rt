@@ -4,24 +4,19 @@
 
 ghost use Rattle.std.specs.Prelude.{◌≡◌, ◌≢◌, ◌<◌, ◌∷◌, [], ℕ, List, Option, None, IfOk, OnOk, is_some, reverse};
 ghost use Rattle.std.specs.Map.{keys_of, lookup};
-ghost use Rattle.std.specs.Option.{option_copied};
+ghost use Rattle.std.specs.Option.{option_copied, option_map};
 ghost use Rattle.std.specs.Str.{bytes_eq};
 ghost use Rattle.idl_base.specs.Progress.{after_item};
 ghost use Rattle.idl_base.specs.Query.{outcome};
-ghost use Rattle.idl_macro.specs.Items.{rules, turns_left};
-ghost use Rattle.idl_macro.specs.Macros.{Reached, reached};
+ghost use Rattle.idl_event.specs.Expanding.{Reached, arrival, arrived, reached};
+ghost use Rattle.idl_event.specs.Items.{rules, turns_left};
+ghost use Rattle.idl_lex.specs.Tokens.{Token, tokens_in};
 ghost use Rattle.idl_macro.specs.Output.{given, given_more, item_of};
 ghost use Rattle.idl_macro.specs.Replace.{operand, replaced, replaced_at, replacement, text};
-ghost use Rattle.idl_macro.specs.Words.{placed};
 
-use crate::definitions::Definitions;
-use crate::file_name::FileName;
-use crate::item::Item;
-use crate::key::{Answer, Key};
-use crate::place::Place;
-use crate::progress::Progress;
-use crate::word::is_word;
-use idl_lex::{Spelling, Token};
+use crate::definitions::{Definitions, Macros};
+use idl_event::{Answer, Event, FileName, Item, Key, Place, Progress};
+use idl_lex::{PlacedToken, Spelling, Token};
 use idl_memo::Bank;
 use indexmap::IndexMap;
 use std::alloc::{AllocError, Global};
@@ -36,17 +31,15 @@ pub enum Output {
     Operand(Vec<Token>),
 }
 
-/// The tokens of a text are replaced, each on its own line, and emitted.
+/// The tokens of a text are replaced, each at its own place, and emitted.
 #[tactic(auto, unfolding(crate::specs::Replace::text))]
 pub fn replace_text<B: Bank<Key = Key, Answer = Answer>>(
-    alloc: Global,
+    macros: &Macros<'_, B>,
     file: &FileName,
-    definitions: &Definitions,
-    tokens: &[Token],
-    bank: &B,
+    tokens: &[PlacedToken],
     progress: &mut Progress<B>,
 ) -> Result<(), AllocError>
-    ensures { OnOk result (progress.new ≡ reached (B.at bank.now) (text file.now definitions.now tokens.now) progress.old) }
+    ensures { OnOk result (progress.new ≡ reached (B.at macros.now.bank.now) (text file.now macros.now.definitions.now tokens.now) progress.old) }
 {
     let mut output = Output::Text;
     'tokens: for token in tokens {
@@ -54,15 +47,7 @@ pub fn replace_text<B: Bank<Key = Key, Answer = Answer>>(
             file: file.clone()?,
             line: token.line,
         };
-        replace(
-            alloc,
-            &place,
-            definitions,
-            from_ref(token),
-            bank,
-            progress,
-            &mut output,
-        )?;
+        replace(macros, &place, from_ref(token), progress, &mut output)?;
     }
     Ok(())
 }
@@ -72,26 +57,17 @@ pub fn replace_text<B: Bank<Key = Key, Answer = Answer>>(
 /// Where an item was past the limits, nothing is said of the tokens.
 #[tactic(auto, unfolding(crate::specs::Replace::operand))]
 pub fn replace_operand<B: Bank<Key = Key, Answer = Answer>>(
-    alloc: Global,
+    macros: &Macros<'_, B>,
     place: &Place,
-    definitions: &Definitions,
-    tokens: &[Token],
-    bank: &B,
+    tokens: &[PlacedToken],
     progress: &mut Progress<B>,
 ) -> Result<Vec<Token>, AllocError>
-    ensures progress { OnOk result (progress.new ≡ reached (B.at bank.now) (operand place.now definitions.now tokens.now) progress.old) }
-    ensures given { IfOk result (λ given. progress.new.left ≢ None → given.items ≡ outcome (operand place.now definitions.now tokens.now) (B.at bank.now)) }
+    ensures { IfOk result (λ given. arrived given.items progress.new
+        ≡ arrival (B.at macros.now.bank.now) (operand place.now macros.now.definitions.now (tokens_in tokens.now)) progress.old) }
 {
+    let alloc = progress.allocator();
     let mut output = Output::Operand(Vec::new(alloc));
-    replace(
-        alloc,
-        place,
-        definitions,
-        tokens,
-        bank,
-        progress,
-        &mut output,
-    )?;
+    replace(macros, place, tokens, progress, &mut output)?;
     match output {
         Output::Text => Ok(Vec::new(alloc)),
         Output::Operand(given) => Ok(given),
@@ -109,19 +85,17 @@ pub fn nesting()
 // The tokens are replaced at one place. Words in whose replacement the work stands have an entry each, with what follows
 // them, the outermost first.
 fn replace<B: Bank<Key = Key, Answer = Answer>>(
-    alloc: Global,
+    macros: &Macros<'_, B>,
     place: &Place,
-    definitions: &Definitions,
-    tokens: &[Token],
-    bank: &B,
+    tokens: &[PlacedToken],
     progress: &mut Progress<B>,
     output: &mut Output,
 ) -> Result<(), AllocError>
     ensures item { OnOk result (item_of output.new ≡ item_of output.old) }
-    ensures progress { OnOk result (progress.new ≡ reached (B.at bank.now) (replaced_at (item_of output.old place.now) place.now definitions.now tokens.now) progress.old) }
-    ensures given { OnOk result (progress.new.left ≢ None → given output.new ≡ given_more (given output.old) (outcome (replaced_at (item_of output.old place.now) place.now definitions.now tokens.now) (B.at bank.now))) }
+    ensures progress { OnOk result (progress.new ≡ reached (B.at macros.now.bank.now) (replaced_at (item_of output.old place.now) place.now macros.now.definitions.now (tokens_in tokens.now)) progress.old) }
+    ensures given { OnOk result (progress.new.left ≢ None → given output.new ≡ given_more (given output.old) (outcome (replaced_at (item_of output.old place.now) place.now macros.now.definitions.now (tokens_in tokens.now)) (B.at macros.now.bank.now))) }
 {
-    let mut stack: IndexMap<Spelling, &[Token]> = IndexMap::new(alloc);
+    let mut stack: IndexMap<Spelling, &[PlacedToken]> = IndexMap::new(progress.allocator());
     let mut left = tokens;
     'steps: while !progress.is_over() {
         match left.split_first() {
@@ -129,15 +103,16 @@ fn replace<B: Bank<Key = Key, Answer = Answer>>(
                 None => return Ok(()),
                 Some((_word, rest)) => left = rest,
             },
-            Some((token, rest)) => {
-                match replacement(&stack, definitions, token, bank, progress)? {
+            Some((placed, rest)) => {
+                let token = &placed.token;
+                match replacement(&stack, macros, token, progress)? {
                     None => {
                         output.put(place, token, progress)?;
                         left = rest;
                     }
                     Some(body) => {
                         progress.tell(Item::Turn(place.clone()?))?;
-                        stack.insert(token.spelling.clone()?, rest)?;
+                        stack.insert(token.spelling().clone()?, rest)?;
                         left = body;
                     }
                 }
@@ -149,33 +124,32 @@ fn replace<B: Bank<Key = Key, Answer = Answer>>(
 
 // The body that a token is replaced by: its macro's, if it is a word and doesn't stand in its own replacement.
 fn replacement<'a, B: Bank<Key = Key, Answer = Answer>>(
-    stack: &IndexMap<Spelling, &'a [Token]>,
-    definitions: &'a Definitions,
+    stack: &IndexMap<Spelling, &'a [PlacedToken]>,
+    macros: &Macros<'a, B>,
     token: &Token,
-    bank: &'a B,
     progress: &mut Progress<B>,
-) -> Result<Option<&'a [Token]>, AllocError>
-    ensures body { IfOk result (λ body. option_copied body ≡ outcome (replacement definitions.now (keys_of (reverse stack.now.entries)) token.now) (B.at bank.now)) }
-    ensures progress { OnOk result (progress.new ≡ reached (B.at bank.now) (replacement definitions.now (keys_of (reverse stack.now.entries)) token.now) progress.old) }
+) -> Result<Option<&'a [PlacedToken]>, AllocError>
+    ensures { IfOk result (λ body. arrived (option_map tokens_in (option_copied body)) progress.new
+        ≡ arrival (B.at macros.now.bank.now) (replacement macros.now.definitions.now (keys_of (reverse stack.now.entries)) token.now) progress.old) }
 {
-    if !is_word(token.kind) {
+    if !token.is_word() {
         return Ok(None);
     }
-    if is_open(stack, &token.spelling) {
+    if is_open(stack, token.spelling()) {
         return Ok(None);
     }
-    definitions.macro_of(&token.spelling, bank, progress)
+    macros.definitions.macro_of(token.spelling(), macros.bank, progress)
 }
 
 // Whether the work stands in the replacement of this word.
-fn is_open(stack: &IndexMap<Spelling, &[Token]>, word: &Spelling) -> bool
+fn is_open(stack: &IndexMap<Spelling, &[PlacedToken]>, word: &Spelling) -> bool
     ensures { result ≡ is_some (lookup (bytes_eq word.now) stack.now.entries) }
 {
     stack.contains_key(word)
 }
 
 impl Output {
-    // A token that stands for itself, on the line of the outermost word.
+    // A token that stands for itself, at the place of the outermost word.
     fn put<B: Bank<Key = Key, Answer = Answer>>(
         &mut self,
         place: &Place,
@@ -183,16 +157,16 @@ impl Output {
         progress: &mut Progress<B>,
     ) -> Result<(), AllocError>
         ensures item { OnOk result (item_of self.new ≡ item_of self.old) }
-        ensures given { OnOk result (given self.new ≡ given_more (given self.old) (placed place.now.line token.now ∷ [])) }
-        ensures progress { OnOk result (progress.new ≡ after_item rules (item_of self.old place.now (placed place.now.line token.now)) progress.old) }
+        ensures given { OnOk result (given self.new ≡ given_more (given self.old) (token.now ∷ [])) }
+        ensures progress { OnOk result (progress.new ≡ after_item rules (item_of self.old place.now token.now) progress.old) }
     {
-        let mut token = token.clone()?;
-        token.line = place.line;
+        let token = token.clone()?;
+        let place = place.clone()?;
         match self {
-            Output::Text => progress.tell(Item::Emitted(place.file.clone()?, token)),
+            Output::Text => progress.tell(Item::Kept(Event::Emitted(place, token))),
             Output::Operand(given) => {
                 given.push(token)?;
-                progress.tell(Item::Counted(place.clone()?))
+                progress.tell(Item::Counted(place))
             }
         }
     }

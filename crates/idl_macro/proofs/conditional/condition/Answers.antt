@@ -2,10 +2,10 @@ use Rattle.std.proofs.Common.{◌≢◌, None, SFits, Some, sym, ap, ◌∙◌, 
 use Rattle.std.proofs.lemmas.Int.{to_z-of_z}
 use Rattle.idl_base.specs.Query.{outcome}
 use Rattle.idl_macro.specs.Condition.{judged}
-use Rattle.idl_macro.specs.Macros.{reached}
+use Rattle.idl_event.specs.Expanding.{reached}
 use Rattle.idl_macro.specs.Replace.{operand}
-use Rattle.idl_macro.specs.declared.item.Code.TheVariants.{BadCondition}
-use Rattle.idl_macro.specs.declared.item.Item.TheVariants.{Fault}
+use Rattle.idl_event.specs.declared.code.Code.TheVariants.{BadCondition}
+use Rattle.idl_event.specs.declared.event.Item.TheVariants.{Fault}
 use Rattle.idl_macro.proofs.ConditionLemmas.{outcome-judged, reached-judged, was_going}
 use Rattle.idl_macro.proofs.conditional.condition.Goals as goal
 

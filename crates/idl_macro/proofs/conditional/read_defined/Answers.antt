@@ -1,9 +1,9 @@
 use Rattle.std.proofs.Common.{◌≡◌, [], ◌++◌, List, is_some, sym, ap, ◌∙◌, append-nil}
 use Rattle.std.proofs.lemmas.List.{nil_from_length}
 use Rattle.idl_base.specs.Query.{outcome}
-use Rattle.idl_lex.specs.declared.token.Token.{Token}
 use Rattle.idl_macro.specs.Condition.{defined_read, truth_at}
-use Rattle.idl_macro.specs.Macros.{macro_of, reached}
+use Rattle.idl_event.specs.Expanding.{reached}
+use Rattle.idl_macro.specs.Macros.{macro_of}
 use Rattle.idl_macro.proofs.ConditionLemmas.{defined_read-nil, outcome-read-name, outcome-read-token, pushed, reached-read-name, reached-read-token, same_token}
 use Rattle.idl_macro.proofs.DirectiveLemmas.{is_some-option_copied}
 use Rattle.idl_macro.proofs.conditional.read_defined.Goals as goal
@@ -21,12 +21,12 @@ tokens-preserved-in-Some-defined_at g c =
     let found : c.is_some.result ≡ is_some (outcome (macro_of definitions word) bank) = c.is_some.ensures ∙ is_some-option_copied body.body ∙ ap is_some body.ensures.body in
     record {
       progress = inv.progress
-          ∙ ap (λ (ts : List Token). reached bank (defined_read definitions ts) c.tokens.progress) c.in-Some.ensures.cases.0
+          ∙ ap (λ (ts : List (List ℕ)). reached bank (defined_read definitions ts) c.tokens.progress) c.in-Some.ensures.cases.0
           ∙ reached-read-name definitions bank t rest c.tokens.progress word after c.in-Some-defined_at.ensures
           ∙ ap (reached bank (defined_read definitions after)) (sym body.ensures.progress);
       read = inv.read
-          ∙ ap (λ (ts : List Token). c.tokens.read.items ++ outcome (defined_read definitions ts) bank) c.in-Some.ensures.cases.0
-          ∙ ap (λ (ts : List Token). c.tokens.read.items ++ ts) (outcome-read-name definitions bank t rest word after c.in-Some-defined_at.ensures)
+          ∙ ap (λ (ts : List (List ℕ)). c.tokens.read.items ++ outcome (defined_read definitions ts) bank) c.in-Some.ensures.cases.0
+          ∙ ap (λ (ts : List (List ℕ)). c.tokens.read.items ++ ts) (outcome-read-name definitions bank t rest word after c.in-Some-defined_at.ensures)
           ∙ pushed c.tokens.read.items c.push.new.self.items c.in_ok-truth_at-in-Some-defined_at.field-0 (truth_at t (is_some (outcome (macro_of definitions word) bank))) (outcome (defined_read definitions after) bank)
           c.in_ok-push-in-Some-defined_at.ensures.items (c.in_ok-truth_at-in-Some-defined_at.ensures ∙ ap (truth_at t) found);
     }
@@ -40,11 +40,11 @@ tokens-preserved g c =
     let rest = c.in-Some.rest.now in
     record {
       progress = inv.progress
-          ∙ ap (λ (ts : List Token). reached bank (defined_read definitions ts) c.tokens.progress) c.in-Some.ensures.cases.0
+          ∙ ap (λ (ts : List (List ℕ)). reached bank (defined_read definitions ts) c.tokens.progress) c.in-Some.ensures.cases.0
           ∙ reached-read-token definitions bank t rest c.tokens.progress c.in-None.ensures;
       read = inv.read
-          ∙ ap (λ (ts : List Token). c.tokens.read.items ++ outcome (defined_read definitions ts) bank) c.in-Some.ensures.cases.0
-          ∙ ap (λ (ts : List Token). c.tokens.read.items ++ ts) (outcome-read-token definitions bank t rest c.in-None.ensures)
+          ∙ ap (λ (ts : List (List ℕ)). c.tokens.read.items ++ outcome (defined_read definitions ts) bank) c.in-Some.ensures.cases.0
+          ∙ ap (λ (ts : List (List ℕ)). c.tokens.read.items ++ ts) (outcome-read-token definitions bank t rest c.in-None.ensures)
           ∙ pushed c.tokens.read.items c.push-in-None.new.self.items c.in_ok-clone-in-None.field-0 t (outcome (defined_read definitions rest) bank)
           c.in_ok-push-in-None.ensures.items (same_token c.in_ok-clone-in-None.field-0 t c.in_ok-clone-in-None.ensures.cases);
     }
@@ -56,7 +56,7 @@ returns-clause-read g c =
     let items = c.tokens.read.items in
     let nothing : c.tokens.left.now ≡ [] = nil_from_length c.tokens.left.now c.in_default.ensures.cases in
     sym (c.tokens.invariant.read
-    ∙ ap (λ (ts : List Token). items ++ outcome (defined_read definitions ts) bank) nothing
+    ∙ ap (λ (ts : List (List ℕ)). items ++ outcome (defined_read definitions ts) bank) nothing
     ∙ ap (λ query. items ++ outcome query bank) (defined_read-nil definitions)
     ∙ append-nil items)
 
@@ -66,5 +66,5 @@ returns-clause-progress g c =
     let definitions = c.args.definitions.now in
     let nothing : c.tokens.left.now ≡ [] = nil_from_length c.tokens.left.now c.in_default.ensures.cases in
     sym (c.tokens.invariant.progress
-    ∙ ap (λ (ts : List Token). reached bank (defined_read definitions ts) c.tokens.progress) nothing
+    ∙ ap (λ (ts : List (List ℕ)). reached bank (defined_read definitions ts) c.tokens.progress) nothing
     ∙ ap (λ query. reached bank query c.tokens.progress) (defined_read-nil definitions))

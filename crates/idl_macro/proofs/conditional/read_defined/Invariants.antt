@@ -1,7 +1,7 @@
 use Rattle.std.proofs.Common.{◌≡◌, ◌++◌, length}
 use Rattle.idl_base.specs.Query.{outcome}
 use Rattle.idl_macro.specs.Condition.{defined_read}
-use Rattle.idl_macro.specs.Macros.{reached}
+use Rattle.idl_event.specs.Expanding.{reached}
 use Rattle.idl_macro.proofs.conditional.read_defined.Given as goal
 
 abbrev pub invariant-tokens : goal.invariant-tokens

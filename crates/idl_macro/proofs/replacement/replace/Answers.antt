@@ -5,16 +5,14 @@ use Rattle.std.specs.Option.{option_copied}
 use Rattle.std.proofs.lemmas.List.{length-reverse, nil_from_length, reverse-append, length-append}
 use Rattle.idl_base.specs.Progress.{after_item, after-over}
 use Rattle.idl_base.specs.Query.{outcome}
-use Rattle.idl_lex.specs.declared.token.Token.{Token}
-use Rattle.idl_macro.specs.Items.{rules}
-use Rattle.idl_macro.specs.Key.{key_eq}
-use Rattle.idl_macro.specs.Macros.{reached}
+use Rattle.idl_event.specs.Items.{rules}
+use Rattle.idl_event.specs.Key.{key_eq}
+use Rattle.idl_event.specs.Expanding.{reached}
 use Rattle.idl_macro.specs.Output.{given, given_more, item_of}
 use Rattle.idl_macro.specs.Replace.{replacement}
-use Rattle.idl_macro.specs.Words.{placed}
-use Rattle.idl_macro.specs.declared.allowance.Allowance.{Allowance}
-use Rattle.idl_macro.specs.declared.allowance.TheConstants.{MAX_TURNS}
-use Rattle.idl_macro.specs.declared.item.Item.TheVariants.{Turn}
+use Rattle.idl_event.specs.declared.allowance.Allowance.{Allowance}
+use Rattle.idl_event.specs.Limits.{turns_at_most}
+use Rattle.idl_event.specs.declared.event.Item.TheVariants.{Turn}
 use Rattle.idl_macro.proofs.AllowanceLemmas.{IsWithinTurns, IsWithinTurns-closed, IsWithinTurns-none, IsWithinTurns-put, IsWithinTurns-room, IsWithinTurns-turn, left-step, left_by, not_over, work_left, work_left-put, work_left-turn}
 use Rattle.idl_macro.proofs.MacroLemmas.{entries-opened}
 use Rattle.idl_macro.proofs.OutputLemmas.{given_more-append}
@@ -25,7 +23,7 @@ pub steps-init : goal.steps-init
 steps-init g c =
     let bank = g.B.Bank.at c.args.bank.now in
     let item = item_of c.args.output.now c.args.place.now in
-    let from = λ (es : List Open). pending bank item c.args.place.now c.args.definitions.now (MAX_TURNS + 1) (reverse es) c.args.tokens.now in
+    let from = λ (es : List Open). pending bank item c.args.place.now c.args.definitions.now (turns_at_most + 1) (reverse es) c.args.tokens.now in
     let nothing : c.new-stack.result.entries ≡ [] = c.new-stack.ensures.empty in
     record {
       progress = ap (λ (es : List Open). reached bank (from es) c.args.progress.now) (sym nothing);
@@ -39,7 +37,7 @@ steps-preserved-in-Some-pop g c =
     let inv = c.steps.invariant in
     let bank = g.B.Bank.at c.args.bank.now in
     let item = item_of c.args.output.now c.args.place.now in
-    let part = pending bank item c.args.place.now c.args.definitions.now (MAX_TURNS + 1) in
+    let part = pending bank item c.args.place.now c.args.definitions.now (turns_at_most + 1) in
     let popped = c.in-Some-pop.ensures in
     let f : Open = (c.in-Some-pop._word, c.in-Some-pop.rest) in
     let below = reverse c.pop.new.self.entries in
@@ -47,13 +45,13 @@ steps-preserved-in-Some-pop g c =
     let top : reverse c.steps.stack.entries ≡ f ∷ below = ap reverse popped.entries ∙ reverse-append c.pop.new.self.entries (f ∷ []) in
     record {
       progress = inv.progress
-          ∙ ap (λ (ts : List Token). reached bank (part (reverse c.steps.stack.entries) ts) c.steps.progress) nothing
+          ∙ ap (λ (ts : List (List ℕ)). reached bank (part (reverse c.steps.stack.entries) ts) c.steps.progress) nothing
           ∙ ap (λ (fs : List Open). reached bank (part fs []) c.steps.progress) top
-          ∙ reached-pending-end bank item c.args.place.now c.args.definitions.now (MAX_TURNS + 1) f below c.steps.progress;
+          ∙ reached-pending-end bank item c.args.place.now c.args.definitions.now (turns_at_most + 1) f below c.steps.progress;
       given = inv.given
-          ∙ ap (λ (ts : List Token). given_more (given c.steps.output) (outcome (part (reverse c.steps.stack.entries) ts) bank)) nothing
+          ∙ ap (λ (ts : List (List ℕ)). given_more (given c.steps.output) (outcome (part (reverse c.steps.stack.entries) ts) bank)) nothing
           ∙ ap (λ (fs : List Open). given_more (given c.steps.output) (outcome (part fs []) bank)) top
-          ∙ ap (given_more (given c.steps.output)) (outcome-pending-end bank item c.args.place.now c.args.definitions.now (MAX_TURNS + 1) f below);
+          ∙ ap (given_more (given c.steps.output)) (outcome-pending-end bank item c.args.place.now c.args.definitions.now (turns_at_most + 1) f below);
       item = inv.item;
       depth = IsWithinTurns-closed c.steps.progress.left (length c.pop.new.self.entries) (subst (λ (n : ℕ). IsWithinTurns c.steps.progress.left n) (sym popped.len) inv.depth);
     }
@@ -76,34 +74,34 @@ steps-preserved-in-None-2 g c =
     let place = c.args.place.now in
     let definitions = c.args.definitions.now in
     let item = item_of c.args.output.now place in
-    let part = pending bank item place definitions (MAX_TURNS + 1) in
+    let part = pending bank item place definitions (turns_at_most + 1) in
     let fs = reverse c.steps.stack.entries in
     let t = c.in-Some.token.now in
     let rest = c.in-Some.rest.now in
-    let it = item_of c.steps.output place (placed place.line t) in
+    let it = item_of c.steps.output place t in
     let asked = c.in_ok-replacement-in-Some.ensures in
     let put = c.in_ok-put-in-None-2.ensures in
     let going = not_over c.is_over.result c.steps.progress.left c.steps-test.true c.is_over.ensures.over.1 in
     let none : outcome (replacement definitions (keys_of fs) t) bank ≡ None = sym asked.body ∙ ap option_copied c.in-None-2.is in
-    let room : length fs < MAX_TURNS + 1 =
+    let room : length fs < turns_at_most + 1 =
     IsWithinTurns-room c.steps.progress.left (length fs) going (subst (λ (n : ℕ). IsWithinTurns c.steps.progress.left n) (sym (length-reverse c.steps.stack.entries)) inv.depth) in
-    let told : c.put.new.progress ≡ after_item rules (item (placed place.line t)) (reached bank (replacement definitions (keys_of fs) t) c.steps.progress) =
-    put.progress ∙ (λ i. after_item rules (inv.item i place (placed place.line t)) (asked.progress i)) in
+    let told : c.put.new.progress ≡ after_item rules (item t) (reached bank (replacement definitions (keys_of fs) t) c.steps.progress) =
+    put.progress ∙ (λ i. after_item rules (inv.item i place t) (asked.progress i)) in
     let spent : c.put.new.progress.left ≡ left_by it c.steps.progress.left =
     left-step bank definitions (keys_of fs) t it c.steps.progress c.replacement.new.progress c.put.new.progress asked.progress put.progress in
     record {
       progress = inv.progress
-          ∙ ap (λ (ts : List Token). reached bank (part fs ts) c.steps.progress) c.in-Some.ensures.cases.0
-          ∙ reached-pending-stands bank item place definitions (MAX_TURNS + 1) fs t rest c.steps.progress room none
+          ∙ ap (λ (ts : List (List ℕ)). reached bank (part fs ts) c.steps.progress) c.in-Some.ensures.cases.0
+          ∙ reached-pending-stands bank item place definitions (turns_at_most + 1) fs t rest c.steps.progress room none
           ∙ ap (reached bank (part fs rest)) (sym told);
       given = inv.given
-          ∙ ap (λ (ts : List Token). given_more (given c.steps.output) (outcome (part fs ts) bank)) c.in-Some.ensures.cases.0
-          ∙ ap (given_more (given c.steps.output)) (outcome-pending-stands bank item place definitions (MAX_TURNS + 1) fs t rest room none)
-          ∙ given_more-append (given c.steps.output) (placed place.line t ∷ []) (outcome (part fs rest) bank)
-          ∙ ap (λ (o : Option (List Token)). given_more o (outcome (part fs rest) bank)) (sym put.given);
+          ∙ ap (λ (ts : List (List ℕ)). given_more (given c.steps.output) (outcome (part fs ts) bank)) c.in-Some.ensures.cases.0
+          ∙ ap (given_more (given c.steps.output)) (outcome-pending-stands bank item place definitions (turns_at_most + 1) fs t rest room none)
+          ∙ given_more-append (given c.steps.output) (t ∷ []) (outcome (part fs rest) bank)
+          ∙ ap (λ (o : Option (List (List ℕ))). given_more o (outcome (part fs rest) bank)) (sym put.given);
       item = put.item ∙ inv.item;
       depth = subst (λ (o : Option Allowance). IsWithinTurns o (length c.steps.stack.entries)) (sym spent)
-          (IsWithinTurns-put c.steps.output place (placed place.line t) c.steps.progress.left (length c.steps.stack.entries) inv.depth);
+          (IsWithinTurns-put c.steps.output place t c.steps.progress.left (length c.steps.stack.entries) inv.depth);
     }
 
 pub steps-smaller : goal.steps-smaller
@@ -117,7 +115,7 @@ steps-smaller g c =
     let bank = g.B.Bank.at c.args.bank.now in
     let t = c.in-Some.token.now in
     let found : outcome (replacement c.args.definitions.now hidden t) bank ≡ Some c.in-Some-2.body.now = sym c.in_ok-replacement-in-Some.ensures.body ∙ ap option_copied c.in-Some-2.is in
-    let opened : c.insert.new.self.entries ≡ c.steps.stack.entries ++ (t.spelling, c.in-Some.rest) ∷ [] =
+    let opened : c.insert.new.self.entries ≡ c.steps.stack.entries ++ (t, c.in-Some.rest) ∷ [] =
     entries-opened bank c.args.definitions.now c.steps.stack t c.in-Some-2.body.now c.in_ok-clone-in-Some-2-2.field-0 c.in-Some.rest c.insert.new.self.entries
     found c.in_ok-clone-in-Some-2-2.ensures.cases c.in_ok-insert-in-Some-2.ensures.entries in
     let one_more : length c.insert.new.self.entries ≡ length c.steps.stack.entries + 1 = ap length opened ∙ length-append c.steps.stack.entries ((c.in-Some.token.now.spelling, c.in-Some.rest) ∷ []) in
@@ -132,19 +130,19 @@ steps-preserved g c =
     let place = c.args.place.now in
     let definitions = c.args.definitions.now in
     let item = item_of c.args.output.now place in
-    let part = pending bank item place definitions (MAX_TURNS + 1) in
+    let part = pending bank item place definitions (turns_at_most + 1) in
     let fs = reverse c.steps.stack.entries in
     let t = c.in-Some.token.now in
-    let f : Open = (t.spelling, c.in-Some.rest) in
+    let f : Open = (t, c.in-Some.rest) in
     let body = c.in-Some-2.body.now in
     let asked = c.in_ok-replacement-in-Some.ensures in
     let going = not_over c.is_over.result c.steps.progress.left c.steps-test.true c.is_over.ensures.over.1 in
     let found : outcome (replacement definitions (keys_of fs) t) bank ≡ Some body = sym asked.body ∙ ap option_copied c.in-Some-2.is in
-    let opened : c.insert.new.self.entries ≡ c.steps.stack.entries ++ (t.spelling, c.in-Some.rest) ∷ [] =
+    let opened : c.insert.new.self.entries ≡ c.steps.stack.entries ++ (t, c.in-Some.rest) ∷ [] =
     entries-opened bank c.args.definitions.now c.steps.stack t c.in-Some-2.body.now c.in_ok-clone-in-Some-2-2.field-0 c.in-Some.rest c.insert.new.self.entries
     found c.in_ok-clone-in-Some-2-2.ensures.cases c.in_ok-insert-in-Some-2.ensures.entries in
     let top : reverse c.insert.new.self.entries ≡ f ∷ fs = ap reverse opened ∙ reverse-append c.steps.stack.entries (f ∷ []) in
-    let room : length fs < MAX_TURNS + 1 =
+    let room : length fs < turns_at_most + 1 =
     IsWithinTurns-room c.steps.progress.left (length fs) going (subst (λ (n : ℕ). IsWithinTurns c.steps.progress.left n) (sym (length-reverse c.steps.stack.entries)) inv.depth) in
     let here : c.in_ok-clone-in-Some-2.field-0 ≡ place = λ i. record { file = c.in_ok-clone-in-Some-2.ensures.cases.0 i; line = c.in_ok-clone-in-Some-2.ensures.cases.1 i } in
     let told : c.tell.new.self ≡ after_item rules (Turn place) (reached bank (replacement definitions (keys_of fs) t) c.steps.progress) =
@@ -154,13 +152,13 @@ steps-preserved g c =
     let one_more : length c.insert.new.self.entries ≡ length c.steps.stack.entries + 1 = ap length opened ∙ length-append c.steps.stack.entries (f ∷ []) in
     record {
       progress = inv.progress
-          ∙ ap (λ (ts : List Token). reached bank (part fs ts) c.steps.progress) c.in-Some.ensures.cases.0
-          ∙ reached-pending-replaced bank item place definitions (MAX_TURNS + 1) fs t c.in-Some.rest body c.steps.progress room found
+          ∙ ap (λ (ts : List (List ℕ)). reached bank (part fs ts) c.steps.progress) c.in-Some.ensures.cases.0
+          ∙ reached-pending-replaced bank item place definitions (turns_at_most + 1) fs t c.in-Some.rest body c.steps.progress room found
           ∙ ap (reached bank (part (f ∷ fs) body)) (sym told)
           ∙ ap (λ (gs : List Open). reached bank (part gs body) c.tell.new.self) (sym top);
       given = inv.given
-          ∙ ap (λ (ts : List Token). given_more (given c.steps.output) (outcome (part fs ts) bank)) c.in-Some.ensures.cases.0
-          ∙ ap (given_more (given c.steps.output)) (outcome-pending-replaced bank item place definitions (MAX_TURNS + 1) fs t c.in-Some.rest body room found)
+          ∙ ap (λ (ts : List (List ℕ)). given_more (given c.steps.output) (outcome (part fs ts) bank)) c.in-Some.ensures.cases.0
+          ∙ ap (given_more (given c.steps.output)) (outcome-pending-replaced bank item place definitions (turns_at_most + 1) fs t c.in-Some.rest body room found)
           ∙ ap (λ (gs : List Open). given_more (given c.steps.output) (outcome (part gs body) bank)) (sym top);
       item = inv.item;
       depth = subst (λ (n : ℕ). IsWithinTurns c.tell.new.self.left n) (sym one_more)
@@ -171,5 +169,5 @@ steps-preserved g c =
 pub returns-clause-progress : goal.returns-clause-progress
 returns-clause-progress g c =
     let bank = g.B.Bank.at c.args.bank.now in
-    let rest = pending bank (item_of c.args.output.now c.args.place.now) c.args.place.now c.args.definitions.now (MAX_TURNS + 1) (reverse c.steps.stack.entries) c.steps.left.now in
+    let rest = pending bank (item_of c.args.output.now c.args.place.now) c.args.place.now c.args.definitions.now (turns_at_most + 1) (reverse c.steps.stack.entries) c.steps.left.now in
     sym (c.steps.invariant.progress ∙ after-over rules key_eq bank rest c.steps.progress (c.is_over.ensures.over.0 c.steps-test.false))

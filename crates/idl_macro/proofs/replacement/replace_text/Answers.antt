@@ -1,6 +1,5 @@
 use Rattle.std.proofs.Common.{◌≡◌, ◌<◌, [], ◌∷◌, length, get_or, ap, ◌∙◌, arith}
-use Rattle.idl_lex.specs.declared.token.Token.{Token}
-use Rattle.idl_macro.specs.declared.place.Place.{Place}
+use Rattle.idl_event.specs.declared.place.Place.{Place}
 use Rattle.idl_macro.proofs.ReplaceLemmas.{reached-text-drop}
 use Rattle.idl_macro.proofs.replacement.replace_text.Goals as goal
 

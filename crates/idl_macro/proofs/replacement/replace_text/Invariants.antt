@@ -1,5 +1,5 @@
 use Rattle.std.proofs.Common.{◌≡◌, drop}
-use Rattle.idl_macro.specs.Macros.{reached}
+use Rattle.idl_event.specs.Expanding.{reached}
 use Rattle.idl_macro.specs.Output.{item_of}
 use Rattle.idl_macro.specs.Replace.{text}
 use Rattle.idl_macro.specs.declared.replacement.Output.TheVariants as output

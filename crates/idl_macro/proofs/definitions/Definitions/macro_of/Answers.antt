@@ -1,10 +1,10 @@
 use Rattle.std.proofs.Common.{◌≡◌, Some, None, sym, ap, ◌∙◌}
 use Rattle.std.specs.Map.{lookup}
 use Rattle.std.specs.Str.{bytes_eq}
-use Rattle.idl_macro.specs.Key.{key_eq}
+use Rattle.idl_event.specs.Key.{key_eq}
 use Rattle.idl_macro.specs.Macros.{body_in}
 use Rattle.idl_base.specs.Progress.{after_key}
-use Rattle.idl_macro.specs.declared.key.Key.TheVariants as key
+use Rattle.idl_event.specs.declared.key.Key.TheVariants as key
 use Rattle.idl_macro.proofs.MacroLemmas.{outcome-macro_of-said, reached-macro_of-said, outcome-macro_of-asked, reached-macro_of-asked}
 use Rattle.idl_macro.proofs.definitions.Definitions.macro_of.Goals as goal
 
