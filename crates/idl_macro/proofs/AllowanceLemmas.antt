@@ -11,6 +11,7 @@ use Rattle.idl_event.specs.Expanding.{Reached, reached}
 use Rattle.idl_macro.specs.Macros.{Definitions, body_in, macro_of}
 use Rattle.idl_macro.specs.Output.{item_of}
 use Rattle.idl_macro.specs.Replace.{replacement}
+use Rattle.idl_lex.specs.Tokens.{Token}
 use Rattle.idl_lex.specs.Word.{is_word}
 use Rattle.idl_event.specs.declared.allowance.Allowance.{Allowance}
 use Rattle.idl_event.specs.Limits.{turns_at_most}
@@ -35,7 +36,7 @@ pub left-after_key : (bank : Key → Option Answer) (k : Key) (p : Reached) → 
 left-after_key bank k p = left-with_key bank k p p.left
 
 -- nor does the macro of a word
-left-said : (bank : Key → Option Answer) (word : List ℕ) (p : Reached) (said : Option (Option (List (List ℕ))))
+left-said : (bank : Key → Option Answer) (word : List ℕ) (p : Reached) (said : Option (Option (List Token)))
     → (reached bank (elim said [ None ↦ Ask (key.Macro word) (λ found. Done (body_in found)) | Some body ↦ Done body ]) p).left ≡ p.left
 left-said bank word p None = left-after_key bank (key.Macro word) p
 left-said bank word p (Some body) = refl
@@ -50,7 +51,7 @@ left-if : (bank : Key → Option Answer) (definitions : Definitions) (word : Lis
 left-if bank definitions word p true = left-macro_of bank definitions word p
 left-if bank definitions word p false = refl
 
-pub left-replacement : (bank : Key → Option Answer) (definitions : Definitions) (hidden : List (List ℕ)) (t : List ℕ) (p : Reached) → (reached bank (replacement definitions hidden t) p).left ≡ p.left
+pub left-replacement : (bank : Key → Option Answer) (definitions : Definitions) (hidden : List (List ℕ)) (t : Token) (p : Reached) → (reached bank (replacement definitions hidden t) p).left ≡ p.left
 unfolding replacement
 left-replacement bank definitions hidden t p = left-if bank definitions t p (is_word t && not (list_any (bytes_eq t) hidden))
 
@@ -123,7 +124,7 @@ spend_token_within : (left : Allowance) (opened : ℕ) (b : Bool) → opened ≤
 spend_token_within left opened true h = tt {0}
 spend_token_within left opened false h = h
 
-pub IsWithinTurns-put : (output : Output) (place : Place) (t : List ℕ) (left : Option Allowance) (opened : ℕ) → IsWithinTurns left opened → IsWithinTurns (left_by (item_of output place t) left) opened
+pub IsWithinTurns-put : (output : Output) (place : Place) (t : Token) (left : Option Allowance) (opened : ℕ) → IsWithinTurns left opened → IsWithinTurns (left_by (item_of output place t) left) opened
 IsWithinTurns-put output place t None opened h = tt {0}
 IsWithinTurns-put Text place t (Some left) opened h = spend_token_within left opened (nat_eq left.tokens 0) h
 IsWithinTurns-put (Operand tokens) place t (Some left) opened h = spend_token_within left opened (nat_eq left.tokens 0) h
@@ -133,7 +134,7 @@ spend_token_work : (left : Allowance) (opened : ℕ) (b : Bool) → (b ≡ false
 spend_token_work left opened true some = omega arith
 spend_token_work left opened false some = let more = some refl in omega arith
 
-pub work_left-put : (output : Output) (place : Place) (t : List ℕ) (left : Option Allowance) (opened : ℕ) → left ≢ None → work_left (left_by (item_of output place t) left) opened < work_left left opened
+pub work_left-put : (output : Output) (place : Place) (t : Token) (left : Option Allowance) (opened : ℕ) → left ≢ None → work_left (left_by (item_of output place t) left) opened < work_left left opened
 work_left-put output place t None opened some = absurd (some refl)
 work_left-put Text place t (Some left) opened some = spend_token_work left opened (nat_eq left.tokens 0) (no_zero left.tokens)
 work_left-put (Operand tokens) place t (Some left) opened some = spend_token_work left opened (nat_eq left.tokens 0) (no_zero left.tokens)
@@ -143,7 +144,7 @@ pub not_over : (b : Bool) (left : Option Allowance) → b ≡ false → (left �
 not_over b left going ends e = let ended = ends e in cc
 
 -- what a step leaves: what is asked takes nothing, and then an item is told
-pub left-step : (bank : Key → Option Answer) (definitions : Definitions) (hidden : List (List ℕ)) (t : List ℕ) (item : Item) (p asked told : Reached)
+pub left-step : (bank : Key → Option Answer) (definitions : Definitions) (hidden : List (List ℕ)) (t : Token) (item : Item) (p asked told : Reached)
     → asked ≡ reached bank (replacement definitions hidden t) p → told ≡ after_item rules item asked → told.left ≡ left_by item p.left
 left-step bank definitions hidden t item p asked told ask tell =
     ap (λ (r : Reached). r.left) tell

@@ -1,113 +1,63 @@
--- What the directives of macros ask and tell, and what comes of them.
-use Rattle.std.proofs.Common.{◌≡◌, ℕ, ◌+◌, ◌<◌, Bool, ◌&&◌, if◌then◌else◌, List, Option, None, Some, Bor, is_some, length, drop, get_or, refl, sym, ap, ◌∙◌, add-one, drop-cons}
-use Rattle.std.specs.Option.{option_copied}
-use Rattle.std.specs.Str.{bytes_eq}
-use Rattle.idl_base.specs.Progress.{after_item, after-and_then}
-use Rattle.idl_base.specs.Query.{Done, Tell, and_then, outcome}
-use Rattle.idl_base.specs.QueryLaws.{outcome-and_then}
-use Rattle.idl_macro.specs.Directives.{define, defining, definition_in, differs, first_word, ifdef, ifndef, is_macro_there, is_missing, is_there, same_tokens, saying, undef}
-use Rattle.idl_event.specs.Items.{rules}
-use Rattle.idl_event.specs.Key.{key_eq}
-use Rattle.idl_event.specs.Expanding.{Reached, Expanding, reached}
-use Rattle.idl_macro.specs.Macros.{Definitions, macro_of}
+-- What the directives of macros ask and tell, by what their operands are.
+use Rattle.std.proofs.Common.{◌≡◌, ℕ, Bool, if◌then◌else◌, List, Option, None, Some, Bor, is_some, refl, ap, ◌∙◌}
+use Rattle.std.specs.Option.{option_copied, option_map}
+use Rattle.idl_base.specs.Query.{Done, Tell, and_then}
+use Rattle.idl_event.specs.Expanding.{Expanding, Reached, arrival, arrived}
 use Rattle.idl_event.specs.declared.code.Code.TheVariants.{MalformedMacro, OtherDefinition}
-use Rattle.idl_event.specs.declared.event.Item.TheVariants.{Fault}
+use Rattle.idl_event.specs.declared.event.Event.TheVariants.{Fault}
+use Rattle.idl_event.specs.declared.event.Item.TheVariants.{Kept}
 use Rattle.idl_event.specs.declared.key.Answer.{Answer}
 use Rattle.idl_event.specs.declared.key.Key.{Key}
 use Rattle.idl_event.specs.declared.place.Place.{Place}
+use Rattle.idl_lex.specs.Tokens.{Token, tokens_in}
+use Rattle.idl_lex.specs.declared.token.PlacedToken.{PlacedToken}
+use Rattle.idl_macro.specs.Directives.{define, defining, definition_in, differs, first_word, is_macro_there, saying, undef}
+use Rattle.idl_macro.specs.Macros.{Definitions, macro_of}
+use Rattle.idl_macro.proofs.ArrivalLemmas.{arrival-and_then}
 
 -- what is there is there when it is read
-pub is_some-option_copied : (body : Option (Bor (List (List ℕ)))) → is_some body ≡ is_some (option_copied body)
-is_some-option_copied None = refl
-is_some-option_copied (Some body) = refl
+pub is_some-tokens : (body : Option (Bor (List PlacedToken))) → is_some body ≡ is_some (option_map tokens_in (option_copied body))
+is_some-tokens None = refl
+is_some-tokens (Some body) = refl
 
--- bodies are the same if their first tokens are, and what follows them
-pub same_tokens-drop : (body other : List (List ℕ)) (i : ℕ) (d : Token) → i < length body → i < length other
-    → same_tokens (drop i body) (drop i other) ≡ (bytes_eq (get_or body i d).spelling (get_or other i d).spelling && same_tokens (drop (i + 1) body) (drop (i + 1) other))
-same_tokens-drop body other i d h k = rw (add-one, drop-cons body i d, drop-cons other i d) refl
-
-module _ (bank : Key → Option Answer) (place : Place) (directive : List ℕ) (definitions : Definitions) (tokens : List (List ℕ)) (p : Reached) where
-  -- `undef`
+module _ (place : Place) (word : List ℕ) (definitions : Definitions) (operands : List PlacedToken) where
+  -- `undef`, by the word that its operands begin with
   abbrev removing : Option (List ℕ) → Expanding Definitions
-  removing word = elim word [ None ↦ Tell (Fault place MalformedMacro (Some directive)) (Done definitions) | Some w ↦ Done (saying definitions w None) ]
+  removing name = elim name [ None ↦ Tell (Kept (Fault place MalformedMacro (Some word))) (Done definitions) | Some w ↦ Done (saying definitions w None) ]
 
-  pub outcome-undef : (word : Option (List ℕ)) → first_word tokens ≡ word → outcome (undef place directive definitions tokens) bank ≡ outcome (removing word) bank
+  pub undef-by : (name : Option (List ℕ)) → name ≡ first_word operands → removing name ≡ undef place word definitions operands
   unfolding undef
-  outcome-undef word first = ap (λ w. outcome (removing w) bank) first
+  undef-by name first = ap removing first
 
-  pub reached-undef : (word : Option (List ℕ)) → first_word tokens ≡ word → reached bank (undef place directive definitions tokens) p ≡ reached bank (removing word) p
-  unfolding undef
-  reached-undef word first = ap (λ w. reached bank (removing w) p) first
-
-  -- whether a macro is there
+  -- whether a macro is there, by that word
   abbrev finding : Option (List ℕ) → Expanding (Option Bool)
-  finding word = elim word [
-    | None ↦ Tell (Fault place MalformedMacro (Some directive)) (Done None)
+  finding name = elim name [
+    | None ↦ Tell (Kept (Fault place MalformedMacro (Some word))) (Done None)
     | Some w ↦ and_then (macro_of definitions w) (λ body. Done (Some (is_some body)))
   ]
 
-  pub outcome-is_macro_there-word : (word : List ℕ) → first_word tokens ≡ Some word → outcome (is_macro_there place directive definitions tokens) bank ≡ Some (is_some (outcome (macro_of definitions word) bank))
+  pub is_macro_there-by : (name : Option (List ℕ)) → name ≡ first_word operands → finding name ≡ is_macro_there place word definitions operands
   unfolding is_macro_there
-  outcome-is_macro_there-word word first = ap (λ w. outcome (finding w) bank) first ∙ outcome-and_then (macro_of definitions word) (λ body. Done (Some (is_some body))) bank
+  is_macro_there-by name first = ap finding first
 
-  pub reached-is_macro_there-word : (word : List ℕ) → first_word tokens ≡ Some word → reached bank (is_macro_there place directive definitions tokens) p ≡ reached bank (macro_of definitions word) p
-  unfolding is_macro_there
-  reached-is_macro_there-word word first = ap (λ w. reached bank (finding w) p) first ∙ after-and_then rules key_eq bank (macro_of definitions word) (λ body. Done (Some (is_some body))) p
-
-  pub outcome-is_macro_there-none : first_word tokens ≡ None → outcome (is_macro_there place directive definitions tokens) bank ≡ None
-  unfolding is_macro_there
-  outcome-is_macro_there-none first = ap (λ w. outcome (finding w) bank) first
-
-  pub reached-is_macro_there-none : first_word tokens ≡ None → reached bank (is_macro_there place directive definitions tokens) p ≡ after_item rules (Fault place MalformedMacro (Some directive)) p
-  unfolding is_macro_there
-  reached-is_macro_there-none first = ap (λ w. reached bank (finding w) p) first
-
-  -- `ifdef` and `ifndef`
-  pub outcome-ifdef : (there : Option Bool) → there ≡ outcome (is_macro_there place directive definitions tokens) bank → is_there there ≡ outcome (ifdef place directive definitions tokens) bank
-  unfolding ifdef
-  outcome-ifdef there found = ap is_there found ∙ sym (outcome-and_then (is_macro_there place directive definitions tokens) (λ t. Done (is_there t)) bank)
-
-  pub reached-ifdef : reached bank (ifdef place directive definitions tokens) p ≡ reached bank (is_macro_there place directive definitions tokens) p
-  unfolding ifdef
-  reached-ifdef = after-and_then rules key_eq bank (is_macro_there place directive definitions tokens) (λ t. Done (is_there t)) p
-
-  pub outcome-ifndef : (there : Option Bool) → there ≡ outcome (is_macro_there place directive definitions tokens) bank → is_missing there ≡ outcome (ifndef place directive definitions tokens) bank
-  unfolding ifndef
-  outcome-ifndef there found = ap is_missing found ∙ sym (outcome-and_then (is_macro_there place directive definitions tokens) (λ t. Done (is_missing t)) bank)
-
-  pub reached-ifndef : reached bank (ifndef place directive definitions tokens) p ≡ reached bank (is_macro_there place directive definitions tokens) p
-  unfolding ifndef
-  reached-ifndef = after-and_then rules key_eq bank (is_macro_there place directive definitions tokens) (λ t. Done (is_missing t)) p
-
-  -- `define`
-  abbrev definition : Option (List ℕ × List (List ℕ)) → Expanding Definitions
-  definition found = elim found [
-    | None ↦ Tell (Fault place MalformedMacro (Some directive)) (Done definitions)
+  -- `define`, by the definition that its operands give
+  abbrev defining_by : Option (List ℕ × List Token) → Expanding Definitions
+  defining_by found = elim found [
+    | None ↦ Tell (Kept (Fault place MalformedMacro (Some word))) (Done definitions)
     | Some d ↦ and_then (macro_of definitions d.0) (defining place definitions d.0 d.1)
   ]
 
-  pub outcome-define-malformed : definition_in tokens ≡ None → outcome (define place directive definitions tokens) bank ≡ definitions
+  pub define-by : (found : Option (List ℕ × List Token)) → found ≡ definition_in operands → defining_by found ≡ define place word definitions operands
   unfolding define
-  outcome-define-malformed found = ap (λ d. outcome (definition d) bank) found
+  define-by found given = ap defining_by given
 
-  pub reached-define-malformed : definition_in tokens ≡ None → reached bank (define place directive definitions tokens) p ≡ after_item rules (Fault place MalformedMacro (Some directive)) p
-  unfolding define
-  reached-define-malformed found = ap (λ d. reached bank (definition d) p) found
-
-  module _ (word : List ℕ) (body : List (List ℕ)) (found : definition_in tokens ≡ Some (word, body)) (is_other : Bool) (differs_is : differs (outcome (macro_of definitions word) bank) body ≡ is_other) where
+  module _ (bank : Key → Option Answer) (p q : Reached) (name : List ℕ) (body : List Token) (old : Option (List Token)) (given : Some (name, body) ≡ definition_in operands) (found : arrived old q ≡ arrival bank (macro_of definitions name) p) where
+    -- a macro is defined, or it is there with other tokens
     abbrev chosen : Bool → Expanding Definitions
-    chosen b = if b then Tell (Fault place OtherDefinition (Some word)) (Done definitions) else Done (saying definitions word (Some body))
+    chosen other = if other then Tell (Kept (Fault place OtherDefinition (Some name))) (Done definitions) else Done (saying definitions name (Some body))
 
-    pub outcome-define : outcome (define place directive definitions tokens) bank ≡ outcome (chosen is_other) bank
-    unfolding define
-    outcome-define =
-        ap (λ d. outcome (definition d) bank) found
-        ∙ outcome-and_then (macro_of definitions word) (defining place definitions word body) bank
-        ∙ ap (λ b. outcome (chosen b) bank) differs_is
-
-    pub reached-define : reached bank (define place directive definitions tokens) p ≡ reached bank (chosen is_other) (reached bank (macro_of definitions word) p)
-    unfolding define
-    reached-define =
-        ap (λ d. reached bank (definition d) p) found
-        ∙ after-and_then rules key_eq bank (macro_of definitions word) (defining place definitions word body) p
-        ∙ ap (λ b. reached bank (chosen b) (reached bank (macro_of definitions word) p)) differs_is
+    pub arrival-define : (other : Bool) → other ≡ differs old body → arrival bank (chosen other) q ≡ arrival bank (define place word definitions operands) p
+    arrival-define other same =
+        ap (λ b. arrival bank (chosen b) q) same
+        ∙ arrival-and_then bank (macro_of definitions name) (defining place definitions name body) old p q found
+        ∙ ap (λ query. arrival bank query p) (define-by (Some (name, body)) given)

@@ -1,4 +1,5 @@
 pub mod AllowanceLemmas
+pub mod ArrivalLemmas
 pub mod ConditionLemmas
 pub mod DirectiveLemmas
 pub mod MacroLemmas

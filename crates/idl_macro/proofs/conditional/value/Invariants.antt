@@ -3,4 +3,4 @@ use Rattle.idl_condition.specs.Symbol.{symbol_of}
 use Rattle.idl_macro.proofs.conditional.value.Given as goal
 
 abbrev pub invariant-tokens : goal.invariant-tokens
-invariant-tokens l = l.symbols.items ≡ map (λ t. symbol_of t) (take l.token-index l.tokens)
+invariant-tokens l = l.symbols.items ≡ map symbol_of (take l.token-index l.tokens)

@@ -1,62 +1,34 @@
-use Rattle.std.proofs.Common.{◌≡◌, List, Option, Some, true, false, sym, ap, ◌∙◌}
-use Rattle.std.specs.Str.{bytes_eq}
-use Rattle.indexmap.specs.IndexMap.{insert_entry}
-use Rattle.idl_base.specs.Progress.{after_item}
-use Rattle.idl_base.specs.Query.{outcome}
-use Rattle.idl_macro.specs.Directives.{differs}
-use Rattle.idl_event.specs.Items.{rules}
-use Rattle.idl_macro.specs.Macros.{macro_of}
-use Rattle.idl_event.specs.declared.code.Code.TheVariants.{OtherDefinition}
-use Rattle.idl_event.specs.declared.event.Item.TheVariants.{Fault}
-use Rattle.idl_macro.proofs.DirectiveLemmas.{outcome-define, reached-define, outcome-define-malformed, reached-define-malformed}
+use Rattle.std.proofs.Common.{None, Some, true, false, ap, ◌∙◌}
+use Rattle.std.proofs.lemmas.Result.{on_ok_weaker}
+use Rattle.std.specs.Option.{option_copied, option_map}
+use Rattle.idl_event.specs.Expanding.{arrival, arrived}
+use Rattle.idl_lex.specs.Tokens.{tokens_in}
+use Rattle.idl_macro.specs.Directives.{differs, saying}
+use Rattle.idl_macro.proofs.DirectiveLemmas.{arrival-define, define-by}
 use Rattle.idl_macro.proofs.directive.define.Goals as goal
 
-pub returns-in_default-clause-definitions : goal.returns-in_default-clause-definitions
-returns-in_default-clause-definitions g c =
-    sym (outcome-define-malformed (g.B.Bank.at c.args.bank.now) c.args.place.now c.args.directive.now c.args.definitions.now c.args.tokens.now c.args.progress.now (sym c.in_default.ensures))
+pub returns-in_default : goal.returns-in_default
+returns-in_default g c =
+    let it = c.args.directive.now in
+    on_ok_weaker c.malformed.result
+    (λ told. ap (arrived c.args.definitions.now) told
+        ∙ ap (λ query. arrival (g.B.Bank.at c.args.bank.now) query c.args.progress.now) (define-by it.place it.word.now c.args.definitions.now it.operands None c.in_default.ensures))
+    c.malformed.ensures
 
-pub returns-in_default-clause-progress : goal.returns-in_default-clause-progress
-returns-in_default-clause-progress g c =
-    c.in_ok-malformed.ensures
-    ∙ sym (reached-define-malformed (g.B.Bank.at c.args.bank.now) c.args.place.now c.args.directive.now c.args.definitions.now c.args.tokens.now c.args.progress.now (sym c.in_default.ensures))
+pub returns-then-differs : goal.returns-then-differs
+returns-then-differs g c =
+    let it = c.args.directive.now in
+    let old = option_map tokens_in (option_copied c.in_ok-old.old) in
+    on_ok_weaker c.other_definition.result
+    (λ told. ap (arrived c.args.definitions.now) told
+        ∙ arrival-define it.place it.word.now c.args.definitions.now it.operands (g.B.Bank.at c.args.bank.now) c.args.progress.now c.macro_of.new.progress
+            c.in-Some.word.now (tokens_in c.in-Some.body) old c.in-Some.ensures c.in_ok-old.ensures true (c.if-differs.ensures ∙ ap (λ body. differs old (tokens_in body)) c.as_slice.ensures))
+    c.other_definition.ensures
 
-pub returns-then-differs-clause-definitions : goal.returns-then-differs-clause-definitions
-returns-then-differs-clause-definitions g c =
-    let bank = g.B.Bank.at c.args.bank.now in
-    let word = c.in-Some.word.now in
-    let body = c.in-Some.body.now in
-    let other : differs (outcome (macro_of c.args.definitions.now word) bank) body ≡ true =
-    ap (λ (o : Option (List (List ℕ))). differs o body) (sym c.in_ok-old.ensures.body) ∙ sym c.differs.ensures ∙ c.if-differs.true in
-    sym (outcome-define bank c.args.place.now c.args.directive.now c.args.definitions.now c.args.tokens.now c.args.progress.now word body (sym c.in-Some.ensures) true other)
-
-pub returns-then-differs-clause-progress : goal.returns-then-differs-clause-progress
-returns-then-differs-clause-progress g c =
-    let bank = g.B.Bank.at c.args.bank.now in
-    let word = c.in-Some.word.now in
-    let body = c.in-Some.body.now in
-    let other : differs (outcome (macro_of c.args.definitions.now word) bank) body ≡ true =
-    ap (λ (o : Option (List (List ℕ))). differs o body) (sym c.in_ok-old.ensures.body) ∙ sym c.differs.ensures ∙ c.if-differs.true in
-    c.in_ok-other_definition.ensures
-    ∙ ap (after_item rules (Fault c.args.place.now OtherDefinition (Some word))) c.in_ok-old.ensures.progress
-    ∙ sym (reached-define bank c.args.place.now c.args.directive.now c.args.definitions.now c.args.tokens.now c.args.progress.now word body (sym c.in-Some.ensures) true other)
-
-pub returns-clause-definitions : goal.returns-clause-definitions
-returns-clause-definitions g c =
-    let bank = g.B.Bank.at c.args.bank.now in
-    let word = c.in-Some.word.now in
-    let body = c.in-Some.body.now in
-    let same : differs (outcome (macro_of c.args.definitions.now word) bank) body ≡ false =
-    ap (λ (o : Option (List (List ℕ))). differs o body) (sym c.in_ok-old.ensures.body) ∙ sym c.differs.ensures ∙ c.if-differs.false in
-    c.in_ok-define.ensures
-    ∙ ap (λ (b : List (List ℕ)). insert_entry bytes_eq c.args.definitions.now word (Some b)) c.in_ok-new.ensures
-    ∙ sym (outcome-define bank c.args.place.now c.args.directive.now c.args.definitions.now c.args.tokens.now c.args.progress.now word body (sym c.in-Some.ensures) false same)
-
-pub returns-clause-progress : goal.returns-clause-progress
-returns-clause-progress g c =
-    let bank = g.B.Bank.at c.args.bank.now in
-    let word = c.in-Some.word.now in
-    let body = c.in-Some.body.now in
-    let same : differs (outcome (macro_of c.args.definitions.now word) bank) body ≡ false =
-    ap (λ (o : Option (List (List ℕ))). differs o body) (sym c.in_ok-old.ensures.body) ∙ sym c.differs.ensures ∙ c.if-differs.false in
-    c.in_ok-old.ensures.progress
-    ∙ sym (reached-define bank c.args.place.now c.args.directive.now c.args.definitions.now c.args.tokens.now c.args.progress.now word body (sym c.in-Some.ensures) false same)
+pub returns : goal.returns
+returns g c =
+    let it = c.args.directive.now in
+    let old = option_map tokens_in (option_copied c.in_ok-old.old) in
+    ap (λ definitions. arrived definitions c.macro_of.new.progress) (c.in_ok-define.ensures ∙ ap (λ body. saying c.args.definitions.now c.in-Some.word.now (Some body)) c.in_ok-shared.ensures)
+    ∙ arrival-define it.place it.word.now c.args.definitions.now it.operands (g.B.Bank.at c.args.bank.now) c.args.progress.now c.macro_of.new.progress
+        c.in-Some.word.now (tokens_in c.in-Some.body) old c.in-Some.ensures c.in_ok-old.ensures false (c.if-differs.ensures ∙ ap (λ body. differs old (tokens_in body)) c.as_slice.ensures)

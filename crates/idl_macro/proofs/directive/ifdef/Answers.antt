@@ -1,21 +1,20 @@
-use Rattle.std.proofs.Common.{None, Some, sym, ◌∙◌}
-use Rattle.idl_macro.proofs.DirectiveLemmas.{outcome-ifdef, reached-ifdef}
+use Rattle.std.proofs.Common.{None, Some, sym, ap, ◌∙◌}
+use Rattle.idl_base.specs.Query.{Done}
+use Rattle.idl_event.specs.Expanding.{arrived}
+use Rattle.idl_macro.specs.Directives.{ifdef, is_macro_there, is_there}
+use Rattle.idl_macro.proofs.ArrivalLemmas.{arrival-and_then}
 use Rattle.idl_macro.proofs.directive.ifdef.Goals as goal
 
-pub returns-in-Some-clause-taken : goal.returns-in-Some-clause-taken
-returns-in-Some-clause-taken g c =
-    outcome-ifdef (g.B.Bank.at c.args.bank.now) c.args.place.now c.args.directive.now c.args.definitions.now c.args.tokens.now c.args.progress.now (Some c.in-Some.is_there) (sym c.in-Some.is ∙ c.in_ok-is_there.ensures.there)
+pub returns-in-Some : goal.returns-in-Some
+unfolding ifdef
+returns-in-Some g c =
+    let it = c.args.directive.now in
+    arrival-and_then (g.B.Bank.at c.args.macros.now.bank.now) (is_macro_there it.place it.word.now c.args.macros.now.definitions.now it.operands) (λ there. Done (is_there there))
+    (Some c.in-Some.is_there) c.args.progress.now c.is_macro_there.new.progress (ap (λ there. arrived there c.is_macro_there.new.progress) (sym c.in-Some.is) ∙ c.in_ok-is_there.ensures)
 
-pub returns-in-Some-clause-progress : goal.returns-in-Some-clause-progress
-returns-in-Some-clause-progress g c =
-    c.in_ok-is_there.ensures.progress
-    ∙ sym (reached-ifdef (g.B.Bank.at c.args.bank.now) c.args.place.now c.args.directive.now c.args.definitions.now c.args.tokens.now c.args.progress.now)
-
-pub returns-in-None-clause-taken : goal.returns-in-None-clause-taken
-returns-in-None-clause-taken g c =
-    outcome-ifdef (g.B.Bank.at c.args.bank.now) c.args.place.now c.args.directive.now c.args.definitions.now c.args.tokens.now c.args.progress.now None (sym c.in-None.is ∙ c.in_ok-is_there.ensures.there)
-
-pub returns-in-None-clause-progress : goal.returns-in-None-clause-progress
-returns-in-None-clause-progress g c =
-    c.in_ok-is_there.ensures.progress
-    ∙ sym (reached-ifdef (g.B.Bank.at c.args.bank.now) c.args.place.now c.args.directive.now c.args.definitions.now c.args.tokens.now c.args.progress.now)
+pub returns-in-None : goal.returns-in-None
+unfolding ifdef
+returns-in-None g c =
+    let it = c.args.directive.now in
+    arrival-and_then (g.B.Bank.at c.args.macros.now.bank.now) (is_macro_there it.place it.word.now c.args.macros.now.definitions.now it.operands) (λ there. Done (is_there there))
+    None c.args.progress.now c.is_macro_there.new.progress (ap (λ there. arrived there c.is_macro_there.new.progress) (sym c.in-None.is) ∙ c.in_ok-is_there.ensures)

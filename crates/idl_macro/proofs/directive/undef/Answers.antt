@@ -1,21 +1,22 @@
-use Rattle.std.proofs.Common.{None, Some, sym, ◌∙◌}
-use Rattle.idl_macro.proofs.DirectiveLemmas.{outcome-undef, reached-undef}
+use Rattle.std.proofs.Common.{None, Some, ap, ◌∙◌}
+use Rattle.std.proofs.lemmas.Result.{on_ok_weaker}
+use Rattle.idl_event.specs.Expanding.{arrival, arrived}
+use Rattle.idl_macro.specs.Directives.{first_word}
+use Rattle.idl_macro.proofs.DirectiveLemmas.{undef-by}
 use Rattle.idl_macro.proofs.directive.undef.Goals as goal
 
-pub returns-in_ok-remove-in-Some-clause-definitions : goal.returns-in_ok-remove-in-Some-clause-definitions
-returns-in_ok-remove-in-Some-clause-definitions g c = λ bank.
-    c.in_ok-remove-in-Some.ensures
-    ∙ sym (outcome-undef bank c.args.place.now c.args.directive.now c.args.definitions.now c.args.tokens.now c.args.progress.now (Some c.in-Some.word.now) (sym c.in-Some.ensures))
+pub returns-in_ok-remove-in-Some : goal.returns-in_ok-remove-in-Some
+returns-in_ok-remove-in-Some g c = λ bank.
+    let it = c.args.directive.now in
+    ap (λ definitions. arrived definitions c.args.progress.now) c.in_ok-remove-in-Some.ensures
+    ∙ ap (λ query. arrival bank query c.args.progress.now)
+        (undef-by it.place it.word.now c.args.definitions.now it.operands (Some c.in-Some.word.now) (c.in-Some.ensures ∙ ap first_word c.as_slice.ensures))
 
-pub returns-in_ok-remove-in-Some-clause-progress : goal.returns-in_ok-remove-in-Some-clause-progress
-returns-in_ok-remove-in-Some-clause-progress g c = λ bank.
-    sym (reached-undef bank c.args.place.now c.args.directive.now c.args.definitions.now c.args.tokens.now c.args.progress.now (Some c.in-Some.word.now) (sym c.in-Some.ensures))
-
-pub returns-in_ok-malformed-in-None-clause-definitions : goal.returns-in_ok-malformed-in-None-clause-definitions
-returns-in_ok-malformed-in-None-clause-definitions g c = λ bank.
-    sym (outcome-undef bank c.args.place.now c.args.directive.now c.args.definitions.now c.args.tokens.now c.args.progress.now None (sym c.in-None.ensures))
-
-pub returns-in_ok-malformed-in-None-clause-progress : goal.returns-in_ok-malformed-in-None-clause-progress
-returns-in_ok-malformed-in-None-clause-progress g c = λ bank.
-    c.in_ok-malformed-in-None.ensures
-    ∙ sym (reached-undef bank c.args.place.now c.args.directive.now c.args.definitions.now c.args.tokens.now c.args.progress.now None (sym c.in-None.ensures))
+pub returns-in-None : goal.returns-in-None
+returns-in-None g c =
+    let it = c.args.directive.now in
+    on_ok_weaker c.malformed.result
+    (λ told bank. ap (arrived c.args.definitions.now) told
+        ∙ ap (λ query. arrival bank query c.args.progress.now)
+            (undef-by it.place it.word.now c.args.definitions.now it.operands None (c.in-None.ensures ∙ ap first_word c.as_slice.ensures)))
+    c.malformed.ensures

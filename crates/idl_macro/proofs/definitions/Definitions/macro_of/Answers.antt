@@ -1,39 +1,26 @@
 use Rattle.std.proofs.Common.{◌≡◌, Some, None, sym, ap, ◌∙◌}
 use Rattle.std.specs.Map.{lookup}
 use Rattle.std.specs.Str.{bytes_eq}
-use Rattle.idl_event.specs.Key.{key_eq}
-use Rattle.idl_macro.specs.Macros.{body_in}
 use Rattle.idl_base.specs.Progress.{after_key}
+use Rattle.idl_event.specs.Expanding.{arrival, arrived}
+use Rattle.idl_event.specs.Key.{key_eq}
 use Rattle.idl_event.specs.declared.key.Key.TheVariants as key
-use Rattle.idl_macro.proofs.MacroLemmas.{outcome-macro_of-said, reached-macro_of-said, outcome-macro_of-asked, reached-macro_of-asked}
+use Rattle.idl_macro.specs.Macros.{body_in}
+use Rattle.idl_macro.proofs.MacroLemmas.{macro_of-asked, macro_of-said}
 use Rattle.idl_macro.proofs.definitions.Definitions.macro_of.Goals as goal
 
-pub returns-in-Some-clause-body : goal.returns-in-Some-clause-body
-returns-in-Some-clause-body g c =
-    let word = c.args.word.now in
-    let said : lookup (bytes_eq word) c.args.self.now ≡ Some c.in-Some.said.now = ap (lookup (bytes_eq word)) (sym c.self.view_is) ∙ sym c.in-Some.ensures.value in
-    c.tokens_in.ensures ∙ c.as_ref.ensures.value ∙ sym (outcome-macro_of-said (g.B.Bank.at c.args.bank.now) c.args.self.now word c.in-Some.said.now said)
+pub returns-in-Some : goal.returns-in-Some
+returns-in-Some g c =
+    let said : lookup (bytes_eq c.args.word.now) c.args.self.now ≡ Some c.in-Some.said.now = ap (lookup (bytes_eq c.args.word.now)) (sym c.self.view_is) ∙ sym c.in-Some.ensures.value in
+    ap (λ body. arrived body c.args.progress.now) (c.tokens_of.ensures ∙ c.as_ref.ensures.value)
+    ∙ sym (ap (λ query. arrival (g.B.Bank.at c.args.bank.now) query c.args.progress.now) (macro_of-said c.args.self.now c.args.word.now c.in-Some.said.now said))
 
-pub returns-in-Some-clause-progress : goal.returns-in-Some-clause-progress
-returns-in-Some-clause-progress g c =
-    let word = c.args.word.now in
-    let said : lookup (bytes_eq word) c.args.self.now ≡ Some c.in-Some.said.now = ap (lookup (bytes_eq word)) (sym c.self.view_is) ∙ sym c.in-Some.ensures.value in
-    sym (reached-macro_of-said (g.B.Bank.at c.args.bank.now) c.args.self.now word c.args.progress.now c.in-Some.said.now said)
-
-pub returns-in_ok-answer-in-None-clause-body : goal.returns-in_ok-answer-in-None-clause-body
-returns-in_ok-answer-in-None-clause-body g c =
+pub returns-in_ok-answer-in-None : goal.returns-in_ok-answer-in-None
+returns-in_ok-answer-in-None g c =
     let bank = g.B.Bank.at c.args.bank.now in
-    let word = c.args.word.now in
-    let unsaid : lookup (bytes_eq word) c.args.self.now ≡ None = ap (lookup (bytes_eq word)) (sym c.self.view_is) ∙ sym c.in-None.ensures.value in
-    c.body_in.ensures
-    ∙ ap body_in (c.in_ok-answer-in-None.ensures.answer ∙ ap (λ w. bank (key.Macro w)) c.in_ok-clone-in-None.ensures.cases)
-    ∙ sym (outcome-macro_of-asked bank c.args.self.now word unsaid)
-
-pub returns-in_ok-answer-in-None-clause-progress : goal.returns-in_ok-answer-in-None-clause-progress
-returns-in_ok-answer-in-None-clause-progress g c =
-    let bank = g.B.Bank.at c.args.bank.now in
-    let word = c.args.word.now in
-    let unsaid : lookup (bytes_eq word) c.args.self.now ≡ None = ap (lookup (bytes_eq word)) (sym c.self.view_is) ∙ sym c.in-None.ensures.value in
-    c.in_ok-answer-in-None.ensures.progress
-    ∙ ap (λ w. after_key key_eq bank (key.Macro w) c.args.progress.now) c.in_ok-clone-in-None.ensures.cases
-    ∙ sym (reached-macro_of-asked bank c.args.self.now word c.args.progress.now unsaid)
+    let unsaid : lookup (bytes_eq c.args.word.now) c.args.self.now ≡ None = ap (lookup (bytes_eq c.args.word.now)) (sym c.self.view_is) ∙ sym c.in-None.ensures.value in
+    let asked = c.in_ok-answer-in-None.ensures in
+    (λ i. arrived (c.body_in.ensures i) (asked.progress i))
+    ∙ ap (λ found. arrived (body_in found) (after_key key_eq bank (key.Macro c.in_ok-clone-in-None.field-0) c.args.progress.now)) asked.answer
+    ∙ ap (λ word. arrived (body_in (bank (key.Macro word))) (after_key key_eq bank (key.Macro word) c.args.progress.now)) c.in_ok-clone-in-None.ensures.cases
+    ∙ sym (ap (λ query. arrival bank query c.args.progress.now) (macro_of-asked c.args.self.now c.args.word.now unsaid))
