@@ -33,11 +33,12 @@ module _ (definitions : Definitions) (word : List ℕ) where
   macro_of-asked unsaid = ap by_what_is_said unsaid
 
 -- a word is hidden if it has an entry, in whichever order
-pub hidden-entries : {V : Type 0} (test : List ℕ → Bool) (entries : List (List ℕ × V)) → list_any test (keys_of (reverse entries)) ≡ is_some (lookup test entries)
-hidden-entries test entries =
-    ap (list_any test) (map-reverse (λ e. e.0) entries)
-    ∙ sym (list_any-IsPermutation test (keys_of entries) (reverse (keys_of entries)) (IsPermutation-reverse (keys_of entries)))
-    ∙ sym (is_some-lookup test entries)
+pub hidden-entries : {V : Type 0} (t word : List ℕ) (entries : List (List ℕ × V)) → word ≡ t → list_any (bytes_eq t) (keys_of (reverse entries)) ≡ is_some (lookup (bytes_eq word) entries)
+hidden-entries t word entries same =
+    ap (list_any (bytes_eq t)) (map-reverse (λ e. e.0) entries)
+    ∙ sym (list_any-IsPermutation (bytes_eq t) (keys_of entries) (reverse (keys_of entries)) (IsPermutation-reverse (keys_of entries)))
+    ∙ sym (is_some-lookup (bytes_eq t) entries)
+    ∙ ap (λ w. is_some (lookup (bytes_eq w) entries)) (sym same)
 
 module _ (definitions : Definitions) (hidden : List (List ℕ)) (t : Token) where
   -- what is looked for, by whether the token is a word, and whether it is hidden
@@ -79,5 +80,5 @@ no_value (Some v) h = cc
 pub entries-opened : {V S : Type 0} (bank : Key → Option Answer) (definitions : Definitions) (stack : IndexMap (List ℕ) V S) (t : Token) (body : List Token) (word : List ℕ) (v : V) (new : List (List ℕ × V))
     → outcome (replacement definitions (keys_of (reverse stack.entries)) t) bank ≡ Some body → word ≡ t → new ≡ insert_entry bytes_eq stack.entries word v → new ≡ stack.entries ++ (t, v) ∷ []
 entries-opened bank definitions stack t body word v new found same inserted =
-    let absent = no_value (lookup (bytes_eq t) stack.entries) (sym (hidden-entries (bytes_eq t) stack.entries) ∙ not_hidden definitions (keys_of (reverse stack.entries)) t bank body found) in
+    let absent = no_value (lookup (bytes_eq t) stack.entries) (sym (hidden-entries t t stack.entries refl) ∙ not_hidden definitions (keys_of (reverse stack.entries)) t bank body found) in
     inserted ∙ ap (λ (k : List ℕ). insert_entry bytes_eq stack.entries k v) same ∙ insert_entry-new bytes_eq stack t v absent

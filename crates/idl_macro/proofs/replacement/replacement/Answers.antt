@@ -1,52 +1,32 @@
-use Rattle.std.proofs.Common.{◌≡◌, List, Option, IfOk, OnOk, true, false, reverse, sym, ◌∙◌, subst}
-use Rattle.std.specs.List.{list_any}
+use Rattle.std.proofs.Common.{◌≡◌, IfOk, List, Option, reverse, sym, ap, subst, ◌∙◌}
 use Rattle.std.specs.Map.{keys_of}
-use Rattle.std.specs.Option.{option_copied}
-use Rattle.std.specs.Str.{bytes_eq}
-use Rattle.idl_event.specs.Expanding.{Reached}
-use Rattle.idl_macro.proofs.MacroLemmas.{hidden-entries, can_be_replaced, can_be_replaced-no_word, can_be_replaced-word, outcome-replacement-no, reached-replacement-no, outcome-replacement-macro, reached-replacement-macro}
+use Rattle.std.specs.Option.{option_copied, option_map}
+use Rattle.idl_event.specs.Expanding.{Reached, arrival, arrived}
+use Rattle.idl_lex.specs.Tokens.{Token, tokens_in}
+use Rattle.idl_macro.specs.Macros.{macro_of}
+use Rattle.idl_macro.proofs.MacroLemmas.{hidden-entries, replacement-hidden, replacement-no_word, replacement-word}
 use Rattle.idl_macro.proofs.replacement.replacement.Goals as goal
 
-pub returns-then-not-is_word-clause-body : goal.returns-then-not-is_word-clause-body
-returns-then-not-is_word-clause-body g c =
-    let hidden = keys_of (reverse c.args.stack.now.entries) in
-    let no : can_be_replaced hidden c.args.token.now ≡ false = can_be_replaced-no_word hidden c.args.token.now (sym c.is_word.ensures ∙ c.if-not-is_word.true) in
-    sym (outcome-replacement-no (g.B.Bank.at c.args.bank.now) c.args.definitions.now hidden c.args.token.now no)
+pub returns-then-not-is_word : goal.returns-then-not-is_word
+returns-then-not-is_word g c =
+    sym (ap (λ query. arrival (g.B.Bank.at c.args.macros.now.bank.now) query c.args.progress.now)
+        (replacement-no_word c.args.macros.now.definitions.now (keys_of (reverse c.args.stack.now.entries)) c.args.token.now (sym c.is_word.ensures ∙ c.if-not-is_word.true)))
 
-pub returns-then-not-is_word-clause-progress : goal.returns-then-not-is_word-clause-progress
-returns-then-not-is_word-clause-progress g c =
-    let hidden = keys_of (reverse c.args.stack.now.entries) in
-    let no : can_be_replaced hidden c.args.token.now ≡ false = can_be_replaced-no_word hidden c.args.token.now (sym c.is_word.ensures ∙ c.if-not-is_word.true) in
-    sym (reached-replacement-no (g.B.Bank.at c.args.bank.now) c.args.definitions.now hidden c.args.token.now c.args.progress.now no)
+pub returns-then-is_open : goal.returns-then-is_open
+returns-then-is_open g c =
+    let entries = c.args.stack.now.entries in
+    let among = hidden-entries c.args.token.now c.spelling.result.now entries c.spelling.ensures ∙ sym c.if-is_open.ensures in
+    sym (ap (λ query. arrival (g.B.Bank.at c.args.macros.now.bank.now) query c.args.progress.now)
+        (replacement-hidden c.args.macros.now.definitions.now (keys_of (reverse entries)) c.args.token.now (sym c.is_word.ensures ∙ c.if-not-is_word.false) among))
 
-pub returns-then-is_open-clause-body : goal.returns-then-is_open-clause-body
-returns-then-is_open-clause-body g c =
-    let hidden = keys_of (reverse c.args.stack.now.entries) in
-    let t = c.args.token.now in
-    let among : list_any (bytes_eq t) hidden ≡ true = hidden-entries (bytes_eq t) c.args.stack.now.entries ∙ sym c.is_open.ensures ∙ c.if-is_open.true in
-    let no : can_be_replaced hidden t ≡ false = can_be_replaced-word hidden t true (sym c.is_word.ensures ∙ c.if-not-is_word.false) among in
-    sym (outcome-replacement-no (g.B.Bank.at c.args.bank.now) c.args.definitions.now hidden t no)
-
-pub returns-then-is_open-clause-progress : goal.returns-then-is_open-clause-progress
-returns-then-is_open-clause-progress g c =
-    let hidden = keys_of (reverse c.args.stack.now.entries) in
-    let t = c.args.token.now in
-    let among : list_any (bytes_eq t) hidden ≡ true = hidden-entries (bytes_eq t) c.args.stack.now.entries ∙ sym c.is_open.ensures ∙ c.if-is_open.true in
-    let no : can_be_replaced hidden t ≡ false = can_be_replaced-word hidden t true (sym c.is_word.ensures ∙ c.if-not-is_word.false) among in
-    sym (reached-replacement-no (g.B.Bank.at c.args.bank.now) c.args.definitions.now hidden t c.args.progress.now no)
-
-pub returns-clause-body : goal.returns-clause-body
-returns-clause-body g c =
-    let hidden = keys_of (reverse c.args.stack.now.entries) in
-    let t = c.args.token.now in
-    let among : list_any (bytes_eq t) hidden ≡ false = hidden-entries (bytes_eq t) c.args.stack.now.entries ∙ sym c.is_open.ensures ∙ c.if-is_open.false in
-    let yes : can_be_replaced hidden t ≡ true = can_be_replaced-word hidden t false (sym c.is_word.ensures ∙ c.if-not-is_word.false) among in
-    subst (λ (o : Option (List (List ℕ))). IfOk c.macro_of.result (λ body. option_copied body ≡ o)) (sym (outcome-replacement-macro (g.B.Bank.at c.args.bank.now) c.args.definitions.now hidden t yes)) c.macro_of.ensures.body
-
-pub returns-clause-progress : goal.returns-clause-progress
-returns-clause-progress g c =
-    let hidden = keys_of (reverse c.args.stack.now.entries) in
-    let t = c.args.token.now in
-    let among : list_any (bytes_eq t) hidden ≡ false = hidden-entries (bytes_eq t) c.args.stack.now.entries ∙ sym c.is_open.ensures ∙ c.if-is_open.false in
-    let yes : can_be_replaced hidden t ≡ true = can_be_replaced-word hidden t false (sym c.is_word.ensures ∙ c.if-not-is_word.false) among in
-    subst (λ (q : Reached). OnOk c.macro_of.result (c.macro_of.new.progress ≡ q)) (sym (reached-replacement-macro (g.B.Bank.at c.args.bank.now) c.args.definitions.now hidden t c.args.progress.now yes)) c.macro_of.ensures.progress
+pub returns : goal.returns
+returns g c =
+    let bank = g.B.Bank.at c.args.macros.now.bank.now in
+    let definitions = c.args.macros.now.definitions.now in
+    let entries = c.args.stack.now.entries in
+    let among = hidden-entries c.args.token.now c.spelling.result.now entries c.spelling.ensures ∙ sym c.if-is_open.ensures in
+    let wanted = replacement-word definitions (keys_of (reverse entries)) c.args.token.now (sym c.is_word.ensures ∙ c.if-not-is_word.false) among in
+    subst
+    (λ (there : Reached × Option (Option (List Token))). IfOk c.macro_of.result (λ body. arrived (option_map tokens_in (option_copied body)) c.macro_of.new.progress ≡ there))
+    (ap (λ word. arrival bank (macro_of definitions word) c.args.progress.now) c.spelling-2.ensures ∙ sym (ap (λ query. arrival bank query c.args.progress.now) wanted))
+    c.macro_of.ensures
