@@ -1,13 +1,13 @@
 -- What the steps of a replacement leave of the limits.
-use Rattle.std.proofs.Common.{◌≡◌, ◌≢◌, ℕ, ◌+◌, ◌-◌, ◌*◌, ◌<◌, ◌≤◌, Bool, true, false, nat_eq, not, ◌&&◌, if◌then◌else◌, List, Option, None, Some, refl, ap, ◌∙◌, arith}
+use Rattle.std.proofs.Common.{◌≡◌, ◌≢◌, ℕ, ◌+◌, ◌-◌, ◌*◌, ◌<◌, ◌≤◌, Bool, true, false, nat_eq, not, ◌&&◌, if◌then◌else◌, List, Option, None, Some, refl, ap, sym, ◌∙◌, arith}
 use Rattle.std.specs.List.{list_any}
 use Rattle.std.specs.Map.{lookup}
 use Rattle.std.specs.Str.{bytes_eq}
 use Rattle.idl_base.specs.Progress.{after_item, after_key, with_item}
-use Rattle.idl_base.specs.Query.{Done, Ask, noted}
+use Rattle.idl_base.specs.Query.{Done, Ask, noted, outcome}
 use Rattle.idl_event.specs.Items.{rules, spend, turns_left}
 use Rattle.idl_event.specs.Key.{key_eq}
-use Rattle.idl_event.specs.Expanding.{Reached, reached}
+use Rattle.idl_event.specs.Expanding.{Reached, arrival, arrived, reached}
 use Rattle.idl_macro.specs.Macros.{Definitions, body_in, macro_of}
 use Rattle.idl_macro.specs.Output.{item_of}
 use Rattle.idl_macro.specs.Replace.{replacement}
@@ -23,6 +23,7 @@ use Rattle.idl_event.specs.declared.key.Key.TheVariants as key
 use Rattle.idl_event.specs.declared.place.Place.{Place}
 use Rattle.idl_macro.specs.declared.replacement.Output.{Output}
 use Rattle.idl_macro.specs.declared.replacement.Output.TheVariants.{Text, Operand}
+use Rattle.idl_macro.proofs.ArrivalLemmas.{arrived-outcome}
 
 -- a key that is asked takes nothing of them
 abbrev with_key : (Key → Option Answer) → Key → Reached → Option Allowance → Reached
@@ -143,10 +144,17 @@ work_left-put (Operand tokens) place t (Some left) opened some = spend_token_wor
 pub not_over : (b : Bool) (left : Option Allowance) → b ≡ false → (left ≡ None → b ≡ true) → left ≢ None
 not_over b left going ends e = let ended = ends e in cc
 
+-- what is found where it isn't over
+pub replacement-found : (bank : Key → Option Answer) (definitions : Definitions) (hidden : List (List ℕ)) (t : Token) (body : Option (List Token)) (p q : Reached)
+    → p.left ≢ None → arrived body q ≡ arrival bank (replacement definitions hidden t) p → outcome (replacement definitions hidden t) bank ≡ body
+replacement-found bank definitions hidden t body p q going found =
+    let same : q.left ≡ p.left = ap (λ (r : Reached × Option (Option (List Token))). r.0.left) found ∙ left-replacement bank definitions hidden t p in
+    sym (arrived-outcome body (outcome (replacement definitions hidden t) bank) q (reached bank (replacement definitions hidden t) p) found (λ over. going (sym same ∙ over)))
+
 -- what a step leaves: what is asked takes nothing, and then an item is told
-pub left-step : (bank : Key → Option Answer) (definitions : Definitions) (hidden : List (List ℕ)) (t : Token) (item : Item) (p asked told : Reached)
-    → asked ≡ reached bank (replacement definitions hidden t) p → told ≡ after_item rules item asked → told.left ≡ left_by item p.left
-left-step bank definitions hidden t item p asked told ask tell =
+pub left-step : (bank : Key → Option Answer) (definitions : Definitions) (hidden : List (List ℕ)) (t : Token) (item : Item) (body : Option (List Token)) (p asked told : Reached)
+    → arrived body asked ≡ arrival bank (replacement definitions hidden t) p → told ≡ after_item rules item asked → told.left ≡ left_by item p.left
+left-step bank definitions hidden t item body p asked told ask tell =
     ap (λ (r : Reached). r.left) tell
     ∙ left-after_item item asked
-    ∙ ap (left_by item) (ap (λ (r : Reached). r.left) ask ∙ left-replacement bank definitions hidden t p)
+    ∙ ap (left_by item) (ap (λ (r : Reached × Option (Option (List Token))). r.0.left) ask ∙ left-replacement bank definitions hidden t p)

@@ -9,77 +9,79 @@ use Rattle.idl_event.specs.Key.{key_eq}
 use Rattle.idl_event.specs.Expanding.{Reached, Expanding, reached}
 use Rattle.idl_macro.specs.Macros.{Definitions}
 use Rattle.idl_macro.specs.Output.{item_of}
-use Rattle.idl_macro.specs.Replace.{each, followed_by, replaced, replaced_at, replacement, stands, text}
+use Rattle.idl_macro.specs.Replace.{each, followed_by, place_at, replaced, replaced_at, replacement, stands, text}
 use Rattle.idl_event.specs.declared.event.Item.{Item}
-use Rattle.idl_event.specs.declared.event.Item.TheVariants.{Emitted, Turn}
+use Rattle.idl_event.specs.declared.event.Item.TheVariants.{Turn}
 use Rattle.idl_event.specs.declared.key.Answer.{Answer}
 use Rattle.idl_event.specs.declared.key.Key.{Key}
 use Rattle.idl_event.specs.declared.place.Place.{Place}
+use Rattle.idl_lex.specs.Tokens.{Token, tokens_in}
+use Rattle.idl_lex.specs.declared.token.PlacedToken.{PlacedToken}
 use Rattle.idl_macro.specs.declared.replacement.Output.{Output}
 use Rattle.idl_macro.specs.declared.replacement.Output.TheVariants.{Text}
 
 -- a word in whose replacement the work stands, and what follows it
 abbrev pub Open : Type 0
-Open = List ℕ × Bor (List (List ℕ))
+Open = List ℕ × Bor (List PlacedToken)
 
 module _ (bank : Key → Option Answer) where
   -- where one comes to with two, one after the other
-  pub reached-followed_by : (query more : Expanding (List (List ℕ))) (p : Reached) → reached bank (followed_by query more) p ≡ reached bank more (reached bank query p)
+  pub reached-followed_by : (query more : Expanding (List Token)) (p : Reached) → reached bank (followed_by query more) p ≡ reached bank more (reached bank query p)
   reached-followed_by query more p =
       after-and_then rules key_eq bank query (λ first. and_then more (λ rest. Done (first ++ rest))) p
       ∙ after-and_then rules key_eq bank more (λ rest. Done (outcome query bank ++ rest)) (reached bank query p)
 
   -- what comes of two, one after the other
-  pub outcome-followed_by : (query more : Expanding (List (List ℕ))) → outcome (followed_by query more) bank ≡ outcome query bank ++ outcome more bank
+  pub outcome-followed_by : (query more : Expanding (List Token)) → outcome (followed_by query more) bank ≡ outcome query bank ++ outcome more bank
   outcome-followed_by query more =
       outcome-and_then query (λ first. and_then more (λ rest. Done (first ++ rest))) bank
       ∙ outcome-and_then more (λ rest. Done (outcome query bank ++ rest)) bank
 
   module _ (item : Token → Item) (place : Place) (definitions : Definitions) (room : ℕ) where
     -- a token inside these replacements
-    abbrev pub within : List Open → Token → Expanding (List (List ℕ))
+    abbrev pub within : List Open → Token → Expanding (List Token)
     within fs = replaced item place definitions (room - length fs) (keys_of fs)
 
     -- these tokens inside these replacements, the innermost first, and what follows those
-    abbrev pub pending : List Open → List (List ℕ) → Expanding (List (List ℕ))
+    abbrev pub pending : List Open → List Token → Expanding (List Token)
     pending [] tokens = each (within []) tokens
-    pending (f ∷ fs) tokens = followed_by (each (within (f ∷ fs)) tokens) (pending fs f.1.now)
+    pending (f ∷ fs) tokens = followed_by (each (within (f ∷ fs)) tokens) (pending fs (tokens_in f.1.now))
 
     -- the innermost replacement is at its end
-    pub reached-pending-end : (f : Open) (fs : List Open) (p : Reached) → reached bank (pending (f ∷ fs) []) p ≡ reached bank (pending fs f.1.now) p
-    reached-pending-end f fs p = reached-followed_by (Done []) (pending fs f.1.now) p
+    pub reached-pending-end : (f : Open) (fs : List Open) (p : Reached) → reached bank (pending (f ∷ fs) []) p ≡ reached bank (pending fs (tokens_in f.1.now)) p
+    reached-pending-end f fs p = reached-followed_by (Done []) (pending fs (tokens_in f.1.now)) p
 
-    pub outcome-pending-end : (f : Open) (fs : List Open) → outcome (pending (f ∷ fs) []) bank ≡ outcome (pending fs f.1.now) bank
-    outcome-pending-end f fs = outcome-followed_by (Done []) (pending fs f.1.now)
+    pub outcome-pending-end : (f : Open) (fs : List Open) → outcome (pending (f ∷ fs) []) bank ≡ outcome (pending fs (tokens_in f.1.now)) bank
+    outcome-pending-end f fs = outcome-followed_by (Done []) (pending fs (tokens_in f.1.now))
 
     -- the first token comes first
-    pub reached-pending-first : (fs : List Open) (t : List ℕ) (tokens : List (List ℕ)) (p : Reached)
+    pub reached-pending-first : (fs : List Open) (t : Token) (tokens : List Token) (p : Reached)
         → reached bank (pending fs (t ∷ tokens)) p ≡ reached bank (pending fs tokens) (reached bank (within fs t) p)
     reached-pending-first [] t tokens p = reached-followed_by (within [] t) (each (within []) tokens) p
     reached-pending-first (f ∷ fs) t tokens p =
         let rest = each (within (f ∷ fs)) tokens in
-        reached-followed_by (followed_by (within (f ∷ fs) t) rest) (pending fs f.1.now) p
-        ∙ ap (reached bank (pending fs f.1.now)) (reached-followed_by (within (f ∷ fs) t) rest p)
-        ∙ sym (reached-followed_by rest (pending fs f.1.now) (reached bank (within (f ∷ fs) t) p))
+        reached-followed_by (followed_by (within (f ∷ fs) t) rest) (pending fs (tokens_in f.1.now)) p
+        ∙ ap (reached bank (pending fs (tokens_in f.1.now))) (reached-followed_by (within (f ∷ fs) t) rest p)
+        ∙ sym (reached-followed_by rest (pending fs (tokens_in f.1.now)) (reached bank (within (f ∷ fs) t) p))
 
-    pub outcome-pending-first : (fs : List Open) (t : List ℕ) (tokens : List (List ℕ))
+    pub outcome-pending-first : (fs : List Open) (t : Token) (tokens : List Token)
         → outcome (pending fs (t ∷ tokens)) bank ≡ outcome (within fs t) bank ++ outcome (pending fs tokens) bank
     outcome-pending-first [] t tokens = outcome-followed_by (within [] t) (each (within []) tokens)
     outcome-pending-first (f ∷ fs) t tokens =
         let rest = each (within (f ∷ fs)) tokens in
-        outcome-followed_by (followed_by (within (f ∷ fs) t) rest) (pending fs f.1.now)
-        ∙ ap (λ ts. ts ++ outcome (pending fs f.1.now) bank) (outcome-followed_by (within (f ∷ fs) t) rest)
-        ∙ append_assoc (outcome (within (f ∷ fs) t) bank) (outcome rest bank) (outcome (pending fs f.1.now) bank)
-        ∙ ap (λ ts. outcome (within (f ∷ fs) t) bank ++ ts) (sym (outcome-followed_by rest (pending fs f.1.now)))
+        outcome-followed_by (followed_by (within (f ∷ fs) t) rest) (pending fs (tokens_in f.1.now))
+        ∙ ap (λ ts. ts ++ outcome (pending fs (tokens_in f.1.now)) bank) (outcome-followed_by (within (f ∷ fs) t) rest)
+        ∙ append_assoc (outcome (within (f ∷ fs) t) bank) (outcome rest bank) (outcome (pending fs (tokens_in f.1.now)) bank)
+        ∙ ap (λ ts. outcome (within (f ∷ fs) t) bank ++ ts) (sym (outcome-followed_by rest (pending fs (tokens_in f.1.now))))
 
     -- what is made of a token, by the body that it is replaced by
-    abbrev pub made : ℕ → List (List ℕ) → Token → Option (List (List ℕ)) → Expanding (List (List ℕ))
+    abbrev pub made : ℕ → List (List ℕ) → Token → Option (List Token) → Expanding (List Token)
     made m hidden t body = elim body [
       | None ↦ stands item t
       | Some tokens ↦ Tell (Turn place) (each (replaced item place definitions m (t ∷ hidden)) tokens)
     ]
 
-    pub reached-replaced : (n m : ℕ) (hidden : List (List ℕ)) (t : List ℕ) (body : Option (List (List ℕ))) (p : Reached) → n ≡ suc m → outcome (replacement definitions hidden t) bank ≡ body
+    pub reached-replaced : (n m : ℕ) (hidden : List (List ℕ)) (t : Token) (body : Option (List Token)) (p : Reached) → n ≡ suc m → outcome (replacement definitions hidden t) bank ≡ body
         → reached bank (replaced item place definitions n hidden t) p ≡ reached bank (made m hidden t body) (reached bank (replacement definitions hidden t) p)
     unfolding replaced
     reached-replaced n m hidden t body p e found =
@@ -87,7 +89,7 @@ module _ (bank : Key → Option Answer) where
         ∙ after-and_then rules key_eq bank (replacement definitions hidden t) (made m hidden t) p
         ∙ ap (λ b. reached bank (made m hidden t b) (reached bank (replacement definitions hidden t) p)) found
 
-    pub outcome-replaced : (n m : ℕ) (hidden : List (List ℕ)) (t : List ℕ) (body : Option (List (List ℕ))) → n ≡ suc m → outcome (replacement definitions hidden t) bank ≡ body
+    pub outcome-replaced : (n m : ℕ) (hidden : List (List ℕ)) (t : Token) (body : Option (List Token)) → n ≡ suc m → outcome (replacement definitions hidden t) bank ≡ body
         → outcome (replaced item place definitions n hidden t) bank ≡ outcome (made m hidden t body) bank
     unfolding replaced
     outcome-replaced n m hidden t body e found =
@@ -96,14 +98,14 @@ module _ (bank : Key → Option Answer) where
         ∙ ap (λ b. outcome (made m hidden t b) bank) found
 
     -- a token that stands for itself
-    pub reached-pending-stands : (fs : List Open) (t : List ℕ) (tokens : List (List ℕ)) (p : Reached) → length fs < room → outcome (replacement definitions (keys_of fs) t) bank ≡ None
+    pub reached-pending-stands : (fs : List Open) (t : Token) (tokens : List Token) (p : Reached) → length fs < room → outcome (replacement definitions (keys_of fs) t) bank ≡ None
         → reached bank (pending fs (t ∷ tokens)) p ≡ reached bank (pending fs tokens) (after_item rules (item t) (reached bank (replacement definitions (keys_of fs) t) p))
     reached-pending-stands fs t tokens p lt none =
         let e : room - length fs ≡ suc (room - suc (length fs)) = omega arith in
         reached-pending-first fs t tokens p
         ∙ ap (reached bank (pending fs tokens)) (reached-replaced (room - length fs) (room - suc (length fs)) (keys_of fs) t None p e none)
 
-    pub outcome-pending-stands : (fs : List Open) (t : List ℕ) (tokens : List (List ℕ)) → length fs < room → outcome (replacement definitions (keys_of fs) t) bank ≡ None
+    pub outcome-pending-stands : (fs : List Open) (t : Token) (tokens : List Token) → length fs < room → outcome (replacement definitions (keys_of fs) t) bank ≡ None
         → outcome (pending fs (t ∷ tokens)) bank ≡ t ∷ outcome (pending fs tokens) bank
     outcome-pending-stands fs t tokens lt none =
         let e : room - length fs ≡ suc (room - suc (length fs)) = omega arith in
@@ -111,34 +113,34 @@ module _ (bank : Key → Option Answer) where
         ∙ ap (λ ts. ts ++ outcome (pending fs tokens) bank) (outcome-replaced (room - length fs) (room - suc (length fs)) (keys_of fs) t None e none)
 
     -- a token that is replaced: a turn, and the tokens of the body, inside one replacement more
-    pub reached-pending-replaced : (fs : List Open) (t : List ℕ) (tokens : Bor (List (List ℕ))) (body : List (List ℕ)) (p : Reached) → length fs < room → outcome (replacement definitions (keys_of fs) t) bank ≡ Some body
-        → reached bank (pending fs (t ∷ tokens.now)) p ≡ reached bank (pending ((t, tokens) ∷ fs) body) (after_item rules (Turn place) (reached bank (replacement definitions (keys_of fs) t) p))
+    pub reached-pending-replaced : (fs : List Open) (t : Token) (tokens : Bor (List PlacedToken)) (body : List Token) (p : Reached) → length fs < room → outcome (replacement definitions (keys_of fs) t) bank ≡ Some body
+        → reached bank (pending fs (t ∷ tokens_in tokens.now)) p ≡ reached bank (pending ((t, tokens) ∷ fs) body) (after_item rules (Turn place) (reached bank (replacement definitions (keys_of fs) t) p))
     reached-pending-replaced fs t tokens body p lt found =
         let e : room - length fs ≡ suc (room - suc (length fs)) = omega arith in
         let q = after_item rules (Turn place) (reached bank (replacement definitions (keys_of fs) t) p) in
-        reached-pending-first fs t tokens.now p
-        ∙ ap (reached bank (pending fs tokens.now)) (reached-replaced (room - length fs) (room - suc (length fs)) (keys_of fs) t (Some body) p e found)
-        ∙ sym (reached-followed_by (each (within ((t, tokens) ∷ fs)) body) (pending fs tokens.now) q)
+        reached-pending-first fs t (tokens_in tokens.now) p
+        ∙ ap (reached bank (pending fs (tokens_in tokens.now))) (reached-replaced (room - length fs) (room - suc (length fs)) (keys_of fs) t (Some body) p e found)
+        ∙ sym (reached-followed_by (each (within ((t, tokens) ∷ fs)) body) (pending fs (tokens_in tokens.now)) q)
 
-    pub outcome-pending-replaced : (fs : List Open) (t : List ℕ) (tokens : Bor (List (List ℕ))) (body : List (List ℕ)) → length fs < room → outcome (replacement definitions (keys_of fs) t) bank ≡ Some body
-        → outcome (pending fs (t ∷ tokens.now)) bank ≡ outcome (pending ((t, tokens) ∷ fs) body) bank
+    pub outcome-pending-replaced : (fs : List Open) (t : Token) (tokens : Bor (List PlacedToken)) (body : List Token) → length fs < room → outcome (replacement definitions (keys_of fs) t) bank ≡ Some body
+        → outcome (pending fs (t ∷ tokens_in tokens.now)) bank ≡ outcome (pending ((t, tokens) ∷ fs) body) bank
     outcome-pending-replaced fs t tokens body lt found =
         let e : room - length fs ≡ suc (room - suc (length fs)) = omega arith in
-        outcome-pending-first fs t tokens.now
-        ∙ ap (λ ts. ts ++ outcome (pending fs tokens.now) bank) (outcome-replaced (room - length fs) (room - suc (length fs)) (keys_of fs) t (Some body) e found)
-        ∙ sym (outcome-followed_by (each (within ((t, tokens) ∷ fs)) body) (pending fs tokens.now))
+        outcome-pending-first fs t (tokens_in tokens.now)
+        ∙ ap (λ ts. ts ++ outcome (pending fs (tokens_in tokens.now)) bank) (outcome-replaced (room - length fs) (room - suc (length fs)) (keys_of fs) t (Some body) e found)
+        ∙ sym (outcome-followed_by (each (within ((t, tokens) ∷ fs)) body) (pending fs (tokens_in tokens.now)))
 
 module _ (bank : Key → Option Answer) (file : List ℕ) (definitions : Definitions) where
-  -- a text is replaced token by token, each on its own line
-  pub reached-text-drop : (tokens : List (List ℕ)) (i : ℕ) (d : Token) (output : Output) (place : Place) (part : List (List ℕ)) (p q : Reached) → i < length tokens
-      → item_of output ≡ item_of Text → place ≡ record { file = file; line = (get_or tokens i d).line } → part ≡ get_or tokens i d ∷ []
+  -- a text is replaced token by token, each at its own place
+  pub reached-text-drop : (tokens : List PlacedToken) (i : ℕ) (d : PlacedToken) (output : Output) (place : Place) (part : List Token) (p q : Reached) → i < length tokens
+      → item_of output ≡ item_of Text → place ≡ place_at file (get_or tokens i d) → part ≡ (get_or tokens i d).token ∷ []
       → q ≡ reached bank (replaced_at (item_of output place) place definitions part) p
       → reached bank (text file definitions (drop i tokens)) p ≡ reached bank (text file definitions (drop (i + 1) tokens)) q
   unfolding text
   reached-text-drop tokens i d output place part p q lt same here one made =
       let t = get_or tokens i d in
       let rest = drop (i + 1) tokens in
-      let first = replaced_at (Emitted file) (record { file = file; line = t.line }) definitions (t ∷ []) in
-      ap (λ (ts : List (List ℕ)). reached bank (text file definitions ts) p) (drop-cons tokens i d lt ∙ ap (λ (n : ℕ). t ∷ drop n tokens) (sym (add-one i)))
+      let first = replaced_at (item_of Text (place_at file t)) (place_at file t) definitions (t.token ∷ []) in
+      ap (λ (ts : List PlacedToken). reached bank (text file definitions ts) p) (drop-cons tokens i d lt ∙ ap (λ (n : ℕ). t ∷ drop n tokens) (sym (add-one i)))
       ∙ reached-followed_by bank first (text file definitions rest) p
       ∙ ap (reached bank (text file definitions rest)) (sym (made ∙ (λ j. reached bank (replaced_at (same j (here j)) (here j) definitions (one j)) p)))

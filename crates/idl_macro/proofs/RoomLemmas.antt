@@ -5,11 +5,13 @@ use Rattle.idl_base.specs.Query.{Done, Ask, Tell, outcome}
 use Rattle.idl_event.specs.Items.{rules, turns_left}
 use Rattle.idl_event.specs.Key.{key_eq}
 use Rattle.idl_event.specs.Expanding.{Reached, Expanding, reached}
+use Rattle.idl_lex.specs.Tokens.{Token}
 use Rattle.idl_macro.specs.Macros.{Definitions}
 use Rattle.idl_macro.specs.Replace.{each, replaced, replacement}
 use Rattle.idl_event.specs.declared.allowance.Allowance.{Allowance}
 use Rattle.idl_event.specs.declared.event.Item.{Item}
-use Rattle.idl_event.specs.declared.event.Item.TheVariants.{Emitted, Counted, Turn, Entered, Left, Pragma, Fault, TooDeep}
+use Rattle.idl_event.specs.declared.event.Event.TheVariants.{Emitted, Entered, Left, Pragma, Fault}
+use Rattle.idl_event.specs.declared.event.Item.TheVariants.{Kept, Counted, Turn, TooDeep}
 use Rattle.idl_event.specs.declared.key.Answer.{Answer}
 use Rattle.idl_event.specs.declared.key.Key.{Key}
 use Rattle.idl_event.specs.declared.place.Place.{Place}
@@ -27,13 +29,13 @@ fewer_by_turn left false = omega arith
 
 left_by-fewer : (item : Item) (left : Option Allowance) → turns_left (left_by item left) ≤ turns_left left
 left_by-fewer item None = omega arith
-left_by-fewer (Emitted file token) (Some left) = fewer_by_token left (nat_eq left.tokens 0)
+left_by-fewer (Kept (Emitted place token)) (Some left) = fewer_by_token left (nat_eq left.tokens 0)
 left_by-fewer (Counted place) (Some left) = fewer_by_token left (nat_eq left.tokens 0)
 left_by-fewer (Turn place) (Some left) = fewer_by_turn left (nat_eq left.turns 0)
-left_by-fewer (Entered file) (Some left) = omega arith
-left_by-fewer (Left file) (Some left) = omega arith
-left_by-fewer (Pragma file tokens) (Some left) = omega arith
-left_by-fewer (Fault place code text) (Some left) = omega arith
+left_by-fewer (Kept (Entered file)) (Some left) = omega arith
+left_by-fewer (Kept (Left file)) (Some left) = omega arith
+left_by-fewer (Kept (Pragma place tokens)) (Some left) = omega arith
+left_by-fewer (Kept (Fault place code text)) (Some left) = omega arith
 left_by-fewer (TooDeep place) (Some left) = omega arith
 
 -- a turn ends it, or leaves fewer
@@ -61,8 +63,8 @@ module _ (bank : Key → Option Answer) where
       omega (arith, more, fewer)
 
   -- two that come to the same with each token do so with them all
-  each-same : (f g : Token → Expanding (List (List ℕ))) (bound : ℕ) → ((t : List ℕ) (p : Reached) → turns_left p.left ≤ bound → reached bank (f t) p ≡ reached bank (g t) p)
-      → (tokens : List (List ℕ)) (p : Reached) → turns_left p.left ≤ bound → reached bank (each f tokens) p ≡ reached bank (each g tokens) p
+  each-same : (f g : Token → Expanding (List Token)) (bound : ℕ) → ((t : Token) (p : Reached) → turns_left p.left ≤ bound → reached bank (f t) p ≡ reached bank (g t) p)
+      → (tokens : List Token) (p : Reached) → turns_left p.left ≤ bound → reached bank (each f tokens) p ≡ reached bank (each g tokens) p
   each-same f g bound same [] p h = refl
   each-same f g bound same (t ∷ tokens) p h =
       let fewer = turns-reached (g t) p in
@@ -74,7 +76,7 @@ module _ (bank : Key → Option Answer) where
   module _ (item : Token → Item) (place : Place) (definitions : Definitions) where
     made-same : (n m : ℕ) → ((hidden : List (List ℕ)) (u : Token) (r : Reached) → turns_left r.left < n → turns_left r.left < m
         → reached bank (replaced item place definitions n hidden u) r ≡ reached bank (replaced item place definitions m hidden u) r)
-        → (hidden : List (List ℕ)) (t : List ℕ) (body : Option (List (List ℕ))) (q : Reached) → turns_left q.left ≤ n → turns_left q.left ≤ m
+        → (hidden : List (List ℕ)) (t : Token) (body : Option (List Token)) (q : Reached) → turns_left q.left ≤ n → turns_left q.left ≤ m
         → reached bank (made bank item place definitions 0 n hidden t body) q ≡ reached bank (made bank item place definitions 0 m hidden t body) q
     made-same n m same hidden t None q h k = refl
     made-same n m same hidden t (Some tokens) q h k =
@@ -90,7 +92,7 @@ module _ (bank : Key → Option Answer) where
               each-same here there (turns_left r.left) (λ (u : Token) (s : Reached) le. same (t ∷ hidden) u s (omega (arith, le, lt)) (omega (arith, le, lt'))) tokens r (omega arith)
         ]
 
-    pub replaced-room : (n m : ℕ) (hidden : List (List ℕ)) (t : List ℕ) (p : Reached) → turns_left p.left < n → turns_left p.left < m
+    pub replaced-room : (n m : ℕ) (hidden : List (List ℕ)) (t : Token) (p : Reached) → turns_left p.left < n → turns_left p.left < m
         → reached bank (replaced item place definitions n hidden t) p ≡ reached bank (replaced item place definitions m hidden t) p
     replaced-room zero m hidden t p h k = absurd (omega (arith, h))
     replaced-room (suc n) zero hidden t p h k = absurd (omega (arith, k))

@@ -1,19 +1,21 @@
 use Rattle.std.proofs.Common.{◌≡◌, ◌+◌, length, reverse}
 use Rattle.idl_base.specs.Query.{outcome}
 use Rattle.idl_event.specs.Expanding.{reached}
+use Rattle.idl_event.specs.Limits.{turns_at_most}
+use Rattle.idl_lex.specs.Tokens.{tokens_in}
 use Rattle.idl_macro.specs.Output.{given, given_more, item_of}
 use Rattle.idl_macro.specs.Replace.{replaced_at}
-use Rattle.idl_event.specs.Limits.{turns_at_most}
 use Rattle.idl_macro.proofs.AllowanceLemmas.{IsWithinTurns, work_left}
 use Rattle.idl_macro.proofs.ReplaceLemmas.{pending}
 use Rattle.idl_macro.proofs.replacement.replace.Given as goal
 
 abbrev pub invariant-steps : goal.invariant-steps
 invariant-steps g l =
-    let bank = g.B.Bank.at l.bank in
+    let bank = g.B.Bank.at l.macros.bank.now in
+    let definitions = l.macros.definitions.now in
     let item = item_of l.fn.output l.place in
-    let query = replaced_at item l.place l.definitions l.fn.tokens in
-    let rest = pending bank item l.place l.definitions (turns_at_most + 1) (reverse l.stack.entries) l.left in
+    let query = replaced_at item l.place definitions (tokens_in l.fn.tokens) in
+    let rest = pending bank item l.place definitions (turns_at_most + 1) (reverse l.stack.entries) (tokens_in l.left) in
     record {
       -- what the replacements that are open still stand for leads to where the whole leads
       progress : reached bank query l.fn.progress ≡ reached bank rest l.progress;

@@ -7,8 +7,10 @@ use Rattle.idl_macro.proofs.replacement.replace_text.Given as goal
 
 abbrev pub invariant-tokens : goal.invariant-tokens
 invariant-tokens g l =
-    let bank = g.B.Bank.at l.bank in
+    let bank = g.B.Bank.at l.macros.bank.now in
+    let definitions = l.macros.definitions.now in
     record {
-      progress : reached bank (text l.file l.definitions l.tokens) l.fn.progress ≡ reached bank (text l.file l.definitions (drop l.token-index l.tokens)) l.progress;
+      progress : reached bank (text l.file definitions l.tokens) l.fn.progress
+          ≡ reached bank (text l.file definitions (drop l.token-index l.tokens)) l.progress;
       item : item_of l.output ≡ item_of output.Text;
     }
