@@ -25,14 +25,6 @@ module _ {A : Type 0} where
   pub arrived-over : (a b : A) (p : Reached) → p.left ≡ None → arrived a p ≡ arrived b p
   arrived-over a b p over = ap (λ o. (p, option_map (λ _. a) o)) over ∙ sym (ap (λ o. (p, option_map (λ _. b) o)) over)
 
-  same_by : (a b : A) (p : Reached) (left : Option Allowance) → p.left ≡ left → (p.left ≢ None → a ≡ b) → arrived a p ≡ arrived b p
-  same_by a b p None over same = arrived-over a b p over
-  same_by a b p (Some left) going same = ap (λ x. arrived x p) (same (λ over. let no = sym going ∙ over in cc))
-
-  -- so it is enough that it is the same where none was passed
-  pub arrived-same : (a b : A) (p q : Reached) → p ≡ q → (p.left ≢ None → a ≡ b) → arrived a p ≡ arrived b q
-  arrived-same a b p q here same = same_by a b p p.left refl same ∙ ap (arrived b) here
-
 module _ {A B : Type 0} (bank : Key → Option Answer) (query : Expanding A) (f : A → Expanding B) (a : A) (p q : Reached) (h : arrived a q ≡ arrival bank query p) where
   at_start : arrival bank (f (outcome query bank)) (reached bank query p) ≡ arrival bank (and_then query f) p
   at_start = sym (λ i. arrived (outcome-and_then query f bank i) (after-and_then rules key_eq bank query f p i))

@@ -1,70 +1,72 @@
-use Rattle.std.proofs.Common.{◌≡◌, [], ◌++◌, List, is_some, sym, ap, ◌∙◌, append-nil}
+use Rattle.std.proofs.Common.{◌≡◌, List, [], ◌∷◌, is_some, refl, sym, ap, ◌∙◌, append-nil}
+use Rattle.std.specs.Option.{option_copied, option_map}
 use Rattle.std.proofs.lemmas.List.{nil_from_length}
-use Rattle.idl_base.specs.Query.{outcome}
-use Rattle.idl_macro.specs.Condition.{defined_read, truth_at}
-use Rattle.idl_event.specs.Expanding.{reached}
+use Rattle.idl_base.specs.Query.{Done}
+use Rattle.idl_event.specs.Expanding.{arrival, arrived}
+use Rattle.idl_lex.specs.Tokens.{Token, tokens_in}
+use Rattle.idl_lex.specs.declared.token.PlacedToken.{PlacedToken}
+use Rattle.idl_macro.specs.Condition.{defined_read, truth}
 use Rattle.idl_macro.specs.Macros.{macro_of}
-use Rattle.idl_macro.proofs.ConditionLemmas.{defined_read-nil, outcome-read-name, outcome-read-token, pushed, reached-read-name, reached-read-token, same_token}
-use Rattle.idl_macro.proofs.DirectiveLemmas.{is_some-option_copied}
+use Rattle.idl_macro.specs.Replace.{followed_by}
+use Rattle.idl_macro.proofs.ArrivalLemmas.{arrival-and_then}
+use Rattle.idl_macro.proofs.ConditionLemmas.{answering, arrival-begun, arrival-read, defined_read-name, defined_read-nil, defined_read-token, tokens_in-push}
+use Rattle.idl_macro.proofs.DirectiveLemmas.{is_some-tokens}
 use Rattle.idl_macro.proofs.conditional.read_defined.Goals as goal
+
+pub tokens-init : goal.tokens-init
+tokens-init g c =
+    let bank = g.B.Bank.at c.args.macros.now.bank.now in
+    let whole = defined_read c.args.macros.now.definitions.now (tokens_in c.args.operands.now) in
+    sym (ap (λ (items : List PlacedToken). arrival bank (followed_by (Done (tokens_in items)) whole) c.args.progress.now) c.new-read.ensures.items
+    ∙ arrival-begun bank whole c.args.progress.now)
 
 pub tokens-preserved-in-Some-defined_at : goal.tokens-preserved-in-Some-defined_at
 tokens-preserved-in-Some-defined_at g c =
-    let bank = g.B.Bank.at c.args.bank.now in
-    let definitions = c.args.definitions.now in
-    let inv = c.tokens.invariant in
-    let t = c.in-Some.token.now in
-    let rest = c.in-Some.rest.now in
+    let bank = g.B.Bank.at c.args.macros.now.bank.now in
+    let definitions = c.args.macros.now.definitions.now in
+    let p = c.tokens.progress in
+    let q = c.macro_of.new.progress in
+    let t = c.in-Some.placed.now.token in
+    let rest = tokens_in c.in-Some.rest.now in
     let word = c.in-Some-defined_at.word.now in
-    let after = c.in-Some-defined_at.after.now in
-    let body = c.in_ok-body-in-Some-defined_at in
-    let found : c.is_some.result ≡ is_some (outcome (macro_of definitions word) bank) = c.is_some.ensures ∙ is_some-option_copied body.body ∙ ap is_some body.ensures.body in
-    record {
-      progress = inv.progress
-          ∙ ap (λ (ts : List (List ℕ)). reached bank (defined_read definitions ts) c.tokens.progress) c.in-Some.ensures.cases.0
-          ∙ reached-read-name definitions bank t rest c.tokens.progress word after c.in-Some-defined_at.ensures
-          ∙ ap (reached bank (defined_read definitions after)) (sym body.ensures.progress);
-      read = inv.read
-          ∙ ap (λ (ts : List (List ℕ)). c.tokens.read.items ++ outcome (defined_read definitions ts) bank) c.in-Some.ensures.cases.0
-          ∙ ap (λ (ts : List (List ℕ)). c.tokens.read.items ++ ts) (outcome-read-name definitions bank t rest word after c.in-Some-defined_at.ensures)
-          ∙ pushed c.tokens.read.items c.push.new.self.items c.in_ok-truth_at-in-Some-defined_at.field-0 (truth_at t (is_some (outcome (macro_of definitions word) bank))) (outcome (defined_read definitions after) bank)
-          c.in_ok-push-in-Some-defined_at.ensures.items (c.in_ok-truth_at-in-Some-defined_at.ensures ∙ ap (truth_at t) found);
-    }
+    let after = tokens_in c.in-Some-defined_at.after.now in
+    let read = tokens_in c.tokens.read.items in
+    let found = c.in_ok-body-in-Some-defined_at in
+    let digit = truth (is_some (option_map tokens_in (option_copied found.body))) in
+    let is_digit : c.in_ok-truth_at-in-Some-defined_at.field-0.token ≡ digit =
+        c.in_ok-truth_at-in-Some-defined_at.ensures ∙ ap truth (c.is_some.ensures ∙ is_some-tokens found.body) in
+    let answered : arrived (digit ∷ []) q ≡ arrival bank (answering definitions t rest word) p =
+        arrival-and_then bank (macro_of definitions word) (λ body. Done (truth (is_some body) ∷ [])) (option_map tokens_in (option_copied found.body)) p q found.ensures in
+    c.tokens.invariant
+    ∙ ap (λ (ts : List PlacedToken). arrival bank (followed_by (Done read) (defined_read definitions (tokens_in ts))) p) c.in-Some.ensures.cases.0
+    ∙ ap (λ query. arrival bank (followed_by (Done read) query) p) (defined_read-name definitions t rest word after c.in-Some-defined_at.ensures)
+    ∙ arrival-read bank read (digit ∷ []) (answering definitions t rest word) (defined_read definitions after) p q answered
+    ∙ ap (λ (ts : List Token). arrival bank (followed_by (Done ts) (defined_read definitions after)) q)
+        (tokens_in-push c.tokens.read.items c.push.new.self.items c.in_ok-truth_at-in-Some-defined_at.field-0 digit c.in_ok-push-in-Some-defined_at.ensures.items is_digit)
 
 pub tokens-preserved : goal.tokens-preserved
 tokens-preserved g c =
-    let bank = g.B.Bank.at c.args.bank.now in
-    let definitions = c.args.definitions.now in
-    let inv = c.tokens.invariant in
-    let t = c.in-Some.token.now in
-    let rest = c.in-Some.rest.now in
-    record {
-      progress = inv.progress
-          ∙ ap (λ (ts : List (List ℕ)). reached bank (defined_read definitions ts) c.tokens.progress) c.in-Some.ensures.cases.0
-          ∙ reached-read-token definitions bank t rest c.tokens.progress c.in-None.ensures;
-      read = inv.read
-          ∙ ap (λ (ts : List (List ℕ)). c.tokens.read.items ++ outcome (defined_read definitions ts) bank) c.in-Some.ensures.cases.0
-          ∙ ap (λ (ts : List (List ℕ)). c.tokens.read.items ++ ts) (outcome-read-token definitions bank t rest c.in-None.ensures)
-          ∙ pushed c.tokens.read.items c.push-in-None.new.self.items c.in_ok-clone-in-None.field-0 t (outcome (defined_read definitions rest) bank)
-          c.in_ok-push-in-None.ensures.items (same_token c.in_ok-clone-in-None.field-0 t c.in_ok-clone-in-None.ensures.cases);
-    }
+    let bank = g.B.Bank.at c.args.macros.now.bank.now in
+    let definitions = c.args.macros.now.definitions.now in
+    let p = c.tokens.progress in
+    let t = c.in-Some.placed.now.token in
+    let rest = tokens_in c.in-Some.rest.now in
+    let read = tokens_in c.tokens.read.items in
+    c.tokens.invariant
+    ∙ ap (λ (ts : List PlacedToken). arrival bank (followed_by (Done read) (defined_read definitions (tokens_in ts))) p) c.in-Some.ensures.cases.0
+    ∙ ap (λ query. arrival bank (followed_by (Done read) query) p) (defined_read-token definitions t rest c.in-None.ensures)
+    ∙ arrival-read bank read (t ∷ []) (Done (t ∷ [])) (defined_read definitions rest) p p refl
+    ∙ ap (λ (ts : List Token). arrival bank (followed_by (Done ts) (defined_read definitions rest)) p)
+        (tokens_in-push c.tokens.read.items c.push-in-None.new.self.items c.in_ok-clone-in-None.field-0 t c.in_ok-push-in-None.ensures.items c.in_ok-clone-in-None.ensures.cases.0)
 
-pub returns-clause-read : goal.returns-clause-read
-returns-clause-read g c =
-    let bank = g.B.Bank.at c.args.bank.now in
-    let definitions = c.args.definitions.now in
-    let items = c.tokens.read.items in
+pub returns : goal.returns
+returns g c =
+    let bank = g.B.Bank.at c.args.macros.now.bank.now in
+    let definitions = c.args.macros.now.definitions.now in
+    let read = tokens_in c.tokens.read.items in
+    let p = c.tokens.progress in
     let nothing : c.tokens.left.now ≡ [] = nil_from_length c.tokens.left.now c.in_default.ensures.cases in
-    sym (c.tokens.invariant.read
-    ∙ ap (λ (ts : List (List ℕ)). items ++ outcome (defined_read definitions ts) bank) nothing
-    ∙ ap (λ query. items ++ outcome query bank) (defined_read-nil definitions)
-    ∙ append-nil items)
-
-pub returns-clause-progress : goal.returns-clause-progress
-returns-clause-progress g c =
-    let bank = g.B.Bank.at c.args.bank.now in
-    let definitions = c.args.definitions.now in
-    let nothing : c.tokens.left.now ≡ [] = nil_from_length c.tokens.left.now c.in_default.ensures.cases in
-    sym (c.tokens.invariant.progress
-    ∙ ap (λ (ts : List (List ℕ)). reached bank (defined_read definitions ts) c.tokens.progress) nothing
-    ∙ ap (λ query. reached bank query c.tokens.progress) (defined_read-nil definitions))
+    sym (c.tokens.invariant
+    ∙ ap (λ (ts : List PlacedToken). arrival bank (followed_by (Done read) (defined_read definitions (tokens_in ts))) p) nothing
+    ∙ ap (λ query. arrival bank (followed_by (Done read) query) p) (defined_read-nil definitions)
+    ∙ ap (λ (ts : List Token). arrived ts p) (append-nil read))
