@@ -70,10 +70,6 @@ pub IsWithinTurns-room : (left : Option Allowance) (opened : ℕ) → left ≢ N
 IsWithinTurns-room None opened some h = absurd (some refl)
 IsWithinTurns-room (Some left) opened some h = omega arith
 
-pub IsWithinTurns-none : (left : Option Allowance) → IsWithinTurns left 0
-IsWithinTurns-none None = tt {0}
-IsWithinTurns-none (Some left) = omega arith
-
 pub IsWithinTurns-closed : (left : Option Allowance) (opened : ℕ) → IsWithinTurns left (opened + 1) → IsWithinTurns left opened
 IsWithinTurns-closed None opened h = tt {0}
 IsWithinTurns-closed (Some left) opened h = omega arith

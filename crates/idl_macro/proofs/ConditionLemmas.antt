@@ -1,7 +1,7 @@
 -- What the reading of `defined X` and a whole condition ask and tell, and what comes of them.
 use Rattle.std.proofs.Common.{◌≡◌, ℕ, zero, suc, ◌-◌, ◌<◌, ◌≤◌, List, [], ◌∷◌, ◌++◌, Option, None, Some, is_some, length, drop, refl, ap, sym, ◌∙◌, arith, append_assoc}
 use Rattle.std.specs.Option.{option_map}
-use Rattle.std.proofs.lemmas.List.{length-drop, map-append}
+use Rattle.std.proofs.lemmas.List.{map-append}
 use Rattle.idl_base.specs.Query.{Done, Ask, Tell, and_then}
 use Rattle.idl_condition.specs.Arithmetic.{Value}
 use Rattle.idl_event.specs.Expanding.{Expanding, Reached, arrival, arrived}
@@ -101,13 +101,3 @@ module _ (bank : Key → Option Answer) where
 -- a token more
 pub tokens_in-push : (items new : List PlacedToken) (u : PlacedToken) (v : Token) → new ≡ items ++ u ∷ [] → u.token ≡ v → tokens_in items ++ v ∷ [] ≡ tokens_in new
 tokens_in-push items new u v push same = ap (λ w. tokens_in items ++ w ∷ []) (sym same) ∙ sym (map-append (λ t. t.token) items (u ∷ [])) ∙ sym (ap tokens_in push)
-
--- what follows a `defined X` is shorter than the whole
-shorter : (tokens : List Token) (word : List ℕ) (rest : List Token) (name : Option (List ℕ × ℕ)) → Some (word, rest) ≡ name_and_rest tokens name → length rest ≤ length tokens
-shorter tokens word rest None h = cc
-shorter tokens word rest (Some d) h =
-    let same : length rest ≡ length tokens - d.1 = ap (λ (e : List ℕ × List Token). length e.1) (some_same h) ∙ length-drop d.1 tokens in
-    omega (arith, same)
-
-pub rest-shorter : (t : Token) (tokens : List Token) (word : List ℕ) (rest : List Token) → Some (word, rest) ≡ name_and_rest tokens (defined_at t tokens) → length rest < length (t ∷ tokens)
-rest-shorter t tokens word rest h = let fewer = shorter tokens word rest (defined_at t tokens) h in omega (arith, fewer)
