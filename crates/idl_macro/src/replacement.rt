@@ -138,7 +138,9 @@ fn replacement<'a, B: Bank<Key = Key, Answer = Answer>>(
     if is_open(stack, token.spelling()) {
         return Ok(None);
     }
-    macros.definitions.macro_of(token.spelling(), macros.bank, progress)
+    macros
+        .definitions
+        .macro_of(token.spelling(), macros.bank, progress)
 }
 
 // Whether the work stands in the replacement of this word.

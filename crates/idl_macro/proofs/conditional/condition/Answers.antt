@@ -1,14 +1,13 @@
-use Rattle.std.proofs.Common.{SFits, Some, false, sym, ap, ◌∙◌, w64}
+use Rattle.std.proofs.Common.{SFits, false, sym, ap, ◌∙◌, w64}
 use Rattle.std.proofs.lemmas.Int.{to_z-of_z}
 use Rattle.idl_event.specs.Expanding.{arrival, arrived}
 use Rattle.idl_lex.specs.Tokens.{tokens_in}
 use Rattle.idl_macro.specs.Condition.{defined_read, judged}
-use Rattle.idl_macro.specs.Replace.{operand}
 use Rattle.idl_macro.proofs.ConditionLemmas.{arrival-condition}
 use Rattle.idl_macro.proofs.conditional.condition.Goals as goal
 
 pub returns-in-Some : goal.returns-in-Some
-returns-in-Some g c = 
+returns-in-Some g c =
     let bank = g.B.Bank.at c.args.macros.now.bank.now in
     let definitions = c.args.macros.now.definitions.now in
     let it = c.args.directive.now in

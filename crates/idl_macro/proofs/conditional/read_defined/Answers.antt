@@ -34,15 +34,15 @@ tokens-preserved-in-Some-defined_at g c =
     let found = c.in_ok-body-in-Some-defined_at in
     let digit = truth (is_some (option_map tokens_in (option_copied found.body))) in
     let is_digit : c.in_ok-truth_at-in-Some-defined_at.field-0.token ≡ digit =
-        c.in_ok-truth_at-in-Some-defined_at.ensures ∙ ap truth (c.is_some.ensures ∙ is_some-tokens found.body) in
+    c.in_ok-truth_at-in-Some-defined_at.ensures ∙ ap truth (c.is_some.ensures ∙ is_some-tokens found.body) in
     let answered : arrived (digit ∷ []) q ≡ arrival bank (answering definitions t rest word) p =
-        arrival-and_then bank (macro_of definitions word) (λ body. Done (truth (is_some body) ∷ [])) (option_map tokens_in (option_copied found.body)) p q found.ensures in
+    arrival-and_then bank (macro_of definitions word) (λ body. Done (truth (is_some body) ∷ [])) (option_map tokens_in (option_copied found.body)) p q found.ensures in
     c.tokens.invariant
     ∙ ap (λ (ts : List PlacedToken). arrival bank (followed_by (Done read) (defined_read definitions (tokens_in ts))) p) c.in-Some.ensures.cases.0
     ∙ ap (λ query. arrival bank (followed_by (Done read) query) p) (defined_read-name definitions t rest word after c.in-Some-defined_at.ensures)
     ∙ arrival-read bank read (digit ∷ []) (answering definitions t rest word) (defined_read definitions after) p q answered
     ∙ ap (λ (ts : List Token). arrival bank (followed_by (Done ts) (defined_read definitions after)) q)
-        (tokens_in-push c.tokens.read.items c.push.new.self.items c.in_ok-truth_at-in-Some-defined_at.field-0 digit c.in_ok-push-in-Some-defined_at.ensures.items is_digit)
+    (tokens_in-push c.tokens.read.items c.push.new.self.items c.in_ok-truth_at-in-Some-defined_at.field-0 digit c.in_ok-push-in-Some-defined_at.ensures.items is_digit)
 
 pub tokens-preserved : goal.tokens-preserved
 tokens-preserved g c =
@@ -57,7 +57,7 @@ tokens-preserved g c =
     ∙ ap (λ query. arrival bank (followed_by (Done read) query) p) (defined_read-token definitions t rest c.in-None.ensures)
     ∙ arrival-read bank read (t ∷ []) (Done (t ∷ [])) (defined_read definitions rest) p p refl
     ∙ ap (λ (ts : List Token). arrival bank (followed_by (Done ts) (defined_read definitions rest)) p)
-        (tokens_in-push c.tokens.read.items c.push-in-None.new.self.items c.in_ok-clone-in-None.field-0 t c.in_ok-push-in-None.ensures.items c.in_ok-clone-in-None.ensures.cases.0)
+    (tokens_in-push c.tokens.read.items c.push-in-None.new.self.items c.in_ok-clone-in-None.field-0 t c.in_ok-push-in-None.ensures.items c.in_ok-clone-in-None.ensures.cases.0)
 
 pub returns : goal.returns
 returns g c =

@@ -12,7 +12,7 @@ returns-in_default g c =
     let it = c.args.directive.now in
     on_ok_weaker c.malformed.result
     (λ told. ap (arrived c.args.definitions.now) told
-        ∙ ap (λ query. arrival (g.B.Bank.at c.args.bank.now) query c.args.progress.now) (define-by it.place it.word.now c.args.definitions.now it.operands None c.in_default.ensures))
+    ∙ ap (λ query. arrival (g.B.Bank.at c.args.bank.now) query c.args.progress.now) (define-by it.place it.word.now c.args.definitions.now it.operands None c.in_default.ensures))
     c.malformed.ensures
 
 pub returns-then-differs : goal.returns-then-differs
@@ -21,8 +21,8 @@ returns-then-differs g c =
     let old = option_map tokens_in (option_copied c.in_ok-old.old) in
     on_ok_weaker c.other_definition.result
     (λ told. ap (arrived c.args.definitions.now) told
-        ∙ arrival-define it.place it.word.now c.args.definitions.now it.operands (g.B.Bank.at c.args.bank.now) c.args.progress.now c.macro_of.new.progress
-            c.in-Some.word.now (tokens_in c.in-Some.body) old c.in-Some.ensures c.in_ok-old.ensures true (c.if-differs.ensures ∙ ap (λ body. differs old (tokens_in body)) c.as_slice.ensures))
+    ∙ arrival-define it.place it.word.now c.args.definitions.now it.operands (g.B.Bank.at c.args.bank.now) c.args.progress.now c.macro_of.new.progress
+    c.in-Some.word.now (tokens_in c.in-Some.body) old c.in-Some.ensures c.in_ok-old.ensures true (c.if-differs.ensures ∙ ap (λ body. differs old (tokens_in body)) c.as_slice.ensures))
     c.other_definition.ensures
 
 pub returns : goal.returns
@@ -31,4 +31,4 @@ returns g c =
     let old = option_map tokens_in (option_copied c.in_ok-old.old) in
     ap (λ definitions. arrived definitions c.macro_of.new.progress) (c.in_ok-define.ensures ∙ ap (λ body. saying c.args.definitions.now c.in-Some.word.now (Some body)) c.in_ok-shared.ensures)
     ∙ arrival-define it.place it.word.now c.args.definitions.now it.operands (g.B.Bank.at c.args.bank.now) c.args.progress.now c.macro_of.new.progress
-        c.in-Some.word.now (tokens_in c.in-Some.body) old c.in-Some.ensures c.in_ok-old.ensures false (c.if-differs.ensures ∙ ap (λ body. differs old (tokens_in body)) c.as_slice.ensures)
+    c.in-Some.word.now (tokens_in c.in-Some.body) old c.in-Some.ensures c.in_ok-old.ensures false (c.if-differs.ensures ∙ ap (λ body. differs old (tokens_in body)) c.as_slice.ensures)

@@ -10,13 +10,13 @@ returns-in_ok-remove-in-Some g c = λ bank.
     let it = c.args.directive.now in
     ap (λ definitions. arrived definitions c.args.progress.now) c.in_ok-remove-in-Some.ensures
     ∙ ap (λ query. arrival bank query c.args.progress.now)
-        (undef-by it.place it.word.now c.args.definitions.now it.operands (Some c.in-Some.word.now) (c.in-Some.ensures ∙ ap first_word c.as_slice.ensures))
+    (undef-by it.place it.word.now c.args.definitions.now it.operands (Some c.in-Some.word.now) (c.in-Some.ensures ∙ ap first_word c.as_slice.ensures))
 
 pub returns-in-None : goal.returns-in-None
 returns-in-None g c =
     let it = c.args.directive.now in
     on_ok_weaker c.malformed.result
     (λ told bank. ap (arrived c.args.definitions.now) told
-        ∙ ap (λ query. arrival bank query c.args.progress.now)
-            (undef-by it.place it.word.now c.args.definitions.now it.operands None (c.in-None.ensures ∙ ap first_word c.as_slice.ensures)))
+    ∙ ap (λ query. arrival bank query c.args.progress.now)
+    (undef-by it.place it.word.now c.args.definitions.now it.operands None (c.in-None.ensures ∙ ap first_word c.as_slice.ensures)))
     c.malformed.ensures

@@ -1,11 +1,11 @@
 -- Each step makes a part of what is pending, and leaves the rest.
-use Rattle.std.proofs.Common.{◌≡◌, ℕ, ◌+◌, ◌<◌, List, [], ◌∷◌, ◌++◌, Option, None, Some, Bor, length, reverse, refl, sym, ap, ◌∙◌, subst}
+use Rattle.std.proofs.Common.{◌≡◌, ℕ, ◌+◌, ◌<◌, List, [], ◌∷◌, ◌++◌, Option, None, Some, Bor, length, reverse, sym, ap, ◌∙◌, subst}
 use Rattle.std.specs.Map.{keys_of}
 use Rattle.std.specs.Option.{option_copied, option_map}
 use Rattle.std.proofs.lemmas.List.{length-reverse, nil_from_length, reverse-append, length-append}
 use Rattle.idl_base.specs.Progress.{after_item, after-over}
 use Rattle.idl_base.specs.Query.{outcome}
-use Rattle.idl_event.specs.Expanding.{Reached, reached}
+use Rattle.idl_event.specs.Expanding.{reached}
 use Rattle.idl_event.specs.Items.{rules}
 use Rattle.idl_event.specs.Key.{key_eq}
 use Rattle.idl_event.specs.Limits.{turns_at_most}
@@ -55,9 +55,9 @@ steps-smaller-in-None-2 g c =
     let t = c.in-Some.placed.now.token in
     let it = item_of c.steps.output place t in
     let spent : c.put.new.progress.left ≡ left_by it c.steps.progress.left =
-        left-step (g.B.Bank.at c.args.macros.now.bank.now) c.args.macros.now.definitions.now (keys_of (reverse c.steps.stack.entries)) t it
-        (body_of c.in_ok-replacement-in-Some.field-0) c.steps.progress c.replacement.new.progress c.put.new.progress
-        c.in_ok-replacement-in-Some.ensures c.in_ok-put-in-None-2.ensures.progress in
+    left-step (g.B.Bank.at c.args.macros.now.bank.now) c.args.macros.now.definitions.now (keys_of (reverse c.steps.stack.entries)) t it
+    (body_of c.in_ok-replacement-in-Some.field-0) c.steps.progress c.replacement.new.progress c.put.new.progress
+    c.in_ok-replacement-in-Some.ensures c.in_ok-put-in-None-2.ensures.progress in
     let going = not_over c.is_over.result c.steps.progress.left c.steps-test.true c.is_over.ensures.over.1 in
     subst (λ (o : Option Allowance). work_left o (length c.steps.stack.entries) < work_left c.steps.progress.left (length c.steps.stack.entries)) (sym spent)
     (work_left-put c.steps.output place t c.steps.progress.left (length c.steps.stack.entries) going)
@@ -78,13 +78,13 @@ steps-preserved-in-None-2 g c =
     let put = c.in_ok-put-in-None-2.ensures in
     let going = not_over c.is_over.result c.steps.progress.left c.steps-test.true c.is_over.ensures.over.1 in
     let none : outcome (replacement definitions (keys_of fs) t) bank ≡ None =
-        replacement-found bank definitions (keys_of fs) t (body_of asked.field-0) c.steps.progress c.replacement.new.progress going asked.ensures ∙ ap body_of c.in-None-2.is in
+    replacement-found bank definitions (keys_of fs) t (body_of asked.field-0) c.steps.progress c.replacement.new.progress going asked.ensures ∙ ap body_of c.in-None-2.is in
     let room : length fs < turns_at_most + 1 =
-        IsWithinTurns-room c.steps.progress.left (length fs) going (subst (λ (n : ℕ). IsWithinTurns c.steps.progress.left n) (sym (length-reverse c.steps.stack.entries)) inv.depth) in
+    IsWithinTurns-room c.steps.progress.left (length fs) going (subst (λ (n : ℕ). IsWithinTurns c.steps.progress.left n) (sym (length-reverse c.steps.stack.entries)) inv.depth) in
     let told : c.put.new.progress ≡ after_item rules (item t) (reached bank (replacement definitions (keys_of fs) t) c.steps.progress) =
-        put.progress ∙ (λ i. after_item rules (inv.item i place t) (asked.ensures i).0) in
+    put.progress ∙ (λ i. after_item rules (inv.item i place t) (asked.ensures i).0) in
     let spent : c.put.new.progress.left ≡ left_by it c.steps.progress.left =
-        left-step bank definitions (keys_of fs) t it (body_of asked.field-0) c.steps.progress c.replacement.new.progress c.put.new.progress asked.ensures put.progress in
+    left-step bank definitions (keys_of fs) t it (body_of asked.field-0) c.steps.progress c.replacement.new.progress c.put.new.progress asked.ensures put.progress in
     record {
       progress = inv.progress
           ∙ ap (λ (ts : List PlacedToken). reached bank (part fs (tokens_in ts)) c.steps.progress) c.in-Some.ensures.cases.0
@@ -110,13 +110,13 @@ steps-smaller g c =
     let body = tokens_in c.in-Some-2.body.now in
     let asked = c.in_ok-replacement-in-Some in
     let spent : c.tell.new.self.left ≡ left_by (Turn place) c.steps.progress.left =
-        left-step bank definitions hidden t (Turn place) (body_of asked.field-0) c.steps.progress c.replacement.new.progress c.tell.new.self asked.ensures c.in_ok-tell-in-Some-2.ensures in
+    left-step bank definitions hidden t (Turn place) (body_of asked.field-0) c.steps.progress c.replacement.new.progress c.tell.new.self asked.ensures c.in_ok-tell-in-Some-2.ensures in
     let going = not_over c.is_over.result c.steps.progress.left c.steps-test.true c.is_over.ensures.over.1 in
     let found : outcome (replacement definitions hidden t) bank ≡ Some body =
-        replacement-found bank definitions hidden t (body_of asked.field-0) c.steps.progress c.replacement.new.progress going asked.ensures ∙ ap body_of c.in-Some-2.is in
+    replacement-found bank definitions hidden t (body_of asked.field-0) c.steps.progress c.replacement.new.progress going asked.ensures ∙ ap body_of c.in-Some-2.is in
     let opened : c.insert.new.self.entries ≡ c.steps.stack.entries ++ (t, c.in-Some.rest) ∷ [] =
-        entries-opened bank definitions c.steps.stack t body c.in_ok-clone-in-Some-2-2.field-0 c.in-Some.rest c.insert.new.self.entries
-        found (c.in_ok-clone-in-Some-2-2.ensures.cases ∙ c.spelling.ensures) c.in_ok-insert-in-Some-2.ensures.entries in
+    entries-opened bank definitions c.steps.stack t body c.in_ok-clone-in-Some-2-2.field-0 c.in-Some.rest c.insert.new.self.entries
+    found (c.in_ok-clone-in-Some-2-2.ensures.cases ∙ c.spelling.ensures) c.in_ok-insert-in-Some-2.ensures.entries in
     let one_more : length c.insert.new.self.entries ≡ length c.steps.stack.entries + 1 = ap length opened ∙ length-append c.steps.stack.entries ((t, c.in-Some.rest) ∷ []) in
     subst (λ (n : ℕ). work_left c.tell.new.self.left n < work_left c.steps.progress.left (length c.steps.stack.entries)) (sym one_more)
     (subst (λ (o : Option Allowance). work_left o (length c.steps.stack.entries + 1) < work_left c.steps.progress.left (length c.steps.stack.entries)) (sym spent)
@@ -137,18 +137,18 @@ steps-preserved g c =
     let asked = c.in_ok-replacement-in-Some in
     let going = not_over c.is_over.result c.steps.progress.left c.steps-test.true c.is_over.ensures.over.1 in
     let found : outcome (replacement definitions (keys_of fs) t) bank ≡ Some body =
-        replacement-found bank definitions (keys_of fs) t (body_of asked.field-0) c.steps.progress c.replacement.new.progress going asked.ensures ∙ ap body_of c.in-Some-2.is in
+    replacement-found bank definitions (keys_of fs) t (body_of asked.field-0) c.steps.progress c.replacement.new.progress going asked.ensures ∙ ap body_of c.in-Some-2.is in
     let opened : c.insert.new.self.entries ≡ c.steps.stack.entries ++ (t, c.in-Some.rest) ∷ [] =
-        entries-opened bank definitions c.steps.stack t body c.in_ok-clone-in-Some-2-2.field-0 c.in-Some.rest c.insert.new.self.entries
-        found (c.in_ok-clone-in-Some-2-2.ensures.cases ∙ c.spelling.ensures) c.in_ok-insert-in-Some-2.ensures.entries in
+    entries-opened bank definitions c.steps.stack t body c.in_ok-clone-in-Some-2-2.field-0 c.in-Some.rest c.insert.new.self.entries
+    found (c.in_ok-clone-in-Some-2-2.ensures.cases ∙ c.spelling.ensures) c.in_ok-insert-in-Some-2.ensures.entries in
     let top : reverse c.insert.new.self.entries ≡ f ∷ fs = ap reverse opened ∙ reverse-append c.steps.stack.entries (f ∷ []) in
     let room : length fs < turns_at_most + 1 =
-        IsWithinTurns-room c.steps.progress.left (length fs) going (subst (λ (n : ℕ). IsWithinTurns c.steps.progress.left n) (sym (length-reverse c.steps.stack.entries)) inv.depth) in
+    IsWithinTurns-room c.steps.progress.left (length fs) going (subst (λ (n : ℕ). IsWithinTurns c.steps.progress.left n) (sym (length-reverse c.steps.stack.entries)) inv.depth) in
     let here : c.in_ok-clone-in-Some-2.field-0 ≡ place = λ i. record { file = c.in_ok-clone-in-Some-2.ensures.cases.0 i; line = c.in_ok-clone-in-Some-2.ensures.cases.1 i } in
     let told : c.tell.new.self ≡ after_item rules (Turn place) (reached bank (replacement definitions (keys_of fs) t) c.steps.progress) =
-        c.in_ok-tell-in-Some-2.ensures ∙ (λ i. after_item rules (Turn (here i)) (asked.ensures i).0) in
+    c.in_ok-tell-in-Some-2.ensures ∙ (λ i. after_item rules (Turn (here i)) (asked.ensures i).0) in
     let spent : c.tell.new.self.left ≡ left_by (Turn c.in_ok-clone-in-Some-2.field-0) c.steps.progress.left =
-        left-step bank definitions (keys_of fs) t (Turn c.in_ok-clone-in-Some-2.field-0) (body_of asked.field-0) c.steps.progress c.replacement.new.progress c.tell.new.self asked.ensures c.in_ok-tell-in-Some-2.ensures in
+    left-step bank definitions (keys_of fs) t (Turn c.in_ok-clone-in-Some-2.field-0) (body_of asked.field-0) c.steps.progress c.replacement.new.progress c.tell.new.self asked.ensures c.in_ok-tell-in-Some-2.ensures in
     let one_more : length c.insert.new.self.entries ≡ length c.steps.stack.entries + 1 = ap length opened ∙ length-append c.steps.stack.entries (f ∷ []) in
     record {
       progress = inv.progress

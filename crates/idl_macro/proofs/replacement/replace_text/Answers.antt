@@ -17,6 +17,6 @@ tokens-preserved g c =
     record {
       progress = c.tokens.invariant.progress
           ∙ reached-text-drop (g.B.Bank.at c.args.macros.now.bank.now) c.args.file.now c.args.macros.now.definitions.now tokens i t c.tokens.output place (tokens_in c.from_ref.result.now) c.tokens.progress c.replace.new.progress
-              lt c.tokens.invariant.item here one c.in_ok-replace.ensures.progress;
+          lt c.tokens.invariant.item here one c.in_ok-replace.ensures.progress;
       item = c.in_ok-replace.ensures.item ∙ c.tokens.invariant.item;
     }
