@@ -34,7 +34,9 @@ can_be_defined t = is_word t && not (bytes_eq t (codes "defined"))
 -- the word and the body that the operands of `define` give, if they are well-formed
 abbrev pub definition_in : List PlacedToken → Option (List ℕ × List Token)
 definition_in [] = None
-definition_in (t ∷ body) = if can_be_defined t.token && not (begins_parameters body) then Some (t.token, tokens_in body) else None
+definition_in (t ∷ body) =
+    if can_be_defined t.token && not (begins_parameters body) then Some (t.token, tokens_in body)
+    else None
 
 -- bodies of the same tokens, whatever stands between them
 abbrev pub same_tokens : List Token → List Token → Bool
@@ -50,9 +52,11 @@ differs None body = false
 differs (Some old) body = not (same_tokens old body)
 
 -- a macro is defined, unless it is there with other tokens, and then it stays
-abbrev pub defining : Place → Definitions → List ℕ → List Token → Option (List Token) → Expanding Definitions
+abbrev pub defining : Place → Definitions → List ℕ → List Token → Option (List Token)
+    → Expanding Definitions
 defining place definitions word body old =
-    if differs old body then Tell (Kept (Fault place OtherDefinition (Some word))) (Done definitions)
+    if differs old body
+    then Tell (Kept (Fault place OtherDefinition (Some word))) (Done definitions)
     else Done (saying definitions word (Some body))
 
 -- `define`: the directive's word, and the tokens after it
@@ -69,8 +73,10 @@ undef place word definitions operands = elim (first_word operands) [
   | Some name ↦ Done (saying definitions name None)
 ]
 
--- whether the macro named by these operands is there, where they name one; further tokens are passed over
-unfoldable pub is_macro_there : Place → List ℕ → Definitions → List PlacedToken → Expanding (Option Bool)
+-- whether the macro named by these operands is there, where they name one; further tokens are
+-- passed over
+unfoldable pub is_macro_there : Place → List ℕ → Definitions → List PlacedToken
+    → Expanding (Option Bool)
 is_macro_there place word definitions operands = elim (first_word operands) [
   | None ↦ Tell (Kept (Fault place MalformedMacro (Some word))) (Done None)
   | Some name ↦ and_then (macro_of definitions name) (λ body. Done (Some (is_some body)))
@@ -88,8 +94,10 @@ is_missing (Some there) = not there
 
 -- `ifdef`: whether its group is taken
 unfoldable pub ifdef : Place → List ℕ → Definitions → List PlacedToken → Expanding Bool
-ifdef place word definitions operands = and_then (is_macro_there place word definitions operands) (λ there. Done (is_there there))
+ifdef place word definitions operands =
+    and_then (is_macro_there place word definitions operands) (λ there. Done (is_there there))
 
 -- `ifndef`: whether its group is taken
 unfoldable pub ifndef : Place → List ℕ → Definitions → List PlacedToken → Expanding Bool
-ifndef place word definitions operands = and_then (is_macro_there place word definitions operands) (λ there. Done (is_missing there))
+ifndef place word definitions operands =
+    and_then (is_macro_there place word definitions operands) (λ there. Done (is_missing there))

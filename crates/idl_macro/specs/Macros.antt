@@ -9,7 +9,8 @@ use Rattle.idl_event.specs.declared.key.Answer.TheVariants as answer
 use Rattle.idl_event.specs.declared.key.Key.TheVariants as key
 use Rattle.idl_lex.specs.Tokens.{Token, tokens_in, tokens_of}
 
--- what the root itself has said of words: the tokens of a macro's body, or nothing where the macro was removed
+-- what the root itself has said of words: the tokens of a macro's body, or nothing where the macro
+-- was removed
 abbrev pub Definitions : Type 0
 Definitions = List (List ℕ × Option (List Token))
 

@@ -1,4 +1,5 @@
--- The replacement of the words of macros (after ISO/IEC 9899, 6.10.3.4, for macros without parameters).
+-- The replacement of the words of macros (after ISO/IEC 9899, 6.10.3.4, for macros without
+-- parameters).
 use Rattle.std.specs.Prelude.{ℕ, zero, suc, ◌+◌, not, ◌&&◌, List, [], ◌∷◌, ◌++◌, Option, None, Some, if◌then◌else◌}
 use Rattle.std.specs.List.{list_any}
 use Rattle.std.specs.Str.{bytes_eq}
@@ -24,7 +25,8 @@ abbrev pub each : {X : Type 0} → (X → Expanding (List Token)) → List X →
 each f [] = Done []
 each f (x ∷ xs) = followed_by (f x) (each f xs)
 
--- the body that a token is replaced by: its macro's, if it is a word and doesn't stand in its own replacement
+-- the body that a token is replaced by: its macro's, if it is a word and doesn't stand in its own
+-- replacement
 unfoldable pub replacement : Definitions → List (List ℕ) → Token → Expanding (Option (List Token))
 replacement definitions hidden t =
     if is_word t && not (list_any (bytes_eq t) hidden) then macro_of definitions t else Done None
@@ -33,20 +35,23 @@ replacement definitions hidden t =
 abbrev pub stands : (Token → Item) → Token → Expanding (List Token)
 stands item t = Tell (item t) (Done (t ∷ []))
 
--- A token is replaced by the tokens of its macro's body, each of which is replaced in turn, with the macro's word among those
--- that are hidden; other tokens stand for themselves. A replacement is a turn, so that no
--- more of them than there are turns stand in one another.
-unfoldable pub replaced : (Token → Item) → Place → Definitions → ℕ → List (List ℕ) → Token → Expanding (List Token)
+-- A token is replaced by the tokens of its macro's body, each of which is replaced in turn, with
+-- the macro's word among those that are hidden; other tokens stand for themselves. A replacement is
+-- a turn, so that no more of them than there are turns stand in one another.
+unfoldable pub replaced : (Token → Item) → Place → Definitions → ℕ → List (List ℕ) → Token
+    → Expanding (List Token)
 replaced item place definitions zero hidden t = stands item t
 replaced item place definitions (suc room) hidden t =
     and_then (replacement definitions hidden t) (λ body. elim body [
       | None ↦ stands item t
-      | Some tokens ↦ Tell (Turn place) (each (replaced item place definitions room (t ∷ hidden)) tokens)
+      | Some tokens ↦
+          Tell (Turn place) (each (replaced item place definitions room (t ∷ hidden)) tokens)
     ])
 
 -- tokens that are replaced at one place
 abbrev pub replaced_at : (Token → Item) → Place → Definitions → List Token → Expanding (List Token)
-replaced_at item place definitions tokens = each (replaced item place definitions (turns_at_most + 1) []) tokens
+replaced_at item place definitions tokens =
+    each (replaced item place definitions (turns_at_most + 1) []) tokens
 
 -- where a token stands
 abbrev pub place_at : FileName → PlacedToken → Place
@@ -55,8 +60,10 @@ place_at file t = record { file = file; line = t.line }
 -- the tokens of a text, each of which is replaced at its own place
 unfoldable pub text : FileName → Definitions → List PlacedToken → Expanding (List Token)
 text file definitions tokens =
-    each (λ t. replaced_at (λ u. Kept (Emitted (place_at file t) u)) (place_at file t) definitions (t.token ∷ [])) tokens
+    each (λ t. replaced_at (λ u. Kept (Emitted (place_at file t) u)) (place_at file t) definitions
+    (t.token ∷ [])) tokens
 
--- the tokens of a condition or of an operand, all of which are replaced at the place of the directive, and counted
+-- the tokens of a condition or of an operand, all of which are replaced at the place of the
+-- directive, and counted
 unfoldable pub operand : Place → Definitions → List Token → Expanding (List Token)
 operand place definitions tokens = replaced_at (λ _. Counted place) place definitions tokens

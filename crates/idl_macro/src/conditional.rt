@@ -24,15 +24,18 @@ use std::rc::RcSlice;
 
 /// `if` and `elif`: whether the condition of the tokens after the directive's word holds.
 ///
-/// Each `defined X` and `defined ( X )` is read first, then macros are replaced, and then the condition has a value, or it is
-/// faulty, which is a fault, and doesn't hold. Where an item was past the limits, nothing is said of the answer.
+/// Each `defined X` and `defined ( X )` is read first, then macros are replaced, and then the
+/// condition has a value, or it is faulty, which is a fault, and doesn't hold. Where an item was
+/// past the limits, nothing is said of the answer.
 pub fn condition<B: Bank<Key = Key, Answer = Answer>>(
     macros: &Macros<'_, B>,
     directive: &Directive<'_>,
     progress: &mut Progress<B>,
 ) -> Result<bool, AllocError>
     ensures { IfOk result (λ taken. arrived taken progress.new
-        ≡ arrival (B.at macros.now.bank.now) (condition directive.now.place directive.now.word.now macros.now.definitions.now directive.now.operands) progress.old) }
+        ≡ arrival (B.at macros.now.bank.now)
+        (condition directive.now.place directive.now.word.now macros.now.definitions.now
+        directive.now.operands) progress.old) }
 {
     let read = read_defined(macros, directive.operands.as_slice(), progress)?;
     let given = replace_operand(macros, &directive.place, &read, progress)?;
@@ -52,7 +55,8 @@ fn read_defined<B: Bank<Key = Key, Answer = Answer>>(
     progress: &mut Progress<B>,
 ) -> Result<Vec<PlacedToken>, AllocError>
     ensures { IfOk result (λ read. arrived (tokens_in read.items) progress.new
-        ≡ arrival (B.at macros.now.bank.now) (defined_read macros.now.definitions.now (tokens_in operands.now)) progress.old) }
+        ≡ arrival (B.at macros.now.bank.now)
+        (defined_read macros.now.definitions.now (tokens_in operands.now)) progress.old) }
 {
     let alloc = progress.allocator();
     let mut read = Vec::new(alloc);
@@ -73,13 +77,15 @@ fn read_defined<B: Bank<Key = Key, Answer = Answer>>(
     Ok(read)
 }
 
-// The name that is asked for where a token and the rest of the tokens are a `defined X`, and what follows it.
+// The name that is asked for where a token and the rest of the tokens are a `defined X`, and what
+// follows it.
 fn defined_at<'a>(
     first: &PlacedToken,
     rest: &'a [PlacedToken],
 ) -> Option<(&'a Spelling, &'a [PlacedToken])>
     ensures { option_map (λ d. (d.0.now, tokens_in d.1.now)) result
-        ≡ option_map {U = Token × List Token} (λ d. (d.0, drop d.1 (tokens_in rest.entry.now))) (defined_at first.now.token (tokens_in rest.entry.now)) }
+        ≡ option_map {U = Token × List Token} (λ d. (d.0, drop d.1 (tokens_in rest.entry.now)))
+        (defined_at first.now.token (tokens_in rest.entry.now)) }
 {
     if first.token.as_bytes() != b"defined".as_slice() {
         return None;
@@ -134,7 +140,9 @@ fn bad_condition<B: Bank<Key = Key, Answer = Answer>>(
     progress: &mut Progress<B>,
 ) -> Result<(), AllocError>
     ensures { OnOk result (progress.new
-        ≡ after_item rules (Kept (Fault directive.now.place BadCondition (Some directive.now.word.now))) progress.old) }
+        ≡ after_item rules
+        (Kept (Fault directive.now.place BadCondition (Some directive.now.word.now)))
+        progress.old) }
 {
     let text = directive.word.clone()?;
     let place = directive.place.clone()?;

@@ -59,7 +59,8 @@ impl Definitions {
         bank: &'a B,
         progress: &mut Progress<B>,
     ) -> Result<Option<&'a [PlacedToken]>, AllocError>
-        ensures { IfOk result (λ body. arrived (option_map tokens_in (option_copied body)) progress.new
+        ensures { IfOk result (λ body.
+            arrived (option_map tokens_in (option_copied body)) progress.new
             ≡ arrival (B.at bank.now) (macro_of self.now word.now) progress.old) }
     {
         match self.entries.get(word) {

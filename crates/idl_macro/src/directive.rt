@@ -25,7 +25,8 @@ pub struct Directive<'a> {
     pub operands: FileTokens<'a>,
 }
 
-/// `define`: a macro is defined. Where it is there with other tokens, that is a fault, and it stays.
+/// `define`: a macro is defined. Where it is there with other tokens, that is a fault, and it
+/// stays.
 pub fn define<B: Bank<Key = Key, Answer = Answer>>(
     definitions: &mut Definitions,
     directive: &Directive<'_>,
@@ -33,7 +34,9 @@ pub fn define<B: Bank<Key = Key, Answer = Answer>>(
     progress: &mut Progress<B>,
 ) -> Result<(), AllocError>
     ensures { OnOk result (arrived definitions.new progress.new
-        ≡ arrival (B.at bank.now) (define directive.now.place directive.now.word.now definitions.old directive.now.operands) progress.old) }
+        ≡ arrival (B.at bank.now)
+        (define directive.now.place directive.now.word.now definitions.old
+        directive.now.operands) progress.old) }
 {
     let Some((word, body)) = definition_in(&directive.operands) else {
         return malformed(directive, progress);
@@ -53,7 +56,9 @@ pub fn undef<B: Bank<Key = Key, Answer = Answer>>(
     progress: &mut Progress<B>,
 ) -> Result<(), AllocError>
     ensures { OnOk result ((bank : Key → Option Answer) → arrived definitions.new progress.new
-        ≡ arrival bank (undef directive.now.place directive.now.word.now definitions.old directive.now.operands) progress.old) }
+        ≡ arrival bank
+        (undef directive.now.place directive.now.word.now definitions.old
+        directive.now.operands) progress.old) }
 {
     match first_word(directive.operands.as_slice()) {
         Some(word) => {
@@ -64,14 +69,17 @@ pub fn undef<B: Bank<Key = Key, Answer = Answer>>(
     }
 }
 
-/// `ifdef`: whether the macro with the first word after the directive's is there. Where there is no word, that is a fault.
+/// `ifdef`: whether the macro with the first word after the directive's is there. Where there is no
+/// word, that is a fault.
 pub fn ifdef<B: Bank<Key = Key, Answer = Answer>>(
     macros: &Macros<'_, B>,
     directive: &Directive<'_>,
     progress: &mut Progress<B>,
 ) -> Result<bool, AllocError>
     ensures { IfOk result (λ taken. arrived taken progress.new
-        ≡ arrival (B.at macros.now.bank.now) (ifdef directive.now.place directive.now.word.now macros.now.definitions.now directive.now.operands) progress.old) }
+        ≡ arrival (B.at macros.now.bank.now)
+        (ifdef directive.now.place directive.now.word.now macros.now.definitions.now
+        directive.now.operands) progress.old) }
 {
     match is_macro_there(macros, directive, progress)? {
         Some(is_there) => Ok(is_there),
@@ -79,14 +87,17 @@ pub fn ifdef<B: Bank<Key = Key, Answer = Answer>>(
     }
 }
 
-/// `ifndef`: whether the macro with the first word after the directive's isn't there. Where there is no word, that is a fault.
+/// `ifndef`: whether the macro with the first word after the directive's isn't there. Where there
+/// is no word, that is a fault.
 pub fn ifndef<B: Bank<Key = Key, Answer = Answer>>(
     macros: &Macros<'_, B>,
     directive: &Directive<'_>,
     progress: &mut Progress<B>,
 ) -> Result<bool, AllocError>
     ensures { IfOk result (λ taken. arrived taken progress.new
-        ≡ arrival (B.at macros.now.bank.now) (ifndef directive.now.place directive.now.word.now macros.now.definitions.now directive.now.operands) progress.old) }
+        ≡ arrival (B.at macros.now.bank.now)
+        (ifndef directive.now.place directive.now.word.now macros.now.definitions.now
+        directive.now.operands) progress.old) }
 {
     match is_macro_there(macros, directive, progress)? {
         Some(is_there) => Ok(!is_there),
@@ -101,7 +112,9 @@ fn is_macro_there<B: Bank<Key = Key, Answer = Answer>>(
     progress: &mut Progress<B>,
 ) -> Result<Option<bool>, AllocError>
     ensures { IfOk result (λ there. arrived there progress.new
-        ≡ arrival (B.at macros.now.bank.now) (is_macro_there directive.now.place directive.now.word.now macros.now.definitions.now directive.now.operands) progress.old) }
+        ≡ arrival (B.at macros.now.bank.now)
+        (is_macro_there directive.now.place directive.now.word.now macros.now.definitions.now
+        directive.now.operands) progress.old) }
 {
     match first_word(directive.operands.as_slice()) {
         Some(word) => {
@@ -121,7 +134,9 @@ fn malformed<B: Bank<Key = Key, Answer = Answer>>(
     progress: &mut Progress<B>,
 ) -> Result<(), AllocError>
     ensures { OnOk result (progress.new
-        ≡ after_item rules (Kept (Fault directive.now.place MalformedMacro (Some directive.now.word.now))) progress.old) }
+        ≡ after_item rules
+        (Kept (Fault directive.now.place MalformedMacro (Some directive.now.word.now)))
+        progress.old) }
 {
     let text = directive.word.clone()?;
     let place = directive.place.clone()?;
@@ -135,7 +150,8 @@ fn other_definition<B: Bank<Key = Key, Answer = Answer>>(
     progress: &mut Progress<B>,
 ) -> Result<(), AllocError>
     ensures { OnOk result (progress.new
-        ≡ after_item rules (Kept (Fault directive.now.place OtherDefinition (Some word.now))) progress.old) }
+        ≡ after_item rules
+        (Kept (Fault directive.now.place OtherDefinition (Some word.now))) progress.old) }
 {
     let text = word.clone()?;
     let place = directive.place.clone()?;
@@ -178,7 +194,8 @@ fn opens_parameters(token: &PlacedToken) -> bool
 
 // Whether there is a macro with other tokens.
 fn differs(old: Option<&[PlacedToken]>, body: &[PlacedToken]) -> bool
-    ensures { result ≡ differs (option_map tokens_in (option_copied old.entry)) (tokens_in body.now) }
+    ensures { result
+        ≡ differs (option_map tokens_in (option_copied old.entry)) (tokens_in body.now) }
 {
     match old {
         Some(old) => !are_same(old, body),

@@ -1,6 +1,7 @@
 //! The replacement of macros: a word by the tokens of its body, which are scanned again.
 //!
-//! Replacements that stand in one another are kept on a stack of their own, so that no depth of them is too much.
+//! Replacements that stand in one another are kept on a stack of their own, so that no depth of
+//! them is too much.
 
 ghost use Rattle.std.specs.Prelude.{◌≡◌, ◌≢◌, ◌<◌, ◌∷◌, [], ℕ, List, Option, None, IfOk, OnOk, is_some, reverse};
 ghost use Rattle.std.specs.Map.{keys_of, lookup};
@@ -39,7 +40,9 @@ pub fn replace_text<B: Bank<Key = Key, Answer = Answer>>(
     tokens: &[PlacedToken],
     progress: &mut Progress<B>,
 ) -> Result<(), AllocError>
-    ensures { OnOk result (progress.new ≡ reached (B.at macros.now.bank.now) (text file.now macros.now.definitions.now tokens.now) progress.old) }
+    ensures { OnOk result (progress.new
+        ≡ reached (B.at macros.now.bank.now)
+        (text file.now macros.now.definitions.now tokens.now) progress.old) }
 {
     let mut output = Output::Text;
     'tokens: for token in tokens {
@@ -52,7 +55,8 @@ pub fn replace_text<B: Bank<Key = Key, Answer = Answer>>(
     Ok(())
 }
 
-/// The tokens of a condition or of an operand are replaced at the place of the directive, counted, and given.
+/// The tokens of a condition or of an operand are replaced at the place of the directive, counted,
+/// and given.
 ///
 /// Where an item was past the limits, nothing is said of the tokens.
 #[tactic(auto, unfolding(crate::specs::Replace::operand))]
@@ -63,7 +67,8 @@ pub fn replace_operand<B: Bank<Key = Key, Answer = Answer>>(
     progress: &mut Progress<B>,
 ) -> Result<Vec<Token>, AllocError>
     ensures { IfOk result (λ given. arrived given.items progress.new
-        ≡ arrival (B.at macros.now.bank.now) (operand place.now macros.now.definitions.now (tokens_in tokens.now)) progress.old) }
+        ≡ arrival (B.at macros.now.bank.now)
+        (operand place.now macros.now.definitions.now (tokens_in tokens.now)) progress.old) }
 {
     let alloc = progress.allocator();
     let mut output = Output::Operand(Vec::new(alloc));
@@ -74,16 +79,19 @@ pub fn replace_operand<B: Bank<Key = Key, Answer = Answer>>(
     }
 }
 
-/// How many replacements may stand in one another is no bound: more room for them than there are turns left changes nothing.
-/// This does nothing: it carries the law.
+/// How many replacements may stand in one another is no bound: more room for them than there are
+/// turns left changes nothing. This does nothing: it carries the law.
 pub fn nesting()
-    ensures { (bank : Key → Option Answer) (item : Token → Item) (place : Place) (definitions : Definitions) (room more : ℕ) (hidden : List (List ℕ)) (t : Token) (p : Reached)
+    ensures { (bank : Key → Option Answer) (item : Token → Item) (place : Place)
+        (definitions : Definitions) (room more : ℕ) (hidden : List (List ℕ)) (t : Token)
+        (p : Reached)
         → turns_left p.left < room → turns_left p.left < more
-        → reached bank (replaced item place definitions room hidden t) p ≡ reached bank (replaced item place definitions more hidden t) p }
+        → reached bank (replaced item place definitions room hidden t) p
+        ≡ reached bank (replaced item place definitions more hidden t) p }
 {}
 
-// The tokens are replaced at one place. Words in whose replacement the work stands have an entry each, with what follows
-// them, the outermost first.
+// The tokens are replaced at one place. Words in whose replacement the work stands have an entry
+// each, with what follows them, the outermost first.
 fn replace<B: Bank<Key = Key, Answer = Answer>>(
     macros: &Macros<'_, B>,
     place: &Place,
@@ -92,8 +100,15 @@ fn replace<B: Bank<Key = Key, Answer = Answer>>(
     output: &mut Output,
 ) -> Result<(), AllocError>
     ensures item { OnOk result (item_of output.new ≡ item_of output.old) }
-    ensures progress { OnOk result (progress.new ≡ reached (B.at macros.now.bank.now) (replaced_at (item_of output.old place.now) place.now macros.now.definitions.now (tokens_in tokens.now)) progress.old) }
-    ensures given { OnOk result (progress.new.left ≢ None → given output.new ≡ given_more (given output.old) (outcome (replaced_at (item_of output.old place.now) place.now macros.now.definitions.now (tokens_in tokens.now)) (B.at macros.now.bank.now))) }
+    ensures progress { OnOk result (progress.new
+        ≡ reached (B.at macros.now.bank.now)
+        (replaced_at (item_of output.old place.now) place.now macros.now.definitions.now
+        (tokens_in tokens.now)) progress.old) }
+    ensures given { OnOk result (progress.new.left ≢ None → given output.new
+        ≡ given_more (given output.old)
+        (outcome
+        (replaced_at (item_of output.old place.now) place.now macros.now.definitions.now
+        (tokens_in tokens.now)) (B.at macros.now.bank.now))) }
 {
     let mut stack: IndexMap<Spelling, &[PlacedToken]> = IndexMap::new(progress.allocator());
     let mut left = tokens;
@@ -122,7 +137,8 @@ fn replace<B: Bank<Key = Key, Answer = Answer>>(
     Ok(())
 }
 
-// The body that a token is replaced by: its macro's, if it is a word and doesn't stand in its own replacement.
+// The body that a token is replaced by: its macro's, if it is a word and doesn't stand in its own
+// replacement.
 fn replacement<'a, B: Bank<Key = Key, Answer = Answer>>(
     stack: &IndexMap<Spelling, &'a [PlacedToken]>,
     macros: &Macros<'a, B>,
@@ -130,7 +146,9 @@ fn replacement<'a, B: Bank<Key = Key, Answer = Answer>>(
     progress: &mut Progress<B>,
 ) -> Result<Option<&'a [PlacedToken]>, AllocError>
     ensures { IfOk result (λ body. arrived (option_map tokens_in (option_copied body)) progress.new
-        ≡ arrival (B.at macros.now.bank.now) (replacement macros.now.definitions.now (keys_of (reverse stack.now.entries)) token.now) progress.old) }
+        ≡ arrival (B.at macros.now.bank.now)
+        (replacement macros.now.definitions.now (keys_of (reverse stack.now.entries)) token.now)
+        progress.old) }
 {
     if !token.is_word() {
         return Ok(None);
@@ -159,8 +177,10 @@ impl Output {
         progress: &mut Progress<B>,
     ) -> Result<(), AllocError>
         ensures item { OnOk result (item_of self.new ≡ item_of self.old) }
-        ensures given { OnOk result (given self.new ≡ given_more (given self.old) (token.now ∷ [])) }
-        ensures progress { OnOk result (progress.new ≡ after_item rules (item_of self.old place.now token.now) progress.old) }
+        ensures given { OnOk result
+            (given self.new ≡ given_more (given self.old) (token.now ∷ [])) }
+        ensures progress { OnOk result
+            (progress.new ≡ after_item rules (item_of self.old place.now token.now) progress.old) }
     {
         let token = token.clone()?;
         let place = place.clone()?;
