@@ -1,6 +1,6 @@
 //! A table of entries by their keys, in the order in which the keys were first put in.
 
-ghost use Rattle.std.specs.Prelude.{◌≡◌, ◌↔◌, ◌++◌, ◌∷◌, [], ℕ, None, Some, IsTrue, IsNone, OnOk, OnErr, is_some, length, slice_get};
+ghost use Rattle.std.specs.Prelude.{◌≡◌, ◌↔◌, ◌++◌, ◌∷◌, [], ℕ, Some, false, IsTrue, IsNone, OnOk, OnErr, is_some, length, slice_get};
 ghost use Rattle.std.specs.Map.{keys_of, lookup};
 ghost use Rattle.std.specs.Option.{option_copied, option_map, option_to_list};
 ghost use Rattle.idl_base.specs.Table.{insert_entry};
@@ -95,7 +95,7 @@ impl<K: Datum + Ord, V: Drop> Table<K, V> {
     /// Want of memory leaves the table as it was.
     pub fn insert(&mut self, key: K, value: V) -> Result<(), AllocError>
         ensures entries { OnOk result (self.new ≡ insert_entry K.eq self.old key value) }
-        ensures new_key { OnOk result (lookup (K.eq key) self.old ≡ None → self.new ≡ self.old ++ (key, value) ∷ []) }
+        ensures new_key { OnOk result (is_some (lookup (K.eq key) self.old) ≡ false → self.new ≡ self.old ++ (key, value) ∷ []) }
         ensures err { OnErr result (self.new ≡ self.old) }
     {
         if let Some(place) = self.place_of(&key) {

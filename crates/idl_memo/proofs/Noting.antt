@@ -1,5 +1,5 @@
 -- Noting a key in the entries of a table.
-use Rattle.std.proofs.Common.{◌≡◌, Bool, true, false, cond, ◌||◌, List, [], ◌∷◌, ◌++◌, Option, None, Some, is_some, refl, sym, ap, ◌∙◌}
+use Rattle.std.proofs.Common.{◌≡◌, Bool, true, false, cond, ◌||◌, List, [], ◌∷◌, ◌++◌, is_some, refl, sym, ap, ◌∙◌}
 use Rattle.std.specs.Map.{lookup, keys_of}
 use Rattle.std.specs.List.{list_any}
 use Rattle.std.proofs.lemmas.Map.Made.{is_some-lookup}
@@ -14,14 +14,6 @@ module _ {K V : Type 0} (eq : K → K → Bool) where
   -- a key has an entry if it is logged
   is_logged-lookup : (log : List (K × V)) (k : K) → is_logged eq log k ≡ is_some (lookup (eq k) log)
   is_logged-lookup log k = sym (list_any-keys_of log k) ∙ sym (is_some-lookup (eq k) log)
-
-  -- a key without entry has none
-  pub lookup-absent : (log : List (K × V)) (k : K) → is_some (lookup (eq k) log) ≡ false → lookup (eq k) log ≡ None
-  lookup-absent log k = by (lookup (eq k) log)
-    where
-      by : (o : Option V) → is_some o ≡ false → o ≡ None
-      by None h = refl
-      by (Some v) h = cc
 
   module _ (bank : K → V) (log : List (K × V)) (k : K) where
     -- a key that has an entry is noted already

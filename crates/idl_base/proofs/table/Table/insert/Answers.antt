@@ -1,4 +1,4 @@
-use Rattle.std.proofs.Common.{◌≡◌, ℕ, ◌<◌, [], ◌∷◌, ◌++◌, cond, None, Some, length, slice_get, refl, sym, ap, ◌∙◌, subst, arith}
+use Rattle.std.proofs.Common.{◌≡◌, ℕ, ◌<◌, [], ◌∷◌, ◌++◌, cond, None, Some, is_some, true≢false, length, slice_get, refl, sym, ap, ◌∙◌, subst, arith}
 use Rattle.std.specs.Prelude.{slice_set}
 use Rattle.std.specs.BTreeMap.{get, is_at}
 use Rattle.std.specs.Map.{keys_of, lookup}
@@ -33,11 +33,12 @@ returns-in-Some-clause-entries g c =
     (λ j h. sym (same_Some place j ((c.in-Some.ensures j).1 h))) ((c.in-Some.ensures place).0 refl))
 
 pub returns-in-Some-clause-new_key : goal.returns-in-Some-clause-new_key
-returns-in-Some-clause-new_key g c none =
+returns-in-Some-clause-new_key g c absent =
     let place = c.in-Some.place in
     let d = c.index_mut-entry.result.now in
-    absurd (none-some _ (sym none ∙ lookup-at g.K.PartialEq.eq (Decides-eq g.K.PartialEq.eq g.met.K.Eq.laws g.met.K.Datum.same) c.args.self.now c.args.key place d
-    (λ j h. sym (same_Some place j ((c.in-Some.ensures j).1 h))) ((c.in-Some.ensures place).0 refl)))
+    let there = lookup-at g.K.PartialEq.eq (Decides-eq g.K.PartialEq.eq g.met.K.Eq.laws g.met.K.Datum.same) c.args.self.now c.args.key place d
+    (λ j h. sym (same_Some place j ((c.in-Some.ensures j).1 h))) ((c.in-Some.ensures place).0 refl) in
+    absurd (true≢false (sym (ap is_some there) ∙ absent))
 
 pub invariant_of-self-2 : goal.invariant_of-self-2
 invariant_of-self-2 g c =
