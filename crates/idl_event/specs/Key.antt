@@ -1,7 +1,9 @@
 -- When two keys of a root are one.
 use Rattle.std.specs.Prelude.{◌≡◌, ℕ, Bool, true, List, [], ◌∷◌, refl}
-use Rattle.std.specs.Cmp.Lexicographic.{bytes_decides}
+use Rattle.std.specs.Cmp.Lexicographic.{bytes_decides, slice_cmp}
+use Rattle.std.specs.Ordering.{nat_cmp}
 use Rattle.std.specs.Str.{bytes_eq}
+use Rattle.std.specs.declared.cmp.Ordering.{Ordering}
 use Rattle.std.proofs.Common.{ap}
 use Rattle.idl_event.specs.declared.key.Key.{Key}
 use Rattle.idl_event.specs.declared.key.Key.TheVariants.{Macro, File, Search}
@@ -14,6 +16,10 @@ key_code Search = 2 ∷ []
 
 abbrev pub key_eq : Key → Key → Bool
 key_eq key other = bytes_eq (key_code key) (key_code other)
+
+-- macros come before files, and files before the directories; words and names among themselves go byte by byte
+abbrev pub key_cmp : Key → Key → Ordering
+key_cmp key other = slice_cmp nat_cmp (key_code key) (key_code other)
 
 -- keys that `==` finds equal are one
 pub same_key : (key other : Key) → key_eq key other ≡ true → key ≡ other

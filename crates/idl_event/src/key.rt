@@ -1,18 +1,19 @@
 //! What a root asks, and what it is answered.
 
-ghost use Rattle.std.specs.Prelude.{◌≡◌};
-ghost use Rattle.std.specs.Cmp.{on_equiv, on_per, partial_equiv_from_equiv};
-ghost use Rattle.std.specs.Cmp.Lexicographic.{nat_list_eq_equiv};
-ghost use Rattle.idl_event.specs.Key.{key_code, key_eq};
+ghost use Rattle.std.specs.Prelude.{◌≡◌, Some, refl};
+ghost use Rattle.std.specs.Cmp.{on_equiv, on_per, on_po, on_total, partial_equiv_from_equiv};
+ghost use Rattle.std.specs.Cmp.Lexicographic.{nat_list_cmp_total, nat_list_eq_equiv, texts_po, texts_ties};
+ghost use Rattle.idl_event.specs.Key.{key_cmp, key_code, key_eq};
 
 use crate::file_name::FileName;
 use crate::lexed_file::LexedFile;
 use idl_base::{Datum, Seq};
 use idl_lex::Spelling;
 use idl_source::Directory;
+use std::cmp::Ordering;
 
 /// What is asked of the bank of a root.
-#[derive(Clone, Hash, Drop)]
+#[derive(Clone, Drop)]
 pub enum Key {
     /// The body of the session's macro with this word.
     Macro(Spelling),
@@ -54,8 +55,39 @@ impl Eq for Key {
     ghost laws = { on_equiv key_code nat_list_eq_equiv };
 }
 
+impl PartialOrd for Key {
+    ghost partial_cmp = { λ key other. Some (key_cmp key other) };
+
+    ghost laws = { on_po key_code texts_po };
+
+    fn partial_cmp(&self, other: &Key) -> Option<Ordering> {
+        Some(self.cmp(other))
+    }
+}
+
+impl Ord for Key {
+    ghost cmp = { key_cmp };
+
+    ghost total = { on_total key_code nat_list_cmp_total };
+
+    ghost matches_partial_cmp = { λ key other. refl };
+
+    ghost matches_eq = { λ key other. texts_ties (key_code key) (key_code other) };
+
+    fn cmp(&self, other: &Key) -> Ordering
+        ensures { result ≡ key_cmp self.now other.now }
+    {
+        match (self, other) {
+            (Key::Macro(word), Key::Macro(other)) => word.cmp(other),
+            (Key::File(name), Key::File(other)) => name.cmp(other),
+            (Key::Search, Key::Search) => Ordering::Equal,
+            (Key::Macro(_), _) | (_, Key::Search) => Ordering::Less,
+            _ => Ordering::Greater,
+        }
+    }
+}
+
 impl Datum for Key {
-    ghost use Rattle.std.specs.Prelude.{refl};
     ghost use Rattle.std.proofs.Common.{ap};
     ghost use Rattle.idl_event.specs.Key.{same_key};
     ghost use Rattle.idl_event.specs.declared.key.Key.TheVariants.{Macro, File, Search};

@@ -44,6 +44,18 @@ impl<'a> FileTokens<'a> {
         }
     }
 
+    /// The same tokens again. It takes no memory.
+    pub fn copied(&self) -> FileTokens<'a>
+        ensures { result ≡ self.now }
+    {
+        FileTokens {
+            file: self.file,
+            from: self.from,
+            to: self.to,
+            tokens: self.tokens,
+        }
+    }
+
     /// The tokens in order.
     pub fn as_slice(&self) -> &'a [PlacedToken]
         ensures { result.now ≡ self.now }

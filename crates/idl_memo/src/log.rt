@@ -5,8 +5,7 @@ ghost use Rattle.std.specs.Option.{option_copied, option_map};
 ghost use Rattle.idl_base.specs.Query.{noted};
 
 use crate::Bank;
-use idl_base::Datum;
-use indexmap::IndexMap;
+use idl_base::{Datum, Table};
 use std::alloc::{AllocError, Global};
 use std::marker::Model;
 
@@ -15,7 +14,7 @@ use std::marker::Model;
 /// A key without answer is logged as such. To every contract a log is the list of its entries. Only `ask` takes memory.
 #[derive(Drop)]
 pub struct Log<B: Bank> {
-    entries: IndexMap<B::Key, Option<B::Answer>>,
+    entries: Table<B::Key, Option<B::Answer>>,
 }
 
 impl<B: Bank> Model for Log<B> {
@@ -23,7 +22,7 @@ impl<B: Bank> Model for Log<B> {
 
     ghost Value = { List (B.Key × Option B.Answer) };
 
-    ghost view = { λ log. log.entries.entries };
+    ghost view = { λ log. log.entries };
 }
 
 impl<B: Bank> Log<B> {
@@ -32,7 +31,7 @@ impl<B: Bank> Log<B> {
         ensures { result ≡ [] }
     {
         Log {
-            entries: IndexMap::new(alloc),
+            entries: Table::new(alloc),
         }
     }
 
@@ -71,7 +70,7 @@ impl<B: Bank> Log<B> {
         ensures err { OnErr result (self.new ≡ self.old) }
     {
         let answer = bank.answer(key);
-        if self.entries.contains_key(key) {
+        if self.entries.contains(key) {
             return Ok(answer);
         }
         let copy = copied(answer)?;

@@ -1,0 +1,147 @@
+-- A table's entries by the index of their places.
+use Rattle.std.specs.Prelude.{slice_get, slice_set, slice_index_or}
+use Rattle.std.proofs.Common.{◌≡◌, ◌≢◌, ℕ, zero, suc, ◌<◌, Bool, true, false, cond, if◌then◌else◌, List, [], ◌∷◌, ◌++◌, Option, None, Some, length, ◌⊎◌, inl, inr, refl, sym, ap, ◌∙◌, arith}
+use Rattle.std.specs.Bool.{Decides}
+use Rattle.std.specs.Map.{lookup, keys_of}
+use Rattle.std.proofs.lemmas.Option.{same_Some, slice_get_within}
+use Rattle.idl_base.specs.Table.{insert_entry, IsIndexOf}
+
+module _ {K V : Type 0} where
+  -- the keys of entries behind which one more is put
+  pub keys_of-push : (es : List (K × V)) (k : K) (v : V) → keys_of (es ++ (k, v) ∷ []) ≡ keys_of es ++ k ∷ []
+  keys_of-push [] k v = refl
+  keys_of-push (e ∷ es) k v = ap (λ ks. e.0 ∷ ks) (keys_of-push es k v)
+
+  -- an entry that takes another value keeps its key
+  pub keys_of-slice_set : (es : List (K × V)) (i : ℕ) (k : K) (v : V) → slice_get (keys_of es) i ≡ Some k → keys_of (slice_set es i (k, v)) ≡ keys_of es
+  keys_of-slice_set [] i k v h = refl
+  keys_of-slice_set (e ∷ es) zero k v h = ap (λ x. x ∷ keys_of es) (sym (same_Some e.0 k h))
+  keys_of-slice_set (e ∷ es) (suc i) k v h = ap (λ ks. e.0 ∷ ks) (keys_of-slice_set es i k v h)
+
+  -- the entry at the place of a key is the key's
+  pub key-at : (es : List (K × V)) (i : ℕ) (k : K) (d : K × V) → slice_get (keys_of es) i ≡ Some k → (slice_index_or es i d).0 ≡ k
+  key-at [] i k d h = cc
+  key-at (e ∷ es) zero k d h = same_Some e.0 k h
+  key-at (e ∷ es) (suc i) k d h = key-at es i k d h
+
+module _ {K V : Type 0} (eq : K → K → Bool) (exact : (x y : K) → Decides (eq x y) (x ≡ y)) where
+  -- the value at a key that stands at one place alone
+  pub lookup-at : (es : List (K × V)) (k : K) (i : ℕ) (d : K × V) → ((j : ℕ) → slice_get (keys_of es) j ≡ Some k → j ≡ i) → slice_get (keys_of es) i ≡ Some k
+      → lookup (eq k) es ≡ Some (slice_index_or es i d).1
+  lookup-at [] k i d only at = cc
+  lookup-at (e ∷ es) k zero d only at = ap (λ b. cond b (Some e.1) (lookup (eq k) es)) ((exact k e.0).1 (sym (same_Some e.0 k at)))
+  lookup-at (e ∷ es) k (suc i) d only at = by (eq k e.0) refl (lookup-at es k i d (λ j h. let more : suc j ≡ suc i = only (suc j) h in omega arith) at)
+    where
+      by : (b : Bool) → eq k e.0 ≡ b → lookup (eq k) es ≡ Some (slice_index_or es i d).1 → lookup (eq k) (e ∷ es) ≡ Some (slice_index_or es i d).1
+      by true t rest = absurd (let zero_is : 0 ≡ suc i = only 0 (ap Some (sym ((exact k e.0).0 t))) in omega arith)
+      by false t rest = ap (λ b. cond b (Some e.1) (lookup (eq k) es)) t ∙ rest
+
+  -- there is none at a key that stands nowhere
+  pub lookup-nowhere : (es : List (K × V)) (k : K) → ((j : ℕ) → slice_get (keys_of es) j ≢ Some k) → lookup (eq k) es ≡ None
+  lookup-nowhere [] k nowhere = refl
+  lookup-nowhere (e ∷ es) k nowhere = by (eq k e.0) refl (lookup-nowhere es k (λ j. nowhere (suc j)))
+    where
+      by : (b : Bool) → eq k e.0 ≡ b → lookup (eq k) es ≡ None → lookup (eq k) (e ∷ es) ≡ None
+      by true t rest = absurd (nowhere 0 (ap Some (sym ((exact k e.0).0 t))))
+      by false t rest = ap (λ b. cond b (Some e.1) (lookup (eq k) es)) t ∙ rest
+
+  -- a put at a key that stands at one place alone
+  pub insert_entry-at : (es : List (K × V)) (k : K) (v : V) (i : ℕ) → ((j : ℕ) → slice_get (keys_of es) j ≡ Some k → j ≡ i) → slice_get (keys_of es) i ≡ Some k
+      → insert_entry eq es k v ≡ slice_set es i (k, v)
+  insert_entry-at [] k v i only at = cc
+  insert_entry-at (e ∷ es) k v zero only at =
+      ap (λ b. if b then (e.0, v) ∷ es else e ∷ insert_entry eq es k v) ((exact k e.0).1 (sym (same_Some e.0 k at)))
+      ∙ ap (λ x. (x, v) ∷ es) (same_Some e.0 k at)
+  insert_entry-at (e ∷ es) k v (suc i) only at = by (eq k e.0) refl (insert_entry-at es k v i (λ j h. let more : suc j ≡ suc i = only (suc j) h in omega arith) at)
+    where
+      by : (b : Bool) → eq k e.0 ≡ b → insert_entry eq es k v ≡ slice_set es i (k, v) → insert_entry eq (e ∷ es) k v ≡ e ∷ slice_set es i (k, v)
+      by true t rest = absurd (let zero_is : 0 ≡ suc i = only 0 (ap Some (sym ((exact k e.0).0 t))) in omega arith)
+      by false t rest = ap (λ b. if b then (e.0, v) ∷ es else e ∷ insert_entry eq es k v) t ∙ ap (λ fs. e ∷ fs) rest
+
+  -- a put at a new key
+  pub insert_entry-new : (es : List (K × V)) (k : K) (v : V) → lookup (eq k) es ≡ None → insert_entry eq es k v ≡ es ++ (k, v) ∷ []
+  insert_entry-new [] k v none = refl
+  insert_entry-new (e ∷ es) k v none = by (eq k e.0) refl (insert_entry-new es k v)
+    where
+      by : (b : Bool) → eq k e.0 ≡ b → (lookup (eq k) es ≡ None → insert_entry eq es k v ≡ es ++ (k, v) ∷ []) → insert_entry eq (e ∷ es) k v ≡ e ∷ (es ++ (k, v) ∷ [])
+      by true t rest = let some : Some e.1 ≡ None = sym (ap (λ b. cond b (Some e.1) (lookup (eq k) es)) t) ∙ none in cc
+      by false t rest =
+          ap (λ b. if b then (e.0, v) ∷ es else e ∷ insert_entry eq es k v) t
+          ∙ ap (λ fs. e ∷ fs) (rest (sym (ap (λ b. cond b (Some e.1) (lookup (eq k) es)) t) ∙ none))
+
+module _ {K : Type 0} where
+  -- an item before the last
+  pub slice_get-front : (ks : List K) (k q : K) (i : ℕ) → slice_get ks i ≡ Some q → slice_get (ks ++ k ∷ []) i ≡ Some q
+  slice_get-front [] k q i h = cc
+  slice_get-front (x ∷ ks) k q zero h = h
+  slice_get-front (x ∷ ks) k q (suc i) h = slice_get-front ks k q i h
+
+  -- the last item
+  pub slice_get-last : (ks : List K) (k : K) → slice_get (ks ++ k ∷ []) (length ks) ≡ Some k
+  slice_get-last [] k = refl
+  slice_get-last (x ∷ ks) k = slice_get-last ks k
+
+  -- an item is one before the last, or the last
+  pub slice_get-push : (ks : List K) (k q : K) (i : ℕ) → slice_get (ks ++ k ∷ []) i ≡ Some q → (slice_get ks i ≡ Some q) ⊎ ((i ≡ length ks) × (k ≡ q))
+  slice_get-push [] k q zero h = inr (refl, same_Some k q h)
+  slice_get-push [] k q (suc i) h = cc
+  slice_get-push (x ∷ ks) k q zero h = inl h
+  slice_get-push (x ∷ ks) k q (suc i) h = elim (slice_get-push ks k q i h) [ inl there ↦ inl there | inr here ↦ inr (ap suc here.0, here.1) ]
+
+-- an index lacks a key that stands nowhere
+pub IsIndexOf-nowhere : {K : Type 0} (places : K → Option ℕ) (ks : List K) (k : K) → IsIndexOf places ks → ((i : ℕ) → slice_get ks i ≢ Some k) → places k ≡ None
+IsIndexOf-nowhere places ks k index nowhere = by (places k) refl
+  where
+    by : (o : Option ℕ) → places k ≡ o → places k ≡ None
+    by None h = h
+    by (Some i) h = absurd (nowhere i ((index k i).0 h))
+
+-- the index after a step, where its test finds a key exactly
+module _ {K : Type 0} (test : K → Bool) (k : K) (finds : (q : K) → Decides (test q) (k ≡ q)) (places new : K → Option ℕ) (ks : List K) where
+  -- a new key goes last
+  pub IsIndexOf-push : IsIndexOf places ks → places k ≡ None → ((q : K) → new q ≡ cond (test q) (Some (length ks)) (places q)) → IsIndexOf new (ks ++ k ∷ [])
+  IsIndexOf-push index absent is q i = by (test q) refl
+    where
+      by : (b : Bool) → test q ≡ b → (new q ≡ Some i → slice_get (ks ++ k ∷ []) i ≡ Some q) × (slice_get (ks ++ k ∷ []) i ≡ Some q → new q ≡ Some i)
+      by true t =
+          let last : new q ≡ Some (length ks) = is q ∙ ap (λ b. cond b (Some (length ks)) (places q)) t in
+          let one : k ≡ q = (finds q).0 t in (
+            λ h. ap (slice_get (ks ++ k ∷ [])) (sym (same_Some (length ks) i (sym last ∙ h))) ∙ slice_get-last ks k ∙ ap Some one,
+            λ h. elim (slice_get-push ks k q i h) [
+              | inl there ↦ (let two : places k ≡ Some i = (index k i).1 (there ∙ ap Some (sym one)) in let none : None ≡ Some i = sym absent ∙ two in cc)
+              | inr here ↦ last ∙ ap Some (sym here.0)
+            ],
+          )
+      by false t =
+          let old : new q ≡ places q = is q ∙ ap (λ b. cond b (Some (length ks)) (places q)) t in (
+            λ h. slice_get-front ks k q i ((index q i).0 (sym old ∙ h)),
+            λ h. elim (slice_get-push ks k q i h) [
+              | inl there ↦ old ∙ (index q i).1 there
+              | inr here ↦ (let none : true ≡ false = sym ((finds q).1 here.1) ∙ t in cc)
+            ],
+          )
+
+  -- the last key goes
+  pub IsIndexOf-pop : IsIndexOf places (ks ++ k ∷ []) → ((q : K) → new q ≡ cond (test q) None (places q)) → IsIndexOf new ks
+  IsIndexOf-pop index is q i = by (test q) refl
+    where
+      by : (b : Bool) → test q ≡ b → (new q ≡ Some i → slice_get ks i ≡ Some q) × (slice_get ks i ≡ Some q → new q ≡ Some i)
+      by true t =
+          let gone : new q ≡ None = is q ∙ ap (λ b. cond b None (places q)) t in
+          let one : k ≡ q = (finds q).0 t in (
+            λ h. (let none : None ≡ Some i = sym gone ∙ h in cc),
+            λ h.
+                let last : places k ≡ Some (length ks) = (index k (length ks)).1 (slice_get-last ks k) in
+                let early : places k ≡ Some i = (index k i).1 (slice_get-front ks k k i (h ∙ ap Some (sym one))) in
+                let within : i < length ks = slice_get_within ks i q h in
+                let same : length ks ≡ i = same_Some (length ks) i (sym last ∙ early) in
+                absurd (omega arith),
+          )
+      by false t =
+          let old : new q ≡ places q = is q ∙ ap (λ b. cond b None (places q)) t in (
+            λ h. elim (slice_get-push ks k q i ((index q i).0 (sym old ∙ h))) [
+              | inl there ↦ there
+              | inr here ↦ (let none : true ≡ false = sym ((finds q).1 here.1) ∙ t in cc)
+            ],
+            λ h. old ∙ (index q i).1 (slice_get-front ks k q i h),
+          )

@@ -1,0 +1,66 @@
+use Rattle.std.proofs.Common.{◌≡◌, ℕ, ◌<◌, [], ◌∷◌, ◌++◌, cond, None, Some, is_some, true≢false, length, slice_get, refl, sym, ap, ◌∙◌, subst, arith}
+use Rattle.std.specs.Prelude.{slice_set}
+use Rattle.std.specs.BTreeMap.{get, is_at}
+use Rattle.std.specs.Map.{keys_of, lookup}
+use Rattle.std.proofs.lemmas.Map.Entries.{length-keys_of}
+use Rattle.std.proofs.lemmas.Option.{none-some, same_Some, slice_get_within}
+use Rattle.idl_base.specs.Table.{IsIndexOf}
+use Rattle.idl_base.proofs.Exactness.{Decides-eq, Decides-is_at}
+use Rattle.idl_base.proofs.TableLemmas.{IsIndexOf-nowhere, IsIndexOf-push, insert_entry-at, insert_entry-new, key-at, keys_of-push, keys_of-slice_set, lookup-at, lookup-nowhere}
+use Rattle.idl_base.proofs.table.Table.insert.Goals as goal
+
+pub index_mut-entry-requires : goal.index_mut-entry-requires
+index_mut-entry-requires g c =
+    let at : slice_get (keys_of c.args.self.now) c.in-Some.place ≡ Some c.args.key = (c.in-Some.ensures c.in-Some.place).0 refl in
+    let within : c.in-Some.place < length (keys_of c.args.self.now) = slice_get_within (keys_of c.args.self.now) c.in-Some.place c.args.key at in
+    omega (arith, ap length c.self.view_is, length-keys_of c.args.self.now)
+
+pub invariant_of-self : goal.invariant_of-self
+invariant_of-self g c =
+    let es = c.self.inside.entries.items in
+    let at : slice_get (keys_of es) c.in-Some.place ≡ Some c.args.key = ap (λ fs. slice_get (keys_of fs) c.in-Some.place) c.self.view_is ∙ (c.in-Some.ensures c.in-Some.place).0 refl in
+    let own : c.index_mut-entry.result.now.0 ≡ c.args.key = ap (λ e. e.0) c.index_mut-entry.ensures.value ∙ key-at es c.in-Some.place c.args.key c.index_mut-entry.result.now at in
+    subst (IsIndexOf (get g.K.Ord.cmp c.self.inside.places)) (sym (keys_of-slice_set es c.in-Some.place c.index_mut-entry.result.now.0 c.args.value (at ∙ ap Some (sym own)))) c.self.invariant
+
+pub returns-in-Some-clause-entries : goal.returns-in-Some-clause-entries
+returns-in-Some-clause-entries g c =
+    let es = c.self.inside.entries.items in
+    let place = c.in-Some.place in
+    let at : slice_get (keys_of es) place ≡ Some c.args.key = ap (λ fs. slice_get (keys_of fs) place) c.self.view_is ∙ (c.in-Some.ensures place).0 refl in
+    let own : c.index_mut-entry.result.now.0 ≡ c.args.key = ap (λ e. e.0) c.index_mut-entry.ensures.value ∙ key-at es place c.args.key c.index_mut-entry.result.now at in
+    (λ i. slice_set (c.self.view_is i) place (own i, c.args.value))
+    ∙ sym (insert_entry-at g.K.PartialEq.eq (Decides-eq g.K.PartialEq.eq g.met.K.Eq.laws g.met.K.Datum.same) c.args.self.now c.args.key c.args.value place
+    (λ j h. sym (same_Some place j ((c.in-Some.ensures j).1 h))) ((c.in-Some.ensures place).0 refl))
+
+pub returns-in-Some-clause-new_key : goal.returns-in-Some-clause-new_key
+returns-in-Some-clause-new_key g c absent =
+    let place = c.in-Some.place in
+    let d = c.index_mut-entry.result.now in
+    let there = lookup-at g.K.PartialEq.eq (Decides-eq g.K.PartialEq.eq g.met.K.Eq.laws g.met.K.Datum.same) c.args.self.now c.args.key place d
+    (λ j h. sym (same_Some place j ((c.in-Some.ensures j).1 h))) ((c.in-Some.ensures place).0 refl) in
+    absurd (true≢false (sym (ap is_some there) ∙ absent))
+
+pub invariant_of-self-2 : goal.invariant_of-self-2
+invariant_of-self-2 g c =
+    let cmp = g.K.Ord.cmp in
+    let es = c.self.inside.entries.items in
+    let copy = c.in_ok-copy.copy in
+    let own : copy ≡ c.args.key = g.met.K.Datum.copy c.args.key copy c.in_ok-copy.ensures.cases in
+    let nowhere = λ (j : ℕ) (h : slice_get (keys_of es) j ≡ Some copy). none-some j ((c.in_default.ensures j).1 (ap (λ fs. slice_get (keys_of fs) j) (sym c.self.view_is) ∙ h ∙ ap Some own)) in
+    let ends : length (keys_of es) ≡ c.len-place.result = omega (arith, length-keys_of es, c.len-place.ensures) in
+    let grown : c.push.new.self.items ≡ es ++ (c.args.key, c.args.value) ∷ [] = c.in_ok-push.ensures.items ∙ ap (λ fs. fs ++ (c.args.key, c.args.value) ∷ []) c.in_ok-reserve.ensures.items in
+    let keys : keys_of es ++ copy ∷ [] ≡ keys_of c.push.new.self.items = ap (λ k. keys_of es ++ k ∷ []) own ∙ sym (keys_of-push es c.args.key c.args.value) ∙ ap keys_of (sym grown) in
+    subst (IsIndexOf (get cmp c.insert.new.self)) keys
+    (IsIndexOf-push (is_at (cmp copy)) copy (Decides-is_at g.K.PartialEq.eq g.met.K.Eq.laws g.met.K.Datum.same cmp g.met.K.Ord.matches_eq copy)
+    (get cmp c.self.inside.places) (get cmp c.insert.new.self) (keys_of es) c.self.invariant
+    (IsIndexOf-nowhere (get cmp c.self.inside.places) (keys_of es) copy c.self.invariant nowhere)
+    (λ q. c.in_ok-insert.ensures.updates.0 q ∙ ap (λ n. cond (is_at (cmp copy) q) (Some n) (get cmp c.self.inside.places q)) (sym ends)))
+
+pub returns-clause-entries : goal.returns-clause-entries
+returns-clause-entries g c =
+    let exact = Decides-eq g.K.PartialEq.eq g.met.K.Eq.laws g.met.K.Datum.same in
+    let es = c.args.self.now in
+    let absent : lookup (g.K.PartialEq.eq c.args.key) es ≡ None = lookup-nowhere g.K.PartialEq.eq exact es c.args.key (λ j h. none-some j ((c.in_default.ensures j).1 h)) in
+    c.in_ok-push.ensures.items
+    ∙ ap (λ fs. fs ++ (c.args.key, c.args.value) ∷ []) (c.in_ok-reserve.ensures.items ∙ c.self.view_is)
+    ∙ sym (insert_entry-new g.K.PartialEq.eq exact es c.args.key c.args.value absent)

@@ -1,0 +1,11 @@
+-- A table: entries in the order in which their keys were first put in, and an index of their places by key.
+use Rattle.std.specs.Prelude.{◌≡◌, ◌↔◌, ℕ, Bool, List, [], ◌∷◌, Option, Some, slice_get, if◌then◌else◌}
+
+-- the entries after a put: a key that is there keeps its place and takes the value, and a new key goes last
+abbrev pub insert_entry : {K V : Type 0} → (K → K → Bool) → List (K × V) → K → V → List (K × V)
+insert_entry eq [] k v = (k, v) ∷ []
+insert_entry eq (e ∷ es) k v = if eq k e.0 then (e.0, v) ∷ es else e ∷ insert_entry eq es k v
+
+-- the index has a key at a place exactly where that key stands there
+abbrev pub IsIndexOf : {K : Type 0} → (K → Option ℕ) → List K → Type 0
+IsIndexOf {K} places keys = (k : K) (i : ℕ) → (places k ≡ Some i) ↔ (slice_get keys i ≡ Some k)

@@ -1,0 +1,130 @@
+//! A table of entries by their keys, in the order in which the keys were first put in.
+
+ghost use Rattle.std.specs.Prelude.{◌≡◌, ◌↔◌, ◌++◌, ◌∷◌, [], ℕ, Some, false, IsTrue, IsNone, OnOk, OnErr, is_some, length, slice_get};
+ghost use Rattle.std.specs.Map.{keys_of, lookup};
+ghost use Rattle.std.specs.Option.{option_copied, option_map, option_to_list};
+ghost use Rattle.idl_base.specs.Table.{insert_entry};
+
+use crate::Datum;
+use std::alloc::{AllocError, Global};
+use std::collections::BTreeMap;
+use std::marker::Model;
+
+/// Entries by their keys, in the order in which the keys were first put in. To every contract it is the list of them.
+///
+/// A look-up compares the key with logarithmically many others, whatever the keys are. A hash table doesn't serve where
+/// keys come from input: its hash is known, so that input can be made whose keys all fall into one place of the table,
+/// and then each look-up goes through all of them. The index holds a copy of each key. Only `insert` takes memory.
+pub struct Table<K: Datum + Ord, V> {
+    entries: Vec<(K, V)>,
+    places: BTreeMap<K, usize>,
+}
+
+impl<K: Datum + Ord, V> Model for Table<K, V> {
+    ghost use Rattle.std.specs.Prelude.{List};
+    ghost use Rattle.std.specs.BTreeMap.{get};
+    ghost use Rattle.std.specs.Map.{keys_of};
+    ghost use Rattle.idl_base.specs.Table.{IsIndexOf};
+
+    ghost Value = { List (K × V) };
+
+    ghost view = { λ table. table.entries.items };
+
+    ghost invariant = { λ table. IsIndexOf (get K.cmp table.places) (keys_of table.entries.items) };
+}
+
+impl<K: Datum + Ord, V: Drop> Drop for Table<K, V> {
+    fn drop(self) {
+        let Table {
+            entries: _entries,
+            places: _places,
+        } = self;
+    }
+}
+
+impl<K: Datum + Ord, V: Drop> Table<K, V> {
+    /// The table without entries. It takes no memory.
+    pub fn new(alloc: Global) -> Table<K, V>
+        ensures { result ≡ [] }
+    {
+        Table {
+            entries: Vec::new(alloc),
+            places: BTreeMap::new(alloc),
+        }
+    }
+
+    /// How many entries there are.
+    pub fn len(&self) -> usize
+        ensures { result ≡ length self.now }
+    {
+        self.entries.len()
+    }
+
+    /// Whether there is no entry.
+    pub fn is_empty(&self) -> bool
+        ensures { IsTrue result ↔ (self.now ≡ []) }
+    {
+        self.entries.is_empty()
+    }
+
+    /// The value at a key, or nothing.
+    pub fn get(&self, key: &K) -> Option<&V>
+        ensures { option_copied result ≡ lookup (K.eq key.now) self.now }
+    {
+        let place = self.place_of(key)?;
+        Some(&self.entries[place].1)
+    }
+
+    /// Whether a key has an entry.
+    pub fn contains(&self, key: &K) -> bool
+        ensures { result ≡ is_some (lookup (K.eq key.now) self.now) }
+    {
+        self.get(key).is_some()
+    }
+
+    /// The entry at a place in the order, or nothing past the last.
+    pub fn get_index(&self, index: usize) -> Option<(&K, &V)>
+        ensures { option_map (λ e. (e.0.now, e.1.now)) result ≡ slice_get self.now index }
+    {
+        let (key, value) = self.entries.get(index)?;
+        Some((key, value))
+    }
+
+    /// Puts a value in at a key: one that is there keeps its place and takes the value, and a new one goes last.
+    ///
+    /// Want of memory leaves the table as it was.
+    pub fn insert(&mut self, key: K, value: V) -> Result<(), AllocError>
+        ensures entries { OnOk result (self.new ≡ insert_entry K.eq self.old key value) }
+        ensures new_key { OnOk result (is_some (lookup (K.eq key) self.old) ≡ false → self.new ≡ self.old ++ (key, value) ∷ []) }
+        ensures err { OnErr result (self.new ≡ self.old) }
+    {
+        if let Some(place) = self.place_of(&key) {
+            let entry = &mut self.entries[place];
+            entry.1 = value;
+            return Ok(());
+        }
+        let place = self.entries.len();
+        let copy = key.clone()?;
+        self.entries.reserve(1)?;
+        self.places.insert(copy, place)?;
+        self.entries.push((key, value))?;
+        Ok(())
+    }
+
+    /// Takes the last entry off.
+    pub fn pop(&mut self) -> Option<(K, V)>
+        ensures entries { self.old ≡ self.new ++ option_to_list result }
+        ensures none { IsNone result ↔ (self.old ≡ []) }
+    {
+        let (key, value) = self.entries.pop()?;
+        self.places.remove(&key);
+        Some((key, value))
+    }
+
+    // The place of a key among the entries, or nothing.
+    fn place_of(&self, key: &K) -> Option<usize>
+        ensures { (i : ℕ) → (result ≡ Some i) ↔ (slice_get (keys_of self.now) i ≡ Some key.now) }
+    {
+        self.places.get(key).copied()
+    }
+}
