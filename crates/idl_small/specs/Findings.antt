@@ -16,7 +16,8 @@ unit_findings unit (Some fault) = set (no_findings unit) fault.index (Some fault
 
 -- for each token of these units, in order
 abbrev pub findings_of : List Judgement → List (Option Code)
-findings_of judgements = flat_map (λ judgement. unit_findings judgement.unit judgement.fault) judgements
+findings_of judgements =
+    flat_map (λ judgement. unit_findings judgement.unit judgement.fault) judgements
 
 -- for each of these tokens, in order, the code of its unit's fault, if it is decided there
 abbrev pub findings : List (List ℕ) → List (Option Code)

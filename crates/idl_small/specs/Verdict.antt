@@ -50,12 +50,14 @@ token_codes before other = []
 -- the codes of each of these tokens, the first of which stands after one of this kind
 abbrev pub token_codes_after : Option Kind → List (List ℕ) → List (List Code)
 token_codes_after before [] = []
-token_codes_after before (t ∷ ts) = token_codes before (kind_of t) ∷ token_codes_after (Some (kind_of t)) ts
+token_codes_after before (t ∷ ts) =
+    token_codes before (kind_of t) ∷ token_codes_after (Some (kind_of t)) ts
 
 -- the faults that tokens have by the codes of each; the first token has this number
 abbrev pub faults_at : ℕ → List (List Code) → List Fault
 faults_at n [] = []
-faults_at n (codes ∷ more) = map (λ code. record { index = n; code = code }) codes ++ faults_at (n + 1) more
+faults_at n (codes ∷ more) =
+    map (λ code. record { index = n; code = code }) codes ++ faults_at (n + 1) more
 
 -- the first step: tokens that may not stand in a unit, or not there
 abbrev pub token_faults : List (List ℕ) → List Fault
@@ -72,7 +74,8 @@ folded_names t = map folded (option_to_list (name_of t))
 -- the codes of a token whose name is declared before
 abbrev pub name_codes : List (List ℕ) → List ℕ → List Code
 name_codes declared t =
-    map (λ name. AlreadyDeclared) (filter (λ name. list_any (bytes_eq name) declared) (folded_names t))
+    map (λ name. AlreadyDeclared)
+    (filter (λ name. list_any (bytes_eq name) declared) (folded_names t))
 
 -- the third step: names that are declared before
 abbrev pub name_faults : List (List ℕ) → List (List ℕ) → List Fault
@@ -81,7 +84,8 @@ name_faults declared unit = faults_at 0 (map (name_codes declared) unit)
 -- the lesser of two faults: by the token, and at one token by the code
 abbrev pub lesser_fault : Fault → Fault → Fault
 lesser_fault f g =
-    if nat_lt g.index f.index || (nat_eq g.index f.index && nat_lt (number_of g.code) (number_of f.code)) then g else f
+    if nat_lt g.index f.index
+    || (nat_eq g.index f.index && nat_lt (number_of g.code) (number_of f.code)) then g else f
 
 abbrev pub least_fault : List Fault → Option Fault
 least_fault [] = None

@@ -39,15 +39,15 @@ pub fn rows(
     Ok(all)
 }
 
-// Puts in the row of an event, if it has one, and gives what is found at the tokens that come after it.
+// Puts in the row of an event, if it has one, and gives what is found at the tokens after it.
 fn push_rows<'a>(
     alloc: Global,
     all: &mut Vec<Text>,
     event: &Event,
     findings: &'a [Option<Code>],
 ) -> Result<&'a [Option<Code>], AllocError>
-    ensures { IfOk result (λ left. (events : List Event)
-        → all.new.items ++ rows events left.now ≡ all.old.items ++ rows (event.now ∷ events) findings.now) }
+    ensures { IfOk result (λ left. (events : List Event) → all.new.items ++ rows events left.now
+        ≡ all.old.items ++ rows (event.now ∷ events) findings.now) }
 {
     match event {
         Event::Emitted(place, token) => {

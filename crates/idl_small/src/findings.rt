@@ -56,7 +56,8 @@ fn push_fault(
     fault: Fault,
 ) -> Result<(), AllocError>
     requires { fault.index < length unit.now }
-    ensures { OnOk result (findings.new.items ≡ findings.old.items ++ unit_findings unit.now (Some fault)) }
+    ensures { OnOk result (findings.new.items
+        ≡ findings.old.items ++ unit_findings unit.now (Some fault)) }
 {
     let start = findings.len();
     push_none(findings, unit)?;
