@@ -1,6 +1,6 @@
 pub mod UnitLemmas
 pub mod TypedefLemmas
 pub mod VerdictLemmas
-pub mod RowLemmas
-pub mod MarkLemmas
+pub mod DumpLemmas
+pub mod FindingLemmas
 pub mod EventLemmas

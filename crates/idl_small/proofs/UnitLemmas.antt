@@ -4,14 +4,14 @@ use Rattle.std.specs.List.{onto_first, position, position_or_len}
 use Rattle.std.proofs.lemmas.Option.{cond_some}
 use Rattle.std.proofs.lemmas.Bool.{ltb-true, ltb-false}
 use Rattle.std.proofs.Common.{ltb}
-use Rattle.idl_lex.specs.declared.token.Token.{Token}
+use Rattle.idl_lex.specs.Kind.{kind_of}
 use Rattle.idl_small.specs.Unit.{units, is_semicolon}
 
-abbrev is_end : Token → Bool
-is_end t = is_semicolon t.kind
+abbrev is_end : List ℕ → Bool
+is_end t = is_semicolon (kind_of t)
 
 -- one token more before the first `;`
-units-cons : (b : Bool) (t : Token) (ts : List Token) (n : ℕ)
+units-cons : (b : Bool) (t : List ℕ) (ts : List (List ℕ)) (n : ℕ)
     → (n < length ts → units ts ≡ take (suc n) ts ∷ units (drop (suc n) ts))
     → cond (not b) (1 + n) 0 < suc (length ts)
     → cond b ((t ∷ []) ∷ units ts) (onto_first t (units ts)) ≡ take (suc (cond (not b) (1 + n) 0)) (t ∷ ts) ∷ units (drop (suc (cond (not b) (1 + n) 0)) (t ∷ ts))
@@ -21,13 +21,13 @@ units-cons false t ts n rest lt =
     let h : n < length ts = omega arith in
     rw e (ap (onto_first t) (rest h))
 
-units-position_or_len : (ts : List Token) → position_or_len is_end ts < length ts
+units-position_or_len : (ts : List (List ℕ)) → position_or_len is_end ts < length ts
     → units ts ≡ take (suc (position_or_len is_end ts)) ts ∷ units (drop (suc (position_or_len is_end ts)) ts)
 units-position_or_len [] lt = absurd (omega arith)
 units-position_or_len (t ∷ ts) lt = units-cons (is_end t) t ts (position_or_len is_end ts) (units-position_or_len ts) lt
 
 -- the first unit goes through the first `;`
-pub units-Some : (ts : List Token) (i : ℕ) → position (λ t. is_semicolon t.kind) ts ≡ Some i
+pub units-Some : (ts : List (List ℕ)) (i : ℕ) → position (λ t. is_semicolon (kind_of t)) ts ≡ Some i
     → (i < length ts) × (units ts ≡ take (i + 1) ts ∷ units (drop (i + 1) ts))
 units-Some ts i e =
     let parts = cond_some (ltb (position_or_len is_end ts) (length ts)) (position_or_len is_end ts) i e in
@@ -36,14 +36,14 @@ units-Some ts i e =
     let here = units-position_or_len ts lt in
     (omega arith, rw add-one (rw is at here))
 
-units-last : (b : Bool) (t : Token) (ts : List Token) (n : ℕ)
+units-last : (b : Bool) (t : List ℕ) (ts : List (List ℕ)) (n : ℕ)
     → (length ts ≡ n → 0 < length ts → units ts ≡ ts ∷ []) → cond (not b) (1 + n) 0 ≡ suc (length ts)
     → cond b ((t ∷ []) ∷ units ts) (onto_first t (units ts)) ≡ (t ∷ ts) ∷ []
 units-last true t ts n rest e = absurd (omega arith)
 units-last false t [] n rest e = refl
 units-last false t (u ∷ ts) n rest e = ap (onto_first t) (rest (omega arith) (omega arith))
 
-units-none : (ts : List Token) → length ts ≡ position_or_len is_end ts → 0 < length ts → units ts ≡ ts ∷ []
+units-none : (ts : List (List ℕ)) → length ts ≡ position_or_len is_end ts → 0 < length ts → units ts ≡ ts ∷ []
 units-none [] e lt = absurd (omega arith)
 units-none (t ∷ ts) e lt = units-last (is_end t) t ts (position_or_len is_end ts) (units-none ts) (sym e)
 
@@ -51,7 +51,7 @@ at_most : (b : Bool) (n m : ℕ) → n < suc m → cond (not b) (1 + n) 0 < suc 
 at_most true n m h = omega arith
 at_most false n m h = omega arith
 
-position_or_len-le : (ts : List Token) → position_or_len is_end ts < suc (length ts)
+position_or_len-le : (ts : List (List ℕ)) → position_or_len is_end ts < suc (length ts)
 position_or_len-le [] = omega arith
 position_or_len-le (t ∷ ts) = at_most (is_end t) _ _ (position_or_len-le ts)
 
@@ -60,7 +60,7 @@ cond_none true x e = absurd (cc)
 cond_none false x e = refl
 
 -- without `;` the tokens are one unit
-pub units-None : (ts : List Token) → position (λ t. is_semicolon t.kind) ts ≡ None → 0 < length ts → units ts ≡ ts ∷ []
+pub units-None : (ts : List (List ℕ)) → position (λ t. is_semicolon (kind_of t)) ts ≡ None → 0 < length ts → units ts ≡ ts ∷ []
 units-None ts e lt =
     let no : length ts ≤ position_or_len is_end ts = ltb-false _ _ (cond_none _ _ e) in
     units-none ts (omega (arith, position_or_len-le ts)) lt

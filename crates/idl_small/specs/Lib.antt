@@ -1,8 +1,7 @@
-pub mod Code
 pub mod Unit
 pub mod Typedef
 pub mod Verdict
 pub mod Judge
-pub mod Marks
-pub mod Row
+pub mod Findings
+pub mod Dump
 pub mod Compile

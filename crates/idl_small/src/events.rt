@@ -1,23 +1,21 @@
 //! The tokens and the diagnostics of events.
 
 ghost use Rattle.std.specs.Prelude.{◌≡◌, ◌++◌, ◌∷◌, List, IfOk};
-ghost use Rattle.idl_macro.specs.declared.item.Event.{Event};
-ghost use Rattle.idl_small.specs.Compile.{rows, tokens_in};
+ghost use Rattle.idl_event.specs.declared.event.Event.{Event};
+ghost use Rattle.idl_small.specs.Compile.{rows, text_tokens};
 
-use crate::code::Code;
-use crate::row::{fault_row, token_row};
 use idl_base::Text;
+use idl_event::{Code, Event, diagnostic_row};
 use idl_lex::Token;
-use idl_macro::Event;
 use std::alloc::{AllocError, Global};
 
 /// The tokens of the text, of whatever file. They share their bytes with the events.
-pub fn tokens_in(alloc: Global, events: &[Event]) -> Result<Vec<Token>, AllocError>
-    ensures { IfOk result (λ tokens. tokens.items ≡ tokens_in events.now) }
+pub fn text_tokens(alloc: Global, events: &[Event]) -> Result<Vec<Token>, AllocError>
+    ensures { IfOk result (λ tokens. tokens.items ≡ text_tokens events.now) }
 {
     let mut tokens = Vec::new(alloc);
     for event in events {
-        let Event::Emitted(_file, token) = event else {
+        let Event::Emitted(_place, token) = event else {
             continue;
         };
         tokens.push(token.clone()?)?;
@@ -25,47 +23,49 @@ pub fn tokens_in(alloc: Global, events: &[Event]) -> Result<Vec<Token>, AllocErr
     Ok(tokens)
 }
 
-/// The rows of the events in order, where the tokens of the text have these marks.
+/// The rows of the events in order, where this is found at the tokens of the text.
 pub fn rows(
     alloc: Global,
     events: &[Event],
-    marks: &[Option<Code>],
+    findings: &[Option<Code>],
 ) -> Result<Vec<Text>, AllocError>
-    ensures { IfOk result (λ result. result.items ≡ rows events.now marks.now) }
+    ensures { IfOk result (λ result. result.items ≡ rows events.now findings.now) }
 {
     let mut all = Vec::new(alloc);
-    let mut left = marks;
+    let mut left = findings;
     for event in events {
         left = push_rows(alloc, &mut all, event, left)?;
     }
     Ok(all)
 }
 
-// Puts in the row of an event, if it has one, and gives the marks of the tokens that come after it.
+// Puts in the row of an event, if it has one, and gives what is found at the tokens after it.
 fn push_rows<'a>(
     alloc: Global,
     all: &mut Vec<Text>,
     event: &Event,
-    marks: &'a [Option<Code>],
+    findings: &'a [Option<Code>],
 ) -> Result<&'a [Option<Code>], AllocError>
-    ensures { IfOk result (λ left. (events : List Event) → all.new.items ++ rows events left.now ≡ all.old.items ++ rows (event.now ∷ events) marks.now) }
+    ensures { IfOk result (λ left. (events : List Event) → all.new.items ++ rows events left.now
+        ≡ all.old.items ++ rows (event.now ∷ events) findings.now) }
 {
     match event {
-        Event::Emitted(file, token) => {
-            let [mark, left @ ..] = marks else {
-                return Ok(marks);
+        Event::Emitted(place, token) => {
+            let [finding, left @ ..] = findings else {
+                return Ok(findings);
             };
-            let Some(code) = mark else {
+            let Some(code) = finding else {
                 return Ok(left);
             };
-            all.push(token_row(alloc, file.name(), token, *code)?)?;
+            all.push(diagnostic_row(alloc, place, *code, Some(token.as_bytes()))?)?;
             Ok(left)
         }
         Event::Fault(place, code, text) => {
-            all.push(fault_row(alloc, place, *code, text)?)?;
-            Ok(marks)
+            let text = text.as_ref().map(|text| text.as_bytes());
+            all.push(diagnostic_row(alloc, place, *code, text)?)?;
+            Ok(findings)
         }
-        Event::Entered(_) | Event::Left(_) => Ok(marks),
-        Event::Pragma(_file, _tokens) => Ok(marks),
+        Event::Entered(_) | Event::Left(_) => Ok(findings),
+        Event::Pragma(_place, _tokens) => Ok(findings),
     }
 }

@@ -2,13 +2,14 @@
 
 ghost use Rattle.std.specs.Prelude.{◌≡◌, false, map, IfSome, IfNone};
 ghost use Rattle.std.specs.List.{list_any};
+ghost use Rattle.idl_lex.specs.Kind.{kind_of};
 ghost use Rattle.idl_small.specs.Typedef.{basic_types, is_typedef, is_keyword, are_words, IsTree};
 
 use crate::unit::is_semicolon;
 use idl_lex::{Keyword, Kind, Token};
 
 /// A typedef of a basic type: the words of the type, and the declared name.
-#[derive(Clone, Copy, Debug)]
+#[derive(Clone, Copy)]
 pub struct Typedef<'a> {
     /// The tokens of the type, all of them keywords.
     pub words: &'a [Token],
@@ -42,13 +43,13 @@ pub fn parse(unit: &[Token]) -> Option<Typedef<'_>>
     let [first, words @ .., declared, end] = unit else {
         return None;
     };
-    if !is_keyword(Keyword::Typedef, first.kind) {
+    if !is_keyword(Keyword::Typedef, first) {
         return None;
     }
     if !is_type(words) {
         return None;
     }
-    if !is_semicolon(end.kind) {
+    if !is_semicolon(end) {
         return None;
     }
     let name = declared.name()?;
@@ -86,14 +87,14 @@ fn are_words(words: &[Keyword], tokens: &[Token]) -> bool
     let [token, tokens @ ..] = tokens else {
         return false;
     };
-    is_keyword(*word, token.kind) && are_words(words, tokens)
+    is_keyword(*word, token) && are_words(words, tokens)
 }
 
-// Whether a token of this kind is the keyword.
-fn is_keyword(keyword: Keyword, kind: Kind) -> bool
-    ensures { result ≡ is_keyword keyword kind }
+// Whether the token is the keyword.
+fn is_keyword(keyword: Keyword, token: &Token) -> bool
+    ensures { result ≡ is_keyword keyword (kind_of token.now) }
 {
-    match kind {
+    match token.kind() {
         Kind::Accepted(accepted) => accepted == keyword,
         _ => false,
     }

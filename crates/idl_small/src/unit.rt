@@ -1,6 +1,7 @@
 //! Units of tokens.
 
 ghost use Rattle.std.specs.Prelude.{◌≡◌, ◌<◌, ◌∷◌, ◌++◌, [], length, position};
+ghost use Rattle.idl_lex.specs.Kind.{kind_of};
 ghost use Rattle.idl_small.specs.Unit.{units, is_semicolon};
 
 use idl_lex::{Kind, Mark, Token};
@@ -20,16 +21,16 @@ pub fn split(tokens: &[Token]) -> (&[Token], &[Token])
 
 // The number of the first `;`.
 fn first_semicolon(tokens: &[Token]) -> Option<usize>
-    ensures { result ≡ position (λ token. is_semicolon token.kind) tokens.now }
+    ensures { result ≡ position (λ token. is_semicolon (kind_of token)) tokens.now }
 {
-    tokens.iter().position(|token| is_semicolon(token.kind))
+    tokens.iter().position(is_semicolon)
 }
 
-/// Whether a token of this kind is a `;`.
-pub fn is_semicolon(kind: Kind) -> bool
-    ensures { result ≡ is_semicolon kind }
+/// Whether the token is a `;`.
+pub fn is_semicolon(token: &Token) -> bool
+    ensures { result ≡ is_semicolon (kind_of token.now) }
 {
-    match kind {
+    match token.kind() {
         Kind::Punctuation(Mark::Semicolon) => true,
         _ => false,
     }

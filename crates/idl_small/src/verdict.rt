@@ -2,27 +2,28 @@
 
 ghost use Rattle.std.specs.Prelude.{◌≡◌, ◌<◌, ◌∷◌, [], ⊤, flat_map, length, IfOk, IfSome};
 ghost use Rattle.std.specs.Option.{option_to_list};
+ghost use Rattle.idl_lex.specs.Keywords.{folded};
+ghost use Rattle.idl_small.specs.Dump.{dump_row};
 ghost use Rattle.idl_small.specs.Judge.{MatchVerdict};
-ghost use Rattle.idl_small.specs.Row.{dump_row};
-ghost use Rattle.idl_small.specs.Verdict.{fault_of, least, names_at, defect_code, is_narrow, is_wide, token_codes, token_faults};
+ghost use Rattle.idl_small.specs.Verdict.{defect_code, fault_of, folded_names, is_narrow, is_wide, least_fault, token_codes, token_faults};
 
-use crate::code::Code;
+use crate::dump::dump_row;
 use crate::name_table::NameTable;
-use crate::row::{dump_row, folded};
 use crate::tree::parse;
 use idl_base::Text;
+use idl_event::Code;
 use idl_lex::{Defect, Kind, Token};
 use std::alloc::{AllocError, Global};
 
 /// A fault of a unit: its code, and the number of the token at which it is decided, from 0.
-#[derive(Clone, Copy, Debug, PartialEq, Eq)]
+#[derive(Clone, Copy)]
 pub struct Fault {
-    pub token: usize,
+    pub index: usize,
     pub code: Code,
 }
 
 /// What is found of a unit.
-#[derive(Debug, Drop)]
+#[derive(Drop)]
 pub enum Verdict {
     /// The unit is faulty, and declares nothing.
     Faulty(Fault),
@@ -35,39 +36,51 @@ pub fn judge(alloc: Global, table: &NameTable, unit: &[Token]) -> Result<Verdict
     requires { 0 < length unit.now }
     ensures verdict { IfOk result (λ verdict. MatchVerdict verdict
         (λ fault. fault_of table.now unit.now ≡ Some fault)
-        (λ name row. (fault_of table.now unit.now ≡ None) × (flat_map names_at unit.now ≡ name ∷ []) × (row ≡ dump_row unit.now))) }
-    ensures within { IfOk result (λ verdict. MatchVerdict verdict (λ fault. fault.token < length unit.now) (λ _ _. ⊤)) }
+        (λ name row. (fault_of table.now unit.now ≡ None)
+        × (flat_map folded_names unit.now ≡ name ∷ []) × (row ≡ dump_row unit.now))) }
+    ensures within { IfOk result (λ verdict. MatchVerdict verdict
+        (λ fault. fault.index < length unit.now) (λ _ _. ⊤)) }
 {
     if let Some(fault) = first_step(unit) {
         return Ok(Verdict::Faulty(fault));
     }
     let Some(tree) = parse(unit) else {
         return Ok(Verdict::Faulty(Fault {
-            token: 0,
+            index: 0,
             code: Code::NoTree,
         }));
     };
     let name = folded(alloc, tree.name)?;
     if table.contains(&name) {
         return Ok(Verdict::Faulty(Fault {
-            token: unit.len() - 2,
+            index: unit.len() - 2,
             code: Code::AlreadyDeclared,
         }));
     }
     Ok(Verdict::Declares(name, dump_row(alloc, unit, &tree)?))
 }
 
+// A name in lower case.
+fn folded(alloc: Global, name: &[u8]) -> Result<Text, AllocError>
+    ensures { IfOk result (λ text. text ≡ folded name.now) }
+{
+    let mut bytes = Vec::from_slice(alloc, name)?;
+    bytes.make_ascii_lowercase();
+    Ok(Text::from_vec(bytes))
+}
+
 // The first token that may not stand in a unit, or not there.
 fn first_step(unit: &[Token]) -> Option<Fault>
-    ensures least { result ≡ least (token_faults unit.now) }
-    ensures within { IfSome result (λ fault. fault.token < length unit.now) }
+    ensures least { result ≡ least_fault (token_faults unit.now) }
+    ensures within { IfSome result (λ fault. fault.index < length unit.now) }
 {
     let mut before = None;
-    for (token, t) in unit.iter().enumerate() {
-        if let Some(code) = token_code(before, t.kind) {
-            return Some(Fault { token, code });
+    for (index, token) in unit.iter().enumerate() {
+        let kind = token.kind();
+        if let Some(code) = token_code(before, kind) {
+            return Some(Fault { index, code });
         }
-        before = Some(t.kind);
+        before = Some(kind);
     }
     None
 }

@@ -1,7 +1,7 @@
 use Rattle.std.proofs.Common.{◌≡◌, ◌-◌, length, take, ◌∙◌, ap, arith}
 use Rattle.std.proofs.lemmas.List.{take_all}
-use Rattle.idl_small.proofs.RowLemmas.{with_blanks, dump_row-tree}
-use Rattle.idl_small.proofs.row.dump_row.Goals as goal
+use Rattle.idl_small.proofs.DumpLemmas.{with_blanks, dump_row-tree}
+use Rattle.idl_small.proofs.dump.dump_row.Goals as goal
 
 pub returns : goal.returns
 returns c =
