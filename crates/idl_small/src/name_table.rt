@@ -4,23 +4,23 @@ ghost use Rattle.std.specs.Prelude.{◌≡◌, ◌∷◌, ◌++◌, [], false, O
 ghost use Rattle.std.specs.List.{list_any};
 ghost use Rattle.std.specs.Str.{bytes_eq};
 
-use idl_base::Text;
-use indexmap::IndexSet;
+use idl_base::{Table, Text};
 use std::alloc::{AllocError, Global};
 use std::marker::Model;
 
-/// Folded names, in the order in which they were declared, each once. A look-up takes the same time whatever their number.
+/// Folded names, in the order in which they were declared, each once. A look-up takes logarithmic time, whatever they are.
 #[derive(Drop)]
 pub struct NameTable {
-    names: IndexSet<Text>,
+    names: Table<Text, ()>,
 }
 
 impl Model for NameTable {
+    ghost use Rattle.std.specs.Map.{keys_of};
     ghost use Rattle.std.specs.Prelude.{List, ℕ};
 
     ghost Value = { List (List ℕ) };
 
-    ghost view = { λ table. table.names.keys };
+    ghost view = { λ table. keys_of table.names };
 }
 
 impl NameTable {
@@ -29,7 +29,7 @@ impl NameTable {
         ensures { result ≡ [] }
     {
         NameTable {
-            names: IndexSet::new(alloc),
+            names: Table::new(alloc),
         }
     }
 
@@ -45,7 +45,7 @@ impl NameTable {
         requires { list_any (λ name. bytes_eq folded name) self.old ≡ false }
         ensures { OnOk result (self.new ≡ self.old ++ folded ∷ []) }
     {
-        self.names.insert(folded)?;
+        self.names.insert(folded, ())?;
         Ok(())
     }
 }
