@@ -1,13 +1,8 @@
 -- What serving requests does to the lines that are left, to what has gone out, and to the session.
-use Rattle.std.specs.Prelude.{◌≡◌, ◌≢◌, ℕ, ◌+◌, List, ◌++◌, Option, Result, Ok, Err}
+use Rattle.std.specs.Prelude.{◌≡◌, ℕ, ◌+◌, List, ◌++◌, Option}
 use Rattle.std.specs.Option.{option_map}
 use Rattle.idl_source.specs.Device.{prepend, append, WritesPart}
-use Rattle.idl_source.specs.declared.refusal.Refusal.{Refusal}
-use Rattle.idl_source.specs.declared.refusal.Refusal.TheVariants.{NoMemory}
-use Rattle.idl_workspace.specs.Project.{Project}
 use Rattle.idl_workspace.specs.UpToDate.{State}
-use Rattle.idl_workspace.specs.Work.{no_work}
-use Rattle.idl_workspace.specs.declared.work.Work.{Work}
 use Rattle.idl_session.specs.Answers.{Answers, Replies}
 use Rattle.idl_session.specs.Commands.{Command, commands_after}
 use Rattle.idl_session.specs.Requests.{Request, lines_taken}
@@ -18,11 +13,6 @@ use Rattle.idl_session.specs.declared.stop.Stop.TheVariants.{ReadFailed, WriteFa
 -- the commands to come, where the source tells
 abbrev pub commands_left : Option (List ℕ) → List ℕ → Option (List Command)
 commands_left rest feed = option_map (commands_after 0) (lines_left rest feed)
-
--- an edit's outcome and the state after it
-abbrev pub IsOutcome : State → Result Project Refusal → Result Work Refusal → State → Type 0
-IsOutcome s decided (Ok work) t = (decided ≡ Ok t.project) × (t.work ≡ no_work)
-IsOutcome s decided (Err refusal) t = (t ≡ s) × (refusal ≢ NoMemory → decided ≡ Err refusal)
 
 -- the lines that a request took, the reply to it, and the state after it
 pub record Serves (request : Request) (old new : Option (List (List ℕ))) (reply : List ℕ) (s t : State) : Type 0 where
@@ -58,7 +48,7 @@ IsBeginning WriteFailed s commands before after t =
     (done : List Command) × (rest : List Command) × (output : List ℕ)
     × (commands ≡ done ++ rest) × WritesPart before output after × Replies s done output t
 
--- the device that failed counted it
+-- the device that failed number_line it
 abbrev pub IsCounted : Stop → ℕ → ℕ → ℕ → ℕ → Type 0
 IsCounted ReadFailed reads_old reads_new writes_old writes_new = reads_new ≡ reads_old + 1
 IsCounted WriteFailed reads_old reads_new writes_old writes_new = writes_new ≡ writes_old + 1

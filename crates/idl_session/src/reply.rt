@@ -2,7 +2,7 @@
 
 ghost use Rattle.std.specs.Prelude.{◌≡◌, ◌<◌, ◌+◌, ◌-◌, ◌^◌, [], ◌++◌, OnOk, OnErr};
 ghost use Rattle.idl_source.specs.Device.{append, WritesPart};
-ghost use Rattle.idl_session.specs.Replies.{ok_reply, refused_reply, rows_reply, ended, counted};
+ghost use Rattle.idl_session.specs.Replies.{ok_reply, refused_reply, rows_reply, whole_line, number_line};
 ghost use Rattle.idl_session.specs.Gathering.{Sends};
 ghost use Rattle.idl_session.specs.Rows.{rows_of};
 
@@ -90,10 +90,10 @@ impl Reply {
     ) -> Result<(), WriteFailed>
         requires counts { K.failures sink.old < 2 ^ 64 - 1 }
 
-        ensures sent { OnOk result (Sends (K.written sink.old) (self.old ++ counted word.now n) (K.written sink.new) self.new) }
+        ensures sent { OnOk result (Sends (K.written sink.old) (self.old ++ number_line word.now n) (K.written sink.new) self.new) }
         ensures ok { OnOk result (K.failures sink.new ≡ K.failures sink.old) }
 
-        ensures part { OnErr result (WritesPart (K.written sink.old) (self.old ++ counted word.now n) (K.written sink.new)) }
+        ensures part { OnErr result (WritesPart (K.written sink.old) (self.old ++ number_line word.now n) (K.written sink.new)) }
         ensures err { OnErr result (K.failures sink.new ≡ K.failures sink.old + 1) }
     {
         let mut buffer = Buffer::new();
@@ -105,10 +105,10 @@ impl Reply {
     fn push_line<K: Sink>(&mut self, sink: &mut K, line: &[u8]) -> Result<(), WriteFailed>
         requires counts { K.failures sink.old < 2 ^ 64 - 1 }
 
-        ensures sent { OnOk result (Sends (K.written sink.old) (self.old ++ ended line.now) (K.written sink.new) self.new) }
+        ensures sent { OnOk result (Sends (K.written sink.old) (self.old ++ whole_line line.now) (K.written sink.new) self.new) }
         ensures ok { OnOk result (K.failures sink.new ≡ K.failures sink.old) }
 
-        ensures part { OnErr result (WritesPart (K.written sink.old) (self.old ++ ended line.now) (K.written sink.new)) }
+        ensures part { OnErr result (WritesPart (K.written sink.old) (self.old ++ whole_line line.now) (K.written sink.new)) }
         ensures err { OnErr result (K.failures sink.new ≡ K.failures sink.old + 1) }
     {
         self.push(sink, line)?;

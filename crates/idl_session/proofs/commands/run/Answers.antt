@@ -28,8 +28,8 @@ returns-in_err-serve-clause-begun g c =
     let out = g.K.Sink.written c.commands.sink in
     let after = g.K.Sink.written c.serve.new.sink in
     let why : IfErr r (λ stop. stop ≡ failed) = search rules in
-    let done = subst (λ (feed : List ℕ). Served (commands_left input feed) (commands_left (g.S.Source.remaining c.commands.source) c.commands.feed) before out s u)
-    c.new-feed.ensures c.commands.invariant.served in
+    let done = subst (λ (feed : List ℕ). Served (commands_left input feed) (commands_left (g.S.Source.remaining c.commands.source) c.commands.input.feed) before out s u)
+    c.new-input.ensures c.commands.invariant.served in
     let begun = begun-cut failed (commands_left input []) _ _ _ c.read_line.new.line before out after s u t done took c.in_err-serve.ensures.cut in
     IfErr-weaker r (λ stop. stop ≡ failed) (λ stop. IfSome input (λ bytes. IsBeginning stop s (commands_of bytes) before after t))
     (λ stop is. subst (λ (x : Stop). IfSome input (λ bytes. IsBeginning x s (commands_of bytes) before after t)) (sym is)

@@ -5,11 +5,11 @@ use Rattle.idl_session.proofs.commands.run.Given as goal
 
 abbrev pub invariant-commands : goal.invariant-commands
 invariant-commands g l = record {
-  served : Served (commands_left (g.S.Source.remaining l.initial.source) l.initial.feed) (commands_left (g.S.Source.remaining l.source) l.feed)
+  served : Served (commands_left (g.S.Source.remaining l.initial.source) l.initial.input.feed) (commands_left (g.S.Source.remaining l.source) l.input.feed)
       (g.K.Sink.written l.initial.sink) (g.K.Sink.written l.sink) l.initial.session l.session;
   reads : g.S.Source.failures l.source ≡ g.S.Source.failures l.initial.source;
   writes : g.K.Sink.failures l.sink ≡ g.K.Sink.failures l.initial.sink;
 }
 
 abbrev pub decreases-commands : goal.decreases-commands
-decreases-commands g l = fuel (g.S.Source.reads_left l.source) l.feed
+decreases-commands g l = fuel (g.S.Source.reads_left l.source) l.input.feed

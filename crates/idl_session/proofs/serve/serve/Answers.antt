@@ -1,11 +1,11 @@
 use Rattle.std.proofs.Common.{◌≡◌, List, ℕ, Option, IfErr, refl, subst, rules}
 use Rattle.idl_source.specs.Device.{append, WritesPart}
-use Rattle.idl_session.specs.Effects.{rows_for}
 use Rattle.idl_session.specs.Headings.{edit_by}
 use Rattle.idl_session.specs.Replies.{edit_reply, query_reply}
 use Rattle.idl_session.specs.Requests.{Make, Ask, request_kept}
+use Rattle.idl_session.specs.Rows.{rows_for}
 use Rattle.idl_session.specs.declared.stop.Stop.TheVariants.{WriteFailed}
-use Rattle.idl_session.proofs.ServeLemmas.{serves-alone, made, cut-write}
+use Rattle.idl_session.proofs.ServeLemmas.{serves-alone, cut-write}
 use Rattle.idl_session.proofs.serve.serve.Goals as goal
 
 pub returns-in_err-write_edit-in-Make-clause-cut : goal.returns-in_err-write_edit-in-Make-clause-cut
@@ -16,10 +16,10 @@ returns-in_err-write_edit-in-Make-clause-cut g c =
     let reply = edit_reply c.make-outcome.result in
     let r = c.from_residual-in_err-write_edit-in-Make.result in
     let why : IfErr r (λ stop. stop ≡ WriteFailed) = search rules in
-    cut-write r (request_kept c.args.line.now) _ _ (g.K.Sink.written c.args.sink.now) (g.K.Sink.written c.write_edit-in-Make.new.sink) s t
+    cut-write r (request_kept c.args.input.now.line) _ _ (g.K.Sink.written c.args.sink.now) (g.K.Sink.written c.write_edit-in-Make.new.sink) s t
     reply why c.in_err-write_edit-in-Make.ensures.part
-    (serves-alone (request_kept c.args.line.now) (Make edit) _ s t reply c.in-Make.ensures.request refl
-    (made s t edit c.make-outcome.result c.make-outcome.ensures.outcome c.make-outcome.ensures.sure))
+    (serves-alone (request_kept c.args.input.now.line) (Make edit) _ s t reply c.in-Make.ensures.request refl
+    (c.make-outcome.result, c.make-outcome.ensures, refl))
 
 pub returns-in_ok-write_edit-in-Make-clause-served : goal.returns-in_ok-write_edit-in-Make-clause-served
 returns-in_ok-write_edit-in-Make-clause-served g c =
@@ -29,8 +29,8 @@ returns-in_ok-write_edit-in-Make-clause-served g c =
     let reply = edit_reply c.make-outcome.result in (
       reply,
       c.in_ok-write_edit-in-Make.ensures.written,
-      serves-alone (request_kept c.args.line.now) (Make edit) _ s t reply c.in-Make.ensures.request refl
-          (made s t edit c.make-outcome.result c.make-outcome.ensures.outcome c.make-outcome.ensures.sure),
+      serves-alone (request_kept c.args.input.now.line) (Make edit) _ s t reply c.in-Make.ensures.request refl
+          (c.make-outcome.result, c.make-outcome.ensures, refl),
     )
 
 pub returns-in_err-write_query-in-Ask-clause-cut : goal.returns-in_err-write_query-in-Ask-clause-cut
@@ -43,9 +43,9 @@ returns-in_err-write_query-in-Ask-clause-cut g c =
     let w = g.K.Sink.written c.args.sink.now in
     let v = g.K.Sink.written c.write_query.new.sink in
     let why : IfErr r (λ stop. stop ≡ WriteFailed) = search rules in
-    cut-write r (request_kept c.args.line.now) _ _ w v s s reply why
+    cut-write r (request_kept c.args.input.now.line) _ _ w v s s reply why
     (subst (λ (rows : Option (List (List ℕ))). WritesPart w (query_reply name rows) v) c.ask-rows.ensures c.in_err-write_query-in-Ask.ensures.part)
-    (serves-alone (request_kept c.args.line.now) (Ask question name) _ s s reply c.in-Ask.ensures.request refl (refl, refl))
+    (serves-alone (request_kept c.args.input.now.line) (Ask question name) _ s s reply c.in-Ask.ensures.request refl (refl, refl))
 
 pub returns-in_ok-write_query-in-Ask-clause-served : goal.returns-in_ok-write_query-in-Ask-clause-served
 returns-in_ok-write_query-in-Ask-clause-served g c =
@@ -57,5 +57,5 @@ returns-in_ok-write_query-in-Ask-clause-served g c =
     let v = g.K.Sink.written c.write_query.new.sink in (
       reply,
       subst (λ (rows : Option (List (List ℕ))). v ≡ append w (query_reply name rows)) c.ask-rows.ensures c.in_ok-write_query-in-Ask.ensures.written,
-      serves-alone (request_kept c.args.line.now) (Ask question name) _ s s reply c.in-Ask.ensures.request refl (refl, refl),
+      serves-alone (request_kept c.args.input.now.line) (Ask question name) _ s s reply c.in-Ask.ensures.request refl (refl, refl),
     )
