@@ -48,7 +48,7 @@ IsBeginning WriteFailed s commands before after t =
     (done : List Command) × (rest : List Command) × (output : List ℕ)
     × (commands ≡ done ++ rest) × WritesPart before output after × Replies s done output t
 
--- the device that failed number_line it
+-- the device that failed counted it
 abbrev pub IsCounted : Stop → ℕ → ℕ → ℕ → ℕ → Type 0
 IsCounted ReadFailed reads_old reads_new writes_old writes_new = reads_new ≡ reads_old + 1
 IsCounted WriteFailed reads_old reads_new writes_old writes_new = writes_new ≡ writes_old + 1

@@ -18,7 +18,7 @@ use std::alloc::{AllocError, Global};
 pub enum Announced {
     /// All of them.
     Whole(Vec<Line>),
-    /// The input whole_line before the last of them.
+    /// The input ended before the last of them.
     Unfinished,
     /// There are too many, or one is too long.
     OverLimit,

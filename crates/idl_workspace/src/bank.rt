@@ -46,10 +46,15 @@ impl Model for SessionBank {
 
     ghost coded = { inputs_code };
 
-    ghost view = { λ bank. record { files = bank.files; macros = bank.macros.entries; search = directories_of bank.search } };
+    ghost view = { λ bank. record {
+      files = bank.files;
+      macros = bank.macros.entries;
+      search = directories_of bank.search;
+    } };
 
     // The texts say what the files say, and the search list is one.
-    ghost invariant = { λ bank. ((name : List ℕ) → lookup (bytes_eq name) bank.texts.entries ≡ option_map answers.File (finite.get bank.files name))
+    ghost invariant = { λ bank. ((name : List ℕ) → lookup (bytes_eq name) bank.texts.entries
+        ≡ option_map answers.File (finite.get bank.files name))
         × (bank.search ≡ answers.Search (directories_of bank.search)) };
 }
 
@@ -86,7 +91,8 @@ impl SessionBank {
 
     /// Whether there are as many macros as there may be, and none with this word.
     pub fn is_full_for(&self, word: &Spelling) -> bool
-        ensures { result ≡ (nat_le most_macros (length self.now.macros) && not (is_defined self.now.macros word.now)) }
+        ensures { let macros = self.now.macros in
+            result ≡ (nat_le most_macros (length macros) && not (is_defined macros word.now)) }
     {
         self.macros.len() >= MAX_MACROS && !self.macros.contains_key(word)
     }
@@ -101,7 +107,8 @@ impl SessionBank {
         requires beside { IsSameBeside name self.old.files files }
         requires answers { answer ≡ option_map answers.File (finite.get files name) }
         ensures ok { OnOk result (self.new ≡ record self.old { files = files }) }
-        ensures bank { OnOk result (bank_of self.new ≡ bank_with (bank_of self.old) (keys.File name) answer) }
+        ensures bank { OnOk result
+            (bank_of self.new ≡ bank_with (bank_of self.old) (keys.File name) answer) }
         ensures err { OnErr result (self.new ≡ self.old) }
     {
         match answer {
@@ -120,8 +127,10 @@ impl SessionBank {
 
     /// Gives the macro with this word this body, as the last one if it is new.
     pub fn define(&mut self, word: Spelling, body: MacroBody) -> Result<(), AllocError>
-        ensures ok { OnOk result (self.new ≡ record self.old { macros = insert_entry bytes_eq self.old.macros word body }) }
-        ensures bank { OnOk result (bank_of self.new ≡ bank_with (bank_of self.old) (keys.Macro word) (Some (answers.Macro (body ∷ [])))) }
+        ensures ok { OnOk result
+            (self.new ≡ record self.old { macros = insert_entry bytes_eq self.old.macros word body }) }
+        ensures bank { OnOk result (bank_of self.new
+            ≡ bank_with (bank_of self.old) (keys.Macro word) (Some (answers.Macro (body ∷ [])))) }
         ensures err { OnErr result (self.new ≡ self.old) }
     {
         self.macros.insert(word, body)?;
@@ -130,7 +139,8 @@ impl SessionBank {
 
     /// Takes the macro with this word out, if there is one.
     pub fn undef(&mut self, word: &Spelling)
-        ensures left { self.new ≡ record self.old { macros = remove_entry (bytes_eq word.now) self.old.macros } }
+        ensures left { let macros = remove_entry (bytes_eq word.now) self.old.macros in
+            self.new ≡ record self.old { macros = macros } }
         ensures bank { bank_of self.new ≡ bank_with (bank_of self.old) (keys.Macro word.now) None }
     {
         self.macros.shift_remove(word);
@@ -184,7 +194,8 @@ impl<'a> Bank for EditedBank<'a> {
 
     type Answer = Answer;
 
-    ghost at = { λ bank. bank_with (bank_of bank.base.now) bank.key.now (option_copied bank.answer) };
+    ghost at = { λ bank.
+        bank_with (bank_of bank.base.now) bank.key.now (option_copied bank.answer) };
 
     #[tactic(auto, unfolding(crate::specs::Bank::bank_with))]
     fn answer(&self, key: &Key) -> Option<&Answer> {
@@ -203,7 +214,8 @@ pub fn answers_come_from_inputs()
 
 /// What is answered of a file, by what these files say of it. A file is cut into tokens here.
 pub fn file_answer(alloc: Global, files: &Files, name: &Name) -> Result<Option<Answer>, AllocError>
-    ensures { IfOk result (λ answer. answer ≡ option_map answers.File (finite.get files.now name.now)) }
+    ensures { IfOk result (λ answer.
+        answer ≡ option_map answers.File (finite.get files.now name.now)) }
 {
     match files.get(name.as_bytes()) {
         Some(file) => {

@@ -21,5 +21,6 @@ pub const MAX_ROOTS: usize = 256;
 /// nothing: it carries the law.
 pub fn edits_keep_limits()
     ensures first { IsWithinLimits no_project }
-    ensures kept { (project new : Project) (edit : Edit) → IsWithinLimits project → after project edit ≡ Ok new → IsWithinLimits new }
+    ensures kept { (project new : Project) (edit : Edit)
+        → IsWithinLimits project → after project edit ≡ Ok new → IsWithinLimits new }
 {}

@@ -1,8 +1,9 @@
 //! The session: its edits, and its queries.
 
-ghost use Rattle.std.specs.Prelude.{◌≡◌, ℕ, List, true, Ok, Err, IfOk, IfNone, IfSome, IsOk, IsTrue, map};
+ghost use Rattle.std.specs.Prelude.{◌≡◌, ℕ, List, true, Ok, Err, IfOk, IsTrue, map};
 ghost use Rattle.std.specs.Map.{keys_of};
 ghost use Rattle.std.specs.Option.{option_copied};
+ghost use Rattle.std.specs.Result.{result_err};
 ghost use Rattle.idl_source.specs.Name.{is_name};
 ghost use Rattle.idl_macro.specs.declared.key.Key.TheVariants as keys;
 ghost use Rattle.idl_workspace.specs.Bank.{IsSameBeside, bank_of, bank_with};
@@ -49,7 +50,10 @@ impl Model for Session {
 
     ghost coded = { state_code };
 
-    ghost view = { λ session. record { project = record { inputs = session.bank; roots = keys_of session.roots }; work = session.work } };
+    ghost view = { λ session. record {
+      project = record { inputs = session.bank; roots = keys_of session.roots };
+      work = session.work;
+    } };
 
     ghost invariant = { λ session. IsUpToDate (bank_of session.bank) session.roots };
 }
@@ -83,7 +87,8 @@ impl Session {
     /// It is refused where the name isn't one, then where there is no such file, then where the span isn't all in it, and
     /// then where a limit of lines is passed. Memory may be refused too. A refusal gives up the lines.
     pub fn splice(&mut self, name: &[u8], span: Span, lines: Vec<Line>) -> Result<Work, Refusal>
-        ensures { IsEdited (Splice name.now span.from span.del lines.items) self.old self.new result }
+        ensures { let edit = Splice name.now span.from span.del lines.items in
+            IsEdited edit self.old self.new result }
     {
         let files = self.bank.files().splice(name, span.from, span.del, lines)?;
         self.change_files(name, files)
@@ -238,7 +243,8 @@ impl Session {
     ///
     /// A caller that doesn't keep such lines asks this in place of the edit.
     pub fn refusal_of_long_put(&self, name: &[u8]) -> Refusal
-        ensures { (lines : List (List ℕ)) → are_too_long lines ≡ true → after self.now.project (Put name.now lines) ≡ Err result }
+        ensures { (lines : List (List ℕ)) → are_too_long lines ≡ true
+            → after self.now.project (Put name.now lines) ≡ Err result }
     {
         if Name::new(name).is_none() {
             return Refusal::BadName;
@@ -248,7 +254,8 @@ impl Session {
 
     /// Why lines that are too many or too long for any file aren't spliced in there: the least refusal. It takes no memory.
     pub fn refusal_of_long_splice(&self, name: &[u8], span: Span) -> Refusal
-        ensures { (lines : List (List ℕ)) → are_too_long lines ≡ true → after self.now.project (Splice name.now span.from span.del lines) ≡ Err result }
+        ensures { (lines : List (List ℕ)) → are_too_long lines ≡ true
+            → after self.now.project (Splice name.now span.from span.del lines) ≡ Err result }
     {
         if Name::new(name).is_none() {
             return Refusal::BadName;
@@ -273,8 +280,7 @@ impl Session {
 
     // Why a macro with this word and this body isn't defined.
     fn refusal_of_define(&self, word: &Spelling, body: &Line) -> Option<Refusal>
-        ensures none { IfNone result (IsOk (macros_with self.now.project.inputs.macros word.now body.now)) }
-        ensures some { IfSome result (λ refusal. macros_with self.now.project.inputs.macros word.now body.now ≡ Err refusal) }
+        ensures { result ≡ result_err (macros_with self.now.project.inputs.macros word.now body.now) }
     {
         if body.len() > MAX_BODY || self.bank.is_full_for(word) {
             return Some(Refusal::OverLimit);
@@ -289,7 +295,8 @@ impl Session {
     fn change_files(&mut self, name: &[u8], files: Files) -> Result<Work, Refusal>
         requires allowed { IsTrue (is_name name.now) }
         requires beside { IsSameBeside name.now self.old.project.inputs.files files }
-        ensures { (edit : Edit) → takes_memory edit ≡ true → after self.old.project edit ≡ Ok (with_files self.old.project files)
+        ensures { (edit : Edit) → takes_memory edit ≡ true
+            → after self.old.project edit ≡ Ok (with_files self.old.project files)
             → IsEdited edit self.old self.new result }
     {
         let name = Name::new(name).unwrap();
@@ -308,7 +315,8 @@ impl Session {
         answer: Option<&Answer>,
     ) -> Result<RootTable, AllocError>
         ensures roots { IfOk result (λ table. keys_of table ≡ self.now.project.roots) }
-        ensures rows { IfOk result (λ table. HoldsRows (bank_with (bank_of self.now.project.inputs) (keys.Macro word.now) (option_copied answer.entry)) table) }
+        ensures rows { let bank = bank_of self.now.project.inputs in IfOk result (λ table.
+            HoldsRows (bank_with bank (keys.Macro word.now) (option_copied answer.entry)) table) }
     {
         let key = Key::Macro(word.clone()?);
         self.compiled_with(&key, answer)
@@ -317,7 +325,8 @@ impl Session {
     // All roots, compiled over the bank with another answer at this key.
     fn compiled_with(&self, key: &Key, answer: Option<&Answer>) -> Result<RootTable, AllocError>
         ensures roots { IfOk result (λ table. keys_of table ≡ self.now.project.roots) }
-        ensures rows { IfOk result (λ table. HoldsRows (bank_with (bank_of self.now.project.inputs) key.now (option_copied answer.entry)) table) }
+        ensures rows { let bank = bank_of self.now.project.inputs in IfOk result (λ table.
+            HoldsRows (bank_with bank key.now (option_copied answer.entry)) table) }
     {
         let bank = EditedBank {
             base: &self.bank,
