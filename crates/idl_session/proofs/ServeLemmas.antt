@@ -1,31 +1,31 @@
 -- What one request does.
-use Rattle.std.proofs.Common.{◌≡◌, ◌<◌, ℕ, List, [], Option, Result, Ok, Err, sym, arith, subst}
+use Rattle.std.proofs.Common.{◌≡◌, ◌<◌, ◌∙◌, ℕ, List, [], Result, Ok, Err, arith, subst, sym}
 use Rattle.std.specs.Result.{IfErr}
 use Rattle.idl_source.specs.Device.{WritesPart}
 use Rattle.idl_session.specs.Answers.{Answers}
+use Rattle.idl_session.specs.Commands.{command_of}
 use Rattle.idl_session.specs.Requests.{Request, lines_taken}
-use Rattle.idl_session.specs.Serving.{Serves, IsCut}
+use Rattle.idl_session.specs.Serving.{Standing, Serves, IsCut}
 use Rattle.idl_session.specs.declared.stop.Stop.{Stop}
 use Rattle.idl_session.specs.declared.stop.Stop.TheVariants.{WriteFailed}
 use Rattle.idl_session.proofs.StreamLemmas.{prepend-none}
-use Rattle.idl_workspace.specs.UpToDate.{State}
 
 -- a request that takes no further line was served
-pub serves-alone : (request asked : Request) (ls : Option (List (List ℕ))) (s t : State) (reply : List ℕ)
-    → asked ≡ request → lines_taken asked ≡ 0 → Answers s asked [] reply t → Serves request ls ls reply s t
-serves-alone request asked ls s t reply same none answers =
-    let Goal : Request → Type 0 = λ r. Serves r ls ls reply s t in
+pub serves-alone : (request asked : Request) (old new : Standing) (reply : List ℕ)
+    → asked ≡ request → lines_taken asked ≡ 0 → old.lines ≡ new.lines → Answers old.state (command_of asked []) reply new.state → Serves request old new reply
+serves-alone request asked old new reply same none stays answers =
+    let Goal : Request → Type 0 = λ r. Serves r old new reply in
     subst Goal same (record {
       lines = [];
-      taken = prepend-none ls;
+      taken = stays ∙ prepend-none new.lines;
       enough = (omega (arith, none), λ (h : 0 < lines_taken asked). absurd (omega (arith, none, h)));
       answers = answers;
     })
 
 -- a write failed in the reply to a request that was served
-pub cut-write : {T : Type 0} (r : Result T Stop) (request : Request) (old new : Option (List (List ℕ))) (before after : Option (List ℕ)) (s t : State) (reply : List ℕ)
-    → IfErr r (λ stop. stop ≡ WriteFailed) → WritesPart before reply after → Serves request old new reply s t
-    → IfErr r (λ stop. IsCut stop request old new before after s t)
-cut-write (Ok value) request old new before after s t reply why part serves = tt
-cut-write (Err stop) request old new before after s t reply why part serves =
-    subst (λ (stop' : Stop). IsCut stop' request old new before after s t) (sym why) (reply, part, serves)
+pub cut-write : {T : Type 0} (r : Result T Stop) (request : Request) (old new : Standing) (reply : List ℕ)
+    → IfErr r (λ stop. stop ≡ WriteFailed) → WritesPart old.written reply new.written → Serves request old new reply
+    → IfErr r (λ stop. IsCut stop request old new)
+cut-write (Ok value) request old new reply why part serves = tt
+cut-write (Err stop) request old new reply why part serves =
+    subst (λ (stop' : Stop). IsCut stop' request old new) (sym why) (reply, part, serves)

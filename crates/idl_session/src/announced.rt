@@ -14,7 +14,7 @@ use idl_source::{Line, MAX_LINE, MAX_LINES, ReadFailed, Source};
 use std::alloc::{AllocError, Global};
 
 /// The lines that a command announces, or why there are none to place.
-#[derive(Debug, Drop)]
+#[derive(Drop)]
 pub enum Announced {
     /// All of them.
     Whole(Vec<Line>),

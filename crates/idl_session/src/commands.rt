@@ -43,15 +43,20 @@ pub fn run<S: Source, K: Sink>(
     requires writes { K.failures sink.old < 2 ^ 64 - 1 }
 
     // What went out is a reply to all that came in, and the session is in the state that it tells of.
-    ensures replied { OnOk result (IfSome (S.remaining source.old) (λ input. IfSome (K.written sink.old) (λ before.
-        (output : List ℕ) × (K.written sink.new ≡ Some (before ++ output)) × IsReply session.old input output session.new))) }
+    ensures replied { OnOk result (IfSome (S.remaining source.old) (λ input.
+        IfSome (K.written sink.old) (λ before.
+        (output : List ℕ) × (K.written sink.new ≡ Some (before ++ output))
+        × IsReply session.old input output session.new))) }
 
     // A device failed in this call.
     ensures stops { IfErr result (λ stop. IsCounted stop
-        (S.failures source.old) (S.failures source.new) (K.failures sink.old) (K.failures sink.new)) }
+        (record { reads = S.failures source.old; writes = K.failures sink.old })
+        (record { reads = S.failures source.new; writes = K.failures sink.new })) }
     // What went out is a beginning of replies to the first commands, and the session is in the state that they tell of.
     ensures begun { IfErr result (λ stop. IfSome (S.remaining source.old) (λ input.
-        IsBeginning stop session.old (commands_of input) (K.written sink.old) (K.written sink.new) session.new)) }
+        IsBeginning stop (commands_of input)
+        (record { written = K.written sink.old; state = session.old })
+        (record { written = K.written sink.new; state = session.new }))) }
 {
     let mut input = Input::new();
     'commands: loop {

@@ -55,17 +55,35 @@ pub fn serve<S: Source, K: Sink>(
     requires writes { K.failures sink.old < 2 ^ 64 - 1 }
 
     ensures served { OnOk result (SendsReply (request_kept input.old.line)
-        (lines_left (S.remaining source.old) input.old.feed) (lines_left (S.remaining source.new) input.new.feed)
-        (K.written sink.old) (K.written sink.new) session.old session.new) }
-    ensures nearer { OnOk result (fuel (S.reads_left source.new) input.new.feed ≤ fuel (S.reads_left source.old) input.old.feed) }
+        (record {
+            lines = lines_left (S.remaining source.old) input.old.feed;
+            written = K.written sink.old;
+            state = session.old;
+        })
+        (record {
+            lines = lines_left (S.remaining source.new) input.new.feed;
+            written = K.written sink.new;
+            state = session.new;
+        })) }
+    ensures nearer { OnOk result (fuel (S.reads_left source.new) input.new.feed
+        ≤ fuel (S.reads_left source.old) input.old.feed) }
     ensures reads { OnOk result (S.failures source.new ≡ S.failures source.old) }
     ensures writes { OnOk result (K.failures sink.new ≡ K.failures sink.old) }
 
     ensures cut { IfErr result (λ stop. IsCut stop (request_kept input.old.line)
-        (lines_left (S.remaining source.old) input.old.feed) (lines_left (S.remaining source.new) input.new.feed)
-        (K.written sink.old) (K.written sink.new) session.old session.new) }
+        (record {
+            lines = lines_left (S.remaining source.old) input.old.feed;
+            written = K.written sink.old;
+            state = session.old;
+        })
+        (record {
+            lines = lines_left (S.remaining source.new) input.new.feed;
+            written = K.written sink.new;
+            state = session.new;
+        })) }
     ensures stops { IfErr result (λ stop. IsCounted stop
-        (S.failures source.old) (S.failures source.new) (K.failures sink.old) (K.failures sink.new)) }
+        (record { reads = S.failures source.old; writes = K.failures sink.old })
+        (record { reads = S.failures source.new; writes = K.failures sink.new })) }
 {
     match heading_of(&input.line) {
         Heading::Malformed => {
@@ -105,10 +123,12 @@ fn heading_of(line: &LineBuffer<MAX_COMMAND>) -> Heading<'_>
 fn write_edit<K: Sink>(sink: &mut K, outcome: Result<Work, Refusal>) -> Result<(), WriteFailed>
     requires counts { K.failures sink.old < 2 ^ 64 - 1 }
 
-    ensures written { OnOk result (K.written sink.new ≡ append (K.written sink.old) (edit_reply outcome)) }
+    ensures written { OnOk result
+        (K.written sink.new ≡ append (K.written sink.old) (edit_reply outcome)) }
     ensures ok { OnOk result (K.failures sink.new ≡ K.failures sink.old) }
 
-    ensures part { OnErr result (WritesPart (K.written sink.old) (edit_reply outcome) (K.written sink.new)) }
+    ensures part { OnErr result
+        (WritesPart (K.written sink.old) (edit_reply outcome) (K.written sink.new)) }
     ensures err { OnErr result (K.failures sink.new ≡ K.failures sink.old + 1) }
 {
     match outcome {
@@ -125,10 +145,12 @@ fn write_query<K: Sink>(
 ) -> Result<(), WriteFailed>
     requires counts { K.failures sink.old < 2 ^ 64 - 1 }
 
-    ensures written { OnOk result (K.written sink.new ≡ append (K.written sink.old) (query_reply name.now (option_map rows_of rows.entry))) }
+    ensures written { let reply = query_reply name.now (option_map rows_of rows.entry) in
+        OnOk result (K.written sink.new ≡ append (K.written sink.old) reply) }
     ensures ok { OnOk result (K.failures sink.new ≡ K.failures sink.old) }
 
-    ensures part { OnErr result (WritesPart (K.written sink.old) (query_reply name.now (option_map rows_of rows.entry)) (K.written sink.new)) }
+    ensures part { let reply = query_reply name.now (option_map rows_of rows.entry) in
+        OnErr result (WritesPart (K.written sink.old) reply (K.written sink.new)) }
     ensures err { OnErr result (K.failures sink.new ≡ K.failures sink.old + 1) }
 {
     if Name::new(name).is_none() {
