@@ -35,9 +35,11 @@ pub fn read_announced<S: Source>(
 ) -> Result<Announced, ReadFailed>
     requires counts { S.failures source.old < 2 ^ 64 - 1 }
 
-    ensures taken { IfOk result (λ announced. TakesAnnounced count
-        (lines_left (S.remaining source.old) feed.old) (lines_left (S.remaining source.new) feed.new) announced) }
-    ensures nearer { OnOk result (fuel (S.reads_left source.new) feed.new ≤ fuel (S.reads_left source.old) feed.old) }
+    ensures taken { IfOk result (TakesAnnounced count
+        (lines_left (S.remaining source.old) feed.old)
+        (lines_left (S.remaining source.new) feed.new)) }
+    ensures nearer { OnOk result
+        (fuel (S.reads_left source.new) feed.new ≤ fuel (S.reads_left source.old) feed.old) }
     ensures ok { OnOk result (S.failures source.new ≡ S.failures source.old) }
 
     ensures err { OnErr result (S.failures source.new ≡ S.failures source.old + 1) }
@@ -67,7 +69,8 @@ fn first_announced(alloc: Global, count: usize) -> Announced
 fn with_line(alloc: Global, announced: Announced, line: Option<&[u8]>) -> Announced
     requires one_line { IfSome line (λ l. IsLine l.now) }
 
-    ensures { (count : ℕ) (lines : List (List ℕ)) (next : List ℕ) → option_copied line.entry ≡ line_within longest_line next
+    ensures { (count : ℕ) (lines : List (List ℕ)) (next : List ℕ)
+        → option_copied line.entry ≡ line_within longest_line next
         → IsGathered count lines announced → IsGathered count (lines ++ next ∷ []) result }
 {
     match announced {

@@ -147,7 +147,8 @@ fn pair_heading<'a>(first: &'a [u8], about: &'a [u8]) -> Heading<'a>
 }
 
 fn put_heading<'a>(first: &'a [u8], name: &'a [u8], count: &'a [u8]) -> Heading<'a>
-    ensures request { request_by result ≡ counted_request first.entry.now (name.entry.now ∷ count.entry.now ∷ []) }
+    ensures request { let words = name.entry.now ∷ count.entry.now ∷ [] in
+        request_by result ≡ counted_request first.entry.now words }
     ensures one_line { HasLines result }
 {
     if first != b"put".as_slice() {
@@ -161,7 +162,8 @@ fn put_heading<'a>(first: &'a [u8], name: &'a [u8], count: &'a [u8]) -> Heading<
 
 // The three numbers are where the span begins, how many lines it has, and how many follow.
 fn splice_heading<'a>(first: &'a [u8], name: &'a [u8], numbers: [&'a [u8]; 3]) -> Heading<'a>
-    ensures request { request_by result ≡ counted_request first.entry.now (name.entry.now ∷ map (λ number. number.now) numbers.entry) }
+    ensures request { let words = name.entry.now ∷ map (λ number. number.now) numbers.entry in
+        request_by result ≡ counted_request first.entry.now words }
     ensures one_line { HasLines result }
 {
     if first != b"splice".as_slice() {
@@ -211,7 +213,9 @@ fn are_visible(bytes: &[u8]) -> bool
 
 // The value of `0`, or of one to nine digits without leading zero.
 fn parse_number(digits: &[u8]) -> Option<usize>
-    ensures { MatchOption result (is_number digits.now ≡ false) (λ n. (is_number digits.now ≡ true) × (n ≡ value_of digits.now)) }
+    ensures { MatchOption result
+        (is_number digits.now ≡ false)
+        (λ n. (is_number digits.now ≡ true) × (n ≡ value_of digits.now)) }
 {
     if !is_number(digits) {
         return None;

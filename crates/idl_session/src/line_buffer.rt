@@ -76,9 +76,12 @@ pub fn read_line<S: Source, const N: usize>(
     requires counts { S.failures source.old < 2 ^ 64 - 1 }
 
     ensures line { IfOk result (λ more. MatchBool more
-        (TakesLine N (lines_left (S.remaining source.old) feed.old) (lines_left (S.remaining source.new) feed.new) line.new)
+        (TakesLine N
+        (lines_left (S.remaining source.old) feed.old)
+        (lines_left (S.remaining source.new) feed.new) line.new)
         (IsOver (lines_left (S.remaining source.old) feed.old)
-        × (lines_left (S.remaining source.new) feed.new ≡ lines_left (S.remaining source.old) feed.old))) }
+        × (lines_left (S.remaining source.new) feed.new
+        ≡ lines_left (S.remaining source.old) feed.old))) }
     ensures nearer { IfOk result (λ more. MatchBool more
         (fuel (S.reads_left source.new) feed.new < fuel (S.reads_left source.old) feed.old)
         (fuel (S.reads_left source.new) feed.new ≤ fuel (S.reads_left source.old) feed.old)) }

@@ -56,14 +56,14 @@ pub fn serve<S: Source, K: Sink>(
 
     ensures served { OnOk result (SendsReply (request_kept input.old.line)
         (record {
-            lines = lines_left (S.remaining source.old) input.old.feed;
-            written = K.written sink.old;
-            state = session.old;
+          lines = lines_left (S.remaining source.old) input.old.feed;
+          written = K.written sink.old;
+          state = session.old;
         })
         (record {
-            lines = lines_left (S.remaining source.new) input.new.feed;
-            written = K.written sink.new;
-            state = session.new;
+          lines = lines_left (S.remaining source.new) input.new.feed;
+          written = K.written sink.new;
+          state = session.new;
         })) }
     ensures nearer { OnOk result (fuel (S.reads_left source.new) input.new.feed
         ≤ fuel (S.reads_left source.old) input.old.feed) }
@@ -72,14 +72,14 @@ pub fn serve<S: Source, K: Sink>(
 
     ensures cut { IfErr result (λ stop. IsCut stop (request_kept input.old.line)
         (record {
-            lines = lines_left (S.remaining source.old) input.old.feed;
-            written = K.written sink.old;
-            state = session.old;
+          lines = lines_left (S.remaining source.old) input.old.feed;
+          written = K.written sink.old;
+          state = session.old;
         })
         (record {
-            lines = lines_left (S.remaining source.new) input.new.feed;
-            written = K.written sink.new;
-            state = session.new;
+          lines = lines_left (S.remaining source.new) input.new.feed;
+          written = K.written sink.new;
+          state = session.new;
         })) }
     ensures stops { IfErr result (λ stop. IsCounted stop
         (record { reads = S.failures source.old; writes = K.failures sink.old })
