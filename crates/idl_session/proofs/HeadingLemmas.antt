@@ -4,7 +4,8 @@ use Rattle.std.proofs.lemmas.List.Elements.{Contains-append_right}
 use Rattle.std.proofs.lemmas.List.Splits.{join_with_byte-slice_split, length-slice_split}
 use Rattle.std.specs.List.{slice_split, onto_first, join_with_byte}
 use Rattle.idl_source.specs.Line.{IsLine}
-use Rattle.idl_session.specs.Requests.{Malformed, Make, Define, counted_request, define_request, is_word, words}
+use Rattle.idl_workspace.specs.Edits.{Define}
+use Rattle.idl_session.specs.Requests.{Malformed, Make, counted_request, define_request, is_command_word, words}
 
 -- five words after the first are too many
 abbrev sixth_bad : List ℕ → List ℕ → List ℕ → List ℕ → List ℕ → List (List ℕ) → Type 0
@@ -41,7 +42,7 @@ IsLine-rest line w rest e one_line has =
     one_line (subst (λ (bytes : List ℕ). Contains bytes 10) (sym (line_cut line w rest e)) (Contains-append_right w (32 ∷ rest) 10 (Contains-append_right (32 ∷ []) rest 10 has)))
 
 -- the words after the second blank make the body
-pub define_request-body : (rest word body : List ℕ) → slice_split (λ b. eqb b 32) rest ≡ word ∷ slice_split (λ b. eqb b 32) body → is_word word ≡ true
+pub define_request-body : (rest word body : List ℕ) → slice_split (λ b. eqb b 32) rest ≡ word ∷ slice_split (λ b. eqb b 32) body → is_command_word word ≡ true
     → Make (Define word body) ≡ define_request (words rest)
 define_request-body rest word body e allowed =
     sym (ap define_request e ∙ ap (λ b. cond b (Make (Define word (join_with_byte 32 (words body)))) Malformed) allowed

@@ -1,4 +1,4 @@
-pub mod BodyLemmas
+pub mod AnnouncedLemmas
 pub mod HeadingLemmas
 pub mod ReplyLemmas
 pub mod RunLemmas

@@ -6,7 +6,7 @@ use Rattle.std.specs.List.{list_all, onto_first}
 use Rattle.std.proofs.lemmas.Bool.Decides.{nat_tests}
 use Rattle.std.proofs.lemmas.List.{append-nil}
 use Rattle.idl_source.specs.Device.{prepend}
-use Rattle.idl_session.specs.Lines.{lines_of, kept, kept_with}
+use Rattle.idl_session.specs.Lines.{lines_of, line_within, line_with}
 use Rattle.idl_session.specs.Streams.{TakesLine, IsOver}
 use Rattle.idl_session.specs.Reading.{IsReading}
 
@@ -46,7 +46,7 @@ lines_of-last b (x ∷ part) e =
     ap (λ t. cond t ([] ∷ lines_of (x ∷ part)) (onto_first b (lines_of (x ∷ part)))) (not_so (eqb b 10) both.0)
     ∙ ap (onto_first b) (lines_of-last x part both.1)
 
-kept_by_bound : (n : ℕ) (part : List ℕ) (b : ℕ) (t : Bool) → leb (length part) n ≡ t → kept_with n (cond t (Some part) None) b ≡ kept n (part ++ b ∷ [])
+kept_by_bound : (n : ℕ) (part : List ℕ) (b : ℕ) (t : Bool) → leb (length part) n ≡ t → line_with n (cond t (Some part) None) b ≡ line_within n (part ++ b ∷ [])
 kept_by_bound n part b true h =
     let e : ltb (length part) n ≡ leb (length (part ++ b ∷ [])) n = grind (arith, nat_tests, length-append part (b ∷ [])) in
     ap (λ t. cond t (Some (part ++ b ∷ [])) None) e
@@ -54,8 +54,8 @@ kept_by_bound n part b false h =
     let e : leb (length (part ++ b ∷ [])) n ≡ false = grind (arith, nat_tests, length-append part (b ∷ [])) in
     sym (ap (λ t. cond t (Some (part ++ b ∷ [])) None) e)
 
-kept_with-kept : (n : ℕ) (part : List ℕ) (b : ℕ) → kept_with n (kept n part) b ≡ kept n (part ++ b ∷ [])
-kept_with-kept n part b = kept_by_bound n part b (leb (length part) n) refl
+line_with-line_within : (n : ℕ) (part : List ℕ) (b : ℕ) → line_with n (line_within n part) b ≡ line_within n (part ++ b ∷ [])
+line_with-line_within n part b = kept_by_bound n part b (leb (length part) n) refl
 
 both_so : (a b : Bool) → a ≡ true → b ≡ true → (a && b) ≡ true
 both_so true b e f = f
@@ -73,12 +73,12 @@ some_pushed part b = grind (arith, nat_tests, length-append part (b ∷ []))
 not_none : (b : ℕ) (part : List ℕ) → ltb 0 (length (b ∷ part)) ≡ false → ⊥
 not_none b part e = grind (arith, nat_tests)
 
-pub reading-more : (n : ℕ) (old mid new held held' : Option (List ℕ)) (any : Bool) (b : ℕ) → IsReading n old mid held any → mid ≡ prepend (b ∷ []) new → (b ≡ 10 → ⊥) → held' ≡ kept_with n held b → IsReading n old new held' true
+pub reading-more : (n : ℕ) (old mid new held held' : Option (List ℕ)) (any : Bool) (b : ℕ) → IsReading n old mid held any → mid ≡ prepend (b ∷ []) new → (b ≡ 10 → ⊥) → held' ≡ line_with n held b → IsReading n old new held' true
 reading-more n old mid new held held' any b r taken other is = record {
   part = r.part ++ b ∷ [];
   one_line = all-push r.part b r.one_line other;
   taken = r.taken ∙ ap (prepend r.part) taken ∙ prepend-prepend new r.part (b ∷ []);
-  keeps = is ∙ ap (λ h. kept_with n h b) r.keeps ∙ kept_with-kept n r.part b;
+  keeps = is ∙ ap (λ h. line_with n h b) r.keeps ∙ line_with-line_within n r.part b;
   has_byte = some_pushed r.part b;
 }
 

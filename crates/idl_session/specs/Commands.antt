@@ -1,20 +1,31 @@
 -- The commands that lines make.
-use Rattle.std.specs.Prelude.{ℕ, List, [], ◌∷◌, take, zero, suc}
+use Rattle.std.specs.Prelude.{ℕ, List, [], ◌∷◌, length, nat_eq, take, zero, suc, if◌then◌else◌}
+use Rattle.idl_workspace.specs.Edits.{Edit}
 use Rattle.idl_session.specs.Lines.{lines_of}
 use Rattle.idl_session.specs.Requests.{Request, request_of, lines_taken}
+use Rattle.idl_session.specs.Requests as request
+use Rattle.idl_session.specs.declared.heading.Question.{Question}
 
--- a command: what its line asks for, and the lines that it takes, as far as they are there
-pub record Command : Type 0 where
-  pub request : Request
-  pub lines : List (List ℕ)
+-- none, an edit that lacks lines which it announced, an edit, or a question about a root
+pub data Command : Type 0 where
+  Malformed : Command
+  Unfinished : Command
+  Make : (edit : Edit) → Command
+  Ask : (question : Question) (name : List ℕ) → Command
+
+-- the command of a request, with the lines that follow as far as they are there
+abbrev pub command_of : Request → List (List ℕ) → Command
+command_of request.Malformed lines = Malformed
+command_of (request.Place edit count) lines = if nat_eq (length lines) count then Make (edit lines) else Unfinished
+command_of (request.Make edit) lines = Make edit
+command_of (request.Ask question name) lines = Ask question name
 
 -- the commands after the first n lines
 abbrev pub commands_after : ℕ → List (List ℕ) → List Command
 commands_after n [] = []
 commands_after (suc n) (line ∷ lines) = commands_after n lines
 commands_after zero (line ∷ lines) =
-    record { request = request_of line; lines = take (lines_taken (request_of line)) lines }
-    ∷ commands_after (lines_taken (request_of line)) lines
+    command_of (request_of line) (take (lines_taken (request_of line)) lines) ∷ commands_after (lines_taken (request_of line)) lines
 
 -- the commands that a text makes
 abbrev pub commands_of : List ℕ → List Command

@@ -2,7 +2,8 @@
 use Rattle.std.specs.Prelude.{ℕ, List, [], Option, None, Some}
 use Rattle.std.specs.Borrow.{Bor}
 use Rattle.idl_source.specs.Line.{IsLine}
-use Rattle.idl_session.specs.Requests.{Placing, Put, Splice, Edit, Remove, Define, Undef, Search, AddRoot, DropRoot, Request, Malformed, Place, Make, Ask, words}
+use Rattle.idl_workspace.specs.Edits.{Edit, Put, Splice, Remove, Define, Undef, Search, AddRoot, DropRoot}
+use Rattle.idl_session.specs.Requests.{Request, Malformed, Place, Make, Ask, words}
 use Rattle.idl_session.specs.declared.heading.Change.{Change}
 use Rattle.idl_session.specs.declared.heading.Change.TheVariants as change
 use Rattle.idl_session.specs.declared.heading.Heading.{Heading}
@@ -10,9 +11,10 @@ use Rattle.idl_session.specs.declared.heading.Heading.TheVariants as heading
 use Rattle.idl_session.specs.declared.heading.Placement.{Placement}
 use Rattle.idl_session.specs.declared.heading.Placement.TheVariants as placement
 
-abbrev pub placing_by : Placement → Placing
-placing_by (placement.Put name) = Put name.now
-placing_by (placement.Splice name from del) = Splice name.now from del
+-- the edit that places these lines
+abbrev pub edit_with : Placement → List (List ℕ) → Edit
+edit_with (placement.Put name) lines = Put name.now lines
+edit_with (placement.Splice name span) lines = Splice name.now span.from span.del lines
 
 -- the words after the first blank
 abbrev pub words_after : Option (Bor (List ℕ)) → List (List ℕ)
@@ -29,7 +31,7 @@ edit_by (change.DropRoot name) = DropRoot name.now
 
 abbrev pub request_by : Heading → Request
 request_by heading.Malformed = Malformed
-request_by (heading.Place placement count) = Place (placing_by placement) count
+request_by (heading.Place placement count) = Place (edit_with placement) count
 request_by (heading.Make what) = Make (edit_by what)
 request_by (heading.Ask question name) = Ask question name.now
 

@@ -1,7 +1,6 @@
 pub mod Answers
-pub mod Bodies
+pub mod Announced
 pub mod Commands
-pub mod Effects
 pub mod Gathering
 pub mod Headings
 pub mod Lines

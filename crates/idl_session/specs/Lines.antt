@@ -8,10 +8,10 @@ lines_of [] = []
 lines_of (b ∷ bytes) = if nat_eq b 10 then [] ∷ lines_of bytes else onto_first b (lines_of bytes)
 
 -- a line of at most n bytes
-abbrev pub kept : ℕ → List ℕ → Option (List ℕ)
-kept n line = if nat_le (length line) n then Some line else None
+abbrev pub line_within : ℕ → List ℕ → Option (List ℕ)
+line_within n line = if nat_le (length line) n then Some line else None
 
 -- what is kept of a line after one byte more
-abbrev pub kept_with : ℕ → Option (List ℕ) → ℕ → Option (List ℕ)
-kept_with n None b = None
-kept_with n (Some line) b = if nat_lt (length line) n then Some (line ++ b ∷ []) else None
+abbrev pub line_with : ℕ → Option (List ℕ) → ℕ → Option (List ℕ)
+line_with n None b = None
+line_with n (Some line) b = if nat_lt (length line) n then Some (line ++ b ∷ []) else None

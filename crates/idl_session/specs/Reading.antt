@@ -2,12 +2,12 @@
 use Rattle.std.specs.Prelude.{◌≡◌, ℕ, Bool, true, not, List, nat_eq, nat_lt, length, Option}
 use Rattle.std.specs.List.{list_all}
 use Rattle.idl_source.specs.Device.{prepend}
-use Rattle.idl_session.specs.Lines.{kept}
+use Rattle.idl_session.specs.Lines.{line_within}
 
 -- a part of a line was taken: what is kept of it, and whether it has a byte
 pub record IsReading (n : ℕ) (old new : Option (List ℕ)) (held : Option (List ℕ)) (any : Bool) : Type 0 where
   pub part : List ℕ
   pub one_line : list_all (λ b. not (nat_eq b 10)) part ≡ true
   pub taken : old ≡ prepend part new
-  pub keeps : held ≡ kept n part
+  pub keeps : held ≡ line_within n part
   pub has_byte : any ≡ nat_lt 0 (length part)

@@ -7,21 +7,21 @@ use Rattle.idl_source.specs.declared.refusal.Refusal.{Refusal}
 use Rattle.idl_source.specs.declared.refusal.Refusal.TheVariants.{BadName, NoSuchRoot}
 use Rattle.idl_workspace.specs.declared.work.Work.{Work}
 
-abbrev pub ended : List ℕ → List ℕ
-ended line = line ++ 10 ∷ []
+abbrev pub whole_line : List ℕ → List ℕ
+whole_line line = line ++ 10 ∷ []
 
 -- a word, a number and the end of the line
-abbrev pub counted : List ℕ → ℕ → List ℕ
-counted word n = word ++ ended (decimal n)
+abbrev pub number_line : List ℕ → ℕ → List ℕ
+number_line word n = word ++ whole_line (decimal n)
 
 abbrev pub ok_reply : List ℕ
-ok_reply = ended (codes "ok")
+ok_reply = whole_line (codes "ok")
 
 abbrev pub refused_reply : Refusal → List ℕ
-refused_reply refusal = counted (codes "refused ") (number_of refusal)
+refused_reply refusal = number_line (codes "refused ") (number_of refusal)
 
 abbrev pub rows_reply : List (List ℕ) → List ℕ
-rows_reply rows = counted (codes "rows ") (length rows) ++ flat_map ended rows
+rows_reply rows = number_line (codes "rows ") (length rows) ++ flat_map whole_line rows
 
 -- the reply to an edit
 abbrev pub edit_reply : Result Work Refusal → List ℕ

@@ -2,36 +2,23 @@
 use Rattle.std.specs.Prelude.{ℕ, ◌+◌, ◌-◌, ◌*◌, Bool, false, ◌&&◌, ◌||◌, not, List, [], ◌∷◌, nat_le, nat_eq, length, codes, fold, Option, None, Some, if◌then◌else◌}
 use Rattle.std.specs.List.{join_with_byte, slice_split, list_all}
 use Rattle.std.specs.Str.{bytes_eq}
+use Rattle.idl_source.specs.Limits.{longest_command}
 use Rattle.idl_source.specs.Name.{is_visible}
-use Rattle.idl_session.specs.Lines.{kept}
-use Rattle.idl_session.specs.declared.TheConstants.{MAX_COMMAND}
+use Rattle.idl_workspace.specs.Edits.{Edit, Put, Splice, Remove, Define, Undef, Search, AddRoot, DropRoot}
+use Rattle.idl_session.specs.Lines.{line_within}
 use Rattle.idl_session.specs.declared.heading.Question.{Question}
 use Rattle.idl_session.specs.declared.heading.Question.TheVariants.{Diagnostics, Dump, Absent}
 
--- where announced lines go: into a file of this name, or into a file from a line on, in the place of so many
-pub data Placing : Type 0 where
-  Put : List ℕ → Placing
-  Splice : List ℕ → ℕ → ℕ → Placing
-
--- an edit of one line
-pub data Edit : Type 0 where
-  Remove : List ℕ → Edit
-  Define : List ℕ → List ℕ → Edit
-  Undef : List ℕ → Edit
-  Search : List (List ℕ) → Edit
-  AddRoot : List ℕ → Edit
-  DropRoot : List ℕ → Edit
-
--- no command, an edit that so many lines follow, an edit of one line, or a question about a root
+-- no command, an edit with so many lines that follow, an edit that no line follows, or a question about a root
 pub data Request : Type 0 where
   Malformed : Request
-  Place : Placing → ℕ → Request
-  Make : Edit → Request
-  Ask : Question → List ℕ → Request
+  Place : (edit : List (List ℕ) → Edit) (count : ℕ) → Request
+  Make : (edit : Edit) → Request
+  Ask : (question : Question) (name : List ℕ) → Request
 
 -- bytes 33 to 126, one at least
-abbrev pub is_word : List ℕ → Bool
-is_word word = not (bytes_eq word []) && list_all is_visible word
+abbrev pub is_command_word : List ℕ → Bool
+is_command_word word = not (bytes_eq word []) && list_all is_visible word
 
 -- the parts between the blanks
 abbrev pub words : List ℕ → List (List ℕ)
@@ -81,12 +68,12 @@ request_of_words w ws = if bytes_eq w (codes "search") then Make (Search ws) els
 -- the body of `define` is all bytes after the second blank
 abbrev pub define_request : List (List ℕ) → Request
 define_request [] = Malformed
-define_request (word ∷ rest) = if is_word word then Make (Define word (join_with_byte 32 rest)) else Malformed
+define_request (word ∷ rest) = if is_command_word word then Make (Define word (join_with_byte 32 rest)) else Malformed
 
 -- all words are of bytes 33 to 126, but for those of a body
 abbrev pub request_in_words : List (List ℕ) → Request
 request_in_words [] = Malformed
-request_in_words (w ∷ ws) = if bytes_eq w (codes "define") then define_request ws else (if list_all is_word (w ∷ ws) then request_of_words w ws else Malformed)
+request_in_words (w ∷ ws) = if bytes_eq w (codes "define") then define_request ws else (if list_all is_command_word (w ∷ ws) then request_of_words w ws else Malformed)
 
 -- what is asked by a line, of which nothing may be kept
 abbrev pub request_kept : Option (List ℕ) → Request
@@ -95,11 +82,11 @@ request_kept (Some line) = request_in_words (words line)
 
 -- what a command line asks for: one that is too long is malformed
 abbrev pub request_of : List ℕ → Request
-request_of line = request_kept (kept MAX_COMMAND line)
+request_of line = request_kept (line_within longest_command line)
 
 -- how many further lines it takes
 abbrev pub lines_taken : Request → ℕ
 lines_taken Malformed = 0
-lines_taken (Place placing count) = count
+lines_taken (Place edit count) = count
 lines_taken (Make edit) = 0
 lines_taken (Ask question name) = 0

@@ -2,7 +2,7 @@
 use Rattle.std.specs.Prelude.{◌≡◌, ℕ, ◌+◌, ◌*◌, ◌<◌, ◌≤◌, List, [], ◌∷◌, length, Option, IfSome}
 use Rattle.std.specs.Option.{option_map}
 use Rattle.idl_source.specs.Device.{prepend}
-use Rattle.idl_session.specs.Lines.{lines_of, kept}
+use Rattle.idl_session.specs.Lines.{lines_of, line_within}
 
 -- the bytes to come: those of the feed, and then the source's, where it tells
 abbrev pub bytes_left : Option (List ℕ) → List ℕ → Option (List ℕ)
@@ -21,7 +21,7 @@ fuel reads feed = reads * 4097 + length feed
 
 -- one line was taken, and this is kept of it
 abbrev pub TakesLine : ℕ → Option (List (List ℕ)) → Option (List (List ℕ)) → Option (List ℕ) → Type 0
-TakesLine n old new held = (line : List ℕ) × ((old ≡ prepend (line ∷ []) new) × (held ≡ kept n line))
+TakesLine n old new held = (line : List ℕ) × ((old ≡ prepend (line ∷ []) new) × (held ≡ line_within n line))
 
 -- so many lines were taken, or fewer at the end
 abbrev pub IsTakenBy : ℕ → List (List ℕ) → Option (List (List ℕ)) → Type 0

@@ -5,10 +5,8 @@ ghost use Rattle.idl_session.specs.Answers.{IsReply};
 ghost use Rattle.idl_session.specs.Commands.{commands_of};
 ghost use Rattle.idl_session.specs.Serving.{IsCounted, IsBeginning};
 
-use crate::MAX_COMMAND;
-use crate::feed::Feed;
-use crate::line_buffer::{LineBuffer, read_line};
-use crate::serve::serve;
+use crate::line_buffer::read_line;
+use crate::serve::{Input, serve};
 use crate::stop::Stop;
 use idl_source::{Sink, Source};
 use idl_workspace::Session;
@@ -31,7 +29,7 @@ use idl_workspace::Session;
 /// | `absent NAME`: asks for the files that a root asked for and that aren't there | `rows N` and N lines |
 ///
 /// What is refused has the reply `refused N`, N being the number of the [`Refusal`](crate::Refusal), and changes nothing.
-/// All else is a malformed command, and so is a line of more than [`MAX_COMMAND`] bytes. The lines that a `put` or a `splice`
+/// All else is a malformed command, and so is a line of more than [`MAX_COMMAND`](crate::MAX_COMMAND) bytes. The lines that a `put` or a `splice`
 /// announces are taken where it is refused, too.
 ///
 /// Each reply has gone out whole before the next line is read. Memory is taken by edits alone, and not by `unroot`.
@@ -45,22 +43,26 @@ pub fn run<S: Source, K: Sink>(
     requires writes { K.failures sink.old < 2 ^ 64 - 1 }
 
     // What went out is a reply to all that came in, and the session is in the state that it tells of.
-    ensures replied { OnOk result (IfSome (S.remaining source.old) (λ input. IfSome (K.written sink.old) (λ before.
-        (output : List ℕ) × (K.written sink.new ≡ Some (before ++ output)) × IsReply session.old input output session.new))) }
+    ensures replied { OnOk result (IfSome (S.remaining source.old) (λ input.
+        IfSome (K.written sink.old) (λ before.
+        (output : List ℕ) × (K.written sink.new ≡ Some (before ++ output))
+        × IsReply session.old input output session.new))) }
 
     // A device failed in this call.
     ensures stops { IfErr result (λ stop. IsCounted stop
-        (S.failures source.old) (S.failures source.new) (K.failures sink.old) (K.failures sink.new)) }
+        (record { reads = S.failures source.old; writes = K.failures sink.old })
+        (record { reads = S.failures source.new; writes = K.failures sink.new })) }
     // What went out is a beginning of replies to the first commands, and the session is in the state that they tell of.
     ensures begun { IfErr result (λ stop. IfSome (S.remaining source.old) (λ input.
-        IsBeginning stop session.old (commands_of input) (K.written sink.old) (K.written sink.new) session.new)) }
+        IsBeginning stop (commands_of input)
+        (record { written = K.written sink.old; state = session.old })
+        (record { written = K.written sink.new; state = session.new }))) }
 {
-    let mut feed = Feed::new();
-    let mut line = LineBuffer::<MAX_COMMAND>::new();
+    let mut input = Input::new();
     'commands: loop {
-        if !read_line(source, &mut feed, &mut line)? {
+        if !read_line(source, &mut input.feed, &mut input.line)? {
             return Ok(());
         }
-        serve(session, source, &mut feed, &line, sink)?;
+        serve(session, source, &mut input, sink)?;
     }
 }

@@ -1,40 +1,41 @@
 //! The edits that commands ask for.
 
-ghost use Rattle.std.specs.Prelude.{◌≡◌, ℕ, List, true, false, Err, IfOk, IfErr, MatchBool, map, nat_eq, length};
+ghost use Rattle.std.specs.Prelude.{◌≡◌, ℕ, List, true, Err, IfOk, MatchBool, map, nat_eq, length};
 ghost use Rattle.idl_source.specs.Line.{IsLine};
-ghost use Rattle.idl_workspace.specs.Edits.{after_define, after_search, are_too_long};
-ghost use Rattle.idl_session.specs.Bodies.{IsBody};
-ghost use Rattle.idl_session.specs.Effects.{after_edit, after_placing, takes_memory};
-ghost use Rattle.idl_session.specs.Headings.{HasLine, edit_by, placing_by, words_after};
-ghost use Rattle.idl_session.specs.Serving.{IsOutcome};
+ghost use Rattle.idl_workspace.specs.Edited.{IsEdited};
+ghost use Rattle.idl_workspace.specs.Edits.{Define, Search, after, are_too_long};
+ghost use Rattle.idl_session.specs.Announced.{IsAnnounced};
+ghost use Rattle.idl_session.specs.Headings.{HasLine, edit_by, edit_with, words_after};
 
-use crate::body::Body;
+use crate::announced::Announced;
 use crate::heading::{Change, Placement};
 use idl_source::{Line, Name, Refusal, first_part};
 use idl_workspace::{Session, Work};
 use std::alloc::{AllocError, Global};
 
 /// Places the gathered lines.
-pub fn place(session: &mut Session, placement: Placement<'_>, body: Body) -> Result<Work, Refusal>
-    ensures { (count : ℕ) (lines : List (List ℕ)) → IsBody count lines body →
+pub fn place(
+    session: &mut Session,
+    placement: Placement<'_>,
+    announced: Announced,
+) -> Result<Work, Refusal>
+    ensures { (count : ℕ) (lines : List (List ℕ)) → IsAnnounced count lines announced →
         MatchBool (nat_eq (length lines) count)
-        (IsOutcome session.old (after_placing session.old.project (placing_by placement.entry) lines) result session.new)
+        (IsEdited (edit_with placement.entry lines) session.old session.new result)
         ((result ≡ Err Refusal.Unfinished) × (session.new ≡ session.old)) }
 {
-    match body {
-        Body::Whole(lines) => place_lines(session, placement, lines),
-        Body::Unfinished => Err(Refusal::Unfinished),
-        Body::OverLimit => Err(refusal_of_long(session, placement)),
-        Body::NoMemory => Err(Refusal::NoMemory),
+    match announced {
+        Announced::Whole(lines) => place_lines(session, placement, lines),
+        Announced::Unfinished => Err(Refusal::Unfinished),
+        Announced::OverLimit => Err(refusal_of_long(session, placement)),
+        Announced::NoMemory => Err(Refusal::NoMemory),
     }
 }
 
 /// Makes an edit that no line follows.
 pub fn make(session: &mut Session, change: Change<'_>) -> Result<Work, Refusal>
     requires { HasLine change }
-    ensures outcome { IsOutcome session.old (after_edit session.old.project (edit_by change.entry)) result session.new }
-    ensures sure { takes_memory (edit_by change.entry) ≡ false
-        → IfErr result (λ refusal. after_edit session.old.project (edit_by change.entry) ≡ Err refusal) }
+    ensures { IsEdited (edit_by change.entry) session.old session.new result }
 {
     match change {
         Change::Remove(name) => session.remove(name),
@@ -51,34 +52,35 @@ fn place_lines(
     placement: Placement<'_>,
     lines: Vec<Line>,
 ) -> Result<Work, Refusal>
-    ensures { IsOutcome session.old (after_placing session.old.project (placing_by placement.entry) lines.items) result session.new }
+    ensures { IsEdited (edit_with placement.entry lines.items) session.old session.new result }
 {
     match placement {
         Placement::Put(name) => session.put(name, lines),
-        Placement::Splice(name, from, del) => session.splice(name, from, del, lines),
+        Placement::Splice(name, span) => session.splice(name, span, lines),
     }
 }
 
 // Why lines that are too many or too long aren't placed.
 fn refusal_of_long(session: &Session, placement: Placement<'_>) -> Refusal
-    ensures { (lines : List (List ℕ)) → are_too_long lines ≡ true → after_placing session.now.project (placing_by placement.entry) lines ≡ Err result }
+    ensures { (lines : List (List ℕ)) → are_too_long lines ≡ true
+        → after session.now.project (edit_with placement.entry lines) ≡ Err result }
 {
     match placement {
         Placement::Put(name) => session.refusal_of_long_put(name),
-        Placement::Splice(name, from, del) => session.refusal_of_long_splice(name, from, del),
+        Placement::Splice(name, span) => session.refusal_of_long_splice(name, span),
     }
 }
 
 fn define(session: &mut Session, word: &[u8], body: &[u8]) -> Result<Work, Refusal>
     requires { IsLine body.now }
-    ensures { IsOutcome session.old (after_define session.old.project word.now body.now) result session.new }
+    ensures { IsEdited (Define word.now body.now) session.old session.new result }
 {
     let body = Line::new(session.allocator(), body)?.unwrap();
     session.define(word, body)
 }
 
 fn search(session: &mut Session, rest: Option<&[u8]>) -> Result<Work, Refusal>
-    ensures { IsOutcome session.old (after_search session.old.project (words_after rest.entry)) result session.new }
+    ensures { IsEdited (Search (words_after rest.entry)) session.old session.new result }
 {
     let directories = words_in(session.allocator(), rest)?;
     session.search(&directories)

@@ -42,13 +42,15 @@ impl Feed {
         requires counts { S.failures source.old < 2 ^ 64 - 1 }
 
         ensures byte { IfOk result (λ b. MatchOption b
-            ((bytes_left (S.remaining source.new) self.new ≡ bytes_left (S.remaining source.old) self.old)
+            ((bytes_left (S.remaining source.new) self.new
+            ≡ bytes_left (S.remaining source.old) self.old)
             × IsOver (bytes_left (S.remaining source.old) self.old))
             (λ b. bytes_left (S.remaining source.old) self.old
             ≡ prepend (b ∷ []) (bytes_left (S.remaining source.new) self.new))) }
         ensures nearer { IfOk result (λ b. MatchOption b
             (fuel (S.reads_left source.new) self.new ≤ fuel (S.reads_left source.old) self.old)
-            (λ _. fuel (S.reads_left source.new) self.new < fuel (S.reads_left source.old) self.old)) }
+            (λ _. fuel (S.reads_left source.new) self.new
+            < fuel (S.reads_left source.old) self.old)) }
         ensures ok { OnOk result (S.failures source.new ≡ S.failures source.old) }
 
         ensures err { OnErr result (S.failures source.new ≡ S.failures source.old + 1) }
@@ -65,8 +67,10 @@ impl Feed {
         requires empty { self.old ≡ [] }
         requires counts { S.failures source.old < 2 ^ 64 - 1 }
 
-        ensures given { OnOk result (S.remaining source.old ≡ prepend self.new (S.remaining source.new)) }
-        ensures end { OnOk result (self.new ≡ [] → IfSome (S.remaining source.old) (λ bytes. bytes ≡ [])) }
+        ensures given { OnOk result
+            (S.remaining source.old ≡ prepend self.new (S.remaining source.new)) }
+        ensures end { OnOk result
+            (self.new ≡ [] → IfSome (S.remaining source.old) (λ bytes. bytes ≡ [])) }
         ensures nearer { OnOk result (0 < length self.new
             → fuel (S.reads_left source.new) self.new < fuel (S.reads_left source.old) []) }
         ensures at_end { OnOk result (S.reads_left source.new ≤ S.reads_left source.old) }
@@ -82,7 +86,9 @@ impl Feed {
 
     // Takes the first of the bytes that were read.
     fn pop(&mut self) -> Option<u8>
-        ensures { MatchOption result ((self.old ≡ []) × (self.new ≡ [])) (λ b. self.old ≡ b ∷ self.new) }
+        ensures { MatchOption result
+            ((self.old ≡ []) × (self.new ≡ []))
+            (λ b. self.old ≡ b ∷ self.new) }
     {
         if self.start == self.end {
             return None;

@@ -1,25 +1,26 @@
 //! Command lines: words parted by one blank each.
 
-ghost use Rattle.std.specs.Prelude.{◌≡◌, [], ◌∷◌, true, false, IfSome, MatchOption};
+ghost use Rattle.std.specs.Prelude.{◌≡◌, [], ◌∷◌, true, false, map, IfSome, MatchOption};
 ghost use Rattle.idl_source.specs.Name.{is_visible};
 ghost use Rattle.idl_source.specs.Line.{IsLine};
-ghost use Rattle.idl_session.specs.Requests.{request_in_words, define_request, counted_request, pair_request, words, is_word, is_number, is_digit, value_of};
+ghost use Rattle.idl_session.specs.Requests.{request_in_words, define_request, counted_request, pair_request, words, is_command_word, is_number, is_digit, value_of};
 ghost use Rattle.idl_session.specs.Headings.{request_by, words_after, HasLines};
 ghost use Rattle.std.specs.List.{list_all};
 
 use idl_source::first_part;
+use idl_workspace::Span;
 
 /// Where announced lines go.
-#[derive(Clone, Copy, Debug)]
+#[derive(Clone, Copy)]
 pub enum Placement<'a> {
     /// Into a file of this name, as its lines.
     Put(&'a [u8]),
-    /// Into a file of this name from a line on, in the place of so many.
-    Splice(&'a [u8], usize, usize),
+    /// Into a file of this name, in the place of a span.
+    Splice(&'a [u8], Span),
 }
 
 /// An edit that no line follows.
-#[derive(Clone, Copy, Debug)]
+#[derive(Clone, Copy)]
 pub enum Change<'a> {
     /// To remove a file.
     Remove(&'a [u8]),
@@ -36,7 +37,7 @@ pub enum Change<'a> {
 }
 
 /// What is asked of a root.
-#[derive(Clone, Copy, Debug, PartialEq, Eq)]
+#[derive(Clone, Copy)]
 pub enum Question {
     Diagnostics,
     Dump,
@@ -45,7 +46,7 @@ pub enum Question {
 }
 
 /// What a command line asks for. The words lie in the line.
-#[derive(Clone, Copy, Debug)]
+#[derive(Clone, Copy)]
 pub enum Heading<'a> {
     /// No command.
     Malformed,
@@ -89,7 +90,7 @@ fn parse_define(rest: Option<&[u8]>) -> Heading<'_>
         return Heading::Malformed;
     };
     let (word, more) = first_part(rest, b' ');
-    if !is_word(word) {
+    if !is_command_word(word) {
         return Heading::Malformed;
     }
     let Some(body) = more else {
@@ -105,11 +106,11 @@ fn parse_words<'a>(first: &'a [u8], rest: &'a [u8]) -> Heading<'a>
 {
     let (second, rest) = first_part(rest, b' ');
     let Some(rest) = rest else {
-        return two_words(first, second);
+        return pair_heading(first, second);
     };
     let (third, rest) = first_part(rest, b' ');
     let Some(rest) = rest else {
-        return three_words(first, second, third);
+        return put_heading(first, second, third);
     };
     let (fourth, rest) = first_part(rest, b' ');
     let Some(rest) = rest else {
@@ -117,12 +118,12 @@ fn parse_words<'a>(first: &'a [u8], rest: &'a [u8]) -> Heading<'a>
     };
     let (fifth, rest) = first_part(rest, b' ');
     match rest {
-        None => five_words(first, second, third, fourth, fifth),
+        None => splice_heading(first, second, [third, fourth, fifth]),
         Some(_more) => Heading::Malformed,
     }
 }
 
-fn two_words<'a>(first: &'a [u8], about: &'a [u8]) -> Heading<'a>
+fn pair_heading<'a>(first: &'a [u8], about: &'a [u8]) -> Heading<'a>
     ensures request { request_by result ≡ pair_request first.entry.now about.entry.now }
     ensures one_line { HasLines result }
 {
@@ -145,8 +146,9 @@ fn two_words<'a>(first: &'a [u8], about: &'a [u8]) -> Heading<'a>
     }
 }
 
-fn three_words<'a>(first: &'a [u8], name: &'a [u8], count: &'a [u8]) -> Heading<'a>
-    ensures request { request_by result ≡ counted_request first.entry.now (name.entry.now ∷ count.entry.now ∷ []) }
+fn put_heading<'a>(first: &'a [u8], name: &'a [u8], count: &'a [u8]) -> Heading<'a>
+    ensures request { let words = name.entry.now ∷ count.entry.now ∷ [] in
+        request_by result ≡ counted_request first.entry.now words }
     ensures one_line { HasLines result }
 {
     if first != b"put".as_slice() {
@@ -158,19 +160,16 @@ fn three_words<'a>(first: &'a [u8], name: &'a [u8], count: &'a [u8]) -> Heading<
     }
 }
 
-fn five_words<'a>(
-    first: &'a [u8],
-    name: &'a [u8],
-    from: &'a [u8],
-    del: &'a [u8],
-    count: &'a [u8],
-) -> Heading<'a>
-    ensures request { request_by result ≡ counted_request first.entry.now (name.entry.now ∷ from.entry.now ∷ del.entry.now ∷ count.entry.now ∷ []) }
+// The three numbers are where the span begins, how many lines it has, and how many follow.
+fn splice_heading<'a>(first: &'a [u8], name: &'a [u8], numbers: [&'a [u8]; 3]) -> Heading<'a>
+    ensures request { let words = name.entry.now ∷ map (λ number. number.now) numbers.entry in
+        request_by result ≡ counted_request first.entry.now words }
     ensures one_line { HasLines result }
 {
     if first != b"splice".as_slice() {
         return Heading::Malformed;
     }
+    let [from, del, count] = numbers;
     let Some(from) = parse_number(from) else {
         return Heading::Malformed;
     };
@@ -178,19 +177,19 @@ fn five_words<'a>(
         return Heading::Malformed;
     };
     match parse_number(count) {
-        Some(count) => Heading::Place(Placement::Splice(name, from, del), count),
+        Some(count) => Heading::Place(Placement::Splice(name, Span { from, del }), count),
         None => Heading::Malformed,
     }
 }
 
 // Whether all parts between the blanks are words.
 fn are_words(line: &[u8]) -> bool
-    ensures { result ≡ list_all is_word (words line.now) }
+    ensures { result ≡ list_all is_command_word (words line.now) }
 {
     let mut left = line;
     'words: loop {
         let (word, rest) = first_part(left, b' ');
-        if !is_word(word) {
+        if !is_command_word(word) {
             return false;
         }
         match rest {
@@ -200,8 +199,8 @@ fn are_words(line: &[u8]) -> bool
     }
 }
 
-fn is_word(word: &[u8]) -> bool
-    ensures { result ≡ is_word word.now }
+fn is_command_word(word: &[u8]) -> bool
+    ensures { result ≡ is_command_word word.now }
 {
     !word.is_empty() && are_visible(word)
 }
@@ -214,7 +213,9 @@ fn are_visible(bytes: &[u8]) -> bool
 
 // The value of `0`, or of one to nine digits without leading zero.
 fn parse_number(digits: &[u8]) -> Option<usize>
-    ensures { MatchOption result (is_number digits.now ≡ false) (λ n. (is_number digits.now ≡ true) × (n ≡ value_of digits.now)) }
+    ensures { MatchOption result
+        (is_number digits.now ≡ false)
+        (λ n. (is_number digits.now ≡ true) × (n ≡ value_of digits.now)) }
 {
     if !is_number(digits) {
         return None;

@@ -4,7 +4,7 @@
 //! caller hands in where the bytes come from and where the replies go.
 #![tactic(auto)]
 
-mod body;
+mod announced;
 mod commands;
 mod edit;
 mod feed;

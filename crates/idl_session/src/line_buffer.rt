@@ -3,7 +3,7 @@
 ghost use Rattle.std.specs.Prelude.{◌≡◌, ◌≢◌, ◌≤◌, ◌<◌, ◌+◌, ◌-◌, ◌^◌, [], Some, IfOk, IfSome, OnOk, OnErr, MatchBool};
 ghost use Rattle.std.specs.Option.{option_copied};
 ghost use Rattle.idl_source.specs.Line.{IsLine};
-ghost use Rattle.idl_session.specs.Lines.{kept_with};
+ghost use Rattle.idl_session.specs.Lines.{line_with};
 ghost use Rattle.idl_session.specs.Streams.{lines_left, IsOver, fuel, TakesLine};
 
 use crate::feed::Feed;
@@ -51,7 +51,7 @@ impl<const N: usize> LineBuffer<N> {
     /// Adds a byte, or finds that the line is too long.
     pub fn push(&mut self, byte: u8)
         requires { byte ≢ NEWLINE }
-        ensures { self.new ≡ kept_with N self.old byte }
+        ensures { self.new ≡ line_with N self.old byte }
     {
         if !self.over && self.bytes.try_push(byte).is_err() {
             self.over = true;
@@ -76,9 +76,12 @@ pub fn read_line<S: Source, const N: usize>(
     requires counts { S.failures source.old < 2 ^ 64 - 1 }
 
     ensures line { IfOk result (λ more. MatchBool more
-        (TakesLine N (lines_left (S.remaining source.old) feed.old) (lines_left (S.remaining source.new) feed.new) line.new)
+        (TakesLine N
+        (lines_left (S.remaining source.old) feed.old)
+        (lines_left (S.remaining source.new) feed.new) line.new)
         (IsOver (lines_left (S.remaining source.old) feed.old)
-        × (lines_left (S.remaining source.new) feed.new ≡ lines_left (S.remaining source.old) feed.old))) }
+        × (lines_left (S.remaining source.new) feed.new
+        ≡ lines_left (S.remaining source.old) feed.old))) }
     ensures nearer { IfOk result (λ more. MatchBool more
         (fuel (S.reads_left source.new) feed.new < fuel (S.reads_left source.old) feed.old)
         (fuel (S.reads_left source.new) feed.new ≤ fuel (S.reads_left source.old) feed.old)) }

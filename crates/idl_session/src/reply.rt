@@ -2,7 +2,7 @@
 
 ghost use Rattle.std.specs.Prelude.{◌≡◌, ◌<◌, ◌+◌, ◌-◌, ◌^◌, [], ◌++◌, OnOk, OnErr};
 ghost use Rattle.idl_source.specs.Device.{append, WritesPart};
-ghost use Rattle.idl_session.specs.Replies.{ok_reply, refused_reply, rows_reply, ended, counted};
+ghost use Rattle.idl_session.specs.Replies.{ok_reply, refused_reply, rows_reply, whole_line, number_line};
 ghost use Rattle.idl_session.specs.Gathering.{Sends};
 ghost use Rattle.idl_session.specs.Rows.{rows_of};
 
@@ -29,10 +29,12 @@ pub fn write_ok<K: Sink>(sink: &mut K) -> Result<(), WriteFailed>
 pub fn write_refused<K: Sink>(sink: &mut K, refusal: Refusal) -> Result<(), WriteFailed>
     requires counts { K.failures sink.old < 2 ^ 64 - 1 }
 
-    ensures written { OnOk result (K.written sink.new ≡ append (K.written sink.old) (refused_reply refusal)) }
+    ensures written { OnOk result
+        (K.written sink.new ≡ append (K.written sink.old) (refused_reply refusal)) }
     ensures ok { OnOk result (K.failures sink.new ≡ K.failures sink.old) }
 
-    ensures part { OnErr result (WritesPart (K.written sink.old) (refused_reply refusal) (K.written sink.new)) }
+    ensures part { OnErr result
+        (WritesPart (K.written sink.old) (refused_reply refusal) (K.written sink.new)) }
     ensures err { OnErr result (K.failures sink.new ≡ K.failures sink.old + 1) }
 {
     let mut reply = Reply::new();
@@ -44,10 +46,12 @@ pub fn write_refused<K: Sink>(sink: &mut K, refusal: Refusal) -> Result<(), Writ
 pub fn write_rows<K: Sink>(sink: &mut K, rows: Rows<'_>) -> Result<(), WriteFailed>
     requires counts { K.failures sink.old < 2 ^ 64 - 1 }
 
-    ensures written { OnOk result (K.written sink.new ≡ append (K.written sink.old) (rows_reply (rows_of rows.entry))) }
+    ensures written { OnOk result
+        (K.written sink.new ≡ append (K.written sink.old) (rows_reply (rows_of rows.entry))) }
     ensures ok { OnOk result (K.failures sink.new ≡ K.failures sink.old) }
 
-    ensures part { OnErr result (WritesPart (K.written sink.old) (rows_reply (rows_of rows.entry)) (K.written sink.new)) }
+    ensures part { OnErr result
+        (WritesPart (K.written sink.old) (rows_reply (rows_of rows.entry)) (K.written sink.new)) }
     ensures err { OnErr result (K.failures sink.new ≡ K.failures sink.old + 1) }
 {
     let mut reply = Reply::new();
@@ -90,10 +94,12 @@ impl Reply {
     ) -> Result<(), WriteFailed>
         requires counts { K.failures sink.old < 2 ^ 64 - 1 }
 
-        ensures sent { OnOk result (Sends (K.written sink.old) (self.old ++ counted word.now n) (K.written sink.new) self.new) }
+        ensures sent { OnOk result
+            (Sends (K.written sink.old) (self.old ++ number_line word.now n) (K.written sink.new) self.new) }
         ensures ok { OnOk result (K.failures sink.new ≡ K.failures sink.old) }
 
-        ensures part { OnErr result (WritesPart (K.written sink.old) (self.old ++ counted word.now n) (K.written sink.new)) }
+        ensures part { OnErr result
+            (WritesPart (K.written sink.old) (self.old ++ number_line word.now n) (K.written sink.new)) }
         ensures err { OnErr result (K.failures sink.new ≡ K.failures sink.old + 1) }
     {
         let mut buffer = Buffer::new();
@@ -105,10 +111,12 @@ impl Reply {
     fn push_line<K: Sink>(&mut self, sink: &mut K, line: &[u8]) -> Result<(), WriteFailed>
         requires counts { K.failures sink.old < 2 ^ 64 - 1 }
 
-        ensures sent { OnOk result (Sends (K.written sink.old) (self.old ++ ended line.now) (K.written sink.new) self.new) }
+        ensures sent { OnOk result
+            (Sends (K.written sink.old) (self.old ++ whole_line line.now) (K.written sink.new) self.new) }
         ensures ok { OnOk result (K.failures sink.new ≡ K.failures sink.old) }
 
-        ensures part { OnErr result (WritesPart (K.written sink.old) (self.old ++ ended line.now) (K.written sink.new)) }
+        ensures part { OnErr result
+            (WritesPart (K.written sink.old) (self.old ++ whole_line line.now) (K.written sink.new)) }
         ensures err { OnErr result (K.failures sink.new ≡ K.failures sink.old + 1) }
     {
         self.push(sink, line)?;
@@ -119,10 +127,12 @@ impl Reply {
     fn push<K: Sink>(&mut self, sink: &mut K, bytes: &[u8]) -> Result<(), WriteFailed>
         requires counts { K.failures sink.old < 2 ^ 64 - 1 }
 
-        ensures sent { OnOk result (Sends (K.written sink.old) (self.old ++ bytes.now) (K.written sink.new) self.new) }
+        ensures sent { OnOk result
+            (Sends (K.written sink.old) (self.old ++ bytes.now) (K.written sink.new) self.new) }
         ensures ok { OnOk result (K.failures sink.new ≡ K.failures sink.old) }
 
-        ensures part { OnErr result (WritesPart (K.written sink.old) (self.old ++ bytes.now) (K.written sink.new)) }
+        ensures part { OnErr result
+            (WritesPart (K.written sink.old) (self.old ++ bytes.now) (K.written sink.new)) }
         ensures err { OnErr result (K.failures sink.new ≡ K.failures sink.old + 1) }
     {
         if self.bytes.try_extend_from_slice(bytes).is_ok() {

@@ -2,15 +2,14 @@
 
 ghost use Rattle.std.specs.Prelude.{◌≡◌, ◌<◌, Some, length, slice_get};
 ghost use Rattle.std.specs.Option.{option_map};
-ghost use Rattle.idl_session.specs.Effects.{rows_for};
-ghost use Rattle.idl_session.specs.Rows.{rows_of};
+ghost use Rattle.idl_session.specs.Rows.{rows_for, rows_of};
 
 use crate::heading::Question;
 use idl_source::Name;
 use idl_workspace::{Row, Session};
 
 /// Rows that a session lends: those of a root, or the names of files.
-#[derive(Clone, Copy, Debug)]
+#[derive(Clone, Copy)]
 pub enum Rows<'a> {
     Texts(&'a [Row]),
     Names(&'a [Name]),

@@ -1,6 +1,6 @@
 //! One command: what its heading asks for is done, and the reply goes out.
 
-ghost use Rattle.std.specs.Prelude.{◌≡◌, ◌≤◌, ◌<◌, ◌+◌, ◌-◌, ◌^◌, IfErr, OnOk, OnErr};
+ghost use Rattle.std.specs.Prelude.{◌≡◌, ◌≤◌, ◌<◌, ◌+◌, ◌-◌, ◌^◌, [], IfErr, OnOk, OnErr};
 ghost use Rattle.std.specs.Option.{option_map};
 ghost use Rattle.idl_source.specs.Device.{append, WritesPart};
 ghost use Rattle.idl_session.specs.Headings.{request_by, HasLines};
@@ -11,7 +11,7 @@ ghost use Rattle.idl_session.specs.Serving.{SendsReply, IsCut, IsCounted};
 ghost use Rattle.idl_session.specs.Streams.{lines_left, fuel};
 
 use crate::MAX_COMMAND;
-use crate::body::read_body;
+use crate::announced::read_announced;
 use crate::edit::{make, place};
 use crate::feed::Feed;
 use crate::heading::{Heading, parse};
@@ -22,41 +22,77 @@ use crate::stop::Stop;
 use idl_source::{Name, Refusal, Sink, Source, WriteFailed};
 use idl_workspace::{Session, Work};
 
-/// Serves the command of this line, with the further lines that it takes.
+/// What was read of a source: a command line, and the bytes after it.
+#[derive(Drop)]
+pub struct Input {
+    pub line: LineBuffer<MAX_COMMAND>,
+    pub feed: Feed,
+}
+
+impl Input {
+    /// Nothing was read.
+    pub fn new() -> Input
+        ensures { result.feed ≡ [] }
+    {
+        Input {
+            line: LineBuffer::new(),
+            feed: Feed::new(),
+        }
+    }
+}
+
+/// Serves the command of the line, with the further lines that it takes.
 ///
 /// Where a read failed nothing was done. Where a write failed the command was served, and of its reply a beginning went
 /// out.
 pub fn serve<S: Source, K: Sink>(
     session: &mut Session,
     source: &mut S,
-    feed: &mut Feed,
-    line: &LineBuffer<MAX_COMMAND>,
+    input: &mut Input,
     sink: &mut K,
 ) -> Result<(), Stop>
     requires reads { S.failures source.old < 2 ^ 64 - 1 }
     requires writes { K.failures sink.old < 2 ^ 64 - 1 }
 
-    ensures served { OnOk result (SendsReply (request_kept line.now)
-        (lines_left (S.remaining source.old) feed.old) (lines_left (S.remaining source.new) feed.new)
-        (K.written sink.old) (K.written sink.new) session.old session.new) }
-    ensures nearer { OnOk result (fuel (S.reads_left source.new) feed.new ≤ fuel (S.reads_left source.old) feed.old) }
+    ensures served { OnOk result (SendsReply (request_kept input.old.line)
+        (record {
+          lines = lines_left (S.remaining source.old) input.old.feed;
+          written = K.written sink.old;
+          state = session.old;
+        })
+        (record {
+          lines = lines_left (S.remaining source.new) input.new.feed;
+          written = K.written sink.new;
+          state = session.new;
+        })) }
+    ensures nearer { OnOk result (fuel (S.reads_left source.new) input.new.feed
+        ≤ fuel (S.reads_left source.old) input.old.feed) }
     ensures reads { OnOk result (S.failures source.new ≡ S.failures source.old) }
     ensures writes { OnOk result (K.failures sink.new ≡ K.failures sink.old) }
 
-    ensures cut { IfErr result (λ stop. IsCut stop (request_kept line.now)
-        (lines_left (S.remaining source.old) feed.old) (lines_left (S.remaining source.new) feed.new)
-        (K.written sink.old) (K.written sink.new) session.old session.new) }
+    ensures cut { IfErr result (λ stop. IsCut stop (request_kept input.old.line)
+        (record {
+          lines = lines_left (S.remaining source.old) input.old.feed;
+          written = K.written sink.old;
+          state = session.old;
+        })
+        (record {
+          lines = lines_left (S.remaining source.new) input.new.feed;
+          written = K.written sink.new;
+          state = session.new;
+        })) }
     ensures stops { IfErr result (λ stop. IsCounted stop
-        (S.failures source.old) (S.failures source.new) (K.failures sink.old) (K.failures sink.new)) }
+        (record { reads = S.failures source.old; writes = K.failures sink.old })
+        (record { reads = S.failures source.new; writes = K.failures sink.new })) }
 {
-    match heading_of(line) {
+    match heading_of(&input.line) {
         Heading::Malformed => {
             write_refused(sink, Refusal::Malformed)?;
             Ok(())
         }
         Heading::Place(placement, count) => {
-            let body = read_body(session.allocator(), source, feed, count)?;
-            let outcome = place(session, placement, body);
+            let announced = read_announced(session.allocator(), source, &mut input.feed, count)?;
+            let outcome = place(session, placement, announced);
             write_edit(sink, outcome)?;
             Ok(())
         }
@@ -87,10 +123,12 @@ fn heading_of(line: &LineBuffer<MAX_COMMAND>) -> Heading<'_>
 fn write_edit<K: Sink>(sink: &mut K, outcome: Result<Work, Refusal>) -> Result<(), WriteFailed>
     requires counts { K.failures sink.old < 2 ^ 64 - 1 }
 
-    ensures written { OnOk result (K.written sink.new ≡ append (K.written sink.old) (edit_reply outcome)) }
+    ensures written { OnOk result
+        (K.written sink.new ≡ append (K.written sink.old) (edit_reply outcome)) }
     ensures ok { OnOk result (K.failures sink.new ≡ K.failures sink.old) }
 
-    ensures part { OnErr result (WritesPart (K.written sink.old) (edit_reply outcome) (K.written sink.new)) }
+    ensures part { OnErr result
+        (WritesPart (K.written sink.old) (edit_reply outcome) (K.written sink.new)) }
     ensures err { OnErr result (K.failures sink.new ≡ K.failures sink.old + 1) }
 {
     match outcome {
@@ -107,10 +145,12 @@ fn write_query<K: Sink>(
 ) -> Result<(), WriteFailed>
     requires counts { K.failures sink.old < 2 ^ 64 - 1 }
 
-    ensures written { OnOk result (K.written sink.new ≡ append (K.written sink.old) (query_reply name.now (option_map rows_of rows.entry))) }
+    ensures written { let reply = query_reply name.now (option_map rows_of rows.entry) in
+        OnOk result (K.written sink.new ≡ append (K.written sink.old) reply) }
     ensures ok { OnOk result (K.failures sink.new ≡ K.failures sink.old) }
 
-    ensures part { OnErr result (WritesPart (K.written sink.old) (query_reply name.now (option_map rows_of rows.entry)) (K.written sink.new)) }
+    ensures part { let reply = query_reply name.now (option_map rows_of rows.entry) in
+        OnErr result (WritesPart (K.written sink.old) reply (K.written sink.new)) }
     ensures err { OnErr result (K.failures sink.new ≡ K.failures sink.old + 1) }
 {
     if Name::new(name).is_none() {

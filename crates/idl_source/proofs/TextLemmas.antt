@@ -3,7 +3,7 @@ use Rattle.std.proofs.Common.{◌≡◌, ◌≤◌, ◌+◌, ◌-◌, ◌++◌, 
 use Rattle.std.specs.Global.{Global}
 use Rattle.std.specs.List.{list_any, remove}
 use Rattle.std.proofs.lemmas.Bool.Decides.{nat_tests}
-use Rattle.idl_source.specs.declared.TheConstants.{MAX_LINE, MAX_LINES}
+use Rattle.idl_source.specs.Limits.{longest_line, most_lines}
 use Rattle.std.specs.Cmp.{alike_right}
 use Rattle.std.specs.Ordering.{eq_by_cmp, is_eq, nat_cmp, ordering_reverse}
 use Rattle.std.specs.declared.cmp.Ordering.{Ordering}
@@ -174,6 +174,6 @@ inside-from old from del first begin end =
     λ i. a i && b i
 
 pub is_splice_over-length : (old : List (List ℕ)) (from del : ℕ) (lines : List (List ℕ)) → (from ≡ 0 → ⊥) → from - 1 ≤ length old → del ≤ length old - (from - 1)
-    → (ltb MAX_LINES (length old - del + length lines) || list_any (λ line. ltb MAX_LINE (length line)) lines) ≡ is_splice_over old from del lines
+    → (ltb most_lines (length old - del + length lines) || list_any (λ line. ltb longest_line (length line)) lines) ≡ is_splice_over old from del lines
 is_splice_over-length old from del lines first begin end =
-    ap (λ n. ltb MAX_LINES n || list_any (λ line. ltb MAX_LINE (length line)) lines) (sym (length-spliced old from del lines (omega arith) (omega arith)))
+    ap (λ n. ltb most_lines n || list_any (λ line. ltb longest_line (length line)) lines) (sym (length-spliced old from del lines (omega arith) (omega arith)))

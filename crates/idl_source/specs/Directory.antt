@@ -2,11 +2,12 @@
 use Rattle.std.specs.Prelude.{ℕ, Bool, ◌&&◌, ◌||◌, List, [], ◌∷◌, nat_eq, nat_le, length, Option, Some, None, if◌then◌else◌}
 use Rattle.std.specs.List.{list_all}
 use Rattle.std.specs.Str.{bytes_eq}
+use Rattle.idl_source.specs.Limits.{longest_name}
 use Rattle.idl_source.specs.Name.{is_name, is_up, segments}
 
 -- a name, `.`, `/`, or 1 to 255 bytes of a run of `..`
 abbrev pub is_directory : List ℕ → Bool
-is_directory bytes = is_name bytes || (bytes_eq bytes (46 ∷ []) || (bytes_eq bytes (47 ∷ []) || (nat_le (length bytes) 255 && list_all is_up (segments bytes))))
+is_directory bytes = is_name bytes || (bytes_eq bytes (46 ∷ []) || (bytes_eq bytes (47 ∷ []) || (nat_le (length bytes) longest_name && list_all is_up (segments bytes))))
 
 -- what stands before the last such byte, if there is one
 abbrev pub before_last : ℕ → List ℕ → Option (List ℕ)

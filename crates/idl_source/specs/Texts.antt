@@ -5,10 +5,10 @@ use Rattle.std.specs.List.{list_any}
 use Rattle.std.specs.Ordering.{nat_cmp}
 use Rattle.std.specs.Cmp.Lexicographic.{slice_cmp}
 use Rattle.std.specs.FinMap as map
+use Rattle.idl_source.specs.Limits.{most_files, most_lines, longest_line}
 use Rattle.idl_source.specs.Name.{is_name}
 use Rattle.idl_source.specs.declared.refusal.Refusal.{Refusal}
 use Rattle.idl_source.specs.declared.refusal.Refusal.TheVariants.{BadName, NoSuchFile, OutsideFile, OverLimit}
-use Rattle.idl_source.specs.declared.TheConstants.{MAX_FILES, MAX_LINES, MAX_LINE}
 
 -- files by name: each is a list of lines, and a line a list of bytes
 abbrev pub Texts : Type 0
@@ -20,9 +20,9 @@ texts_code = map.code (coded_list coded_ℕ) (coded_list (coded_list coded_ℕ))
 -- a file of these lines under this name goes past a limit
 abbrev pub is_over : Texts → List ℕ → List (List ℕ) → Bool
 is_over files name lines =
-    nat_lt MAX_LINES (length lines)
-    || (list_any (λ line. nat_lt MAX_LINE (length line)) lines
-    || (nat_le MAX_FILES (map.len files) && is_none (map.get files name)))
+    nat_lt most_lines (length lines)
+    || (list_any (λ line. nat_lt longest_line (length line)) lines
+    || (nat_le most_files (map.len files) && is_none (map.get files name)))
 
 -- the files after a put, or the least refusal
 abbrev pub after_put : Texts → List ℕ → List (List ℕ) → Result Texts Refusal
@@ -39,7 +39,7 @@ spliced old from del lines = take (from - 1) old ++ (lines ++ drop (from - 1 + d
 
 -- they are too many, or a new one is too long
 abbrev pub is_splice_over : List (List ℕ) → ℕ → ℕ → List (List ℕ) → Bool
-is_splice_over old from del lines = nat_lt MAX_LINES (length (spliced old from del lines)) || list_any (λ line. nat_lt MAX_LINE (length line)) lines
+is_splice_over old from del lines = nat_lt most_lines (length (spliced old from del lines)) || list_any (λ line. nat_lt longest_line (length line)) lines
 
 -- the files after a splice of this file, or the least refusal
 abbrev pub after_splice_of : Texts → List ℕ → Option (List (List ℕ)) → ℕ → ℕ → List (List ℕ) → Result Texts Refusal

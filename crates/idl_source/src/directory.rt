@@ -27,12 +27,13 @@ pub struct Directory {
 impl Model for Directory {
     ghost use Rattle.std.specs.Prelude.{List, ℕ, take, ◌≤◌, IsTrue};
     ghost use Rattle.idl_source.specs.Directory.{is_directory};
+    ghost use Rattle.idl_source.specs.Limits.{longest_name};
 
     ghost Value = { List ℕ };
 
     ghost view = { λ directory. take directory.len directory.bytes };
 
-    ghost invariant = { λ directory. (directory.len ≤ 255) × IsTrue (is_directory (take directory.len directory.bytes)) };
+    ghost invariant = { λ directory. (directory.len ≤ longest_name) × IsTrue (is_directory (take directory.len directory.bytes)) };
 }
 
 impl Directory {

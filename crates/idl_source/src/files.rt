@@ -4,6 +4,7 @@ ghost use Rattle.std.specs.Prelude.{◌≡◌, ◌≢◌, ◌↔◌, ◌≤◌, 
 ghost use Rattle.std.specs.List.{list_any};
 ghost use Rattle.std.specs.Option.{option_copied};
 ghost use Rattle.std.specs.FinMap as map;
+ghost use Rattle.idl_source.specs.Limits.{longest_line, most_lines};
 ghost use Rattle.idl_source.specs.Name.{is_name};
 ghost use Rattle.idl_source.specs.Texts.{after_put, after_remove, after_splice, is_over};
 
@@ -191,14 +192,14 @@ fn allowed_name(bytes: &[u8]) -> Result<Name, Refusal>
 }
 
 fn has_long_line(lines: &[Line]) -> bool
-    ensures { result ≡ list_any (λ line. nat_lt MAX_LINE (length line)) lines.now }
+    ensures { result ≡ list_any (λ line. nat_lt longest_line (length line)) lines.now }
 {
     lines.iter().any(|line| line.len() > MAX_LINE)
 }
 
 // Whether so many lines and new ones are too many, or a new one is too long.
 fn is_splice_over(kept: usize, lines: &[Line]) -> bool
-    ensures { result ≡ (nat_lt MAX_LINES (kept + length lines.now) || list_any (λ line. nat_lt MAX_LINE (length line)) lines.now) }
+    ensures { result ≡ (nat_lt most_lines (kept + length lines.now) || list_any (λ line. nat_lt longest_line (length line)) lines.now) }
 {
     if kept > MAX_LINES || lines.len() > MAX_LINES - kept {
         return true;

@@ -30,13 +30,14 @@ pub struct Name {
 
 impl Model for Name {
     ghost use Rattle.std.specs.Prelude.{List, ℕ, take, ◌≤◌, IsTrue};
+    ghost use Rattle.idl_source.specs.Limits.{longest_name};
     ghost use Rattle.idl_source.specs.Name.{is_name};
 
     ghost Value = { List ℕ };
 
     ghost view = { λ name. take name.len name.bytes };
 
-    ghost invariant = { λ name. (name.len ≤ 255) × IsTrue (is_name (take name.len name.bytes)) };
+    ghost invariant = { λ name. (name.len ≤ longest_name) × IsTrue (is_name (take name.len name.bytes)) };
 }
 
 impl Name {

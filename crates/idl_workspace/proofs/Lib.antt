@@ -1,3 +1,4 @@
 pub mod BankLemmas
 pub mod FileLemmas
+pub mod LimitLemmas
 pub mod RootLemmas

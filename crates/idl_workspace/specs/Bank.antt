@@ -19,15 +19,15 @@ bank_of inputs (key.Macro word) = option_map (λ body. answer.Macro (body ∷ []
 bank_of inputs (key.File name) = option_map answer.File (map.get inputs.files name)
 bank_of inputs key.Search = Some (answer.Search inputs.search)
 
--- the same answers, but for one key
-unfoldable pub changed : (Key → Option Answer) → Key → Option Answer → Key → Option Answer
-changed bank at answer k = if key_eq at k then answer else bank k
+-- the answers of a bank, but for one key
+unfoldable pub bank_with : (Key → Option Answer) → Key → Option Answer → Key → Option Answer
+bank_with bank at answer k = if key_eq at k then answer else bank k
 
 -- the directories of an answer about the search list
-abbrev pub searched : Answer → List (List ℕ)
-searched (answer.Macro text) = []
-searched (answer.File text) = []
-searched (answer.Search directories) = directories
+abbrev pub directories_of : Answer → List (List ℕ)
+directories_of (answer.Macro text) = []
+directories_of (answer.File text) = []
+directories_of (answer.Search directories) = directories
 
 -- no file but the one of this name is another
 abbrev pub IsSameBeside : List ℕ → Texts → Texts → Type 0

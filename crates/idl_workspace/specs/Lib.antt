@@ -1,7 +1,9 @@
 pub mod Bank
 pub mod Compile
+pub mod Edited
 pub mod Edits
 pub mod Project
 pub mod UpToDate
+pub mod WithinLimits
 pub mod Words
 pub mod Work

@@ -31,6 +31,19 @@ no_inputs = record { files = map.empty; macros = []; search = [] }
 abbrev pub no_project : Project
 no_project = record { inputs = no_inputs; roots = [] }
 
+-- the project with another part
+abbrev pub with_files : Project → Texts → Project
+with_files project files = record project { inputs = record project.inputs { files = files } }
+
+abbrev pub with_macros : Project → Macros → Project
+with_macros project macros = record project { inputs = record project.inputs { macros = macros } }
+
+abbrev pub with_search : Project → List (List ℕ) → Project
+with_search project search = record project { inputs = record project.inputs { search = search } }
+
+abbrev pub with_roots : Project → List (List ℕ) → Project
+with_roots project roots = record project { roots = roots }
+
 -- the word is that of a macro
 abbrev pub is_defined : Macros → List ℕ → Bool
 is_defined macros word = list_any (bytes_eq word) (keys_of macros)

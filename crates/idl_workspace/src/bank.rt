@@ -8,8 +8,9 @@ ghost use Rattle.std.specs.Str.{bytes_eq};
 ghost use Rattle.indexmap.specs.IndexMap.{insert_entry};
 ghost use Rattle.idl_macro.specs.declared.key.Answer.TheVariants as answers;
 ghost use Rattle.idl_macro.specs.declared.key.Key.TheVariants as keys;
-ghost use Rattle.idl_workspace.specs.Bank.{IsSameBeside, bank_of, changed, searched};
+ghost use Rattle.idl_workspace.specs.Bank.{IsSameBeside, bank_of, bank_with, directories_of};
 ghost use Rattle.idl_prep.specs.Candidate.{AnswersFrom};
+ghost use Rattle.idl_source.specs.Limits.{most_macros};
 ghost use Rattle.idl_workspace.specs.Project.{Inputs, is_defined, no_inputs};
 
 use crate::MAX_MACROS;
@@ -24,7 +25,6 @@ use std::alloc::{AllocError, Global};
 use std::marker::Model;
 
 /// Files, macros and a search list, with the answers about them: each file and each body is cut into tokens once.
-#[derive(Drop)]
 pub struct SessionBank {
     files: Files,
     texts: IndexMap<Name, Answer>,
@@ -39,18 +39,34 @@ impl Model for SessionBank {
     ghost use Rattle.std.specs.Option.{option_map};
     ghost use Rattle.std.specs.Str.{bytes_eq};
     ghost use Rattle.idl_macro.specs.declared.key.Answer.TheVariants as answers;
-    ghost use Rattle.idl_workspace.specs.Bank.{searched};
+    ghost use Rattle.idl_workspace.specs.Bank.{directories_of};
     ghost use Rattle.idl_workspace.specs.Project.{Inputs, inputs_code};
 
     ghost Value = { Inputs };
 
     ghost coded = { inputs_code };
 
-    ghost view = { λ bank. record { files = bank.files; macros = bank.macros.entries; search = searched bank.search } };
+    ghost view = { λ bank. record {
+      files = bank.files;
+      macros = bank.macros.entries;
+      search = directories_of bank.search;
+    } };
 
     // The texts say what the files say, and the search list is one.
-    ghost invariant = { λ bank. ((name : List ℕ) → lookup (bytes_eq name) bank.texts.entries ≡ option_map answers.File (finite.get bank.files name))
-        × (bank.search ≡ answers.Search (searched bank.search)) };
+    ghost invariant = { λ bank. ((name : List ℕ) → lookup (bytes_eq name) bank.texts.entries
+        ≡ option_map answers.File (finite.get bank.files name))
+        × (bank.search ≡ answers.Search (directories_of bank.search)) };
+}
+
+impl Drop for SessionBank {
+    fn drop(self) {
+        let SessionBank {
+            files: _files,
+            texts: _texts,
+            macros: _macros,
+            search: _search,
+        } = self;
+    }
 }
 
 impl SessionBank {
@@ -75,7 +91,8 @@ impl SessionBank {
 
     /// Whether there are as many macros as there may be, and none with this word.
     pub fn is_full_for(&self, word: &Spelling) -> bool
-        ensures { result ≡ (nat_le MAX_MACROS (length self.now.macros) && not (is_defined self.now.macros word.now)) }
+        ensures { let macros = self.now.macros in
+            result ≡ (nat_le most_macros (length macros) && not (is_defined macros word.now)) }
     {
         self.macros.len() >= MAX_MACROS && !self.macros.contains_key(word)
     }
@@ -90,7 +107,8 @@ impl SessionBank {
         requires beside { IsSameBeside name self.old.files files }
         requires answers { answer ≡ option_map answers.File (finite.get files name) }
         ensures ok { OnOk result (self.new ≡ record self.old { files = files }) }
-        ensures bank { OnOk result (bank_of self.new ≡ changed (bank_of self.old) (keys.File name) answer) }
+        ensures bank { OnOk result
+            (bank_of self.new ≡ bank_with (bank_of self.old) (keys.File name) answer) }
         ensures err { OnErr result (self.new ≡ self.old) }
     {
         match answer {
@@ -109,8 +127,10 @@ impl SessionBank {
 
     /// Gives the macro with this word this body, as the last one if it is new.
     pub fn define(&mut self, word: Spelling, body: MacroBody) -> Result<(), AllocError>
-        ensures ok { OnOk result (self.new ≡ record self.old { macros = insert_entry bytes_eq self.old.macros word body }) }
-        ensures bank { OnOk result (bank_of self.new ≡ changed (bank_of self.old) (keys.Macro word) (Some (answers.Macro (body ∷ [])))) }
+        ensures ok { OnOk result
+            (self.new ≡ record self.old { macros = insert_entry bytes_eq self.old.macros word body }) }
+        ensures bank { OnOk result (bank_of self.new
+            ≡ bank_with (bank_of self.old) (keys.Macro word) (Some (answers.Macro (body ∷ [])))) }
         ensures err { OnErr result (self.new ≡ self.old) }
     {
         self.macros.insert(word, body)?;
@@ -119,17 +139,18 @@ impl SessionBank {
 
     /// Takes the macro with this word out, if there is one.
     pub fn undef(&mut self, word: &Spelling)
-        ensures left { self.new ≡ record self.old { macros = remove_entry (bytes_eq word.now) self.old.macros } }
-        ensures bank { bank_of self.new ≡ changed (bank_of self.old) (keys.Macro word.now) None }
+        ensures left { let macros = remove_entry (bytes_eq word.now) self.old.macros in
+            self.new ≡ record self.old { macros = macros } }
+        ensures bank { bank_of self.new ≡ bank_with (bank_of self.old) (keys.Macro word.now) None }
     {
         self.macros.shift_remove(word);
     }
 
     /// Puts another search list in place.
     pub fn set_search(&mut self, search: Answer)
-        requires { search ≡ answers.Search (searched search) }
-        ensures set { self.new ≡ record self.old { search = searched search } }
-        ensures bank { bank_of self.new ≡ changed (bank_of self.old) keys.Search (Some search) }
+        requires { search ≡ answers.Search (directories_of search) }
+        ensures set { self.new ≡ record self.old { search = directories_of search } }
+        ensures bank { bank_of self.new ≡ bank_with (bank_of self.old) keys.Search (Some search) }
     {
         self.search = search;
     }
@@ -167,15 +188,16 @@ pub struct EditedBank<'a> {
 
 impl<'a> Bank for EditedBank<'a> {
     ghost use Rattle.std.specs.Option.{option_copied};
-    ghost use Rattle.idl_workspace.specs.Bank.{bank_of, changed};
+    ghost use Rattle.idl_workspace.specs.Bank.{bank_of, bank_with};
 
     type Key = Key;
 
     type Answer = Answer;
 
-    ghost at = { λ bank. changed (bank_of bank.base.now) bank.key.now (option_copied bank.answer) };
+    ghost at = { λ bank.
+        bank_with (bank_of bank.base.now) bank.key.now (option_copied bank.answer) };
 
-    #[tactic(auto, unfolding(crate::specs::Bank::changed))]
+    #[tactic(auto, unfolding(crate::specs::Bank::bank_with))]
     fn answer(&self, key: &Key) -> Option<&Answer> {
         if self.key == key {
             return self.answer;
@@ -192,7 +214,8 @@ pub fn answers_come_from_inputs()
 
 /// What is answered of a file, by what these files say of it. A file is cut into tokens here.
 pub fn file_answer(alloc: Global, files: &Files, name: &Name) -> Result<Option<Answer>, AllocError>
-    ensures { IfOk result (λ answer. answer ≡ option_map answers.File (finite.get files.now name.now)) }
+    ensures { IfOk result (λ answer.
+        answer ≡ option_map answers.File (finite.get files.now name.now)) }
 {
     match files.get(name.as_bytes()) {
         Some(file) => {

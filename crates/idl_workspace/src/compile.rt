@@ -12,10 +12,18 @@ use idl_source::Name;
 use std::alloc::{AllocError, Global};
 
 /// What a root compiles to: its rows, and the files that it asks for and that aren't there, in the order first asked.
-#[derive(Drop)]
 pub struct CompiledRoot {
     pub rows: Compiled,
     pub absent: Seq<Name>,
+}
+
+impl Drop for CompiledRoot {
+    fn drop(self) {
+        let CompiledRoot {
+            rows: _rows,
+            absent: _absent,
+        } = self;
+    }
 }
 
 /// Compiles a root from scratch over a bank, in which its own file may be absent.

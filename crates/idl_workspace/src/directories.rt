@@ -3,7 +3,7 @@
 ghost use Rattle.std.specs.Prelude.{◌≡◌, ◌≢◌, Ok, Err, map, IfOk, IfErr};
 ghost use Rattle.std.specs.List.{list_all};
 ghost use Rattle.idl_source.specs.Directory.{is_directory};
-ghost use Rattle.idl_workspace.specs.Edits.{allowed_directories};
+ghost use Rattle.idl_workspace.specs.Edits.{search_list};
 
 use crate::MAX_DIRECTORIES;
 use idl_source::{Directory, Refusal};
@@ -14,8 +14,10 @@ use std::alloc::Global;
 /// They are refused where one is none, and then where there are more than [`MAX_DIRECTORIES`](crate::MAX_DIRECTORIES). Memory
 /// may be refused too.
 pub fn directories(alloc: Global, list: &[&[u8]]) -> Result<Vec<Directory>, Refusal>
-    ensures ok { IfOk result (λ directories. allowed_directories (map (λ bytes. bytes.now) list.now) ≡ Ok directories.items) }
-    ensures err { IfErr result (λ refusal. refusal ≢ Refusal.NoMemory → allowed_directories (map (λ bytes. bytes.now) list.now) ≡ Err refusal) }
+    ensures ok { IfOk result (λ directories.
+        search_list (map (λ bytes. bytes.now) list.now) ≡ Ok directories.items) }
+    ensures err { IfErr result (λ refusal. refusal ≢ Refusal.NoMemory
+        → search_list (map (λ bytes. bytes.now) list.now) ≡ Err refusal) }
 {
     if !are_directories(list) {
         return Err(Refusal::BadName);

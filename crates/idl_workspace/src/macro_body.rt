@@ -9,7 +9,6 @@ use std::alloc::{AllocError, Global};
 use std::marker::Model;
 
 /// The body of a macro: a line, and what is answered of the macro, a file of that line alone with its tokens.
-#[derive(Drop)]
 pub struct MacroBody {
     line: Line,
     answer: Answer,
@@ -24,6 +23,15 @@ impl Model for MacroBody {
     ghost view = { λ body. body.line };
 
     ghost invariant = { λ body. body.answer ≡ answers.Macro (body.line ∷ []) };
+}
+
+impl Drop for MacroBody {
+    fn drop(self) {
+        let MacroBody {
+            line: _line,
+            answer: _answer,
+        } = self;
+    }
 }
 
 impl MacroBody {

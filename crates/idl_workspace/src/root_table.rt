@@ -5,6 +5,7 @@ ghost use Rattle.std.specs.Option.{option_copied};
 ghost use Rattle.std.specs.List.{IsDistinct, list_any};
 ghost use Rattle.std.specs.Map.{lookup, keys_of, remove_entry};
 ghost use Rattle.std.specs.Str.{bytes_eq};
+ghost use Rattle.idl_source.specs.Limits.{most_roots};
 ghost use Rattle.idl_workspace.specs.UpToDate.{HoldsRows};
 
 use crate::MAX_ROOTS;
@@ -19,7 +20,6 @@ use std::marker::Model;
 /// Roots, each once, with what it compiles to, in the order in which they were added.
 ///
 /// A look-up takes the same time whatever their number.
-#[derive(Drop)]
 pub struct RootTable {
     roots: IndexMap<Name, CompiledRoot>,
 }
@@ -31,6 +31,12 @@ impl Model for RootTable {
     ghost Value = { List (List ℕ × CompiledRoot) };
 
     ghost view = { λ table. table.roots.entries };
+}
+
+impl Drop for RootTable {
+    fn drop(self) {
+        let RootTable { roots: _roots } = self;
+    }
 }
 
 impl RootTable {
@@ -45,7 +51,7 @@ impl RootTable {
 
     /// Whether there are as many roots as there may be.
     pub fn is_full(&self) -> bool
-        ensures { result ≡ nat_le MAX_ROOTS (length self.now) }
+        ensures { result ≡ nat_le most_roots (length self.now) }
     {
         self.roots.len() >= MAX_ROOTS
     }

@@ -1,13 +1,16 @@
 //! The session: its edits, and its queries.
 
-ghost use Rattle.std.specs.Prelude.{◌≡◌, ◌≢◌, ℕ, List, true, Ok, Err, IfOk, IfErr, OnErr, IsTrue, map};
+ghost use Rattle.std.specs.Prelude.{◌≡◌, ℕ, List, true, Ok, Err, IfOk, IsTrue, map};
 ghost use Rattle.std.specs.Map.{keys_of};
 ghost use Rattle.std.specs.Option.{option_copied};
+ghost use Rattle.std.specs.Result.{result_err};
 ghost use Rattle.idl_source.specs.Name.{is_name};
-ghost use Rattle.idl_workspace.specs.Bank.{IsSameBeside, bank_of, changed};
-ghost use Rattle.idl_workspace.specs.Project.{no_project};
+ghost use Rattle.idl_macro.specs.declared.key.Key.TheVariants as keys;
+ghost use Rattle.idl_workspace.specs.Bank.{IsSameBeside, bank_of, bank_with};
+ghost use Rattle.idl_workspace.specs.Project.{no_project, with_files};
 ghost use Rattle.idl_workspace.specs.Work.{no_work};
-ghost use Rattle.idl_workspace.specs.Edits.{are_too_long, after_put, after_splice, after_remove, after_define, after_undef, after_search, after_add_root, after_drop_root};
+ghost use Rattle.idl_workspace.specs.Edited.{IsEdited, takes_memory};
+ghost use Rattle.idl_workspace.specs.Edits.{Edit, Put, Splice, Remove, Define, Undef, Search, AddRoot, DropRoot, after, are_too_long, macros_with};
 ghost use Rattle.idl_workspace.specs.UpToDate.{HoldsRows, compiled_of, diagnostics_of, dump_of, absent_of};
 
 use crate::bank::{EditedBank, SessionBank, file_answer};
@@ -15,10 +18,12 @@ use crate::compile::{CompiledRoot, compile};
 use crate::directories::directories;
 use crate::macro_body::MacroBody;
 use crate::root_table::RootTable;
+use crate::span::Span;
 use crate::word::{is_macro_word, spelled};
 use crate::work::Work;
 use crate::{MAX_BODY, Row};
 use idl_base::Seq;
+use idl_lex::Spelling;
 use idl_macro::{Answer, Key};
 use idl_source::{Files, Line, Name, Refusal};
 use std::alloc::{AllocError, Global};
@@ -45,7 +50,10 @@ impl Model for Session {
 
     ghost coded = { state_code };
 
-    ghost view = { λ session. record { project = record { inputs = session.bank; roots = keys_of session.roots }; work = session.work } };
+    ghost view = { λ session. record {
+      project = record { inputs = session.bank; roots = keys_of session.roots };
+      work = session.work;
+    } };
 
     ghost invariant = { λ session. IsUpToDate (bank_of session.bank) session.roots };
 }
@@ -68,49 +76,32 @@ impl Session {
     /// It is refused where the name isn't one, and then where a limit of files or lines is passed. Memory may be refused
     /// too. A refusal gives up the lines.
     pub fn put(&mut self, name: &[u8], lines: Vec<Line>) -> Result<Work, Refusal>
-        ensures ok { IfOk result (λ work. after_put self.old.project name.now lines.items ≡ Ok self.new.project) }
-        ensures work { IfOk result (λ work. (self.new.work ≡ work) × (work ≡ no_work)) }
-        ensures refused { IfErr result (λ refusal. refusal ≢ Refusal.NoMemory → after_put self.old.project name.now lines.items ≡ Err refusal) }
-        ensures err { OnErr result (self.new ≡ self.old) }
+        ensures { IsEdited (Put name.now lines.items) self.old self.new result }
     {
         let files = self.bank.files().put(name, lines)?;
-        let work = self.change_files(name, files)?;
-        Ok(work)
+        self.change_files(name, files)
     }
 
-    /// Puts these lines in the place of `del` lines of a file, from line `from` on, where 1 is the first.
+    /// Puts these lines in the place of a span of a file.
     ///
-    /// It is refused where the name isn't one, then where there is no such file, then where those lines aren't all in it, and
+    /// It is refused where the name isn't one, then where there is no such file, then where the span isn't all in it, and
     /// then where a limit of lines is passed. Memory may be refused too. A refusal gives up the lines.
-    pub fn splice(
-        &mut self,
-        name: &[u8],
-        from: usize,
-        del: usize,
-        lines: Vec<Line>,
-    ) -> Result<Work, Refusal>
-        ensures ok { IfOk result (λ work. after_splice self.old.project name.now from del lines.items ≡ Ok self.new.project) }
-        ensures work { IfOk result (λ work. (self.new.work ≡ work) × (work ≡ no_work)) }
-        ensures refused { IfErr result (λ refusal. refusal ≢ Refusal.NoMemory → after_splice self.old.project name.now from del lines.items ≡ Err refusal) }
-        ensures err { OnErr result (self.new ≡ self.old) }
+    pub fn splice(&mut self, name: &[u8], span: Span, lines: Vec<Line>) -> Result<Work, Refusal>
+        ensures { let edit = Splice name.now span.from span.del lines.items in
+            IsEdited edit self.old self.new result }
     {
-        let files = self.bank.files().splice(name, from, del, lines)?;
-        let work = self.change_files(name, files)?;
-        Ok(work)
+        let files = self.bank.files().splice(name, span.from, span.del, lines)?;
+        self.change_files(name, files)
     }
 
     /// Removes the file of this name. The name is a root or not as before.
     ///
     /// It is refused where the name isn't one, and then where there is no such file. Memory may be refused too.
     pub fn remove(&mut self, name: &[u8]) -> Result<Work, Refusal>
-        ensures ok { IfOk result (λ work. after_remove self.old.project name.now ≡ Ok self.new.project) }
-        ensures work { IfOk result (λ work. (self.new.work ≡ work) × (work ≡ no_work)) }
-        ensures refused { IfErr result (λ refusal. refusal ≢ Refusal.NoMemory → after_remove self.old.project name.now ≡ Err refusal) }
-        ensures err { OnErr result (self.new ≡ self.old) }
+        ensures { IsEdited (Remove name.now) self.old self.new result }
     {
         let files = self.bank.files().remove(name)?;
-        let work = self.change_files(name, files)?;
-        Ok(work)
+        self.change_files(name, files)
     }
 
     /// Defines a macro that stands before the first line of every root, in place of the one of that word if there is one.
@@ -119,21 +110,14 @@ impl Session {
     /// [`MAX_MACROS`](crate::MAX_MACROS) macros, and then where the word isn't one, or is `defined`. Memory may be refused
     /// too. A refusal gives up the body.
     pub fn define(&mut self, word: &[u8], body: Line) -> Result<Work, Refusal>
-        ensures ok { IfOk result (λ work. after_define self.old.project word.now body ≡ Ok self.new.project) }
-        ensures work { IfOk result (λ work. (self.new.work ≡ work) × (work ≡ no_work)) }
-        ensures refused { IfErr result (λ refusal. refusal ≢ Refusal.NoMemory → after_define self.old.project word.now body ≡ Err refusal) }
-        ensures err { OnErr result (self.new ≡ self.old) }
+        ensures { IsEdited (Define word.now body) self.old self.new result }
     {
         let word = spelled(self.alloc, word)?;
-        if body.len() > MAX_BODY || self.bank.is_full_for(&word) {
-            return Err(Refusal::OverLimit);
-        }
-        if !is_macro_word(word.as_bytes()) {
-            return Err(Refusal::BadMacro);
+        if let Some(refusal) = self.refusal_of_define(&word, &body) {
+            return Err(refusal);
         }
         let body = MacroBody::new(self.alloc, body)?;
-        let key = Key::Macro(word.clone()?);
-        let roots = self.compiled_with(&key, Some(body.answer()))?;
+        let roots = self.compiled_with_macro(&word, Some(body.answer()))?;
         self.bank.define(word, body)?;
         self.roots = roots;
         self.work = Work::none();
@@ -144,17 +128,13 @@ impl Session {
     ///
     /// It is refused where the word isn't one, or is `defined`. Memory may be refused too.
     pub fn undef(&mut self, word: &[u8]) -> Result<Work, Refusal>
-        ensures ok { IfOk result (λ work. after_undef self.old.project word.now ≡ Ok self.new.project) }
-        ensures work { IfOk result (λ work. (self.new.work ≡ work) × (work ≡ no_work)) }
-        ensures refused { IfErr result (λ refusal. refusal ≢ Refusal.NoMemory → after_undef self.old.project word.now ≡ Err refusal) }
-        ensures err { OnErr result (self.new ≡ self.old) }
+        ensures { IsEdited (Undef word.now) self.old self.new result }
     {
         if !is_macro_word(word) {
             return Err(Refusal::BadMacro);
         }
         let word = spelled(self.alloc, word)?;
-        let key = Key::Macro(word.clone()?);
-        let roots = self.compiled_with(&key, None)?;
+        let roots = self.compiled_with_macro(&word, None)?;
         self.bank.undef(&word);
         self.roots = roots;
         self.work = Work::none();
@@ -166,10 +146,7 @@ impl Session {
     /// It is refused where one of them is no directory, and then where there are more than
     /// [`MAX_DIRECTORIES`](crate::MAX_DIRECTORIES). Memory may be refused too.
     pub fn search(&mut self, list: &[&[u8]]) -> Result<Work, Refusal>
-        ensures ok { IfOk result (λ work. after_search self.old.project (map (λ bytes. bytes.now) list.now) ≡ Ok self.new.project) }
-        ensures work { IfOk result (λ work. (self.new.work ≡ work) × (work ≡ no_work)) }
-        ensures refused { IfErr result (λ refusal. refusal ≢ Refusal.NoMemory → after_search self.old.project (map (λ bytes. bytes.now) list.now) ≡ Err refusal) }
-        ensures err { OnErr result (self.new ≡ self.old) }
+        ensures { IsEdited (Search (map (λ bytes. bytes.now) list.now)) self.old self.new result }
     {
         let list = directories(self.alloc, list)?;
         let search = Answer::Search(Seq::from_vec(list));
@@ -185,10 +162,7 @@ impl Session {
     /// It is refused where the name isn't one, and then where it is a root already or there are [`MAX_ROOTS`](crate::MAX_ROOTS) roots.
     /// Memory may be refused too.
     pub fn add_root(&mut self, name: &[u8]) -> Result<Work, Refusal>
-        ensures ok { IfOk result (λ work. after_add_root self.old.project name.now ≡ Ok self.new.project) }
-        ensures work { IfOk result (λ work. (self.new.work ≡ work) × (work ≡ no_work)) }
-        ensures refused { IfErr result (λ refusal. refusal ≢ Refusal.NoMemory → after_add_root self.old.project name.now ≡ Err refusal) }
-        ensures err { OnErr result (self.new ≡ self.old) }
+        ensures { IsEdited (AddRoot name.now) self.old self.new result }
     {
         let Some(root) = Name::new(name) else {
             return Err(Refusal::BadName);
@@ -209,10 +183,7 @@ impl Session {
     ///
     /// It is refused where the name isn't one, and then where it is that of no root.
     pub fn drop_root(&mut self, name: &[u8]) -> Result<Work, Refusal>
-        ensures ok { IfOk result (λ work. after_drop_root self.old.project name.now ≡ Ok self.new.project) }
-        ensures work { IfOk result (λ work. (self.new.work ≡ work) × (work ≡ no_work)) }
-        ensures refused { IfErr result (λ refusal. after_drop_root self.old.project name.now ≡ Err refusal) }
-        ensures err { OnErr result (self.new ≡ self.old) }
+        ensures { IsEdited (DropRoot name.now) self.old self.new result }
     {
         let Some(root) = Name::new(name) else {
             return Err(Refusal::BadName);
@@ -272,7 +243,8 @@ impl Session {
     ///
     /// A caller that doesn't keep such lines asks this in place of the edit.
     pub fn refusal_of_long_put(&self, name: &[u8]) -> Refusal
-        ensures { (lines : List (List ℕ)) → are_too_long lines ≡ true → after_put self.now.project name.now lines ≡ Err result }
+        ensures { (lines : List (List ℕ)) → are_too_long lines ≡ true
+            → after self.now.project (Put name.now lines) ≡ Err result }
     {
         if Name::new(name).is_none() {
             return Refusal::BadName;
@@ -281,8 +253,9 @@ impl Session {
     }
 
     /// Why lines that are too many or too long for any file aren't spliced in there: the least refusal. It takes no memory.
-    pub fn refusal_of_long_splice(&self, name: &[u8], from: usize, del: usize) -> Refusal
-        ensures { (lines : List (List ℕ)) → are_too_long lines ≡ true → after_splice self.now.project name.now from del lines ≡ Err result }
+    pub fn refusal_of_long_splice(&self, name: &[u8], span: Span) -> Refusal
+        ensures { (lines : List (List ℕ)) → are_too_long lines ≡ true
+            → after self.now.project (Splice name.now span.from span.del lines) ≡ Err result }
     {
         if Name::new(name).is_none() {
             return Refusal::BadName;
@@ -291,7 +264,7 @@ impl Session {
             return Refusal::NoSuchFile;
         };
         let len = file.lines().len();
-        if from == 0 || len < from - 1 || len - (from - 1) < del {
+        if span.from == 0 || len < span.from - 1 || len - (span.from - 1) < span.del {
             return Refusal::OutsideFile;
         }
         Refusal::OverLimit
@@ -305,28 +278,55 @@ impl Session {
         roots.get(&Name::new(root)?)
     }
 
-    // Puts other files in place, of which the one of this name alone is another.
-    fn change_files(&mut self, name: &[u8], files: Files) -> Result<Work, AllocError>
+    // Why a macro with this word and this body isn't defined.
+    fn refusal_of_define(&self, word: &Spelling, body: &Line) -> Option<Refusal>
+        ensures { result ≡ result_err (macros_with self.now.project.inputs.macros word.now body.now) }
+    {
+        if body.len() > MAX_BODY || self.bank.is_full_for(word) {
+            return Some(Refusal::OverLimit);
+        }
+        if !is_macro_word(word.as_bytes()) {
+            return Some(Refusal::BadMacro);
+        }
+        None
+    }
+
+    // Puts other files in place, of which the one of this name alone is another: an edit after which these are the files.
+    fn change_files(&mut self, name: &[u8], files: Files) -> Result<Work, Refusal>
         requires allowed { IsTrue (is_name name.now) }
         requires beside { IsSameBeside name.now self.old.project.inputs.files files }
-        ensures ok { IfOk result (λ work. self.new.project ≡ record self.old.project { inputs = record self.old.project.inputs { files = files } }) }
-        ensures work { IfOk result (λ work. (self.new.work ≡ work) × (work ≡ no_work)) }
-        ensures err { OnErr result (self.new ≡ self.old) }
+        ensures { (edit : Edit) → takes_memory edit ≡ true
+            → after self.old.project edit ≡ Ok (with_files self.old.project files)
+            → IsEdited edit self.old self.new result }
     {
         let name = Name::new(name).unwrap();
         let answer = file_answer(self.alloc, &files, &name)?;
-        let key = Key::File(name.copied());
-        let roots = self.compiled_with(&key, answer.as_ref())?;
+        let roots = self.compiled_with(&Key::File(name.copied()), answer.as_ref())?;
         self.bank.set_files(name, files, answer)?;
         self.roots = roots;
         self.work = Work::none();
         Ok(self.work)
     }
 
+    // All roots, compiled over the bank with another answer about the macro of this word.
+    fn compiled_with_macro(
+        &self,
+        word: &Spelling,
+        answer: Option<&Answer>,
+    ) -> Result<RootTable, AllocError>
+        ensures roots { IfOk result (λ table. keys_of table ≡ self.now.project.roots) }
+        ensures rows { let bank = bank_of self.now.project.inputs in IfOk result (λ table.
+            HoldsRows (bank_with bank (keys.Macro word.now) (option_copied answer.entry)) table) }
+    {
+        let key = Key::Macro(word.clone()?);
+        self.compiled_with(&key, answer)
+    }
+
     // All roots, compiled over the bank with another answer at this key.
     fn compiled_with(&self, key: &Key, answer: Option<&Answer>) -> Result<RootTable, AllocError>
         ensures roots { IfOk result (λ table. keys_of table ≡ self.now.project.roots) }
-        ensures rows { IfOk result (λ table. HoldsRows (changed (bank_of self.now.project.inputs) key.now (option_copied answer.entry)) table) }
+        ensures rows { let bank = bank_of self.now.project.inputs in IfOk result (λ table.
+            HoldsRows (bank_with bank key.now (option_copied answer.entry)) table) }
     {
         let bank = EditedBank {
             base: &self.bank,

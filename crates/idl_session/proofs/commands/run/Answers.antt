@@ -1,7 +1,8 @@
 use Rattle.std.proofs.Common.{◌≡◌, ◌∙◌, [], List, ℕ, IfErr, IfSome, rules, subst, sym}
 use Rattle.std.proofs.lemmas.Result.{IfErr-weaker}
 use Rattle.idl_session.specs.Commands.{Command, commands_of}
-use Rattle.idl_session.specs.Serving.{commands_left, Served, IsBeginning}
+use Rattle.idl_session.specs.Serving.{Standing, Served, IsBeginning, moment_of}
+use Rattle.idl_session.specs.Streams.{lines_left}
 use Rattle.idl_session.specs.declared.stop.Stop.{Stop}
 use Rattle.idl_session.proofs.RunLemmas.{served-more, begun-cut, begun-input}
 use Rattle.idl_session.proofs.commands.run.Goals as goal
@@ -9,8 +10,10 @@ use Rattle.idl_session.proofs.commands.run.Goals as goal
 pub commands-preserved : goal.commands-preserved
 commands-preserved g c =
     let took = rw c.if-not-branch.false at c.in_ok-read_line.ensures.line in
+    let mid : Standing = record { lines = lines_left (g.S.Source.remaining c.commands.source) c.commands.input.feed; written = g.K.Sink.written c.commands.sink; state = c.commands.session } in
+    let new : Standing = record { lines = lines_left (g.S.Source.remaining c.serve.new.source) c.serve.new.input.feed; written = g.K.Sink.written c.serve.new.sink; state = c.serve.new.session } in
     record {
-      served = served-more _ _ _ _ c.read_line.new.line _ _ _ c.args.session.now c.commands.session c.serve.new.session c.commands.invariant.served took c.in_ok-serve.ensures.served;
+      served = served-more _ mid new _ c.read_line.new.line c.commands.invariant.served took c.in_ok-serve.ensures.served;
       reads = c.in_ok-serve.ensures.reads ∙ c.in_ok-read_line.ensures.ok ∙ c.commands.invariant.reads;
       writes = c.in_ok-serve.ensures.writes ∙ c.commands.invariant.writes;
     }
@@ -20,18 +23,14 @@ returns-in_err-serve-clause-begun g c =
     let took = rw c.if-not-branch.false at c.in_ok-read_line.ensures.line in
     let r = c.from_residual-in_err-serve.result in
     let failed = c.in_err-serve.field-0.0 in
-    let s = c.args.session.now in
-    let u = c.commands.session in
-    let t = c.serve.new.session in
     let input = g.S.Source.remaining c.args.source.now in
-    let before = g.K.Sink.written c.args.sink.now in
-    let out = g.K.Sink.written c.commands.sink in
-    let after = g.K.Sink.written c.serve.new.sink in
+    let old : Standing = record { lines = lines_left (g.S.Source.remaining c.args.source.now) []; written = g.K.Sink.written c.args.sink.now; state = c.args.session.now } in
+    let mid : Standing = record { lines = lines_left (g.S.Source.remaining c.commands.source) c.commands.input.feed; written = g.K.Sink.written c.commands.sink; state = c.commands.session } in
+    let new : Standing = record { lines = lines_left (g.S.Source.remaining c.serve.new.source) c.serve.new.input.feed; written = g.K.Sink.written c.serve.new.sink; state = c.serve.new.session } in
     let why : IfErr r (λ stop. stop ≡ failed) = search rules in
-    let done = subst (λ (feed : List ℕ). Served (commands_left input feed) (commands_left (g.S.Source.remaining c.commands.source) c.commands.feed) before out s u)
-    c.new-feed.ensures c.commands.invariant.served in
-    let begun = begun-cut failed (commands_left input []) _ _ _ c.read_line.new.line before out after s u t done took c.in_err-serve.ensures.cut in
-    IfErr-weaker r (λ stop. stop ≡ failed) (λ stop. IfSome input (λ bytes. IsBeginning stop s (commands_of bytes) before after t))
-    (λ stop is. subst (λ (x : Stop). IfSome input (λ bytes. IsBeginning x s (commands_of bytes) before after t)) (sym is)
-    (begun-input input (λ (cs : List Command). IsBeginning failed s cs before after t) begun))
+    let done = subst (λ (feed : List ℕ). Served (record old { lines = lines_left input feed }) mid) c.new-input.ensures c.commands.invariant.served in
+    let begun = begun-cut failed old mid new _ c.read_line.new.line done took c.in_err-serve.ensures.cut in
+    IfErr-weaker r (λ stop. stop ≡ failed) (λ stop. IfSome input (λ bytes. IsBeginning stop (commands_of bytes) (moment_of old) (moment_of new)))
+    (λ stop is. subst (λ (x : Stop). IfSome input (λ bytes. IsBeginning x (commands_of bytes) (moment_of old) (moment_of new))) (sym is)
+    (begun-input input (λ (cs : List Command). IsBeginning failed cs (moment_of old) (moment_of new)) begun))
     why

@@ -1,15 +1,20 @@
 use Rattle.std.proofs.Common.{◌≡◌}
-use Rattle.idl_session.specs.Serving.{commands_left, Served}
-use Rattle.idl_session.specs.Streams.{fuel}
+use Rattle.idl_session.specs.Serving.{Served}
+use Rattle.idl_session.specs.Streams.{fuel, lines_left}
 use Rattle.idl_session.proofs.commands.run.Given as goal
 
 abbrev pub invariant-commands : goal.invariant-commands
 invariant-commands g l = record {
-  served : Served (commands_left (g.S.Source.remaining l.initial.source) l.initial.feed) (commands_left (g.S.Source.remaining l.source) l.feed)
-      (g.K.Sink.written l.initial.sink) (g.K.Sink.written l.sink) l.initial.session l.session;
+  served : Served
+      (record {
+        lines = lines_left (g.S.Source.remaining l.initial.source) l.initial.input.feed;
+        written = g.K.Sink.written l.initial.sink;
+        state = l.initial.session;
+      })
+      (record { lines = lines_left (g.S.Source.remaining l.source) l.input.feed; written = g.K.Sink.written l.sink; state = l.session });
   reads : g.S.Source.failures l.source ≡ g.S.Source.failures l.initial.source;
   writes : g.K.Sink.failures l.sink ≡ g.K.Sink.failures l.initial.sink;
 }
 
 abbrev pub decreases-commands : goal.decreases-commands
-decreases-commands g l = fuel (g.S.Source.reads_left l.source) l.feed
+decreases-commands g l = fuel (g.S.Source.reads_left l.source) l.input.feed

@@ -1,61 +1,54 @@
 use Rattle.std.proofs.Common.{◌≡◌, List, ℕ, Option, IfErr, refl, subst, rules}
 use Rattle.idl_source.specs.Device.{append, WritesPart}
-use Rattle.idl_session.specs.Effects.{rows_for}
 use Rattle.idl_session.specs.Headings.{edit_by}
 use Rattle.idl_session.specs.Replies.{edit_reply, query_reply}
 use Rattle.idl_session.specs.Requests.{Make, Ask, request_kept}
+use Rattle.idl_session.specs.Rows.{rows_for}
+use Rattle.idl_session.specs.Serving.{Standing}
+use Rattle.idl_session.specs.Streams.{lines_left}
 use Rattle.idl_session.specs.declared.stop.Stop.TheVariants.{WriteFailed}
-use Rattle.idl_session.proofs.ServeLemmas.{serves-alone, made, cut-write}
+use Rattle.idl_session.proofs.ServeLemmas.{serves-alone, cut-write}
 use Rattle.idl_session.proofs.serve.serve.Goals as goal
 
 pub returns-in_err-write_edit-in-Make-clause-cut : goal.returns-in_err-write_edit-in-Make-clause-cut
 returns-in_err-write_edit-in-Make-clause-cut g c =
-    let s = c.args.session.now in
-    let t = c.make-outcome.new.session in
-    let edit = edit_by c.in-Make.change in
-    let reply = edit_reply c.make-outcome.result in
+    let old : Standing = record { lines = lines_left (g.S.Source.remaining c.args.source.now) c.args.input.now.feed; written = g.K.Sink.written c.args.sink.now; state = c.args.session.now } in
+    let new : Standing = record { lines = lines_left (g.S.Source.remaining c.args.source.now) c.args.input.now.feed; written = g.K.Sink.written c.write_edit-in-Make.new.sink; state = c.make-outcome.new.session } in
     let r = c.from_residual-in_err-write_edit-in-Make.result in
     let why : IfErr r (λ stop. stop ≡ WriteFailed) = search rules in
-    cut-write r (request_kept c.args.line.now) _ _ (g.K.Sink.written c.args.sink.now) (g.K.Sink.written c.write_edit-in-Make.new.sink) s t
-    reply why c.in_err-write_edit-in-Make.ensures.part
-    (serves-alone (request_kept c.args.line.now) (Make edit) _ s t reply c.in-Make.ensures.request refl
-    (made s t edit c.make-outcome.result c.make-outcome.ensures.outcome c.make-outcome.ensures.sure))
+    cut-write r (request_kept c.args.input.now.line) old new (edit_reply c.make-outcome.result) why c.in_err-write_edit-in-Make.ensures.part
+    (serves-alone (request_kept c.args.input.now.line) (Make (edit_by c.in-Make.change)) old new (edit_reply c.make-outcome.result) c.in-Make.ensures.request refl refl (c.make-outcome.result, c.make-outcome.ensures, refl))
 
 pub returns-in_ok-write_edit-in-Make-clause-served : goal.returns-in_ok-write_edit-in-Make-clause-served
 returns-in_ok-write_edit-in-Make-clause-served g c =
-    let s = c.args.session.now in
-    let t = c.make-outcome.new.session in
-    let edit = edit_by c.in-Make.change in
-    let reply = edit_reply c.make-outcome.result in (
-      reply,
+    let old : Standing = record { lines = lines_left (g.S.Source.remaining c.args.source.now) c.args.input.now.feed; written = g.K.Sink.written c.args.sink.now; state = c.args.session.now } in
+    let new : Standing = record { lines = lines_left (g.S.Source.remaining c.args.source.now) c.args.input.now.feed; written = g.K.Sink.written c.write_edit-in-Make.new.sink; state = c.make-outcome.new.session } in (
+      edit_reply c.make-outcome.result,
       c.in_ok-write_edit-in-Make.ensures.written,
-      serves-alone (request_kept c.args.line.now) (Make edit) _ s t reply c.in-Make.ensures.request refl
-          (made s t edit c.make-outcome.result c.make-outcome.ensures.outcome c.make-outcome.ensures.sure),
+      serves-alone (request_kept c.args.input.now.line) (Make (edit_by c.in-Make.change)) old new (edit_reply c.make-outcome.result) c.in-Make.ensures.request refl refl (c.make-outcome.result, c.make-outcome.ensures, refl),
     )
 
 pub returns-in_err-write_query-in-Ask-clause-cut : goal.returns-in_err-write_query-in-Ask-clause-cut
 returns-in_err-write_query-in-Ask-clause-cut g c =
-    let s = c.args.session.now in
     let name = c.in-Ask.name.now in
     let question = c.in-Ask.question in
-    let reply = query_reply name (rows_for s.project question name) in
+    let reply = query_reply name (rows_for c.args.session.now.project question name) in
+    let old : Standing = record { lines = lines_left (g.S.Source.remaining c.args.source.now) c.args.input.now.feed; written = g.K.Sink.written c.args.sink.now; state = c.args.session.now } in
+    let new : Standing = record { lines = lines_left (g.S.Source.remaining c.args.source.now) c.args.input.now.feed; written = g.K.Sink.written c.write_query.new.sink; state = c.args.session.now } in
     let r = c.from_residual-in_err-write_query-in-Ask.result in
-    let w = g.K.Sink.written c.args.sink.now in
-    let v = g.K.Sink.written c.write_query.new.sink in
     let why : IfErr r (λ stop. stop ≡ WriteFailed) = search rules in
-    cut-write r (request_kept c.args.line.now) _ _ w v s s reply why
-    (subst (λ (rows : Option (List (List ℕ))). WritesPart w (query_reply name rows) v) c.ask-rows.ensures c.in_err-write_query-in-Ask.ensures.part)
-    (serves-alone (request_kept c.args.line.now) (Ask question name) _ s s reply c.in-Ask.ensures.request refl (refl, refl))
+    cut-write r (request_kept c.args.input.now.line) old new reply why
+    (subst (λ (rows : Option (List (List ℕ))). WritesPart old.written (query_reply name rows) new.written) c.ask-rows.ensures c.in_err-write_query-in-Ask.ensures.part)
+    (serves-alone (request_kept c.args.input.now.line) (Ask question name) old new reply c.in-Ask.ensures.request refl refl (refl, refl))
 
 pub returns-in_ok-write_query-in-Ask-clause-served : goal.returns-in_ok-write_query-in-Ask-clause-served
 returns-in_ok-write_query-in-Ask-clause-served g c =
-    let s = c.args.session.now in
     let name = c.in-Ask.name.now in
     let question = c.in-Ask.question in
-    let reply = query_reply name (rows_for s.project question name) in
-    let w = g.K.Sink.written c.args.sink.now in
-    let v = g.K.Sink.written c.write_query.new.sink in (
+    let reply = query_reply name (rows_for c.args.session.now.project question name) in
+    let old : Standing = record { lines = lines_left (g.S.Source.remaining c.args.source.now) c.args.input.now.feed; written = g.K.Sink.written c.args.sink.now; state = c.args.session.now } in
+    let new : Standing = record { lines = lines_left (g.S.Source.remaining c.args.source.now) c.args.input.now.feed; written = g.K.Sink.written c.write_query.new.sink; state = c.args.session.now } in (
       reply,
-      subst (λ (rows : Option (List (List ℕ))). v ≡ append w (query_reply name rows)) c.ask-rows.ensures c.in_ok-write_query-in-Ask.ensures.written,
-      serves-alone (request_kept c.args.line.now) (Ask question name) _ s s reply c.in-Ask.ensures.request refl (refl, refl),
+      subst (λ (rows : Option (List (List ℕ))). new.written ≡ append old.written (query_reply name rows)) c.ask-rows.ensures c.in_ok-write_query-in-Ask.ensures.written,
+      serves-alone (request_kept c.args.input.now.line) (Ask question name) old new reply c.in-Ask.ensures.request refl refl (refl, refl),
     )

@@ -6,15 +6,15 @@ use Rattle.std.proofs.lemmas.List.Sums.{AllPass-from_list_all}
 use Rattle.std.specs.List.{list_all}
 use Rattle.idl_source.specs.Directory.{is_directory}
 use Rattle.idl_source.specs.declared.refusal.Refusal.TheVariants.{BadName, OverLimit}
-use Rattle.idl_workspace.specs.Edits.{allowed_directories}
+use Rattle.idl_workspace.specs.Edits.{search_list}
 use Rattle.idl_workspace.proofs.directories.directories.Goals as goal
 
-bad : (list : List (Bor (List ℕ))) → list_all (λ bytes. is_directory bytes.now) list ≡ false → allowed_directories (map (λ bytes. bytes.now) list) ≡ Err BadName
+bad : (list : List (Bor (List ℕ))) → list_all (λ bytes. is_directory bytes.now) list ≡ false → search_list (map (λ bytes. bytes.now) list) ≡ Err BadName
 bad list h =
     ap (λ b. cond b (cond (ltb 256 (length (map (λ bytes. bytes.now) list))) (Err OverLimit) (Ok (map (λ bytes. bytes.now) list))) (Err BadName))
     (list_all-map is_directory (λ bytes. bytes.now) list ∙ h)
 
-many : (list : List (Bor (List ℕ))) → list_all (λ bytes. is_directory bytes.now) list ≡ true → 256 < length list → allowed_directories (map (λ bytes. bytes.now) list) ≡ Err OverLimit
+many : (list : List (Bor (List ℕ))) → list_all (λ bytes. is_directory bytes.now) list ≡ true → 256 < length list → search_list (map (λ bytes. bytes.now) list) ≡ Err OverLimit
 many list h over =
     let long : ltb 256 (length (map (λ (bytes : Bor (List ℕ)). bytes.now) list)) ≡ true = grind (arith, nat_tests, length-map list (λ (bytes : Bor (List ℕ)). bytes.now)) in
     ap (λ b. cond b (cond (ltb 256 (length (map (λ bytes. bytes.now) list))) (Err OverLimit) (Ok (map (λ bytes. bytes.now) list))) (Err BadName))
@@ -22,7 +22,7 @@ many list h over =
     ∙ ap (λ b. cond b (Err OverLimit) (Ok (map (λ (bytes : Bor (List ℕ)). bytes.now) list))) long
 
 good : (list : List (Bor (List ℕ))) → list_all (λ bytes. is_directory bytes.now) list ≡ true → length list ≤ 256
-    → allowed_directories (map (λ bytes. bytes.now) list) ≡ Ok (map (λ bytes. bytes.now) list)
+    → search_list (map (λ bytes. bytes.now) list) ≡ Ok (map (λ bytes. bytes.now) list)
 good list h within =
     let short : ltb 256 (length (map (λ (bytes : Bor (List ℕ)). bytes.now) list)) ≡ false = grind (arith, nat_tests, length-map list (λ (bytes : Bor (List ℕ)). bytes.now)) in
     ap (λ b. cond b (cond (ltb 256 (length (map (λ bytes. bytes.now) list))) (Err OverLimit) (Ok (map (λ bytes. bytes.now) list))) (Err BadName))

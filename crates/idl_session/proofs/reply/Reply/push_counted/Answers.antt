@@ -3,7 +3,7 @@ use Rattle.std.proofs.lemmas.Result.{on_ok_weaker, on_err_weaker}
 use Rattle.std.specs.Fmt.{decimal}
 use Rattle.idl_source.specs.Device.{WritesPart}
 use Rattle.idl_session.specs.Gathering.{Sends}
-use Rattle.idl_session.specs.Replies.{ended}
+use Rattle.idl_session.specs.Replies.{whole_line}
 use Rattle.idl_session.proofs.ReplyLemmas.{sends-more, sends-part}
 use Rattle.idl_session.proofs.reply.Reply.push_counted.Goals as goal
 
@@ -16,8 +16,8 @@ returns-clause-sent g c =
     let later = c.push_line.new.self in
     let digits : c.as_bytes.result.now ≡ decimal c.args.n = c.as_bytes.ensures.value ∙ c.format.ensures.text in
     on_ok_weaker c.push_line.result
-    (λ sent. sends-more w v u c.args.self.now c.args.word.now (ended (decimal c.args.n)) held later c.in_ok-push.ensures.sent
-    (subst (λ (ds : List ℕ). Sends v (held ++ ended ds) u later) digits sent))
+    (λ sent. sends-more w v u c.args.self.now c.args.word.now (whole_line (decimal c.args.n)) held later c.in_ok-push.ensures.sent
+    (subst (λ (ds : List ℕ). Sends v (held ++ whole_line ds) u later) digits sent))
     c.push_line.ensures.sent
 
 pub returns-clause-part : goal.returns-clause-part
@@ -28,6 +28,6 @@ returns-clause-part g c =
     let held = c.push.new.self in
     let digits : c.as_bytes.result.now ≡ decimal c.args.n = c.as_bytes.ensures.value ∙ c.format.ensures.text in
     on_err_weaker c.push_line.result
-    (λ part. sends-part w v u c.args.self.now c.args.word.now (ended (decimal c.args.n)) held c.in_ok-push.ensures.sent
-    (subst (λ (ds : List ℕ). WritesPart v (held ++ ended ds) u) digits part))
+    (λ part. sends-part w v u c.args.self.now c.args.word.now (whole_line (decimal c.args.n)) held c.in_ok-push.ensures.sent
+    (subst (λ (ds : List ℕ). WritesPart v (held ++ whole_line ds) u) digits part))
     c.push_line.ensures.part

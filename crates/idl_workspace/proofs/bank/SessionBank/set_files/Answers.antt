@@ -5,25 +5,25 @@ use Rattle.idl_macro.specs.declared.key.Answer.{Answer}
 use Rattle.idl_macro.specs.declared.key.Answer.TheVariants as answers
 use Rattle.idl_macro.specs.declared.key.Key.TheVariants as keys
 use Rattle.idl_source.specs.Texts.{Texts}
-use Rattle.idl_workspace.specs.Bank.{IsSameBeside, bank_of, changed, searched}
+use Rattle.idl_workspace.specs.Bank.{IsSameBeside, bank_of, bank_with, directories_of}
 use Rattle.idl_workspace.specs.Project.{Inputs}
 use Rattle.idl_workspace.proofs.BankLemmas.{files-changed}
 use Rattle.idl_workspace.proofs.bank.SessionBank.set_files.Goals as goal
 
 -- from the inputs as they are held
 held : (inputs now : Inputs) (files : Texts) (name : List ℕ) (a : Option Answer) → inputs ≡ now → IsSameBeside name now.files files
-    → a ≡ option_map answers.File (finite.get files name) → bank_of (record inputs { files = files }) ≡ changed (bank_of now) (keys.File name) a
+    → a ≡ option_map answers.File (finite.get files name) → bank_of (record inputs { files = files }) ≡ bank_with (bank_of now) (keys.File name) a
 held inputs now files name a same beside is =
     ap (λ (i : Inputs). bank_of (record i { files = files })) same
     ∙ files-changed now files name beside
-    ∙ ap (λ (b : Option Answer). changed (bank_of now) (keys.File name) b) (sym is)
+    ∙ ap (λ (b : Option Answer). bank_with (bank_of now) (keys.File name) b) (sym is)
 
 pub returns-in_ok-insert-in-Some-clause-bank : goal.returns-in_ok-insert-in-Some-clause-bank
 returns-in_ok-insert-in-Some-clause-bank c =
-    held (record { files = c.self.inside.files; macros = c.self.inside.macros.entries; search = searched c.self.inside.search }) c.args.self.now
+    held (record { files = c.self.inside.files; macros = c.self.inside.macros.entries; search = directories_of c.self.inside.search }) c.args.self.now
     c.args.files c.args.name c.args.answer c.self.view_is c.requires.beside c.requires.answers
 
 pub returns-in-None-clause-bank : goal.returns-in-None-clause-bank
 returns-in-None-clause-bank c =
-    held (record { files = c.self.inside.files; macros = c.self.inside.macros.entries; search = searched c.self.inside.search }) c.args.self.now
+    held (record { files = c.self.inside.files; macros = c.self.inside.macros.entries; search = directories_of c.self.inside.search }) c.args.self.now
     c.args.files c.args.name c.args.answer c.self.view_is c.requires.beside c.requires.answers

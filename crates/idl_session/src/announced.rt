@@ -2,10 +2,11 @@
 
 ghost use Rattle.std.specs.Prelude.{◌≡◌, ◌≤◌, ◌<◌, ◌+◌, ◌-◌, ◌^◌, ◌∷◌, ◌++◌, [], ℕ, List, IfOk, IfSome, OnOk, OnErr};
 ghost use Rattle.std.specs.Option.{option_copied};
+ghost use Rattle.idl_source.specs.Limits.{longest_line};
 ghost use Rattle.idl_source.specs.Line.{IsLine};
-ghost use Rattle.idl_session.specs.Lines.{kept};
+ghost use Rattle.idl_session.specs.Lines.{line_within};
 ghost use Rattle.idl_session.specs.Streams.{lines_left, fuel};
-ghost use Rattle.idl_session.specs.Bodies.{IsGathered, TakesBody};
+ghost use Rattle.idl_session.specs.Announced.{IsGathered, TakesAnnounced};
 
 use crate::feed::Feed;
 use crate::line_buffer::{LineBuffer, read_line};
@@ -13,8 +14,8 @@ use idl_source::{Line, MAX_LINE, MAX_LINES, ReadFailed, Source};
 use std::alloc::{AllocError, Global};
 
 /// The lines that a command announces, or why there are none to place.
-#[derive(Debug, Drop)]
-pub enum Body {
+#[derive(Drop)]
+pub enum Announced {
     /// All of them.
     Whole(Vec<Line>),
     /// The input ended before the last of them.
@@ -26,60 +27,63 @@ pub enum Body {
 }
 
 /// Takes so many lines, or fewer at the end of the input.
-pub fn read_body<S: Source>(
+pub fn read_announced<S: Source>(
     alloc: Global,
     source: &mut S,
     feed: &mut Feed,
     count: usize,
-) -> Result<Body, ReadFailed>
+) -> Result<Announced, ReadFailed>
     requires counts { S.failures source.old < 2 ^ 64 - 1 }
 
-    ensures taken { IfOk result (λ body. TakesBody count
-        (lines_left (S.remaining source.old) feed.old) (lines_left (S.remaining source.new) feed.new) body) }
-    ensures nearer { OnOk result (fuel (S.reads_left source.new) feed.new ≤ fuel (S.reads_left source.old) feed.old) }
+    ensures taken { IfOk result (TakesAnnounced count
+        (lines_left (S.remaining source.old) feed.old)
+        (lines_left (S.remaining source.new) feed.new)) }
+    ensures nearer { OnOk result
+        (fuel (S.reads_left source.new) feed.new ≤ fuel (S.reads_left source.old) feed.old) }
     ensures ok { OnOk result (S.failures source.new ≡ S.failures source.old) }
 
     ensures err { OnErr result (S.failures source.new ≡ S.failures source.old + 1) }
 {
     let mut line = LineBuffer::<MAX_LINE>::new();
-    let mut body = first_body(alloc, count);
+    let mut announced = first_announced(alloc, count);
     for i in 0..count {
         if !read_line(source, feed, &mut line)? {
-            return Ok(Body::Unfinished);
+            return Ok(Announced::Unfinished);
         }
-        body = with_line(alloc, body, line.get());
+        announced = with_line(alloc, announced, line.get());
     }
-    Ok(body)
+    Ok(announced)
 }
 
-// The body before the first of so many lines.
-fn first_body(alloc: Global, count: usize) -> Body
+// What is gathered before the first of so many lines.
+fn first_announced(alloc: Global, count: usize) -> Announced
     ensures { IsGathered count [] result }
 {
     if count > MAX_LINES {
-        return Body::OverLimit;
+        return Announced::OverLimit;
     }
-    Body::Whole(Vec::new(alloc))
+    Announced::Whole(Vec::new(alloc))
 }
 
-// The body with one line more, of which nothing was kept if it is too long.
-fn with_line(alloc: Global, body: Body, line: Option<&[u8]>) -> Body
+// What is gathered with one line more, of which nothing was kept if it is too long.
+fn with_line(alloc: Global, announced: Announced, line: Option<&[u8]>) -> Announced
     requires one_line { IfSome line (λ l. IsLine l.now) }
 
-    ensures { (count : ℕ) (lines : List (List ℕ)) (next : List ℕ) → option_copied line.entry ≡ kept MAX_LINE next
-        → IsGathered count lines body → IsGathered count (lines ++ next ∷ []) result }
+    ensures { (count : ℕ) (lines : List (List ℕ)) (next : List ℕ)
+        → option_copied line.entry ≡ line_within longest_line next
+        → IsGathered count lines announced → IsGathered count (lines ++ next ∷ []) result }
 {
-    match body {
-        Body::Whole(lines) => match line {
+    match announced {
+        Announced::Whole(lines) => match line {
             Some(line) => match with_kept(alloc, lines, line) {
-                Ok(lines) => Body::Whole(lines),
-                Err(_no_memory) => Body::NoMemory,
+                Ok(lines) => Announced::Whole(lines),
+                Err(_no_memory) => Announced::NoMemory,
             },
-            None => Body::OverLimit,
+            None => Announced::OverLimit,
         },
-        Body::Unfinished => Body::Unfinished,
-        Body::OverLimit => Body::OverLimit,
-        Body::NoMemory => Body::NoMemory,
+        Announced::Unfinished => Announced::Unfinished,
+        Announced::OverLimit => Announced::OverLimit,
+        Announced::NoMemory => Announced::NoMemory,
     }
 }
 

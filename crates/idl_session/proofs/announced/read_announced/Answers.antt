@@ -1,10 +1,10 @@
 use Rattle.std.proofs.Common.{◌∙◌, refl, arith}
-use Rattle.idl_session.proofs.BodyLemmas.{gathering-none, gathering-more}
-use Rattle.idl_session.proofs.body.read_body.Goals as goal
+use Rattle.idl_session.proofs.AnnouncedLemmas.{gathering-none, gathering-more}
+use Rattle.idl_session.proofs.announced.read_announced.Goals as goal
 
 pub loop-i-init : goal.loop-i-init
 loop-i-init g c = record {
-  gathering = gathering-none c.args.count _ c.first_body-body.result c.first_body-body.ensures;
+  gathering = gathering-none c.args.count _ c.first_announced-announced.result c.first_announced-announced.ensures;
   nearer = omega arith;
   failures = refl;
 }
@@ -14,7 +14,7 @@ loop-i-preserved g c =
     let took = rw c.if-not-branch.false at c.in_ok-read_line.ensures.line in
     let nearer = rw c.if-not-branch.false at c.in_ok-read_line.ensures.nearer in
     record {
-      gathering = gathering-more c.args.count c.loop-i.i _ _ _ c.read_line.new.line _ c.loop-i.body c.with_line-body.result c.loop-i.invariant.gathering took c.get.ensures.same c.with_line-body.ensures;
+      gathering = gathering-more c.args.count c.loop-i.i _ _ _ c.read_line.new.line _ c.loop-i.announced c.with_line-announced.result c.loop-i.invariant.gathering took c.get.ensures.same c.with_line-announced.ensures;
       nearer = omega (arith, nearer);
       failures = c.in_ok-read_line.ensures.ok ∙ c.loop-i.invariant.failures;
     }
