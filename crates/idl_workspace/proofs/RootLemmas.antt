@@ -10,8 +10,8 @@ use Rattle.std.specs.Map.{lookup, keys_of, remove_entry}
 use Rattle.std.proofs.lemmas.Map.Views.{All-map-remove_entry}
 use Rattle.std.specs.Str.{bytes_eq}
 use Rattle.std.specs.Cmp.Lexicographic.{bytes_decides, nat_list_eq_equiv}
-use Rattle.idl_macro.specs.declared.key.Answer.{Answer}
-use Rattle.idl_macro.specs.declared.key.Key.{Key}
+use Rattle.idl_event.specs.declared.key.Answer.{Answer}
+use Rattle.idl_event.specs.declared.key.Key.{Key}
 use Rattle.idl_source.specs.Name.{is_name}
 use Rattle.idl_workspace.specs.Compile.{compile_over}
 use Rattle.idl_workspace.specs.Bank.{bank_of, bank_with}

@@ -1,7 +1,7 @@
 -- What compiling a root from scratch gives.
 use Rattle.std.specs.Prelude.{ℕ, List, Option}
-use Rattle.idl_macro.specs.declared.key.Answer.{Answer}
-use Rattle.idl_macro.specs.declared.key.Key.{Key}
+use Rattle.idl_event.specs.declared.key.Answer.{Answer}
+use Rattle.idl_event.specs.declared.key.Key.{Key}
 use Rattle.idl_prep.specs.Root.{expanded, absent_files}
 use Rattle.idl_small.specs.Compile as small
 use Rattle.idl_workspace.specs.Bank.{bank_of}

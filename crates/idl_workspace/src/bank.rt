@@ -6,8 +6,8 @@ ghost use Rattle.std.specs.Option.{option_copied, option_map};
 ghost use Rattle.std.specs.FinMap as finite;
 ghost use Rattle.std.specs.Str.{bytes_eq};
 ghost use Rattle.indexmap.specs.IndexMap.{insert_entry};
-ghost use Rattle.idl_macro.specs.declared.key.Answer.TheVariants as answers;
-ghost use Rattle.idl_macro.specs.declared.key.Key.TheVariants as keys;
+ghost use Rattle.idl_event.specs.declared.key.Answer.TheVariants as answers;
+ghost use Rattle.idl_event.specs.declared.key.Key.TheVariants as keys;
 ghost use Rattle.idl_workspace.specs.Bank.{IsSameBeside, bank_of, bank_with, directories_of};
 ghost use Rattle.idl_prep.specs.Candidate.{AnswersFrom};
 ghost use Rattle.idl_source.specs.Limits.{most_macros};
@@ -17,9 +17,9 @@ use crate::MAX_MACROS;
 use crate::macro_body::MacroBody;
 use idl_base::Seq;
 use idl_lex::Spelling;
-use idl_macro::{Answer, Key, LexedFile};
+use idl_event::{Answer, FileName, Key, LexedFile};
 use idl_memo::Bank;
-use idl_source::{Directory, Files, Name};
+use idl_source::{Directory, Files};
 use indexmap::IndexMap;
 use std::alloc::{AllocError, Global};
 use std::marker::Model;
@@ -27,7 +27,7 @@ use std::marker::Model;
 /// Files, macros and a search list, with the answers about them: each file and each body is cut into tokens once.
 pub struct SessionBank {
     files: Files,
-    texts: IndexMap<Name, Answer>,
+    texts: IndexMap<FileName, Answer>,
     macros: IndexMap<Spelling, MacroBody>,
     search: Answer,
 }
@@ -38,7 +38,7 @@ impl Model for SessionBank {
     ghost use Rattle.std.specs.Map.{lookup};
     ghost use Rattle.std.specs.Option.{option_map};
     ghost use Rattle.std.specs.Str.{bytes_eq};
-    ghost use Rattle.idl_macro.specs.declared.key.Answer.TheVariants as answers;
+    ghost use Rattle.idl_event.specs.declared.key.Answer.TheVariants as answers;
     ghost use Rattle.idl_workspace.specs.Bank.{directories_of};
     ghost use Rattle.idl_workspace.specs.Project.{Inputs, inputs_code};
 
@@ -100,7 +100,7 @@ impl SessionBank {
     /// Puts other files in place, of which the one of this name alone may be another, with the answer about it.
     pub fn set_files(
         &mut self,
-        name: Name,
+        name: FileName,
         files: Files,
         answer: Option<Answer>,
     ) -> Result<(), AllocError>
@@ -213,7 +213,11 @@ pub fn answers_come_from_inputs()
 {}
 
 /// What is answered of a file, by what these files say of it. A file is cut into tokens here.
-pub fn file_answer(alloc: Global, files: &Files, name: &Name) -> Result<Option<Answer>, AllocError>
+pub fn file_answer(
+    alloc: Global,
+    files: &Files,
+    name: &FileName,
+) -> Result<Option<Answer>, AllocError>
     ensures { IfOk result (λ answer.
         answer ≡ option_map answers.File (finite.get files.now name.now)) }
 {

@@ -4,7 +4,7 @@ ghost use Rattle.std.specs.Prelude.{◌≡◌, IfOk};
 ghost use Rattle.idl_workspace.specs.Compile.{compile_over};
 
 use idl_base::Seq;
-use idl_macro::{Answer, Key};
+use idl_event::{Answer, Key};
 use idl_memo::{Bank, Log, Task};
 use idl_prep::{RootTask, absent};
 use idl_small::Compiled;

@@ -1,9 +1,9 @@
 //! The bodies of the session's macros.
 
 ghost use Rattle.std.specs.Prelude.{◌≡◌, ◌∷◌, [], IfOk};
-ghost use Rattle.idl_macro.specs.declared.key.Answer.TheVariants as answers;
+ghost use Rattle.idl_event.specs.declared.key.Answer.TheVariants as answers;
 
-use idl_macro::{Answer, LexedFile};
+use idl_event::{Answer, LexedFile};
 use idl_source::{File, Line};
 use std::alloc::{AllocError, Global};
 use std::marker::Model;
@@ -16,7 +16,7 @@ pub struct MacroBody {
 
 impl Model for MacroBody {
     ghost use Rattle.std.specs.Prelude.{◌≡◌, ◌∷◌, [], List, ℕ};
-    ghost use Rattle.idl_macro.specs.declared.key.Answer.TheVariants as answers;
+    ghost use Rattle.idl_event.specs.declared.key.Answer.TheVariants as answers;
 
     ghost Value = { List ℕ };
 

@@ -10,7 +10,7 @@ ghost use Rattle.idl_workspace.specs.UpToDate.{HoldsRows};
 
 use crate::MAX_ROOTS;
 use crate::compile::{CompiledRoot, compile};
-use idl_macro::{Answer, Key};
+use idl_event::{Answer, Key};
 use idl_memo::Bank;
 use idl_source::Name;
 use indexmap::IndexMap;

@@ -5,7 +5,7 @@ ghost use Rattle.std.specs.Map.{keys_of};
 ghost use Rattle.std.specs.Option.{option_copied};
 ghost use Rattle.std.specs.Result.{result_err};
 ghost use Rattle.idl_source.specs.Name.{is_name};
-ghost use Rattle.idl_macro.specs.declared.key.Key.TheVariants as keys;
+ghost use Rattle.idl_event.specs.declared.key.Key.TheVariants as keys;
 ghost use Rattle.idl_workspace.specs.Bank.{IsSameBeside, bank_of, bank_with};
 ghost use Rattle.idl_workspace.specs.Project.{no_project, with_files};
 ghost use Rattle.idl_workspace.specs.Work.{no_work};
@@ -24,7 +24,7 @@ use crate::work::Work;
 use crate::{MAX_BODY, Row};
 use idl_base::Seq;
 use idl_lex::Spelling;
-use idl_macro::{Answer, Key};
+use idl_event::{Answer, FileName, Key};
 use idl_source::{Files, Line, Name, Refusal};
 use std::alloc::{AllocError, Global};
 use std::marker::Model;
@@ -299,9 +299,9 @@ impl Session {
             → after self.old.project edit ≡ Ok (with_files self.old.project files)
             → IsEdited edit self.old self.new result }
     {
-        let name = Name::new(name).unwrap();
+        let name = FileName::new(self.alloc, &Name::new(name).unwrap())?;
         let answer = file_answer(self.alloc, &files, &name)?;
-        let roots = self.compiled_with(&Key::File(name.copied()), answer.as_ref())?;
+        let roots = self.compiled_with(&Key::File(name.clone()?), answer.as_ref())?;
         self.bank.set_files(name, files, answer)?;
         self.roots = roots;
         self.work = Work::none();

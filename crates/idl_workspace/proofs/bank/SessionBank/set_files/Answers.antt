@@ -1,9 +1,9 @@
 use Rattle.std.proofs.Common.{◌≡◌, ◌∙◌, List, ℕ, Option, sym, ap}
 use Rattle.std.specs.FinMap as finite
 use Rattle.std.specs.Option.{option_map}
-use Rattle.idl_macro.specs.declared.key.Answer.{Answer}
-use Rattle.idl_macro.specs.declared.key.Answer.TheVariants as answers
-use Rattle.idl_macro.specs.declared.key.Key.TheVariants as keys
+use Rattle.idl_event.specs.declared.key.Answer.{Answer}
+use Rattle.idl_event.specs.declared.key.Answer.TheVariants as answers
+use Rattle.idl_event.specs.declared.key.Key.TheVariants as keys
 use Rattle.idl_source.specs.Texts.{Texts}
 use Rattle.idl_workspace.specs.Bank.{IsSameBeside, bank_of, bank_with, directories_of}
 use Rattle.idl_workspace.specs.Project.{Inputs}

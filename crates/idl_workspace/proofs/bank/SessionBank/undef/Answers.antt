@@ -1,5 +1,5 @@
 use Rattle.std.proofs.Common.{◌∙◌, None, ap}
-use Rattle.idl_macro.specs.declared.key.Key.TheVariants as keys
+use Rattle.idl_event.specs.declared.key.Key.TheVariants as keys
 use Rattle.idl_workspace.specs.Bank.{bank_of, bank_with, directories_of}
 use Rattle.idl_workspace.specs.Project.{Inputs}
 use Rattle.idl_workspace.proofs.BankLemmas.{macros-changed}

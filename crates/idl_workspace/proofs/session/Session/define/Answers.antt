@@ -1,6 +1,6 @@
 use Rattle.std.proofs.Common.{◌∷◌, [], Some, refl, ap}
-use Rattle.idl_macro.specs.declared.key.Answer.TheVariants as answers
-use Rattle.idl_macro.specs.declared.key.Key.TheVariants as keys
+use Rattle.idl_event.specs.declared.key.Answer.TheVariants as answers
+use Rattle.idl_event.specs.declared.key.Key.TheVariants as keys
 use Rattle.idl_workspace.proofs.RootLemmas.{IsUpToDate-edited}
 use Rattle.idl_workspace.proofs.session.Session.define.Goals as goal
 
