@@ -15,6 +15,3 @@ mod symbol;
 pub use condition::{evaluate, grammar};
 pub use operator::Operator;
 pub use symbol::Symbol;
-
-#[cfg(test)]
-mod tests;

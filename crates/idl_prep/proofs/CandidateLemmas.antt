@@ -5,14 +5,15 @@ use Rattle.std.specs.List.{cons_option}
 use Rattle.std.specs.Option.{option_map, option_to_list}
 use Rattle.idl_base.specs.Query.{Done, and_then, outcome}
 use Rattle.idl_base.specs.QueryLaws.{outcome-and_then}
-use Rattle.idl_macro.specs.declared.file_name.FileName.{FileName}
-use Rattle.idl_macro.specs.declared.key.Answer.{Answer}
-use Rattle.idl_macro.specs.declared.key.Answer.TheVariants as answer
-use Rattle.idl_macro.specs.declared.key.Key.{Key}
-use Rattle.idl_macro.specs.declared.key.Key.TheVariants as key
+use Rattle.idl_event.specs.Expanding.{Expanding}
+use Rattle.idl_event.specs.declared.file_name.FileName.{FileName}
+use Rattle.idl_event.specs.declared.key.Answer.{Answer}
+use Rattle.idl_event.specs.declared.key.Answer.TheVariants as answer
+use Rattle.idl_event.specs.declared.key.Key.{Key}
+use Rattle.idl_event.specs.declared.key.Key.TheVariants as key
 use Rattle.idl_prep.specs.Candidate.{AnswersFrom, IsFirstPresent}
 use Rattle.idl_prep.specs.Include.{Found, Operand, directories_in, file_in, file_of, first_present, or_along, present_along}
-use Rattle.idl_prep.proofs.IncludeLemmas.{cons_option-append, one, outcome-first_present-more, outcome-present_along}
+use Rattle.idl_prep.proofs.IncludeLemmas.{cons_option-append, first_present-more, one, or_first, outcome-present_along}
 use Rattle.idl_source.specs.Candidates.{along, candidates, found}
 use Rattle.idl_source.specs.Directory.{directory_of}
 use Rattle.idl_source.specs.Path.{is_rooted, joined}
@@ -26,8 +27,7 @@ module _ (bank : Key → Option Answer) (from : FileName) (name : List ℕ) wher
   abbrev beside : Option (List ℕ)
   beside = joined (directory_of from) name
 
-  outcome-or_along : (f : Option Found)
-      → outcome (or_along name f) bank ≡ elim f [ None ↦ outcome (first_present (along listed name)) bank | Some file ↦ Some file ]
+  outcome-or_along : (f : Option Found) → outcome (or_along name f) bank ≡ outcome (or_first (along listed name) f) bank
   outcome-or_along None = outcome-present_along bank name
   outcome-or_along (Some file) = refl
 
@@ -35,7 +35,8 @@ module _ (bank : Key → Option Answer) (from : FileName) (name : List ℕ) wher
   outcome-beside =
       outcome-and_then (one beside) (or_along name) bank
       ∙ outcome-or_along (outcome (one beside) bank)
-      ∙ sym (outcome-first_present-more bank beside (along listed name))
+      ∙ sym (outcome-and_then (one beside) (or_first (along listed name)) bank)
+      ∙ ap (λ (e : Expanding (Option Found)). outcome e bank) (sym (first_present-more beside (along listed name)))
       ∙ ap (λ (names : List (List ℕ)). outcome (first_present names) bank) (sym (cons_option-append beside (along listed name)))
 
   outcome-chosen : (rooted quoted : Bool)

@@ -3,12 +3,13 @@ use Rattle.std.proofs.Common.{◌≡◌, ℕ, zero, suc, List, [], Option, None,
 use Rattle.std.specs.Option.{option_map}
 use Rattle.idl_base.specs.Query.{Done, Tell, and_then}
 use Rattle.idl_lex.specs.Tokens.{lines_of}
-use Rattle.idl_lex.specs.declared.token.Token.{Token}
-use Rattle.idl_macro.specs.declared.file_name.FileName.{FileName}
-use Rattle.idl_macro.specs.declared.item.Item.TheVariants.{Entered, Left, TooDeep}
-use Rattle.idl_macro.specs.declared.key.Answer.{Answer}
-use Rattle.idl_macro.specs.declared.key.Key.{Key}
-use Rattle.idl_macro.specs.declared.place.Place.{Place}
+use Rattle.idl_lex.specs.declared.token.PlacedToken.{PlacedToken}
+use Rattle.idl_event.specs.declared.file_name.FileName.{FileName}
+use Rattle.idl_event.specs.declared.event.Event.TheVariants.{Entered, Left}
+use Rattle.idl_event.specs.declared.event.Item.TheVariants.{TooDeep, Kept}
+use Rattle.idl_event.specs.declared.key.Answer.{Answer}
+use Rattle.idl_event.specs.declared.key.Key.{Key}
+use Rattle.idl_event.specs.declared.place.Place.{Place}
 use Rattle.idl_prep.specs.Directive.{Enter}
 use Rattle.idl_prep.specs.Line.{lines_in, read}
 use Rattle.idl_prep.specs.Pass.{coming, to_come}
@@ -18,7 +19,7 @@ use Rattle.idl_prep.specs.Tree.{part, tree}
 use Rattle.idl_prep.specs.declared.groups.Group.{Group}
 use Rattle.idl_prep.proofs.WalkLemmas.{onward-then}
 use Rattle.idl_prep.proofs.WayLemmas.{arrival-over}
-use Rattle.idl_macro.specs.Macros.{Expanding}
+use Rattle.idl_event.specs.Expanding.{Expanding}
 
 module _ (bank : Key → Option Answer) where
   -- once a limit was passed a root is where it comes to by anything
@@ -32,19 +33,19 @@ module _ (bank : Key → Option Answer) where
   to_come-file next file lines way = refl
 
   -- what is to come after its last line
-  pub to_come-no_line : (next : Enter) (file : FileName) (gs : List Group) (tokens : List Token) (way : Way) → tokens ≡ []
+  pub to_come-no_line : (next : Enter) (file : FileName) (gs : List Group) (tokens : List PlacedToken) (way : Way) → tokens ≡ []
       → to_come bank next file gs (map read (lines_of tokens)) way ≡ onward bank (coming next file gs (part [])) way
   unfolding lines_of
   to_come-no_line next file gs tokens way none = ap (λ ts. to_come bank next file gs (map read (lines_of ts)) way) none
 
   -- a file is entered, and left when its lines are done
   pub onward-enter : (room less : ℕ) (place : Place) (file : FileName) (lines : List (List ℕ)) (old told mid new : Way) → room ≡ suc less
-      → told ≡ telling (Entered file) old → ended mid ≡ onward bank (walk_file (enter less) file lines) told → new ≡ telling (Left file) mid
+      → told ≡ telling (Kept (Entered file)) old → ended mid ≡ onward bank (walk_file (enter less) file lines) told → new ≡ telling (Kept (Left file)) mid
       → ended new ≡ onward bank (enter room place file lines) old
   unfolding enter
   onward-enter room less place file lines old told mid new is enters came leaves =
       let query = walk_file (enter less) file lines in
-      let leave : State → Expanding State = λ after. Tell (Left file) (Done after) in
+      let leave : State → Expanding State = λ after. Tell (Kept (Left file)) (Done after) in
       ap ended leaves
       ∙ onward-then bank query leave (λ s. and_then (query s) leave) told mid came refl
       ∙ ap (onward bank (λ s. and_then (query s) leave)) enters

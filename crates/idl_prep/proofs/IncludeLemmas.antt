@@ -3,24 +3,23 @@ use Rattle.std.proofs.Common.{◌≡◌, ◌≢◌, ◌+◌, ◌<◌, ℕ, lengt
 use Rattle.std.proofs.lemmas.List.{at_drop_more}
 use Rattle.std.specs.List.{cons_option}
 use Rattle.std.specs.Option.{option_map, option_to_list}
-use Rattle.idl_base.specs.Progress.{after_key, after-and_then}
-use Rattle.idl_base.specs.Query.{Done, Tell, and_then, outcome}
-use Rattle.idl_base.specs.QueryLaws.{outcome-and_then}
-use Rattle.idl_macro.specs.Items.{rules}
+use Rattle.idl_base.specs.Progress.{after_key}
+use Rattle.idl_base.specs.Query.{Ask, Done, Tell, and_then, outcome}
 use Rattle.idl_macro.specs.Replace.{operand}
-use Rattle.idl_lex.specs.declared.token.Token.{Token}
-use Rattle.idl_macro.specs.Key.{key_eq}
-use Rattle.idl_macro.specs.Macros.{Definitions, Expanding, Reached, macro_of, reached}
-use Rattle.idl_macro.specs.Words.{is_word}
-use Rattle.idl_macro.specs.declared.item.Item.TheVariants.{Counted}
-use Rattle.idl_macro.specs.declared.place.Place.{Place}
-use Rattle.idl_macro.specs.declared.key.Answer.{Answer}
-use Rattle.idl_macro.specs.declared.key.Key.{Key}
-use Rattle.idl_macro.specs.declared.key.Key.TheVariants as key
+use Rattle.idl_lex.specs.Tokens.{Token}
+use Rattle.idl_event.specs.Key.{key_eq}
+use Rattle.idl_event.specs.Expanding.{Expanding, Reached, arrival, arrived}
+use Rattle.idl_macro.specs.Macros.{Definitions, macro_of}
+use Rattle.idl_lex.specs.Word.{is_word}
+use Rattle.idl_event.specs.declared.file_name.FileName.{FileName}
+use Rattle.idl_event.specs.declared.event.Item.TheVariants.{Counted}
+use Rattle.idl_event.specs.declared.place.Place.{Place}
+use Rattle.idl_event.specs.declared.key.Answer.{Answer}
+use Rattle.idl_event.specs.declared.key.Key.{Key}
+use Rattle.idl_event.specs.declared.key.Key.TheVariants as key
 use Rattle.idl_prep.specs.Include.{Found, Operand, directories_in, file_in, file_of, first_present, operand_at, operand_by, operand_given, operand_in, or_along, present_along}
 use Rattle.idl_source.specs.Directory.{directory_of}
-use Rattle.idl_prep.specs.State.{arrival, arrived}
-use Rattle.idl_prep.proofs.WayLemmas.{arrival-then, arrived-unless_over}
+use Rattle.idl_prep.proofs.WayLemmas.{arrival-then}
 use Rattle.idl_source.specs.Candidates.{along}
 use Rattle.idl_source.specs.Path.{is_rooted, joined}
 
@@ -33,72 +32,47 @@ abbrev pub one : Option (List ℕ) → Expanding (Option Found)
 one name = first_present (option_to_list name)
 
 module _ (bank : Key → Option Answer) where
-  pub outcome-one-none : (o : Option (List ℕ)) → o ≡ None → outcome (one o) bank ≡ None
+  -- there is no name, and nothing is asked
+  pub arrival-one-none : (o : Option (List ℕ)) (p : Reached) → o ≡ None → arrived None p ≡ arrival bank (one o) p
   unfolding first_present
-  outcome-one-none o none = ap (λ o. outcome (one o) bank) none
-
-  pub reached-one-none : (o : Option (List ℕ)) (p : Reached) → o ≡ None → reached bank (one o) p ≡ p
-  unfolding first_present
-  reached-one-none o p none = ap (λ o. reached bank (one o) p) none
+  arrival-one-none o p none = ap (λ o. arrival bank (one o) p) (sym none)
 
   -- what follows from the lines that are answered
   abbrev by_lines : List ℕ → Option (List (List ℕ)) → Expanding (Option Found)
   by_lines name lines = elim lines [ None ↦ first_present [] | Some ls ↦ Done (Some (record { name = name; lines = ls })) ]
 
-  outcome-by_lines : (name : List ℕ) (lines : Option (List (List ℕ))) → outcome (by_lines name lines) bank ≡ found_as name lines
+  arrival-by_lines : (name : List ℕ) (lines : Option (List (List ℕ))) (p : Reached) → arrived (found_as name lines) p ≡ arrival bank (by_lines name lines) p
   unfolding first_present
-  outcome-by_lines name None = refl
-  outcome-by_lines name (Some ls) = refl
+  arrival-by_lines name None p = refl
+  arrival-by_lines name (Some ls) p = refl
 
-  reached-by_lines : (name : List ℕ) (lines : Option (List (List ℕ))) (p : Reached) → reached bank (by_lines name lines) p ≡ p
+  -- there is a name, of which the bank is asked
+  pub arrival-one-some : (o : Option (List ℕ)) (name : List ℕ) (lines : Option (List (List ℕ))) (p p' : Reached) → o ≡ Some name → file_in (bank (key.File name)) ≡ lines
+      → p' ≡ after_key key_eq bank (key.File name) p → arrived (found_as name lines) p' ≡ arrival bank (one o) p
   unfolding first_present
-  reached-by_lines name None p = refl
-  reached-by_lines name (Some ls) p = refl
+  arrival-one-some o name lines p p' some held asked =
+      ap (arrived (found_as name lines)) asked
+      ∙ arrival-by_lines name lines (after_key key_eq bank (key.File name) p)
+      ∙ ap (λ ls. arrival bank (by_lines name ls) (after_key key_eq bank (key.File name) p)) (sym held)
+      ∙ ap (λ o. arrival bank (one o) p) (sym some)
 
-  pub outcome-one-some : (o : Option (List ℕ)) (name : List ℕ) (lines : Option (List (List ℕ))) → o ≡ Some name → file_in (bank (key.File name)) ≡ lines → outcome (one o) bank ≡ found_as name lines
-  unfolding first_present
-  outcome-one-some o name lines some held =
-      ap (λ o. outcome (one o) bank) some
-      ∙ ap (λ ls. outcome (by_lines name ls) bank) held
-      ∙ outcome-by_lines name lines
+-- where nothing was found, these names follow
+abbrev pub or_first : List (List ℕ) → Option Found → Expanding (Option Found)
+or_first names None = first_present names
+or_first names (Some found) = Done (Some found)
 
-  pub reached-one-some : (o : Option (List ℕ)) (name : List ℕ) (p : Reached) → o ≡ Some name → reached bank (one o) p ≡ after_key key_eq bank (key.File name) p
-  unfolding first_present
-  reached-one-some o name p some =
-      ap (λ o. reached bank (one o) p) some
-      ∙ reached-by_lines name (file_in (bank (key.File name))) (after_key key_eq bank (key.File name) p)
+more : (name : List ℕ) (names : List (List ℕ)) (lines : Option (List (List ℕ)))
+    → elim lines [ None ↦ first_present names | Some ls ↦ Done (Some (record { name = name; lines = ls })) ]
+    ≡ and_then (elim lines [ None ↦ first_present [] | Some ls ↦ Done (Some (record { name = name; lines = ls })) ]) (or_first names)
+unfolding first_present
+more name names None = refl
+more name names (Some ls) = refl
 
-  -- a name in front of others: where it isn't present, the others follow
-  outcome-more : (name : List ℕ) (names : List (List ℕ)) (lines : Option (List (List ℕ)))
-      → outcome (elim lines [ None ↦ first_present names | Some ls ↦ Done (Some (record { name = name; lines = ls })) ]) bank
-      ≡ elim (found_as name lines) [ None ↦ outcome (first_present names) bank | Some found ↦ Some found ]
-  outcome-more name names None = refl
-  outcome-more name names (Some ls) = refl
-
-  reached-more : (name : List ℕ) (names : List (List ℕ)) (lines : Option (List (List ℕ))) (p : Reached)
-      → reached bank (elim lines [ None ↦ first_present names | Some ls ↦ Done (Some (record { name = name; lines = ls })) ]) p
-      ≡ elim (found_as name lines) [ None ↦ reached bank (first_present names) p | Some found ↦ p ]
-  reached-more name names None p = refl
-  reached-more name names (Some ls) p = refl
-
-  pub outcome-first_present-more : (o : Option (List ℕ)) (names : List (List ℕ))
-      → outcome (first_present (option_to_list o ++ names)) bank ≡ elim (outcome (one o) bank) [ None ↦ outcome (first_present names) bank | Some found ↦ Some found ]
-  unfolding first_present
-  outcome-first_present-more None names = refl
-  outcome-first_present-more (Some name) names =
-      outcome-more name names (file_in (bank (key.File name)))
-      ∙ ap (λ (f : Option Found). elim f [ None ↦ outcome (first_present names) bank | Some found ↦ Some found ]) (sym (outcome-by_lines name (file_in (bank (key.File name)))))
-
-  pub reached-first_present-more : (o : Option (List ℕ)) (names : List (List ℕ)) (p : Reached)
-      → reached bank (first_present (option_to_list o ++ names)) p ≡ elim (outcome (one o) bank) [ None ↦ reached bank (first_present names) (reached bank (one o) p) | Some found ↦ reached bank (one o) p ]
-  unfolding first_present
-  reached-first_present-more None names p = refl
-  reached-first_present-more (Some name) names p =
-      let lines = file_in (bank (key.File name)) in
-      let q = after_key key_eq bank (key.File name) p in
-      reached-more name names lines q
-      ∙ ap (λ (f : Option Found). elim f [ None ↦ reached bank (first_present names) q | Some found ↦ q ]) (sym (outcome-by_lines name lines))
-      ∙ ap (λ (r : Reached). elim (outcome (by_lines name lines) bank) [ None ↦ reached bank (first_present names) r | Some found ↦ r ]) (sym (reached-by_lines name lines q))
+-- a name in front of others: where it isn't present, the others follow
+pub first_present-more : (o : Option (List ℕ)) (names : List (List ℕ)) → first_present (option_to_list o ++ names) ≡ and_then (one o) (or_first names)
+unfolding first_present
+first_present-more None names = refl
+first_present-more (Some name) names = λ i. Ask (key.File name) (λ found. more name names (file_in found) i)
 
 -- the names along directories: that in the first, if there is one, and those along the others
 pub cons_option-append : {X : Type 0} (o : Option X) (xs : List X) → cons_option o xs ≡ option_to_list o ++ xs
@@ -112,18 +86,28 @@ along-drop directories i directory name lt is =
     ∙ cons_option-append (joined (get_or directories i directory) name) (along (drop (i + 1) directories) name)
     ∙ ap (λ (d : List ℕ). option_to_list (joined d name) ++ along (drop (i + 1) directories) name) (sym is)
 
+-- the next directory is searched, and where nothing is found there, those that follow
+pub arrival-along : (bank : Key → Option Answer) (directories : List (List ℕ)) (i : ℕ) (directory name : List ℕ) (f : Option Found) (p p' : Reached)
+    → i < length directories → directory ≡ get_or directories i directory → arrived f p' ≡ arrival bank (one (joined directory name)) p
+    → arrival bank (or_first (along (drop (i + 1) directories) name) f) p' ≡ arrival bank (first_present (along (drop i directories) name)) p
+arrival-along bank directories i directory name f p p' lt is came =
+    let rest = along (drop (i + 1) directories) name in
+    arrival-then bank (one (joined directory name)) (or_first rest) f p p' came
+    ∙ ap (λ (e : Expanding (Option Found)). arrival bank e p) (sym (first_present-more (joined directory name) rest))
+    ∙ ap (λ (names : List (List ℕ)). arrival bank (first_present names) p) (sym (along-drop directories i directory name lt is))
+
 -- the search along the search list begins with its directories
 pub outcome-present_along : (bank : Key → Option Answer) (name : List ℕ) → outcome (present_along name) bank ≡ outcome (first_present (along (directories_in (bank key.Search)) name)) bank
 unfolding present_along
 outcome-present_along bank name = refl
 
-pub reached-present_along : (bank : Key → Option Answer) (name : List ℕ) (p : Reached)
-    → reached bank (present_along name) p ≡ reached bank (first_present (along (directories_in (bank key.Search)) name)) (after_key key_eq bank key.Search p)
+pub arrival-present_along : (bank : Key → Option Answer) (name : List ℕ) (p : Reached)
+    → arrival bank (present_along name) p ≡ arrival bank (first_present (along (directories_in (bank key.Search)) name)) (after_key key_eq bank key.Search p)
 unfolding present_along
-reached-present_along bank name p = refl
+arrival-present_along bank name p = refl
 
 -- the file of an operand, by how it is written
-module _ (from : List ℕ) (o : Operand) where
+module _ (from : FileName) (o : Operand) where
   pub file_of-rooted : is_rooted o.name ≡ true → file_of from o ≡ one (joined (directory_of from) o.name)
   unfolding file_of
   file_of-rooted h = ap (λ b. if b then one (joined (directory_of from) o.name)
@@ -143,44 +127,32 @@ module _ (from : List ℕ) (o : Operand) where
       else (if o.is_quoted then and_then (one (joined (directory_of from) o.name)) (or_along o.name) else present_along o.name)) h
       ∙ ap (λ b. if b then and_then (one (joined (directory_of from) o.name)) (or_along o.name) else present_along o.name) q
 
+  -- in quotes, by what stands beside the including file
+  pub arrival-file_of-quoted : (bank : Key → Option Answer) (f : Option Found) (p p' : Reached) → is_rooted o.name ≡ false → o.is_quoted ≡ true
+      → arrived f p' ≡ arrival bank (one (joined (directory_of from) o.name)) p → arrival bank (or_along o.name f) p' ≡ arrival bank (file_of from o) p
+  arrival-file_of-quoted bank f p p' h q came =
+      arrival-then bank (one (joined (directory_of from) o.name)) (or_along o.name) f p p' came
+      ∙ ap (λ (e : Expanding (Option Found)). arrival bank e p) (sym (file_of-quoted h q))
+
 -- the operand of a word that is none itself
 module _ (place : Place) (definitions : Definitions) (t : Token) where
-  pub operand_at-word : operand_in t ≡ None → is_word t ≡ true → operand_at place definitions t ≡ and_then (macro_of definitions t.spelling) (operand_by place definitions t)
+  pub operand_at-word : operand_in t ≡ None → is_word t ≡ true → operand_at place definitions t ≡ and_then (macro_of definitions t) (operand_by place definitions t)
   operand_at-word none word =
       ap (λ (o : Option Operand). if is_some o then Tell (Counted place) (Done o)
-      else (if is_word t then and_then (macro_of definitions t.spelling) (operand_by place definitions t) else Done None)) none
-      ∙ ap (λ b. if b then and_then (macro_of definitions t.spelling) (operand_by place definitions t) else Done None) word
+      else (if is_word t then and_then (macro_of definitions t) (operand_by place definitions t) else Done None)) none
+      ∙ ap (λ b. if b then and_then (macro_of definitions t) (operand_by place definitions t) else Done None) word
 
--- the file of an operand in quotes, by what stands beside the including file
-module _ (bank : Key → Option Answer) (from : List ℕ) (o : Operand) (f : Option Found) where
-  pub outcome-file_of-quoted : is_rooted o.name ≡ false → o.is_quoted ≡ true → outcome (one (joined (directory_of from) o.name)) bank ≡ f
-      → outcome (file_of from o) bank ≡ outcome (or_along o.name f) bank
-  outcome-file_of-quoted h q found =
-      ap (λ (e : Expanding (Option Found)). outcome e bank) (file_of-quoted from o h q)
-      ∙ outcome-and_then (one (joined (directory_of from) o.name)) (or_along o.name) bank
-      ∙ ap (λ (f : Option Found). outcome (or_along o.name f) bank) found
-
-  pub reached-file_of-quoted : (p : Reached) → is_rooted o.name ≡ false → o.is_quoted ≡ true → outcome (one (joined (directory_of from) o.name)) bank ≡ f
-      → reached bank (file_of from o) p ≡ reached bank (or_along o.name f) (reached bank (one (joined (directory_of from) o.name)) p)
-  reached-file_of-quoted p h q found =
-      ap (λ (e : Expanding (Option Found)). reached bank e p) (file_of-quoted from o h q)
-      ∙ after-and_then rules key_eq bank (one (joined (directory_of from) o.name)) (or_along o.name) p
-      ∙ ap (λ (f : Option Found). reached bank (or_along o.name f) (reached bank (one (joined (directory_of from) o.name)) p)) found
-
--- the operand of a word is that which its macro gives
+-- it is that which the word's macro gives
 pub arrival-operand_at-word : (bank : Key → Option Answer) (place : Place) (definitions : Definitions) (t : Token) (body : Option (List Token)) (p p' : Reached)
-    → operand_in t ≡ None → is_word t ≡ true → body ≡ outcome (macro_of definitions t.spelling) bank → p' ≡ reached bank (macro_of definitions t.spelling) p
+    → operand_in t ≡ None → is_word t ≡ true → arrived body p' ≡ arrival bank (macro_of definitions t) p
     → arrival bank (operand_by place definitions t body) p' ≡ arrival bank (operand_at place definitions t) p
-arrival-operand_at-word bank place definitions t body p p' none word given at =
-    arrival-then bank (macro_of definitions t.spelling) (operand_by place definitions t) body p p'
-    (arrived-unless_over bank (macro_of definitions t.spelling) body p p' at (λ _. given))
+arrival-operand_at-word bank place definitions t body p p' none word came =
+    arrival-then bank (macro_of definitions t) (operand_by place definitions t) body p p' came
     ∙ ap (λ (e : Expanding (Option Operand)). arrival bank e p) (sym (operand_at-word place definitions t none word))
 
 -- what the tokens of its replacement give
-pub arrived-operand_by : (bank : Key → Option Answer) (place : Place) (definitions : Definitions) (t : Token) (body given : List Token) (o : Option Operand) (p p' : Reached)
-    → o ≡ operand_given given → p' ≡ reached bank (operand place definitions (t ∷ [])) p → (p'.left ≢ None → given ≡ outcome (operand place definitions (t ∷ [])) bank)
-    → arrived o p' ≡ arrival bank (operand_by place definitions t (Some body)) p
-arrived-operand_by bank place definitions t body given o p p' is at replaced =
-    ap (λ (o : Option Operand). arrived o p') is
-    ∙ arrival-then bank (operand place definitions (t ∷ [])) (λ (given : List Token). Done (operand_given given)) given p p'
-    (arrived-unless_over bank (operand place definitions (t ∷ [])) given p p' at replaced)
+pub arrived-operand_by : (bank : Key → Option Answer) (place : Place) (definitions : Definitions) (t : Token) (body given : List Token) (p p' : Reached)
+    → arrived given p' ≡ arrival bank (operand place definitions (t ∷ [])) p
+    → arrived (operand_given given) p' ≡ arrival bank (operand_by place definitions t (Some body)) p
+arrived-operand_by bank place definitions t body given p p' came =
+    arrival-then bank (operand place definitions (t ∷ [])) (λ (given : List Token). Done (operand_given given)) given p p' came

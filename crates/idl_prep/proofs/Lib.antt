@@ -7,6 +7,7 @@ pub mod PassLemmas
 pub mod RootLemmas
 pub mod RootTaskLemmas
 pub mod StepLemmas
+pub mod TreeLawLemmas
 pub mod TreeLemmas
 pub mod WalkLemmas
 pub mod WayLemmas

@@ -1,14 +1,14 @@
 -- What is still to be done of a file inside open groups, by its next line.
 use Rattle.std.proofs.Common.{◌≡◌, Bool, true, false, if◌then◌else◌, ◌||◌, List, [], ◌∷◌, refl, ap, sym, subst, ◌∙◌}
 use Rattle.idl_base.specs.Query.{Done, Tell, and_then}
-use Rattle.idl_macro.specs.Macros.{Expanding}
-use Rattle.idl_macro.specs.declared.file_name.FileName.{FileName}
-use Rattle.idl_macro.specs.declared.item.Item.TheVariants.{Turn}
+use Rattle.idl_event.specs.Expanding.{Expanding}
+use Rattle.idl_event.specs.declared.file_name.FileName.{FileName}
+use Rattle.idl_event.specs.declared.event.Item.TheVariants.{Turn}
 use Rattle.idl_prep.specs.Directive.{Enter, act, test}
 use Rattle.idl_prep.specs.Line.{Directive, Line, Directed, place_in}
-use Rattle.idl_prep.specs.Pass.{IsBranch, IsOfGroup, coming, is_walked, visit, visit_branches, visit_tree}
+use Rattle.idl_prep.specs.Pass.{coming, is_walked, visit, visit_branches, visit_tree}
 use Rattle.idl_prep.specs.State.{State}
-use Rattle.idl_prep.specs.Tree.{Tree, Leaf, Stray, Group as group_tree, Forest, Empty, Grow, Branches, Closed, Unclosed, Branch, Part, Closing, AtEnd, At, before, close, directive_before, grown, is_else, part}
+use Rattle.idl_prep.specs.Tree.{IsBranch, IsOfGroup, Tree, Leaf, Stray, Group as group_tree, Forest, Empty, Grow, Branches, Closed, Unclosed, Branch, Part, Closing, AtEnd, At, before, close, directive_before, grown, is_else, part}
 use Rattle.idl_prep.specs.Walk.{decide, not_closed, opener_of, skip, skip_branches, walk, walk_branches}
 use Rattle.idl_prep.specs.declared.groups.Group.{Group}
 use Rattle.idl_prep.specs.declared.groups.Opener.{Opener}

@@ -8,19 +8,20 @@ use Rattle.std.specs.Option.{option_to_list}
 use Rattle.idl_base.specs.Progress.{after_key, kept_within, run-kept_within}
 use Rattle.idl_base.specs.Query.{Done, run}
 use Rattle.idl_base.specs.QueryLaws.{run-and_then}
-use Rattle.idl_macro.specs.Items.{beginning, rules, whole_allowance}
-use Rattle.idl_macro.specs.Key.{key_eq}
-use Rattle.idl_macro.specs.Macros.{Reached, reached}
-use Rattle.idl_macro.specs.declared.file_name.FileName.{FileName}
-use Rattle.idl_macro.specs.declared.item.Code.TheVariants.{NotFound}
-use Rattle.idl_macro.specs.declared.item.Item.TheVariants.{Fault}
-use Rattle.idl_macro.specs.declared.key.Answer.{Answer}
-use Rattle.idl_macro.specs.declared.key.Key.{Key}
-use Rattle.idl_macro.specs.declared.key.Key.TheVariants as key
+use Rattle.idl_event.specs.Items.{beginning, rules, whole_allowance}
+use Rattle.idl_event.specs.Key.{key_eq}
+use Rattle.idl_event.specs.Expanding.{Reached, reached}
+use Rattle.idl_event.specs.declared.file_name.FileName.{FileName}
+use Rattle.idl_event.specs.declared.code.Code.TheVariants.{NotFound}
+use Rattle.idl_event.specs.declared.event.Event.TheVariants.{Fault}
+use Rattle.idl_event.specs.declared.event.Item.TheVariants.{Kept}
+use Rattle.idl_event.specs.declared.key.Answer.{Answer}
+use Rattle.idl_event.specs.declared.key.Key.{Key}
+use Rattle.idl_event.specs.declared.key.Key.TheVariants as key
 use Rattle.idl_prep.specs.Include.{file_in}
 use Rattle.idl_prep.specs.Root.{absent_file, absent_files, enter, expansion, root, root_lines, walk_file}
 use Rattle.idl_prep.specs.State.{State, Way, ended, nothing_said, onward, telling}
-use Rattle.idl_prep.specs.declared.TheConstants.{MAX_DEPTH}
+use Rattle.idl_prep.specs.Limits.{depth_at_most}
 
 module _ (bank : Key → Option Answer) (name : FileName) where
   -- a root that has asked for its file
@@ -29,10 +30,10 @@ module _ (bank : Key → Option Answer) (name : FileName) where
 
   -- the file is there, and its lines are walked
   pub reached-root : (lines : List (List ℕ)) (old mid new : Way) → old.state ≡ nothing_said → mid ≡ has_asked old → file_in (bank (key.File name)) ≡ Some lines
-      → ended new ≡ onward bank (walk_file (enter (MAX_DEPTH - 1)) name lines) mid → new.progress ≡ reached bank (root name) old.progress
+      → ended new ≡ onward bank (walk_file (enter (depth_at_most - 1)) name lines) mid → new.progress ≡ reached bank (root name) old.progress
   unfolding root
   reached-root lines old mid new nothing asked there came =
-      let query = walk_file (enter (MAX_DEPTH - 1)) name lines in
+      let query = walk_file (enter (depth_at_most - 1)) name lines in
       ap (λ r. r.0) came
       ∙ ap (λ (way : Way). reached bank (query way.state) way.progress) asked
       ∙ ap (λ (s : State). reached bank (query s) (has_asked old).progress) nothing
@@ -40,10 +41,10 @@ module _ (bank : Key → Option Answer) (name : FileName) where
 
   -- the file isn't there
   pub reached-no_root : (old mid new : Way) → mid ≡ has_asked old → file_in (bank (key.File name)) ≡ None
-      → new ≡ telling (Fault (record { file = name; line = 0 }) NotFound (Some name)) mid → new.progress ≡ reached bank (root name) old.progress
+      → new ≡ telling (Kept (Fault (record { file = name; line = 0 }) NotFound (Some name))) mid → new.progress ≡ reached bank (root name) old.progress
   unfolding root
   reached-no_root old mid new asked absent tells =
-      let fault = Fault (record { file = name; line = 0 }) NotFound (Some name) in
+      let fault = Kept (Fault (record { file = name; line = 0 }) NotFound (Some name)) in
       ap (λ (way : Way). way.progress) (tells ∙ ap (telling fault) asked)
       ∙ ap (λ found. reached bank (root_lines name found) (has_asked old).progress) (sym absent)
 

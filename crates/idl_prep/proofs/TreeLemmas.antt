@@ -1,8 +1,7 @@
 -- A tree, or a directive, before what closes a group.
 use Rattle.std.proofs.Common.{◌≡◌, Bool, true, false, if◌then◌else◌, refl, ap, ◌∙◌}
 use Rattle.idl_prep.specs.Line.{Directive, Directed}
-use Rattle.idl_prep.specs.Pass.{IsBranch, IsOfGroup}
-use Rattle.idl_prep.specs.Tree.{Tree, Leaf, Stray, Forest, Empty, Grow, Closed, Branch, Tail, AtEnd, At, Part, Closing, append, before, is_endif, is_else, close, directive_before, grown, strays}
+use Rattle.idl_prep.specs.Tree.{IsBranch, IsOfGroup, Tree, Leaf, Stray, Forest, Empty, Grow, Closed, Branch, Tail, AtEnd, At, Part, Closing, append, before, is_endif, is_else, close, directive_before, grown, strays}
 use Rattle.idl_prep.specs.declared.kind.Kind.{Kind}
 use Rattle.idl_prep.specs.declared.kind.Kind.TheVariants.{Alone, Opening, Elif, Else, Endif}
 use Rattle.idl_prep.specs.declared.kind.Plain.{Plain}

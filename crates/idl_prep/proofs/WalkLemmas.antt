@@ -1,17 +1,18 @@
 -- Where a root comes to, by steps that walk the next line.
 use Rattle.std.proofs.Common.{◌≡◌, Bool, true, false, ◌||◌, Option, List, [], ◌∷◌, ap, sym, ◌∙◌}
 use Rattle.idl_base.specs.Query.{Tell, and_then, outcome}
-use Rattle.idl_macro.specs.Macros.{Expanding, reached}
-use Rattle.idl_macro.specs.declared.file_name.FileName.{FileName}
-use Rattle.idl_macro.specs.declared.item.Item.{Item}
-use Rattle.idl_macro.specs.declared.item.Item.TheVariants.{Turn}
-use Rattle.idl_macro.specs.declared.key.Answer.{Answer}
-use Rattle.idl_macro.specs.declared.key.Key.{Key}
+use Rattle.idl_event.specs.Expanding.{Expanding, reached}
+use Rattle.idl_event.specs.declared.file_name.FileName.{FileName}
+use Rattle.idl_event.specs.declared.event.Item.{Item}
+use Rattle.idl_event.specs.declared.event.Item.TheVariants.{Turn}
+use Rattle.idl_event.specs.declared.key.Answer.{Answer}
+use Rattle.idl_event.specs.declared.key.Key.{Key}
 use Rattle.idl_prep.specs.Directive.{Enter, act, test}
 use Rattle.idl_prep.specs.Line.{Directive, Line, Directed, place_in}
-use Rattle.idl_prep.specs.Pass.{IsBranch, IsOfGroup, coming, is_walked, to_come, visit_tree}
-use Rattle.idl_prep.specs.State.{State, Way, arrival, arrived, ended, onward, telling}
-use Rattle.idl_prep.specs.Tree.{Leaf, Stray, before, grown, is_else, part}
+use Rattle.idl_prep.specs.Pass.{coming, is_walked, to_come, visit_tree}
+use Rattle.idl_event.specs.Expanding.{arrival, arrived}
+use Rattle.idl_prep.specs.State.{State, Way, ended, onward, telling}
+use Rattle.idl_prep.specs.Tree.{IsBranch, IsOfGroup, Leaf, Stray, before, grown, is_else, part}
 use Rattle.idl_prep.specs.Walk.{decide, not_closed, opener_of}
 use Rattle.idl_prep.specs.declared.groups.Group.{Group}
 use Rattle.idl_prep.specs.declared.kind.Kind.TheVariants.{Opening, Endif}

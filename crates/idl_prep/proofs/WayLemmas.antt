@@ -4,13 +4,13 @@ use Rattle.std.specs.Option.{option_map}
 use Rattle.idl_base.specs.Progress.{after-over, after-and_then}
 use Rattle.idl_base.specs.Query.{and_then, outcome}
 use Rattle.idl_base.specs.QueryLaws.{outcome-and_then}
-use Rattle.idl_macro.specs.Items.{rules}
-use Rattle.idl_macro.specs.Key.{key_eq}
-use Rattle.idl_macro.specs.Macros.{Expanding, Reached, reached}
-use Rattle.idl_macro.specs.declared.allowance.Allowance.{Allowance}
-use Rattle.idl_macro.specs.declared.key.Answer.{Answer}
-use Rattle.idl_macro.specs.declared.key.Key.{Key}
-use Rattle.idl_prep.specs.State.{arrival, arrived}
+use Rattle.idl_event.specs.Items.{rules}
+use Rattle.idl_event.specs.Key.{key_eq}
+use Rattle.idl_event.specs.Expanding.{Expanding, Reached, reached}
+use Rattle.idl_event.specs.declared.allowance.Allowance.{Allowance}
+use Rattle.idl_event.specs.declared.key.Answer.{Answer}
+use Rattle.idl_event.specs.declared.key.Key.{Key}
+use Rattle.idl_event.specs.Expanding.{arrival, arrived}
 
 module _ (bank : Key → Option Answer) where
   -- once a limit was passed nothing changes
@@ -41,13 +41,3 @@ module _ (bank : Key → Option Answer) where
       let same : option_map (λ _. a) r.left ≡ option_map (λ _. outcome query bank) r.left =
       ap (λ (x : Reached). option_map (λ _. a) x.left) (sym at) ∙ ap (λ w. w.1) came in
       ap (arrival bank (f a)) at ∙ given-outcome f a (outcome query bank) r r.left refl same ∙ sym (arrival-and_then query f p)
-
-  -- a step that gives the outcome unless a limit was passed comes to where the query does
-  given_unless_over : {A : Type 0} (a b : A) (left : Option Allowance) → (left ≢ None → a ≡ b) → option_map (λ _. a) left ≡ option_map (λ _. b) left
-  given_unless_over a b None h = refl
-  given_unless_over a b (Some left) h = ap Some (h (λ no. cc))
-
-  pub arrived-unless_over : {A : Type 0} (query : Expanding A) (a : A) (p p' : Reached) → p' ≡ reached bank query p → (p'.left ≢ None → a ≡ outcome query bank)
-      → arrived a p' ≡ arrival bank query p
-  arrived-unless_over query a p p' at given =
-      ap (λ o. (p', o)) (given_unless_over a (outcome query bank) p'.left given) ∙ ap (arrived (outcome query bank)) at

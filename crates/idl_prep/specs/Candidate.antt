@@ -2,10 +2,10 @@
 use Rattle.std.specs.Prelude.{◌≡◌, ℕ, List, Option, Some}
 use Rattle.std.specs.FinMap as map
 use Rattle.std.specs.Option.{option_map}
-use Rattle.idl_macro.specs.declared.key.Answer.{Answer}
-use Rattle.idl_macro.specs.declared.key.Answer.TheVariants as answer
-use Rattle.idl_macro.specs.declared.key.Key.{Key}
-use Rattle.idl_macro.specs.declared.key.Key.TheVariants as key
+use Rattle.idl_event.specs.declared.key.Answer.{Answer}
+use Rattle.idl_event.specs.declared.key.Answer.TheVariants as answer
+use Rattle.idl_event.specs.declared.key.Key.{Key}
+use Rattle.idl_event.specs.declared.key.Key.TheVariants as key
 use Rattle.idl_prep.specs.Include.{Found}
 use Rattle.idl_source.specs.Candidates.{found}
 use Rattle.idl_source.specs.Texts.{Texts}

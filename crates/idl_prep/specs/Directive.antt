@@ -4,22 +4,25 @@ use Rattle.std.specs.List.{list_any}
 use Rattle.std.specs.Str.{bytes_eq}
 use Rattle.indexmap.specs.IndexSet.{insert_key}
 use Rattle.idl_base.specs.Query.{Done, Tell, and_then}
-use Rattle.idl_lex.specs.declared.token.Token.{Token}
+use Rattle.idl_lex.specs.declared.token.PlacedToken.{PlacedToken}
 use Rattle.idl_macro.specs.Condition.{condition}
 use Rattle.idl_macro.specs.Directives.{define, undef, ifdef, ifndef}
-use Rattle.idl_macro.specs.Macros.{Definitions, Expanding}
-use Rattle.idl_macro.specs.Replace.{text}
-use Rattle.idl_macro.specs.declared.file_name.FileName.{FileName}
-use Rattle.idl_macro.specs.declared.item.Code.TheVariants as code
-use Rattle.idl_macro.specs.declared.item.Item.TheVariants as item
-use Rattle.idl_macro.specs.declared.place.Place.{Place}
+use Rattle.idl_event.specs.Expanding.{Expanding}
+use Rattle.idl_macro.specs.Macros.{Definitions}
+use Rattle.idl_lex.specs.Tokens.{tokens_in}
+use Rattle.idl_macro.specs.Replace.{place_at, text}
+use Rattle.idl_event.specs.declared.file_name.FileName.{FileName}
+use Rattle.idl_event.specs.declared.code.Code.TheVariants as code
+use Rattle.idl_event.specs.declared.event.Event.TheVariants.{Fault, Pragma}
+use Rattle.idl_event.specs.declared.event.Item.TheVariants.{Kept, Turn}
+use Rattle.idl_event.specs.declared.place.Place.{Place}
 use Rattle.idl_prep.specs.Include.{Found, Operand, file_of, operand_of}
 use Rattle.idl_prep.specs.Line.{Directive, Line, Text, Bare, Directed, place_in}
 use Rattle.idl_prep.specs.State.{State}
 use Rattle.idl_prep.specs.declared.kind.Kind.{Kind}
 use Rattle.idl_prep.specs.declared.kind.Kind.TheVariants.{Alone}
 use Rattle.idl_prep.specs.declared.kind.Plain.{Plain}
-use Rattle.idl_prep.specs.declared.kind.Plain.TheVariants.{Include, Define, Undef, Error, Pragma, Ignored, Unknown}
+use Rattle.idl_prep.specs.declared.kind.Plain.TheVariants as plain
 use Rattle.idl_prep.specs.declared.kind.Test.{Test}
 use Rattle.idl_prep.specs.declared.kind.Test.TheVariants.{If, Ifdef, Ifndef}
 
@@ -33,12 +36,12 @@ redefined s definitions = Done (record s { definitions = definitions })
 
 -- the file that was found is entered, unless it is not to be entered again
 abbrev pub entering : Enter → Place → Operand → State → Option Found → Expanding State
-entering enter place o s None = Tell (item.Fault place code.NotFound (Some o.spelling)) (Done s)
+entering enter place o s None = Tell (Kept (Fault place code.NotFound (Some o.spelling))) (Done s)
 entering enter place o s (Some found) = if list_any (bytes_eq found.name) s.once then Done s else enter place found.name found.lines s
 
 -- the file of an operand, if there is one
 abbrev pub including : Enter → FileName → Directive → State → Option Operand → Expanding State
-including enter file d s None = Tell (item.Fault (place_in file d) code.MalformedInclude (Some d.word.spelling)) (Done s)
+including enter file d s None = Tell (Kept (Fault (place_in file d) code.MalformedInclude (Some d.word.token))) (Done s)
 including enter file d s (Some o) = and_then (file_of file o) (entering enter (place_in file d) o s)
 
 -- `include`
@@ -46,24 +49,24 @@ unfoldable pub include : Enter → FileName → Directive → State → Expandin
 include enter file d s = and_then (operand_of (place_in file d) s.definitions d.operands) (including enter file d s)
 
 -- the tokens, parted by one blank: each has one before it, but the first
-abbrev pub parted : List Token → List ℕ
-parted tokens = drop 1 (flat_map (λ t. 32 ∷ t.spelling) tokens)
+abbrev pub parted : List PlacedToken → List ℕ
+parted tokens = drop 1 (flat_map (λ t. 32 ∷ t.token) tokens)
 
 -- one of the three pragmas that mean something to IDL
 abbrev pub is_of_idl : List ℕ → Bool
 is_of_idl word = bytes_eq word (codes "prefix") || (bytes_eq word (codes "ID") || bytes_eq word (codes "version"))
 
 -- how the first of the tokens is spelled
-abbrev pub first_spelling : List Token → Option (List ℕ)
+abbrev pub first_spelling : List PlacedToken → Option (List ℕ)
 first_spelling [] = None
-first_spelling (t ∷ tokens) = Some t.spelling
+first_spelling (t ∷ tokens) = Some t.token
 
 -- `pragma` with this first word: the file is not to be entered again, or it means something to IDL, or nothing
 abbrev pub pragma_by : FileName → Directive → State → Option (List ℕ) → Expanding State
 pragma_by file d s None = Done s
 pragma_by file d s (Some word) =
     if bytes_eq word (codes "once") then Done (record s { once = insert_key bytes_eq s.once file })
-    else (if is_of_idl word then Tell (item.Pragma file (d.word ∷ d.operands)) (Done s)
+    else (if is_of_idl word then Tell (Kept (Pragma (place_at file d.word) (tokens_in (d.word ∷ d.operands)))) (Done s)
     else Done s)
 
 -- `pragma`
@@ -72,13 +75,13 @@ pragma file d s = pragma_by file d s (first_spelling d.operands)
 
 -- a directive of one line
 abbrev pub performed : Enter → FileName → Directive → State → Plain → Expanding State
-performed enter file d s Include = include enter file d s
-performed enter file d s Define = and_then (define (place_in file d) d.word.spelling s.definitions d.operands) (redefined s)
-performed enter file d s Undef = and_then (undef (place_in file d) d.word.spelling s.definitions d.operands) (redefined s)
-performed enter file d s Error = Tell (item.Fault (place_in file d) code.Error (Some (parted (d.word ∷ d.operands)))) (Done s)
-performed enter file d s Pragma = pragma file d s
-performed enter file d s Ignored = Done s
-performed enter file d s Unknown = Tell (item.Fault (place_in file d) code.UnknownDirective (Some d.word.spelling)) (Done s)
+performed enter file d s plain.Include = include enter file d s
+performed enter file d s plain.Define = and_then (define (place_in file d) d.word.token s.definitions d.operands) (redefined s)
+performed enter file d s plain.Undef = and_then (undef (place_in file d) d.word.token s.definitions d.operands) (redefined s)
+performed enter file d s plain.Error = Tell (Kept (Fault (place_in file d) code.Error (Some (parted (d.word ∷ d.operands))))) (Done s)
+performed enter file d s plain.Pragma = pragma file d s
+performed enter file d s plain.Ignored = Done s
+performed enter file d s plain.Unknown = Tell (Kept (Fault (place_in file d) code.UnknownDirective (Some d.word.token))) (Done s)
 
 abbrev pub plain_or : Enter → FileName → Directive → State → Kind → Expanding State
 plain_or enter file d s (Alone what) = performed enter file d s what
@@ -87,13 +90,13 @@ plain_or enter file d s other = Done s
 -- a line that isn't skipped and belongs to no group; a directive is a turn
 unfoldable pub act : Enter → FileName → Line → State → Expanding State
 act enter file (Text tokens) s = and_then (text file s.definitions tokens) (λ given. Done s)
-act enter file (Bare line) s = Tell (item.Turn (record { file = file; line = line })) (Done s)
-act enter file (Directed d) s = Tell (item.Turn (place_in file d)) (plain_or enter file d s d.kind)
+act enter file (Bare line) s = Tell (Turn (record { file = file; line = line })) (Done s)
+act enter file (Directed d) s = Tell (Turn (place_in file d)) (plain_or enter file d s d.kind)
 
 abbrev pub tested : FileName → Directive → State → Test → Expanding Bool
-tested file d s If = condition (place_in file d) d.word.spelling s.definitions d.operands
-tested file d s Ifdef = ifdef (place_in file d) d.word.spelling s.definitions d.operands
-tested file d s Ifndef = ifndef (place_in file d) d.word.spelling s.definitions d.operands
+tested file d s If = condition (place_in file d) d.word.token s.definitions d.operands
+tested file d s Ifdef = ifdef (place_in file d) d.word.token s.definitions d.operands
+tested file d s Ifndef = ifndef (place_in file d) d.word.token s.definitions d.operands
 
 -- whether the first lines of a group are taken
 unfoldable pub test : FileName → Directive → Test → State → Expanding Bool

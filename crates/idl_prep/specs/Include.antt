@@ -2,20 +2,23 @@
 use Rattle.std.specs.Prelude.{ℕ, ◌-◌, Bool, true, false, ◌&&◌, ◌||◌, List, [], ◌∷◌, length, slice_get, slice_range, Option, None, Some, is_some, if◌then◌else◌, nat_eq}
 use Rattle.std.specs.Option.{option_to_list}
 use Rattle.idl_base.specs.Query.{Done, Ask, Tell, and_then}
+use Rattle.idl_lex.specs.Kind.{kind_of}
+use Rattle.idl_lex.specs.Tokens.{Token}
 use Rattle.idl_lex.specs.declared.kind.Kind.{Kind}
 use Rattle.idl_lex.specs.declared.kind.Kind.TheVariants.{HeaderName, String, Bad}
 use Rattle.idl_lex.specs.declared.kind.Defect.{Defect}
 use Rattle.idl_lex.specs.declared.kind.Defect.TheVariants.{BadEscape}
-use Rattle.idl_lex.specs.declared.token.Token.{Token}
-use Rattle.idl_macro.specs.Macros.{Definitions, Expanding, macro_of}
+use Rattle.idl_lex.specs.declared.token.PlacedToken.{PlacedToken}
+use Rattle.idl_event.specs.Expanding.{Expanding}
+use Rattle.idl_macro.specs.Macros.{Definitions, macro_of}
 use Rattle.idl_macro.specs.Replace.{operand}
-use Rattle.idl_macro.specs.Words.{is_word}
-use Rattle.idl_macro.specs.declared.file_name.FileName.{FileName}
-use Rattle.idl_macro.specs.declared.item.Item.TheVariants.{Counted}
-use Rattle.idl_macro.specs.declared.key.Answer.{Answer}
-use Rattle.idl_macro.specs.declared.key.Answer.TheVariants as answer
-use Rattle.idl_macro.specs.declared.key.Key.TheVariants as key
-use Rattle.idl_macro.specs.declared.place.Place.{Place}
+use Rattle.idl_lex.specs.Word.{is_word}
+use Rattle.idl_event.specs.declared.file_name.FileName.{FileName}
+use Rattle.idl_event.specs.declared.event.Item.TheVariants.{Counted}
+use Rattle.idl_event.specs.declared.key.Answer.{Answer}
+use Rattle.idl_event.specs.declared.key.Answer.TheVariants as answer
+use Rattle.idl_event.specs.declared.key.Key.TheVariants as key
+use Rattle.idl_event.specs.declared.place.Place.{Place}
 use Rattle.idl_source.specs.Candidates.{along}
 use Rattle.idl_source.specs.Directory.{directory_of}
 use Rattle.idl_source.specs.Path.{is_rooted, joined}
@@ -87,7 +90,7 @@ is_closed (Bad defect) = is_bad_escape defect
 is_closed other = false
 
 abbrev pub is_string : Token → Bool
-is_string t = begins_quoted t.spelling && is_closed t.kind
+is_string t = begins_quoted t && is_closed (kind_of t)
 
 abbrev pub is_header_kind : Kind → Bool
 is_header_kind HeaderName = true
@@ -96,7 +99,9 @@ is_header_kind other = false
 -- the operand that a token of the line is
 abbrev pub operand_in : Token → Option Operand
 operand_in t =
-    if is_header_kind t.kind || is_string t then Some (record { name = inner t.spelling; is_quoted = is_string t; spelling = t.spelling }) else None
+    if is_header_kind (kind_of t) || is_string t
+    then Some (record { name = inner t; is_quoted = is_string t; spelling = t })
+    else None
 
 -- the operand that the tokens of a macro give: one string
 abbrev pub operand_given : List Token → Option Operand
@@ -113,14 +118,14 @@ operand_by place definitions t (Some body) = and_then (operand place definitions
 abbrev pub operand_at : Place → Definitions → Token → Expanding (Option Operand)
 operand_at place definitions t =
     if is_some (operand_in t) then Tell (Counted place) (Done (operand_in t))
-    else (if is_word t then and_then (macro_of definitions t.spelling) (operand_by place definitions t)
+    else (if is_word t then and_then (macro_of definitions t) (operand_by place definitions t)
     else Done None)
 
 -- the operand of the first token, if there is one
-abbrev pub operand_first : Place → Definitions → Option Token → Expanding (Option Operand)
+abbrev pub operand_first : Place → Definitions → Option PlacedToken → Expanding (Option Operand)
 operand_first place definitions None = Done None
-operand_first place definitions (Some t) = operand_at place definitions t
+operand_first place definitions (Some t) = operand_at place definitions t.token
 
 -- the operand of the tokens after `include`; those after the first are passed over
-unfoldable pub operand_of : Place → Definitions → List Token → Expanding (Option Operand)
+unfoldable pub operand_of : Place → Definitions → List PlacedToken → Expanding (Option Operand)
 operand_of place definitions tokens = operand_first place definitions (slice_get tokens 0)

@@ -3,9 +3,9 @@ use Rattle.std.specs.Prelude.{ℕ, List, [], ◌∷◌, codes, map, find, Option
 use Rattle.std.specs.Borrow.{Bor}
 use Rattle.std.specs.Str.{bytes_eq}
 use Rattle.idl_lex.specs.Tokens.{lines_of, tokens_of}
-use Rattle.idl_lex.specs.declared.token.Token.{Token}
-use Rattle.idl_macro.specs.declared.file_name.FileName.{FileName}
-use Rattle.idl_macro.specs.declared.place.Place.{Place}
+use Rattle.idl_lex.specs.declared.token.PlacedToken.{PlacedToken}
+use Rattle.idl_event.specs.declared.file_name.FileName.{FileName}
+use Rattle.idl_event.specs.declared.place.Place.{Place}
 use Rattle.idl_prep.specs.declared.kind.Kind.{Kind}
 use Rattle.idl_prep.specs.declared.kind.Kind.TheVariants.{Alone, Opening, Elif, Else, Endif}
 use Rattle.idl_prep.specs.declared.kind.Plain.TheVariants.{Include, Define, Undef, Error, Pragma, Ignored, Unknown}
@@ -15,12 +15,12 @@ use Rattle.idl_prep.specs.declared.kind.Test.TheVariants.{If, Ifdef, Ifndef}
 pub record Directive : Type 0 where
   pub kind : Kind
   pub line : ℕ
-  pub word : Token
-  pub operands : List Token
+  pub word : PlacedToken
+  pub operands : List PlacedToken
 
 -- a line: tokens of the text, `#` alone, or a directive
 pub data Line : Type 0 where
-  Text : List Token → Line
+  Text : List PlacedToken → Line
   Bare : ℕ → Line
   Directed : Directive → Line
 
@@ -46,14 +46,14 @@ abbrev pub entry_of : Bor (List ℕ) × Kind → List ℕ × Kind
 entry_of entry = (entry.0.now, entry.1)
 
 -- the line after a `#` with this number
-abbrev pub after_hash : ℕ → List Token → Line
+abbrev pub after_hash : ℕ → List PlacedToken → Line
 after_hash line [] = Bare line
-after_hash line (word ∷ operands) = Directed (record { kind = kind_of word.spelling; line = line; word = word; operands = operands })
+after_hash line (word ∷ operands) = Directed (record { kind = kind_of word.token; line = line; word = word; operands = operands })
 
 -- a line of these tokens: a directive where the first is `#`
-abbrev pub read : List Token → Line
+abbrev pub read : List PlacedToken → Line
 read [] = Text []
-read (t ∷ tokens) = if bytes_eq t.spelling (codes "#") then after_hash t.line tokens else Text (t ∷ tokens)
+read (t ∷ tokens) = if bytes_eq t.token (codes "#") then after_hash t.line tokens else Text (t ∷ tokens)
 
 -- the lines of a file
 abbrev pub lines_in : List (List ℕ) → List Line

@@ -1,10 +1,10 @@
 -- What is still to be done of a file, inside the groups that are open.
 use Rattle.std.specs.Prelude.{Bool, true, List, [], ◌∷◌, if◌then◌else◌, Option, None, Some}
 use Rattle.idl_base.specs.Query.{Done, and_then}
-use Rattle.idl_macro.specs.Macros.{Expanding, Reached}
-use Rattle.idl_macro.specs.declared.file_name.FileName.{FileName}
-use Rattle.idl_macro.specs.declared.key.Answer.{Answer}
-use Rattle.idl_macro.specs.declared.key.Key.{Key}
+use Rattle.idl_event.specs.Expanding.{Expanding, Reached}
+use Rattle.idl_event.specs.declared.file_name.FileName.{FileName}
+use Rattle.idl_event.specs.declared.key.Answer.{Answer}
+use Rattle.idl_event.specs.declared.key.Key.{Key}
 use Rattle.idl_prep.specs.Directive.{Enter}
 use Rattle.idl_prep.specs.Line.{Line}
 use Rattle.idl_prep.specs.State.{State, Way, onward}
@@ -12,8 +12,6 @@ use Rattle.idl_prep.specs.Tree.{Tree, Forest, Branches, Part, close, part, stray
 use Rattle.idl_prep.specs.Walk.{skip, skip_branches, skip_tree, walk, walk_branches, walk_tree}
 use Rattle.idl_prep.specs.declared.groups.Group.{Group}
 use Rattle.idl_prep.specs.declared.inclusion.Inclusion.{Inclusion}
-use Rattle.idl_prep.specs.declared.kind.Kind.{Kind}
-use Rattle.idl_prep.specs.declared.kind.Kind.TheVariants.{Elif, Else, Endif}
 
 -- trees are walked, or skipped
 abbrev pub visit : Enter → FileName → Bool → Forest → State → Expanding State
@@ -37,19 +35,6 @@ coming enter file (g ∷ gs) p s =
 -- where a root comes to by these lines, inside these open groups
 abbrev pub to_come : (Key → Option Answer) → Enter → FileName → List Group → List Line → Way → Reached × Option State
 to_come bank enter file gs lines way = onward bank (coming enter file gs (part lines)) way
-
--- another branch of a group begins
-abbrev pub IsBranch : Kind → Type 0
-IsBranch Elif = Unit {0}
-IsBranch Else = Unit {0}
-IsBranch other = ⊥
-
--- a group goes on, or ends
-abbrev pub IsOfGroup : Kind → Type 0
-IsOfGroup Elif = Unit {0}
-IsOfGroup Else = Unit {0}
-IsOfGroup Endif = Unit {0}
-IsOfGroup other = ⊥
 
 -- whether lines are walked inside these groups
 abbrev pub is_walked : List Group → Bool

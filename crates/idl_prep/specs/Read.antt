@@ -5,6 +5,6 @@ use Rattle.idl_prep.specs.declared.line.Line.TheVariants as held
 
 -- the line that it stands for
 abbrev pub line_of : declared.Line → Line
-line_of (held.Text tokens) = Text tokens.now
+line_of (held.Text tokens) = Text tokens
 line_of (held.Bare line) = Bare line
 line_of (held.Directed d) = Directed d

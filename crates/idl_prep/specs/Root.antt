@@ -2,23 +2,24 @@
 use Rattle.std.specs.Prelude.{ℕ, zero, suc, ◌-◌, List, [], ◌∷◌, Option, None, Some, flat_map}
 use Rattle.idl_base.specs.Progress.{kept_within}
 use Rattle.idl_base.specs.Query.{Query, Done, Ask, Tell, and_then, run}
-use Rattle.idl_macro.specs.Items.{rules, whole_allowance}
-use Rattle.idl_macro.specs.Key.{key_eq}
-use Rattle.idl_macro.specs.Macros.{Expanding}
-use Rattle.idl_macro.specs.declared.file_name.FileName.{FileName}
-use Rattle.idl_macro.specs.declared.item.Code.TheVariants.{NotFound}
-use Rattle.idl_macro.specs.declared.item.Event.{Event}
-use Rattle.idl_macro.specs.declared.item.Item.TheVariants.{Entered, Left, Fault, TooDeep}
-use Rattle.idl_macro.specs.declared.key.Answer.{Answer}
-use Rattle.idl_macro.specs.declared.key.Key.{Key}
-use Rattle.idl_macro.specs.declared.key.Key.TheVariants as key
+use Rattle.idl_event.specs.Items.{rules, whole_allowance}
+use Rattle.idl_event.specs.Key.{key_eq}
+use Rattle.idl_event.specs.Expanding.{Expanding}
+use Rattle.idl_event.specs.declared.file_name.FileName.{FileName}
+use Rattle.idl_event.specs.declared.code.Code.TheVariants.{NotFound}
+use Rattle.idl_event.specs.declared.event.Event.{Event}
+use Rattle.idl_event.specs.declared.event.Event.TheVariants.{Entered, Left, Fault}
+use Rattle.idl_event.specs.declared.event.Item.TheVariants.{TooDeep, Kept}
+use Rattle.idl_event.specs.declared.key.Answer.{Answer}
+use Rattle.idl_event.specs.declared.key.Key.{Key}
+use Rattle.idl_event.specs.declared.key.Key.TheVariants as key
 use Rattle.idl_prep.specs.Directive.{Enter}
 use Rattle.idl_prep.specs.Include.{file_in}
+use Rattle.idl_prep.specs.Limits.{depth_at_most}
 use Rattle.idl_prep.specs.Line.{lines_in}
 use Rattle.idl_prep.specs.State.{State, nothing_said}
 use Rattle.idl_prep.specs.Tree.{tree}
 use Rattle.idl_prep.specs.Walk.{walk}
-use Rattle.idl_prep.specs.declared.TheConstants.{MAX_DEPTH}
 
 -- a file of these lines
 abbrev pub walk_file : Enter → FileName → List (List ℕ) → State → Expanding State
@@ -28,12 +29,12 @@ walk_file enter file lines s = walk enter file (tree (lines_in lines)) s
 -- left.
 unfoldable pub enter : ℕ → Enter
 enter zero place file lines s = Tell (TooDeep place) (Done s)
-enter (suc room) place file lines s = Tell (Entered file) (and_then (walk_file (enter room) file lines s) (λ after. Tell (Left file) (Done after)))
+enter (suc room) place file lines s = Tell (Kept (Entered file)) (and_then (walk_file (enter room) file lines s) (λ after. Tell (Kept (Left file)) (Done after)))
 
 -- the lines of a root, in which one file less may be entered than may be open
 abbrev pub root_lines : FileName → Option (List (List ℕ)) → Expanding State
-root_lines root None = Tell (Fault (record { file = root; line = 0 }) NotFound (Some root)) (Done nothing_said)
-root_lines root (Some lines) = walk_file (enter (MAX_DEPTH - 1)) root lines nothing_said
+root_lines root None = Tell (Kept (Fault (record { file = root; line = 0 }) NotFound (Some root))) (Done nothing_said)
+root_lines root (Some lines) = walk_file (enter (depth_at_most - 1)) root lines nothing_said
 
 -- a root asks for its file first
 unfoldable pub root : FileName → Expanding State

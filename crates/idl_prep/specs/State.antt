@@ -1,13 +1,12 @@
 -- What a root has said so far, and how far it has come.
 use Rattle.std.specs.Prelude.{ℕ, List, [], Option}
-use Rattle.std.specs.Option.{option_map}
 use Rattle.idl_base.specs.Progress.{after_item}
-use Rattle.idl_base.specs.Query.{outcome}
-use Rattle.idl_macro.specs.Items.{rules}
-use Rattle.idl_macro.specs.Macros.{Definitions, Expanding, Reached, reached}
-use Rattle.idl_macro.specs.declared.item.Item.{Item}
-use Rattle.idl_macro.specs.declared.key.Answer.{Answer}
-use Rattle.idl_macro.specs.declared.key.Key.{Key}
+use Rattle.idl_event.specs.Items.{rules}
+use Rattle.idl_event.specs.Expanding.{Expanding, Reached, arrival, arrived}
+use Rattle.idl_macro.specs.Macros.{Definitions}
+use Rattle.idl_event.specs.declared.event.Item.{Item}
+use Rattle.idl_event.specs.declared.key.Answer.{Answer}
+use Rattle.idl_event.specs.declared.key.Key.{Key}
 
 -- what was said of macros, and the files that are not to be entered again
 pub record State : Type 0 where
@@ -26,14 +25,6 @@ pub record Way : Type 0 where
 -- one item more
 abbrev pub telling : Item → Way → Way
 telling item way = record way { progress = after_item rules item way.progress }
-
--- where it ends: what was reached, and what was said unless a limit was passed
-abbrev pub arrived : {A : Type 0} → A → Reached → Reached × Option A
-arrived a p = (p, option_map (λ _. a) p.left)
-
--- where a query comes to
-abbrev pub arrival : {A : Type 0} → (Key → Option Answer) → Expanding A → Reached → Reached × Option A
-arrival bank query p = arrived (outcome query bank) (reached bank query p)
 
 -- where a root is
 abbrev pub ended : Way → Reached × Option State

@@ -1,4 +1,5 @@
--- The lines of a file as a tree (after ISO/IEC 9899, 6.10, `group` and `if-section`).
+-- The lines of a file as a tree (after ISO/IEC 9899, 6.10, `group` and `if-section`). `TreeLaw` says which tree that is,
+-- however it is made.
 use Rattle.std.specs.Prelude.{Bool, true, false, List, [], ◌∷◌, if◌then◌else◌}
 use Rattle.idl_prep.specs.Line.{Directive, Line, Text, Bare, Directed}
 use Rattle.idl_prep.specs.declared.kind.Kind.{Kind}
@@ -50,6 +51,19 @@ is_endif other = false
 abbrev pub is_else : Kind → Bool
 is_else Else = true
 is_else other = false
+
+-- another branch of a group begins
+abbrev pub IsBranch : Kind → Type 0
+IsBranch Elif = Unit {0}
+IsBranch Else = Unit {0}
+IsBranch other = ⊥
+
+-- a group goes on, or ends
+abbrev pub IsOfGroup : Kind → Type 0
+IsOfGroup Elif = Unit {0}
+IsOfGroup Else = Unit {0}
+IsOfGroup Endif = Unit {0}
+IsOfGroup other = ⊥
 
 -- The group that was opened before this part: it goes to its `endif`, or to the file's end. After its `else` another
 -- `else` or `elif` is a stray line of the last branch.

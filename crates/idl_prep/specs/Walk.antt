@@ -1,11 +1,12 @@
 -- What the tree of a file asks and tells, from left to right.
 use Rattle.std.specs.Prelude.{Bool, true, false, ◌||◌, Some, if◌then◌else◌}
 use Rattle.idl_base.specs.Query.{Done, Tell, and_then}
-use Rattle.idl_macro.specs.Macros.{Expanding}
-use Rattle.idl_macro.specs.declared.file_name.FileName.{FileName}
-use Rattle.idl_macro.specs.declared.item.Code.TheVariants.{OutOfPlace, NotClosed}
-use Rattle.idl_macro.specs.declared.item.Item.{Item}
-use Rattle.idl_macro.specs.declared.item.Item.TheVariants.{Turn, Fault}
+use Rattle.idl_event.specs.Expanding.{Expanding}
+use Rattle.idl_event.specs.declared.file_name.FileName.{FileName}
+use Rattle.idl_event.specs.declared.code.Code.TheVariants.{OutOfPlace, NotClosed}
+use Rattle.idl_event.specs.declared.event.Item.{Item}
+use Rattle.idl_event.specs.declared.event.Event.TheVariants.{Fault}
+use Rattle.idl_event.specs.declared.event.Item.TheVariants.{Turn, Kept}
 use Rattle.idl_prep.specs.Directive.{Enter, act, test}
 use Rattle.idl_prep.specs.Line.{Directive, place_in}
 use Rattle.idl_prep.specs.State.{State}
@@ -15,15 +16,15 @@ use Rattle.idl_prep.specs.declared.kind.Test.TheVariants.{If}
 
 -- the directive that opens a group
 abbrev pub opener_of : Directive → Opener
-opener_of d = record { line = d.line; word = d.word.spelling }
+opener_of d = record { line = d.line; word = d.word.token }
 
 -- a directive of a group is out of place
 abbrev pub out_of_place : FileName → Directive → Item
-out_of_place file d = Fault (place_in file d) OutOfPlace (Some d.word.spelling)
+out_of_place file d = Kept (Fault (place_in file d) OutOfPlace (Some d.word.token))
 
 -- a group goes to its file's end
 abbrev pub not_closed : FileName → Opener → Item
-not_closed file o = Fault (record { file = file; line = o.line }) NotClosed (Some o.word)
+not_closed file o = Kept (Fault (record { file = file; line = o.line }) NotClosed (Some o.word))
 
 -- whether a branch after the first is taken: none is where one before it was, and else an `else` is
 abbrev pub decide : FileName → Directive → Bool → State → Expanding Bool

@@ -4,8 +4,9 @@ ghost use Rattle.std.specs.Prelude.{◌≡◌, ◌∷◌, false, List, Option, I
 ghost use Rattle.idl_prep.specs.Directive.{Enter};
 ghost use Rattle.idl_prep.specs.Line as spec;
 ghost use Rattle.idl_prep.specs.Line.{Directed};
-ghost use Rattle.idl_prep.specs.Pass.{IsBranch, to_come};
-ghost use Rattle.idl_prep.specs.State.{arrival, arrived};
+ghost use Rattle.idl_prep.specs.Pass.{to_come};
+ghost use Rattle.idl_event.specs.Expanding.{arrival, arrived};
+ghost use Rattle.idl_prep.specs.Tree.{IsBranch};
 ghost use Rattle.idl_prep.specs.Walk.{decide};
 ghost use Rattle.idl_prep.specs.declared.groups.Group as declared;
 ghost use Rattle.idl_prep.specs.declared.kind.Kind.TheVariants.{Endif, Opening};
@@ -14,13 +15,12 @@ use crate::groups::{Group, Groups, Opener};
 use crate::kind::Test;
 use crate::line::Directive;
 use crate::root::Root;
-use idl_macro::{Answer, FileName, Item, Key};
+use idl_event::{Answer, FileName, Item, Key};
 use idl_memo::Bank;
-use std::alloc::{AllocError, Global};
+use std::alloc::AllocError;
 
 /// A group begins.
 pub fn begin_group<B: Bank<Key = Key, Answer = Answer>>(
-    alloc: Global,
     root: &mut Root<B>,
     groups: &mut Groups,
     file: &FileName,
@@ -45,7 +45,7 @@ pub fn begin_group<B: Bank<Key = Key, Answer = Answer>>(
         return Ok(());
     }
     root.tell(Item::Turn(directive.place(file)?))?;
-    let is_taken = root.test(alloc, file, directive, what, bank)?;
+    let is_taken = root.test(file, directive, what, bank)?;
     groups.push(Group {
         opener,
         is_live: true,
@@ -58,7 +58,6 @@ pub fn begin_group<B: Bank<Key = Key, Answer = Answer>>(
 
 /// Another branch of a group begins, which had no `else` before it.
 pub fn begin_branch<B: Bank<Key = Key, Answer = Answer>>(
-    alloc: Global,
     root: &mut Root<B>,
     groups: &mut Groups,
     group: Group,
@@ -82,7 +81,7 @@ pub fn begin_branch<B: Bank<Key = Key, Answer = Answer>>(
         return Ok(());
     }
     root.tell(Item::Turn(directive.place(file)?))?;
-    let is_active = decide(alloc, root, file, directive, group.is_taken, bank)?;
+    let is_active = decide(root, file, directive, group.is_taken, bank)?;
     groups.push(Group {
         is_taken: group.is_taken | is_active,
         is_active,
@@ -113,7 +112,6 @@ pub fn end_group<B: Bank<Key = Key, Answer = Answer>>(
 
 // Whether a branch after the first is taken.
 fn decide<B: Bank<Key = Key, Answer = Answer>>(
-    alloc: Global,
     root: &mut Root<B>,
     file: &FileName,
     directive: &Directive<'_>,
@@ -129,5 +127,5 @@ fn decide<B: Bank<Key = Key, Answer = Answer>>(
     if directive.kind.is_else() {
         return Ok(true);
     }
-    root.test(alloc, file, directive, Test::If, bank)
+    root.test(file, directive, Test::If, bank)
 }

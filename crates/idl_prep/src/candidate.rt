@@ -2,9 +2,9 @@
 
 ghost use Rattle.std.specs.Prelude.{List, Option, ℕ};
 ghost use Rattle.idl_base.specs.Query.{outcome};
-ghost use Rattle.idl_macro.specs.declared.file_name.FileName.{FileName};
-ghost use Rattle.idl_macro.specs.declared.key.Answer.{Answer};
-ghost use Rattle.idl_macro.specs.declared.key.Key.{Key};
+ghost use Rattle.idl_event.specs.declared.file_name.FileName.{FileName};
+ghost use Rattle.idl_event.specs.declared.key.Answer.{Answer};
+ghost use Rattle.idl_event.specs.declared.key.Key.{Key};
 ghost use Rattle.idl_prep.specs.Candidate.{AnswersFrom, IsFirstPresent};
 ghost use Rattle.idl_prep.specs.Include.{Operand, file_of};
 ghost use Rattle.idl_source.specs.Candidates.{candidates};

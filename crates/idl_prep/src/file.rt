@@ -7,17 +7,16 @@ ghost use Rattle.idl_prep.specs.State.{ended, onward};
 
 use crate::groups::Groups;
 use crate::inclusion::Inclusion;
+use crate::line::first_line;
 use crate::pass::{end_file, walk_line};
 use crate::root::Root;
-use idl_lex::first_line;
-use idl_macro::{Answer, FileName, Item, Key, LexedFile};
+use idl_event::{Answer, Event, FileName, Item, Key, LexedFile};
 use idl_memo::Bank;
-use std::alloc::{AllocError, Global};
+use std::alloc::AllocError;
 
 /// A file of these tokens, in which so many files may still be entered inside one another.
 #[cycle(files)]
 pub fn walk_file<B: Bank<Key = Key, Answer = Answer>>(
-    alloc: Global,
     root: &mut Root<B>,
     room: usize,
     name: &FileName,
@@ -26,15 +25,15 @@ pub fn walk_file<B: Bank<Key = Key, Answer = Answer>>(
 ) -> Result<(), AllocError>
     ensures { OnOk result (ended root.new ≡ onward (B.at bank.now) (walk_file (enter room) name.now file.now) root.old) }
 {
-    let mut groups = Groups::new(alloc);
+    let mut groups = Groups::new(root.allocator());
     let mut left = file.tokens();
-    'lines: while !left.is_empty() {
+    'lines: while !left.as_slice().is_empty() {
         if root.is_over() {
             return Ok(());
         }
-        let (line, rest) = first_line(left);
-        let inclusion = walk_line(alloc, root, &mut groups, name, line, bank)?;
-        enter_file(alloc, root, room, inclusion, bank)?;
+        let (line, rest) = first_line(&left);
+        let inclusion = walk_line(root, &mut groups, name, &line, bank)?;
+        enter_file(root, room, inclusion, bank)?;
         left = rest;
     }
     end_file(root, groups, name)?;
@@ -44,7 +43,6 @@ pub fn walk_file<B: Bank<Key = Key, Answer = Answer>>(
 // A file is entered, if there is one, unless it is too deep, and left when its lines are done.
 #[cycle(files)]
 fn enter_file<B: Bank<Key = Key, Answer = Answer>>(
-    alloc: Global,
     root: &mut Root<B>,
     room: usize,
     inclusion: Option<Inclusion<'_>>,
@@ -60,8 +58,8 @@ fn enter_file<B: Bank<Key = Key, Answer = Answer>>(
         return Ok(());
     }
     let name = &inclusion.name;
-    root.tell(Item::Entered(name.clone()?))?;
-    walk_file(alloc, root, room - 1, name, inclusion.file, bank)?;
-    root.tell(Item::Left(name.clone()?))?;
+    root.tell(Item::Kept(Event::Entered(name.clone()?)))?;
+    walk_file(root, room - 1, name, inclusion.file, bank)?;
+    root.tell(Item::Kept(Event::Left(name.clone()?)))?;
     Ok(())
 }

@@ -1,23 +1,22 @@
 //! The file that an include finds.
 
-ghost use Rattle.std.specs.Prelude.{◌≡◌, IfOk, OnOk};
-ghost use Rattle.std.specs.Option.{option_copied, option_map, option_to_list};
-ghost use Rattle.idl_macro.specs.Macros.{reached};
-ghost use Rattle.idl_base.specs.Query.{outcome};
+ghost use Rattle.std.specs.Prelude.{◌≡◌, IfOk};
+ghost use Rattle.std.specs.Option.{option_copied, option_to_list};
+ghost use Rattle.idl_event.specs.Expanding.{arrival, arrived};
 ghost use Rattle.idl_prep.specs.Include.{directories_in, file_in, file_of, first_present, present_along};
 ghost use Rattle.idl_source.specs.Path.{joined};
 
 use crate::operand::Operand;
-use idl_macro::{Answer, Key, LexedFile, Progress};
+use idl_event::{Answer, FileName, Key, LexedFile, Progress};
 use idl_memo::Bank;
-use idl_source::{Directory, Name, is_rooted, join};
+use idl_source::{Directory, is_rooted, join};
 use std::alloc::AllocError;
 use std::marker::Model;
 
 /// A file that is there: its name, and the file.
 #[derive(Drop)]
 pub struct Found<'b> {
-    pub name: Name,
+    pub name: FileName,
     pub file: &'b LexedFile,
 }
 
@@ -31,15 +30,15 @@ impl<'b> Model for Found<'b> {
 
 /// The file that an operand finds from another file.
 pub fn find<'b, B: Bank<Key = Key, Answer = Answer>>(
-    from: &Name,
+    from: &FileName,
     operand: &Operand,
     bank: &'b B,
     progress: &mut Progress<B>,
 ) -> Result<Option<Found<'b>>, AllocError>
-    ensures found { IfOk result (λ found. found ≡ outcome (file_of from.now operand.now) (B.at bank.now)) }
-    ensures progress { OnOk result (progress.new ≡ reached (B.at bank.now) (file_of from.now operand.now) progress.old) }
+    ensures { IfOk result (λ found. arrived found progress.new
+        ≡ arrival (B.at bank.now) (file_of from.now operand.now) progress.old) }
 {
-    let beside = from.directory();
+    let beside = from.name().directory();
     let name = operand.name();
     if is_rooted(name) {
         return present(&beside, name, bank, progress);
@@ -59,8 +58,8 @@ fn present_along<'b, B: Bank<Key = Key, Answer = Answer>>(
     bank: &'b B,
     progress: &mut Progress<B>,
 ) -> Result<Option<Found<'b>>, AllocError>
-    ensures found { IfOk result (λ found. found ≡ outcome (present_along name.now) (B.at bank.now)) }
-    ensures progress { OnOk result (progress.new ≡ reached (B.at bank.now) (present_along name.now) progress.old) }
+    ensures { IfOk result (λ found. arrived found progress.new
+        ≡ arrival (B.at bank.now) (present_along name.now) progress.old) }
 {
     let directories = directories_in(progress.ask(&Key::Search, bank)?);
     'directories: for directory in directories {
@@ -78,13 +77,15 @@ fn present<'b, B: Bank<Key = Key, Answer = Answer>>(
     bank: &'b B,
     progress: &mut Progress<B>,
 ) -> Result<Option<Found<'b>>, AllocError>
-    ensures found { IfOk result (λ found. found ≡ outcome (first_present (option_to_list (joined directory.now name.now))) (B.at bank.now)) }
-    ensures progress { OnOk result (progress.new ≡ reached (B.at bank.now) (first_present (option_to_list (joined directory.now name.now))) progress.old) }
+    ensures { let names = option_to_list (joined directory.now name.now) in
+        IfOk result (λ found. arrived found progress.new
+            ≡ arrival (B.at bank.now) (first_present names) progress.old) }
 {
     let Some(name) = join(directory, name) else {
         return Ok(None);
     };
-    let answer = progress.ask(&Key::File(name.copied()), bank)?;
+    let name = FileName::new(progress.allocator(), &name)?;
+    let answer = progress.ask(&Key::File(name.clone()?), bank)?;
     match file_in(answer) {
         Some(file) => Ok(Some(Found { name, file })),
         None => Ok(None),

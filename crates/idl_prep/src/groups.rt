@@ -10,9 +10,9 @@ use std::alloc::{AllocError, Global};
 use std::marker::Model;
 
 /// The directive that opened a group: the number of its line, and its word.
-#[derive(Debug, Drop)]
+#[derive(Drop)]
 pub struct Opener {
-    pub line: usize,
+    pub line: u32,
     pub word: Spelling,
 }
 
@@ -23,13 +23,13 @@ impl Opener {
     {
         Ok(Opener {
             line: directive.line,
-            word: directive.word.spelling.clone()?,
+            word: directive.word().clone()?,
         })
     }
 }
 
 /// A group that is open.
-#[derive(Debug, Drop)]
+#[derive(Drop)]
 pub struct Group {
     pub opener: Opener,
     /// Whether its first directive isn't skipped.

@@ -1,6 +1,6 @@
 //! Files that are to be entered.
 
-use idl_macro::{FileName, LexedFile, Place};
+use idl_event::{FileName, LexedFile, Place};
 
 /// A file that is to be entered: the place of the directive, the file's name, and the file.
 #[derive(Drop)]

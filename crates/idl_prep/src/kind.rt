@@ -5,7 +5,7 @@ ghost use Rattle.idl_prep.specs.Line.{entry_of, kind_of, words};
 ghost use Rattle.idl_prep.specs.Tree.{is_else, is_endif};
 
 /// A directive of one line.
-#[derive(Clone, Copy, Debug, PartialEq, Eq)]
+#[derive(Clone, Copy)]
 pub enum Plain {
     Include,
     Define,
@@ -18,7 +18,7 @@ pub enum Plain {
 }
 
 /// A directive that opens a group.
-#[derive(Clone, Copy, Debug, PartialEq, Eq)]
+#[derive(Clone, Copy)]
 pub enum Test {
     If,
     Ifdef,
@@ -26,7 +26,7 @@ pub enum Test {
 }
 
 /// What a directive does.
-#[derive(Clone, Copy, Debug, PartialEq, Eq)]
+#[derive(Clone, Copy)]
 pub enum Kind {
     /// It stands alone.
     Alone(Plain),

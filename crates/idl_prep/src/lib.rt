@@ -22,10 +22,12 @@ mod root;
 mod root_task;
 mod stray;
 mod text;
+mod tree;
 
 pub use candidate::first_candidate;
 pub use kind::{Kind, Plain, Test};
 pub use root_task::{Expansion, RootTask, absent};
+pub use tree::tree_of_lines;
 
 /// Files that may be open inside one another, the root's among them.
 pub const MAX_DEPTH: usize = 64;

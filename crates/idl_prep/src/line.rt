@@ -1,12 +1,14 @@
 //! The lines of a file, as the preprocessor reads them.
 
-ghost use Rattle.std.specs.Prelude.{◌≡◌, ◌∷◌, IfOk};
+ghost use Rattle.std.specs.Prelude.{◌≡◌, ◌<◌, ◌++◌, ◌∷◌, IfOk, length};
+ghost use Rattle.idl_lex.specs.Tokens.{lines_of};
+ghost use Rattle.idl_macro.specs.Replace.{place_at};
 ghost use Rattle.idl_prep.specs.Line.{after_hash, place_in, read};
 ghost use Rattle.idl_prep.specs.Read.{line_of};
 
 use crate::kind::Kind;
-use idl_lex::{Spelling, Token};
-use idl_macro::{FileName, Place};
+use idl_event::{FileName, FileTokens, Place};
+use idl_lex::{PlacedToken, Spelling};
 use std::alloc::AllocError;
 use std::marker::Model;
 
@@ -14,10 +16,10 @@ use std::marker::Model;
 #[derive(Drop)]
 pub struct Directive<'t> {
     pub kind: Kind,
-    pub line: usize,
-    pub word: &'t Token,
-    pub operands: &'t [Token],
-    pub tokens: &'t [Token],
+    pub line: u32,
+    pub word: &'t PlacedToken,
+    pub operands: FileTokens<'t>,
+    pub tokens: FileTokens<'t>,
 }
 
 impl<'t> Model for Directive<'t> {
@@ -26,31 +28,31 @@ impl<'t> Model for Directive<'t> {
 
     ghost Value = { spec.Directive };
 
-    ghost view = { λ d. record { kind = d.kind; line = d.line; word = d.word.now; operands = d.operands.now } };
+    ghost view = { λ d. record { kind = d.kind; line = d.line; word = d.word.now; operands = d.operands } };
 
-    ghost invariant = { λ d. d.tokens.now ≡ d.word.now ∷ d.operands.now };
+    ghost invariant = { λ d. d.tokens ≡ d.word.now ∷ d.operands };
 }
 
-impl Directive<'_> {
+impl<'t> Directive<'t> {
     /// Its word.
-    pub fn word(&self) -> &Spelling
-        ensures { result.now ≡ self.now.word.spelling }
+    pub fn word(&self) -> &'t Spelling
+        ensures { result.now ≡ self.now.word.token }
     {
-        &self.word.spelling
+        self.word.token.spelling()
     }
 
     /// The tokens after its word.
-    pub fn operands(&self) -> &[Token]
+    pub fn operands(&self) -> &FileTokens<'t>
         ensures { result.now ≡ self.now.operands }
     {
-        self.operands
+        &self.operands
     }
 
     /// Its word, and the tokens after that.
-    pub fn tokens(&self) -> &[Token]
+    pub fn tokens(&self) -> &FileTokens<'t>
         ensures { result.now ≡ self.now.word ∷ self.now.operands }
     {
-        self.tokens
+        &self.tokens
     }
 
     /// Its place in the file.
@@ -62,40 +64,78 @@ impl Directive<'_> {
             line: self.line,
         })
     }
+
+    /// The place of its word in the file.
+    pub fn word_place(&self, file: &FileName) -> Result<Place, AllocError>
+        ensures { IfOk result (λ place. place ≡ place_at file.now self.now.word) }
+    {
+        Ok(Place {
+            file: file.clone()?,
+            line: self.word.line,
+        })
+    }
+
+    /// The directive as macros take it.
+    pub fn stated(&self, file: &FileName) -> Result<idl_macro::Directive<'t>, AllocError>
+        ensures { IfOk result (λ stated. (stated.place ≡ place_in file.now self.now)
+            × (stated.word.now ≡ self.now.word.token)
+            × (stated.operands ≡ self.now.operands)) }
+    {
+        Ok(idl_macro::Directive {
+            place: self.place(file)?,
+            word: self.word(),
+            operands: self.operands.copied(),
+        })
+    }
 }
 
 /// A line: tokens of the text, `#` alone on a line with this number, or a directive.
 #[derive(Drop)]
 pub enum Line<'t> {
-    Text(&'t [Token]),
-    Bare(usize),
+    Text(FileTokens<'t>),
+    Bare(u32),
     Directed(Directive<'t>),
 }
 
+/// The tokens of the first line, and those after it.
+pub fn first_line<'t>(tokens: &FileTokens<'t>) -> (FileTokens<'t>, FileTokens<'t>)
+    requires { 0 < length tokens.now }
+    ensures lines { lines_of tokens.now ≡ result.0 ∷ lines_of result.1 }
+    ensures all { tokens.now ≡ result.0 ++ result.1 }
+    ensures some { 0 < length result.0 }
+{
+    let (line, _rest) = idl_lex::first_line(tokens.as_slice());
+    tokens.split_at(line.len())
+}
+
 /// The line that these tokens are: a directive where the first is `#`.
-pub fn read(tokens: &[Token]) -> Line<'_>
+pub fn read<'t>(tokens: &FileTokens<'t>) -> Line<'t>
     ensures { line_of result ≡ read tokens.now }
 {
-    match tokens {
-        [hash, rest @ ..] if hash.spelling.as_bytes() == b"#".as_slice() => {
+    match tokens.as_slice() {
+        [hash, ..] if hash.token.as_bytes() == b"#".as_slice() => {
+            let (_hash, rest) = tokens.split_at(1);
             after_hash(hash.line, rest)
         }
-        _ => Line::Text(tokens),
+        _ => Line::Text(tokens.copied()),
     }
 }
 
 // The line after a `#` with this number.
-fn after_hash(line: usize, tokens: &[Token]) -> Line<'_>
-    ensures { line_of result ≡ after_hash line tokens.now }
+fn after_hash<'t>(line: u32, tokens: FileTokens<'t>) -> Line<'t>
+    ensures { line_of result ≡ after_hash line tokens.entry }
 {
-    match tokens {
-        [word, operands @ ..] => Line::Directed(Directive {
-            kind: Kind::of(word.spelling.as_bytes()),
-            line,
-            word,
-            operands,
-            tokens,
-        }),
+    match tokens.as_slice() {
+        [word, ..] => {
+            let (_word, operands) = tokens.split_at(1);
+            Line::Directed(Directive {
+                kind: Kind::of(word.token.as_bytes()),
+                line,
+                word,
+                operands,
+                tokens,
+            })
+        }
         [] => Line::Bare(line),
     }
 }

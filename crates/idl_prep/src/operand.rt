@@ -51,9 +51,9 @@ pub fn operand_in(token: &Token) -> Result<Option<Operand>, AllocError>
     ensures { IfOk result (λ operand. operand ≡ operand_in token.now) }
 {
     let is_quoted = is_string(token);
-    if is_quoted || is_header(token.kind) {
+    if is_quoted || is_header(token.kind()) {
         return Ok(Some(Operand {
-            spelling: token.spelling.clone()?,
+            spelling: token.spelling().clone()?,
             is_quoted,
         }));
     }
@@ -74,7 +74,7 @@ pub fn operand_given(tokens: &[Token]) -> Result<Option<Operand>, AllocError>
 fn is_string(token: &Token) -> bool
     ensures { result ≡ is_string token.now }
 {
-    begins_quoted(token.spelling.as_bytes()) && is_closed(token.kind)
+    begins_quoted(token.as_bytes()) && is_closed(token.kind())
 }
 
 fn begins_quoted(bytes: &[u8]) -> bool

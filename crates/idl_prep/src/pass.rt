@@ -5,9 +5,9 @@ ghost use Rattle.idl_base.specs.Query.{and_then};
 ghost use Rattle.idl_prep.specs.Directive.{Enter};
 ghost use Rattle.idl_prep.specs.Line as spec;
 ghost use Rattle.idl_prep.specs.Line.{Directed, Text, Bare};
-ghost use Rattle.idl_prep.specs.Pass.{IsBranch, coming, entered, to_come};
+ghost use Rattle.idl_prep.specs.Pass.{coming, entered, to_come};
 ghost use Rattle.idl_prep.specs.State.{ended, onward};
-ghost use Rattle.idl_prep.specs.Tree.{part};
+ghost use Rattle.idl_prep.specs.Tree.{IsBranch, part};
 ghost use Rattle.idl_prep.specs.declared.kind.Kind.TheVariants.{Alone, Endif};
 
 use crate::branch::{begin_branch, begin_group, end_group};
@@ -18,18 +18,16 @@ use crate::line::{Directive, Line, read};
 use crate::perform::{act_bare, act_directive, act_text};
 use crate::root::Root;
 use crate::stray::{stray_inside, stray_outside};
-use idl_lex::Token;
-use idl_macro::{Answer, Code, FileName, Key, Place};
+use idl_event::{Answer, Code, FileName, FileTokens, Key, Place};
 use idl_memo::Bank;
-use std::alloc::{AllocError, Global};
+use std::alloc::AllocError;
 
 /// The next line of a file: gives the file that is to be entered, if there is one.
 pub fn walk_line<'b, B: Bank<Key = Key, Answer = Answer>>(
-    alloc: Global,
     root: &mut Root<B>,
     groups: &mut Groups,
     file: &FileName,
-    tokens: &[Token],
+    tokens: &FileTokens<'_>,
     bank: &'b B,
 ) -> Result<Option<Inclusion<'b>>, AllocError>
     ensures { IfOk result (λ inclusion. (enter : Enter) (lines : List spec.Line) →
@@ -38,24 +36,23 @@ pub fn walk_line<'b, B: Bank<Key = Key, Answer = Answer>>(
 {
     match read(tokens) {
         Line::Text(text) => {
-            walk_text(alloc, root, groups, file, text, bank)?;
+            walk_text(root, groups, file, &text, bank)?;
             Ok(None)
         }
         Line::Bare(line) => {
             walk_bare(root, groups, file, line)?;
             Ok(None)
         }
-        Line::Directed(directive) => walk_directive(alloc, root, groups, file, &directive, bank),
+        Line::Directed(directive) => walk_directive(root, groups, file, &directive, bank),
     }
 }
 
 // A line of text.
 fn walk_text<B: Bank<Key = Key, Answer = Answer>>(
-    alloc: Global,
     root: &mut Root<B>,
     groups: &Groups,
     file: &FileName,
-    tokens: &[Token],
+    tokens: &FileTokens<'_>,
     bank: &B,
 ) -> Result<(), AllocError>
     ensures { OnOk result ((enter : Enter) (lines : List spec.Line) →
@@ -65,7 +62,7 @@ fn walk_text<B: Bank<Key = Key, Answer = Answer>>(
     if !groups.is_walked() {
         return Ok(());
     }
-    act_text(alloc, root, file, tokens, bank)?;
+    act_text(root, file, tokens, bank)?;
     Ok(())
 }
 
@@ -74,7 +71,7 @@ fn walk_bare<B: Bank<Key = Key, Answer = Answer>>(
     root: &mut Root<B>,
     groups: &Groups,
     file: &FileName,
-    line: usize,
+    line: u32,
 ) -> Result<(), AllocError>
     ensures { OnOk result ((bank : Key → Option Answer) (enter : Enter) (lines : List spec.Line) →
         to_come bank enter file.now groups.now lines root.new
@@ -89,7 +86,6 @@ fn walk_bare<B: Bank<Key = Key, Answer = Answer>>(
 
 // A directive.
 fn walk_directive<'b, B: Bank<Key = Key, Answer = Answer>>(
-    alloc: Global,
     root: &mut Root<B>,
     groups: &mut Groups,
     file: &FileName,
@@ -101,13 +97,13 @@ fn walk_directive<'b, B: Bank<Key = Key, Answer = Answer>>(
         ≡ to_come (B.at bank.now) enter file.now groups.old (Directed directive.now ∷ lines) root.old) }
 {
     match directive.kind {
-        Kind::Alone(what) => walk_alone(alloc, root, groups, file, directive, what, bank),
+        Kind::Alone(what) => walk_alone(root, groups, file, directive, what, bank),
         Kind::Opening(what) => {
-            begin_group(alloc, root, groups, file, directive, what, bank)?;
+            begin_group(root, groups, file, directive, what, bank)?;
             Ok(None)
         }
         Kind::Elif | Kind::Else => {
-            walk_branch(alloc, root, groups, file, directive, bank)?;
+            walk_branch(root, groups, file, directive, bank)?;
             Ok(None)
         }
         Kind::Endif => {
@@ -119,7 +115,6 @@ fn walk_directive<'b, B: Bank<Key = Key, Answer = Answer>>(
 
 // A directive of one line.
 fn walk_alone<'b, B: Bank<Key = Key, Answer = Answer>>(
-    alloc: Global,
     root: &mut Root<B>,
     groups: &Groups,
     file: &FileName,
@@ -135,13 +130,12 @@ fn walk_alone<'b, B: Bank<Key = Key, Answer = Answer>>(
     if !groups.is_walked() {
         return Ok(None);
     }
-    let inclusion = act_directive(alloc, root, file, directive, what, bank)?;
+    let inclusion = act_directive(root, file, directive, what, bank)?;
     Ok(inclusion)
 }
 
 // An `elif` or `else`: the innermost group goes on with another branch, if one is open.
 fn walk_branch<B: Bank<Key = Key, Answer = Answer>>(
-    alloc: Global,
     root: &mut Root<B>,
     groups: &mut Groups,
     file: &FileName,
@@ -163,7 +157,7 @@ fn walk_branch<B: Bank<Key = Key, Answer = Answer>>(
             Ok(())
         }
         Some(group) => {
-            begin_branch(alloc, root, groups, group, file, directive, bank)?;
+            begin_branch(root, groups, group, file, directive, bank)?;
             Ok(())
         }
     }

@@ -14,23 +14,21 @@ use crate::line::Directive;
 use crate::pragma::pragma;
 use crate::root::Root;
 use crate::text::parted;
-use idl_lex::Token;
-use idl_macro::{Answer, Code, FileName, Item, Key, Place};
+use idl_event::{Answer, Code, FileName, FileTokens, Item, Key, Place};
 use idl_memo::Bank;
-use std::alloc::{AllocError, Global};
+use std::alloc::AllocError;
 
 /// A line of text, which isn't skipped.
 #[tactic(auto, unfolding(crate::specs::Directive::act))]
 pub fn act_text<B: Bank<Key = Key, Answer = Answer>>(
-    alloc: Global,
     root: &mut Root<B>,
     file: &FileName,
-    tokens: &[Token],
+    tokens: &FileTokens<'_>,
     bank: &B,
 ) -> Result<(), AllocError>
     ensures { OnOk result ((enter : Enter) → ended root.new ≡ onward (B.at bank.now) (act enter file.now (Text tokens.now)) root.old) }
 {
-    root.emit(alloc, file, tokens, bank)?;
+    root.emit(file, tokens.as_slice(), bank)?;
     Ok(())
 }
 
@@ -39,7 +37,7 @@ pub fn act_text<B: Bank<Key = Key, Answer = Answer>>(
 pub fn act_bare<B: Bank<Key = Key, Answer = Answer>>(
     root: &mut Root<B>,
     file: &FileName,
-    line: usize,
+    line: u32,
 ) -> Result<(), AllocError>
     ensures { OnOk result ((enter : Enter) (bank : Key → Option Answer) → ended root.new ≡ onward bank (act enter file.now (Bare line)) root.old) }
 {
@@ -52,7 +50,6 @@ pub fn act_bare<B: Bank<Key = Key, Answer = Answer>>(
 
 /// A directive of one line, which isn't skipped: gives the file that is to be entered, if there is one.
 pub fn act_directive<'b, B: Bank<Key = Key, Answer = Answer>>(
-    alloc: Global,
     root: &mut Root<B>,
     file: &FileName,
     directive: &Directive<'_>,
@@ -65,21 +62,21 @@ pub fn act_directive<'b, B: Bank<Key = Key, Answer = Answer>>(
     let place = directive.place(file)?;
     root.tell(Item::Turn(place.clone()?))?;
     match what {
-        Plain::Include => Ok(include(alloc, root, file, directive, bank)?),
+        Plain::Include => Ok(include(root, file, directive, bank)?),
         Plain::Define => {
-            root.define(alloc, &place, directive.word(), directive.operands(), bank)?;
+            root.define(&directive.stated(file)?, bank)?;
             Ok(None)
         }
         Plain::Undef => {
-            root.undef(&place, directive.word(), directive.operands())?;
+            root.undef(&directive.stated(file)?)?;
             Ok(None)
         }
         Plain::Error => {
-            root.fault(place, Code::Error, &parted(alloc, directive.tokens())?)?;
+            root.fault(place, Code::Error, &parted(root.allocator(), directive.tokens().as_slice())?)?;
             Ok(None)
         }
         Plain::Pragma => {
-            pragma(alloc, root, file, directive)?;
+            pragma(root, file, directive)?;
             Ok(None)
         }
         Plain::Ignored => Ok(None),

@@ -8,42 +8,41 @@ ghost use Rattle.idl_prep.specs.State.{ended, onward};
 
 use crate::line::Directive;
 use crate::root::Root;
-use idl_lex::{Spelling, Token};
-use idl_macro::{Answer, FileName, Item, Key, TokenList};
+use idl_lex::{PlacedToken, Spelling};
+use idl_event::{Answer, Event, FileName, Item, Key};
 use idl_memo::Bank;
-use std::alloc::{AllocError, Global};
+use std::alloc::AllocError;
 
 /// `pragma`: `once` says that the file isn't to be entered again, and those that mean something to IDL are told.
 pub fn pragma<B: Bank<Key = Key, Answer = Answer>>(
-    alloc: Global,
     root: &mut Root<B>,
     file: &FileName,
     directive: &Directive<'_>,
 ) -> Result<(), AllocError>
     ensures { OnOk result ((bank : Key → Option Answer) → ended root.new ≡ onward bank (λ s. pragma file.now directive.now s) root.old) }
 {
-    let Some(word) = first_spelling(directive.operands()) else {
+    let Some(word) = first_spelling(directive.operands().as_slice()) else {
         return Ok(());
     };
     let word = word.as_bytes();
     if is_once(word) {
-        root.mark_once(file.name())?;
+        root.mark_once(file)?;
         return Ok(());
     }
     if is_of_idl(word) {
-        let tokens = TokenList::new(alloc, directive.tokens())?;
-        root.tell(Item::Pragma(file.clone()?, tokens))?;
+        let tokens = directive.tokens().shared()?;
+        root.tell(Item::Kept(Event::Pragma(directive.word_place(file)?, tokens)))?;
         return Ok(());
     }
     Ok(())
 }
 
 // How the first of the tokens is spelled.
-fn first_spelling(tokens: &[Token]) -> Option<&Spelling>
+fn first_spelling(tokens: &[PlacedToken]) -> Option<&Spelling>
     ensures { option_copied result ≡ first_spelling tokens.now }
 {
     match tokens {
-        [token, ..] => Some(&token.spelling),
+        [token, ..] => Some(token.token.spelling()),
         [] => None,
     }
 }

@@ -6,12 +6,14 @@ ghost use Rattle.std.specs.Str.{bytes_eq};
 ghost use Rattle.indexmap.specs.IndexSet.{insert_key};
 ghost use Rattle.std.specs.Option.{option_copied};
 ghost use Rattle.idl_base.specs.Progress.{after_key};
-ghost use Rattle.idl_macro.specs.Key.{key_eq};
-ghost use Rattle.idl_macro.specs.Items.{beginning};
-ghost use Rattle.idl_macro.specs.Macros.{reached};
+ghost use Rattle.idl_event.specs.Key.{key_eq};
+ghost use Rattle.idl_event.specs.Items.{beginning};
+ghost use Rattle.idl_event.specs.Expanding.{reached};
 ghost use Rattle.idl_macro.specs.Replace.{text};
-ghost use Rattle.idl_macro.specs.declared.item.Item.TheVariants.{Fault};
-ghost use Rattle.idl_prep.specs.State.{arrival, arrived, ended, nothing_said, onward, telling};
+ghost use Rattle.idl_event.specs.declared.event.Event.TheVariants.{Fault};
+ghost use Rattle.idl_event.specs.declared.event.Item.TheVariants.{Kept};
+ghost use Rattle.idl_event.specs.Expanding.{arrival, arrived};
+ghost use Rattle.idl_prep.specs.State.{ended, nothing_said, onward, telling};
 ghost use Rattle.idl_prep.specs.Include.{file_of, operand_of};
 ghost use Rattle.idl_prep.specs.Directive.{redefined, test};
 ghost use Rattle.idl_base.specs.Query.{and_then};
@@ -22,13 +24,10 @@ use crate::kind::Test;
 use crate::line::Directive;
 use crate::operand::Operand;
 use crate::replaced_operand::operand_of;
-use idl_lex::{Spelling, Token};
-use idl_macro::{
-    Answer, Code, Definitions, Event, FileName, Item, Key, Place, Progress, condition, define,
-    ifdef, ifndef, replace_text, undef,
-};
+use idl_lex::{PlacedToken, Spelling};
+use idl_event::{Answer, Code, Event, FileName, Item, Key, Place, Progress};
+use idl_macro::{Definitions, Macros, condition, define, ifdef, ifndef, replace_text, undef};
 use idl_memo::{Bank, Log};
-use idl_source::Name;
 use indexmap::IndexSet;
 use std::alloc::{AllocError, Global};
 use std::marker::Model;
@@ -36,15 +35,25 @@ use std::marker::Model;
 /// What a root has said so far of macros and of files that are not to be entered again, and how far it has come.
 ///
 /// After want of memory nothing is said of it.
-#[derive(Drop)]
 pub struct Root<B: Bank<Key = Key, Answer = Answer>> {
     definitions: Definitions,
-    once: IndexSet<Name>,
+    once: IndexSet<FileName>,
     progress: Progress<B>,
 }
 
+impl<B: Bank<Key = Key, Answer = Answer>> Drop for Root<B> {
+    fn drop(self) {
+        let Root {
+            definitions: _definitions,
+            once: _once,
+            progress: _progress,
+        } = self;
+    }
+}
+
 impl<B: Bank<Key = Key, Answer = Answer>> Model for Root<B> {
-    ghost use Rattle.idl_macro.specs.declared.item.Item.TheVariants.{Fault};
+    ghost use Rattle.idl_event.specs.declared.event.Event.TheVariants.{Fault};
+    ghost use Rattle.idl_event.specs.declared.event.Item.TheVariants.{Kept};
     ghost use Rattle.idl_prep.specs.State.{Way};
 
     ghost Value = { Way };
@@ -69,7 +78,12 @@ impl<B: Bank<Key = Key, Answer = Answer>> Root<B> {
         ensures events { result.0.items ≡ self.progress.kept }
         ensures log { result.1 ≡ self.progress.log }
     {
-        self.progress.into_parts()
+        let Root {
+            definitions: _definitions,
+            once: _once,
+            progress,
+        } = self;
+        progress.into_parts()
     }
 
     /// Whether a limit was passed, so that nothing changes any more.
@@ -77,6 +91,11 @@ impl<B: Bank<Key = Key, Answer = Answer>> Root<B> {
         ensures { IsTrue result ↔ (self.now.progress.left ≡ None) }
     {
         self.progress.is_over()
+    }
+
+    /// Where its memory comes from.
+    pub fn allocator(&self) -> Global {
+        self.progress.allocator()
     }
 
     /// One item more.
@@ -96,35 +115,28 @@ impl<B: Bank<Key = Key, Answer = Answer>> Root<B> {
 
     /// A fault, with the spelling at which it is decided.
     pub fn fault(&mut self, place: Place, code: Code, text: &Spelling) -> Result<(), AllocError>
-        ensures { OnOk result (self.new ≡ telling (Fault place code (Some text.now)) self.old) }
+        ensures { OnOk result (self.new ≡ telling (Kept (Fault place code (Some text.now))) self.old) }
     {
-        self.tell(Item::Fault(place, code, Some(text.clone()?)))
+        self.tell(Item::Kept(Event::Fault(place, code, Some(text.clone()?))))
     }
 
     /// The tokens of a text, in which macros are replaced.
     pub fn emit(
         &mut self,
-        alloc: Global,
         file: &FileName,
-        tokens: &[Token],
+        tokens: &[PlacedToken],
         bank: &B,
     ) -> Result<(), AllocError>
         ensures { OnOk result (self.new ≡ record self.old { progress = reached (B.at bank.now) (text file.now self.old.state.definitions tokens.now) self.old.progress }) }
     {
-        replace_text(
-            alloc,
-            file,
-            &self.definitions,
-            tokens,
-            bank,
-            &mut self.progress,
-        )
+        let definitions = &self.definitions;
+        let macros = Macros { definitions, bank };
+        replace_text(&macros, file, tokens, &mut self.progress)
     }
 
     /// Whether the first lines of a group are taken that a directive opens.
     pub fn test(
         &mut self,
-        alloc: Global,
         file: &FileName,
         directive: &Directive<'_>,
         what: Test,
@@ -133,43 +145,36 @@ impl<B: Bank<Key = Key, Answer = Answer>> Root<B> {
         ensures arrival { IfOk result (λ taken. arrived taken self.new.progress ≡ arrival (B.at bank.now) (test file.now directive.now what self.old.state) self.old.progress) }
         ensures state { self.new.state ≡ self.old.state }
     {
-        let place = directive.place(file)?;
-        let word = &directive.word.spelling;
+        let stated = directive.stated(file)?;
         let definitions = &self.definitions;
-        let tokens = directive.operands;
+        let macros = Macros { definitions, bank };
         let progress = &mut self.progress;
         match what {
-            Test::If => Ok(condition(alloc, &place, word, definitions, tokens, bank, progress)?),
-            Test::Ifdef => Ok(ifdef(&place, word, definitions, tokens, bank, progress)?),
-            Test::Ifndef => Ok(ifndef(&place, word, definitions, tokens, bank, progress)?),
+            Test::If => Ok(condition(&macros, &stated, progress)?),
+            Test::Ifdef => Ok(ifdef(&macros, &stated, progress)?),
+            Test::Ifndef => Ok(ifndef(&macros, &stated, progress)?),
         }
     }
 
     /// The operand of an include at this place, of which these are the tokens after the word.
     pub fn operand_of(
         &mut self,
-        alloc: Global,
         place: &Place,
-        tokens: &[Token],
+        tokens: &[PlacedToken],
         bank: &B,
     ) -> Result<Option<Operand>, AllocError>
         ensures arrival { IfOk result (λ operand. arrived operand self.new.progress ≡ arrival (B.at bank.now) (operand_of place.now self.old.state.definitions tokens.now) self.old.progress) }
         ensures state { self.new.state ≡ self.old.state }
     {
-        operand_of(
-            alloc,
-            place,
-            &self.definitions,
-            tokens,
-            bank,
-            &mut self.progress,
-        )
+        let definitions = &self.definitions;
+        let macros = Macros { definitions, bank };
+        operand_of(&macros, place, tokens, &mut self.progress)
     }
 
     /// The file that an operand finds from another file.
     pub fn find<'b>(
         &mut self,
-        from: &Name,
+        from: &FileName,
         operand: &Operand,
         bank: &'b B,
     ) -> Result<Option<Found<'b>>, AllocError>
@@ -179,59 +184,36 @@ impl<B: Bank<Key = Key, Answer = Answer>> Root<B> {
         find(from, operand, bank, &mut self.progress)
     }
 
-    /// `define`: the directive's word, and the tokens after it.
+    /// `define`.
     pub fn define(
         &mut self,
-        alloc: Global,
-        place: &Place,
-        word: &Spelling,
-        tokens: &[Token],
+        directive: &idl_macro::Directive<'_>,
         bank: &B,
     ) -> Result<(), AllocError>
-        ensures { OnOk result (ended self.new ≡ onward (B.at bank.now) (λ s. and_then (define place.now word.now s.definitions tokens.now) (redefined s)) self.old) }
+        ensures { OnOk result (ended self.new ≡ onward (B.at bank.now) (λ s. and_then (define directive.now.place directive.now.word.now s.definitions directive.now.operands) (redefined s)) self.old) }
     {
-        let definitions = &mut self.definitions;
-        define(
-            alloc,
-            place,
-            word,
-            definitions,
-            tokens,
-            bank,
-            &mut self.progress,
-        )?;
+        define(&mut self.definitions, directive, bank, &mut self.progress)?;
         Ok(())
     }
 
-    /// `undef`: the directive's word, and the tokens after it.
-    pub fn undef(
-        &mut self,
-        place: &Place,
-        word: &Spelling,
-        tokens: &[Token],
-    ) -> Result<(), AllocError>
-        ensures { OnOk result ((bank : Key → Option Answer) → ended self.new ≡ onward bank (λ s. and_then (undef place.now word.now s.definitions tokens.now) (redefined s)) self.old) }
+    /// `undef`.
+    pub fn undef(&mut self, directive: &idl_macro::Directive<'_>) -> Result<(), AllocError>
+        ensures { OnOk result ((bank : Key → Option Answer) → ended self.new ≡ onward bank (λ s. and_then (undef directive.now.place directive.now.word.now s.definitions directive.now.operands) (redefined s)) self.old) }
     {
-        undef(
-            place,
-            word,
-            &mut self.definitions,
-            tokens,
-            &mut self.progress,
-        )?;
+        undef(&mut self.definitions, directive, &mut self.progress)?;
         Ok(())
     }
 
     /// The file isn't to be entered again.
-    pub fn mark_once(&mut self, file: &Name) -> Result<(), AllocError>
+    pub fn mark_once(&mut self, file: &FileName) -> Result<(), AllocError>
         ensures { OnOk result (self.new ≡ record self.old { state = record self.old.state { once = insert_key bytes_eq self.old.state.once file.now } }) }
     {
-        self.once.insert(file.copied())?;
+        self.once.insert(file.clone()?)?;
         Ok(())
     }
 
     /// Whether the file isn't to be entered again.
-    pub fn is_once(&self, file: &Name) -> bool
+    pub fn is_once(&self, file: &FileName) -> bool
         ensures { result ≡ list_any (bytes_eq file.now) self.now.state.once }
     {
         self.once.contains(file)

@@ -2,7 +2,7 @@
 
 ghost use Rattle.std.specs.Prelude.{◌≡◌, IfOk, OnOk, flat_map, slice_get};
 ghost use Rattle.std.specs.Option.{option_copied, option_to_list};
-ghost use Rattle.idl_macro.specs.Macros.{reached};
+ghost use Rattle.idl_event.specs.Expanding.{reached};
 ghost use Rattle.idl_prep.specs.Root as spec;
 ghost use Rattle.idl_prep.specs.Root.{absent_files, expansion};
 ghost use Rattle.idl_prep.specs.State.{nothing_said};
@@ -12,7 +12,7 @@ use crate::file::walk_file;
 use crate::find::file_in;
 use crate::root::Root;
 use crate::text::text_of;
-use idl_macro::{Answer, Code, Event, FileName, Key, Place};
+use idl_event::{Answer, Code, Event, FileName, Key, Place};
 use idl_memo::{Bank, Kind, Log, Task};
 use idl_source::Name;
 use std::alloc::{AllocError, Global};
@@ -27,7 +27,7 @@ pub struct Expansion {
 
 impl Model for Expansion {
     ghost use Rattle.std.specs.Prelude.{List};
-    ghost use Rattle.idl_macro.specs.declared.item.Event.{Event};
+    ghost use Rattle.idl_event.specs.declared.event.Event.{Event};
 
     ghost Value = { List Event };
 
@@ -99,10 +99,10 @@ fn expand<B: Bank<Key = Key, Answer = Answer>>(
     requires { root.old.state ≡ nothing_said }
     ensures { OnOk result (root.new.progress ≡ reached (B.at bank.now) (spec.root name.now) root.old.progress) }
 {
-    let file = FileName::new(alloc, name.copied())?;
-    match file_in(root.ask(&Key::File(name.copied()), bank)?) {
+    let file = FileName::new(alloc, name)?;
+    match file_in(root.ask(&Key::File(file.clone()?), bank)?) {
         Some(lexed) => {
-            walk_file(alloc, root, MAX_DEPTH - 1, &file, lexed, bank)?;
+            walk_file(root, MAX_DEPTH - 1, &file, lexed, bank)?;
             Ok(())
         }
         None => {
@@ -125,13 +125,13 @@ pub fn absent<B: Bank<Key = Key, Answer = Answer>>(
         let Some(name) = absent_at(log, index) else {
             continue;
         };
-        names.push(name.copied())?;
+        names.push(name.name())?;
     }
     Ok(names)
 }
 
 // The file of an entry that isn't there, if the entry is of one.
-fn absent_at<B: Bank<Key = Key, Answer = Answer>>(log: &Log<B>, index: usize) -> Option<&Name>
+fn absent_at<B: Bank<Key = Key, Answer = Answer>>(log: &Log<B>, index: usize) -> Option<&FileName>
     ensures { option_to_list (option_copied result) ≡ flat_map spec.absent_file (option_to_list (slice_get log.now index)) }
 {
     match log.get(index) {

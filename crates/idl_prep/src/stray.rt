@@ -4,14 +4,14 @@ ghost use Rattle.std.specs.Prelude.{◌≡◌, ◌∷◌, [], true, List, Option
 ghost use Rattle.idl_prep.specs.Directive.{Enter};
 ghost use Rattle.idl_prep.specs.Line as spec;
 ghost use Rattle.idl_prep.specs.Line.{Directed};
-ghost use Rattle.idl_prep.specs.Pass.{IsBranch, IsOfGroup, to_come, visit_tree};
+ghost use Rattle.idl_prep.specs.Pass.{to_come, visit_tree};
 ghost use Rattle.idl_prep.specs.State.{ended, onward};
-ghost use Rattle.idl_prep.specs.Tree.{Stray};
+ghost use Rattle.idl_prep.specs.Tree.{IsBranch, IsOfGroup, Stray};
 
 use crate::groups::{Group, Groups};
 use crate::line::Directive;
 use crate::root::Root;
-use idl_macro::{Answer, Code, FileName, Item, Key};
+use idl_event::{Answer, Code, FileName, Item, Key};
 use idl_memo::Bank;
 use std::alloc::AllocError;
 
@@ -64,6 +64,6 @@ fn stray<B: Bank<Key = Key, Answer = Answer>>(
         root.tell(Item::Turn(directive.place(file)?))?;
     }
     let place = directive.place(file)?;
-    root.fault(place, Code::OutOfPlace, &directive.word.spelling)?;
+    root.fault(place, Code::OutOfPlace, directive.word())?;
     Ok(())
 }

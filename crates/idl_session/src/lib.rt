@@ -22,6 +22,3 @@ pub use stop::Stop;
 
 /// Bytes that a command line has at most.
 pub const MAX_COMMAND: usize = 8192;
-
-#[cfg(test)]
-mod tests;

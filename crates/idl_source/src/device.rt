@@ -95,6 +95,3 @@ pub fn write_all<K: Sink>(sink: &mut K, bytes: &[u8]) -> Result<(), WriteFailed>
     }
     Ok(())
 }
-
-#[cfg(test)]
-mod tests;

@@ -39,6 +39,3 @@ pub const MAX_LINES: usize = 200_000;
 
 /// Bytes that a line of a file has at most.
 pub const MAX_LINE: usize = 4096;
-
-#[cfg(test)]
-mod tests;

@@ -161,6 +161,3 @@ impl Sink for BufferSink {
         Ok(taken)
     }
 }
-
-#[cfg(test)]
-mod tests;

@@ -11,6 +11,3 @@ mod trail;
 pub use library::{Library, Reference};
 pub use page::Page;
 pub use trail::{Start, Trail};
-
-#[cfg(test)]
-mod tests;

@@ -1,5 +1,5 @@
 use Rattle.std.proofs.Common.{◌≡◌, ◌∷◌, ◌||◌, false, ap, ◌∙◌}
-use Rattle.idl_macro.specs.declared.item.Item.TheVariants.{Turn}
+use Rattle.idl_event.specs.declared.event.Item.TheVariants.{Turn}
 use Rattle.idl_prep.specs.Line.{Directive}
 use Rattle.idl_prep.specs.State.{telling}
 use Rattle.idl_prep.specs.Tree.{is_else}

@@ -1,5 +1,5 @@
 use Rattle.std.proofs.Common.{◌∷◌, true, false, ap, sym, ◌∙◌}
-use Rattle.idl_macro.specs.declared.item.Item.TheVariants.{Turn}
+use Rattle.idl_event.specs.declared.event.Item.TheVariants.{Turn}
 use Rattle.idl_prep.specs.State.{telling}
 use Rattle.idl_prep.proofs.PassLemmas.{begun}
 use Rattle.idl_prep.proofs.WalkLemmas.{to_come-opening, to_come-opening-skipped}

@@ -1,5 +1,5 @@
 use Rattle.std.proofs.Common.{ap, ◌∙◌}
-use Rattle.idl_macro.specs.declared.item.Item.TheVariants.{Turn}
+use Rattle.idl_event.specs.declared.event.Item.TheVariants.{Turn}
 use Rattle.idl_prep.specs.State.{telling}
 use Rattle.idl_prep.proofs.WalkLemmas.{to_come-endif, to_come-endif-skipped}
 use Rattle.idl_prep.proofs.branch.end_group.Goals as goal

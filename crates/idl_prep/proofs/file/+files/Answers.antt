@@ -3,7 +3,8 @@ use Rattle.std.proofs.Common.{◌≡◌, ◌-◌, [], suc, length, ◌+◌, map,
 use Rattle.std.proofs.lemmas.Bool.{eqb-true}
 use Rattle.std.proofs.lemmas.List.{length-append, nil_from_length}
 use Rattle.idl_lex.specs.Tokens.{lines_of}
-use Rattle.idl_macro.specs.declared.item.Item.TheVariants.{Entered, Left}
+use Rattle.idl_event.specs.declared.event.Event.TheVariants.{Entered, Left}
+use Rattle.idl_event.specs.declared.event.Item.TheVariants.{Kept}
 use Rattle.idl_prep.specs.Line.{read}
 use Rattle.idl_prep.specs.Pass.{coming, entered, to_come}
 use Rattle.idl_prep.specs.Root.{enter}
@@ -30,8 +31,8 @@ enter_file-returns g t c =
     let room = c.args.room in
     let more : room ≡ suc (room - 1) = omega (arith, c.if-room-eq0.false) in
     onward-enter bank room (room - 1) i.place i.name i.file.now c.args.root.now c.tell-2.new.self c.walk_file.new.root c.tell-3.new.self more
-    (c.in_ok-tell-2.ensures ∙ ap (λ f. telling (Entered f) c.args.root.now) c.in_ok-clone.ensures.cases) c.in_ok-walk_file.ensures
-    (c.in_ok-tell-3.ensures ∙ ap (λ f. telling (Left f) c.walk_file.new.root) c.in_ok-clone-2.ensures.cases)
+    (c.in_ok-tell-2.ensures ∙ ap (λ f. telling (Kept (Entered f)) c.args.root.now) c.in_ok-clone.ensures.cases) c.in_ok-walk_file.ensures
+    (c.in_ok-tell-3.ensures ∙ ap (λ f. telling (Kept (Left f)) c.walk_file.new.root) c.in_ok-clone-2.ensures.cases)
     ∙ ap (λ found. onward bank (entered (enter room) found) c.args.root.now) (sym c.in-Some.is)
 
 pub walk_file-lines-init : goal.walk_file-lines-init
@@ -40,14 +41,14 @@ walk_file-lines-init g t c =
     let next = enter c.args.room in
     let file = c.args.name.now in
     let way = c.args.root.now in
-    ap (λ gs. to_come bank next file gs (map read (lines_of c.tokens-left.result.now)) way) c.new-groups.ensures
+    ap (λ gs. to_come bank next file gs (map read (lines_of c.tokens-left.result)) way) c.new-groups.ensures
     ∙ ap (λ ts. to_come bank next file [] (map read (lines_of ts)) way) c.tokens-left.ensures
     ∙ to_come-file bank next file c.args.file.now way
 
 pub walk_file-returns-then-is_over : goal.walk_file-returns-then-is_over
 walk_file-returns-then-is_over g t c =
     let bank = g.B.Bank.at c.args.bank.now in
-    ended-over bank (coming (enter c.args.room) c.args.name.now c.lines.groups (part (map read (lines_of c.lines.left.now)))) c.lines.root (c.if-is_over.ensures.0 refl)
+    ended-over bank (coming (enter c.args.room) c.args.name.now c.lines.groups (part (map read (lines_of c.lines.left)))) c.lines.root (c.if-is_over.ensures.0 refl)
     ∙ c.lines.invariant
 
 pub walk_file-enter_file-requires : goal.walk_file-enter_file-requires
@@ -55,22 +56,22 @@ walk_file-enter_file-requires g t c κs within = (omega arith, within)
 
 pub walk_file-lines-smaller : goal.walk_file-lines-smaller
 walk_file-lines-smaller g t c =
-    let line = c.first_line.result.0.now in
-    let rest = c.first_line.result.1.now in
-    let all : length c.lines.left.now ≡ length line + length rest = ap length c.first_line.ensures.all ∙ length-append line rest in
-    omega (arith, c.first_line.ensures.some, all)
+    let line = c.first_line-line.result.0 in
+    let rest = c.first_line-line.result.1 in
+    let all : length c.lines.left ≡ length line + length rest = ap length c.first_line-line.ensures.all ∙ length-append line rest in
+    omega (arith, c.first_line-line.ensures.some, all)
 
 pub walk_file-lines-preserved : goal.walk_file-lines-preserved
 walk_file-lines-preserved g t c =
     let bank = g.B.Bank.at c.args.bank.now in
     let next = enter c.args.room in
     let file = c.args.name.now in
-    let lines = map read (lines_of c.first_line.result.1.now) in
+    let lines = map read (lines_of c.first_line-line.result.1) in
     let found = c.in_ok-inclusion.inclusion in
     let after = coming next file c.walk_line.new.groups (part lines) in
     onward-then bank (entered next found) after (λ s. and_then (entered next found s) after) c.walk_line.new.root c.enter_file.new.root c.in_ok-enter_file.ensures refl
     ∙ c.in_ok-inclusion.ensures next lines
-    ∙ ap (λ ls. to_come bank next file c.lines.groups (map read ls) c.lines.root) (sym c.first_line.ensures.lines)
+    ∙ ap (λ ls. to_come bank next file c.lines.groups (map read ls) c.lines.root) (sym c.first_line-line.ensures.lines)
     ∙ c.lines.invariant
 
 pub walk_file-returns : goal.walk_file-returns
@@ -78,5 +79,5 @@ walk_file-returns g t c =
     let bank = g.B.Bank.at c.args.bank.now in
     let next = enter c.args.room in
     c.in_ok-end_file.ensures next bank
-    ∙ sym (to_come-no_line bank next c.args.name.now c.lines.groups c.lines.left.now c.lines.root (nil_from_length c.lines.left.now (eqb-true (length c.lines.left.now) 0 (sym c.lines-test.ensures))))
+    ∙ sym (to_come-no_line bank next c.args.name.now c.lines.groups c.lines.left c.lines.root (sym c.as_slice.ensures ∙ nil_from_length c.as_slice.result.now (eqb-true (length c.as_slice.result.now) 0 (sym c.lines-test.ensures))))
     ∙ c.lines.invariant

@@ -1,6 +1,7 @@
 use Rattle.std.proofs.Common.{[], Some, ap, sym, ◌∙◌}
-use Rattle.idl_macro.specs.declared.item.Code.TheVariants.{NotClosed}
-use Rattle.idl_macro.specs.declared.item.Item.TheVariants.{Fault}
+use Rattle.idl_event.specs.declared.code.Code.TheVariants.{NotClosed}
+use Rattle.idl_event.specs.declared.event.Event.TheVariants.{Fault}
+use Rattle.idl_event.specs.declared.event.Item.TheVariants.{Kept}
 use Rattle.idl_prep.specs.Pass.{to_come}
 use Rattle.idl_prep.specs.State.{telling}
 use Rattle.idl_prep.proofs.WalkLemmas.{to_come-nothing, to_come-unclosed}
@@ -11,7 +12,7 @@ groups-preserved g c = λ enter bank.
     let file = c.args.file.now in
     let o = c.in-Some.group.opener in
     to_come-unclosed bank enter file c.in-Some.group c.pop.new.self c.groups.root c.fault.new.self
-    (c.in_ok-fault.ensures ∙ ap (λ f. telling (Fault (record { file = f; line = o.line }) NotClosed (Some o.word)) c.groups.root) c.in_ok-clone.ensures.cases)
+    (c.in_ok-fault.ensures ∙ ap (λ f. telling (Kept (Fault (record { file = f; line = o.line }) NotClosed (Some o.word))) c.groups.root) c.in_ok-clone.ensures.cases)
     ∙ ap (λ gs. to_come bank enter file gs [] c.groups.root) (sym c.in-Some.ensures)
     ∙ c.groups.invariant enter bank
 

@@ -1,5 +1,7 @@
-use Rattle.std.proofs.Common.{ap, sym, ◌∙◌}
+use Rattle.std.proofs.Common.{List, ap, sym, ◌∙◌}
 use Rattle.idl_base.specs.Query.{Done}
+use Rattle.idl_event.specs.Expanding.{reached}
+use Rattle.idl_lex.specs.declared.token.PlacedToken.{PlacedToken}
 use Rattle.idl_macro.specs.Replace.{text}
 use Rattle.idl_prep.specs.Directive.{act}
 use Rattle.idl_prep.specs.State.{ended}
@@ -10,5 +12,7 @@ pub returns : goal.returns
 unfolding act
 returns g c = λ enter.
     let way = c.args.root.now in
+    let bank = g.B.Bank.at c.args.bank.now in
     ap ended c.in_ok-emit.ensures
-    ∙ sym (arrival-and_then (g.B.Bank.at c.args.bank.now) (text c.args.file.now way.state.definitions c.args.tokens.now) (λ _. Done way.state) way.progress)
+    ∙ ap (λ (ts : List PlacedToken). ended (record way { progress = reached bank (text c.args.file.now way.state.definitions ts) way.progress })) c.as_slice.ensures
+    ∙ sym (arrival-and_then bank (text c.args.file.now way.state.definitions c.args.tokens.now) (λ _. Done way.state) way.progress)

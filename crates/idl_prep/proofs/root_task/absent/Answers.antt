@@ -9,8 +9,8 @@ entries-preserved-in_default g c =
 pub entries-preserved : goal.entries-preserved
 entries-preserved g c =
     c.in_ok-push.ensures.items
-    ∙ absent-more c.args.log.now c.entries.index c.entries.names.items (c.copied.result ∷ []) (omega (arith, c.entries-test.true, c.len-index-end.ensures)) c.entries.invariant
-    (ap (λ n. n ∷ []) c.copied.ensures ∙ c.in-Some.ensures)
+    ∙ absent-more c.args.log.now c.entries.index c.entries.names.items (c.name.result ∷ []) (omega (arith, c.entries-test.true, c.len-index-end.ensures)) c.entries.invariant
+    (ap (λ n. n ∷ []) c.name.ensures ∙ c.in-Some.ensures)
 
 pub returns : goal.returns
 returns g c = absent-all c.args.log.now c.entries.index c.entries.names.items (omega (arith, c.entries-test.false, c.len-index-end.ensures)) c.entries.invariant

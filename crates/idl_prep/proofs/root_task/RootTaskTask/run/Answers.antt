@@ -1,6 +1,6 @@
 use Rattle.std.proofs.Common.{ap, ◌∙◌}
-use Rattle.idl_macro.specs.Items.{beginning}
-use Rattle.idl_macro.specs.Macros.{reached}
+use Rattle.idl_event.specs.Items.{beginning}
+use Rattle.idl_event.specs.Expanding.{reached}
 use Rattle.idl_prep.specs.Root.{root}
 use Rattle.idl_prep.specs.State.{Way}
 use Rattle.idl_prep.proofs.RootTaskLemmas.{run-expansion}

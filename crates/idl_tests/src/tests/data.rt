@@ -1,0 +1,37 @@
+//! Exact data at its types, by the bounds alone.
+
+use idl_base::{Datum, Seq, Text};
+use std::alloc::AllocError;
+use std::hash::{FoldHasher, Hash, Hasher};
+use std::test::Fail;
+
+fn digest<T: Hash>(value: &T) -> u64 {
+    let mut hasher = FoldHasher::default();
+    value.hash(&mut hasher);
+    hasher.finish()
+}
+
+// Whether a copy is equal to its source, and hashes as it does.
+fn is_copied_alike<T: Datum + Hash>(value: &T) -> Result<bool, AllocError> {
+    let copy = value.clone()?;
+    Ok(copy == *value && digest(&copy) == digest(value))
+}
+
+#[test]
+fn simple_data_is_copied_alike(rt: HostRuntime) -> Result<(), Fail> {
+    assert!(rt; is_copied_alike(&())?);
+    assert!(rt; is_copied_alike(&true)?);
+    assert!(rt; is_copied_alike(&'ß')?);
+    assert!(rt; is_copied_alike(&u64::MAX)?);
+    assert!(rt; is_copied_alike(&i64::MIN)?);
+    Ok(())
+}
+
+#[test]
+fn lists_of_texts_are_copied_alike(rt: HostRuntime) -> Result<(), Fail> {
+    let mut items = Vec::new(rt.alloc());
+    items.push((7u8, Some(Text::from_slice(rt.alloc(), b"Foo")?)))?;
+    let list = Seq::from_vec(items);
+    assert!(rt; is_copied_alike(&list)?);
+    Ok(())
+}
