@@ -94,12 +94,12 @@ impl Reply {
     ) -> Result<(), WriteFailed>
         requires counts { K.failures sink.old < 2 ^ 64 - 1 }
 
-        ensures sent { OnOk result
-            (Sends (K.written sink.old) (self.old ++ number_line word.now n) (K.written sink.new) self.new) }
+        ensures sent { let bytes = self.old ++ number_line word.now n in OnOk result
+            (Sends (K.written sink.old) bytes (K.written sink.new) self.new) }
         ensures ok { OnOk result (K.failures sink.new ≡ K.failures sink.old) }
 
-        ensures part { OnErr result
-            (WritesPart (K.written sink.old) (self.old ++ number_line word.now n) (K.written sink.new)) }
+        ensures part { let bytes = self.old ++ number_line word.now n in OnErr result
+            (WritesPart (K.written sink.old) bytes (K.written sink.new)) }
         ensures err { OnErr result (K.failures sink.new ≡ K.failures sink.old + 1) }
     {
         let mut buffer = Buffer::new();
@@ -111,12 +111,12 @@ impl Reply {
     fn push_line<K: Sink>(&mut self, sink: &mut K, line: &[u8]) -> Result<(), WriteFailed>
         requires counts { K.failures sink.old < 2 ^ 64 - 1 }
 
-        ensures sent { OnOk result
-            (Sends (K.written sink.old) (self.old ++ whole_line line.now) (K.written sink.new) self.new) }
+        ensures sent { let bytes = self.old ++ whole_line line.now in OnOk result
+            (Sends (K.written sink.old) bytes (K.written sink.new) self.new) }
         ensures ok { OnOk result (K.failures sink.new ≡ K.failures sink.old) }
 
-        ensures part { OnErr result
-            (WritesPart (K.written sink.old) (self.old ++ whole_line line.now) (K.written sink.new)) }
+        ensures part { let bytes = self.old ++ whole_line line.now in OnErr result
+            (WritesPart (K.written sink.old) bytes (K.written sink.new)) }
         ensures err { OnErr result (K.failures sink.new ≡ K.failures sink.old + 1) }
     {
         self.push(sink, line)?;

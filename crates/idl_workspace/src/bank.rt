@@ -127,8 +127,8 @@ impl SessionBank {
 
     /// Gives the macro with this word this body, as the last one if it is new.
     pub fn define(&mut self, word: Spelling, body: MacroBody) -> Result<(), AllocError>
-        ensures ok { OnOk result
-            (self.new ≡ record self.old { macros = insert_entry bytes_eq self.old.macros word body }) }
+        ensures ok { let macros = insert_entry bytes_eq self.old.macros word body in
+            OnOk result (self.new ≡ record self.old { macros = macros }) }
         ensures bank { OnOk result (bank_of self.new
             ≡ bank_with (bank_of self.old) (keys.Macro word) (Some (answers.Macro (body ∷ [])))) }
         ensures err { OnErr result (self.new ≡ self.old) }

@@ -280,7 +280,8 @@ impl Session {
 
     // Why a macro with this word and this body isn't defined.
     fn refusal_of_define(&self, word: &Spelling, body: &Line) -> Option<Refusal>
-        ensures { result ≡ result_err (macros_with self.now.project.inputs.macros word.now body.now) }
+        ensures { let macros = self.now.project.inputs.macros in
+            result ≡ result_err (macros_with macros word.now body.now) }
     {
         if body.len() > MAX_BODY || self.bank.is_full_for(word) {
             return Some(Refusal::OverLimit);
