@@ -3,11 +3,8 @@ use Rattle.std.proofs.Common.{◌≡◌, ℕ, Bool, true, false, not, ◌&&◌, 
 use Rattle.std.specs.List.{list_any}
 use Rattle.std.specs.Map.{keys_of, lookup}
 use Rattle.std.specs.Str.{bytes_eq}
-use Rattle.std.proofs.lemmas.List.Sorted.{IsPermutation-reverse, list_any-IsPermutation}
+use Rattle.std.proofs.lemmas.List.Sorted.{IsPermutation-map, IsPermutation-reverse, list_any-IsPermutation}
 use Rattle.std.proofs.lemmas.Map.Made.{is_some-lookup}
-use Rattle.indexmap.specs.IndexMap.{IndexMap, insert_entry}
-use Rattle.indexmap.proofs.CallerLemmas.{insert_entry-new}
-use Rattle.indexmap.proofs.ReorderLemmas.{map-reverse}
 use Rattle.idl_base.specs.Query.{Done, Ask, outcome}
 use Rattle.idl_event.specs.Expanding.{Expanding}
 use Rattle.idl_event.specs.declared.key.Answer.{Answer}
@@ -35,8 +32,7 @@ module _ (definitions : Definitions) (word : List ℕ) where
 -- a word is hidden if it has an entry, in whichever order
 pub hidden-entries : {V : Type 0} (t word : List ℕ) (entries : List (List ℕ × V)) → word ≡ t → list_any (bytes_eq t) (keys_of (reverse entries)) ≡ is_some (lookup (bytes_eq word) entries)
 hidden-entries t word entries same =
-    ap (list_any (bytes_eq t)) (map-reverse (λ e. e.0) entries)
-    ∙ sym (list_any-IsPermutation (bytes_eq t) (keys_of entries) (reverse (keys_of entries)) (IsPermutation-reverse (keys_of entries)))
+    sym (list_any-IsPermutation (bytes_eq t) (keys_of entries) (keys_of (reverse entries)) (IsPermutation-map (λ e. e.0) entries (reverse entries) (IsPermutation-reverse entries)))
     ∙ sym (is_some-lookup (bytes_eq t) entries)
     ∙ ap (λ w. is_some (lookup (bytes_eq w) entries)) (sym same)
 
@@ -71,14 +67,9 @@ module _ (definitions : Definitions) (hidden : List (List ℕ)) (t : Token) wher
     unfolding replacement
     not_hidden body found = none_hidden (is_word t) (list_any (bytes_eq t) hidden) body found
 
--- where a key is not there
-no_value : {V : Type 0} (o : Option V) → is_some o ≡ false → o ≡ None
-no_value None h = refl
-no_value (Some v) h = cc
-
 -- the word of a token that is replaced goes behind those that are there
-pub entries-opened : {V S : Type 0} (bank : Key → Option Answer) (definitions : Definitions) (stack : IndexMap (List ℕ) V S) (t : Token) (body : List Token) (word : List ℕ) (v : V) (new : List (List ℕ × V))
-    → outcome (replacement definitions (keys_of (reverse stack.entries)) t) bank ≡ Some body → word ≡ t → new ≡ insert_entry bytes_eq stack.entries word v → new ≡ stack.entries ++ (t, v) ∷ []
+pub entries-opened : {V : Type 0} (bank : Key → Option Answer) (definitions : Definitions) (stack : List (List ℕ × V)) (t : Token) (body : List Token) (word : List ℕ) (v : V) (new : List (List ℕ × V))
+    → outcome (replacement definitions (keys_of (reverse stack)) t) bank ≡ Some body → word ≡ t → (is_some (lookup (bytes_eq word) stack) ≡ false → new ≡ stack ++ (word, v) ∷ []) → new ≡ stack ++ (t, v) ∷ []
 entries-opened bank definitions stack t body word v new found same inserted =
-    let absent = no_value (lookup (bytes_eq t) stack.entries) (sym (hidden-entries t t stack.entries refl) ∙ not_hidden definitions (keys_of (reverse stack.entries)) t bank body found) in
-    inserted ∙ ap (λ (k : List ℕ). insert_entry bytes_eq stack.entries k v) same ∙ insert_entry-new bytes_eq stack t v absent
+    inserted (sym (hidden-entries t word stack same) ∙ not_hidden definitions (keys_of (reverse stack)) t bank body found)
+    ∙ ap (λ (k : List ℕ). stack ++ (k, v) ∷ []) same

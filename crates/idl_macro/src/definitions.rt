@@ -3,27 +3,22 @@
 ghost use Rattle.std.specs.Prelude.{◌≡◌, [], Some, None, IfOk, OnOk};
 ghost use Rattle.std.specs.Option.{option_copied, option_map};
 ghost use Rattle.std.specs.Str.{bytes_eq};
-ghost use Rattle.indexmap.specs.IndexMap.{insert_entry};
+ghost use Rattle.idl_base.specs.Table.{insert_entry};
 ghost use Rattle.idl_event.specs.Expanding.{arrival, arrived};
 ghost use Rattle.idl_lex.specs.Tokens.{tokens_in};
 ghost use Rattle.idl_macro.specs.Macros.{body_in, macro_of};
 
+use idl_base::Table;
 use idl_event::{Answer, Key, Progress, TokenRange};
 use idl_lex::{PlacedToken, Spelling};
 use idl_memo::Bank;
-use indexmap::IndexMap;
 use std::alloc::{AllocError, Global};
 use std::marker::Model;
 
 /// What a root itself has said of words: the body of a macro, or that the macro is removed.
+#[derive(Drop)]
 pub struct Definitions {
-    entries: IndexMap<Spelling, Option<TokenRange>>,
-}
-
-impl Drop for Definitions {
-    fn drop(self) {
-        let Definitions { entries: _entries } = self;
-    }
+    entries: Table<Spelling, Option<TokenRange>>,
 }
 
 impl Model for Definitions {
@@ -32,7 +27,7 @@ impl Model for Definitions {
 
     ghost Value = { List (List ℕ × Option (List Token)) };
 
-    ghost view = { λ definitions. definitions.entries.entries };
+    ghost view = { λ definitions. definitions.entries };
 }
 
 /// The macros of a root: what the root has said of them, and the bank that is asked of the others.
@@ -48,7 +43,7 @@ impl Definitions {
         ensures { result ≡ [] }
     {
         Definitions {
-            entries: IndexMap::new(alloc),
+            entries: Table::new(alloc),
         }
     }
 

@@ -16,10 +16,10 @@ ghost use Rattle.idl_macro.specs.Output.{given, given_more, item_of};
 ghost use Rattle.idl_macro.specs.Replace.{operand, replaced, replaced_at, replacement, text};
 
 use crate::definitions::{Definitions, Macros};
+use idl_base::Table;
 use idl_event::{Answer, Event, FileName, Item, Key, Place, Progress};
 use idl_lex::{PlacedToken, Spelling, Token};
 use idl_memo::Bank;
-use indexmap::IndexMap;
 use std::alloc::{AllocError, Global};
 use std::slice::from_ref;
 
@@ -110,7 +110,7 @@ fn replace<B: Bank<Key = Key, Answer = Answer>>(
         (replaced_at (item_of output.old place.now) place.now macros.now.definitions.now
         (tokens_in tokens.now)) (B.at macros.now.bank.now))) }
 {
-    let mut stack: IndexMap<Spelling, &[PlacedToken]> = IndexMap::new(progress.allocator());
+    let mut stack: Table<Spelling, &[PlacedToken]> = Table::new(progress.allocator());
     let mut left = tokens;
     'steps: while !progress.is_over() {
         match left.split_first() {
@@ -140,32 +140,25 @@ fn replace<B: Bank<Key = Key, Answer = Answer>>(
 // The body that a token is replaced by: its macro's, if it is a word and doesn't stand in its own
 // replacement.
 fn replacement<'a, B: Bank<Key = Key, Answer = Answer>>(
-    stack: &IndexMap<Spelling, &'a [PlacedToken]>,
+    stack: &Table<Spelling, &'a [PlacedToken]>,
     macros: &Macros<'a, B>,
     token: &Token,
     progress: &mut Progress<B>,
 ) -> Result<Option<&'a [PlacedToken]>, AllocError>
     ensures { IfOk result (λ body. arrived (option_map tokens_in (option_copied body)) progress.new
         ≡ arrival (B.at macros.now.bank.now)
-        (replacement macros.now.definitions.now (keys_of (reverse stack.now.entries)) token.now)
+        (replacement macros.now.definitions.now (keys_of (reverse stack.now)) token.now)
         progress.old) }
 {
     if !token.is_word() {
         return Ok(None);
     }
-    if is_open(stack, token.spelling()) {
+    if stack.contains(token.spelling()) {
         return Ok(None);
     }
     macros
         .definitions
         .macro_of(token.spelling(), macros.bank, progress)
-}
-
-// Whether the work stands in the replacement of this word.
-fn is_open(stack: &IndexMap<Spelling, &[PlacedToken]>, word: &Spelling) -> bool
-    ensures { result ≡ is_some (lookup (bytes_eq word.now) stack.now.entries) }
-{
-    stack.contains_key(word)
 }
 
 impl Output {

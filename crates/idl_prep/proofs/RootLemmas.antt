@@ -16,7 +16,7 @@ use Rattle.idl_prep.specs.declared.kind.Test.{Test}
 
 -- a test of the directive as macros take it is that of the directive
 pub arrival-test : (bank : Key → Option Answer) (query : Place → List ℕ → Definitions → List PlacedToken → Expanding Bool) (file : FileName) (place : Place) (word : List ℕ)
-      (operands : List PlacedToken) (d : Directive) (what what' : Test) (way way' : Way)
+    (operands : List PlacedToken) (d : Directive) (what what' : Test) (way way' : Way)
     → query (place_in file d) d.word.token way'.state.definitions d.operands ≡ tested file d way'.state what → what' ≡ what
     → place ≡ place_in file d → word ≡ d.word.token → operands ≡ d.operands → way ≡ way'
     → arrival bank (query place word way.state.definitions operands) way.progress ≡ arrival bank (test file d what' way'.state) way'.progress

@@ -1,5 +1,5 @@
 -- Where a root comes to by one query after another.
-use Rattle.std.proofs.Common.{◌≡◌, ◌≢◌, Option, None, Some, refl, ap, sym, ◌∙◌}
+use Rattle.std.proofs.Common.{◌≡◌, Option, None, Some, refl, ap, sym, ◌∙◌}
 use Rattle.std.specs.Option.{option_map}
 use Rattle.idl_base.specs.Progress.{after-over, after-and_then}
 use Rattle.idl_base.specs.Query.{and_then, outcome}

@@ -79,7 +79,7 @@ fn present<'b, B: Bank<Key = Key, Answer = Answer>>(
 ) -> Result<Option<Found<'b>>, AllocError>
     ensures { let names = option_to_list (joined directory.now name.now) in
         IfOk result (λ found. arrived found progress.new
-            ≡ arrival (B.at bank.now) (first_present names) progress.old) }
+        ≡ arrival (B.at bank.now) (first_present names) progress.old) }
 {
     let Some(name) = join(directory, name) else {
         return Ok(None);

@@ -72,7 +72,11 @@ pub fn act_directive<'b, B: Bank<Key = Key, Answer = Answer>>(
             Ok(None)
         }
         Plain::Error => {
-            root.fault(place, Code::Error, &parted(root.allocator(), directive.tokens().as_slice())?)?;
+            root.fault(
+                place,
+                Code::Error,
+                &parted(root.allocator(), directive.tokens().as_slice())?,
+            )?;
             Ok(None)
         }
         Plain::Pragma => {

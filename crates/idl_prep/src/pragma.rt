@@ -8,8 +8,8 @@ ghost use Rattle.idl_prep.specs.State.{ended, onward};
 
 use crate::line::Directive;
 use crate::root::Root;
-use idl_lex::{PlacedToken, Spelling};
 use idl_event::{Answer, Event, FileName, Item, Key};
+use idl_lex::{PlacedToken, Spelling};
 use idl_memo::Bank;
 use std::alloc::AllocError;
 

@@ -5,8 +5,8 @@ ghost use Rattle.idl_prep.specs.Include.{operand_at, operand_of};
 ghost use Rattle.idl_event.specs.Expanding.{arrival, arrived};
 
 use crate::operand::{Operand, operand_given, operand_in};
-use idl_lex::PlacedToken;
 use idl_event::{Answer, Item, Key, Place, Progress};
+use idl_lex::PlacedToken;
 use idl_macro::{Macros, replace_operand};
 use idl_memo::Bank;
 use std::alloc::AllocError;
@@ -45,7 +45,10 @@ fn operand_at<B: Bank<Key = Key, Answer = Answer>>(
     if !token.is_word() {
         return Ok(None);
     }
-    match macros.definitions.macro_of(token.spelling(), macros.bank, progress)? {
+    match macros
+        .definitions
+        .macro_of(token.spelling(), macros.bank, progress)?
+    {
         None => Ok(None),
         Some(_body) => {
             let given = replace_operand(macros, place, from_ref(placed), progress)?;

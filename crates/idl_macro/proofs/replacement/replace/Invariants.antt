@@ -15,15 +15,15 @@ invariant-steps g l =
     let definitions = l.macros.definitions.now in
     let item = item_of l.fn.output l.place in
     let query = replaced_at item l.place definitions (tokens_in l.fn.tokens) in
-    let rest = pending bank item l.place definitions (turns_at_most + 1) (reverse l.stack.entries) (tokens_in l.left) in
+    let rest = pending bank item l.place definitions (turns_at_most + 1) (reverse l.stack) (tokens_in l.left) in
     record {
       -- what the replacements that are open still stand for leads to where the whole leads
       progress : reached bank query l.fn.progress ≡ reached bank rest l.progress;
       given : given_more (given l.fn.output) (outcome query bank) ≡ given_more (given l.output) (outcome rest bank);
       item : item_of l.output ≡ item_of l.fn.output;
       -- each open replacement took a turn
-      depth : IsWithinTurns l.progress.left (length l.stack.entries);
+      depth : IsWithinTurns l.progress.left (length l.stack);
     }
 
 abbrev pub decreases-steps : goal.decreases-steps
-decreases-steps g l = work_left l.progress.left (length l.stack.entries)
+decreases-steps g l = work_left l.progress.left (length l.stack)

@@ -10,12 +10,12 @@ use Rattle.idl_macro.proofs.replacement.replacement.Goals as goal
 pub returns-then-not-is_word : goal.returns-then-not-is_word
 returns-then-not-is_word g c =
     sym (ap (λ query. arrival (g.B.Bank.at c.args.macros.now.bank.now) query c.args.progress.now)
-    (replacement-no_word c.args.macros.now.definitions.now (keys_of (reverse c.args.stack.now.entries)) c.args.token.now (sym c.is_word.ensures ∙ c.if-not-is_word.true)))
+    (replacement-no_word c.args.macros.now.definitions.now (keys_of (reverse c.args.stack.now)) c.args.token.now (sym c.is_word.ensures ∙ c.if-not-is_word.true)))
 
-pub returns-then-is_open : goal.returns-then-is_open
-returns-then-is_open g c =
-    let entries = c.args.stack.now.entries in
-    let among = hidden-entries c.args.token.now c.spelling.result.now entries c.spelling.ensures ∙ sym c.if-is_open.ensures in
+pub returns-then-contains : goal.returns-then-contains
+returns-then-contains g c =
+    let entries = c.args.stack.now in
+    let among = hidden-entries c.args.token.now c.spelling.result.now entries c.spelling.ensures ∙ sym c.if-contains.ensures in
     sym (ap (λ query. arrival (g.B.Bank.at c.args.macros.now.bank.now) query c.args.progress.now)
     (replacement-hidden c.args.macros.now.definitions.now (keys_of (reverse entries)) c.args.token.now (sym c.is_word.ensures ∙ c.if-not-is_word.false) among))
 
@@ -23,8 +23,8 @@ pub returns : goal.returns
 returns g c =
     let bank = g.B.Bank.at c.args.macros.now.bank.now in
     let definitions = c.args.macros.now.definitions.now in
-    let entries = c.args.stack.now.entries in
-    let among = hidden-entries c.args.token.now c.spelling.result.now entries c.spelling.ensures ∙ sym c.if-is_open.ensures in
+    let entries = c.args.stack.now in
+    let among = hidden-entries c.args.token.now c.spelling.result.now entries c.spelling.ensures ∙ sym c.if-contains.ensures in
     let wanted = replacement-word definitions (keys_of (reverse entries)) c.args.token.now (sym c.is_word.ensures ∙ c.if-not-is_word.false) among in
     subst
     (λ (there : Reached × Option (Option (List Token))). IfOk c.macro_of.result (λ body. arrived (option_map tokens_in (option_copied body)) c.macro_of.new.progress ≡ there))
