@@ -6,9 +6,15 @@ use std::alloc::{AllocError, AllocGlobal, Global};
 use std::process::Abort;
 use std::test::Fail;
 
-// Conditions that GCC's preprocessor refuses.
+// Conditions that GCC's preprocessor refuses, parted by semicolons, and such that it may take.
 const FAULTY: &str =
-    "1 / 0;1 && 1 / 0;9223372036854775807 + 1;- ( - 9223372036854775807 - 1 );3037000500 * 3037000500;( - 9223372036854775807 - 1 ) / - 1;1 << 63;1 || ( 1 / 0;1 || 1 );0 && ( );1 || 2 3;1 || * 1;1 ! 2;+;( 1 ) ( 2 );1 || 08;1 || 0x;1 || 1.5;1 || 18446744073709551616x";
+    "1 / 0;1 && 1 / 0;9223372036854775807 + 1;- ( - 9223372036854775807 - 1 );3037000500 * 3037000500;\
+     ( - 9223372036854775807 - 1 ) / - 1;1 << 63;1 || ( 1 / 0;1 || 1 );0 && ( );1 || 2 3;1 || * 1;1 ! 2;\
+     +;( 1 ) ( 2 );1 || 08;1 || 0x;1 || 1.5;1 || 18446744073709551616x";
+
+const OURS: &str =
+    "1 << 64;1 << - 1;- 1 << 1;1 >> 64;- 8 >> 1;9223372036854775808;1 || 18446744073709551616;1 ? 2 : 3;\
+     1 , 2;1 || 'a';";
 
 // The value of a condition whose tokens are parted by blanks.
 fn value_of(alloc: Global, text: &str) -> Result<Option<i64>, AllocError> {
@@ -19,6 +25,18 @@ fn value_of(alloc: Global, text: &str) -> Result<Option<i64>, AllocError> {
         }
     }
     evaluate(alloc, &symbols)
+}
+
+fn has_value(rt: &(impl Abort + AllocGlobal), text: &str, want: Option<i64>) -> Result<(), Fail> {
+    assert_eq!(rt; value_of(rt.alloc(), text)?, want, "{text}");
+    Ok(())
+}
+
+fn are_faulty(rt: &(impl Abort + AllocGlobal), conditions: &str) -> Result<(), Fail> {
+    for text in conditions.split(';') {
+        has_value(rt, text, None)?;
+    }
+    Ok(())
 }
 
 // The values are those of GCC's preprocessor (cpp 12.2), which is asked for the 64 bits of a condition $C by
@@ -70,12 +88,9 @@ fn conditions_have_the_values_of_c(rt: HostRuntime) -> Result<(), Fail> {
         ("3037000499 * 3037000499", Some(9223372030926249001)),
         ("( ( ( 5 ) ) )", Some(5)),
     ] {
-        assert_eq!(rt; value_of(rt.alloc(), text)?, *want, "{text}");
+        has_value(&rt, text, *want)?;
     }
-    for text in FAULTY.split(';') {
-        assert_eq!(rt; value_of(rt.alloc(), text)?, None, "{text}");
-    }
-    Ok(())
+    are_faulty(&rt, FAULTY)
 }
 
 // C leaves these open, or takes them in another way.
@@ -88,24 +103,18 @@ fn these_values_are_ours(rt: HostRuntime) -> Result<(), Fail> {
         ("7lUlu", Some(7)),
         ("1 || 18446744073709551615", Some(1)),
     ] {
-        assert_eq!(rt; value_of(rt.alloc(), text)?, *want, "{text}");
+        has_value(&rt, text, *want)?;
     }
-    for text in "1 << 64;1 << - 1;- 1 << 1;1 >> 64;- 8 >> 1;9223372036854775808;1 || 18446744073709551616;1 ? 2 : 3;1 , 2;1 || 'a';".split(
-        ';',
-    ) {
-        assert_eq!(rt; value_of(rt.alloc(), text)?, None, "{text}");
-    }
-    Ok(())
+    are_faulty(&rt, OURS)
 }
 
 // Each parenthesis, sign and operator waits until the end.
 #[test]
 fn a_condition_may_be_deep(rt: HostRuntime) -> Result<(), Fail> {
     let open = repeated(rt.alloc(), "", "1 + ( - ", 1_000, "x")?;
-    assert_eq!(rt; value_of(rt.alloc(), open.as_str())?, None);
+    has_value(&rt, open.as_str(), None)?;
     let closed = repeated(rt.alloc(), open.as_str(), " )", 1_000, "")?;
-    assert_eq!(rt; value_of(rt.alloc(), closed.as_str())?, Some(-998));
-    Ok(())
+    has_value(&rt, closed.as_str(), Some(-998))
 }
 
 // Whether a condition $C holds behind these definitions, or is faulty, is what GCC's preprocessor (cpp 12.2) says:
@@ -115,7 +124,8 @@ fn a_condition_may_be_deep(rt: HostRuntime) -> Result<(), Fail> {
 fn conditions_hold_or_not(rt: HostRuntime) -> Result<(), Fail> {
     for (conditions, want) in &[
         (
-            "defined X;defined(X);defined _1;!defined Z && defined Y;defined X + defined(Y) == 2;defined X X;defined P && P * P == 3;O 1 C;S == 1;1 || 1/0;-7 / 2 == -3;7 - 2 - 1 == 4;defined + 1",
+            "defined X;defined(X);defined _1;!defined Z && defined Y;defined X + defined(Y) == 2;defined X X;\
+             defined P && P * P == 3;O 1 C;S == 1;1 || 1/0;-7 / 2 == -3;7 - 2 - 1 == 4;defined + 1",
             "rows 1\na.idl:10: E16 error taken\nrows 0\n",
         ),
         (

@@ -1,6 +1,8 @@
 //! The kinds of words, numbers and marks.
 
-use idl_lex::{Defect, Keyword, Kind, Mark, PreprocessorMark, integer_value, is_like_keyword, kind_of};
+use idl_lex::{
+    Defect, Keyword, Kind, Mark, PreprocessorMark, integer_value, is_like_keyword, kind_of,
+};
 
 #[test]
 fn the_language_has_these_keywords(rt: HostRuntime) {

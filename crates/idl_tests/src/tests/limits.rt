@@ -88,7 +88,7 @@ fn the_tokens_of_a_root_are_bounded(rt: HostRuntime) -> Result<(), Fail> {
 fn the_turns_of_a_root_are_bounded(rt: HostRuntime) -> Result<(), Fail> {
     let mut text = tower(rt.alloc(), 6, 10)?;
     text.push_str("#define M6\nM1 M1 M1 M1 M1 M1 M1 M1 M2 M2 M2 M2 M2 M2 M2 M2 M2 ")?;
-    text.push_str("M3 M3 M3 M3 M3 M3 M3 M3 M4 M4 M4 M4 M4 M4 M4 M4 M4 ")?;
+    text.push_str("M3 M3 M3 M3 M3 M3 M3 M3 M3 M4 M4 M4 M4 M4 M4 M4 M4 M4 ")?;
     text.push_str("M5 M5 M5 M5 M5 M5 M5 M5 M5 M6 M6 M6 M6 M6 M6 M6 M6 M6 M6\n#")?;
     has_rows(&rt, text.as_str(), "rows 1\na.idl:8: E19\nrows 0\n")
 }

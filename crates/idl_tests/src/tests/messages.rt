@@ -1,7 +1,7 @@
-//! The words of refusals and of failed devices.
+//! The words of refusals, and of a run that stops.
 
 use idl_session::Stop;
-use idl_source::{ReadFailed, Refusal, WriteFailed};
+use idl_source::Refusal;
 use std::test::Fail;
 
 #[test]
@@ -21,13 +21,6 @@ fn refusals_have_words(rt: HostRuntime) -> Result<(), Fail> {
         let shown = format!(in rt.alloc(); "{refusal}")?;
         assert_eq!(rt; shown.as_str(), *words);
     }
-    Ok(())
-}
-
-#[test]
-fn failed_devices_have_words(rt: HostRuntime) -> Result<(), Fail> {
-    let shown = format!(in rt.alloc(); "{ReadFailed}, {WriteFailed}")?;
-    assert_eq!(rt; shown.as_str(), "read failed, write failed");
     Ok(())
 }
 

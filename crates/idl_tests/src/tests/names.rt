@@ -1,6 +1,6 @@
-//! Which bytes are names of files, names of directories and lines, and where operands lead.
+//! Which bytes are names of files and of directories, and where operands lead.
 
-use idl_source::{Directory, Line, Name, join};
+use idl_source::{Directory, Name, join};
 use std::test::Fail;
 
 #[test]
@@ -32,15 +32,6 @@ fn names_have_255_bytes_at_most(rt: HostRuntime) {
     assert!(rt; Name::new(&long).is_none());
     assert!(rt; Directory::new(&long[..255]).is_some());
     assert!(rt; Directory::new(&long).is_none());
-}
-
-#[test]
-fn a_line_has_no_newline(rt: HostRuntime) -> Result<(), Fail> {
-    for (bytes, allowed) in &[("", true), ("a\rb\0", true), ("\n", false), ("ab\n", false)] {
-        let line = Line::new(rt.alloc(), bytes.as_bytes())?;
-        assert_eq!(rt; line.is_some(), *allowed, "{bytes}");
-    }
-    Ok(())
 }
 
 #[test]
