@@ -6,8 +6,8 @@ ghost use Rattle.std.specs.Cmp.Lexicographic.{pointwise, pointwise_decides, byte
 ghost use Rattle.std.specs.Str.{bytes_eq};
 ghost use Rattle.idl_lex.specs.Tokens.{tokens_of};
 
-use idl_base::Datum;
 use crate::token_range::FileTokens;
+use idl_base::Datum;
 use idl_lex::{Lexed, lex};
 use idl_source::File;
 use std::alloc::{AllocError, Global};

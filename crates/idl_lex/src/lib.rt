@@ -30,4 +30,3 @@ pub use number::integer_value;
 pub use spelling::Spelling;
 pub use token::{PlacedToken, Token};
 pub use word::is_word;
-

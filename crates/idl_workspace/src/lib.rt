@@ -24,4 +24,3 @@ pub use work::Work;
 
 /// A row of diagnostics or of a dump: a line of text without its newline.
 pub type Row = Text;
-

@@ -101,7 +101,11 @@ fn integers_have_these_values(rt: HostRuntime) {
         ("01777777777777777777777", 18446744073709551615),
     ] {
         assert_eq!(rt; kind_of(spelling.as_bytes()), Kind::Integer, "{spelling}");
-        assert_eq!(rt; integer_value(spelling.as_bytes()), Some(*value), "{spelling}");
+        assert_eq!(rt;
+            integer_value(spelling.as_bytes()),
+            Some(*value),
+            "{spelling}"
+        );
     }
 }
 
@@ -122,7 +126,11 @@ fn other_numbers_have_these_defects(rt: HostRuntime) {
         ("1D", Defect::FloatingLiteral),
         ("0x1.", Defect::FloatingLiteral),
     ] {
-        assert_eq!(rt; kind_of(spelling.as_bytes()), Kind::Bad(*defect), "{spelling}");
+        assert_eq!(rt;
+            kind_of(spelling.as_bytes()),
+            Kind::Bad(*defect),
+            "{spelling}"
+        );
         assert_eq!(rt; integer_value(spelling.as_bytes()), None, "{spelling}");
     }
 }
