@@ -3,19 +3,16 @@ use Rattle.std.proofs.Common.{◌≡◌, ℕ, Bool, true, false, List, ◌∷◌
 use Rattle.std.specs.List.{list_any}
 use Rattle.std.specs.Str.{bytes_eq}
 use Rattle.indexmap.specs.IndexSet.{insert_key}
-use Rattle.idl_base.specs.Query.{Done, Tell, and_then}
+use Rattle.idl_base.specs.Query.{Done, Tell}
 use Rattle.idl_event.specs.Expanding.{Expanding, Reached, arrival, arrived}
 use Rattle.idl_event.specs.declared.file_name.FileName.{FileName}
 use Rattle.idl_event.specs.declared.event.Event.TheVariants.{Pragma}
 use Rattle.idl_event.specs.declared.event.Item.TheVariants as item
 use Rattle.idl_event.specs.declared.key.Answer.{Answer}
 use Rattle.idl_event.specs.declared.key.Key.{Key}
-use Rattle.idl_event.specs.declared.place.Place.{Place}
 use Rattle.idl_lex.specs.Tokens.{tokens_in}
-use Rattle.idl_lex.specs.declared.token.PlacedToken.{PlacedToken}
-use Rattle.idl_macro.specs.Macros.{Definitions}
 use Rattle.idl_macro.specs.Replace.{place_at}
-use Rattle.idl_prep.specs.Directive.{Enter, act, entering, first_spelling, include, including, is_of_idl, performed, plain_or, pragma, pragma_by, redefined}
+use Rattle.idl_prep.specs.Directive.{Enter, act, entering, first_spelling, include, including, is_of_idl, performed, plain_or, pragma, pragma_by}
 use Rattle.idl_prep.specs.Include.{Found, Operand, file_of, operand_of}
 use Rattle.idl_prep.specs.Line.{Directive, Directed, place_in}
 use Rattle.idl_prep.specs.State.{State, Way, ended, onward, telling}
@@ -33,16 +30,6 @@ module _ (bank : Key → Option Answer) (enter : Enter) (file : FileName) (d : D
       done
       ∙ ap (onward bank (λ s. performed enter file d s kind)) told
       ∙ ap (λ (k : Kind). onward bank (λ s. plain_or enter file d s k) (telling (item.Turn (place_in file d)) way)) (sym (alone ∙ ap Alone is))
-
-  -- a directive that defines, as macros take it
-  pub onward-stated : (query : Place → List ℕ → Definitions → List PlacedToken → Expanding Definitions) (place : Place) (word : List ℕ) (operands : List PlacedToken) (way : Way)
-      → place ≡ place_in file d → word ≡ d.word.token → operands ≡ d.operands
-      → onward bank (λ s. and_then (query place word s.definitions operands) (redefined s)) way
-      ≡ onward bank (λ s. and_then (query (place_in file d) d.word.token s.definitions d.operands) (redefined s)) way
-  onward-stated query place word operands way at same_word same_operands =
-      ap (λ (place : Place). onward bank (λ (s : State). and_then (query place word s.definitions operands) (redefined s)) way) at
-      ∙ ap (λ (word : List ℕ). onward bank (λ (s : State). and_then (query (place_in file d) word s.definitions operands) (redefined s)) way) same_word
-      ∙ ap (λ (ts : List PlacedToken). onward bank (λ (s : State). and_then (query (place_in file d) d.word.token s.definitions ts) (redefined s)) way) same_operands
 
   -- the operand of an include is read first
   pub onward-including : (o : Option Operand) (way way' : Way) → way'.state ≡ way.state

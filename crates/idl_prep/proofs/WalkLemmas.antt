@@ -1,7 +1,7 @@
 -- Where a root comes to, by steps that walk the next line.
 use Rattle.std.proofs.Common.{◌≡◌, Bool, true, false, ◌||◌, Option, List, [], ◌∷◌, ap, sym, ◌∙◌}
 use Rattle.idl_base.specs.Query.{Tell, and_then, outcome}
-use Rattle.idl_event.specs.Expanding.{Expanding, reached}
+use Rattle.idl_event.specs.Expanding.{Expanding, arrival, arrived, reached}
 use Rattle.idl_event.specs.declared.file_name.FileName.{FileName}
 use Rattle.idl_event.specs.declared.event.Item.{Item}
 use Rattle.idl_event.specs.declared.event.Item.TheVariants.{Turn}
@@ -9,15 +9,14 @@ use Rattle.idl_event.specs.declared.key.Answer.{Answer}
 use Rattle.idl_event.specs.declared.key.Key.{Key}
 use Rattle.idl_prep.specs.Directive.{Enter, act, test}
 use Rattle.idl_prep.specs.Line.{Directive, Line, Directed, place_in}
-use Rattle.idl_prep.specs.Pass.{coming, is_walked, to_come, visit_tree}
-use Rattle.idl_event.specs.Expanding.{arrival, arrived}
+use Rattle.idl_prep.specs.Pass.{begun, coming, is_walked, to_come, visit_tree}
 use Rattle.idl_prep.specs.State.{State, Way, ended, onward, telling}
 use Rattle.idl_prep.specs.Tree.{IsBranch, IsOfGroup, Leaf, Stray, before, grown, is_else, part}
 use Rattle.idl_prep.specs.Walk.{decide, not_closed, opener_of}
 use Rattle.idl_prep.specs.declared.groups.Group.{Group}
 use Rattle.idl_prep.specs.declared.kind.Kind.TheVariants.{Opening, Endif}
 use Rattle.idl_prep.specs.declared.kind.Test.{Test}
-use Rattle.idl_prep.proofs.PassLemmas.{begun, continued, coming-act, coming-branch, coming-branch-skipped, coming-endif, coming-endif-skipped, coming-nothing, coming-opening, coming-opening-skipped, coming-skipped, coming-stray, coming-stray-outside, coming-unclosed}
+use Rattle.idl_prep.proofs.PassLemmas.{continued, coming-act, coming-branch, coming-branch-skipped, coming-endif, coming-endif-skipped, coming-nothing, coming-opening, coming-opening-skipped, coming-skipped, coming-stray, coming-stray-outside, coming-unclosed}
 use Rattle.idl_prep.proofs.WayLemmas.{arrival-and_then, arrival-then}
 
 module _ (bank : Key → Option Answer) where
@@ -95,11 +94,10 @@ module _ (bank : Key → Option Answer) (enter : Enter) (file : FileName) (d : D
   to_come-endif-skipped g gs way ends dead = ap (λ q. arrival bank q way.progress) (sym (coming-endif-skipped enter file g gs d lines way.state ends dead))
 
   -- a directive is out of place
-  pub to_come-stray : (g : Group) (gs made : List Group) (old new : Way) → IsBranch d.kind → g.has_else ≡ true → ended new ≡ onward bank (visit_tree enter file g.is_active (Stray d)) old → made ≡ g ∷ gs
-      → to_come bank enter file made lines new ≡ to_come bank enter file (g ∷ gs) (Directed d ∷ lines) old
-  to_come-stray g gs made old new branch has_else came is =
-      ap (λ m. to_come bank enter file m lines new) is
-      ∙ onward-then bank (visit_tree enter file g.is_active (Stray d)) (coming enter file (g ∷ gs) (part lines)) (coming enter file (g ∷ gs) (part (Directed d ∷ lines))) old new came
+  pub to_come-stray : (g : Group) (gs : List Group) (old new : Way) → IsBranch d.kind → g.has_else ≡ true → ended new ≡ onward bank (visit_tree enter file g.is_active (Stray d)) old
+      → to_come bank enter file (g ∷ gs) lines new ≡ to_come bank enter file (g ∷ gs) (Directed d ∷ lines) old
+  to_come-stray g gs old new branch has_else came =
+      onward-then bank (visit_tree enter file g.is_active (Stray d)) (coming enter file (g ∷ gs) (part lines)) (coming enter file (g ∷ gs) (part (Directed d ∷ lines))) old new came
       (coming-stray enter file g gs d lines old.state branch has_else)
 
   pub to_come-stray-outside : (old new : Way) → IsOfGroup d.kind → ended new ≡ onward bank (visit_tree enter file true (Stray d)) old

@@ -6,11 +6,10 @@ use Rattle.idl_base.specs.Query.{and_then, outcome}
 use Rattle.idl_base.specs.QueryLaws.{outcome-and_then}
 use Rattle.idl_event.specs.Items.{rules}
 use Rattle.idl_event.specs.Key.{key_eq}
-use Rattle.idl_event.specs.Expanding.{Expanding, Reached, reached}
+use Rattle.idl_event.specs.Expanding.{Expanding, Reached, arrival, arrived, reached}
 use Rattle.idl_event.specs.declared.allowance.Allowance.{Allowance}
 use Rattle.idl_event.specs.declared.key.Answer.{Answer}
 use Rattle.idl_event.specs.declared.key.Key.{Key}
-use Rattle.idl_event.specs.Expanding.{arrival, arrived}
 
 module _ (bank : Key → Option Answer) where
   -- once a limit was passed nothing changes

@@ -11,11 +11,13 @@ use Rattle.idl_source.specs.Candidates.{found}
 use Rattle.idl_source.specs.Texts.{Texts}
 
 -- the bank answers with these files and this search list
-pub record AnswersFrom (files : Texts) (directories : List (List ℕ)) (bank : Key → Option Answer) : Type 0 where
+pub record AnswersFrom (files : Texts) (directories : List (List ℕ)) (bank : Key → Option Answer)
+    : Type 0 where
   pub by_name : (name : List ℕ) → bank (key.File name) ≡ option_map answer.File (map.get files name)
   pub listed : bank key.Search ≡ Some (answer.Search directories)
 
 -- the first of these names that is present, with its lines
-pub record IsFirstPresent (files : Texts) (names : List (List ℕ)) (file : Option Found) : Type 0 where
+pub record IsFirstPresent (files : Texts) (names : List (List ℕ)) (file : Option Found)
+    : Type 0 where
   pub name : option_map (λ (f : Found). f.name) file ≡ found files names
   pub lines : (f : Found) → file ≡ Some f → map.get files f.name ≡ Some f.lines

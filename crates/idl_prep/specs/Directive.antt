@@ -37,16 +37,19 @@ redefined s definitions = Done (record s { definitions = definitions })
 -- the file that was found is entered, unless it is not to be entered again
 abbrev pub entering : Enter → Place → Operand → State → Option Found → Expanding State
 entering enter place o s None = Tell (Kept (Fault place code.NotFound (Some o.spelling))) (Done s)
-entering enter place o s (Some found) = if list_any (bytes_eq found.name) s.once then Done s else enter place found.name found.lines s
+entering enter place o s (Some found) =
+    if list_any (bytes_eq found.name) s.once then Done s else enter place found.name found.lines s
 
 -- the file of an operand, if there is one
 abbrev pub including : Enter → FileName → Directive → State → Option Operand → Expanding State
-including enter file d s None = Tell (Kept (Fault (place_in file d) code.MalformedInclude (Some d.word.token))) (Done s)
+including enter file d s None =
+    Tell (Kept (Fault (place_in file d) code.MalformedInclude (Some d.word.token))) (Done s)
 including enter file d s (Some o) = and_then (file_of file o) (entering enter (place_in file d) o s)
 
 -- `include`
 unfoldable pub include : Enter → FileName → Directive → State → Expanding State
-include enter file d s = and_then (operand_of (place_in file d) s.definitions d.operands) (including enter file d s)
+include enter file d s =
+    and_then (operand_of (place_in file d) s.definitions d.operands) (including enter file d s)
 
 -- the tokens, parted by one blank: each has one before it, but the first
 abbrev pub parted : List PlacedToken → List ℕ
@@ -54,7 +57,8 @@ parted tokens = drop 1 (flat_map (λ t. 32 ∷ t.token) tokens)
 
 -- one of the three pragmas that mean something to IDL
 abbrev pub is_of_idl : List ℕ → Bool
-is_of_idl word = bytes_eq word (codes "prefix") || (bytes_eq word (codes "ID") || bytes_eq word (codes "version"))
+is_of_idl word =
+    bytes_eq word (codes "prefix") || (bytes_eq word (codes "ID") || bytes_eq word (codes "version"))
 
 -- how the first of the tokens is spelled
 abbrev pub first_spelling : List PlacedToken → Option (List ℕ)
@@ -66,7 +70,8 @@ abbrev pub pragma_by : FileName → Directive → State → Option (List ℕ) �
 pragma_by file d s None = Done s
 pragma_by file d s (Some word) =
     if bytes_eq word (codes "once") then Done (record s { once = insert_key bytes_eq s.once file })
-    else (if is_of_idl word then Tell (Kept (Pragma (place_at file d.word) (tokens_in (d.word ∷ d.operands)))) (Done s)
+    else (if is_of_idl word
+    then Tell (Kept (Pragma (place_at file d.word) (tokens_in (d.word ∷ d.operands)))) (Done s)
     else Done s)
 
 -- `pragma`
@@ -76,12 +81,16 @@ pragma file d s = pragma_by file d s (first_spelling d.operands)
 -- a directive of one line
 abbrev pub performed : Enter → FileName → Directive → State → Plain → Expanding State
 performed enter file d s plain.Include = include enter file d s
-performed enter file d s plain.Define = and_then (define (place_in file d) d.word.token s.definitions d.operands) (redefined s)
-performed enter file d s plain.Undef = and_then (undef (place_in file d) d.word.token s.definitions d.operands) (redefined s)
-performed enter file d s plain.Error = Tell (Kept (Fault (place_in file d) code.Error (Some (parted (d.word ∷ d.operands))))) (Done s)
+performed enter file d s plain.Define =
+    and_then (define (place_in file d) d.word.token s.definitions d.operands) (redefined s)
+performed enter file d s plain.Undef =
+    and_then (undef (place_in file d) d.word.token s.definitions d.operands) (redefined s)
+performed enter file d s plain.Error =
+    Tell (Kept (Fault (place_in file d) code.Error (Some (parted (d.word ∷ d.operands))))) (Done s)
 performed enter file d s plain.Pragma = pragma file d s
 performed enter file d s plain.Ignored = Done s
-performed enter file d s plain.Unknown = Tell (Kept (Fault (place_in file d) code.UnknownDirective (Some d.word.token))) (Done s)
+performed enter file d s plain.Unknown =
+    Tell (Kept (Fault (place_in file d) code.UnknownDirective (Some d.word.token))) (Done s)
 
 abbrev pub plain_or : Enter → FileName → Directive → State → Kind → Expanding State
 plain_or enter file d s (Alone what) = performed enter file d s what

@@ -46,11 +46,15 @@ pub record Found : Type 0 where
 unfoldable pub first_present : List (List ℕ) → Expanding (Option Found)
 first_present [] = Done None
 first_present (name ∷ names) =
-    Ask (key.File name) (λ found. elim (file_in found) [ None ↦ first_present names | Some lines ↦ Done (Some (record { name = name; lines = lines })) ])
+    Ask (key.File name) (λ found. elim (file_in found) [
+      | None ↦ first_present names
+      | Some lines ↦ Done (Some (record { name = name; lines = lines }))
+    ])
 
 -- the first along the search list
 unfoldable pub present_along : List ℕ → Expanding (Option Found)
-present_along spelled = Ask key.Search (λ found. first_present (along (directories_in found) spelled))
+present_along spelled =
+    Ask key.Search (λ found. first_present (along (directories_in found) spelled))
 
 -- the first beside the including file, and else along the search list
 abbrev pub or_along : List ℕ → Option Found → Expanding (Option Found)
@@ -68,7 +72,8 @@ pub record Operand : Type 0 where
 unfoldable pub file_of : FileName → Operand → Expanding (Option Found)
 file_of from o =
     if is_rooted o.name then first_present (option_to_list (joined (directory_of from) o.name))
-    else (if o.is_quoted then and_then (first_present (option_to_list (joined (directory_of from) o.name))) (or_along o.name)
+    else (if o.is_quoted
+    then and_then (first_present (option_to_list (joined (directory_of from) o.name))) (or_along o.name)
     else present_along o.name)
 
 -- the bytes between the first and the last
@@ -110,9 +115,11 @@ operand_given (t ∷ []) = if is_string t then operand_in t else None
 operand_given (t ∷ u ∷ tokens) = None
 
 -- the operand that a macro gives, if the word has one
-abbrev pub operand_by : Place → Definitions → Token → Option (List Token) → Expanding (Option Operand)
+abbrev pub operand_by :
+    Place → Definitions → Token → Option (List Token) → Expanding (Option Operand)
 operand_by place definitions t None = Done None
-operand_by place definitions t (Some body) = and_then (operand place definitions (t ∷ [])) (λ given. Done (operand_given given))
+operand_by place definitions t (Some body) =
+    and_then (operand place definitions (t ∷ [])) (λ given. Done (operand_given given))
 
 -- the operand of a token: one that is an operand counts, and a word is replaced
 abbrev pub operand_at : Place → Definitions → Token → Expanding (Option Operand)

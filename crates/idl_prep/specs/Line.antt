@@ -48,12 +48,14 @@ entry_of entry = (entry.0.now, entry.1)
 -- the line after a `#` with this number
 abbrev pub after_hash : ℕ → List PlacedToken → Line
 after_hash line [] = Bare line
-after_hash line (word ∷ operands) = Directed (record { kind = kind_of word.token; line = line; word = word; operands = operands })
+after_hash line (word ∷ operands) =
+    Directed (record { kind = kind_of word.token; line = line; word = word; operands = operands })
 
 -- a line of these tokens: a directive where the first is `#`
 abbrev pub read : List PlacedToken → Line
 read [] = Text []
-read (t ∷ tokens) = if bytes_eq t.token (codes "#") then after_hash t.line tokens else Text (t ∷ tokens)
+read (t ∷ tokens) =
+    if bytes_eq t.token (codes "#") then after_hash t.line tokens else Text (t ∷ tokens)
 
 -- the lines of a file
 abbrev pub lines_in : List (List ℕ) → List Line

@@ -1,5 +1,5 @@
 -- What is still to be done of a file, inside the groups that are open.
-use Rattle.std.specs.Prelude.{Bool, true, List, [], ◌∷◌, if◌then◌else◌, Option, None, Some}
+use Rattle.std.specs.Prelude.{Bool, true, false, List, [], ◌∷◌, if◌then◌else◌, Option, None, Some}
 use Rattle.idl_base.specs.Query.{Done, and_then}
 use Rattle.idl_event.specs.Expanding.{Expanding, Reached}
 use Rattle.idl_event.specs.declared.file_name.FileName.{FileName}
@@ -11,6 +11,7 @@ use Rattle.idl_prep.specs.State.{State, Way, onward}
 use Rattle.idl_prep.specs.Tree.{Tree, Forest, Branches, Part, close, part, strays}
 use Rattle.idl_prep.specs.Walk.{skip, skip_branches, skip_tree, walk, walk_branches, walk_tree}
 use Rattle.idl_prep.specs.declared.groups.Group.{Group}
+use Rattle.idl_prep.specs.declared.groups.Opener.{Opener}
 use Rattle.idl_prep.specs.declared.inclusion.Inclusion.{Inclusion}
 
 -- trees are walked, or skipped
@@ -22,7 +23,9 @@ visit_tree enter file active t s = if active then walk_tree enter file t s else 
 
 -- the branches that follow of an open group
 abbrev pub visit_branches : Enter → FileName → Group → Branches → State → Expanding State
-visit_branches enter file g bs s = if g.is_live then walk_branches enter file bs g.opener g.is_taken s else skip_branches file bs g.opener s
+visit_branches enter file g bs s =
+    if g.is_live then walk_branches enter file bs g.opener g.is_taken s
+    else skip_branches file bs g.opener s
 
 -- What follows comes to this, inside these open groups, the innermost first: the innermost is closed by what follows, and
 -- what comes after it follows inside the others.
@@ -30,11 +33,18 @@ unfoldable pub coming : Enter → FileName → List Group → Part → State →
 coming enter file [] p s = walk enter file (strays p.front p.tail) s
 coming enter file (g ∷ gs) p s =
     let c = close g.has_else p.front p.tail in
-    and_then (visit enter file g.is_active c.body s) (λ s'. and_then (visit_branches enter file g c.branches s') (coming enter file gs c.after))
+    and_then (visit enter file g.is_active c.body s)
+    (λ s'. and_then (visit_branches enter file g c.branches s') (coming enter file gs c.after))
 
 -- where a root comes to by these lines, inside these open groups
-abbrev pub to_come : (Key → Option Answer) → Enter → FileName → List Group → List Line → Way → Reached × Option State
+abbrev pub to_come :
+    (Key → Option Answer) → Enter → FileName → List Group → List Line → Way → Reached × Option State
 to_come bank enter file gs lines way = onward bank (coming enter file gs (part lines)) way
+
+-- a group that was opened so
+abbrev pub begun : Opener → Bool → Bool → Group
+begun opener live taken =
+    record { opener = opener; is_live = live; is_taken = taken; is_active = taken; has_else = false }
 
 -- whether lines are walked inside these groups
 abbrev pub is_walked : List Group → Bool

@@ -29,11 +29,14 @@ walk_file enter file lines s = walk enter file (tree (lines_in lines)) s
 -- left.
 unfoldable pub enter : ℕ → Enter
 enter zero place file lines s = Tell (TooDeep place) (Done s)
-enter (suc room) place file lines s = Tell (Kept (Entered file)) (and_then (walk_file (enter room) file lines s) (λ after. Tell (Kept (Left file)) (Done after)))
+enter (suc room) place file lines s =
+    Tell (Kept (Entered file))
+    (and_then (walk_file (enter room) file lines s) (λ after. Tell (Kept (Left file)) (Done after)))
 
 -- the lines of a root, in which one file less may be entered than may be open
 abbrev pub root_lines : FileName → Option (List (List ℕ)) → Expanding State
-root_lines root None = Tell (Kept (Fault (record { file = root; line = 0 }) NotFound (Some root))) (Done nothing_said)
+root_lines root None =
+    Tell (Kept (Fault (record { file = root; line = 0 }) NotFound (Some root))) (Done nothing_said)
 root_lines root (Some lines) = walk_file (enter (depth_at_most - 1)) root lines nothing_said
 
 -- a root asks for its file first
@@ -42,7 +45,8 @@ root name = Ask (key.File name) (λ found. root_lines name (file_in found))
 
 -- the expansion of a root, under the limits: it asks what the root asks, and gives the events
 unfoldable pub expansion : List ℕ → Query Key (Option Answer) (Unit {0}) (List Event)
-expansion name = and_then (kept_within (Unit {0}) rules [] whole_allowance (root name)) (λ given. Done given.0)
+expansion name =
+    and_then (kept_within (Unit {0}) rules [] whole_allowance (root name)) (λ given. Done given.0)
 
 -- the events of a root, and its log of what it asked, over a bank
 abbrev pub expanded : List ℕ → (Key → Option Answer) → List Event × List (Key × Option Answer)

@@ -31,5 +31,6 @@ abbrev pub ended : Way → Reached × Option State
 ended way = arrived way.state way.progress
 
 -- where a root comes to by a query of what it has said
-abbrev pub onward : {A : Type 0} → (Key → Option Answer) → (State → Expanding A) → Way → Reached × Option A
+abbrev pub onward :
+    {A : Type 0} → (Key → Option Answer) → (State → Expanding A) → Way → Reached × Option A
 onward bank query way = arrival bank (query way.state) way.progress

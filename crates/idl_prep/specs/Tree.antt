@@ -68,9 +68,11 @@ IsOfGroup other = ⊥
 -- The group that was opened before this part: it goes to its `endif`, or to the file's end. After its `else` another
 -- `else` or `elif` is a stray line of the last branch.
 unfoldable pub close : Bool → Forest → Tail → Closing
-close has_else body AtEnd = record { body = body; branches = Unclosed; after = record { front = Empty; tail = AtEnd } }
+close has_else body AtEnd =
+    record { body = body; branches = Unclosed; after = record { front = Empty; tail = AtEnd } }
 close has_else body (At d front tail) =
-    if is_endif d.kind then record { body = body; branches = Closed d; after = record { front = front; tail = tail } }
+    if is_endif d.kind
+    then record { body = body; branches = Closed d; after = record { front = front; tail = tail } }
     else (if has_else then close has_else (append body (Grow (Stray d) front)) tail
     else (let next = close (is_else d.kind) front tail in
     record { body = body; branches = Branch d next.body next.branches; after = next.after }))
@@ -81,7 +83,8 @@ grown t p = record { front = Grow t p.front; tail = p.tail }
 
 -- a group before what follows it
 abbrev pub group_before : Directive → Test → Closing → Part
-group_before d what c = record { front = Grow (Group d what c.body c.branches) c.after.front; tail = c.after.tail }
+group_before d what c =
+    record { front = Grow (Group d what c.body c.branches) c.after.front; tail = c.after.tail }
 
 -- a directive before a part, by its kind
 abbrev pub directive_before : Kind → Directive → Part → Part

@@ -51,16 +51,19 @@ unfoldable mutual
   IsTreeFormed around (Leaf line) after = IsLineAlone line
   IsTreeFormed around (Stray d) after = MayStray around d.kind
   IsTreeFormed around (Group d what f bs) after =
-      (d.kind ≡ Opening what) × IsFormed (Inside false) f (lines_in_branches bs ++ after) × AreFormed false bs after
+      (d.kind ≡ Opening what) × IsFormed (Inside false) f (lines_in_branches bs ++ after)
+      × AreFormed false bs after
 
   pub IsFormed : Around → Forest → List Line → Type 0
   IsFormed around Empty after = Unit {0}
-  IsFormed around (Grow t f) after = IsTreeFormed around t (lines_in_forest f ++ after) × IsFormed around f after
+  IsFormed around (Grow t f) after =
+      IsTreeFormed around t (lines_in_forest f ++ after) × IsFormed around f after
 
   -- a group ends at an `endif`, or with the file, and no branch begins behind its `else`
   pub AreFormed : Bool → Branches → List Line → Type 0
   AreFormed has_else (Closed d) after = d.kind ≡ Endif
   AreFormed has_else Unclosed after = after ≡ []
   AreFormed has_else (Branch d f bs) after =
-      (has_else ≡ false) × IsBranch d.kind × IsFormed (Inside (is_else d.kind)) f (lines_in_branches bs ++ after)
+      (has_else ≡ false) × IsBranch d.kind
+      × IsFormed (Inside (is_else d.kind)) f (lines_in_branches bs ++ after)
       × AreFormed (is_else d.kind) bs after

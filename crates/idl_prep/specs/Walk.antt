@@ -40,12 +40,14 @@ unfoldable mutual
   pub skip_tree : FileName → Tree → State → Expanding State
   skip_tree file (Leaf line) s = Done s
   skip_tree file (Stray d) s = Tell (out_of_place file d) (Done s)
-  skip_tree file (Group d what f bs) s = and_then (skip file f s) (skip_branches file bs (opener_of d))
+  skip_tree file (Group d what f bs) s =
+      and_then (skip file f s) (skip_branches file bs (opener_of d))
 
   pub skip_branches : FileName → Branches → Opener → State → Expanding State
   skip_branches file (Closed d) opener s = Done s
   skip_branches file Unclosed opener s = Tell (not_closed file opener) (Done s)
-  skip_branches file (Branch d f bs) opener s = and_then (skip file f s) (skip_branches file bs opener)
+  skip_branches file (Branch d f bs) opener s =
+      and_then (skip file f s) (skip_branches file bs opener)
 
 unfoldable mutual
   pub walk : Enter → FileName → Forest → State → Expanding State
@@ -54,13 +56,18 @@ unfoldable mutual
 
   pub walk_tree : Enter → FileName → Tree → State → Expanding State
   walk_tree enter file (Leaf line) s = act enter file line s
-  walk_tree enter file (Stray d) s = Tell (Turn (place_in file d)) (Tell (out_of_place file d) (Done s))
+  walk_tree enter file (Stray d) s =
+      Tell (Turn (place_in file d)) (Tell (out_of_place file d) (Done s))
   walk_tree enter file (Group d what f bs) s =
-      Tell (Turn (place_in file d)) (and_then (test file d what s) (λ b. and_then (if b then walk enter file f s else skip file f s) (walk_branches enter file bs (opener_of d) b)))
+      Tell (Turn (place_in file d)) (and_then (test file d what s)
+      (λ b. and_then (if b then walk enter file f s else skip file f s)
+      (walk_branches enter file bs (opener_of d) b)))
 
   -- the branches after the first: one before them was taken, or none
   pub walk_branches : Enter → FileName → Branches → Opener → Bool → State → Expanding State
   walk_branches enter file (Closed d) opener taken s = Tell (Turn (place_in file d)) (Done s)
   walk_branches enter file Unclosed opener taken s = Tell (not_closed file opener) (Done s)
   walk_branches enter file (Branch d f bs) opener taken s =
-      Tell (Turn (place_in file d)) (and_then (decide file d taken s) (λ b. and_then (if b then walk enter file f s else skip file f s) (walk_branches enter file bs opener (taken || b))))
+      Tell (Turn (place_in file d)) (and_then (decide file d taken s)
+      (λ b. and_then (if b then walk enter file f s else skip file f s)
+      (walk_branches enter file bs opener (taken || b))))

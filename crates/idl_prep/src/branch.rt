@@ -1,93 +1,87 @@
 //! Groups, as they are opened, go on and end.
 
-ghost use Rattle.std.specs.Prelude.{◌≡◌, ◌∷◌, false, List, Option, IfOk, OnOk};
+ghost use Rattle.std.specs.Prelude.{◌≡◌, ◌∷◌, false, true, List, Option, IfOk, OnOk};
+ghost use Rattle.idl_event.specs.Expanding.{arrival, arrived};
 ghost use Rattle.idl_prep.specs.Directive.{Enter};
 ghost use Rattle.idl_prep.specs.Line as spec;
 ghost use Rattle.idl_prep.specs.Line.{Directed};
-ghost use Rattle.idl_prep.specs.Pass.{to_come};
-ghost use Rattle.idl_event.specs.Expanding.{arrival, arrived};
+ghost use Rattle.idl_prep.specs.Pass.{begun, is_walked, to_come};
 ghost use Rattle.idl_prep.specs.Tree.{IsBranch};
-ghost use Rattle.idl_prep.specs.Walk.{decide};
+ghost use Rattle.idl_prep.specs.Walk.{decide, opener_of};
 ghost use Rattle.idl_prep.specs.declared.groups.Group as declared;
 ghost use Rattle.idl_prep.specs.declared.kind.Kind.TheVariants.{Endif, Opening};
 
-use crate::groups::{Group, Groups, Opener};
+use crate::groups::{Group, Opener};
 use crate::kind::Test;
 use crate::line::Directive;
 use crate::root::Root;
-use idl_event::{Answer, FileName, Item, Key};
+use crate::site::Site;
+use idl_event::{Answer, FileName, Key};
 use idl_memo::Bank;
 use std::alloc::AllocError;
 
-/// A group begins.
+/// A group begins in lines that are walked.
 pub fn begin_group<B: Bank<Key = Key, Answer = Answer>>(
     root: &mut Root<B>,
-    groups: &mut Groups,
-    file: &FileName,
+    site: &Site<'_, B>,
     directive: &Directive<'_>,
     what: Test,
-    bank: &B,
-) -> Result<(), AllocError>
+) -> Result<Group, AllocError>
     requires { directive.now.kind ≡ Opening what }
-    ensures { OnOk result ((enter : Enter) (lines : List spec.Line) →
-        to_come (B.at bank.now) enter file.now groups.new lines root.new
-        ≡ to_come (B.at bank.now) enter file.now groups.old (Directed directive.now ∷ lines) root.old) }
+    ensures { let bank = B.at site.now.bank.now in let file = site.now.file.now in
+        IfOk result (λ group. (enter : Enter)
+        (groups : List declared.Group) (lines : List spec.Line) → is_walked groups ≡ true
+        → to_come bank enter file (group ∷ groups) lines root.new
+        ≡ to_come bank enter file groups (Directed directive.now ∷ lines) root.old) }
 {
+    root.turn(site.file, directive)?;
+    let is_taken = root.test(site, directive, what)?;
     let opener = Opener::of(directive)?;
-    if !groups.is_walked() {
-        groups.push(Group {
-            opener,
-            is_live: false,
-            is_taken: false,
-            is_active: false,
-            has_else: false,
-        })?;
-        return Ok(());
-    }
-    root.tell(Item::Turn(directive.place(file)?))?;
-    let is_taken = root.test(file, directive, what, bank)?;
-    groups.push(Group {
+    Ok(Group {
         opener,
         is_live: true,
         is_taken,
         is_active: is_taken,
         has_else: false,
-    })?;
-    Ok(())
+    })
+}
+
+/// A group begins in lines that are skipped.
+pub fn skip_group(directive: &Directive<'_>) -> Result<Group, AllocError>
+    ensures { IfOk result (λ group. group ≡ begun (opener_of directive.now) false false) }
+{
+    let opener = Opener::of(directive)?;
+    Ok(Group {
+        opener,
+        is_live: false,
+        is_taken: false,
+        is_active: false,
+        has_else: false,
+    })
 }
 
 /// Another branch of a group begins, which had no `else` before it.
 pub fn begin_branch<B: Bank<Key = Key, Answer = Answer>>(
     root: &mut Root<B>,
-    groups: &mut Groups,
-    group: Group,
-    file: &FileName,
+    group: &mut Group,
+    site: &Site<'_, B>,
     directive: &Directive<'_>,
-    bank: &B,
 ) -> Result<(), AllocError>
     requires branch { IsBranch directive.now.kind }
-    requires no_else { group.has_else ≡ false }
-    ensures { OnOk result ((enter : Enter) (lines : List spec.Line) →
-        to_come (B.at bank.now) enter file.now groups.new lines root.new
-        ≡ to_come (B.at bank.now) enter file.now (group ∷ groups.old) (Directed directive.now ∷ lines) root.old) }
+    requires no_else { group.old.has_else ≡ false }
+    ensures { let bank = B.at site.now.bank.now in let file = site.now.file.now in
+        OnOk result ((enter : Enter) (groups : List declared.Group) (lines : List spec.Line)
+        → to_come bank enter file (group.new ∷ groups) lines root.new
+        ≡ to_come bank enter file (group.old ∷ groups) (Directed directive.now ∷ lines) root.old) }
 {
-    let has_else = directive.kind.is_else();
+    group.has_else = directive.kind.is_else();
     if !group.is_live {
-        groups.push(Group {
-            is_active: false,
-            has_else,
-            ..group
-        })?;
+        group.is_active = false;
         return Ok(());
     }
-    root.tell(Item::Turn(directive.place(file)?))?;
-    let is_active = decide(root, file, directive, group.is_taken, bank)?;
-    groups.push(Group {
-        is_taken: group.is_taken | is_active,
-        is_active,
-        has_else,
-        ..group
-    })?;
+    root.turn(site.file, directive)?;
+    group.is_active = decide(root, site, directive, group.is_taken)?;
+    group.is_taken |= group.is_active;
     Ok(())
 }
 
@@ -99,26 +93,28 @@ pub fn end_group<B: Bank<Key = Key, Answer = Answer>>(
     directive: &Directive<'_>,
 ) -> Result<(), AllocError>
     requires { directive.now.kind ≡ Endif }
-    ensures { OnOk result ((bank : Key → Option Answer) (enter : Enter) (groups : List declared.Group) (lines : List spec.Line) →
-        to_come bank enter file.now groups lines root.new
-        ≡ to_come bank enter file.now (group.now ∷ groups) (Directed directive.now ∷ lines) root.old) }
+    ensures { let file = file.now in OnOk result ((bank : Key → Option Answer) (enter : Enter)
+        (groups : List declared.Group) (lines : List spec.Line)
+        → to_come bank enter file groups lines root.new
+        ≡ to_come bank enter file (group.now ∷ groups) (Directed directive.now ∷ lines) root.old) }
 {
     if !group.is_live {
         return Ok(());
     }
-    root.tell(Item::Turn(directive.place(file)?))?;
+    root.turn(file, directive)?;
     Ok(())
 }
 
 // Whether a branch after the first is taken.
 fn decide<B: Bank<Key = Key, Answer = Answer>>(
     root: &mut Root<B>,
-    file: &FileName,
+    site: &Site<'_, B>,
     directive: &Directive<'_>,
     is_taken: bool,
-    bank: &B,
 ) -> Result<bool, AllocError>
-    ensures arrival { IfOk result (λ taken. arrived taken root.new.progress ≡ arrival (B.at bank.now) (decide file.now directive.now is_taken root.old.state) root.old.progress) }
+    ensures arrival { IfOk result (λ taken. arrived taken root.new.progress
+        ≡ arrival (B.at site.now.bank.now)
+        (decide site.now.file.now directive.now is_taken root.old.state) root.old.progress) }
     ensures state { root.new.state ≡ root.old.state }
 {
     if is_taken {
@@ -127,5 +123,5 @@ fn decide<B: Bank<Key = Key, Answer = Answer>>(
     if directive.kind.is_else() {
         return Ok(true);
     }
-    root.test(file, directive, Test::If, bank)
+    root.test(site, directive, Test::If)
 }

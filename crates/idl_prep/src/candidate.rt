@@ -13,7 +13,8 @@ ghost use Rattle.idl_source.specs.Texts.{Texts};
 /// Where answers come from files and a search list, an include finds the first of its candidates that is present, the one
 /// that `find` of `idl_source` gives, with its lines. This does nothing: it carries the law.
 pub fn first_candidate()
-    ensures { (files : Texts) (directories : List (List ℕ)) (bank : Key → Option Answer) (from : FileName) (o : Operand)
-        → AnswersFrom files directories bank
-        → IsFirstPresent files (candidates directories from o.name o.is_quoted) (outcome (file_of from o) bank) }
+    ensures { (files : Texts) (directories : List (List ℕ)) (bank : Key → Option Answer)
+        (from : FileName) (o : Operand) → AnswersFrom files directories bank
+        → let names = candidates directories from o.name o.is_quoted in
+        IsFirstPresent files names (outcome (file_of from o) bank) }
 {}

@@ -10,7 +10,8 @@ use crate::inclusion::Inclusion;
 use crate::line::first_line;
 use crate::pass::{end_file, walk_line};
 use crate::root::Root;
-use idl_event::{Answer, Event, FileName, Item, Key, LexedFile};
+use crate::site::Site;
+use idl_event::{Answer, Event, Item, Key, LexedFile};
 use idl_memo::Bank;
 use std::alloc::AllocError;
 
@@ -19,11 +20,11 @@ use std::alloc::AllocError;
 pub fn walk_file<B: Bank<Key = Key, Answer = Answer>>(
     root: &mut Root<B>,
     room: usize,
-    name: &FileName,
+    site: &Site<'_, B>,
     file: &LexedFile,
-    bank: &B,
 ) -> Result<(), AllocError>
-    ensures { OnOk result (ended root.new ≡ onward (B.at bank.now) (walk_file (enter room) name.now file.now) root.old) }
+    ensures { let walk = walk_file (enter room) site.now.file.now file.now in
+        OnOk result (ended root.new ≡ onward (B.at site.now.bank.now) walk root.old) }
 {
     let mut groups = Groups::new(root.allocator());
     let mut left = file.tokens();
@@ -32,11 +33,11 @@ pub fn walk_file<B: Bank<Key = Key, Answer = Answer>>(
             return Ok(());
         }
         let (line, rest) = first_line(&left);
-        let inclusion = walk_line(root, &mut groups, name, &line, bank)?;
-        enter_file(root, room, inclusion, bank)?;
+        let inclusion = walk_line(root, &mut groups, site, &line)?;
+        enter_file(root, room, inclusion, site.bank)?;
         left = rest;
     }
-    end_file(root, groups, name)?;
+    end_file(root, groups, site.file)?;
     Ok(())
 }
 
@@ -48,7 +49,8 @@ fn enter_file<B: Bank<Key = Key, Answer = Answer>>(
     inclusion: Option<Inclusion<'_>>,
     bank: &B,
 ) -> Result<(), AllocError>
-    ensures { OnOk result (ended root.new ≡ onward (B.at bank.now) (entered (enter room) inclusion.entry) root.old) }
+    ensures { OnOk result (ended root.new
+        ≡ onward (B.at bank.now) (entered (enter room) inclusion.entry) root.old) }
 {
     let Some(inclusion) = inclusion else {
         return Ok(());
@@ -57,9 +59,9 @@ fn enter_file<B: Bank<Key = Key, Answer = Answer>>(
         root.tell(Item::TooDeep(inclusion.place))?;
         return Ok(());
     }
-    let name = &inclusion.name;
-    root.tell(Item::Kept(Event::Entered(name.clone()?)))?;
-    walk_file(root, room - 1, name, inclusion.file, bank)?;
-    root.tell(Item::Kept(Event::Left(name.clone()?)))?;
+    let file = &inclusion.name;
+    root.tell(Item::Kept(Event::Entered(file.clone()?)))?;
+    walk_file(root, room - 1, &Site { file, bank }, inclusion.file)?;
+    root.tell(Item::Kept(Event::Left(file.clone()?)))?;
     Ok(())
 }

@@ -1,8 +1,11 @@
 //! The file that an include finds.
 
-ghost use Rattle.std.specs.Prelude.{◌≡◌, IfOk};
+ghost use Rattle.std.specs.Prelude.{◌≡◌, IfOk, OnOk};
 ghost use Rattle.std.specs.Option.{option_copied, option_to_list};
+ghost use Rattle.idl_base.specs.Progress.{after_key};
 ghost use Rattle.idl_event.specs.Expanding.{arrival, arrived};
+ghost use Rattle.idl_event.specs.Key.{key_eq};
+ghost use Rattle.idl_event.specs.declared.key.Key.TheVariants.{File};
 ghost use Rattle.idl_prep.specs.Include.{directories_in, file_in, file_of, first_present, present_along};
 ghost use Rattle.idl_source.specs.Path.{joined};
 
@@ -85,15 +88,29 @@ fn present<'b, B: Bank<Key = Key, Answer = Answer>>(
         return Ok(None);
     };
     let name = FileName::new(progress.allocator(), &name)?;
-    let answer = progress.ask(&Key::File(name.clone()?), bank)?;
-    match file_in(answer) {
+    match file_named(&name, bank, progress)? {
         Some(file) => Ok(Some(Found { name, file })),
         None => Ok(None),
     }
 }
 
-/// The file that is answered, if one is.
-pub fn file_in(answer: Option<&Answer>) -> Option<&LexedFile>
+/// The file with this name, which is asked of the bank.
+pub fn file_named<'b, B: Bank<Key = Key, Answer = Answer>>(
+    name: &FileName,
+    bank: &'b B,
+    progress: &mut Progress<B>,
+) -> Result<Option<&'b LexedFile>, AllocError>
+    ensures file { let answer = B.at bank.now (File name.now) in
+        IfOk result (λ file. option_copied file ≡ file_in answer) }
+    ensures progress { OnOk result (progress.new
+        ≡ after_key key_eq (B.at bank.now) (File name.now) progress.old) }
+{
+    let answer = progress.ask(&Key::File(name.clone()?), bank)?;
+    Ok(file_in(answer))
+}
+
+// The file that is answered, if one is.
+fn file_in(answer: Option<&Answer>) -> Option<&LexedFile>
     ensures { option_copied result ≡ file_in (option_copied answer.entry) }
 {
     match answer {

@@ -1,34 +1,50 @@
 //! `include`.
 
-ghost use Rattle.std.specs.Prelude.{◌≡◌, IfOk};
-ghost use Rattle.idl_prep.specs.Directive.{Enter, include};
-ghost use Rattle.idl_prep.specs.Include.{operand_of};
+ghost use Rattle.std.specs.Prelude.{◌≡◌, Some, IfOk};
+ghost use Rattle.idl_prep.specs.Directive.{Enter, include, including};
 ghost use Rattle.idl_prep.specs.Pass.{entered};
-ghost use Rattle.idl_event.specs.Expanding.{arrival, arrived};
 ghost use Rattle.idl_prep.specs.State.{onward};
 
 use crate::inclusion::Inclusion;
 use crate::line::Directive;
+use crate::operand::Operand;
 use crate::root::Root;
-use idl_event::{Answer, Code, FileName, Key};
+use crate::site::Site;
+use idl_event::{Answer, Code, Key};
 use idl_memo::Bank;
 use std::alloc::AllocError;
 
 /// `include`: gives the file that is to be entered, if there is one.
 pub fn include<'b, B: Bank<Key = Key, Answer = Answer>>(
     root: &mut Root<B>,
-    file: &FileName,
+    site: &Site<'b, B>,
     directive: &Directive<'_>,
-    bank: &'b B,
 ) -> Result<Option<Inclusion<'b>>, AllocError>
-    ensures { IfOk result (λ inclusion. (enter : Enter) → onward (B.at bank.now) (entered enter inclusion) root.new ≡ onward (B.at bank.now) (include enter file.now directive.now) root.old) }
+    ensures { let bank = B.at site.now.bank.now in IfOk result (λ inclusion. (enter : Enter)
+        → onward bank (entered enter inclusion) root.new
+        ≡ onward bank (include enter site.now.file.now directive.now) root.old) }
 {
-    let place = directive.place(file)?;
-    let Some(operand) = root.operand_of(&place, directive.operands().as_slice(), bank)? else {
-        root.fault(place, Code::MalformedInclude, directive.word())?;
+    let Some(operand) = root.operand_of(site, directive)? else {
+        root.fault_at(site.file, directive, Code::MalformedInclude)?;
         return Ok(None);
     };
-    let Some(found) = root.find(file, &operand, bank)? else {
+    let inclusion = included(root, site, directive, &operand)?;
+    Ok(inclusion)
+}
+
+// The file of the operand, if it is found and may be entered.
+fn included<'b, B: Bank<Key = Key, Answer = Answer>>(
+    root: &mut Root<B>,
+    site: &Site<'b, B>,
+    directive: &Directive<'_>,
+    operand: &Operand,
+) -> Result<Option<Inclusion<'b>>, AllocError>
+    ensures { let bank = B.at site.now.bank.now in let file = site.now.file.now in
+        IfOk result (λ inclusion. (enter : Enter) → onward bank (entered enter inclusion) root.new
+        ≡ onward bank (λ s. including enter file directive.now s (Some operand.now)) root.old) }
+{
+    let place = directive.place(site.file)?;
+    let Some(found) = root.find(site, operand)? else {
         root.fault(place, Code::NotFound, operand.spelling())?;
         return Ok(None);
     };

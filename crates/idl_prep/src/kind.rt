@@ -2,7 +2,7 @@
 
 ghost use Rattle.std.specs.Prelude.{◌≡◌, map};
 ghost use Rattle.idl_prep.specs.Line.{entry_of, kind_of, words};
-ghost use Rattle.idl_prep.specs.Tree.{is_else, is_endif};
+ghost use Rattle.idl_prep.specs.Tree.{is_else};
 
 /// A directive of one line.
 #[derive(Clone, Copy)]

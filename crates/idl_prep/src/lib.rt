@@ -20,6 +20,7 @@ mod pragma;
 mod replaced_operand;
 mod root;
 mod root_task;
+mod site;
 mod stray;
 mod text;
 mod tree;

@@ -28,7 +28,12 @@ impl<'t> Model for Directive<'t> {
 
     ghost Value = { spec.Directive };
 
-    ghost view = { λ d. record { kind = d.kind; line = d.line; word = d.word.now; operands = d.operands } };
+    ghost view = { λ d. record {
+      kind = d.kind;
+      line = d.line;
+      word = d.word.now;
+      operands = d.operands;
+    } };
 
     ghost invariant = { λ d. d.tokens ≡ d.word.now ∷ d.operands };
 }

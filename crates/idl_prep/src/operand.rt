@@ -1,7 +1,6 @@
 //! Operands of includes.
 
 ghost use Rattle.std.specs.Prelude.{◌≡◌, IfOk};
-ghost use Rattle.std.specs.Option.{option_map};
 ghost use Rattle.idl_prep.specs.Include.{begins_quoted, inner, is_closed, is_header_kind, is_string, operand_given, operand_in};
 
 use idl_lex::{Defect, Kind, Spelling, Token};
@@ -20,7 +19,11 @@ impl Model for Operand {
 
     ghost Value = { spec.Operand };
 
-    ghost view = { λ o. record { name = spec.inner o.spelling; is_quoted = o.is_quoted; spelling = o.spelling } };
+    ghost view = { λ o. record {
+      name = spec.inner o.spelling;
+      is_quoted = o.is_quoted;
+      spelling = o.spelling;
+    } };
 }
 
 impl Operand {

@@ -8,15 +8,16 @@ ghost use Rattle.idl_prep.specs.Line.{Directed, Text, Bare};
 ghost use Rattle.idl_prep.specs.Pass.{coming, entered, to_come};
 ghost use Rattle.idl_prep.specs.State.{ended, onward};
 ghost use Rattle.idl_prep.specs.Tree.{IsBranch, part};
-ghost use Rattle.idl_prep.specs.declared.kind.Kind.TheVariants.{Alone, Endif};
+ghost use Rattle.idl_prep.specs.declared.kind.Kind.TheVariants.{Endif};
 
-use crate::branch::{begin_branch, begin_group, end_group};
+use crate::branch::{begin_branch, begin_group, end_group, skip_group};
 use crate::groups::Groups;
 use crate::inclusion::Inclusion;
-use crate::kind::{Kind, Plain};
+use crate::kind::Kind;
 use crate::line::{Directive, Line, read};
 use crate::perform::{act_bare, act_directive, act_text};
 use crate::root::Root;
+use crate::site::Site;
 use crate::stray::{stray_inside, stray_outside};
 use idl_event::{Answer, Code, FileName, FileTokens, Key, Place};
 use idl_memo::Bank;
@@ -26,24 +27,25 @@ use std::alloc::AllocError;
 pub fn walk_line<'b, B: Bank<Key = Key, Answer = Answer>>(
     root: &mut Root<B>,
     groups: &mut Groups,
-    file: &FileName,
+    site: &Site<'b, B>,
     tokens: &FileTokens<'_>,
-    bank: &'b B,
 ) -> Result<Option<Inclusion<'b>>, AllocError>
-    ensures { IfOk result (λ inclusion. (enter : Enter) (lines : List spec.Line) →
-        onward (B.at bank.now) (λ s. and_then (entered enter inclusion s) (coming enter file.now groups.new (part lines))) root.new
-        ≡ onward (B.at bank.now) (coming enter file.now groups.old (part (spec.read tokens.now ∷ lines))) root.old) }
+    ensures { let bank = B.at site.now.bank.now in let file = site.now.file.now in
+        IfOk result (λ inclusion. (enter : Enter) (lines : List spec.Line)
+        → let after = coming enter file groups.new (part lines) in
+        onward bank (λ s. and_then (entered enter inclusion s) after) root.new
+        ≡ to_come bank enter file groups.old (spec.read tokens.now ∷ lines) root.old) }
 {
     match read(tokens) {
         Line::Text(text) => {
-            walk_text(root, groups, file, &text, bank)?;
+            walk_text(root, groups, site, &text)?;
             Ok(None)
         }
         Line::Bare(line) => {
-            walk_bare(root, groups, file, line)?;
+            walk_bare(root, groups, site.file, line)?;
             Ok(None)
         }
-        Line::Directed(directive) => walk_directive(root, groups, file, &directive, bank),
+        Line::Directed(directive) => walk_directive(root, groups, site, &directive),
     }
 }
 
@@ -51,18 +53,18 @@ pub fn walk_line<'b, B: Bank<Key = Key, Answer = Answer>>(
 fn walk_text<B: Bank<Key = Key, Answer = Answer>>(
     root: &mut Root<B>,
     groups: &Groups,
-    file: &FileName,
+    site: &Site<'_, B>,
     tokens: &FileTokens<'_>,
-    bank: &B,
 ) -> Result<(), AllocError>
-    ensures { OnOk result ((enter : Enter) (lines : List spec.Line) →
-        to_come (B.at bank.now) enter file.now groups.now lines root.new
-        ≡ to_come (B.at bank.now) enter file.now groups.now (Text tokens.now ∷ lines) root.old) }
+    ensures { let bank = B.at site.now.bank.now in let file = site.now.file.now in
+        OnOk result ((enter : Enter) (lines : List spec.Line)
+        → to_come bank enter file groups.now lines root.new
+        ≡ to_come bank enter file groups.now (Text tokens.now ∷ lines) root.old) }
 {
     if !groups.is_walked() {
         return Ok(());
     }
-    act_text(root, file, tokens, bank)?;
+    act_text(root, site, tokens)?;
     Ok(())
 }
 
@@ -73,8 +75,8 @@ fn walk_bare<B: Bank<Key = Key, Answer = Answer>>(
     file: &FileName,
     line: u32,
 ) -> Result<(), AllocError>
-    ensures { OnOk result ((bank : Key → Option Answer) (enter : Enter) (lines : List spec.Line) →
-        to_come bank enter file.now groups.now lines root.new
+    ensures { OnOk result ((bank : Key → Option Answer) (enter : Enter) (lines : List spec.Line)
+        → to_come bank enter file.now groups.now lines root.new
         ≡ to_come bank enter file.now groups.now (Bare line ∷ lines) root.old) }
 {
     if !groups.is_walked() {
@@ -88,76 +90,64 @@ fn walk_bare<B: Bank<Key = Key, Answer = Answer>>(
 fn walk_directive<'b, B: Bank<Key = Key, Answer = Answer>>(
     root: &mut Root<B>,
     groups: &mut Groups,
-    file: &FileName,
+    site: &Site<'b, B>,
     directive: &Directive<'_>,
-    bank: &'b B,
 ) -> Result<Option<Inclusion<'b>>, AllocError>
-    ensures { IfOk result (λ inclusion. (enter : Enter) (lines : List spec.Line) →
-        onward (B.at bank.now) (λ s. and_then (entered enter inclusion s) (coming enter file.now groups.new (part lines))) root.new
-        ≡ to_come (B.at bank.now) enter file.now groups.old (Directed directive.now ∷ lines) root.old) }
+    ensures { let bank = B.at site.now.bank.now in let file = site.now.file.now in
+        IfOk result (λ inclusion. (enter : Enter) (lines : List spec.Line)
+        → let after = coming enter file groups.new (part lines) in
+        onward bank (λ s. and_then (entered enter inclusion s) after) root.new
+        ≡ to_come bank enter file groups.old (Directed directive.now ∷ lines) root.old) }
 {
     match directive.kind {
-        Kind::Alone(what) => walk_alone(root, groups, file, directive, what, bank),
-        Kind::Opening(what) => {
-            begin_group(root, groups, file, directive, what, bank)?;
+        Kind::Alone(what) if groups.is_walked() => Ok(act_directive(root, site, directive, what)?),
+        Kind::Alone(_) => Ok(None),
+        Kind::Opening(what) if groups.is_walked() => {
+            let group = begin_group(root, site, directive, what)?;
+            groups.push(group)?;
+            Ok(None)
+        }
+        Kind::Opening(_) => {
+            groups.push(skip_group(directive)?)?;
             Ok(None)
         }
         Kind::Elif | Kind::Else => {
-            walk_branch(root, groups, file, directive, bank)?;
+            walk_branch(root, groups, site, directive)?;
             Ok(None)
         }
         Kind::Endif => {
-            walk_endif(root, groups, file, directive)?;
+            walk_endif(root, groups, site.file, directive)?;
             Ok(None)
         }
     }
-}
-
-// A directive of one line.
-fn walk_alone<'b, B: Bank<Key = Key, Answer = Answer>>(
-    root: &mut Root<B>,
-    groups: &Groups,
-    file: &FileName,
-    directive: &Directive<'_>,
-    what: Plain,
-    bank: &'b B,
-) -> Result<Option<Inclusion<'b>>, AllocError>
-    requires { directive.now.kind ≡ Alone what }
-    ensures { IfOk result (λ inclusion. (enter : Enter) (lines : List spec.Line) →
-        onward (B.at bank.now) (λ s. and_then (entered enter inclusion s) (coming enter file.now groups.now (part lines))) root.new
-        ≡ to_come (B.at bank.now) enter file.now groups.now (Directed directive.now ∷ lines) root.old) }
-{
-    if !groups.is_walked() {
-        return Ok(None);
-    }
-    let inclusion = act_directive(root, file, directive, what, bank)?;
-    Ok(inclusion)
 }
 
 // An `elif` or `else`: the innermost group goes on with another branch, if one is open.
 fn walk_branch<B: Bank<Key = Key, Answer = Answer>>(
     root: &mut Root<B>,
     groups: &mut Groups,
-    file: &FileName,
+    site: &Site<'_, B>,
     directive: &Directive<'_>,
-    bank: &B,
 ) -> Result<(), AllocError>
     requires { IsBranch directive.now.kind }
-    ensures { OnOk result ((enter : Enter) (lines : List spec.Line) →
-        to_come (B.at bank.now) enter file.now groups.new lines root.new
-        ≡ to_come (B.at bank.now) enter file.now groups.old (Directed directive.now ∷ lines) root.old) }
+    ensures { let bank = B.at site.now.bank.now in let file = site.now.file.now in
+        OnOk result ((enter : Enter) (lines : List spec.Line)
+        → to_come bank enter file groups.new lines root.new
+        ≡ to_come bank enter file groups.old (Directed directive.now ∷ lines) root.old) }
 {
     match groups.pop() {
         None => {
-            stray_outside(root, file, directive)?;
+            stray_outside(root, site.file, directive)?;
             Ok(())
         }
         Some(group) if group.has_else => {
-            stray_inside(root, groups, group, file, directive)?;
+            stray_inside(root, &group, site.file, directive)?;
+            groups.push(group)?;
             Ok(())
         }
-        Some(group) => {
-            begin_branch(root, groups, group, file, directive, bank)?;
+        Some(mut group) => {
+            begin_branch(root, &mut group, site, directive)?;
+            groups.push(group)?;
             Ok(())
         }
     }
@@ -171,8 +161,8 @@ fn walk_endif<B: Bank<Key = Key, Answer = Answer>>(
     directive: &Directive<'_>,
 ) -> Result<(), AllocError>
     requires { directive.now.kind ≡ Endif }
-    ensures { OnOk result ((bank : Key → Option Answer) (enter : Enter) (lines : List spec.Line) →
-        to_come bank enter file.now groups.new lines root.new
+    ensures { OnOk result ((bank : Key → Option Answer) (enter : Enter) (lines : List spec.Line)
+        → to_come bank enter file.now groups.new lines root.new
         ≡ to_come bank enter file.now groups.old (Directed directive.now ∷ lines) root.old) }
 {
     match groups.pop() {
@@ -193,7 +183,8 @@ pub fn end_file<B: Bank<Key = Key, Answer = Answer>>(
     mut groups: Groups,
     file: &FileName,
 ) -> Result<(), AllocError>
-    ensures { OnOk result ((enter : Enter) (bank : Key → Option Answer) → ended root.new ≡ onward bank (coming enter file.now groups (part [])) root.old) }
+    ensures { OnOk result ((enter : Enter) (bank : Key → Option Answer)
+        → ended root.new ≡ to_come bank enter file.now groups [] root.old) }
 {
     'groups: while let Some(group) = groups.pop() {
         let place = Place {

@@ -1,10 +1,13 @@
 //! Directives of one line, and lines of text.
 
-ghost use Rattle.std.specs.Prelude.{◌≡◌, IfOk, OnOk, Option};
-ghost use Rattle.idl_prep.specs.Directive.{Enter, act};
-ghost use Rattle.idl_prep.specs.Line.{Text, Bare, Directed};
+ghost use Rattle.std.specs.Prelude.{◌≡◌, ◌∷◌, Some, IfOk, OnOk, Option};
+ghost use Rattle.idl_event.specs.declared.code.Code.TheVariants.{Error};
+ghost use Rattle.idl_event.specs.declared.event.Event.TheVariants.{Fault};
+ghost use Rattle.idl_event.specs.declared.event.Item.TheVariants.{Kept};
+ghost use Rattle.idl_prep.specs.Directive.{Enter, act, parted};
+ghost use Rattle.idl_prep.specs.Line.{Text, Bare, Directed, place_in};
 ghost use Rattle.idl_prep.specs.Pass.{entered};
-ghost use Rattle.idl_prep.specs.State.{ended, onward};
+ghost use Rattle.idl_prep.specs.State.{ended, onward, telling};
 ghost use Rattle.idl_prep.specs.declared.kind.Kind.TheVariants.{Alone};
 
 use crate::include::include;
@@ -13,6 +16,7 @@ use crate::kind::Plain;
 use crate::line::Directive;
 use crate::pragma::pragma;
 use crate::root::Root;
+use crate::site::Site;
 use crate::text::parted;
 use idl_event::{Answer, Code, FileName, FileTokens, Item, Key, Place};
 use idl_memo::Bank;
@@ -22,13 +26,13 @@ use std::alloc::AllocError;
 #[tactic(auto, unfolding(crate::specs::Directive::act))]
 pub fn act_text<B: Bank<Key = Key, Answer = Answer>>(
     root: &mut Root<B>,
-    file: &FileName,
+    site: &Site<'_, B>,
     tokens: &FileTokens<'_>,
-    bank: &B,
 ) -> Result<(), AllocError>
-    ensures { OnOk result ((enter : Enter) → ended root.new ≡ onward (B.at bank.now) (act enter file.now (Text tokens.now)) root.old) }
+    ensures { let bank = B.at site.now.bank.now in OnOk result ((enter : Enter)
+        → ended root.new ≡ onward bank (act enter site.now.file.now (Text tokens.now)) root.old) }
 {
-    root.emit(file, tokens.as_slice(), bank)?;
+    root.emit(site, tokens.as_slice())?;
     Ok(())
 }
 
@@ -39,7 +43,8 @@ pub fn act_bare<B: Bank<Key = Key, Answer = Answer>>(
     file: &FileName,
     line: u32,
 ) -> Result<(), AllocError>
-    ensures { OnOk result ((enter : Enter) (bank : Key → Option Answer) → ended root.new ≡ onward bank (act enter file.now (Bare line)) root.old) }
+    ensures { OnOk result ((enter : Enter) (bank : Key → Option Answer)
+        → ended root.new ≡ onward bank (act enter file.now (Bare line)) root.old) }
 {
     root.tell(Item::Turn(Place {
         file: file.clone()?,
@@ -51,42 +56,53 @@ pub fn act_bare<B: Bank<Key = Key, Answer = Answer>>(
 /// A directive of one line, which isn't skipped: gives the file that is to be entered, if there is one.
 pub fn act_directive<'b, B: Bank<Key = Key, Answer = Answer>>(
     root: &mut Root<B>,
-    file: &FileName,
+    site: &Site<'b, B>,
     directive: &Directive<'_>,
     what: Plain,
-    bank: &'b B,
 ) -> Result<Option<Inclusion<'b>>, AllocError>
     requires { directive.now.kind ≡ Alone what }
-    ensures { IfOk result (λ inclusion. (enter : Enter) → onward (B.at bank.now) (entered enter inclusion) root.new ≡ onward (B.at bank.now) (act enter file.now (Directed directive.now)) root.old) }
+    ensures { let bank = B.at site.now.bank.now in IfOk result (λ inclusion. (enter : Enter)
+        → onward bank (entered enter inclusion) root.new
+        ≡ onward bank (act enter site.now.file.now (Directed directive.now)) root.old) }
 {
-    let place = directive.place(file)?;
-    root.tell(Item::Turn(place.clone()?))?;
+    root.turn(site.file, directive)?;
     match what {
-        Plain::Include => Ok(include(root, file, directive, bank)?),
+        Plain::Include => Ok(include(root, site, directive)?),
         Plain::Define => {
-            root.define(&directive.stated(file)?, bank)?;
+            root.define(site, directive)?;
             Ok(None)
         }
         Plain::Undef => {
-            root.undef(&directive.stated(file)?)?;
+            root.undef(site.file, directive)?;
             Ok(None)
         }
         Plain::Error => {
-            root.fault(
-                place,
-                Code::Error,
-                &parted(root.allocator(), directive.tokens().as_slice())?,
-            )?;
+            act_error(root, site.file, directive)?;
             Ok(None)
         }
         Plain::Pragma => {
-            pragma(root, file, directive)?;
+            pragma(root, site.file, directive)?;
             Ok(None)
         }
         Plain::Ignored => Ok(None),
         Plain::Unknown => {
-            root.fault(place, Code::UnknownDirective, directive.word())?;
+            root.fault_at(site.file, directive, Code::UnknownDirective)?;
             Ok(None)
         }
     }
+}
+
+// What an `error` says.
+fn act_error<B: Bank<Key = Key, Answer = Answer>>(
+    root: &mut Root<B>,
+    file: &FileName,
+    directive: &Directive<'_>,
+) -> Result<(), AllocError>
+    ensures { let text = parted (directive.now.word ∷ directive.now.operands) in
+        let fault = Fault (place_in file.now directive.now) Error (Some text) in
+        OnOk result (root.new ≡ telling (Kept fault) root.old) }
+{
+    let text = parted(root.allocator(), directive.tokens().as_slice())?;
+    root.fault(directive.place(file)?, Code::Error, &text)?;
+    Ok(())
 }

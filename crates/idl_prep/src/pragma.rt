@@ -19,7 +19,8 @@ pub fn pragma<B: Bank<Key = Key, Answer = Answer>>(
     file: &FileName,
     directive: &Directive<'_>,
 ) -> Result<(), AllocError>
-    ensures { OnOk result ((bank : Key → Option Answer) → ended root.new ≡ onward bank (λ s. pragma file.now directive.now s) root.old) }
+    ensures { OnOk result ((bank : Key → Option Answer)
+        → ended root.new ≡ onward bank (λ s. pragma file.now directive.now s) root.old) }
 {
     let Some(word) = first_spelling(directive.operands().as_slice()) else {
         return Ok(());

@@ -1,6 +1,6 @@
 //! The operand of an include, which a macro may give.
 
-ghost use Rattle.std.specs.Prelude.{◌≡◌, IfOk, OnOk};
+ghost use Rattle.std.specs.Prelude.{◌≡◌, IfOk};
 ghost use Rattle.idl_prep.specs.Include.{operand_at, operand_of};
 ghost use Rattle.idl_event.specs.Expanding.{arrival, arrived};
 
@@ -20,7 +20,9 @@ pub fn operand_of<B: Bank<Key = Key, Answer = Answer>>(
     tokens: &[PlacedToken],
     progress: &mut Progress<B>,
 ) -> Result<Option<Operand>, AllocError>
-    ensures { IfOk result (λ operand. arrived operand progress.new ≡ arrival (B.at macros.now.bank.now) (operand_of place.now macros.now.definitions.now tokens.now) progress.old) }
+    ensures { let query = operand_of place.now macros.now.definitions.now tokens.now in
+        IfOk result (λ operand. arrived operand progress.new
+        ≡ arrival (B.at macros.now.bank.now) query progress.old) }
 {
     match tokens.first() {
         Some(placed) => Ok(operand_at(macros, place, placed, progress)?),
@@ -35,7 +37,9 @@ fn operand_at<B: Bank<Key = Key, Answer = Answer>>(
     placed: &PlacedToken,
     progress: &mut Progress<B>,
 ) -> Result<Option<Operand>, AllocError>
-    ensures { IfOk result (λ operand. arrived operand progress.new ≡ arrival (B.at macros.now.bank.now) (operand_at place.now macros.now.definitions.now placed.now.token) progress.old) }
+    ensures { let query = operand_at place.now macros.now.definitions.now placed.now.token in
+        IfOk result (λ operand. arrived operand progress.new
+        ≡ arrival (B.at macros.now.bank.now) query progress.old) }
 {
     let token = &placed.token;
     if let Some(operand) = operand_in(token)? {

@@ -11,20 +11,23 @@ ghost use Rattle.idl_event.specs.Items.{beginning};
 ghost use Rattle.idl_event.specs.Expanding.{reached};
 ghost use Rattle.idl_macro.specs.Replace.{text};
 ghost use Rattle.idl_event.specs.declared.event.Event.TheVariants.{Fault};
-ghost use Rattle.idl_event.specs.declared.event.Item.TheVariants.{Kept};
+ghost use Rattle.idl_event.specs.declared.key.Key.TheVariants.{File};
+ghost use Rattle.idl_event.specs.declared.event.Item.TheVariants.{Kept, Turn};
 ghost use Rattle.idl_event.specs.Expanding.{arrival, arrived};
+ghost use Rattle.idl_prep.specs.Line.{place_in};
 ghost use Rattle.idl_prep.specs.State.{ended, nothing_said, onward, telling};
-ghost use Rattle.idl_prep.specs.Include.{file_of, operand_of};
+ghost use Rattle.idl_prep.specs.Include.{file_in, file_of, operand_of};
 ghost use Rattle.idl_prep.specs.Directive.{redefined, test};
 ghost use Rattle.idl_base.specs.Query.{and_then};
 ghost use Rattle.idl_macro.specs.Directives.{define, undef};
 
-use crate::find::{Found, find};
+use crate::find::{Found, file_named, find};
 use crate::kind::Test;
 use crate::line::Directive;
 use crate::operand::Operand;
 use crate::replaced_operand::operand_of;
-use idl_event::{Answer, Code, Event, FileName, Item, Key, Place, Progress};
+use crate::site::Site;
+use idl_event::{Answer, Code, Event, FileName, Item, Key, LexedFile, Place, Progress};
 use idl_lex::{PlacedToken, Spelling};
 use idl_macro::{Definitions, Macros, condition, define, ifdef, ifndef, replace_text, undef};
 use idl_memo::{Bank, Log};
@@ -52,13 +55,14 @@ impl<B: Bank<Key = Key, Answer = Answer>> Drop for Root<B> {
 }
 
 impl<B: Bank<Key = Key, Answer = Answer>> Model for Root<B> {
-    ghost use Rattle.idl_event.specs.declared.event.Event.TheVariants.{Fault};
-    ghost use Rattle.idl_event.specs.declared.event.Item.TheVariants.{Kept};
     ghost use Rattle.idl_prep.specs.State.{Way};
 
     ghost Value = { Way };
 
-    ghost view = { λ root. record { state = record { definitions = root.definitions; once = root.once.keys }; progress = root.progress } };
+    ghost view = { λ root. record {
+      state = record { definitions = root.definitions; once = root.once.keys };
+      progress = root.progress;
+    } };
 }
 
 impl<B: Bank<Key = Key, Answer = Answer>> Root<B> {
@@ -105,48 +109,78 @@ impl<B: Bank<Key = Key, Answer = Answer>> Root<B> {
         self.progress.tell(item)
     }
 
-    /// The bank's answer at a key.
-    pub fn ask<'b>(&mut self, key: &Key, bank: &'b B) -> Result<Option<&'b Answer>, AllocError>
-        ensures answer { IfOk result (λ answer. option_copied answer ≡ B.at bank.now key.now) }
-        ensures way { OnOk result (self.new ≡ record self.old { progress = after_key key_eq (B.at bank.now) key.now self.old.progress }) }
+    /// The file with this name, which is asked of the bank.
+    pub fn file_named<'b>(
+        &mut self,
+        name: &FileName,
+        bank: &'b B,
+    ) -> Result<Option<&'b LexedFile>, AllocError>
+        ensures file { let answer = B.at bank.now (File name.now) in
+            IfOk result (λ file. option_copied file ≡ file_in answer) }
+        ensures way { let key = File name.now in
+            let reached = after_key key_eq (B.at bank.now) key self.old.progress in
+            OnOk result (self.new ≡ record self.old { progress = reached }) }
     {
-        self.progress.ask(key, bank)
+        file_named(name, bank, &mut self.progress)
+    }
+
+    /// A directive that isn't skipped is a turn.
+    pub fn turn(&mut self, file: &FileName, directive: &Directive<'_>) -> Result<(), AllocError>
+        ensures { let place = place_in file.now directive.now in
+            OnOk result (self.new ≡ telling (Turn place) self.old) }
+    {
+        self.tell(Item::Turn(directive.place(file)?))
     }
 
     /// A fault, with the spelling at which it is decided.
     pub fn fault(&mut self, place: Place, code: Code, text: &Spelling) -> Result<(), AllocError>
-        ensures { OnOk result (self.new ≡ telling (Kept (Fault place code (Some text.now))) self.old) }
+        ensures { let fault = Fault place code (Some text.now) in
+            OnOk result (self.new ≡ telling (Kept fault) self.old) }
     {
         self.tell(Item::Kept(Event::Fault(place, code, Some(text.clone()?))))
     }
 
-    /// The tokens of a text, in which macros are replaced.
-    pub fn emit(
+    /// A fault that is decided at a directive's word.
+    pub fn fault_at(
         &mut self,
         file: &FileName,
-        tokens: &[PlacedToken],
-        bank: &B,
+        directive: &Directive<'_>,
+        code: Code,
     ) -> Result<(), AllocError>
-        ensures { OnOk result (self.new ≡ record self.old { progress = reached (B.at bank.now) (text file.now self.old.state.definitions tokens.now) self.old.progress }) }
+        ensures { let word = directive.now.word.token in
+            let fault = Fault (place_in file.now directive.now) code (Some word) in
+            OnOk result (self.new ≡ telling (Kept fault) self.old) }
+    {
+        self.fault(directive.place(file)?, code, directive.word())
+    }
+
+    /// The tokens of a text, in which macros are replaced.
+    pub fn emit(&mut self, site: &Site<'_, B>, tokens: &[PlacedToken]) -> Result<(), AllocError>
+        ensures { let query = text site.now.file.now self.old.state.definitions tokens.now in
+            let reached = reached (B.at site.now.bank.now) query self.old.progress in
+            OnOk result (self.new ≡ record self.old { progress = reached }) }
     {
         let definitions = &self.definitions;
+        let bank = site.bank;
         let macros = Macros { definitions, bank };
-        replace_text(&macros, file, tokens, &mut self.progress)
+        replace_text(&macros, site.file, tokens, &mut self.progress)
     }
 
     /// Whether the first lines of a group are taken that a directive opens.
     pub fn test(
         &mut self,
-        file: &FileName,
+        site: &Site<'_, B>,
         directive: &Directive<'_>,
         what: Test,
-        bank: &B,
     ) -> Result<bool, AllocError>
-        ensures arrival { IfOk result (λ taken. arrived taken self.new.progress ≡ arrival (B.at bank.now) (test file.now directive.now what self.old.state) self.old.progress) }
+        ensures arrival { let query = test site.now.file.now directive.now what self.old.state in
+            IfOk result (λ taken. arrived taken self.new.progress
+            ≡ arrival (B.at site.now.bank.now) query self.old.progress) }
         ensures state { self.new.state ≡ self.old.state }
     {
-        let stated = directive.stated(file)?;
+        let stated = directive.stated(site.file)?;
         let definitions = &self.definitions;
+        let bank = site.bank;
         let macros = Macros { definitions, bank };
         let progress = &mut self.progress;
         match what {
@@ -156,57 +190,79 @@ impl<B: Bank<Key = Key, Answer = Answer>> Root<B> {
         }
     }
 
-    /// The operand of an include at this place, of which these are the tokens after the word.
+    /// The operand of an `include`.
     pub fn operand_of(
         &mut self,
-        place: &Place,
-        tokens: &[PlacedToken],
-        bank: &B,
+        site: &Site<'_, B>,
+        directive: &Directive<'_>,
     ) -> Result<Option<Operand>, AllocError>
-        ensures arrival { IfOk result (λ operand. arrived operand self.new.progress ≡ arrival (B.at bank.now) (operand_of place.now self.old.state.definitions tokens.now) self.old.progress) }
+        ensures arrival { let place = place_in site.now.file.now directive.now in
+            let query = operand_of place self.old.state.definitions directive.now.operands in
+            IfOk result (λ operand. arrived operand self.new.progress
+            ≡ arrival (B.at site.now.bank.now) query self.old.progress) }
         ensures state { self.new.state ≡ self.old.state }
     {
+        let place = directive.place(site.file)?;
         let definitions = &self.definitions;
+        let bank = site.bank;
         let macros = Macros { definitions, bank };
-        operand_of(&macros, place, tokens, &mut self.progress)
+        let tokens = directive.operands().as_slice();
+        let operand = operand_of(&macros, &place, tokens, &mut self.progress)?;
+        Ok(operand)
     }
 
-    /// The file that an operand finds from another file.
+    /// The file that an operand finds.
     pub fn find<'b>(
         &mut self,
-        from: &FileName,
+        site: &Site<'b, B>,
         operand: &Operand,
-        bank: &'b B,
     ) -> Result<Option<Found<'b>>, AllocError>
-        ensures arrival { IfOk result (λ found. arrived found self.new.progress ≡ arrival (B.at bank.now) (file_of from.now operand.now) self.old.progress) }
+        ensures arrival { let query = file_of site.now.file.now operand.now in
+            IfOk result (λ found. arrived found self.new.progress
+            ≡ arrival (B.at site.now.bank.now) query self.old.progress) }
         ensures state { self.new.state ≡ self.old.state }
     {
-        find(from, operand, bank, &mut self.progress)
+        find(site.file, operand, site.bank, &mut self.progress)
     }
 
     /// `define`.
     pub fn define(
         &mut self,
-        directive: &idl_macro::Directive<'_>,
-        bank: &B,
+        site: &Site<'_, B>,
+        directive: &Directive<'_>,
     ) -> Result<(), AllocError>
-        ensures { OnOk result (ended self.new ≡ onward (B.at bank.now) (λ s. and_then (define directive.now.place directive.now.word.now s.definitions directive.now.operands) (redefined s)) self.old) }
+        ensures { let d = directive.now in let place = place_in site.now.file.now d in
+            OnOk result (ended self.new ≡ onward (B.at site.now.bank.now)
+            (λ s. and_then (define place d.word.token s.definitions d.operands) (redefined s))
+            self.old) }
     {
-        define(&mut self.definitions, directive, bank, &mut self.progress)?;
+        let stated = directive.stated(site.file)?;
+        define(
+            &mut self.definitions,
+            &stated,
+            site.bank,
+            &mut self.progress,
+        )?;
         Ok(())
     }
 
     /// `undef`.
-    pub fn undef(&mut self, directive: &idl_macro::Directive<'_>) -> Result<(), AllocError>
-        ensures { OnOk result ((bank : Key → Option Answer) → ended self.new ≡ onward bank (λ s. and_then (undef directive.now.place directive.now.word.now s.definitions directive.now.operands) (redefined s)) self.old) }
+    pub fn undef(&mut self, file: &FileName, directive: &Directive<'_>) -> Result<(), AllocError>
+        ensures { let d = directive.now in let place = place_in file.now d in
+            OnOk result ((bank : Key → Option Answer) → ended self.new ≡ onward bank
+            (λ s. and_then (undef place d.word.token s.definitions d.operands) (redefined s))
+            self.old) }
     {
-        undef(&mut self.definitions, directive, &mut self.progress)?;
+        let stated = directive.stated(file)?;
+        undef(&mut self.definitions, &stated, &mut self.progress)?;
         Ok(())
     }
 
     /// The file isn't to be entered again.
     pub fn mark_once(&mut self, file: &FileName) -> Result<(), AllocError>
-        ensures { OnOk result (self.new ≡ record self.old { state = record self.old.state { once = insert_key bytes_eq self.old.state.once file.now } }) }
+        ensures { let once = insert_key bytes_eq self.old.state.once file.now in
+            let state = record self.old.state { once = once } in
+            OnOk result (self.new ≡ record self.old { state = state }) }
     {
         self.once.insert(file.clone()?)?;
         Ok(())

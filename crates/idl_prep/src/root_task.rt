@@ -1,16 +1,19 @@
 //! The task of a root: its expansion over a bank.
 
-ghost use Rattle.std.specs.Prelude.{◌≡◌, IfOk, OnOk, flat_map, slice_get};
+ghost use Rattle.std.specs.Prelude.{◌≡◌, Some, IfOk, OnOk, flat_map, slice_get};
 ghost use Rattle.std.specs.Option.{option_copied, option_to_list};
 ghost use Rattle.idl_event.specs.Expanding.{reached};
+ghost use Rattle.idl_event.specs.declared.code.Code.TheVariants.{NotFound};
+ghost use Rattle.idl_event.specs.declared.event.Event.TheVariants.{Fault};
+ghost use Rattle.idl_event.specs.declared.event.Item.TheVariants.{Kept};
 ghost use Rattle.idl_prep.specs.Root as spec;
 ghost use Rattle.idl_prep.specs.Root.{absent_files, expansion};
-ghost use Rattle.idl_prep.specs.State.{nothing_said};
+ghost use Rattle.idl_prep.specs.State.{nothing_said, telling};
 
 use crate::MAX_DEPTH;
 use crate::file::walk_file;
-use crate::find::file_in;
 use crate::root::Root;
+use crate::site::Site;
 use crate::text::text_of;
 use idl_event::{Answer, Code, Event, FileName, Key, Place};
 use idl_memo::{Bank, Kind, Log, Task};
@@ -80,9 +83,10 @@ impl<B: Bank<Key = Key, Answer = Answer>> Task<B> for RootTask {
     }
 
     fn run(&self, alloc: Global, bank: &B, log: &mut Log<B>) -> Result<Expansion, AllocError> {
+        let file = FileName::new(alloc, &self.name)?;
         let before = replace(log, Log::new(alloc));
         let mut root = Root::new(alloc, before);
-        expand(alloc, &mut root, &self.name, bank)?;
+        expand(&mut root, &file, bank)?;
         let (events, logged) = root.into_parts();
         *log = logged;
         Ok(Expansion { events })
@@ -91,26 +95,41 @@ impl<B: Bank<Key = Key, Answer = Answer>> Task<B> for RootTask {
 
 // A root asks for its file, and where it is there its lines are walked.
 fn expand<B: Bank<Key = Key, Answer = Answer>>(
-    alloc: Global,
     root: &mut Root<B>,
-    name: &Name,
+    file: &FileName,
     bank: &B,
 ) -> Result<(), AllocError>
     requires { root.old.state ≡ nothing_said }
-    ensures { OnOk result (root.new.progress ≡ reached (B.at bank.now) (spec.root name.now) root.old.progress) }
+    ensures { OnOk result (root.new.progress
+        ≡ reached (B.at bank.now) (spec.root file.now) root.old.progress) }
 {
-    let file = FileName::new(alloc, name)?;
-    match file_in(root.ask(&Key::File(file.clone()?), bank)?) {
+    match root.file_named(file, bank)? {
         Some(lexed) => {
-            walk_file(root, MAX_DEPTH - 1, &file, lexed, bank)?;
+            walk_file(root, MAX_DEPTH - 1, &Site { file, bank }, lexed)?;
             Ok(())
         }
         None => {
-            let place = Place { file, line: 0 };
-            root.fault(place, Code::NotFound, &text_of(alloc, name.as_bytes())?)?;
+            fault_absent(root, file)?;
             Ok(())
         }
     }
+}
+
+// The file of a root isn't there.
+fn fault_absent<B: Bank<Key = Key, Answer = Answer>>(
+    root: &mut Root<B>,
+    file: &FileName,
+) -> Result<(), AllocError>
+    ensures { let fault = Fault (record { file = file.now; line = 0 }) NotFound (Some file.now) in
+        OnOk result (root.new ≡ telling (Kept fault) root.old) }
+{
+    let text = text_of(root.allocator(), file.as_bytes())?;
+    let place = Place {
+        file: file.clone()?,
+        line: 0,
+    };
+    root.fault(place, Code::NotFound, &text)?;
+    Ok(())
 }
 
 /// The files that a root asked for and that aren't there, in the order in which they were first asked.
@@ -132,7 +151,8 @@ pub fn absent<B: Bank<Key = Key, Answer = Answer>>(
 
 // The file of an entry that isn't there, if the entry is of one.
 fn absent_at<B: Bank<Key = Key, Answer = Answer>>(log: &Log<B>, index: usize) -> Option<&FileName>
-    ensures { option_to_list (option_copied result) ≡ flat_map spec.absent_file (option_to_list (slice_get log.now index)) }
+    ensures { option_to_list (option_copied result)
+        ≡ flat_map spec.absent_file (option_to_list (slice_get log.now index)) }
 {
     match log.get(index) {
         Some((Key::File(name), None)) => Some(name),

@@ -7,30 +7,30 @@ ghost use Rattle.idl_prep.specs.Line.{Directed};
 ghost use Rattle.idl_prep.specs.Pass.{to_come, visit_tree};
 ghost use Rattle.idl_prep.specs.State.{ended, onward};
 ghost use Rattle.idl_prep.specs.Tree.{IsBranch, IsOfGroup, Stray};
+ghost use Rattle.idl_prep.specs.declared.groups.Group as declared;
 
-use crate::groups::{Group, Groups};
+use crate::groups::Group;
 use crate::line::Directive;
 use crate::root::Root;
-use idl_event::{Answer, Code, FileName, Item, Key};
+use idl_event::{Answer, Code, FileName, Key};
 use idl_memo::Bank;
 use std::alloc::AllocError;
 
 /// Another branch would begin after the group's `else`: the lines of the last one go on.
 pub fn stray_inside<B: Bank<Key = Key, Answer = Answer>>(
     root: &mut Root<B>,
-    groups: &mut Groups,
-    group: Group,
+    group: &Group,
     file: &FileName,
     directive: &Directive<'_>,
 ) -> Result<(), AllocError>
     requires branch { IsBranch directive.now.kind }
-    requires has_else { group.has_else ≡ true }
-    ensures { OnOk result ((bank : Key → Option Answer) (enter : Enter) (lines : List spec.Line) →
-        to_come bank enter file.now groups.new lines root.new
-        ≡ to_come bank enter file.now (group ∷ groups.old) (Directed directive.now ∷ lines) root.old) }
+    requires has_else { group.now.has_else ≡ true }
+    ensures { let file = file.now in OnOk result ((bank : Key → Option Answer) (enter : Enter)
+        (groups : List declared.Group) (lines : List spec.Line)
+        → to_come bank enter file (group.now ∷ groups) lines root.new
+        ≡ to_come bank enter file (group.now ∷ groups) (Directed directive.now ∷ lines) root.old) }
 {
     stray(root, group.is_active, file, directive)?;
-    groups.push(group)?;
     Ok(())
 }
 
@@ -41,8 +41,8 @@ pub fn stray_outside<B: Bank<Key = Key, Answer = Answer>>(
     directive: &Directive<'_>,
 ) -> Result<(), AllocError>
     requires { IsOfGroup directive.now.kind }
-    ensures { OnOk result ((bank : Key → Option Answer) (enter : Enter) (lines : List spec.Line) →
-        to_come bank enter file.now [] lines root.new
+    ensures { OnOk result ((bank : Key → Option Answer) (enter : Enter) (lines : List spec.Line)
+        → to_come bank enter file.now [] lines root.new
         ≡ to_come bank enter file.now [] (Directed directive.now ∷ lines) root.old) }
 {
     stray(root, true, file, directive)?;
@@ -57,13 +57,12 @@ fn stray<B: Bank<Key = Key, Answer = Answer>>(
     file: &FileName,
     directive: &Directive<'_>,
 ) -> Result<(), AllocError>
-    ensures { OnOk result ((bank : Key → Option Answer) (enter : Enter) →
-        ended root.new ≡ onward bank (visit_tree enter file.now is_active (Stray directive.now)) root.old) }
+    ensures { OnOk result ((bank : Key → Option Answer) (enter : Enter) → ended root.new
+        ≡ onward bank (visit_tree enter file.now is_active (Stray directive.now)) root.old) }
 {
     if is_active {
-        root.tell(Item::Turn(directive.place(file)?))?;
+        root.turn(file, directive)?;
     }
-    let place = directive.place(file)?;
-    root.fault(place, Code::OutOfPlace, directive.word())?;
+    root.fault_at(file, directive, Code::OutOfPlace)?;
     Ok(())
 }

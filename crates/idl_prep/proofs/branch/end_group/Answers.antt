@@ -1,6 +1,3 @@
-use Rattle.std.proofs.Common.{ap, ◌∙◌}
-use Rattle.idl_event.specs.declared.event.Item.TheVariants.{Turn}
-use Rattle.idl_prep.specs.State.{telling}
 use Rattle.idl_prep.proofs.WalkLemmas.{to_come-endif, to_come-endif-skipped}
 use Rattle.idl_prep.proofs.branch.end_group.Goals as goal
 
@@ -10,5 +7,4 @@ returns-then-not-group g c = λ bank enter gs lines.
 
 pub returns : goal.returns
 returns g c = λ bank enter gs lines.
-    to_come-endif bank enter c.args.file.now c.args.directive.now lines c.args.group.now gs c.args.root.now c.tell.new.self c.requires c.if-not-group.false
-    (c.in_ok-tell.ensures ∙ ap (λ p. telling (Turn p) c.args.root.now) c.in_ok-place.ensures)
+    to_come-endif bank enter c.args.file.now c.args.directive.now lines c.args.group.now gs c.args.root.now c.turn.new.self c.requires c.if-not-group.false c.in_ok-turn.ensures

@@ -37,9 +37,9 @@ enter_file-returns g t c =
 
 pub walk_file-lines-init : goal.walk_file-lines-init
 walk_file-lines-init g t c =
-    let bank = g.B.Bank.at c.args.bank.now in
+    let bank = g.B.Bank.at c.args.site.now.bank.now in
     let next = enter c.args.room in
-    let file = c.args.name.now in
+    let file = c.args.site.now.file.now in
     let way = c.args.root.now in
     ap (λ gs. to_come bank next file gs (map read (lines_of c.tokens-left.result)) way) c.new-groups.ensures
     ∙ ap (λ ts. to_come bank next file [] (map read (lines_of ts)) way) c.tokens-left.ensures
@@ -47,8 +47,8 @@ walk_file-lines-init g t c =
 
 pub walk_file-returns-then-is_over : goal.walk_file-returns-then-is_over
 walk_file-returns-then-is_over g t c =
-    let bank = g.B.Bank.at c.args.bank.now in
-    ended-over bank (coming (enter c.args.room) c.args.name.now c.lines.groups (part (map read (lines_of c.lines.left)))) c.lines.root (c.if-is_over.ensures.0 refl)
+    let bank = g.B.Bank.at c.args.site.now.bank.now in
+    ended-over bank (coming (enter c.args.room) c.args.site.now.file.now c.lines.groups (part (map read (lines_of c.lines.left)))) c.lines.root (c.if-is_over.ensures.0 refl)
     ∙ c.lines.invariant
 
 pub walk_file-enter_file-requires : goal.walk_file-enter_file-requires
@@ -63,9 +63,9 @@ walk_file-lines-smaller g t c =
 
 pub walk_file-lines-preserved : goal.walk_file-lines-preserved
 walk_file-lines-preserved g t c =
-    let bank = g.B.Bank.at c.args.bank.now in
+    let bank = g.B.Bank.at c.args.site.now.bank.now in
     let next = enter c.args.room in
-    let file = c.args.name.now in
+    let file = c.args.site.now.file.now in
     let lines = map read (lines_of c.first_line-line.result.1) in
     let found = c.in_ok-inclusion.inclusion in
     let after = coming next file c.walk_line.new.groups (part lines) in
@@ -76,8 +76,8 @@ walk_file-lines-preserved g t c =
 
 pub walk_file-returns : goal.walk_file-returns
 walk_file-returns g t c =
-    let bank = g.B.Bank.at c.args.bank.now in
+    let bank = g.B.Bank.at c.args.site.now.bank.now in
     let next = enter c.args.room in
     c.in_ok-end_file.ensures next bank
-    ∙ sym (to_come-no_line bank next c.args.name.now c.lines.groups c.lines.left c.lines.root (sym c.as_slice.ensures ∙ nil_from_length c.as_slice.result.now (eqb-true (length c.as_slice.result.now) 0 (sym c.lines-test.ensures))))
+    ∙ sym (to_come-no_line bank next c.args.site.now.file.now c.lines.groups c.lines.left c.lines.root (sym c.as_slice.ensures ∙ nil_from_length c.as_slice.result.now (eqb-true (length c.as_slice.result.now) 0 (sym c.lines-test.ensures))))
     ∙ c.lines.invariant

@@ -14,8 +14,8 @@ decreases-walk_file g l = 2 * l.room + 1
 
 abbrev pub invariant-walk_file-lines : goal.invariant-walk_file-lines
 invariant-walk_file-lines g l =
-    to_come (g.B.Bank.at l.bank) (enter l.room) l.name l.groups (map read (lines_of l.left)) l.root
-    ≡ onward (g.B.Bank.at l.bank) (walk_file (enter l.room) l.name l.file) l.fn.root
+    to_come (g.B.Bank.at l.site.bank.now) (enter l.room) l.site.file.now l.groups (map read (lines_of l.left)) l.root
+    ≡ onward (g.B.Bank.at l.site.bank.now) (walk_file (enter l.room) l.site.file.now l.file) l.fn.root
 
 abbrev pub decreases-walk_file-lines : goal.decreases-walk_file-lines
 decreases-walk_file-lines g l = length l.left

@@ -5,10 +5,10 @@ use Rattle.idl_prep.proofs.pass.walk_text.Goals as goal
 
 pub returns-then-not-is_walked : goal.returns-then-not-is_walked
 returns-then-not-is_walked g c = λ enter lines.
-    to_come-skipped (g.B.Bank.at c.args.bank.now) enter c.args.file.now c.args.groups.now (Text c.args.tokens.now) lines refl c.args.root.now
+    to_come-skipped (g.B.Bank.at c.args.site.now.bank.now) enter c.args.site.now.file.now c.args.groups.now (Text c.args.tokens.now) lines refl c.args.root.now
     (sym c.is_walked.ensures ∙ c.if-not-is_walked.true)
 
 pub returns : goal.returns
 returns g c = λ enter lines.
-    to_come-act (g.B.Bank.at c.args.bank.now) enter c.args.file.now c.args.groups.now (Text c.args.tokens.now) lines refl c.args.root.now c.act_text.new.root
+    to_come-act (g.B.Bank.at c.args.site.now.bank.now) enter c.args.site.now.file.now c.args.groups.now (Text c.args.tokens.now) lines refl c.args.root.now c.act_text.new.root
     (sym c.is_walked.ensures ∙ c.if-not-is_walked.false) (c.in_ok-act_text.ensures enter)

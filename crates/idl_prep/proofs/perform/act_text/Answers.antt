@@ -12,7 +12,7 @@ pub returns : goal.returns
 unfolding act
 returns g c = λ enter.
     let way = c.args.root.now in
-    let bank = g.B.Bank.at c.args.bank.now in
+    let bank = g.B.Bank.at c.args.site.now.bank.now in
     ap ended c.in_ok-emit.ensures
-    ∙ ap (λ (ts : List PlacedToken). ended (record way { progress = reached bank (text c.args.file.now way.state.definitions ts) way.progress })) c.as_slice.ensures
-    ∙ sym (arrival-and_then bank (text c.args.file.now way.state.definitions c.args.tokens.now) (λ _. Done way.state) way.progress)
+    ∙ ap (λ (ts : List PlacedToken). ended (record way { progress = reached bank (text c.args.site.now.file.now way.state.definitions ts) way.progress })) c.as_slice.ensures
+    ∙ sym (arrival-and_then bank (text c.args.site.now.file.now way.state.definitions c.args.tokens.now) (λ _. Done way.state) way.progress)

@@ -13,7 +13,7 @@ returns-in-If-clause-arrival g c =
     let d = c.in_ok-stated.stated in
     let is = c.in_ok-stated.ensures in
     c.in_ok-condition-in-If.ensures
-    ∙ arrival-test (g.B.Bank.at c.args.bank.now) condition c.args.file.now d.place d.word.now d.operands c.args.directive.now If c.args.what way c.args.self.now
+    ∙ arrival-test (g.B.Bank.at c.args.site.now.bank.now) condition c.args.site.now.file.now d.place d.word.now d.operands c.args.directive.now If c.args.what way c.args.self.now
     refl c.in-If.is is.0 is.1 is.2 c.self.view_is
 
 pub returns-in-Ifdef-clause-arrival : goal.returns-in-Ifdef-clause-arrival
@@ -23,7 +23,7 @@ returns-in-Ifdef-clause-arrival g c =
     let d = c.in_ok-stated.stated in
     let is = c.in_ok-stated.ensures in
     c.in_ok-ifdef-in-Ifdef.ensures
-    ∙ arrival-test (g.B.Bank.at c.args.bank.now) ifdef c.args.file.now d.place d.word.now d.operands c.args.directive.now Ifdef c.args.what way c.args.self.now
+    ∙ arrival-test (g.B.Bank.at c.args.site.now.bank.now) ifdef c.args.site.now.file.now d.place d.word.now d.operands c.args.directive.now Ifdef c.args.what way c.args.self.now
     refl c.in-Ifdef.is is.0 is.1 is.2 c.self.view_is
 
 pub returns-clause-arrival : goal.returns-clause-arrival
@@ -33,5 +33,5 @@ returns-clause-arrival g c =
     let d = c.in_ok-stated.stated in
     let is = c.in_ok-stated.ensures in
     c.in_ok-ifndef-in-Ifndef.ensures
-    ∙ arrival-test (g.B.Bank.at c.args.bank.now) ifndef c.args.file.now d.place d.word.now d.operands c.args.directive.now Ifndef c.args.what way c.args.self.now
+    ∙ arrival-test (g.B.Bank.at c.args.site.now.bank.now) ifndef c.args.site.now.file.now d.place d.word.now d.operands c.args.directive.now Ifndef c.args.what way c.args.self.now
     refl c.in-Ifndef.is is.0 is.1 is.2 c.self.view_is

@@ -1,4 +1,4 @@
-use Rattle.std.proofs.Common.{ap, ◌∙◌}
+use Rattle.std.proofs.Common.{ℕ, List, ap, ◌∙◌}
 use Rattle.idl_event.specs.Items.{beginning}
 use Rattle.idl_event.specs.Expanding.{reached}
 use Rattle.idl_prep.specs.Root.{root}
@@ -15,5 +15,6 @@ returns g c =
     ∙ ap (λ log. (p.kept, log)) c.into_parts-events.ensures.log
     ∙ run-expansion bank name p c.args.log.now
     (c.in_ok-expand.ensures
+    ∙ ap (λ (n : List ℕ). reached bank (root n) c.new-root.result.progress) c.in_ok-file.ensures
     ∙ ap (λ (way : Way). reached bank (root name) way.progress) c.new-root.ensures
     ∙ ap (λ log. reached bank (root name) (beginning log)) c.replace-before.ensures.value)

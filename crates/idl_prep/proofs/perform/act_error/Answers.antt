@@ -1,0 +1,17 @@
+use Rattle.std.proofs.Common.{ℕ, List, Some, ap, ◌∙◌}
+use Rattle.idl_event.specs.declared.code.Code.TheVariants.{Error}
+use Rattle.idl_event.specs.declared.event.Event.TheVariants.{Fault}
+use Rattle.idl_event.specs.declared.event.Item.TheVariants.{Kept}
+use Rattle.idl_event.specs.declared.place.Place.{Place}
+use Rattle.idl_prep.specs.Directive.{parted}
+use Rattle.idl_prep.specs.Line.{place_in}
+use Rattle.idl_prep.specs.State.{telling}
+use Rattle.idl_prep.proofs.perform.act_error.Goals as goal
+
+pub returns : goal.returns
+returns g c =
+    let root = c.args.root.now in
+    c.in_ok-fault.ensures
+    ∙ ap (λ (place : Place). telling (Kept (Fault place Error (Some c.in_ok-text.text))) root) c.in_ok-place.ensures
+    ∙ ap (λ (text : List ℕ). telling (Kept (Fault (place_in c.args.file.now c.args.directive.now) Error (Some text))) root)
+    (c.in_ok-text.ensures ∙ ap parted (c.as_slice.ensures ∙ c.tokens.ensures))

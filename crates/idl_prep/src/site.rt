@@ -1,0 +1,10 @@
+//! Where lines are walked.
+
+use idl_event::FileName;
+
+/// The file whose lines are walked, and the bank that is asked.
+#[derive(Clone, Copy)]
+pub struct Site<'a, B> {
+    pub file: &'a FileName,
+    pub bank: &'a B,
+}
