@@ -6,7 +6,7 @@ ghost use Rattle.idl_condition.specs.Operator.{rank, highest_rank, operate, deci
 use crate::arithmetic::{divide, remain, shift_left, shift_right, truth};
 
 /// An operator between two operands.
-#[derive(Clone, Copy, Debug, PartialEq, Eq)]
+#[derive(Clone, Copy)]
 pub enum Operator {
     /// `*`
     Multiply,
@@ -47,7 +47,7 @@ pub enum Operator {
 }
 
 /// An operator before its operand.
-#[derive(Clone, Copy, Debug, PartialEq, Eq)]
+#[derive(Clone, Copy)]
 pub enum Sign {
     /// `!`
     Not,

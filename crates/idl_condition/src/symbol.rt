@@ -9,7 +9,7 @@ use crate::number::integer;
 use crate::operator::Operator;
 
 /// What a token counts as in a condition.
-#[derive(Clone, Copy, Debug, PartialEq, Eq)]
+#[derive(Clone, Copy)]
 pub enum Symbol {
     /// An integer without sign. One of 2^63 or more is an overflow where it is evaluated.
     Number(u64),

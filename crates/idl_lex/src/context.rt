@@ -8,7 +8,7 @@ use crate::word::is_word;
 use idl_source::NEWLINE;
 
 /// How a line begins, as far as it goes.
-#[derive(Clone, Copy, Debug, PartialEq, Eq)]
+#[derive(Clone, Copy)]
 pub enum Beginning {
     /// With no token.
     Nothing,
@@ -21,7 +21,7 @@ pub enum Beginning {
 }
 
 /// What stands before a place on its line.
-#[derive(Clone, Copy, Debug, PartialEq, Eq)]
+#[derive(Clone, Copy)]
 pub struct Context {
     /// How the line begins.
     pub beginning: Beginning,

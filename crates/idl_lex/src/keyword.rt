@@ -1,7 +1,7 @@
 //! The keywords of the language.
 
 /// A keyword of the language, named as it is spelled.
-#[derive(Clone, Copy, Debug, PartialEq, Eq, Hash)]
+#[derive(Clone, Copy, Debug, PartialEq, Eq)]
 pub enum Keyword {
     Any,
     Attribute,

@@ -24,7 +24,7 @@ pub fn literal_kind(is_wide: bool, quote: u8, rest: &[u8]) -> Kind
 }
 
 /// The value of a literal: the numbers of its characters, with what its escapes stand for; of a byte its own (ISO 8859-1). `None` of
-/// what is no closed literal, or has a bad escape.
+/// what is no closed literal, or has a bad escape. The spelling is a token's: what stands behind a closing quote isn't looked at.
 pub fn decode(alloc: Global, spelling: &[u8]) -> Result<Option<Seq<u16>>, AllocError>
     ensures { IfOk result (λ value. value ≡ literal_value spelling.now) }
 {

@@ -1,7 +1,7 @@
 //! Marks: what stands between words and literals.
 
 /// A mark of the language.
-#[derive(Clone, Copy, Debug, PartialEq, Eq, Hash)]
+#[derive(Clone, Copy, Debug, PartialEq, Eq)]
 pub enum Mark {
     /// `;`
     Semicolon,
@@ -54,7 +54,7 @@ pub enum Mark {
 }
 
 /// A mark that the preprocessor alone knows.
-#[derive(Clone, Copy, Debug, PartialEq, Eq, Hash)]
+#[derive(Clone, Copy, Debug, PartialEq, Eq)]
 pub enum PreprocessorMark {
     /// `#`
     Hash,

@@ -17,7 +17,7 @@ use std::marker::Model;
 use std::rc::RcSlice;
 
 /// A part of shared bytes. Neither making nor cloning one copies a byte. Two are equal where their bytes are.
-#[derive(Debug, Drop)]
+#[derive(Drop)]
 pub struct Spelling {
     bytes: RcSlice<u8>,
     from: usize,

@@ -68,8 +68,6 @@ impl Definitions {
     }
 
     /// The macro with this word has this body from now on, whatever was said of the word.
-    ///
-    /// Want of memory leaves everything as it was.
     pub fn define(&mut self, word: &Spelling, body: TokenRange) -> Result<(), AllocError>
         ensures { OnOk result (self.new ≡ insert_entry bytes_eq self.old word.now (Some body)) }
     {
@@ -78,8 +76,6 @@ impl Definitions {
     }
 
     /// There is no macro with this word from now on.
-    ///
-    /// Want of memory leaves everything as it was.
     pub fn remove(&mut self, word: &Spelling) -> Result<(), AllocError>
         ensures { OnOk result (self.new ≡ insert_entry bytes_eq self.old word.now None) }
     {

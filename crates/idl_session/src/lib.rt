@@ -16,8 +16,12 @@ mod serve;
 mod stop;
 
 pub use commands::run;
-pub use idl_source::{Line, ReadFailed, Refusal, Sink, Source, WriteFailed};
-pub use idl_workspace::{MAX_BODY, MAX_DIRECTORIES, MAX_MACROS, MAX_ROOTS, Row, Session, Work};
+pub use idl_source::{
+    BufferSink, Line, Name, ReadFailed, Refusal, Sink, SliceSource, Source, WriteFailed,
+};
+pub use idl_workspace::{
+    MAX_BODY, MAX_DIRECTORIES, MAX_MACROS, MAX_ROOTS, Row, Session, Span, Work,
+};
 pub use stop::Stop;
 
 /// Bytes that a command line has at most.

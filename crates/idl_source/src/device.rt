@@ -70,12 +70,12 @@ pub trait Sink {
 }
 
 /// A read failed, and the source counted it.
-#[derive(Clone, Copy, Debug, Error, PartialEq, Eq)]
+#[derive(Clone, Copy, Debug, Error)]
 #[error("read failed")]
 pub struct ReadFailed;
 
 /// A write failed, and the sink counted it.
-#[derive(Clone, Copy, Debug, Error, PartialEq, Eq)]
+#[derive(Clone, Copy, Debug, Error)]
 #[error("write failed")]
 pub struct WriteFailed;
 

@@ -18,7 +18,7 @@ use std::marker::Model;
 /// A directory: a name as a file has it, or `.`, `/`, or a run of `..` segments, of 1 to 255 bytes.
 ///
 /// It holds its bytes in place, so that making and copying one takes no memory.
-#[derive(Debug, Drop)]
+#[derive(Drop)]
 pub struct Directory {
     bytes: [u8; MAX_NAME],
     len: usize,

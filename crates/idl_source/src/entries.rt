@@ -14,7 +14,7 @@ use std::cmp::Ordering;
 use std::rc::Rc;
 
 /// A file under its name.
-#[derive(Debug, Drop)]
+#[derive(Drop)]
 pub struct Entry {
     pub name: Name,
     pub file: File,

@@ -12,7 +12,7 @@ use std::marker::Model;
 use std::rc::Rc;
 
 /// A file: a list of at most 200,000 lines. A clone shares the lines.
-#[derive(Debug, Drop)]
+#[derive(Drop)]
 pub struct File {
     lines: Rc<Vec<Line>>,
 }

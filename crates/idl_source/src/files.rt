@@ -21,7 +21,7 @@ use std::rc::Rc;
 /// Files by name, a finite map to every contract. An edit makes new files, which share with the old ones what stays.
 ///
 /// A look-up takes time that grows with the logarithm of their number, and an edit copies pointers alone.
-#[derive(Debug, Drop)]
+#[derive(Drop)]
 pub struct Files {
     entries: Vec<Rc<Entry>>,
 }

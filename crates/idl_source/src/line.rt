@@ -14,7 +14,7 @@ use std::rc::RcSlice;
 pub const NEWLINE: u8 = b'\n';
 
 /// A line of a file: bytes without newline. A clone shares the bytes.
-#[derive(Debug, Drop)]
+#[derive(Drop)]
 pub struct Line {
     bytes: RcSlice<u8>,
 }

@@ -9,7 +9,7 @@ use std::alloc::{AllocError, Global};
 use std::marker::Model;
 
 /// Gives the bytes of a slice, and never fails. Clauses see the bytes still to come.
-#[derive(Debug, Drop)]
+#[derive(Drop)]
 pub struct SliceSource<'a> {
     bytes: &'a [u8],
 }
@@ -66,7 +66,7 @@ impl<'a> Source for SliceSource<'a> {
 }
 
 /// Keeps what is written in a buffer, which is allocated once. A write allocates nothing.
-#[derive(Debug, Drop)]
+#[derive(Drop)]
 pub struct BufferSink {
     buffer: Vec<u8>,
     len: usize,

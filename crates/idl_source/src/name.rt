@@ -22,7 +22,7 @@ use std::marker::Model;
 /// then one segment or more, none of them `.` or `..`, joined by single `/`.
 ///
 /// It holds its bytes in place, so that making and copying one takes no memory. Names are ordered byte by byte.
-#[derive(Debug, Drop)]
+#[derive(Drop)]
 pub struct Name {
     bytes: [u8; MAX_NAME],
     len: usize,

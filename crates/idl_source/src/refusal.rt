@@ -9,7 +9,7 @@ use thiserror::Error;
 ///
 /// Of several that apply the answer is the malformed command, else the unfinished one, else the one with the least number.
 /// Want of memory may stand in place of an acceptance or of any but those two.
-#[derive(Clone, Copy, Debug, PartialEq, Eq, Error)]
+#[derive(Clone, Copy, Debug, Error)]
 pub enum Refusal {
     /// The line is no command.
     #[error("malformed command")]
