@@ -3,7 +3,7 @@
 use idl_base::{Datum, Seq, Text};
 
 /// A page, by its shelf and its title.
-#[derive(Clone, PartialEq, Eq, PartialOrd, Ord, Hash, Debug, Drop)]
+#[derive(Clone, PartialEq, Eq, PartialOrd, Ord, Hash, Drop)]
 pub struct Page {
     pub shelf: Seq<Text>,
     pub title: Text,

@@ -6,7 +6,7 @@ use idl_memo::{Bank, Kind, Log, Task};
 use std::alloc::{AllocError, Global};
 
 /// Where a trail begins, how many pages it has at most, and how many bytes its titles.
-#[derive(Clone, PartialEq, Eq, Hash, Debug, Drop)]
+#[derive(Clone, PartialEq, Eq, Hash, Drop)]
 pub struct Start {
     pub page: Page,
     pub steps: u8,
