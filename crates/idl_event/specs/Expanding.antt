@@ -1,8 +1,8 @@
 -- The expansion of a root as a query, and where one comes to with it.
 use Rattle.std.specs.Prelude.{Option}
 use Rattle.std.specs.Option.{option_map}
-use Rattle.idl_base.specs.Progress.{Progress, after}
-use Rattle.idl_base.specs.Query.{Query, outcome}
+use Rattle.idl_memo.specs.Progress.{Progress, progress_after}
+use Rattle.idl_memo.specs.Query.{Query, outcome}
 use Rattle.idl_event.specs.Items.{rules}
 use Rattle.idl_event.specs.Key.{key_eq}
 use Rattle.idl_event.specs.declared.allowance.Allowance.{Allowance}
@@ -21,7 +21,7 @@ Reached = Progress Key (Option Answer) Event Allowance
 
 -- where it comes to with what is asked and told
 abbrev pub reached : {A : Type 0} → (Key → Option Answer) → Expanding A → Reached → Reached
-reached bank query p = after rules key_eq bank query p
+reached bank query p = progress_after rules key_eq bank query p
 
 -- where it ends: what was reached, and what came of it unless a limit was passed
 abbrev pub arrived : {A : Type 0} → A → Reached → Reached × Option A

@@ -1,7 +1,7 @@
 -- What an item of an expansion leaves of the limits of a root, what stands in the place of one past them, and what is kept.
 use Rattle.std.specs.Prelude.{ℕ, ◌-◌, List, [], Option, None, Some, if◌then◌else◌, nat_eq}
 use Rattle.std.specs.Option.{option_to_list}
-use Rattle.idl_base.specs.Progress.{Rules, Progress}
+use Rattle.idl_memo.specs.Progress.{Rules, Progress}
 use Rattle.idl_event.specs.Limits.{turns_at_most, tokens_at_most}
 use Rattle.idl_event.specs.declared.allowance.Allowance.{Allowance}
 use Rattle.idl_event.specs.declared.code.Code.TheVariants.{PastLimit}

@@ -2,7 +2,7 @@
 
 ghost use Rattle.std.specs.Prelude.{◌≡◌, ◌↔◌, ◌++◌, ◌≤◌, [], None, Some, IfOk, OnOk, IsTrue};
 ghost use Rattle.std.specs.Option.{option_copied, option_to_list};
-ghost use Rattle.idl_base.specs.Progress.{after_item, after_key};
+ghost use Rattle.idl_memo.specs.Progress.{after_item, after_key};
 ghost use Rattle.idl_event.specs.Items.{event_of, rules, turns_left, beginning};
 ghost use Rattle.idl_event.specs.Key.{key_eq};
 ghost use Rattle.idl_event.specs.Limits.{turns_at_most};
@@ -27,7 +27,7 @@ pub struct Progress<B: Bank<Key = Key, Answer = Answer>> {
 
 impl<B: Bank<Key = Key, Answer = Answer>> Model for Progress<B> {
     ghost use Rattle.std.specs.Prelude.{Option, ◌≤◌};
-    ghost use Rattle.idl_base.specs.Progress.{Progress as Reached};
+    ghost use Rattle.idl_memo.specs.Progress.{Progress as Reached};
     ghost use Rattle.idl_event.specs.declared.allowance.Allowance.{Allowance};
     ghost use Rattle.idl_event.specs.Limits.{turns_at_most};
     ghost use Rattle.idl_event.specs.declared.event.Event.{Event};

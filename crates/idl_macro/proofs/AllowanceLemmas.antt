@@ -3,8 +3,8 @@ use Rattle.std.proofs.Common.{◌≡◌, ◌≢◌, ℕ, ◌+◌, ◌-◌, ◌*�
 use Rattle.std.specs.List.{list_any}
 use Rattle.std.specs.Map.{lookup}
 use Rattle.std.specs.Str.{bytes_eq}
-use Rattle.idl_base.specs.Progress.{after_item, after_key, with_item}
-use Rattle.idl_base.specs.Query.{Done, Ask, noted, outcome}
+use Rattle.idl_memo.specs.Progress.{after_item, after_key, with_item}
+use Rattle.idl_memo.specs.Query.{Done, Ask, noted, outcome}
 use Rattle.idl_event.specs.Items.{rules, spend, turns_left}
 use Rattle.idl_event.specs.Key.{key_eq}
 use Rattle.idl_event.specs.Expanding.{Reached, arrival, arrived, reached}

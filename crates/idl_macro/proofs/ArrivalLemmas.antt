@@ -1,9 +1,9 @@
 -- Where one comes to with queries, one after another.
 use Rattle.std.proofs.Common.{◌≡◌, ◌≢◌, Option, None, Some, refl, ap, sym, ◌∙◌}
 use Rattle.std.specs.Option.{option_map}
-use Rattle.idl_base.specs.Progress.{after-and_then, after-over}
-use Rattle.idl_base.specs.Query.{and_then, outcome}
-use Rattle.idl_base.specs.QueryLaws.{outcome-and_then}
+use Rattle.idl_memo.proofs.ProgressLaws.{progress_after-and_then, progress_after-over}
+use Rattle.idl_memo.specs.Query.{and_then, outcome}
+use Rattle.idl_memo.proofs.QueryLaws.{outcome-and_then}
 use Rattle.idl_event.specs.Expanding.{Expanding, Reached, arrival, arrived, reached}
 use Rattle.idl_event.specs.Items.{rules}
 use Rattle.idl_event.specs.Key.{key_eq}
@@ -27,13 +27,13 @@ module _ {A : Type 0} where
 
 module _ {A B : Type 0} (bank : Key → Option Answer) (query : Expanding A) (f : A → Expanding B) (a : A) (p q : Reached) (h : arrived a q ≡ arrival bank query p) where
   at_start : arrival bank (f (outcome query bank)) (reached bank query p) ≡ arrival bank (and_then query f) p
-  at_start = sym (λ i. arrived (outcome-and_then query f bank i) (after-and_then rules key_eq bank query f p i))
+  at_start = sym (λ i. arrived (outcome-and_then query f bank i) (progress_after-and_then rules key_eq bank query f p i))
 
   by_left : (left : Option Allowance) → q.left ≡ left → arrival bank (f a) q ≡ arrival bank (f (outcome query bank)) q
   by_left None over =
-      ap (arrived (outcome (f a) bank)) (after-over rules key_eq bank (f a) q over)
+      ap (arrived (outcome (f a) bank)) (progress_after-over rules key_eq bank (f a) q over)
       ∙ arrived-over (outcome (f a) bank) (outcome (f (outcome query bank)) bank) q over
-      ∙ sym (ap (arrived (outcome (f (outcome query bank)) bank)) (after-over rules key_eq bank (f (outcome query bank)) q over))
+      ∙ sym (ap (arrived (outcome (f (outcome query bank)) bank)) (progress_after-over rules key_eq bank (f (outcome query bank)) q over))
   by_left (Some left) going =
       let same = arrived-outcome a (outcome query bank) q (reached bank query p) h (λ over. let no = sym going ∙ over in cc) in
       ap (λ x. arrival bank (f x) q) same

@@ -1,7 +1,7 @@
 -- What the directives of macros ask and tell, by what their operands are.
 use Rattle.std.proofs.Common.{◌≡◌, ℕ, Bool, if◌then◌else◌, List, Option, None, Some, Bor, is_some, refl, ap, ◌∙◌}
 use Rattle.std.specs.Option.{option_copied, option_map}
-use Rattle.idl_base.specs.Query.{Done, Tell, and_then}
+use Rattle.idl_memo.specs.Query.{Done, Tell, and_then}
 use Rattle.idl_event.specs.Expanding.{Expanding, Reached, arrival, arrived}
 use Rattle.idl_event.specs.declared.code.Code.TheVariants.{MalformedMacro, OtherDefinition}
 use Rattle.idl_event.specs.declared.event.Event.TheVariants.{Fault}

@@ -1,9 +1,10 @@
 -- The steps of a replacement: what the words in whose replacement it stands still stand for, and what a step makes of it.
 use Rattle.std.proofs.Common.{◌≡◌, ℕ, suc, ◌+◌, ◌-◌, ◌<◌, List, [], ◌∷◌, ◌++◌, length, Option, None, Some, Bor, sym, ◌∙◌, ap, arith, append_assoc, get_or, drop, add-one, drop-cons}
 use Rattle.std.specs.Map.{keys_of}
-use Rattle.idl_base.specs.Progress.{after_item, after-and_then}
-use Rattle.idl_base.specs.Query.{Done, Tell, and_then, outcome}
-use Rattle.idl_base.specs.QueryLaws.{outcome-and_then}
+use Rattle.idl_memo.specs.Progress.{after_item}
+use Rattle.idl_memo.proofs.ProgressLaws.{progress_after-and_then}
+use Rattle.idl_memo.specs.Query.{Done, Tell, and_then, outcome}
+use Rattle.idl_memo.proofs.QueryLaws.{outcome-and_then}
 use Rattle.idl_event.specs.Items.{rules}
 use Rattle.idl_event.specs.Key.{key_eq}
 use Rattle.idl_event.specs.Expanding.{Reached, Expanding, reached}
@@ -28,8 +29,8 @@ module _ (bank : Key → Option Answer) where
   -- where one comes to with two, one after the other
   pub reached-followed_by : (query more : Expanding (List Token)) (p : Reached) → reached bank (followed_by query more) p ≡ reached bank more (reached bank query p)
   reached-followed_by query more p =
-      after-and_then rules key_eq bank query (λ first. and_then more (λ rest. Done (first ++ rest))) p
-      ∙ after-and_then rules key_eq bank more (λ rest. Done (outcome query bank ++ rest)) (reached bank query p)
+      progress_after-and_then rules key_eq bank query (λ first. and_then more (λ rest. Done (first ++ rest))) p
+      ∙ progress_after-and_then rules key_eq bank more (λ rest. Done (outcome query bank ++ rest)) (reached bank query p)
 
   -- what comes of two, one after the other
   pub outcome-followed_by : (query more : Expanding (List Token)) → outcome (followed_by query more) bank ≡ outcome query bank ++ outcome more bank
@@ -86,7 +87,7 @@ module _ (bank : Key → Option Answer) where
     unfolding replaced
     reached-replaced n m hidden t body p e found =
         ap (λ k. reached bank (replaced item place definitions k hidden t) p) e
-        ∙ after-and_then rules key_eq bank (replacement definitions hidden t) (made m hidden t) p
+        ∙ progress_after-and_then rules key_eq bank (replacement definitions hidden t) (made m hidden t) p
         ∙ ap (λ b. reached bank (made m hidden t b) (reached bank (replacement definitions hidden t) p)) found
 
     pub outcome-replaced : (n m : ℕ) (hidden : List (List ℕ)) (t : Token) (body : Option (List Token)) → n ≡ suc m → outcome (replacement definitions hidden t) bank ≡ body

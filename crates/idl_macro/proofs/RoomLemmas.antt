@@ -1,7 +1,8 @@
 -- More room for replacements in one another than there are turns left changes nothing.
 use Rattle.std.proofs.Common.{◌≡◌, ◌≢◌, ℕ, zero, suc, ◌-◌, ◌<◌, ◌≤◌, ◌⊎◌, inl, inr, Bool, true, false, nat_eq, if◌then◌else◌, List, [], ◌∷◌, Option, None, Some, refl, sym, ap, ◌∙◌, arith, subst}
-use Rattle.idl_base.specs.Progress.{after_item, after_key, after-over}
-use Rattle.idl_base.specs.Query.{Done, Ask, Tell, outcome}
+use Rattle.idl_memo.specs.Progress.{after_item, after_key}
+use Rattle.idl_memo.proofs.ProgressLaws.{progress_after-over}
+use Rattle.idl_memo.specs.Query.{Done, Ask, Tell, outcome}
 use Rattle.idl_event.specs.Items.{rules, turns_left}
 use Rattle.idl_event.specs.Key.{key_eq}
 use Rattle.idl_event.specs.Expanding.{Reached, Expanding, reached}
@@ -85,7 +86,7 @@ module _ (bank : Key → Option Answer) where
         let there = replaced item place definitions m (t ∷ hidden) in
         let left = left-after_item (Turn place) q in
         elim (turn_ends_or_fewer place q.left n m h k) [
-          | inl ends ↦ after-over rules key_eq bank (each here tokens) r (left ∙ ends) ∙ sym (after-over rules key_eq bank (each there tokens) r (left ∙ ends))
+          | inl ends ↦ progress_after-over rules key_eq bank (each here tokens) r (left ∙ ends) ∙ sym (progress_after-over rules key_eq bank (each there tokens) r (left ∙ ends))
           | inr fewer ↦
               let lt : turns_left r.left < n = subst (λ (o : Option Allowance). turns_left o < n) (sym left) fewer.0 in
               let lt' : turns_left r.left < m = subst (λ (o : Option Allowance). turns_left o < m) (sym left) fewer.1 in

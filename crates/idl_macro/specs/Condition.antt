@@ -1,7 +1,7 @@
 -- The condition of a line behind `if` or `elif` (after ISO/IEC 9899, 6.10.1).
 use Rattle.std.specs.Prelude.{ℕ, zero, suc, Bool, true, false, not, ◌&&◌, List, [], ◌∷◌, map, Option, None, Some, is_some, codes, if◌then◌else◌}
 use Rattle.std.specs.Str.{bytes_eq}
-use Rattle.idl_base.specs.Query.{Done, Tell, and_then}
+use Rattle.idl_memo.specs.Query.{Done, Tell, and_then}
 use Rattle.idl_condition.specs.Arithmetic.{Value, is_zero}
 use Rattle.idl_condition.specs.Condition.{condition as value_of}
 use Rattle.idl_condition.specs.Symbol.{symbol_of}

@@ -3,7 +3,7 @@ use Rattle.std.specs.Prelude.{ℕ, Bool, false, not, ◌&&◌, List, [], ◌∷�
 use Rattle.std.specs.Cmp.Lexicographic.{pointwise}
 use Rattle.std.specs.Str.{bytes_eq}
 use Rattle.idl_base.specs.Table.{insert_entry}
-use Rattle.idl_base.specs.Query.{Done, Tell, and_then}
+use Rattle.idl_memo.specs.Query.{Done, Tell, and_then}
 use Rattle.idl_event.specs.Expanding.{Expanding}
 use Rattle.idl_macro.specs.Macros.{Definitions, macro_of}
 use Rattle.idl_lex.specs.Tokens.{Token, tokens_in}

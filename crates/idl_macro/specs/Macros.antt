@@ -2,7 +2,7 @@
 use Rattle.std.specs.Prelude.{ℕ, List, Option, None, Some}
 use Rattle.std.specs.Map.{lookup}
 use Rattle.std.specs.Str.{bytes_eq}
-use Rattle.idl_base.specs.Query.{Done, Ask}
+use Rattle.idl_memo.specs.Query.{Done, Ask}
 use Rattle.idl_event.specs.Expanding.{Expanding}
 use Rattle.idl_event.specs.declared.key.Answer.{Answer}
 use Rattle.idl_event.specs.declared.key.Answer.TheVariants as answer

@@ -3,7 +3,7 @@
 use Rattle.std.specs.Prelude.{ℕ, zero, suc, ◌+◌, not, ◌&&◌, List, [], ◌∷◌, ◌++◌, Option, None, Some, if◌then◌else◌}
 use Rattle.std.specs.List.{list_any}
 use Rattle.std.specs.Str.{bytes_eq}
-use Rattle.idl_base.specs.Query.{Done, Tell, and_then}
+use Rattle.idl_memo.specs.Query.{Done, Tell, and_then}
 use Rattle.idl_event.specs.Expanding.{Expanding}
 use Rattle.idl_macro.specs.Macros.{Definitions, macro_of}
 use Rattle.idl_lex.specs.Tokens.{Token}

@@ -2,7 +2,7 @@
 
 ghost use Rattle.std.specs.Prelude.{◌≡◌, List, Option, Some, IfOk, OnOk, drop, map, not};
 ghost use Rattle.std.specs.Option.{option_map};
-ghost use Rattle.idl_base.specs.Progress.{after_item};
+ghost use Rattle.idl_memo.specs.Progress.{after_item};
 ghost use Rattle.idl_condition.specs.Arithmetic.{is_zero};
 ghost use Rattle.idl_event.specs.Expanding.{arrival, arrived};
 ghost use Rattle.idl_event.specs.Items.{rules};

@@ -2,7 +2,7 @@
 
 ghost use Rattle.std.specs.Prelude.{◌≡◌, Option, Some, IfOk, OnOk, true};
 ghost use Rattle.std.specs.Option.{option_copied, option_map};
-ghost use Rattle.idl_base.specs.Progress.{after_item};
+ghost use Rattle.idl_memo.specs.Progress.{after_item};
 ghost use Rattle.idl_event.specs.Expanding.{arrival, arrived};
 ghost use Rattle.idl_event.specs.Items.{rules};
 ghost use Rattle.idl_event.specs.declared.code.Code.TheVariants.{MalformedMacro, OtherDefinition};

@@ -7,8 +7,8 @@ ghost use Rattle.std.specs.Prelude.{◌≡◌, ◌≢◌, ◌<◌, ◌∷◌, []
 ghost use Rattle.std.specs.Map.{keys_of, lookup};
 ghost use Rattle.std.specs.Option.{option_copied, option_map};
 ghost use Rattle.std.specs.Str.{bytes_eq};
-ghost use Rattle.idl_base.specs.Progress.{after_item};
-ghost use Rattle.idl_base.specs.Query.{outcome};
+ghost use Rattle.idl_memo.specs.Progress.{after_item};
+ghost use Rattle.idl_memo.specs.Query.{outcome};
 ghost use Rattle.idl_event.specs.Expanding.{Reached, arrival, arrived, reached};
 ghost use Rattle.idl_event.specs.Items.{rules, turns_left};
 ghost use Rattle.idl_lex.specs.Tokens.{Token, tokens_in};

@@ -3,7 +3,7 @@ use Rattle.std.proofs.Common.{◌≡◌, Bool, true, false, cond, ◌||◌, List
 use Rattle.std.specs.Map.{lookup, keys_of}
 use Rattle.std.specs.List.{list_any}
 use Rattle.std.proofs.lemmas.Map.Made.{is_some-lookup}
-use Rattle.idl_base.specs.Query.{is_logged, noted}
+use Rattle.idl_memo.specs.Query.{is_logged, noted}
 
 module _ {K V : Type 0} (eq : K → K → Bool) where
   -- a key is among those of the entries if it is logged

@@ -6,8 +6,10 @@
 
 mod bank;
 mod log;
+mod query;
 mod task;
 
 pub use bank::Bank;
 pub use log::Log;
+pub use query::{agreement, gathering, limiting, logging, progress, sequence, tracing};
 pub use task::{Kind, Task, reliance};

@@ -2,7 +2,7 @@
 
 ghost use Rattle.std.specs.Prelude.{◌≡◌, ◌↔◌, [], IfOk, OnOk, OnErr, IsTrue, length, slice_get};
 ghost use Rattle.std.specs.Option.{option_copied, option_map};
-ghost use Rattle.idl_base.specs.Query.{noted};
+ghost use Rattle.idl_memo.specs.Query.{noted};
 
 use crate::Bank;
 use idl_base::{Datum, Table};

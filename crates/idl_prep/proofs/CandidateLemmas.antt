@@ -3,8 +3,8 @@ use Rattle.std.proofs.Common.{◌≡◌, ℕ, List, [], ◌∷◌, Bool, true, f
 use Rattle.std.specs.FinMap as finite
 use Rattle.std.specs.List.{cons_option}
 use Rattle.std.specs.Option.{option_map, option_to_list}
-use Rattle.idl_base.specs.Query.{Done, and_then, outcome}
-use Rattle.idl_base.specs.QueryLaws.{outcome-and_then}
+use Rattle.idl_memo.specs.Query.{Done, and_then, outcome}
+use Rattle.idl_memo.proofs.QueryLaws.{outcome-and_then}
 use Rattle.idl_event.specs.Expanding.{Expanding}
 use Rattle.idl_event.specs.declared.file_name.FileName.{FileName}
 use Rattle.idl_event.specs.declared.key.Answer.{Answer}

@@ -1,7 +1,7 @@
 -- Where a root comes to by the lines of a file.
 use Rattle.std.proofs.Common.{◌≡◌, ℕ, zero, suc, List, [], Option, None, map, refl, ap, sym, ◌∙◌}
 use Rattle.std.specs.Option.{option_map}
-use Rattle.idl_base.specs.Query.{Done, Tell, and_then}
+use Rattle.idl_memo.specs.Query.{Done, Tell, and_then}
 use Rattle.idl_lex.specs.Tokens.{lines_of}
 use Rattle.idl_lex.specs.declared.token.PlacedToken.{PlacedToken}
 use Rattle.idl_event.specs.declared.file_name.FileName.{FileName}

@@ -3,8 +3,8 @@ use Rattle.std.proofs.Common.{◌≡◌, ◌+◌, ◌<◌, ℕ, length, get_or, 
 use Rattle.std.proofs.lemmas.List.{at_drop_more}
 use Rattle.std.specs.List.{cons_option}
 use Rattle.std.specs.Option.{option_map, option_to_list}
-use Rattle.idl_base.specs.Progress.{after_key}
-use Rattle.idl_base.specs.Query.{Ask, Done, Tell, and_then, outcome}
+use Rattle.idl_memo.specs.Progress.{after_key}
+use Rattle.idl_memo.specs.Query.{Ask, Done, Tell, and_then, outcome}
 use Rattle.idl_macro.specs.Replace.{operand}
 use Rattle.idl_lex.specs.Tokens.{Token}
 use Rattle.idl_event.specs.Key.{key_eq}

@@ -1,6 +1,6 @@
 -- A test of a group's first lines, and directives that define, on a root that is held in parts.
 use Rattle.std.proofs.Common.{◌≡◌, ℕ, Bool, List, Option, ap, sym, ◌∙◌}
-use Rattle.idl_base.specs.Query.{and_then}
+use Rattle.idl_memo.specs.Query.{and_then}
 use Rattle.idl_event.specs.Expanding.{Expanding, Reached, arrival, arrived}
 use Rattle.idl_macro.specs.Macros.{Definitions}
 use Rattle.idl_lex.specs.declared.token.PlacedToken.{PlacedToken}

@@ -5,9 +5,10 @@ use Rattle.std.proofs.lemmas.List.{take_all, take_more}
 use Rattle.std.proofs.lemmas.Option.{slice_get-get_or}
 use Rattle.std.specs.List.{slice_get}
 use Rattle.std.specs.Option.{option_to_list}
-use Rattle.idl_base.specs.Progress.{after_key, kept_within, run-kept_within}
-use Rattle.idl_base.specs.Query.{Done, run}
-use Rattle.idl_base.specs.QueryLaws.{run-and_then}
+use Rattle.idl_memo.specs.Progress.{after_key, kept_within}
+use Rattle.idl_memo.proofs.ProgressLaws.{run-kept_within}
+use Rattle.idl_memo.specs.Query.{Done, run}
+use Rattle.idl_memo.proofs.QueryLaws.{run-and_then}
 use Rattle.idl_event.specs.Items.{beginning, rules, whole_allowance}
 use Rattle.idl_event.specs.Key.{key_eq}
 use Rattle.idl_event.specs.Expanding.{Reached, reached}

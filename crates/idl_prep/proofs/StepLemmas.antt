@@ -1,6 +1,6 @@
 -- One query after another.
 use Rattle.std.proofs.Common.{◌≡◌, refl, ap}
-use Rattle.idl_base.specs.Query.{Done, Ask, Tell, and_then}
+use Rattle.idl_memo.specs.Query.{Done, Ask, Tell, and_then}
 use Rattle.idl_event.specs.Expanding.{Expanding}
 
 module _ {A B : Type 0} where

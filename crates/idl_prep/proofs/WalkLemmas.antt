@@ -1,6 +1,6 @@
 -- Where a root comes to, by steps that walk the next line.
 use Rattle.std.proofs.Common.{◌≡◌, Bool, true, false, ◌||◌, Option, List, [], ◌∷◌, ap, sym, ◌∙◌}
-use Rattle.idl_base.specs.Query.{Tell, and_then, outcome}
+use Rattle.idl_memo.specs.Query.{Tell, and_then, outcome}
 use Rattle.idl_event.specs.Expanding.{Expanding, arrival, arrived, reached}
 use Rattle.idl_event.specs.declared.file_name.FileName.{FileName}
 use Rattle.idl_event.specs.declared.event.Item.{Item}

@@ -1,9 +1,9 @@
 -- Where a root comes to by one query after another.
 use Rattle.std.proofs.Common.{◌≡◌, Option, None, Some, refl, ap, sym, ◌∙◌}
 use Rattle.std.specs.Option.{option_map}
-use Rattle.idl_base.specs.Progress.{after-over, after-and_then}
-use Rattle.idl_base.specs.Query.{and_then, outcome}
-use Rattle.idl_base.specs.QueryLaws.{outcome-and_then}
+use Rattle.idl_memo.proofs.ProgressLaws.{progress_after-over, progress_after-and_then}
+use Rattle.idl_memo.specs.Query.{and_then, outcome}
+use Rattle.idl_memo.proofs.QueryLaws.{outcome-and_then}
 use Rattle.idl_event.specs.Items.{rules}
 use Rattle.idl_event.specs.Key.{key_eq}
 use Rattle.idl_event.specs.Expanding.{Expanding, Reached, arrival, arrived, reached}
@@ -15,7 +15,7 @@ module _ (bank : Key → Option Answer) where
   -- once a limit was passed nothing changes
   pub arrival-over : {A : Type 0} (query : Expanding A) (p : Reached) → p.left ≡ None → arrival bank query p ≡ (p, None)
   arrival-over query p over =
-      ap (arrived (outcome query bank)) (after-over rules key_eq bank query p over)
+      ap (arrived (outcome query bank)) (progress_after-over rules key_eq bank query p over)
       ∙ ap (λ (o : Option Allowance). (p, option_map (λ _. outcome query bank) o)) over
 
   -- one query after another
@@ -23,7 +23,7 @@ module _ (bank : Key → Option Answer) where
       → arrival bank (and_then query f) p ≡ arrival bank (f (outcome query bank)) (reached bank query p)
   arrival-and_then query f p =
       ap (λ b. arrived b (reached bank (and_then query f) p)) (outcome-and_then query f bank)
-      ∙ ap (arrived (outcome (f (outcome query bank)) bank)) (after-and_then rules key_eq bank query f p)
+      ∙ ap (arrived (outcome (f (outcome query bank)) bank)) (progress_after-and_then rules key_eq bank query f p)
 
   -- what is given is the outcome, unless a limit was passed, and then it doesn't matter
   given-outcome : {A B : Type 0} (f : A → Expanding B) (a b : A) (p : Reached) (left : Option Allowance) → p.left ≡ left

@@ -3,7 +3,7 @@ use Rattle.std.specs.Prelude.{ℕ, Bool, ◌||◌, List, [], ◌∷◌, codes, d
 use Rattle.std.specs.List.{list_any}
 use Rattle.std.specs.Str.{bytes_eq}
 use Rattle.indexmap.specs.IndexSet.{insert_key}
-use Rattle.idl_base.specs.Query.{Done, Tell, and_then}
+use Rattle.idl_memo.specs.Query.{Done, Tell, and_then}
 use Rattle.idl_lex.specs.declared.token.PlacedToken.{PlacedToken}
 use Rattle.idl_macro.specs.Condition.{condition}
 use Rattle.idl_macro.specs.Directives.{define, undef, ifdef, ifndef}

@@ -1,7 +1,7 @@
 -- The file that an include finds (after ISO/IEC 9899, 6.10.2).
 use Rattle.std.specs.Prelude.{ℕ, ◌-◌, Bool, true, false, ◌&&◌, ◌||◌, List, [], ◌∷◌, length, slice_get, slice_range, Option, None, Some, is_some, if◌then◌else◌, nat_eq}
 use Rattle.std.specs.Option.{option_to_list}
-use Rattle.idl_base.specs.Query.{Done, Ask, Tell, and_then}
+use Rattle.idl_memo.specs.Query.{Done, Ask, Tell, and_then}
 use Rattle.idl_lex.specs.Kind.{kind_of}
 use Rattle.idl_lex.specs.Tokens.{Token}
 use Rattle.idl_lex.specs.declared.kind.Kind.{Kind}

@@ -1,6 +1,6 @@
 -- What is still to be done of a file, inside the groups that are open.
 use Rattle.std.specs.Prelude.{Bool, true, false, List, [], ◌∷◌, if◌then◌else◌, Option, None, Some}
-use Rattle.idl_base.specs.Query.{Done, and_then}
+use Rattle.idl_memo.specs.Query.{Done, and_then}
 use Rattle.idl_event.specs.Expanding.{Expanding, Reached}
 use Rattle.idl_event.specs.declared.file_name.FileName.{FileName}
 use Rattle.idl_event.specs.declared.key.Answer.{Answer}

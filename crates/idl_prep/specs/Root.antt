@@ -1,7 +1,7 @@
 -- The expansion of a root: its events, and what it asked.
 use Rattle.std.specs.Prelude.{ℕ, zero, suc, ◌-◌, List, [], ◌∷◌, Option, None, Some, flat_map}
-use Rattle.idl_base.specs.Progress.{kept_within}
-use Rattle.idl_base.specs.Query.{Query, Done, Ask, Tell, and_then, run}
+use Rattle.idl_memo.specs.Progress.{kept_within}
+use Rattle.idl_memo.specs.Query.{Query, Done, Ask, Tell, and_then, run}
 use Rattle.idl_event.specs.Items.{rules, whole_allowance}
 use Rattle.idl_event.specs.Key.{key_eq}
 use Rattle.idl_event.specs.Expanding.{Expanding}

@@ -1,6 +1,6 @@
 -- What a root has said so far, and how far it has come.
 use Rattle.std.specs.Prelude.{ℕ, List, [], Option}
-use Rattle.idl_base.specs.Progress.{after_item}
+use Rattle.idl_memo.specs.Progress.{after_item}
 use Rattle.idl_event.specs.Items.{rules}
 use Rattle.idl_event.specs.Expanding.{Expanding, Reached, arrival, arrived}
 use Rattle.idl_macro.specs.Macros.{Definitions}

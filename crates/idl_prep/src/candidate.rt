@@ -1,7 +1,7 @@
 //! An include finds the first of its candidates.
 
 ghost use Rattle.std.specs.Prelude.{List, Option, ℕ};
-ghost use Rattle.idl_base.specs.Query.{outcome};
+ghost use Rattle.idl_memo.specs.Query.{outcome};
 ghost use Rattle.idl_event.specs.declared.file_name.FileName.{FileName};
 ghost use Rattle.idl_event.specs.declared.key.Answer.{Answer};
 ghost use Rattle.idl_event.specs.declared.key.Key.{Key};

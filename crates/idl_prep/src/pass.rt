@@ -1,7 +1,7 @@
 //! One line of a file after another, inside the groups that are open.
 
 ghost use Rattle.std.specs.Prelude.{◌≡◌, ◌∷◌, [], List, Option, IfOk, OnOk};
-ghost use Rattle.idl_base.specs.Query.{and_then};
+ghost use Rattle.idl_memo.specs.Query.{and_then};
 ghost use Rattle.idl_prep.specs.Directive.{Enter};
 ghost use Rattle.idl_prep.specs.Line as spec;
 ghost use Rattle.idl_prep.specs.Line.{Directed, Text, Bare};

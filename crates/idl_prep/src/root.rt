@@ -5,7 +5,7 @@ ghost use Rattle.std.specs.List.{list_any};
 ghost use Rattle.std.specs.Str.{bytes_eq};
 ghost use Rattle.indexmap.specs.IndexSet.{insert_key};
 ghost use Rattle.std.specs.Option.{option_copied};
-ghost use Rattle.idl_base.specs.Progress.{after_key};
+ghost use Rattle.idl_memo.specs.Progress.{after_key};
 ghost use Rattle.idl_event.specs.Key.{key_eq};
 ghost use Rattle.idl_event.specs.Items.{beginning};
 ghost use Rattle.idl_event.specs.Expanding.{reached};
@@ -18,7 +18,7 @@ ghost use Rattle.idl_prep.specs.Line.{place_in};
 ghost use Rattle.idl_prep.specs.State.{ended, nothing_said, onward, telling};
 ghost use Rattle.idl_prep.specs.Include.{file_in, file_of, operand_of};
 ghost use Rattle.idl_prep.specs.Directive.{redefined, test};
-ghost use Rattle.idl_base.specs.Query.{and_then};
+ghost use Rattle.idl_memo.specs.Query.{and_then};
 ghost use Rattle.idl_macro.specs.Directives.{define, undef};
 
 use crate::find::{Found, file_named, find};

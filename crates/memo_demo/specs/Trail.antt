@@ -1,7 +1,7 @@
 -- Trails through a library, each page of which refers to a next one on its shelf.
 use Rattle.std.specs.Prelude.{◌≡◌, ℕ, zero, suc, ◌-◌, true, ◌&&◌, List, [], Option, None, Some, codes, if◌then◌else◌, nat_eq, nat_le, length}
 use Rattle.idl_base.specs.Exact.{both, same_number}
-use Rattle.idl_base.specs.Query.{Query, Done, Ask, Tell, and_then, limited, gathered_after}
+use Rattle.idl_memo.specs.Query.{Query, Done, Ask, Tell, and_then, limited, gathered_after}
 use Rattle.memo_demo.specs.declared.page.Page.{Page}
 use Rattle.memo_demo.specs.declared.trail.Start.{Start}
 use Rattle.memo_demo.specs.Page.{page_eq, same_page, copied_page}

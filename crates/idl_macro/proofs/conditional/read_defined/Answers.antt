@@ -1,7 +1,7 @@
 use Rattle.std.proofs.Common.{◌≡◌, List, [], ◌∷◌, is_some, refl, sym, ap, ◌∙◌, append-nil}
 use Rattle.std.specs.Option.{option_copied, option_map}
 use Rattle.std.proofs.lemmas.List.{nil_from_length}
-use Rattle.idl_base.specs.Query.{Done}
+use Rattle.idl_memo.specs.Query.{Done}
 use Rattle.idl_event.specs.Expanding.{arrival, arrived}
 use Rattle.idl_lex.specs.Tokens.{Token, tokens_in}
 use Rattle.idl_lex.specs.declared.token.PlacedToken.{PlacedToken}

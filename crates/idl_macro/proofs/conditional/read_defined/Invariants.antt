@@ -1,5 +1,5 @@
 use Rattle.std.proofs.Common.{◌≡◌, length}
-use Rattle.idl_base.specs.Query.{Done}
+use Rattle.idl_memo.specs.Query.{Done}
 use Rattle.idl_event.specs.Expanding.{arrival}
 use Rattle.idl_lex.specs.Tokens.{tokens_in}
 use Rattle.idl_macro.specs.Condition.{defined_read}

@@ -1,5 +1,5 @@
 use Rattle.std.proofs.Common.{None, Some, sym, ap, ◌∙◌}
-use Rattle.idl_base.specs.Query.{Done}
+use Rattle.idl_memo.specs.Query.{Done}
 use Rattle.idl_event.specs.Expanding.{arrived}
 use Rattle.idl_macro.specs.Directives.{ifdef, is_macro_there, is_there}
 use Rattle.idl_macro.proofs.ArrivalLemmas.{arrival-and_then}

@@ -1,6 +1,6 @@
 use Rattle.std.proofs.Common.{None, Some, is_some, ap, ◌∙◌}
 use Rattle.std.specs.Option.{option_copied, option_map}
-use Rattle.idl_base.specs.Query.{Done}
+use Rattle.idl_memo.specs.Query.{Done}
 use Rattle.idl_event.specs.Expanding.{arrival, arrived}
 use Rattle.idl_lex.specs.Tokens.{tokens_in}
 use Rattle.idl_macro.specs.Directives.{first_word}

@@ -3,8 +3,9 @@ use Rattle.std.proofs.Common.{◌≡◌, ℕ, ◌+◌, ◌<◌, List, [], ◌∷
 use Rattle.std.specs.Map.{keys_of}
 use Rattle.std.specs.Option.{option_copied, option_map}
 use Rattle.std.proofs.lemmas.List.{length-reverse, nil_from_length, reverse-append, length-append}
-use Rattle.idl_base.specs.Progress.{after_item, after-over}
-use Rattle.idl_base.specs.Query.{outcome}
+use Rattle.idl_memo.specs.Progress.{after_item}
+use Rattle.idl_memo.proofs.ProgressLaws.{progress_after-over}
+use Rattle.idl_memo.specs.Query.{outcome}
 use Rattle.idl_event.specs.Expanding.{reached}
 use Rattle.idl_event.specs.Items.{rules}
 use Rattle.idl_event.specs.Key.{key_eq}
@@ -170,4 +171,4 @@ pub returns-clause-progress : goal.returns-clause-progress
 returns-clause-progress g c =
     let bank = g.B.Bank.at c.args.macros.now.bank.now in
     let rest = pending bank (item_of c.args.output.now c.args.place.now) c.args.place.now c.args.macros.now.definitions.now (turns_at_most + 1) (reverse c.steps.stack) (tokens_in c.steps.left.now) in
-    sym (c.steps.invariant.progress ∙ after-over rules key_eq bank rest c.steps.progress (c.is_over.ensures.over.0 c.steps-test.false))
+    sym (c.steps.invariant.progress ∙ progress_after-over rules key_eq bank rest c.steps.progress (c.is_over.ensures.over.0 c.steps-test.false))

@@ -1,5 +1,5 @@
 use Rattle.std.proofs.Common.{◌≡◌, ◌+◌, length, reverse}
-use Rattle.idl_base.specs.Query.{outcome}
+use Rattle.idl_memo.specs.Query.{outcome}
 use Rattle.idl_event.specs.Expanding.{reached}
 use Rattle.idl_event.specs.Limits.{turns_at_most}
 use Rattle.idl_lex.specs.Tokens.{tokens_in}

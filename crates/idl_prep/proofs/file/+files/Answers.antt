@@ -1,4 +1,4 @@
-use Rattle.idl_base.specs.Query.{and_then}
+use Rattle.idl_memo.specs.Query.{and_then}
 use Rattle.std.proofs.Common.{◌≡◌, ◌-◌, [], suc, length, ◌+◌, map, refl, ap, sym, ◌∙◌, arith}
 use Rattle.std.proofs.lemmas.Bool.{eqb-true}
 use Rattle.std.proofs.lemmas.List.{length-append, nil_from_length}

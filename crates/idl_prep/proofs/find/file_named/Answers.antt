@@ -1,5 +1,5 @@
 use Rattle.std.proofs.Common.{ap, ◌∙◌}
-use Rattle.idl_base.specs.Progress.{after_key}
+use Rattle.idl_memo.specs.Progress.{after_key}
 use Rattle.idl_event.specs.Key.{key_eq}
 use Rattle.idl_event.specs.declared.key.Key.TheVariants.{File}
 use Rattle.idl_prep.specs.Include.{file_in}

@@ -1,6 +1,6 @@
 use Rattle.std.proofs.Common.{ℕ, List, None, Some, ap, sym, ◌∙◌}
 use Rattle.std.specs.Option.{option_copied}
-use Rattle.idl_base.specs.Progress.{after_key}
+use Rattle.idl_memo.specs.Progress.{after_key}
 use Rattle.idl_event.specs.Expanding.{arrived}
 use Rattle.idl_event.specs.Key.{key_eq}
 use Rattle.idl_event.specs.declared.key.Key.TheVariants.{File}

@@ -1,6 +1,6 @@
 use Rattle.std.proofs.Common.{◌≡◌, ◌<◌, ℕ, length, arith, List, Option, None, Some, ap, sym, ◌∙◌}
 use Rattle.std.proofs.lemmas.List.{drop_all}
-use Rattle.idl_base.specs.Progress.{after_key}
+use Rattle.idl_memo.specs.Progress.{after_key}
 use Rattle.idl_event.specs.Expanding.{arrival, arrived}
 use Rattle.idl_event.specs.Key.{key_eq}
 use Rattle.idl_event.specs.declared.key.Key.TheVariants as key

@@ -1,5 +1,5 @@
 use Rattle.std.proofs.Common.{List, ap, sym, ◌∙◌}
-use Rattle.idl_base.specs.Query.{Done}
+use Rattle.idl_memo.specs.Query.{Done}
 use Rattle.idl_event.specs.Expanding.{reached}
 use Rattle.idl_lex.specs.declared.token.PlacedToken.{PlacedToken}
 use Rattle.idl_macro.specs.Replace.{text}

@@ -1,7 +1,7 @@
 use Rattle.std.proofs.Common.{◌≡◌, Some, None, sym, ap, ◌∙◌}
 use Rattle.std.specs.Map.{lookup}
 use Rattle.std.specs.Str.{bytes_eq}
-use Rattle.idl_base.specs.Progress.{after_key}
+use Rattle.idl_memo.specs.Progress.{after_key}
 use Rattle.idl_event.specs.Expanding.{arrival, arrived}
 use Rattle.idl_event.specs.Key.{key_eq}
 use Rattle.idl_event.specs.declared.key.Key.TheVariants as key

@@ -1,7 +1,7 @@
 -- Each step asks one key more: the run of the rest is the run of the whole.
 use Rattle.std.proofs.Common.{◌≡◌, suc, ◌+◌, ◌-◌, ◌<◌, ◌≤◌, ◌∷◌, ◌++◌, [], Some, length, arith, sym, ◌∙◌, ap}
 use Rattle.std.specs.Option.{option_copied}
-use Rattle.idl_base.specs.Query.{run}
+use Rattle.idl_memo.specs.Query.{run}
 use Rattle.memo_demo.specs.Library.{next_title}
 use Rattle.memo_demo.specs.Page.{page_eq}
 use Rattle.memo_demo.specs.Trail.{rest_of_trail, more}

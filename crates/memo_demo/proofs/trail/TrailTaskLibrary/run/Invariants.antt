@@ -1,5 +1,5 @@
 use Rattle.std.proofs.Common.{◌≡◌, ◌-◌}
-use Rattle.idl_base.specs.Query.{run}
+use Rattle.idl_memo.specs.Query.{run}
 use Rattle.memo_demo.specs.Library.{next_title}
 use Rattle.memo_demo.specs.Page.{page_eq}
 use Rattle.memo_demo.specs.Trail.{trail_from, rest_of_trail}
