@@ -13,6 +13,7 @@ mod key;
 mod lexed_file;
 mod place;
 mod progress;
+mod root_bank;
 mod token_range;
 
 pub use allowance::{Allowance, MAX_TOKENS, MAX_TURNS};
@@ -24,4 +25,5 @@ pub use key::{Answer, Key};
 pub use lexed_file::LexedFile;
 pub use place::Place;
 pub use progress::Progress;
+pub use root_bank::RootBank;
 pub use token_range::{FileTokens, TokenRange};

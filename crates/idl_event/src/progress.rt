@@ -10,6 +10,7 @@ ghost use Rattle.idl_event.specs.Limits.{turns_at_most};
 use crate::allowance::Allowance;
 use crate::event::{Event, Item};
 use crate::key::{Answer, Key};
+use crate::root_bank::RootBank;
 use idl_memo::{Bank, Log};
 use std::alloc::{AllocError, Global};
 use std::marker::Model;
@@ -19,13 +20,13 @@ use std::marker::Model;
 /// Once an item is past the limits, a fault stands in its place, nothing more is told, and nothing more is logged. After want
 /// of memory nothing is said of it.
 #[derive(Drop)]
-pub struct Progress<B: Bank<Key = Key, Answer = Answer>> {
+pub struct Progress<B: RootBank> {
     kept: Vec<Event>,
     left: Option<Allowance>,
     log: Log<B>,
 }
 
-impl<B: Bank<Key = Key, Answer = Answer>> Model for Progress<B> {
+impl<B: RootBank> Model for Progress<B> {
     ghost use Rattle.std.specs.Prelude.{Option, ◌≤◌};
     ghost use Rattle.idl_memo.specs.Progress.{Progress as Reached};
     ghost use Rattle.idl_event.specs.declared.allowance.Allowance.{Allowance};
@@ -42,7 +43,7 @@ impl<B: Bank<Key = Key, Answer = Answer>> Model for Progress<B> {
     ghost invariant = { λ p. turns_left p.left ≤ turns_at_most };
 }
 
-impl<B: Bank<Key = Key, Answer = Answer>> Progress<B> {
+impl<B: RootBank> Progress<B> {
     /// Nothing is told, and nothing of the limits is spent; what is asked goes behind the entries of the log. It takes no
     /// memory.
     pub fn new(alloc: Global, log: Log<B>) -> Progress<B>

@@ -16,9 +16,8 @@ use crate::definitions::Macros;
 use crate::directive::Directive;
 use crate::replacement::replace_operand;
 use idl_condition::{Symbol, evaluate};
-use idl_event::{Answer, Code, Event, Item, Key, Progress};
+use idl_event::{Code, Event, Item, Progress, RootBank};
 use idl_lex::{PlacedToken, Spelling, Token};
-use idl_memo::Bank;
 use std::alloc::{AllocError, Global};
 use std::rc::RcSlice;
 
@@ -27,7 +26,7 @@ use std::rc::RcSlice;
 /// Each `defined X` and `defined ( X )` is read first, then macros are replaced, and then the
 /// condition has a value, or it is faulty, which is a fault, and doesn't hold. Where an item was
 /// past the limits, nothing is said of the answer.
-pub fn condition<B: Bank<Key = Key, Answer = Answer>>(
+pub fn condition<B: RootBank>(
     macros: &Macros<'_, B>,
     directive: &Directive<'_>,
     progress: &mut Progress<B>,
@@ -49,7 +48,7 @@ pub fn condition<B: Bank<Key = Key, Answer = Answer>>(
 }
 
 // The tokens, in which each `defined X` is one token, `1` or `0`.
-fn read_defined<B: Bank<Key = Key, Answer = Answer>>(
+fn read_defined<B: RootBank>(
     macros: &Macros<'_, B>,
     operands: &[PlacedToken],
     progress: &mut Progress<B>,
@@ -135,7 +134,7 @@ fn holds(value: i64) -> bool
 }
 
 // The condition has no value.
-fn bad_condition<B: Bank<Key = Key, Answer = Answer>>(
+fn bad_condition<B: RootBank>(
     directive: &Directive<'_>,
     progress: &mut Progress<B>,
 ) -> Result<(), AllocError>

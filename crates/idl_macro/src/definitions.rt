@@ -9,9 +9,8 @@ ghost use Rattle.idl_lex.specs.Tokens.{tokens_in};
 ghost use Rattle.idl_macro.specs.Macros.{body_in, macro_of};
 
 use idl_base::Table;
-use idl_event::{Answer, Key, Progress, TokenRange};
+use idl_event::{Answer, Key, Progress, RootBank, TokenRange};
 use idl_lex::{PlacedToken, Spelling};
-use idl_memo::Bank;
 use std::alloc::{AllocError, Global};
 use std::marker::Model;
 
@@ -48,7 +47,7 @@ impl Definitions {
     }
 
     /// The body of the macro with this word: what the root said of it, else what the bank answers.
-    pub fn macro_of<'a, B: Bank<Key = Key, Answer = Answer>>(
+    pub fn macro_of<'a, B: RootBank>(
         &'a self,
         word: &Spelling,
         bank: &'a B,

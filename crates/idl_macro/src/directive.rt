@@ -12,9 +12,8 @@ ghost use Rattle.idl_lex.specs.Tokens.{tokens_in};
 ghost use Rattle.idl_macro.specs.Directives.{define, undef, ifdef, ifndef, is_macro_there, definition_in, differs, first_word, same_tokens, opens_parameters};
 
 use crate::definitions::{Definitions, Macros};
-use idl_event::{Answer, Code, Event, FileTokens, Item, Key, Place, Progress};
+use idl_event::{Answer, Code, Event, FileTokens, Item, Key, Place, Progress, RootBank};
 use idl_lex::{PlacedToken, Spelling};
-use idl_memo::Bank;
 use std::alloc::AllocError;
 
 /// A directive where it stands: its word, and the tokens after that.
@@ -27,7 +26,7 @@ pub struct Directive<'a> {
 
 /// `define`: a macro is defined. Where it is there with other tokens, that is a fault, and it
 /// stays.
-pub fn define<B: Bank<Key = Key, Answer = Answer>>(
+pub fn define<B: RootBank>(
     definitions: &mut Definitions,
     directive: &Directive<'_>,
     bank: &B,
@@ -50,7 +49,7 @@ pub fn define<B: Bank<Key = Key, Answer = Answer>>(
 }
 
 /// `undef`: the macro with the first word after the directive's is removed, if it is there.
-pub fn undef<B: Bank<Key = Key, Answer = Answer>>(
+pub fn undef<B: RootBank>(
     definitions: &mut Definitions,
     directive: &Directive<'_>,
     progress: &mut Progress<B>,
@@ -71,7 +70,7 @@ pub fn undef<B: Bank<Key = Key, Answer = Answer>>(
 
 /// `ifdef`: whether the macro with the first word after the directive's is there. Where there is no
 /// word, that is a fault.
-pub fn ifdef<B: Bank<Key = Key, Answer = Answer>>(
+pub fn ifdef<B: RootBank>(
     macros: &Macros<'_, B>,
     directive: &Directive<'_>,
     progress: &mut Progress<B>,
@@ -89,7 +88,7 @@ pub fn ifdef<B: Bank<Key = Key, Answer = Answer>>(
 
 /// `ifndef`: whether the macro with the first word after the directive's isn't there. Where there
 /// is no word, that is a fault.
-pub fn ifndef<B: Bank<Key = Key, Answer = Answer>>(
+pub fn ifndef<B: RootBank>(
     macros: &Macros<'_, B>,
     directive: &Directive<'_>,
     progress: &mut Progress<B>,
@@ -106,7 +105,7 @@ pub fn ifndef<B: Bank<Key = Key, Answer = Answer>>(
 }
 
 // Whether the macro named by the operands is there, where they name one.
-fn is_macro_there<B: Bank<Key = Key, Answer = Answer>>(
+fn is_macro_there<B: RootBank>(
     macros: &Macros<'_, B>,
     directive: &Directive<'_>,
     progress: &mut Progress<B>,
@@ -129,7 +128,7 @@ fn is_macro_there<B: Bank<Key = Key, Answer = Answer>>(
 }
 
 // The directive names no macro, or gives one parameters.
-fn malformed<B: Bank<Key = Key, Answer = Answer>>(
+fn malformed<B: RootBank>(
     directive: &Directive<'_>,
     progress: &mut Progress<B>,
 ) -> Result<(), AllocError>
@@ -144,7 +143,7 @@ fn malformed<B: Bank<Key = Key, Answer = Answer>>(
 }
 
 // A macro with this word is there with other tokens.
-fn other_definition<B: Bank<Key = Key, Answer = Answer>>(
+fn other_definition<B: RootBank>(
     directive: &Directive<'_>,
     word: &Spelling,
     progress: &mut Progress<B>,

@@ -17,9 +17,8 @@ ghost use Rattle.idl_macro.specs.Replace.{operand, replaced, replaced_at, replac
 
 use crate::definitions::{Definitions, Macros};
 use idl_base::Table;
-use idl_event::{Answer, Event, FileName, Item, Key, Place, Progress};
+use idl_event::{Answer, Event, FileName, Item, Key, Place, Progress, RootBank};
 use idl_lex::{PlacedToken, Spelling, Token};
-use idl_memo::Bank;
 use std::alloc::{AllocError, Global};
 use std::slice::from_ref;
 
@@ -34,7 +33,7 @@ pub enum Output {
 
 /// The tokens of a text are replaced, each at its own place, and emitted.
 #[tactic(auto, unfolding(crate::specs::Replace::text))]
-pub fn replace_text<B: Bank<Key = Key, Answer = Answer>>(
+pub fn replace_text<B: RootBank>(
     macros: &Macros<'_, B>,
     file: &FileName,
     tokens: &[PlacedToken],
@@ -60,7 +59,7 @@ pub fn replace_text<B: Bank<Key = Key, Answer = Answer>>(
 ///
 /// Where an item was past the limits, nothing is said of the tokens.
 #[tactic(auto, unfolding(crate::specs::Replace::operand))]
-pub fn replace_operand<B: Bank<Key = Key, Answer = Answer>>(
+pub fn replace_operand<B: RootBank>(
     macros: &Macros<'_, B>,
     place: &Place,
     tokens: &[PlacedToken],
@@ -92,7 +91,7 @@ pub fn nesting()
 
 // The tokens are replaced at one place. Words in whose replacement the work stands have an entry
 // each, with what follows them, the outermost first.
-fn replace<B: Bank<Key = Key, Answer = Answer>>(
+fn replace<B: RootBank>(
     macros: &Macros<'_, B>,
     place: &Place,
     tokens: &[PlacedToken],
@@ -139,7 +138,7 @@ fn replace<B: Bank<Key = Key, Answer = Answer>>(
 
 // The body that a token is replaced by: its macro's, if it is a word and doesn't stand in its own
 // replacement.
-fn replacement<'a, B: Bank<Key = Key, Answer = Answer>>(
+fn replacement<'a, B: RootBank>(
     stack: &Table<Spelling, &'a [PlacedToken]>,
     macros: &Macros<'a, B>,
     token: &Token,
@@ -163,7 +162,7 @@ fn replacement<'a, B: Bank<Key = Key, Answer = Answer>>(
 
 impl Output {
     // A token that stands for itself, at the place of the outermost word.
-    fn put<B: Bank<Key = Key, Answer = Answer>>(
+    fn put<B: RootBank>(
         &mut self,
         place: &Place,
         token: &Token,

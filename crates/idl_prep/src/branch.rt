@@ -16,12 +16,11 @@ use crate::kind::Test;
 use crate::line::Directive;
 use crate::root::Root;
 use crate::site::Site;
-use idl_event::{Answer, FileName, Key};
-use idl_memo::Bank;
+use idl_event::{Answer, FileName, Key, RootBank};
 use std::alloc::AllocError;
 
 /// A group begins in lines that are walked.
-pub fn begin_group<B: Bank<Key = Key, Answer = Answer>>(
+pub fn begin_group<B: RootBank>(
     root: &mut Root<B>,
     site: &Site<'_, B>,
     directive: &Directive<'_>,
@@ -61,7 +60,7 @@ pub fn skip_group(directive: &Directive<'_>) -> Result<Group, AllocError>
 }
 
 /// Another branch of a group begins, which had no `else` before it.
-pub fn begin_branch<B: Bank<Key = Key, Answer = Answer>>(
+pub fn begin_branch<B: RootBank>(
     root: &mut Root<B>,
     group: &mut Group,
     site: &Site<'_, B>,
@@ -86,7 +85,7 @@ pub fn begin_branch<B: Bank<Key = Key, Answer = Answer>>(
 }
 
 /// A group ends.
-pub fn end_group<B: Bank<Key = Key, Answer = Answer>>(
+pub fn end_group<B: RootBank>(
     root: &mut Root<B>,
     group: &Group,
     file: &FileName,
@@ -106,7 +105,7 @@ pub fn end_group<B: Bank<Key = Key, Answer = Answer>>(
 }
 
 // Whether a branch after the first is taken.
-fn decide<B: Bank<Key = Key, Answer = Answer>>(
+fn decide<B: RootBank>(
     root: &mut Root<B>,
     site: &Site<'_, B>,
     directive: &Directive<'_>,

@@ -11,13 +11,12 @@ use crate::line::first_line;
 use crate::pass::{end_file, walk_line};
 use crate::root::Root;
 use crate::site::Site;
-use idl_event::{Answer, Event, Item, Key, LexedFile};
-use idl_memo::Bank;
+use idl_event::{Event, Item, LexedFile, RootBank};
 use std::alloc::AllocError;
 
 /// A file of these tokens, in which so many files may still be entered inside one another.
 #[cycle(files)]
-pub fn walk_file<B: Bank<Key = Key, Answer = Answer>>(
+pub fn walk_file<B: RootBank>(
     root: &mut Root<B>,
     room: usize,
     site: &Site<'_, B>,
@@ -43,7 +42,7 @@ pub fn walk_file<B: Bank<Key = Key, Answer = Answer>>(
 
 // A file is entered, if there is one, unless it is too deep, and left when its lines are done.
 #[cycle(files)]
-fn enter_file<B: Bank<Key = Key, Answer = Answer>>(
+fn enter_file<B: RootBank>(
     root: &mut Root<B>,
     room: usize,
     inclusion: Option<Inclusion<'_>>,

@@ -10,8 +10,7 @@ ghost use Rattle.idl_prep.specs.Include.{directories_in, file_in, file_of, first
 ghost use Rattle.idl_source.specs.Path.{joined};
 
 use crate::operand::Operand;
-use idl_event::{Answer, FileName, Key, LexedFile, Progress};
-use idl_memo::Bank;
+use idl_event::{Answer, FileName, Key, LexedFile, Progress, RootBank};
 use idl_source::{Directory, is_rooted, join};
 use std::alloc::AllocError;
 use std::marker::Model;
@@ -32,7 +31,7 @@ impl<'b> Model for Found<'b> {
 }
 
 /// The file that an operand finds from another file.
-pub fn find<'b, B: Bank<Key = Key, Answer = Answer>>(
+pub fn find<'b, B: RootBank>(
     from: &FileName,
     operand: &Operand,
     bank: &'b B,
@@ -56,7 +55,7 @@ pub fn find<'b, B: Bank<Key = Key, Answer = Answer>>(
 }
 
 // The first file along the search list.
-fn present_along<'b, B: Bank<Key = Key, Answer = Answer>>(
+fn present_along<'b, B: RootBank>(
     name: &[u8],
     bank: &'b B,
     progress: &mut Progress<B>,
@@ -74,7 +73,7 @@ fn present_along<'b, B: Bank<Key = Key, Answer = Answer>>(
 }
 
 // The file that the operand makes in the directory, where it is present.
-fn present<'b, B: Bank<Key = Key, Answer = Answer>>(
+fn present<'b, B: RootBank>(
     directory: &Directory,
     name: &[u8],
     bank: &'b B,
@@ -95,7 +94,7 @@ fn present<'b, B: Bank<Key = Key, Answer = Answer>>(
 }
 
 /// The file with this name, which is asked of the bank.
-pub fn file_named<'b, B: Bank<Key = Key, Answer = Answer>>(
+pub fn file_named<'b, B: RootBank>(
     name: &FileName,
     bank: &'b B,
     progress: &mut Progress<B>,

@@ -10,12 +10,11 @@ use crate::line::Directive;
 use crate::operand::Operand;
 use crate::root::Root;
 use crate::site::Site;
-use idl_event::{Answer, Code, Key};
-use idl_memo::Bank;
+use idl_event::{Code, RootBank};
 use std::alloc::AllocError;
 
 /// `include`: gives the file that is to be entered, if there is one.
-pub fn include<'b, B: Bank<Key = Key, Answer = Answer>>(
+pub fn include<'b, B: RootBank>(
     root: &mut Root<B>,
     site: &Site<'b, B>,
     directive: &Directive<'_>,
@@ -33,7 +32,7 @@ pub fn include<'b, B: Bank<Key = Key, Answer = Answer>>(
 }
 
 // The file of the operand, if it is found and may be entered.
-fn included<'b, B: Bank<Key = Key, Answer = Answer>>(
+fn included<'b, B: RootBank>(
     root: &mut Root<B>,
     site: &Site<'b, B>,
     directive: &Directive<'_>,

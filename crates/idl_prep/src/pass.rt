@@ -19,12 +19,11 @@ use crate::perform::{act_bare, act_directive, act_text};
 use crate::root::Root;
 use crate::site::Site;
 use crate::stray::{stray_inside, stray_outside};
-use idl_event::{Answer, Code, FileName, FileTokens, Key, Place};
-use idl_memo::Bank;
+use idl_event::{Answer, Code, FileName, FileTokens, Key, Place, RootBank};
 use std::alloc::AllocError;
 
 /// The next line of a file: gives the file that is to be entered, if there is one.
-pub fn walk_line<'b, B: Bank<Key = Key, Answer = Answer>>(
+pub fn walk_line<'b, B: RootBank>(
     root: &mut Root<B>,
     groups: &mut Groups,
     site: &Site<'b, B>,
@@ -50,7 +49,7 @@ pub fn walk_line<'b, B: Bank<Key = Key, Answer = Answer>>(
 }
 
 // A line of text.
-fn walk_text<B: Bank<Key = Key, Answer = Answer>>(
+fn walk_text<B: RootBank>(
     root: &mut Root<B>,
     groups: &Groups,
     site: &Site<'_, B>,
@@ -69,7 +68,7 @@ fn walk_text<B: Bank<Key = Key, Answer = Answer>>(
 }
 
 // A `#` alone.
-fn walk_bare<B: Bank<Key = Key, Answer = Answer>>(
+fn walk_bare<B: RootBank>(
     root: &mut Root<B>,
     groups: &Groups,
     file: &FileName,
@@ -87,7 +86,7 @@ fn walk_bare<B: Bank<Key = Key, Answer = Answer>>(
 }
 
 // A directive.
-fn walk_directive<'b, B: Bank<Key = Key, Answer = Answer>>(
+fn walk_directive<'b, B: RootBank>(
     root: &mut Root<B>,
     groups: &mut Groups,
     site: &Site<'b, B>,
@@ -123,7 +122,7 @@ fn walk_directive<'b, B: Bank<Key = Key, Answer = Answer>>(
 }
 
 // An `elif` or `else`: the innermost group goes on with another branch, if one is open.
-fn walk_branch<B: Bank<Key = Key, Answer = Answer>>(
+fn walk_branch<B: RootBank>(
     root: &mut Root<B>,
     groups: &mut Groups,
     site: &Site<'_, B>,
@@ -154,7 +153,7 @@ fn walk_branch<B: Bank<Key = Key, Answer = Answer>>(
 }
 
 // An `endif`: the innermost group ends, if one is open.
-fn walk_endif<B: Bank<Key = Key, Answer = Answer>>(
+fn walk_endif<B: RootBank>(
     root: &mut Root<B>,
     groups: &mut Groups,
     file: &FileName,
@@ -178,7 +177,7 @@ fn walk_endif<B: Bank<Key = Key, Answer = Answer>>(
 }
 
 /// The end of a file: the groups that are open are not closed, the innermost first.
-pub fn end_file<B: Bank<Key = Key, Answer = Answer>>(
+pub fn end_file<B: RootBank>(
     root: &mut Root<B>,
     mut groups: Groups,
     file: &FileName,

@@ -18,13 +18,12 @@ use crate::pragma::pragma;
 use crate::root::Root;
 use crate::site::Site;
 use crate::text::parted;
-use idl_event::{Answer, Code, FileName, FileTokens, Item, Key, Place};
-use idl_memo::Bank;
+use idl_event::{Answer, Code, FileName, FileTokens, Item, Key, Place, RootBank};
 use std::alloc::AllocError;
 
 /// A line of text, which isn't skipped.
 #[tactic(auto, unfolding(crate::specs::Directive::act))]
-pub fn act_text<B: Bank<Key = Key, Answer = Answer>>(
+pub fn act_text<B: RootBank>(
     root: &mut Root<B>,
     site: &Site<'_, B>,
     tokens: &FileTokens<'_>,
@@ -38,7 +37,7 @@ pub fn act_text<B: Bank<Key = Key, Answer = Answer>>(
 
 /// A `#` alone, which isn't skipped.
 #[tactic(auto, unfolding(crate::specs::Directive::act))]
-pub fn act_bare<B: Bank<Key = Key, Answer = Answer>>(
+pub fn act_bare<B: RootBank>(
     root: &mut Root<B>,
     file: &FileName,
     line: u32,
@@ -54,7 +53,7 @@ pub fn act_bare<B: Bank<Key = Key, Answer = Answer>>(
 }
 
 /// A directive of one line, which isn't skipped: gives the file that is to be entered, if there is one.
-pub fn act_directive<'b, B: Bank<Key = Key, Answer = Answer>>(
+pub fn act_directive<'b, B: RootBank>(
     root: &mut Root<B>,
     site: &Site<'b, B>,
     directive: &Directive<'_>,
@@ -93,7 +92,7 @@ pub fn act_directive<'b, B: Bank<Key = Key, Answer = Answer>>(
 }
 
 // What an `error` says.
-fn act_error<B: Bank<Key = Key, Answer = Answer>>(
+fn act_error<B: RootBank>(
     root: &mut Root<B>,
     file: &FileName,
     directive: &Directive<'_>,

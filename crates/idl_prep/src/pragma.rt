@@ -8,13 +8,12 @@ ghost use Rattle.idl_prep.specs.State.{ended, onward};
 
 use crate::line::Directive;
 use crate::root::Root;
-use idl_event::{Answer, Event, FileName, Item, Key};
+use idl_event::{Answer, Event, FileName, Item, Key, RootBank};
 use idl_lex::{PlacedToken, Spelling};
-use idl_memo::Bank;
 use std::alloc::AllocError;
 
 /// `pragma`: `once` says that the file isn't to be entered again, and those that mean something to IDL are told.
-pub fn pragma<B: Bank<Key = Key, Answer = Answer>>(
+pub fn pragma<B: RootBank>(
     root: &mut Root<B>,
     file: &FileName,
     directive: &Directive<'_>,

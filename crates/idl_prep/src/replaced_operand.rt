@@ -5,16 +5,15 @@ ghost use Rattle.idl_prep.specs.Include.{operand_at, operand_of};
 ghost use Rattle.idl_event.specs.Expanding.{arrival, arrived};
 
 use crate::operand::{Operand, operand_given, operand_in};
-use idl_event::{Answer, Item, Key, Place, Progress};
+use idl_event::{Item, Place, Progress, RootBank};
 use idl_lex::PlacedToken;
 use idl_macro::{Macros, replace_operand};
-use idl_memo::Bank;
 use std::alloc::AllocError;
 use std::slice::from_ref;
 
 /// The operand of an include at this place, of which these are the tokens after the word.
 #[tactic(auto, unfolding(crate::specs::Include::operand_of))]
-pub fn operand_of<B: Bank<Key = Key, Answer = Answer>>(
+pub fn operand_of<B: RootBank>(
     macros: &Macros<'_, B>,
     place: &Place,
     tokens: &[PlacedToken],
@@ -31,7 +30,7 @@ pub fn operand_of<B: Bank<Key = Key, Answer = Answer>>(
 }
 
 // The operand of a token: one that is an operand counts, and a word is replaced.
-fn operand_at<B: Bank<Key = Key, Answer = Answer>>(
+fn operand_at<B: RootBank>(
     macros: &Macros<'_, B>,
     place: &Place,
     placed: &PlacedToken,

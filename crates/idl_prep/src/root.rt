@@ -27,10 +27,10 @@ use crate::line::Directive;
 use crate::operand::Operand;
 use crate::replaced_operand::operand_of;
 use crate::site::Site;
-use idl_event::{Answer, Code, Event, FileName, Item, Key, LexedFile, Place, Progress};
+use idl_event::{Answer, Code, Event, FileName, Item, Key, LexedFile, Place, Progress, RootBank};
 use idl_lex::{PlacedToken, Spelling};
 use idl_macro::{Definitions, Macros, condition, define, ifdef, ifndef, replace_text, undef};
-use idl_memo::{Bank, Log};
+use idl_memo::Log;
 use indexmap::IndexSet;
 use std::alloc::{AllocError, Global};
 use std::marker::Model;
@@ -38,13 +38,13 @@ use std::marker::Model;
 /// What a root has said so far of macros and of files that are not to be entered again, and how far it has come.
 ///
 /// After want of memory nothing is said of it.
-pub struct Root<B: Bank<Key = Key, Answer = Answer>> {
+pub struct Root<B: RootBank> {
     definitions: Definitions,
     once: IndexSet<FileName>,
     progress: Progress<B>,
 }
 
-impl<B: Bank<Key = Key, Answer = Answer>> Drop for Root<B> {
+impl<B: RootBank> Drop for Root<B> {
     fn drop(self) {
         let Root {
             definitions: _definitions,
@@ -54,7 +54,7 @@ impl<B: Bank<Key = Key, Answer = Answer>> Drop for Root<B> {
     }
 }
 
-impl<B: Bank<Key = Key, Answer = Answer>> Model for Root<B> {
+impl<B: RootBank> Model for Root<B> {
     ghost use Rattle.idl_prep.specs.State.{Way};
 
     ghost Value = { Way };
@@ -65,7 +65,7 @@ impl<B: Bank<Key = Key, Answer = Answer>> Model for Root<B> {
     } };
 }
 
-impl<B: Bank<Key = Key, Answer = Answer>> Root<B> {
+impl<B: RootBank> Root<B> {
     /// Nothing was said, and nothing is told; what is asked goes behind the entries of the log. It takes no memory.
     pub fn new(alloc: Global, log: Log<B>) -> Root<B>
         ensures { result ≡ record { state = nothing_said; progress = beginning log } }

@@ -15,8 +15,8 @@ use crate::file::walk_file;
 use crate::root::Root;
 use crate::site::Site;
 use crate::text::text_of;
-use idl_event::{Answer, Code, Event, FileName, Key, Place};
-use idl_memo::{Bank, Kind, Log, Task};
+use idl_event::{Code, Event, FileName, Key, Place, RootBank};
+use idl_memo::{Kind, Log, Task};
 use idl_source::Name;
 use std::alloc::{AllocError, Global};
 use std::marker::Model;
@@ -61,7 +61,7 @@ impl RootTask {
     }
 }
 
-impl<B: Bank<Key = Key, Answer = Answer>> Task<B> for RootTask {
+impl<B: RootBank> Task<B> for RootTask {
     ghost use Rattle.std.specs.Prelude.{◌≡◌};
     ghost use Rattle.idl_memo.specs.declared.task.Kind.TheVariants.{Expand};
     ghost use Rattle.idl_prep.specs.Root.{expansion};
@@ -94,11 +94,7 @@ impl<B: Bank<Key = Key, Answer = Answer>> Task<B> for RootTask {
 }
 
 // A root asks for its file, and where it is there its lines are walked.
-fn expand<B: Bank<Key = Key, Answer = Answer>>(
-    root: &mut Root<B>,
-    file: &FileName,
-    bank: &B,
-) -> Result<(), AllocError>
+fn expand<B: RootBank>(root: &mut Root<B>, file: &FileName, bank: &B) -> Result<(), AllocError>
     requires { root.old.state ≡ nothing_said }
     ensures { OnOk result (root.new.progress
         ≡ reached (B.at bank.now) (spec.root file.now) root.old.progress) }
@@ -116,10 +112,7 @@ fn expand<B: Bank<Key = Key, Answer = Answer>>(
 }
 
 // The file of a root isn't there.
-fn fault_absent<B: Bank<Key = Key, Answer = Answer>>(
-    root: &mut Root<B>,
-    file: &FileName,
-) -> Result<(), AllocError>
+fn fault_absent<B: RootBank>(root: &mut Root<B>, file: &FileName) -> Result<(), AllocError>
     ensures { let fault = Fault (record { file = file.now; line = 0 }) NotFound (Some file.now) in
         OnOk result (root.new ≡ telling (Kept fault) root.old) }
 {
@@ -133,10 +126,7 @@ fn fault_absent<B: Bank<Key = Key, Answer = Answer>>(
 }
 
 /// The files that a root asked for and that aren't there, in the order in which they were first asked.
-pub fn absent<B: Bank<Key = Key, Answer = Answer>>(
-    alloc: Global,
-    log: &Log<B>,
-) -> Result<Vec<Name>, AllocError>
+pub fn absent<B: RootBank>(alloc: Global, log: &Log<B>) -> Result<Vec<Name>, AllocError>
     ensures { IfOk result (λ names. names.items ≡ absent_files log.now) }
 {
     let mut names = Vec::new(alloc);
@@ -150,7 +140,7 @@ pub fn absent<B: Bank<Key = Key, Answer = Answer>>(
 }
 
 // The file of an entry that isn't there, if the entry is of one.
-fn absent_at<B: Bank<Key = Key, Answer = Answer>>(log: &Log<B>, index: usize) -> Option<&FileName>
+fn absent_at<B: RootBank>(log: &Log<B>, index: usize) -> Option<&FileName>
     ensures { option_to_list (option_copied result)
         ≡ flat_map spec.absent_file (option_to_list (slice_get log.now index)) }
 {

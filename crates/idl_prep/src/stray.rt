@@ -12,12 +12,11 @@ ghost use Rattle.idl_prep.specs.declared.groups.Group as declared;
 use crate::groups::Group;
 use crate::line::Directive;
 use crate::root::Root;
-use idl_event::{Answer, Code, FileName, Key};
-use idl_memo::Bank;
+use idl_event::{Answer, Code, FileName, Key, RootBank};
 use std::alloc::AllocError;
 
 /// Another branch would begin after the group's `else`: the lines of the last one go on.
-pub fn stray_inside<B: Bank<Key = Key, Answer = Answer>>(
+pub fn stray_inside<B: RootBank>(
     root: &mut Root<B>,
     group: &Group,
     file: &FileName,
@@ -35,7 +34,7 @@ pub fn stray_inside<B: Bank<Key = Key, Answer = Answer>>(
 }
 
 /// A group would go on or end where none is open.
-pub fn stray_outside<B: Bank<Key = Key, Answer = Answer>>(
+pub fn stray_outside<B: RootBank>(
     root: &mut Root<B>,
     file: &FileName,
     directive: &Directive<'_>,
@@ -51,7 +50,7 @@ pub fn stray_outside<B: Bank<Key = Key, Answer = Answer>>(
 
 // A directive that is out of place, in lines that are walked or skipped.
 #[tactic(auto, unfolding(crate::specs::Walk::walk_tree, crate::specs::Walk::skip_tree))]
-fn stray<B: Bank<Key = Key, Answer = Answer>>(
+fn stray<B: RootBank>(
     root: &mut Root<B>,
     is_active: bool,
     file: &FileName,

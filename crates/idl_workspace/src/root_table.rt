@@ -10,8 +10,7 @@ ghost use Rattle.idl_workspace.specs.UpToDate.{HoldsRows};
 
 use crate::MAX_ROOTS;
 use crate::compile::{CompiledRoot, compile};
-use idl_event::{Answer, Key};
-use idl_memo::Bank;
+use idl_event::RootBank;
 use idl_source::Name;
 use indexmap::IndexMap;
 use std::alloc::{AllocError, Global};
@@ -90,7 +89,7 @@ impl RootTable {
     }
 
     /// The same roots, each compiled anew over this bank.
-    pub fn compiled_over<B: Bank<Key = Key, Answer = Answer>>(
+    pub fn compiled_over<B: RootBank>(
         &self,
         alloc: Global,
         bank: &B,
