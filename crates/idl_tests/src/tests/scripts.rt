@@ -4,8 +4,13 @@ use super::support::has_replies;
 use std::test::Fail;
 
 // With the replies of a new session to them.
-static SCRIPTS: [(&str, &str); 24] = [
+static SCRIPTS: [(&str, &str); 25] = [
     ("", ""),
+    // The first example.
+    (
+        "put a.idl 2\ntypedef long X;\ntypedef short X;\nroot a.idl\ndiagnostics a.idl\n",
+        "ok\nok\nrows 1\na.idl:2: E33 X\n",
+    ),
     // Files and roots.
     (
         "put e.idl 0\nroot e.idl\ndiagnostics e.idl\ndump e.idl\nabsent e.idl\n",
