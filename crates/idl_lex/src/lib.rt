@@ -20,6 +20,7 @@ mod spelling;
 mod state;
 mod token;
 mod word;
+mod word_table;
 
 pub use keyword::Keyword;
 pub use kind::{Defect, Kind, is_like_keyword, kind_of};
@@ -31,3 +32,4 @@ pub use number::integer_value;
 pub use spelling::Spelling;
 pub use token::{PlacedToken, Token};
 pub use word::is_word;
+pub use word_table::{Entry, value_of};
