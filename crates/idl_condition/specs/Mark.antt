@@ -1,31 +1,51 @@
--- The marks of a condition, each with what it counts as.
-use Rattle.std.specs.Prelude.{ℕ, List, [], ◌∷◌, codes, find, Option, None, Some}
-use Rattle.std.specs.Borrow.{Bor}
-use Rattle.std.specs.Str.{bytes_eq}
+-- What each mark counts as in a condition.
+use Rattle.std.specs.Prelude.{ℕ, List, Option, Some}
 use Rattle.idl_condition.specs.declared.operator.Operator.TheVariants as op
 use Rattle.idl_condition.specs.declared.symbol.Symbol.{Symbol}
 use Rattle.idl_condition.specs.declared.symbol.Symbol.TheVariants.{Operator, Not, Complement, Open, Close, Other}
+use Rattle.idl_lex.specs.Marks.{mark_kind}
+use Rattle.idl_lex.specs.declared.kind.Kind.{Kind}
+use Rattle.idl_lex.specs.declared.kind.Kind.TheVariants.{Punctuation, Preprocessing}
+use Rattle.idl_lex.specs.declared.mark.Mark.{Mark}
+use Rattle.idl_lex.specs.declared.mark.Mark.TheVariants as mark
+use Rattle.idl_lex.specs.declared.mark.PreprocessorMark.{PreprocessorMark}
+use Rattle.idl_lex.specs.declared.mark.PreprocessorMark.TheVariants as preprocessor
 
-unfoldable pub marks : List (List ℕ × Symbol)
-marks =
-    (codes "(", Open) ∷ (codes ")", Close) ∷ (codes "!", Not) ∷ (codes "~", Complement)
-    ∷ (codes "*", Operator op.Multiply) ∷ (codes "/", Operator op.Divide) ∷ (codes "%", Operator op.Remainder)
-    ∷ (codes "+", Operator op.Add) ∷ (codes "-", Operator op.Subtract)
-    ∷ (codes "<<", Operator op.ShiftLeft) ∷ (codes ">>", Operator op.ShiftRight)
-    ∷ (codes "<", Operator op.Less) ∷ (codes "<=", Operator op.LessOrEqual)
-    ∷ (codes ">", Operator op.Greater) ∷ (codes ">=", Operator op.GreaterOrEqual)
-    ∷ (codes "==", Operator op.Equal) ∷ (codes "!=", Operator op.NotEqual)
-    ∷ (codes "&", Operator op.BitAnd) ∷ (codes "^", Operator op.BitXor) ∷ (codes "|", Operator op.BitOr)
-    ∷ (codes "&&", Operator op.And) ∷ (codes "||", Operator op.Or) ∷ []
+-- a mark of IDL
+abbrev pub symbol_of_mark : Mark → Symbol
+symbol_of_mark mark.OpenParenthesis = Open
+symbol_of_mark mark.CloseParenthesis = Close
+symbol_of_mark mark.Tilde = Complement
+symbol_of_mark mark.Star = Operator op.Multiply
+symbol_of_mark mark.Slash = Operator op.Divide
+symbol_of_mark mark.Percent = Operator op.Remainder
+symbol_of_mark mark.Plus = Operator op.Add
+symbol_of_mark mark.Minus = Operator op.Subtract
+symbol_of_mark mark.ShiftLeft = Operator op.ShiftLeft
+symbol_of_mark mark.ShiftRight = Operator op.ShiftRight
+symbol_of_mark mark.Less = Operator op.Less
+symbol_of_mark mark.Greater = Operator op.Greater
+symbol_of_mark mark.Ampersand = Operator op.BitAnd
+symbol_of_mark mark.Caret = Operator op.BitXor
+symbol_of_mark mark.Bar = Operator op.BitOr
+symbol_of_mark _ = Other
 
-abbrev pub found : Option (List ℕ × Symbol) → Symbol
-found None = Other
-found (Some mark) = mark.1
+-- a mark that the preprocessor alone knows
+abbrev pub symbol_of_preprocessor_mark : PreprocessorMark → Symbol
+symbol_of_preprocessor_mark preprocessor.Exclamation = Not
+symbol_of_preprocessor_mark preprocessor.LessEquals = Operator op.LessOrEqual
+symbol_of_preprocessor_mark preprocessor.GreaterEquals = Operator op.GreaterOrEqual
+symbol_of_preprocessor_mark preprocessor.EqualsEquals = Operator op.Equal
+symbol_of_preprocessor_mark preprocessor.NotEquals = Operator op.NotEqual
+symbol_of_preprocessor_mark preprocessor.AndAnd = Operator op.And
+symbol_of_preprocessor_mark preprocessor.OrOr = Operator op.Or
+symbol_of_preprocessor_mark _ = Other
 
--- the mark with this spelling, or any other text
+abbrev pub symbol_of_kind : Option Kind → Symbol
+symbol_of_kind (Some (Punctuation m)) = symbol_of_mark m
+symbol_of_kind (Some (Preprocessing m)) = symbol_of_preprocessor_mark m
+symbol_of_kind _ = Other
+
+-- what the mark with this spelling counts as; any other text is no symbol of a condition
 abbrev pub mark_of : List ℕ → Symbol
-mark_of spelling = found (find (λ mark. bytes_eq mark.0 spelling) marks)
-
--- an entry of a table, as it is read
-abbrev pub entry_of : Bor (List ℕ) × Symbol → List ℕ × Symbol
-entry_of entry = (entry.0.now, entry.1)
+mark_of spelling = symbol_of_kind (mark_kind spelling)

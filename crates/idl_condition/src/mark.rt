@@ -1,52 +1,57 @@
 //! The marks of a condition.
 
-ghost use Rattle.std.specs.Prelude.{◌≡◌, map};
-ghost use Rattle.idl_condition.specs.Mark.{marks, mark_of, entry_of};
+ghost use Rattle.std.specs.Prelude.{◌≡◌};
+ghost use Rattle.idl_condition.specs.Mark.{mark_of, symbol_of_mark, symbol_of_preprocessor_mark};
 
 use crate::operator::Operator;
 use crate::symbol::Symbol;
+use idl_lex::{Kind, Mark, PreprocessorMark, mark_kind};
 
-// A mark's spelling, and what it counts as.
-type Entry = (&'static [u8], Symbol);
-
-const MARKS: [Entry; 22] = [
-    (b"(", Symbol::Open),
-    (b")", Symbol::Close),
-    (b"!", Symbol::Not),
-    (b"~", Symbol::Complement),
-    (b"*", Symbol::Operator(Operator::Multiply)),
-    (b"/", Symbol::Operator(Operator::Divide)),
-    (b"%", Symbol::Operator(Operator::Remainder)),
-    (b"+", Symbol::Operator(Operator::Add)),
-    (b"-", Symbol::Operator(Operator::Subtract)),
-    (b"<<", Symbol::Operator(Operator::ShiftLeft)),
-    (b">>", Symbol::Operator(Operator::ShiftRight)),
-    (b"<", Symbol::Operator(Operator::Less)),
-    (b"<=", Symbol::Operator(Operator::LessOrEqual)),
-    (b">", Symbol::Operator(Operator::Greater)),
-    (b">=", Symbol::Operator(Operator::GreaterOrEqual)),
-    (b"==", Symbol::Operator(Operator::Equal)),
-    (b"!=", Symbol::Operator(Operator::NotEqual)),
-    (b"&", Symbol::Operator(Operator::BitAnd)),
-    (b"^", Symbol::Operator(Operator::BitXor)),
-    (b"|", Symbol::Operator(Operator::BitOr)),
-    (b"&&", Symbol::Operator(Operator::And)),
-    (b"||", Symbol::Operator(Operator::Or)),
-];
-
-/// The mark with this spelling, or `Other` where there is none.
+/// What the mark with this spelling counts as; any other text is `Other`.
 pub fn mark(spelling: &[u8]) -> Symbol
     ensures { result ≡ mark_of spelling.now }
 {
-    match table().iter().find(|entry| entry.0 == spelling) {
-        Some(entry) => entry.1,
-        None => Symbol::Other,
+    match mark_kind(spelling) {
+        Some(Kind::Punctuation(mark)) => symbol_of_mark(mark),
+        Some(Kind::Preprocessing(mark)) => symbol_of_preprocessor_mark(mark),
+        _ => Symbol::Other,
     }
 }
 
-#[tactic(auto, unfolding(crate::specs::Mark::marks))]
-fn table() -> &'static [Entry]
-    ensures { map entry_of result.now ≡ marks }
+fn symbol_of_mark(mark: Mark) -> Symbol
+    ensures { result ≡ symbol_of_mark mark }
 {
-    &MARKS
+    match mark {
+        Mark::OpenParenthesis => Symbol::Open,
+        Mark::CloseParenthesis => Symbol::Close,
+        Mark::Tilde => Symbol::Complement,
+        Mark::Star => Symbol::Operator(Operator::Multiply),
+        Mark::Slash => Symbol::Operator(Operator::Divide),
+        Mark::Percent => Symbol::Operator(Operator::Remainder),
+        Mark::Plus => Symbol::Operator(Operator::Add),
+        Mark::Minus => Symbol::Operator(Operator::Subtract),
+        Mark::ShiftLeft => Symbol::Operator(Operator::ShiftLeft),
+        Mark::ShiftRight => Symbol::Operator(Operator::ShiftRight),
+        Mark::Less => Symbol::Operator(Operator::Less),
+        Mark::Greater => Symbol::Operator(Operator::Greater),
+        Mark::Ampersand => Symbol::Operator(Operator::BitAnd),
+        Mark::Caret => Symbol::Operator(Operator::BitXor),
+        Mark::Bar => Symbol::Operator(Operator::BitOr),
+        _ => Symbol::Other,
+    }
+}
+
+fn symbol_of_preprocessor_mark(mark: PreprocessorMark) -> Symbol
+    ensures { result ≡ symbol_of_preprocessor_mark mark }
+{
+    match mark {
+        PreprocessorMark::Exclamation => Symbol::Not,
+        PreprocessorMark::LessEquals => Symbol::Operator(Operator::LessOrEqual),
+        PreprocessorMark::GreaterEquals => Symbol::Operator(Operator::GreaterOrEqual),
+        PreprocessorMark::EqualsEquals => Symbol::Operator(Operator::Equal),
+        PreprocessorMark::NotEquals => Symbol::Operator(Operator::NotEqual),
+        PreprocessorMark::AndAnd => Symbol::Operator(Operator::And),
+        PreprocessorMark::OrOr => Symbol::Operator(Operator::Or),
+        _ => Symbol::Other,
+    }
 }

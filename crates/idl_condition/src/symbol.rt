@@ -1,12 +1,12 @@
 //! What a token counts as in a condition.
 
 ghost use Rattle.std.specs.Prelude.{◌≡◌};
-ghost use Rattle.std.specs.List.{list_all};
-ghost use Rattle.idl_condition.specs.Symbol.{symbol_of, is_word, is_word_start, is_word_byte};
+ghost use Rattle.idl_condition.specs.Symbol.{symbol_of};
 
 use crate::mark::mark;
 use crate::number::integer;
 use crate::operator::Operator;
+use idl_lex::is_word;
 
 /// What a token counts as in a condition.
 #[derive(Clone, Copy)]
@@ -45,32 +45,4 @@ impl Symbol {
             None => mark(spelling),
         }
     }
-}
-
-// Whether these bytes are a word: a letter or `_`, then letters, digits and `_`.
-fn is_word(bytes: &[u8]) -> bool
-    ensures { result ≡ is_word bytes.now }
-{
-    match bytes {
-        [first, rest @ ..] if is_word_start(*first) => are_word_bytes(rest),
-        _ => false,
-    }
-}
-
-fn is_word_start(b: u8) -> bool
-    ensures { result ≡ is_word_start b }
-{
-    b.is_ascii_alphabetic() || b == b'_'
-}
-
-fn are_word_bytes(bytes: &[u8]) -> bool
-    ensures { result ≡ list_all is_word_byte bytes.now }
-{
-    bytes.iter().all(|b| is_word_byte(*b))
-}
-
-fn is_word_byte(b: u8) -> bool
-    ensures { result ≡ is_word_byte b }
-{
-    is_word_start(b) || b.is_ascii_digit()
 }

@@ -2,7 +2,7 @@
 use Rattle.std.proofs.Common.{◌≡◌, ◌≢◌, ◌∙◌, ℕ, zero, suc, ◌+◌, ◌<◌, ◌≤◌, nat_eq, Bool, true, false, ◌&&◌, if◌then◌else◌, List, [], ◌∷◌, length, drop, get_or, Option, None, Some, refl, sym, ap, arith}
 use Rattle.std.proofs.lemmas.List.{drop_more, drop_all}
 use Rattle.std.specs.Option.{option_map}
-use Rattle.idl_source.specs.declared.line.TheConstants.{NEWLINE}
+use Rattle.idl_source.specs.Line.{newline}
 use Rattle.idl_lex.proofs.CountLemmas.{eq-true, eq-false}
 use Rattle.idl_lex.specs.Scan.{start_of, taken, header_len, closing_after, closing_end, further}
 
@@ -50,9 +50,9 @@ unfolding closing_end header_len
 header_len-none [] e = refl
 header_len-none (b ∷ bs) e =
     let none = closing_after-none (nat_eq b 62) (closing_end bs) e in
-    ap (λ c. if nat_eq b NEWLINE then None else (if c then Some 1 else option_map (λ n. suc n) (header_len bs))) none.0
-    ∙ ap (λ o. if nat_eq b NEWLINE then None else option_map (λ n. suc n) o) (header_len-none bs none.1)
-    ∙ neither (nat_eq b NEWLINE)
+    ap (λ c. if nat_eq b newline then None else (if c then Some 1 else option_map (λ n. suc n) (header_len bs))) none.0
+    ∙ ap (λ o. if nat_eq b newline then None else option_map (λ n. suc n) o) (header_len-none bs none.1)
+    ∙ neither (nat_eq b newline)
   where
     neither : (newline : Bool) → ◌≡◌ {A = Option ℕ} (if newline then None else None) None
     neither true = refl

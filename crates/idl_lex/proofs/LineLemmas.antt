@@ -2,7 +2,7 @@
 use Rattle.std.proofs.Common.{◌≡◌, ◌∙◌, ◌+◌, ◌++◌, ℕ, suc, nat_eq, Bool, true, false, not, ◌&&◌, ◌||◌, if◌then◌else◌, List, [], ◌∷◌, length, take, Option, None, Some, refl, sym, ap, subst, arith}
 use Rattle.std.proofs.lemmas.Bool.{eqb-true, false≢true}
 use Rattle.std.specs.Option.{option_map}
-use Rattle.idl_source.specs.declared.line.TheConstants.{NEWLINE}
+use Rattle.idl_source.specs.Line.{newline}
 use Rattle.idl_lex.specs.Byte.{is_digit, is_word_start, is_word_byte, is_quote, is_x, is_e, is_sign}
 use Rattle.idl_lex.specs.Context.{ends_block}
 use Rattle.idl_lex.specs.Lexer.{is_open, opens}
@@ -83,9 +83,9 @@ leads-closed Wide b e = leads-wide (is_quote b) (is_word_byte b) b
 leads-closed Zero b e = leads-zero (is_x b) b
 leads-closed (Number hexadecimal after_e) b e = leads-number hexadecimal after_e b
 leads-closed Dot b e = leads-if (is_digit b) (Number false false) refl
-leads-closed (Literal quote escaped) b e = leads-literal (nat_eq b NEWLINE) escaped (nat_eq b quote) (nat_eq b 92) quote
+leads-closed (Literal quote escaped) b e = leads-literal (nat_eq b newline) escaped (nat_eq b quote) (nat_eq b 92) quote
 leads-closed Slash b e = cc
-leads-closed Line b e = leads-line (nat_eq b NEWLINE)
+leads-closed Line b e = leads-line (nat_eq b newline)
 leads-closed (Block after_star) b e = cc
 leads-closed (Mark a) b e = leads-if (is_pair a b) Whole refl
 leads-closed Whole b e = refl
@@ -117,15 +117,15 @@ and-false : (c : Bool) → (c && false) ≡ false
 and-false true = refl
 and-false false = refl
 
-number-newline : (h e : Bool) → number_step h e NEWLINE ≡ None
+number-newline : (h e : Bool) → number_step h e newline ≡ None
 number-newline h true = refl
 number-newline h false = refl
 
-pair-newline : (c : Bool) (a : ℕ) → nat_eq a NEWLINE ≡ c → is_pair a NEWLINE ≡ false
-pair-newline true a e = ap (λ x. is_pair x NEWLINE) (eqb-true a NEWLINE e)
+pair-newline : (c : Bool) (a : ℕ) → nat_eq a newline ≡ c → is_pair a newline ≡ false
+pair-newline true a e = ap (λ x. is_pair x newline) (eqb-true a newline e)
 pair-newline false a e = ap (λ c. (c && (nat_eq a 58 || nat_eq a 60 || nat_eq a 62 || nat_eq a 35 || nat_eq a 38 || nat_eq a 124 || nat_eq a 61)) || false) e
 
-step_of-newline : (s : State) → is_block s ≡ false → step_of s NEWLINE ≡ None
+step_of-newline : (s : State) → is_block s ≡ false → step_of s newline ≡ None
 step_of-newline Word e = refl
 step_of-newline Wide e = refl
 step_of-newline Zero e = refl
@@ -135,7 +135,7 @@ step_of-newline (Literal quote escaped) e = refl
 step_of-newline Slash e = refl
 step_of-newline Line e = refl
 step_of-newline (Block after_star) e = cc
-step_of-newline (Mark a) e = ap (λ c. if c then Some Whole else None) (pair-newline (nat_eq a NEWLINE) a refl)
+step_of-newline (Mark a) e = ap (λ c. if c then Some Whole else None) (pair-newline (nat_eq a newline) a refl)
 step_of-newline Whole e = refl
 
 taken-step : (o : Option State) (bs cs : List ℕ) → ((t : State) → open_after t bs ≡ false → taken t cs ≡ taken t bs) → (elim o [ None ↦ false | Some t ↦ open_after t bs ]) ≡ false
@@ -144,19 +144,19 @@ taken-step None bs cs ih e = refl
 taken-step (Some t) bs cs ih e = ap (λ n. suc n) (ih t e)
 
 -- so it ends where it would if the line were all
-taken-newline : (s : State) (bs rest : List ℕ) → open_after s bs ≡ false → taken s (bs ++ NEWLINE ∷ rest) ≡ taken s bs
+taken-newline : (s : State) (bs rest : List ℕ) → open_after s bs ≡ false → taken s (bs ++ newline ∷ rest) ≡ taken s bs
 unfolding taken
 taken-newline s [] rest e = ap (λ o. elim o [ None ↦ 0 | Some t ↦ suc (taken t rest) ]) (step_of-newline s e)
-taken-newline s (b ∷ bs) rest e = taken-step (step_of s b) bs (bs ++ NEWLINE ∷ rest) (λ t h. taken-newline t bs rest h) e
+taken-newline s (b ∷ bs) rest e = taken-step (step_of s b) bs (bs ++ newline ∷ rest) (λ t h. taken-newline t bs rest h) e
 
 header-cases : (newline greater : Bool) (o p : Option ℕ) → o ≡ p
     → (if newline then None else (if greater then Some 1 else option_map (λ n. suc n) o)) ≡ (if newline then None else (if greater then Some 1 else option_map (λ n. suc n) p))
 header-cases newline greater o p e = ap (λ q. if newline then None else (if greater then Some 1 else option_map (λ n. suc n) q)) e
 
-header_len-line : (bs rest : List ℕ) → header_len (bs ++ NEWLINE ∷ rest) ≡ header_len bs
+header_len-line : (bs rest : List ℕ) → header_len (bs ++ newline ∷ rest) ≡ header_len bs
 unfolding header_len
 header_len-line [] rest = refl
-header_len-line (b ∷ bs) rest = header-cases (nat_eq b NEWLINE) (nat_eq b 62) (header_len (bs ++ NEWLINE ∷ rest)) (header_len bs) (header_len-line bs rest)
+header_len-line (b ∷ bs) rest = header-cases (nat_eq b newline) (nat_eq b 62) (header_len (bs ++ newline ∷ rest)) (header_len bs) (header_len-line bs rest)
 
 further-cases : (c : Bool) (b : ℕ) (o p : Option ℕ) (m n : ℕ) → o ≡ p → m ≡ n
     → (if c then (elim o [ None ↦ m | Some k ↦ k ]) else m) ≡ (if c then (elim p [ None ↦ n | Some k ↦ k ]) else n)
@@ -164,9 +164,9 @@ further-cases c b o p m n e f =
     ap (λ q. if c then (elim q [ None ↦ m | Some k ↦ k ]) else m) e ∙ ap (λ x. if c then (elim p [ None ↦ x | Some k ↦ k ]) else x) f
 
 -- a piece that opens no comment ends on its line
-further-line : (includes : Bool) (b : ℕ) (bs rest : List ℕ) → open_after (start_of b) bs ≡ false → further includes b (bs ++ NEWLINE ∷ rest) ≡ further includes b bs
+further-line : (includes : Bool) (b : ℕ) (bs rest : List ℕ) → open_after (start_of b) bs ≡ false → further includes b (bs ++ newline ∷ rest) ≡ further includes b bs
 further-line includes b bs rest e =
-    further-cases (includes && nat_eq b 60) b (header_len (bs ++ NEWLINE ∷ rest)) (header_len bs) (taken (start_of b) (bs ++ NEWLINE ∷ rest)) (taken (start_of b) bs)
+    further-cases (includes && nat_eq b 60) b (header_len (bs ++ newline ∷ rest)) (header_len bs) (taken (start_of b) (bs ++ newline ∷ rest)) (taken (start_of b) bs)
     (header_len-line bs rest) (taken-newline (start_of b) bs rest e)
 
 -- a comment: it is open after bytes where they don't close it
@@ -207,9 +207,9 @@ unfolding taken
 taken-open s [] e = refl
 taken-open s (b ∷ bs) e = all-cases (s && nat_eq b 47) (nat_eq b 42) bs (length bs) (λ t h. taken-open t bs h) e
 
-over-cases : (ends star : Bool) (bs rest : List ℕ) → ((t : Bool) → ends_block t bs ≡ false → taken (Block t) (bs ++ NEWLINE ∷ rest) ≡ length bs + suc (taken (Block false) rest))
+over-cases : (ends star : Bool) (bs rest : List ℕ) → ((t : Bool) → ends_block t bs ≡ false → taken (Block t) (bs ++ newline ∷ rest) ≡ length bs + suc (taken (Block false) rest))
     → (if ends then true else ends_block star bs) ≡ false
-    → (elim (if ends then Some Whole else Some (Block star)) [ None ↦ 0 | Some t ↦ suc (taken t (bs ++ NEWLINE ∷ rest)) ]) ≡ suc (length bs) + suc (taken (Block false) rest)
+    → (elim (if ends then Some Whole else Some (Block star)) [ None ↦ 0 | Some t ↦ suc (taken t (bs ++ newline ∷ rest)) ]) ≡ suc (length bs) + suc (taken (Block false) rest)
 over-cases true star bs rest ih e = cc
 over-cases false star bs rest ih e = let h = ih star e in omega (arith, h)
 
@@ -217,7 +217,7 @@ newline-block : (s : Bool) (rest : List ℕ) → (elim (if (s && false) then Som
 newline-block true rest = omega arith
 newline-block false rest = omega arith
 
-pub taken-over : (s : Bool) (bs rest : List ℕ) → ends_block s bs ≡ false → taken (Block s) (bs ++ NEWLINE ∷ rest) ≡ length bs + suc (taken (Block false) rest)
+pub taken-over : (s : Bool) (bs rest : List ℕ) → ends_block s bs ≡ false → taken (Block s) (bs ++ newline ∷ rest) ≡ length bs + suc (taken (Block false) rest)
 unfolding taken
 taken-over s [] rest e = newline-block s rest
 taken-over s (b ∷ bs) rest e = over-cases (s && nat_eq b 47) (nat_eq b 42) bs rest (λ t h. taken-over t bs rest h) e
@@ -227,12 +227,12 @@ ends-newline : (s : Bool) (rest : List ℕ) → (if (s && false) then true else 
 ends-newline true rest = refl
 ends-newline false rest = refl
 
-ends-over-cases : (ends star : Bool) (bs rest : List ℕ) → ((t : Bool) → ends_block t bs ≡ false → ends_block t (bs ++ NEWLINE ∷ rest) ≡ ends_block false rest)
-    → (if ends then true else ends_block star bs) ≡ false → (if ends then true else ends_block star (bs ++ NEWLINE ∷ rest)) ≡ ends_block false rest
+ends-over-cases : (ends star : Bool) (bs rest : List ℕ) → ((t : Bool) → ends_block t bs ≡ false → ends_block t (bs ++ newline ∷ rest) ≡ ends_block false rest)
+    → (if ends then true else ends_block star bs) ≡ false → (if ends then true else ends_block star (bs ++ newline ∷ rest)) ≡ ends_block false rest
 ends-over-cases true star bs rest ih e = cc
 ends-over-cases false star bs rest ih e = ih star e
 
-pub ends_block-over : (s : Bool) (bs rest : List ℕ) → ends_block s bs ≡ false → ends_block s (bs ++ NEWLINE ∷ rest) ≡ ends_block false rest
+pub ends_block-over : (s : Bool) (bs rest : List ℕ) → ends_block s bs ≡ false → ends_block s (bs ++ newline ∷ rest) ≡ ends_block false rest
 ends_block-over s [] rest e = ends-newline s rest
 ends_block-over s (b ∷ bs) rest e = ends-over-cases (s && nat_eq b 47) (nat_eq b 42) bs rest (λ t h. ends_block-over t bs rest h) e
 
@@ -246,7 +246,7 @@ pub ends_block-closed : (s : Bool) (bs cs : List ℕ) → ends_block s bs ≡ tr
 ends_block-closed s [] cs e = cc
 ends_block-closed s (b ∷ bs) cs e = closed-cases (s && nat_eq b 47) (nat_eq b 42) bs cs (λ t h. ends_block-closed t bs cs h) e
 
-pub taken-closed : (s : Bool) (bs rest : List ℕ) → ends_block s bs ≡ true → taken (Block s) (bs ++ NEWLINE ∷ rest) ≡ taken (Block s) bs
+pub taken-closed : (s : Bool) (bs rest : List ℕ) → ends_block s bs ≡ true → taken (Block s) (bs ++ newline ∷ rest) ≡ taken (Block s) bs
 taken-closed s bs rest e = taken-newline (Block s) bs rest (open_after-block s bs ∙ ap not e)
 
 -- a first piece is a comment that isn't closed exactly where one is open after all bytes
@@ -322,13 +322,13 @@ pub Opened-piece : (includes : Bool) (b : ℕ) (bs : List ℕ) → is_open (b �
 Opened-piece includes b bs e = Opened-cases (nat_eq b 47) b bs refl (sym (is_open-further includes b bs) ∙ e)
 
 -- a piece of a line that isn't such a comment is the text's
-pub further-closed : (includes : Bool) (b : ℕ) (bs rest : List ℕ) → is_open (b ∷ take (further includes b bs) bs) ≡ false → further includes b (bs ++ NEWLINE ∷ rest) ≡ further includes b bs
+pub further-closed : (includes : Bool) (b : ℕ) (bs rest : List ℕ) → is_open (b ∷ take (further includes b bs) bs) ≡ false → further includes b (bs ++ newline ∷ rest) ≡ further includes b bs
 further-closed includes b bs rest e = further-line includes b bs rest (sym (is_open-further includes b bs) ∙ e)
 
 -- and such a comment goes on
 pub further-open : (includes : Bool) (cs rest : List ℕ) → ends_block false cs ≡ false
-    → further includes 47 (42 ∷ cs ++ NEWLINE ∷ rest) ≡ suc (length cs + suc (taken (Block false) rest))
+    → further includes 47 (42 ∷ cs ++ newline ∷ rest) ≡ suc (length cs + suc (taken (Block false) rest))
 unfolding taken
 further-open includes cs rest e =
-    ap (λ c. if c then (elim (header_len (42 ∷ cs ++ NEWLINE ∷ rest)) [ None ↦ taken Slash (42 ∷ cs ++ NEWLINE ∷ rest) | Some n ↦ n ]) else taken Slash (42 ∷ cs ++ NEWLINE ∷ rest)) (and-false includes)
+    ap (λ c. if c then (elim (header_len (42 ∷ cs ++ newline ∷ rest)) [ None ↦ taken Slash (42 ∷ cs ++ newline ∷ rest) | Some n ↦ n ]) else taken Slash (42 ∷ cs ++ newline ∷ rest)) (and-false includes)
     ∙ ap (λ n. suc n) (taken-over false cs rest e)

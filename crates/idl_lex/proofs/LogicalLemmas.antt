@@ -1,7 +1,7 @@
 -- Lines of the joined text, and the numbers of their bytes' lines.
 use Rattle.std.proofs.Common.{◌≡◌, ◌∙◌, ◌<◌, ◌≤◌, ◌+◌, ◌-◌, ◌++◌, ℕ, zero, suc, Bool, true, false, if◌then◌else◌, List, [], ◌∷◌, append_assoc, drop, get_or, length, replicate, take, length-append, length-drop, refl, sym, ap, arith}
 use Rattle.std.proofs.lemmas.List.{drop_more, drop_all, drop-drop, length-replicate}
-use Rattle.idl_source.specs.declared.line.TheConstants.{NEWLINE}
+use Rattle.idl_source.specs.Line.{newline}
 use Rattle.idl_lex.specs.Text.{Placed, bytes_of, numbered, is_continued, front, joined}
 use Rattle.idl_lex.specs.Logical.{placed, line_at, joined_count, spliced}
 
@@ -53,23 +53,23 @@ spliced-cons number bytes [] some = absurd (omega arith)
 spliced-cons number bytes (next ∷ lines) some = refl
 
 -- a newline after bytes
-numbered-newline : (number : ℕ) (bytes : List ℕ) → numbered number (bytes ++ NEWLINE ∷ []) ≡ numbered number bytes ++ record { byte = NEWLINE; line = number } ∷ []
+numbered-newline : (number : ℕ) (bytes : List ℕ) → numbered number (bytes ++ newline ∷ []) ≡ numbered number bytes ++ record { byte = newline; line = number } ∷ []
 numbered-newline number [] = refl
 numbered-newline number (b ∷ bytes) = ap (λ ps. record { byte = b; line = number } ∷ ps) (numbered-newline number bytes)
 
 -- a first line of a text with its newline
 abbrev pub first_then : ℕ → List (List ℕ) → ℕ → ℕ → List Placed
-first_then number lines count newline =
-    spliced number (take count lines) ++ record { byte = NEWLINE; line = newline } ∷ joined (number + count) (drop count lines)
+first_then number lines count last_number =
+    spliced number (take count lines) ++ record { byte = newline; line = last_number } ∷ joined (number + count) (drop count lines)
 
 -- The joined text begins with its first line: the lines that are joined, and a newline.
 pub record Begins (number : ℕ) (lines : List (List ℕ)) : Type 0 where
-  pub newline : ℕ
-  pub text : joined number lines ≡ first_then number lines (joined_count lines) newline
+  pub last_number : ℕ
+  pub text : joined number lines ≡ first_then number lines (joined_count lines) last_number
 
-ended-line : (number : ℕ) (bytes : List ℕ) (rest : List Placed) → numbered number (bytes ++ NEWLINE ∷ []) ++ rest ≡ numbered number bytes ++ record { byte = NEWLINE; line = number } ∷ rest
+ended-line : (number : ℕ) (bytes : List ℕ) (rest : List Placed) → numbered number (bytes ++ newline ∷ []) ++ rest ≡ numbered number bytes ++ record { byte = newline; line = number } ∷ rest
 ended-line number bytes rest =
-    ap (λ ps. ps ++ rest) (numbered-newline number bytes) ∙ append_assoc (numbered number bytes) (record { byte = NEWLINE; line = number } ∷ []) rest
+    ap (λ ps. ps ++ rest) (numbered-newline number bytes) ∙ append_assoc (numbered number bytes) (record { byte = newline; line = number } ∷ []) rest
 
 count-some : (c : Bool) (lines : List (List ℕ)) → 0 < (if c then suc (joined_count lines) else 1)
 count-some true lines = omega arith
@@ -83,7 +83,7 @@ take-some zero bytes lines some = absurd (omega arith)
 take-some (suc n) bytes lines some = omega arith
 
 Begins-last : (c : Bool) (number : ℕ) (bytes : List ℕ) → is_continued bytes ≡ c
-    → numbered number (bytes ++ NEWLINE ∷ []) ≡ first_then number (bytes ∷ []) (if c then 1 else 1) number
+    → numbered number (bytes ++ newline ∷ []) ≡ first_then number (bytes ∷ []) (if c then 1 else 1) number
 unfolding joined
 Begins-last true number bytes e = numbered-newline number bytes
 Begins-last false number bytes e = numbered-newline number bytes
@@ -94,34 +94,34 @@ Begins-more true number bytes next lines e rest =
     let count = joined_count (next ∷ lines) in
     let sum : number + 1 + count ≡ number + suc count = omega arith in
     record {
-      newline = rest.newline;
+      last_number = rest.last_number;
       text =
-          ap (λ b. if b then numbered number (front bytes) ++ joined (number + 1) (next ∷ lines) else numbered number (bytes ++ NEWLINE ∷ []) ++ joined (number + 1) (next ∷ lines)) e
+          ap (λ b. if b then numbered number (front bytes) ++ joined (number + 1) (next ∷ lines) else numbered number (bytes ++ newline ∷ []) ++ joined (number + 1) (next ∷ lines)) e
           ∙ ap (λ ps. numbered number (front bytes) ++ ps) rest.text
           ∙ sym (append_assoc (numbered number (front bytes)) (spliced (number + 1) (take count (next ∷ lines))) _)
-          ∙ ap (λ ps. ps ++ record { byte = NEWLINE; line = rest.newline } ∷ joined (number + 1 + count) (drop count (next ∷ lines)))
+          ∙ ap (λ ps. ps ++ record { byte = newline; line = rest.last_number } ∷ joined (number + 1 + count) (drop count (next ∷ lines)))
           (sym (spliced-cons number bytes (take count (next ∷ lines)) (take-some count next lines (joined_count-some next lines))))
-          ∙ ap (λ n. spliced number (bytes ∷ take count (next ∷ lines)) ++ record { byte = NEWLINE; line = rest.newline } ∷ joined n (drop count (next ∷ lines))) sum
-          ∙ ap (λ b. first_then number (bytes ∷ next ∷ lines) (if b then suc count else 1) rest.newline) (sym e);
+          ∙ ap (λ n. spliced number (bytes ∷ take count (next ∷ lines)) ++ record { byte = newline; line = rest.last_number } ∷ joined n (drop count (next ∷ lines))) sum
+          ∙ ap (λ b. first_then number (bytes ∷ next ∷ lines) (if b then suc count else 1) rest.last_number) (sym e);
     }
 Begins-more false number bytes next lines e rest =
     record {
-      newline = number;
+      last_number = number;
       text =
-          ap (λ b. if b then numbered number (front bytes) ++ joined (number + 1) (next ∷ lines) else numbered number (bytes ++ NEWLINE ∷ []) ++ joined (number + 1) (next ∷ lines)) e
+          ap (λ b. if b then numbered number (front bytes) ++ joined (number + 1) (next ∷ lines) else numbered number (bytes ++ newline ∷ []) ++ joined (number + 1) (next ∷ lines)) e
           ∙ ended-line number bytes (joined (number + 1) (next ∷ lines))
           ∙ ap (λ b. first_then number (bytes ∷ next ∷ lines) (if b then suc (joined_count (next ∷ lines)) else 1) number) (sym e);
     }
 
 pub Begins-joined : (number : ℕ) (bytes : List ℕ) (lines : List (List ℕ)) → Begins number (bytes ∷ lines)
 unfolding joined
-Begins-joined number bytes [] = record { newline = number; text = Begins-last (is_continued bytes) number bytes refl }
+Begins-joined number bytes [] = record { last_number = number; text = Begins-last (is_continued bytes) number bytes refl }
 Begins-joined number bytes (next ∷ lines) = Begins-more (is_continued bytes) number bytes next lines refl (Begins-joined (number + 1) next lines)
 
 -- the text from a line on, as far as it is joined, and from the next one on
 pub record BeginsAt (lines : List (List ℕ)) (i end : ℕ) : Type 0 where
-  pub newline : ℕ
-  pub text : joined (i + 1) (drop i lines) ≡ spliced (i + 1) (take (end - i) (drop i lines)) ++ record { byte = NEWLINE; line = newline } ∷ joined (end + 1) (drop end lines)
+  pub last_number : ℕ
+  pub text : joined (i + 1) (drop i lines) ≡ spliced (i + 1) (take (end - i) (drop i lines)) ++ record { byte = newline; line = last_number } ∷ joined (end + 1) (drop end lines)
 
 Begins-some : (number : ℕ) (lines : List (List ℕ)) → 0 < length lines → Begins number lines
 Begins-some number [] some = absurd (omega arith)
@@ -135,11 +135,11 @@ BeginsAt-joined lines i end lt is =
     let number : i + 1 + count ≡ end + 1 = omega (arith, is) in
     let past : drop count (drop i lines) ≡ drop end lines = drop-drop count i lines ∙ ap (λ k. drop k lines) (sym is) in
     record {
-      newline = begins.newline;
+      last_number = begins.last_number;
       text = begins.text
-          ∙ ap (λ n. spliced (i + 1) (take count (drop i lines)) ++ record { byte = NEWLINE; line = begins.newline } ∷ joined n (drop count (drop i lines))) number
-          ∙ ap (λ ls. spliced (i + 1) (take count (drop i lines)) ++ record { byte = NEWLINE; line = begins.newline } ∷ joined (end + 1) ls) past
-          ∙ ap (λ n. spliced (i + 1) (take n (drop i lines)) ++ record { byte = NEWLINE; line = begins.newline } ∷ joined (end + 1) (drop end lines)) size;
+          ∙ ap (λ n. spliced (i + 1) (take count (drop i lines)) ++ record { byte = newline; line = begins.last_number } ∷ joined n (drop count (drop i lines))) number
+          ∙ ap (λ ls. spliced (i + 1) (take count (drop i lines)) ++ record { byte = newline; line = begins.last_number } ∷ joined (end + 1) ls) past
+          ∙ ap (λ n. spliced (i + 1) (take n (drop i lines)) ++ record { byte = newline; line = begins.last_number } ∷ joined (end + 1) (drop end lines)) size;
     }
 
 pub joined-nil : (number : ℕ) → joined number [] ≡ []

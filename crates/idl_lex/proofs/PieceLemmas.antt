@@ -5,7 +5,7 @@ use Rattle.std.proofs.lemmas.List.{drop_more, drop_all}
 use Rattle.std.specs.Prelude.{⊤}
 use Rattle.std.specs.List.{list_all}
 use Rattle.std.specs.Option.{option_map}
-use Rattle.idl_source.specs.declared.line.TheConstants.{NEWLINE}
+use Rattle.idl_source.specs.Line.{newline}
 use Rattle.idl_lex.proofs.CountLemmas.{eq-true, eq-false, eq-suc}
 use Rattle.idl_lex.specs.Byte.{is_digit, is_word_start, is_word_byte, is_quote, is_x, is_e, is_sign}
 use Rattle.idl_lex.specs.Piece.{is_empty, number_rest, zero_rest, dot_rest, literal_rest, wide_rest, line_rest, block_rest, slash_rest, is_pair, mark_rest, begins, header_rest, is_piece, largest, longest}
@@ -103,7 +103,7 @@ literal-cases false false false backslash quote bs ih = ih backslash
 
 accepts-literal : (quote : ℕ) (escaped : Bool) (bs : List ℕ) → accepts (Literal quote escaped) bs ≡ literal_rest quote escaped bs
 accepts-literal quote escaped [] = refl
-accepts-literal quote escaped (b ∷ bs) = literal-cases (nat_eq b NEWLINE) escaped (nat_eq b quote) (nat_eq b 92) quote bs (λ e. accepts-literal quote e bs)
+accepts-literal quote escaped (b ∷ bs) = literal-cases (nat_eq b newline) escaped (nat_eq b quote) (nat_eq b 92) quote bs (λ e. accepts-literal quote e bs)
 
 wide-cases : (quote word : Bool) (b : ℕ) (bs : List ℕ) →
     (elim (if quote then Some (Literal b false) else (if word then Some Word else None)) [ None ↦ false | Some u ↦ accepts u bs ])
@@ -123,7 +123,7 @@ line-cases false bs ih = ih
 
 accepts-line : (bs : List ℕ) → accepts Line bs ≡ line_rest bs
 accepts-line [] = refl
-accepts-line (b ∷ bs) = line-cases (nat_eq b NEWLINE) bs (accepts-line bs)
+accepts-line (b ∷ bs) = line-cases (nat_eq b newline) bs (accepts-line bs)
 
 block-cases : (ends star : Bool) (bs : List ℕ) → ((e : Bool) → accepts (Block e) bs ≡ block_rest e bs) →
     (elim (if ends then Some Whole else Some (Block star)) [ None ↦ false | Some u ↦ accepts u bs ]) ≡ (if ends then is_empty bs else block_rest star bs)
@@ -203,9 +203,9 @@ header_rest-take [] j le = header_rest-nil j
     header_rest-nil : (j : ℕ) → header_rest (take j []) ≡ false
     header_rest-nil zero = refl
     header_rest-nil (suc j) = refl
-header_rest-take (b ∷ bs) zero le = sym (is_len-nought (nat_eq b NEWLINE) (nat_eq b 62) (header_len bs))
+header_rest-take (b ∷ bs) zero le = sym (is_len-nought (nat_eq b newline) (nat_eq b 62) (header_len bs))
 header_rest-take (b ∷ bs) (suc j) le =
-    is_len-more (nat_eq b NEWLINE) (nat_eq b 62) (header_len bs) j bs (omega arith) (header_rest-take bs j (omega arith))
+    is_len-more (nat_eq b newline) (nat_eq b 62) (header_len bs) j bs (omega arith) (header_rest-take bs j (omega arith))
 
 -- it has at least the `>`, and ends within the text
 abbrev IsWithin : Option ℕ → ℕ → Type 0
@@ -221,7 +221,7 @@ within-more false false (Some m) n h = let le = h.1 in (omega arith, omega arith
 header_len-within : (bs : List ℕ) → IsWithin (header_len bs) (length bs)
 unfolding header_len
 header_len-within [] = tt {0}
-header_len-within (b ∷ bs) = within-more (nat_eq b NEWLINE) (nat_eq b 62) (header_len bs) (length bs) (header_len-within bs)
+header_len-within (b ∷ bs) = within-more (nat_eq b newline) (nat_eq b 62) (header_len bs) (length bs) (header_len-within bs)
 
 taken-whole : (bs : List ℕ) → taken Whole bs ≡ 0
 unfolding taken
@@ -329,26 +329,26 @@ unfolding taken
 taken-end s bs i le = ap (taken s) (drop_all i bs le)
 
 -- an included file's name, byte by byte
-pub header_len-newline : (bs : List ℕ) (i : ℕ) → i < length bs → get_or bs i 0 ≡ NEWLINE → header_len (drop i bs) ≡ None
+pub header_len-newline : (bs : List ℕ) (i : ℕ) → i < length bs → get_or bs i 0 ≡ newline → header_len (drop i bs) ≡ None
 unfolding header_len
 header_len-newline bs i lt e =
     ap header_len (drop_more bs i 0 lt)
-    ∙ ap (λ b. if nat_eq b NEWLINE then None else (if nat_eq b 62 then Some 1 else option_map (λ n. suc n) (header_len (drop (i + 1) bs)))) e
+    ∙ ap (λ b. if nat_eq b newline then None else (if nat_eq b 62 then Some 1 else option_map (λ n. suc n) (header_len (drop (i + 1) bs)))) e
 
 pub header_len-greater : (bs : List ℕ) (i : ℕ) → i < length bs → get_or bs i 0 ≡ 62 → header_len (drop i bs) ≡ Some 1
 unfolding header_len
 header_len-greater bs i lt e =
     ap header_len (drop_more bs i 0 lt)
-    ∙ ap (λ b. if nat_eq b NEWLINE then None else (if nat_eq b 62 then Some 1 else option_map (λ n. suc n) (header_len (drop (i + 1) bs)))) e
+    ∙ ap (λ b. if nat_eq b newline then None else (if nat_eq b 62 then Some 1 else option_map (λ n. suc n) (header_len (drop (i + 1) bs)))) e
 
-pub header_len-next : (bs : List ℕ) (i : ℕ) → i < length bs → get_or bs i 0 ≢ NEWLINE → get_or bs i 0 ≢ 62
+pub header_len-next : (bs : List ℕ) (i : ℕ) → i < length bs → get_or bs i 0 ≢ newline → get_or bs i 0 ≢ 62
     → header_len (drop i bs) ≡ option_map (λ n. suc n) (header_len (drop (i + 1) bs))
 unfolding header_len
-header_len-next bs i lt newline greater =
+header_len-next bs i lt other greater =
     let b = get_or bs i 0 in
     let rest = option_map (λ n. suc n) (header_len (drop (i + 1) bs)) in
     ap header_len (drop_more bs i 0 lt)
-    ∙ ap (λ c. if c then None else (if nat_eq b 62 then Some 1 else rest)) (eq-false b NEWLINE newline)
+    ∙ ap (λ c. if c then None else (if nat_eq b 62 then Some 1 else rest)) (eq-false b newline other)
     ∙ ap (λ c. if c then Some 1 else rest) (eq-false b 62 greater)
 
 pub header_len-end : (bs : List ℕ) (i : ℕ) → length bs ≤ i → header_len (drop i bs) ≡ None

@@ -13,7 +13,8 @@ use Rattle.std.proofs.lemmas.Bool.{false≢true}
 use Rattle.std.proofs.lemmas.List.Sorted.{searchable_from_sorted}
 use Rattle.std.proofs.lemmas.Map.Text.{is_eq-slice_cmp}
 use Rattle.idl_lex.specs.Keywords.{folded}
-use Rattle.idl_lex.specs.KeywordTable.{entry_of, is_in_order}
+use Rattle.idl_lex.specs.KeywordTable.{is_in_order}
+use Rattle.idl_lex.specs.WordTable.{entry_of}
 use Rattle.idl_lex.specs.declared.kind.Kind.{Kind}
 
 -- where one of two words is at its end, they compare as their lengths do

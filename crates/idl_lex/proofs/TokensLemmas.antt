@@ -2,7 +2,7 @@
 use Rattle.std.proofs.Common.{◌≡◌, ◌∙◌, ◌<◌, ◌≤◌, ◌+◌, ◌-◌, ◌++◌, ℕ, zero, suc, nat_eq, Bool, true, false, ◌&&◌, ◌||◌, None, Some, if◌then◌else◌, List, [], ◌∷◌, drop, get_or, length, take, refl, sym, ap, arith}
 use Rattle.std.proofs.lemmas.List.{drop_all, drop-drop}
 use Rattle.std.specs.Prelude.{codes}
-use Rattle.idl_source.specs.declared.line.TheConstants.{NEWLINE}
+use Rattle.idl_source.specs.Line.{newline}
 use Rattle.idl_lex.proofs.LineLemmas.{Opened, Opened-piece, further-closed, further-open, ends_block-taken, taken-open, taken-over, taken-closed, ends_block-over, ends_block-closed}
 use Rattle.idl_lex.proofs.PieceLemmas.{longest-further, further-within, taken-le}
 use Rattle.idl_lex.specs.Context.{beginning_after, ends_block, is_include, context_after, line_start}
@@ -81,23 +81,23 @@ unfolding tokens_after
 tokens_after-piece c p text n e = ap (from_piece c p text) (piece_rest-further c p text ∙ e)
 
 -- The first piece of a line's rest, where it isn't a comment that goes on.
-pub tokens_after-closed : (c : Context) (p : Placed) (line : List Placed) (newline : ℕ) (rest : List Placed) (n : ℕ) → further (is_include c.beginning) p.byte (bytes_of line) ≡ n
+pub tokens_after-closed : (c : Context) (p : Placed) (line : List Placed) (last_number : ℕ) (rest : List Placed) (n : ℕ) → further (is_include c.beginning) p.byte (bytes_of line) ≡ n
     → is_open (p.byte ∷ take n (bytes_of line)) ≡ false
-    → tokens_after c 0 (p ∷ line ++ ended newline rest)
-    ≡ token_if c (p.byte ∷ take n (bytes_of line)) p.line ++ tokens_after (context_after c (p.byte ∷ take n (bytes_of line))) 0 (drop n line ++ ended newline rest)
-tokens_after-closed c p line newline rest n is closed =
+    → tokens_after c 0 (p ∷ line ++ ended last_number rest)
+    ≡ token_if c (p.byte ∷ take n (bytes_of line)) p.line ++ tokens_after (context_after c (p.byte ∷ take n (bytes_of line))) 0 (drop n line ++ ended last_number rest)
+tokens_after-closed c p line last_number rest n is closed =
     let includes = is_include c.beginning in
-    let text = line ++ ended newline rest in
+    let text = line ++ ended last_number rest in
     let within : n ≤ length line = let le = further-within includes p.byte (bytes_of line) in omega (arith, length-bytes_of line, is, le) in
     let same : further includes p.byte (bytes_of text) ≡ n =
-    ap (further includes p.byte) (bytes_of-append line (ended newline rest))
+    ap (further includes p.byte) (bytes_of-append line (ended last_number rest))
     ∙ further-closed includes p.byte (bytes_of line) (bytes_of rest) (ap (λ k. is_open (p.byte ∷ take k (bytes_of line))) is ∙ closed)
     ∙ is in
-    let piece : bytes_of (take n text) ≡ take n (bytes_of line) = ap bytes_of (take-front n line (ended newline rest) within) ∙ bytes_of-take n line in
+    let piece : bytes_of (take n text) ≡ take n (bytes_of line) = ap bytes_of (take-front n line (ended last_number rest) within) ∙ bytes_of-take n line in
     tokens_after-piece c p text n same
     ∙ ap (λ bs. token_if c (p.byte ∷ bs) p.line ++ tokens_after (context_after c (p.byte ∷ bs)) n text) piece
     ∙ ap (λ ts. token_if c (p.byte ∷ take n (bytes_of line)) p.line ++ ts)
-    (tokens_after-drop (context_after c (p.byte ∷ take n (bytes_of line))) n text ∙ ap (tokens_after (context_after c (p.byte ∷ take n (bytes_of line))) 0) (drop-front n line (ended newline rest) within))
+    (tokens_after-drop (context_after c (p.byte ∷ take n (bytes_of line))) n text ∙ ap (tokens_after (context_after c (p.byte ∷ take n (bytes_of line))) 0) (drop-front n line (ended last_number rest) within))
 
 -- what stands before a place after white space or a comment
 abbrev pub after_gap : Context → Context
@@ -115,19 +115,19 @@ block-cases closed c line n rest text e =
     ap (λ b. (if b then [] else token_of c (codes "/*") line ∷ []) ++ tokens_after (if b then after_gap c else after_token c (47 ∷ 42 ∷ rest)) n text) e
 
 -- the bytes of a comment that goes on over a newline
-take-over : (cs rest : List ℕ) (m : ℕ) → take (length cs + suc m) (cs ++ NEWLINE ∷ rest) ≡ cs ++ NEWLINE ∷ take m rest
-take-over [] rest m = let e : 0 + suc m ≡ suc m = omega arith in ap (λ k. take k (NEWLINE ∷ rest)) e
+take-over : (cs rest : List ℕ) (m : ℕ) → take (length cs + suc m) (cs ++ newline ∷ rest) ≡ cs ++ newline ∷ take m rest
+take-over [] rest m = let e : 0 + suc m ≡ suc m = omega arith in ap (λ k. take k (newline ∷ rest)) e
 take-over (c ∷ cs) rest m =
     let e : suc (length cs) + suc m ≡ suc (length cs + suc m) = omega arith in
-    ap (λ k. take k (c ∷ cs ++ NEWLINE ∷ rest)) e ∙ ap (λ bs. c ∷ bs) (take-over cs rest m)
+    ap (λ k. take k (c ∷ cs ++ newline ∷ rest)) e ∙ ap (λ bs. c ∷ bs) (take-over cs rest m)
 
 -- past a line and its newline
-tokens_after-over : (c : Context) (line : List Placed) (newline : ℕ) (rest : List Placed) (m n : ℕ) → n ≡ length line + suc m
-    → tokens_after c n (line ++ ended newline rest) ≡ tokens_after c m rest
-tokens_after-over c line newline rest m n e =
-    ap (λ k. tokens_after c k (line ++ ended newline rest)) e
-    ∙ tokens_after-drop c (length line + suc m) (line ++ ended newline rest)
-    ∙ ap (tokens_after c 0) (drop-over (suc m) line (ended newline rest))
+tokens_after-over : (c : Context) (line : List Placed) (last_number : ℕ) (rest : List Placed) (m n : ℕ) → n ≡ length line + suc m
+    → tokens_after c n (line ++ ended last_number rest) ≡ tokens_after c m rest
+tokens_after-over c line last_number rest m n e =
+    ap (λ k. tokens_after c k (line ++ ended last_number rest)) e
+    ∙ tokens_after-drop c (length line + suc m) (line ++ ended last_number rest)
+    ∙ ap (tokens_after c 0) (drop-over (suc m) line (ended last_number rest))
     ∙ sym (tokens_after-drop c m rest)
 
 -- what is left after all of a text
@@ -144,61 +144,61 @@ comment-cases false c opening other rest e =
     ∙ ap (λ b. if b then tokens_after c (taken (Block false) (bytes_of rest)) rest else opening ∷ []) (sym e)
 
 -- The first piece of a line's rest, where it is a comment that goes on.
-pub tokens_after-open : (c : Context) (p : Placed) (line : List Placed) (newline : ℕ) (rest : List Placed) → Opened p.byte (bytes_of line)
-    → tokens_after c 0 (p ∷ line ++ ended newline rest) ≡ after_comment (token_of c (codes "/*") p.line) (after_gap c) rest
-tokens_after-open c p line newline rest o =
+pub tokens_after-open : (c : Context) (p : Placed) (line : List Placed) (last_number : ℕ) (rest : List Placed) → Opened p.byte (bytes_of line)
+    → tokens_after c 0 (p ∷ line ++ ended last_number rest) ≡ after_comment (token_of c (codes "/*") p.line) (after_gap c) rest
+tokens_after-open c p line last_number rest o =
     let includes = is_include c.beginning in
-    let text = line ++ ended newline rest in
+    let text = line ++ ended last_number rest in
     let rb = bytes_of rest in
     let m = taken (Block false) rb in
     let closed = ends_block false rb in
     let n = suc (length o.rest + suc m) in
-    let bytes : bytes_of text ≡ 42 ∷ o.rest ++ NEWLINE ∷ rb = bytes_of-append line (ended newline rest) ∙ ap (λ bs. bs ++ NEWLINE ∷ rb) o.star in
+    let bytes : bytes_of text ≡ 42 ∷ o.rest ++ newline ∷ rb = bytes_of-append line (ended last_number rest) ∙ ap (λ bs. bs ++ newline ∷ rb) o.star in
     let same : further includes p.byte (bytes_of text) ≡ n =
     ap (λ b. further includes b (bytes_of text)) o.slash ∙ ap (further includes 47) bytes ∙ further-open includes o.rest rb o.unclosed in
-    let piece : p.byte ∷ bytes_of (take n text) ≡ 47 ∷ 42 ∷ o.rest ++ NEWLINE ∷ take m rb =
+    let piece : p.byte ∷ bytes_of (take n text) ≡ 47 ∷ 42 ∷ o.rest ++ newline ∷ take m rb =
     ap (λ b. b ∷ bytes_of (take n text)) o.slash
     ∙ ap (λ bs. 47 ∷ bs) (bytes_of-take n text ∙ ap (take n) bytes)
     ∙ ap (λ bs. 47 ∷ 42 ∷ bs) (take-over o.rest rb m) in
-    let ends : ends_block false (o.rest ++ NEWLINE ∷ take m rb) ≡ closed = ends_block-over false o.rest (take m rb) o.unclosed ∙ ends_block-taken false rb in
+    let ends : ends_block false (o.rest ++ newline ∷ take m rb) ≡ closed = ends_block-over false o.rest (take m rb) o.unclosed ∙ ends_block-taken false rb in
     let size : n ≡ length line + suc m = let e = ap length o.star in omega (arith, e, length-bytes_of line) in
     let opening = token_of c (codes "/*") p.line in
-    let other = after_token c (47 ∷ 42 ∷ o.rest ++ NEWLINE ∷ take m rb) in
+    let other = after_token c (47 ∷ 42 ∷ o.rest ++ newline ∷ take m rb) in
     tokens_after-piece c p text n same
     ∙ ap (λ bs. token_if c bs p.line ++ tokens_after (context_after c bs) n text) piece
-    ∙ block-cases closed c p.line n (o.rest ++ NEWLINE ∷ take m rb) text ends
-    ∙ ap (λ ts. (if closed then [] else opening ∷ []) ++ ts) (tokens_after-over (if closed then after_gap c else other) line newline rest m n size)
+    ∙ block-cases closed c p.line n (o.rest ++ newline ∷ take m rb) text ends
+    ∙ ap (λ ts. (if closed then [] else opening ∷ []) ++ ts) (tokens_after-over (if closed then after_gap c else other) line last_number rest m n size)
     ∙ comment-cases closed (after_gap c) opening other rest refl
 
 -- a comment goes on over a line
-pub after_comment-open : (opening : PlacedToken) (c : Context) (line : List Placed) (newline : ℕ) (rest : List Placed) → ends_block false (bytes_of line) ≡ false
-    → after_comment opening c rest ≡ after_comment opening c (line ++ ended newline rest)
-after_comment-open opening c line newline rest e =
+pub after_comment-open : (opening : PlacedToken) (c : Context) (line : List Placed) (last_number : ℕ) (rest : List Placed) → ends_block false (bytes_of line) ≡ false
+    → after_comment opening c rest ≡ after_comment opening c (line ++ ended last_number rest)
+after_comment-open opening c line last_number rest e =
     let rb = bytes_of rest in
-    let text = line ++ ended newline rest in
+    let text = line ++ ended last_number rest in
     let m = taken (Block false) rb in
-    let bytes = bytes_of-append line (ended newline rest) in
+    let bytes = bytes_of-append line (ended last_number rest) in
     let ends : ends_block false (bytes_of text) ≡ ends_block false rb = ap (ends_block false) bytes ∙ ends_block-over false (bytes_of line) rb e in
     let len : taken (Block false) (bytes_of text) ≡ length line + suc m =
     ap (taken (Block false)) bytes ∙ taken-over false (bytes_of line) rb e ∙ ap (λ k. k + suc m) (length-bytes_of line) in
     sym (ap (λ b. if b then tokens_after c (taken (Block false) (bytes_of text)) text else opening ∷ []) ends
-    ∙ ap (λ ts. if (ends_block false rb) then ts else opening ∷ []) (tokens_after-over c line newline rest m (taken (Block false) (bytes_of text)) len))
+    ∙ ap (λ ts. if (ends_block false rb) then ts else opening ∷ []) (tokens_after-over c line last_number rest m (taken (Block false) (bytes_of text)) len))
 
 -- or ends on it
-pub after_comment-closed : (opening : PlacedToken) (c : Context) (line : List Placed) (newline : ℕ) (rest : List Placed) → ends_block false (bytes_of line) ≡ true
-    → tokens_after c 0 (drop (taken (Block false) (bytes_of line)) line ++ ended newline rest) ≡ after_comment opening c (line ++ ended newline rest)
-after_comment-closed opening c line newline rest e =
+pub after_comment-closed : (opening : PlacedToken) (c : Context) (line : List Placed) (last_number : ℕ) (rest : List Placed) → ends_block false (bytes_of line) ≡ true
+    → tokens_after c 0 (drop (taken (Block false) (bytes_of line)) line ++ ended last_number rest) ≡ after_comment opening c (line ++ ended last_number rest)
+after_comment-closed opening c line last_number rest e =
     let rb = bytes_of rest in
-    let text = line ++ ended newline rest in
+    let text = line ++ ended last_number rest in
     let n = taken (Block false) (bytes_of line) in
-    let bytes = bytes_of-append line (ended newline rest) in
-    let ends : ends_block false (bytes_of text) ≡ true = ap (ends_block false) bytes ∙ ends_block-closed false (bytes_of line) (NEWLINE ∷ rb) e in
+    let bytes = bytes_of-append line (ended last_number rest) in
+    let ends : ends_block false (bytes_of text) ≡ true = ap (ends_block false) bytes ∙ ends_block-closed false (bytes_of line) (newline ∷ rb) e in
     let len : taken (Block false) (bytes_of text) ≡ n = ap (taken (Block false)) bytes ∙ taken-closed false (bytes_of line) rb e in
     let within : n ≤ length line = let le = taken-le (Block false) (bytes_of line) in omega (arith, le, length-bytes_of line) in
     sym (ap (λ b. if b then tokens_after c (taken (Block false) (bytes_of text)) text else opening ∷ []) ends
     ∙ ap (λ k. tokens_after c k text) len
     ∙ tokens_after-drop c n text
-    ∙ ap (tokens_after c 0) (drop-front n line (ended newline rest) within))
+    ∙ ap (tokens_after c 0) (drop-front n line (ended last_number rest) within))
 
 -- a newline ends a line
 newline-step : (same equals : Bool) (bs : List ℕ) → ◌≡◌ {A = ℕ} (elim (if ((same && false) || (equals && false)) then Some Whole else None) [ None ↦ 0 | Some t ↦ suc (taken t bs) ]) 0
@@ -207,16 +207,16 @@ newline-step true false bs = refl
 newline-step false true bs = refl
 newline-step false false bs = refl
 
-further-newline : (includes : Bool) (bs : List ℕ) → further includes NEWLINE bs ≡ 0
+further-newline : (includes : Bool) (bs : List ℕ) → further includes newline bs ≡ 0
 unfolding taken
 further-newline true [] = refl
 further-newline false [] = refl
-further-newline true (b ∷ bs) = newline-step (nat_eq NEWLINE b) (nat_eq b 61) bs
-further-newline false (b ∷ bs) = newline-step (nat_eq NEWLINE b) (nat_eq b 61) bs
+further-newline true (b ∷ bs) = newline-step (nat_eq newline b) (nat_eq b 61) bs
+further-newline false (b ∷ bs) = newline-step (nat_eq newline b) (nat_eq b 61) bs
 
-pub tokens_after-newline : (c : Context) (newline : ℕ) (rest : List Placed) → tokens_after c 0 (ended newline rest) ≡ tokens_after line_start 0 rest
-tokens_after-newline c newline rest =
-    tokens_after-piece c (record { byte = NEWLINE; line = newline }) rest 0 (further-newline (is_include c.beginning) (bytes_of rest))
+pub tokens_after-newline : (c : Context) (last_number : ℕ) (rest : List Placed) → tokens_after c 0 (ended last_number rest) ≡ tokens_after line_start 0 rest
+tokens_after-newline c last_number rest =
+    tokens_after-piece c (record { byte = newline; line = last_number }) rest 0 (further-newline (is_include c.beginning) (bytes_of rest))
 
 -- the piece of a line from one place up to another
 abbrev pub piece_of : List Placed → ℕ → ℕ → List ℕ
@@ -236,20 +236,20 @@ ends-further : (c : Context) (line : List Placed) (i end : ℕ) → EndsAt c lin
 ends-further c line i end is = is ∙ ap (λ bs. i + 1 + further (is_include c.beginning) (get_or (bytes_of line) i 0) bs) (sym (bytes_of-drop (i + 1) line))
 
 -- the tokens from a place of a line on, where a piece ends there
-pub tokens_after-piece_of : (c : Context) (line : List Placed) (i end newline : ℕ) (rest : List Placed) → i < length line → EndsAt c line i end → is_open (piece_of line i end) ≡ false
-    → tokens_after c 0 (drop i line ++ ended newline rest)
-    ≡ token_if c (piece_of line i end) (line_at line i) ++ tokens_after (context_after c (piece_of line i end)) 0 (drop end line ++ ended newline rest)
-tokens_after-piece_of c line i end newline rest lt is closed =
+pub tokens_after-piece_of : (c : Context) (line : List Placed) (i end last_number : ℕ) (rest : List Placed) → i < length line → EndsAt c line i end → is_open (piece_of line i end) ≡ false
+    → tokens_after c 0 (drop i line ++ ended last_number rest)
+    ≡ token_if c (piece_of line i end) (line_at line i) ++ tokens_after (context_after c (piece_of line i end)) 0 (drop end line ++ ended last_number rest)
+tokens_after-piece_of c line i end last_number rest lt is closed =
     let p : Placed = record { byte = get_or (bytes_of line) i 0; line = line_at line i } in
     let later = drop (i + 1) line in
     let n = further (is_include c.beginning) p.byte (bytes_of later) in
     let at : end ≡ i + 1 + n = ends-further c line i end is in
     let piece : piece_of line i end ≡ p.byte ∷ take n (bytes_of later) = piece_of-cons line i end n lt at in
     let past : drop n later ≡ drop end line = drop-drop n (i + 1) line ∙ ap (λ k. drop k line) (sym at) in
-    ap (λ ps. tokens_after c 0 (ps ++ ended newline rest)) (drop-placed line i lt)
-    ∙ tokens_after-closed c p later newline rest n refl (sym (ap is_open piece) ∙ closed)
-    ∙ ap (λ bs. token_if c bs p.line ++ tokens_after (context_after c bs) 0 (drop n later ++ ended newline rest)) (sym piece)
-    ∙ ap (λ ps. token_if c (piece_of line i end) p.line ++ tokens_after (context_after c (piece_of line i end)) 0 (ps ++ ended newline rest)) past
+    ap (λ ps. tokens_after c 0 (ps ++ ended last_number rest)) (drop-placed line i lt)
+    ∙ tokens_after-closed c p later last_number rest n refl (sym (ap is_open piece) ∙ closed)
+    ∙ ap (λ bs. token_if c bs p.line ++ tokens_after (context_after c bs) 0 (drop n later ++ ended last_number rest)) (sym piece)
+    ∙ ap (λ ps. token_if c (piece_of line i end) p.line ++ tokens_after (context_after c (piece_of line i end)) 0 (ps ++ ended last_number rest)) past
 
 Opened-piece_of : (c : Context) (line : List Placed) (i end : ℕ) → i < length line → EndsAt c line i end → is_open (piece_of line i end) ≡ true
     → Opened (get_or (bytes_of line) i 0) (bytes_of (drop (i + 1) line))
@@ -259,11 +259,11 @@ Opened-piece_of c line i end lt is opened =
     Opened-piece (is_include c.beginning) b bs (sym (ap is_open (piece_of-cons line i end (further (is_include c.beginning) b bs) lt (ends-further c line i end is))) ∙ opened)
 
 -- and where a comment goes on
-pub tokens_after-comment : (c : Context) (line : List Placed) (i end newline : ℕ) (rest : List Placed) → i < length line → EndsAt c line i end → is_open (piece_of line i end) ≡ true
-    → tokens_after c 0 (drop i line ++ ended newline rest) ≡ after_comment (token_of c (codes "/*") (line_at line i)) (after_gap c) rest
-tokens_after-comment c line i end newline rest lt is opened =
-    ap (λ ps. tokens_after c 0 (ps ++ ended newline rest)) (drop-placed line i lt)
-    ∙ tokens_after-open c (record { byte = get_or (bytes_of line) i 0; line = line_at line i }) (drop (i + 1) line) newline rest (Opened-piece_of c line i end lt is opened)
+pub tokens_after-comment : (c : Context) (line : List Placed) (i end last_number : ℕ) (rest : List Placed) → i < length line → EndsAt c line i end → is_open (piece_of line i end) ≡ true
+    → tokens_after c 0 (drop i line ++ ended last_number rest) ≡ after_comment (token_of c (codes "/*") (line_at line i)) (after_gap c) rest
+tokens_after-comment c line i end last_number rest lt is opened =
+    ap (λ ps. tokens_after c 0 (ps ++ ended last_number rest)) (drop-placed line i lt)
+    ∙ tokens_after-open c (record { byte = get_or (bytes_of line) i 0; line = line_at line i }) (drop (i + 1) line) last_number rest (Opened-piece_of c line i end lt is opened)
 
 pub opening-spelled : (c : Context) (line : List Placed) (i end : ℕ) → i < length line → EndsAt c line i end → is_open (piece_of line i end) ≡ true → piece_of line i (i + 2) ≡ codes "/*"
 opening-spelled c line i end lt is opened =

@@ -1,7 +1,7 @@
 -- What stands before a place on its line, as far as tokens depend on it.
 use Rattle.std.specs.Prelude.{ℕ, Bool, true, false, ◌&&◌, List, [], ◌∷◌, codes, nat_eq, if◌then◌else◌}
 use Rattle.std.specs.Str.{bytes_eq}
-use Rattle.idl_source.specs.declared.line.TheConstants.{NEWLINE}
+use Rattle.idl_source.specs.Line.{newline}
 use Rattle.idl_lex.specs.Byte.{is_space}
 use Rattle.idl_lex.specs.Word.{is_word}
 use Rattle.idl_lex.specs.declared.context.Beginning.{Beginning}
@@ -44,7 +44,7 @@ is_gap (b ∷ rest) = if is_space b then true else (if nat_eq b 47 then closes r
 -- a newline ends a line
 abbrev pub is_newline : List ℕ → Bool
 is_newline [] = false
-is_newline (b ∷ rest) = nat_eq b NEWLINE
+is_newline (b ∷ rest) = nat_eq b newline
 
 -- how a line begins, with one token more
 abbrev pub beginning_after : Beginning → List ℕ → Beginning

@@ -1,14 +1,9 @@
 -- What the table of keywords holds.
 use Rattle.std.specs.Prelude.{ℕ, Bool, true, ◌&&◌, List, [], ◌∷◌}
-use Rattle.std.specs.Borrow.{Bor}
 use Rattle.std.specs.Cmp.Lexicographic.{slice_cmp}
 use Rattle.std.specs.Ordering.{nat_cmp, is_lt}
 use Rattle.idl_lex.specs.Keywords.{folded}
 use Rattle.idl_lex.specs.declared.kind.Kind.{Kind}
-
--- an entry as it is read: a spelling and its kind
-abbrev pub entry_of : Bor (List ℕ) × Kind → List ℕ × Kind
-entry_of entry = (entry.0.now, entry.1)
 
 -- each folded spelling is below the next
 abbrev pub is_in_order : List (List ℕ × Kind) → Bool

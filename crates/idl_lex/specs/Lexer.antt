@@ -1,6 +1,6 @@
 -- The tokens that are still to come, by what a line begins in.
 use Rattle.std.specs.Prelude.{ℕ, Bool, false, not, List, [], ◌∷◌, nat_eq, if◌then◌else◌}
-use Rattle.idl_source.specs.declared.line.TheConstants.{NEWLINE}
+use Rattle.idl_source.specs.Line.{newline}
 use Rattle.idl_lex.specs.Context.{line_start, ends_block}
 use Rattle.idl_lex.specs.Scan.{taken}
 use Rattle.idl_lex.specs.Text.{Placed, bytes_of}
@@ -22,7 +22,7 @@ coming (Comment opening c) text = after_comment opening c text
 
 -- the newline that ends a line, and what comes after it
 abbrev pub ended : ℕ → List Placed → List Placed
-ended number rest = record { byte = NEWLINE; line = number } ∷ rest
+ended number rest = record { byte = newline; line = number } ∷ rest
 
 -- of a piece after a first `/`: a comment that isn't closed
 abbrev pub opens : List ℕ → Bool

@@ -1,5 +1,6 @@
 pub mod Byte
 pub mod Word
+pub mod WordTable
 pub mod Keywords
 pub mod KeywordTable
 pub mod Marks

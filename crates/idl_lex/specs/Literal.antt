@@ -39,17 +39,22 @@ numbered_character base most digits = if are_digits base digits then (if nat_le 
 abbrev pub Read : Type 0
 Read = Option ℕ × ℕ
 
--- an escape by its number: this many bytes, then digits
-abbrev pub by_number : ℕ → ℕ → ℕ → ℕ → List ℕ → Read
-by_number before base digits most bytes = (numbered_character base most (take (digits_len base digits bytes) bytes), before + digits_len base digits bytes)
+-- an escape by its number, of a few digits to a base, at most this
+abbrev pub by_number : ℕ → ℕ → ℕ → List ℕ → Read
+by_number base digits most bytes =
+    (numbered_character base most (take (digits_len base digits bytes) bytes), digits_len base digits bytes)
+
+-- what was read behind a letter, with that letter
+abbrev pub after_letter : Read → Read
+after_letter read = (read.0, 1 + read.1)
 
 -- what stands after a backslash: `u` and one to four hexadecimal digits in wide literals alone
 abbrev pub escape : Bool → List ℕ → Read
 escape wide [] = (None, 0)
 escape wide (b ∷ rest) =
-    if is_digit_of 8 b then by_number 0 8 3 255 (b ∷ rest)
-    else (if nat_eq b 120 then by_number 1 16 2 255 rest
-    else (if wide && nat_eq b 117 then by_number 1 16 4 65535 rest
+    if is_digit_of 8 b then by_number 8 3 255 (b ∷ rest)
+    else (if nat_eq b 120 then after_letter (by_number 16 2 255 rest)
+    else (if wide && nat_eq b 117 then after_letter (by_number 16 4 65535 rest)
     else (simple_escape b, 1)))
 
 -- the characters of a literal's bytes after the first n of them; none stands for a bad escape

@@ -1,7 +1,6 @@
 -- The marks.
-use Rattle.std.specs.Prelude.{ℕ, List, [], ◌∷◌, codes, find, Option}
-use Rattle.std.specs.Option.{option_map}
-use Rattle.std.specs.Str.{bytes_eq}
+use Rattle.std.specs.Prelude.{ℕ, List, [], ◌∷◌, codes, Option}
+use Rattle.idl_lex.specs.WordTable.{value_of}
 use Rattle.idl_lex.specs.declared.mark.Mark.TheVariants.{Semicolon, Comma, OpenBrace, CloseBrace, OpenParenthesis, CloseParenthesis, ColonColon, Colon, Less, Greater, Equals, OpenBracket, CloseBracket, Plus, Minus, Star, Slash, Percent, Tilde, Bar, Caret, Ampersand, ShiftLeft, ShiftRight}
 use Rattle.idl_lex.specs.declared.mark.PreprocessorMark.TheVariants.{Hash, HashHash, Exclamation, Question, Dot, AndAnd, OrOr, EqualsEquals, NotEquals, LessEquals, GreaterEquals}
 use Rattle.idl_lex.specs.declared.kind.Kind.{Kind}
@@ -25,4 +24,4 @@ marks =
 
 -- the kind of the mark that is spelled so
 abbrev pub mark_kind : List ℕ → Option Kind
-mark_kind spelling = option_map (λ m. m.1) (find (λ m. bytes_eq m.0 spelling) marks)
+mark_kind spelling = value_of marks spelling

@@ -40,21 +40,27 @@ based [] = (10, [])
 based (b ∷ rest) = if nat_eq b 48 then based_after rest (b ∷ rest) else (10, b ∷ rest)
 
 -- an integer is below 2^64
-abbrev pub limited : ℕ → Kind
-limited value = if nat_lt value (2 ^ 64) then Integer else Bad IntegerTooLarge
-
--- these digits of a number to a base
-abbrev pub digits_kind : ℕ → List ℕ → List ℕ → Kind
-digits_kind base digits spelling = if are_digits base digits then limited (number base digits) else no_integer spelling
-
--- the kind of a number
-abbrev pub number_kind : List ℕ → Kind
-number_kind spelling = digits_kind (based spelling).0 (based spelling).1 spelling
+abbrev pub limited : ℕ → Option ℕ
+limited value = if nat_lt value (2 ^ 64) then Some value else None
 
 -- the value of these digits to a base, if they are an integer
 abbrev pub digits_value : ℕ → List ℕ → Option ℕ
-digits_value base digits = if are_digits base digits && nat_lt (number base digits) (2 ^ 64) then Some (number base digits) else None
+digits_value base digits = if are_digits base digits then limited (number base digits) else None
 
 -- the value of an integer
 abbrev pub integer_value : List ℕ → Option ℕ
 integer_value spelling = digits_value (based spelling).0 (based spelling).1
+
+-- the kind of digits with this value
+abbrev pub kind_of_value : Option ℕ → Kind
+kind_of_value (Some value) = Integer
+kind_of_value None = Bad IntegerTooLarge
+
+-- these digits of a number to a base
+abbrev pub digits_kind : ℕ → List ℕ → List ℕ → Kind
+digits_kind base digits spelling =
+    if are_digits base digits then kind_of_value (limited (number base digits)) else no_integer spelling
+
+-- the kind of a number
+abbrev pub number_kind : List ℕ → Kind
+number_kind spelling = digits_kind (based spelling).0 (based spelling).1 spelling

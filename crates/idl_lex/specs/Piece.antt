@@ -1,7 +1,7 @@
 -- The pieces of a text: a newline, a white byte, a comment or a token. Each is told by its first byte.
 use Rattle.std.specs.Prelude.{ℕ, zero, suc, nat_eq, Bool, true, false, not, ◌&&◌, ◌||◌, List, [], ◌∷◌, length, take, if◌then◌else◌}
 use Rattle.std.specs.List.{list_all}
-use Rattle.idl_source.specs.declared.line.TheConstants.{NEWLINE}
+use Rattle.idl_source.specs.Line.{newline}
 use Rattle.idl_lex.specs.Byte.{is_digit, is_word_start, is_word_byte, is_quote, is_x, is_e, is_sign}
 
 abbrev pub is_empty : List ℕ → Bool
@@ -28,7 +28,7 @@ dot_rest (b ∷ rest) = is_digit b && number_rest false false rest
 abbrev pub literal_rest : ℕ → Bool → List ℕ → Bool
 literal_rest quote escaped [] = true
 literal_rest quote escaped (b ∷ rest) =
-    if nat_eq b NEWLINE then false
+    if nat_eq b newline then false
     else (if escaped then literal_rest quote false rest
     else (if nat_eq b quote then is_empty rest
     else literal_rest quote (nat_eq b 92) rest))
@@ -40,7 +40,7 @@ wide_rest (b ∷ rest) = if is_quote b then literal_rest b false rest else list_
 
 -- the rest of a line
 abbrev pub line_rest : List ℕ → Bool
-line_rest bytes = list_all (λ b. not (nat_eq b NEWLINE)) bytes
+line_rest bytes = list_all (λ b. not (nat_eq b newline)) bytes
 
 -- a comment after its `/*`: to the first `*/`; without it the comment is open
 abbrev pub block_rest : Bool → List ℕ → Bool
@@ -77,7 +77,7 @@ begins b rest =
 -- an included file's name after its `<`: on one line, to the first `>`
 abbrev pub header_rest : List ℕ → Bool
 header_rest [] = false
-header_rest (b ∷ rest) = if nat_eq b NEWLINE then false else (if nat_eq b 62 then is_empty rest else header_rest rest)
+header_rest (b ∷ rest) = if nat_eq b newline then false else (if nat_eq b 62 then is_empty rest else header_rest rest)
 
 -- these bytes are one piece; on a line that includes a file its name may be one
 abbrev pub is_piece : Bool → List ℕ → Bool

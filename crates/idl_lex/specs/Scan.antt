@@ -1,7 +1,7 @@
 -- The states in which a piece is read, and the step that a byte makes.
 use Rattle.std.specs.Prelude.{ℕ, zero, suc, nat_eq, Bool, true, false, not, ◌&&◌, ◌||◌, List, [], ◌∷◌, if◌then◌else◌, Option, None, Some}
 use Rattle.std.specs.Option.{option_map}
-use Rattle.idl_source.specs.declared.line.TheConstants.{NEWLINE}
+use Rattle.idl_source.specs.Line.{newline}
 use Rattle.idl_lex.specs.Byte.{is_digit, is_word_start, is_word_byte, is_quote, is_x, is_e, is_sign}
 use Rattle.idl_lex.specs.Piece.{is_pair}
 use Rattle.idl_lex.specs.declared.state.State.{State}
@@ -23,7 +23,7 @@ number_step hexadecimal after_e b =
 
 abbrev pub literal_step : ℕ → Bool → ℕ → Option State
 literal_step quote escaped b =
-    if nat_eq b NEWLINE then None
+    if nat_eq b newline then None
     else (if escaped then Some (Literal quote false)
     else (if nat_eq b quote then Some Whole
     else Some (Literal quote (nat_eq b 92))))
@@ -36,7 +36,7 @@ step_of (Number hexadecimal after_e) b = number_step hexadecimal after_e b
 step_of Dot b = if is_digit b then Some (Number false false) else None
 step_of (Literal quote escaped) b = literal_step quote escaped b
 step_of Slash b = if nat_eq b 47 then Some Line else (if nat_eq b 42 then Some (Block false) else None)
-step_of Line b = if nat_eq b NEWLINE then None else Some Line
+step_of Line b = if nat_eq b newline then None else Some Line
 step_of (Block after_star) b = if after_star && nat_eq b 47 then Some Whole else Some (Block (nat_eq b 42))
 step_of (Mark a) b = if is_pair a b then Some Whole else None
 step_of Whole b = None
@@ -49,7 +49,7 @@ taken s (b ∷ rest) = elim (step_of s b) [ None ↦ 0 | Some t ↦ suc (taken t
 -- how many bytes an included file's name has after its `<`, if it is closed on its line
 unfoldable pub header_len : List ℕ → Option ℕ
 header_len [] = None
-header_len (b ∷ rest) = if nat_eq b NEWLINE then None else (if nat_eq b 62 then Some 1 else option_map (λ n. suc n) (header_len rest))
+header_len (b ∷ rest) = if nat_eq b newline then None else (if nat_eq b 62 then Some 1 else option_map (λ n. suc n) (header_len rest))
 
 -- where the last `>` ends, by whether a first byte is one and where the last one of the others ends; 0 where there is none
 abbrev pub closing_after : Bool → ℕ → ℕ

@@ -1,6 +1,6 @@
 -- The text of a file: its lines, each ended by a newline, and each byte with the number of its line.
 use Rattle.std.specs.Prelude.{ℕ, ◌+◌, ◌-◌, List, [], ◌∷◌, ◌++◌, Bool, get_or, length, map, nat_eq, take, if◌then◌else◌}
-use Rattle.idl_source.specs.declared.line.TheConstants.{NEWLINE}
+use Rattle.idl_source.specs.Line.{newline}
 
 -- a byte of a text, and the number of its line
 pub record Placed : Type 0 where
@@ -26,7 +26,7 @@ front bytes = take (length bytes - 1) bytes
 -- but one that ends the last line stays.
 unfoldable pub joined : ℕ → List (List ℕ) → List Placed
 joined number [] = []
-joined number (bytes ∷ []) = numbered number (bytes ++ NEWLINE ∷ [])
+joined number (bytes ∷ []) = numbered number (bytes ++ newline ∷ [])
 joined number (bytes ∷ next ∷ lines) =
     if is_continued bytes then numbered number (front bytes) ++ joined (number + 1) (next ∷ lines)
-    else numbered number (bytes ++ NEWLINE ∷ []) ++ joined (number + 1) (next ∷ lines)
+    else numbered number (bytes ++ newline ∷ []) ++ joined (number + 1) (next ∷ lines)

@@ -6,17 +6,16 @@ ghost use Rattle.std.specs.Option.{option_map};
 ghost use Rattle.std.specs.Ordering.{nat_cmp};
 ghost use Rattle.std.specs.Str.{bytes_eq};
 ghost use Rattle.idl_lex.specs.Keywords.{folded, keywords, like_keyword};
-ghost use Rattle.idl_lex.specs.KeywordTable.{entry_of, is_in_order};
+ghost use Rattle.idl_lex.specs.KeywordTable.{is_in_order};
+ghost use Rattle.idl_lex.specs.WordTable.{entry_of};
 
 use crate::keyword::Keyword;
 use crate::kind::Kind;
+use crate::word_table::Entry;
 use std::cmp::Ordering;
 
-/// A keyword: its spelling, and the kind of that spelling.
-pub type Entry = (&'static [u8], Kind);
-
-// In the order of the folded spellings, as the look-up by halving needs it.
-const KEYWORDS: [Entry; 64] = [
+// Each keyword with the kind of its spelling, in the order of the folded spellings, as the look-up by halving needs it.
+const KEYWORDS: [Entry<Kind>; 64] = [
     (b"abstract", Kind::Refused),
     (b"any", Kind::Accepted(Keyword::Any)),
     (b"attribute", Kind::Accepted(Keyword::Attribute)),
@@ -84,21 +83,21 @@ const KEYWORDS: [Entry; 64] = [
 ];
 
 /// The keyword that the word is but for the case of letters.
-pub fn like_keyword(word: &[u8]) -> Option<Entry>
+pub fn like_keyword(word: &[u8]) -> Option<Entry<Kind>>
     ensures { option_map entry_of result ≡ like_keyword word.now }
 {
     look_up(table(), word)
 }
 
 #[tactic(auto, unfolding(crate::specs::Keywords::keywords))]
-fn table() -> &'static [Entry]
+fn table() -> &'static [Entry<Kind>]
     ensures all { map entry_of result.now ≡ keywords }
     ensures order { IsTrue (is_in_order (map entry_of result.now)) }
 {
     &KEYWORDS
 }
 
-fn look_up(entries: &[Entry], word: &[u8]) -> Option<Entry>
+fn look_up(entries: &[Entry<Kind>], word: &[u8]) -> Option<Entry<Kind>>
     requires order { IsTrue (is_in_order (map entry_of entries.now)) }
     ensures { option_map entry_of result ≡ find (λ k. bytes_eq (folded k.0) (folded word.now)) (map entry_of entries.entry.now) }
 {

@@ -13,6 +13,7 @@ use crate::logical::Logical;
 use crate::state::{State, closing_end, further, taken};
 use crate::token::PlacedToken;
 use std::alloc::AllocError;
+use std::ops::Range;
 
 /// What a line begins in.
 #[derive(Drop)]
@@ -69,32 +70,34 @@ fn push_pieces(
             let opening = PlacedToken::new(now, spelling, line.line_at(i));
             return Ok(Before::Comment(opening, now.after(b" ")));
         }
-        push_piece(tokens, now, line, i, end)?;
+        push_piece(tokens, now, line, i..end)?;
         now = now.after(piece);
         i = end;
     }
     Ok(Before::Fresh)
 }
 
-// Puts in the token that a piece from one place of a line up to another is, if it is one.
+// Puts in the token that a piece of a line is, if it is one.
 fn push_piece(
     tokens: &mut Vec<PlacedToken>,
     context: Context,
     line: &Logical,
-    from: usize,
-    to: usize,
+    piece: Range<usize>,
 ) -> Result<(), AllocError>
-    requires order { from < to }
-    requires within { to ≤ length line.now }
-    requires closed { is_open (take (to - from) (drop from (bytes_of line.now))) ≡ false }
-    ensures { OnOk result (tokens.new.items
-        ≡ tokens.old.items ++ token_if context (take (to - from) (drop from (bytes_of line.now))) (line_at line.now from)) }
+    requires order { piece.start < piece.end }
+    requires within { piece.end ≤ length line.now }
+    requires closed { let bytes = take (piece.end - piece.start) (drop piece.start (bytes_of line.now)) in
+        is_open bytes ≡ false }
+    ensures { let bytes = take (piece.end - piece.start) (drop piece.start (bytes_of line.now)) in
+        OnOk result (tokens.new.items
+        ≡ tokens.old.items ++ token_if context bytes (line_at line.now piece.start)) }
 {
-    if is_gap(&line.as_bytes()[from..to]) {
+    let Range { start, end } = piece;
+    if is_gap(&line.as_bytes()[start..end]) {
         return Ok(());
     }
-    let spelling = line.spelling(from, to)?;
-    tokens.push(PlacedToken::new(context, spelling, line.line_at(from)))?;
+    let spelling = line.spelling(start, end)?;
+    tokens.push(PlacedToken::new(context, spelling, line.line_at(start)))?;
     Ok(())
 }
 

@@ -20,13 +20,16 @@ mod spelling;
 mod state;
 mod token;
 mod word;
+mod word_table;
 
 pub use keyword::Keyword;
 pub use kind::{Defect, Kind, is_like_keyword, kind_of};
 pub use lexed::{Lexed, first_line, lex, longest_pieces};
 pub use literal::decode;
 pub use mark::{Mark, PreprocessorMark};
+pub use mark_table::mark_kind;
 pub use number::integer_value;
 pub use spelling::Spelling;
 pub use token::{PlacedToken, Token};
 pub use word::is_word;
+pub use word_table::{Entry, value_of};

@@ -1,8 +1,8 @@
 //! Character and string literals: what stands between their quotes, and what they count as.
 
-ghost use Rattle.std.specs.Prelude.{◌≡◌, ◌≤◌, ◌<◌, ◌+◌, ◌∷◌, [], drop, length, take, Some, None, IfOk, IfSome, IfNone, Bool};
+ghost use Rattle.std.specs.Prelude.{◌≡◌, ◌≤◌, ◌<◌, ◌+◌, ◌^◌, ◌∷◌, [], drop, length, take, Some, None, IfOk, IfSome, IfNone, Bool};
 ghost use Rattle.std.specs.Option.{option_copied, option_map};
-ghost use Rattle.idl_lex.specs.Literal.{body_of, literal_kind, simple_escape, numbered_character, by_number, escape, digits_len, characters, character_kind, one_kind, string_kind, literal_value, quoted_value, closed_value, closing, all_good, is_text_character};
+ghost use Rattle.idl_lex.specs.Literal.{body_of, literal_kind, simple_escape, numbered_character, after_letter, by_number, escape, digits_len, characters, character_kind, one_kind, string_kind, literal_value, quoted_value, closed_value, closing, all_good, is_text_character};
 
 use crate::byte::{is_digit_of, is_quote};
 use crate::kind::{Defect, Kind};
@@ -180,28 +180,30 @@ fn escape(is_wide: bool, bytes: &[u8]) -> (Option<u16>, usize)
 {
     match bytes {
         [] => (None, 0),
-        [b, ..] if is_digit_of(8, *b) => by_number(0, 8, 3, 255, bytes),
-        [b'x', rest @ ..] => by_number(1, 16, 2, 255, rest),
-        [b'u', rest @ ..] if is_wide => by_number(1, 16, 4, 65535, rest),
+        [b, ..] if is_digit_of(8, *b) => by_number(8, 3, 255, bytes),
+        [b'x', rest @ ..] => after_letter(by_number(16, 2, 255, rest)),
+        [b'u', rest @ ..] if is_wide => after_letter(by_number(16, 4, 65535, rest)),
         [b, ..] => (simple_escape(*b), 1),
     }
 }
 
-// A character by its number, of a few digits to a base, at most this; and its bytes, with those that stand before the digits.
-fn by_number(
-    before: usize,
-    base: u8,
-    digits: usize,
-    most: u16,
-    bytes: &[u8],
-) -> (Option<u16>, usize)
-    requires base { (0 < base) × (base ≤ 36) }
-    requires before { before ≤ 1 }
-    ensures value { result ≡ by_number before base digits most bytes.now }
-    ensures within { result.1 ≤ before + length bytes.now }
+// A character by its number, of a few digits to a base, at most this; and how many bytes it takes.
+fn by_number(base: u8, digits: usize, most: u16, bytes: &[u8]) -> (Option<u16>, usize)
+    requires { (0 < base) × (base ≤ 36) }
+    ensures value { result ≡ by_number base digits most bytes.now }
+    ensures within { result.1 ≤ length bytes.now }
 {
     let len = digits_len(base, digits, bytes);
-    (numbered_character(base, most, &bytes[..len]), before + len)
+    (numbered_character(base, most, &bytes[..len]), len)
+}
+
+// What was read behind a letter, with that letter.
+fn after_letter(read: (Option<u16>, usize)) -> (Option<u16>, usize)
+    requires { read.1 < 2 ^ 63 }
+    ensures { result ≡ after_letter read }
+{
+    let (character, len) = read;
+    (character, 1 + len)
 }
 
 // How many digits stand here, up to a limit.

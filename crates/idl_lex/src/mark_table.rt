@@ -1,17 +1,15 @@
-//! The table of marks, and the look-up of a spelling in it.
+//! The table of marks.
 
-ghost use Rattle.std.specs.Prelude.{◌≡◌, find, map};
-ghost use Rattle.std.specs.Option.{option_map};
-ghost use Rattle.std.specs.Str.{bytes_eq};
-ghost use Rattle.idl_lex.specs.KeywordTable.{entry_of};
+ghost use Rattle.std.specs.Prelude.{◌≡◌, map};
 ghost use Rattle.idl_lex.specs.Marks.{marks, mark_kind};
+ghost use Rattle.idl_lex.specs.WordTable.{entry_of};
 
-use crate::keyword_table::Entry;
 use crate::kind::Kind;
 use crate::mark::{Mark, PreprocessorMark};
+use crate::word_table::{Entry, value_of};
 
 // The most frequent ones first.
-const MARKS: [Entry; 35] = [
+const MARKS: [Entry<Kind>; 35] = [
     (b";", Kind::Punctuation(Mark::Semicolon)),
     (b",", Kind::Punctuation(Mark::Comma)),
     (b"{", Kind::Punctuation(Mark::OpenBrace)),
@@ -53,23 +51,12 @@ const MARKS: [Entry; 35] = [
 pub fn mark_kind(spelling: &[u8]) -> Option<Kind>
     ensures { result ≡ mark_kind spelling.now }
 {
-    find_mark(table(), spelling)
+    value_of(table(), spelling)
 }
 
 #[tactic(auto, unfolding(crate::specs::Marks::marks))]
-fn table() -> &'static [Entry]
+fn table() -> &'static [Entry<Kind>]
     ensures { map entry_of result.now ≡ marks }
 {
     &MARKS
-}
-
-fn find_mark(entries: &[Entry], spelling: &[u8]) -> Option<Kind>
-    ensures { result ≡ option_map (λ m. m.1) (find (λ m. bytes_eq m.0 spelling.now) (map entry_of entries.now)) }
-{
-    for entry in entries {
-        if entry.0 == spelling {
-            return Some(entry.1);
-        }
-    }
-    None
 }

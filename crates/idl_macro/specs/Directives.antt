@@ -6,6 +6,7 @@ use Rattle.idl_base.specs.Table.{insert_entry}
 use Rattle.idl_memo.specs.Query.{Done, Tell, and_then}
 use Rattle.idl_event.specs.Expanding.{Expanding}
 use Rattle.idl_macro.specs.Macros.{Definitions, macro_of}
+use Rattle.idl_macro.specs.Words.{is_macro_word}
 use Rattle.idl_lex.specs.Tokens.{Token, tokens_in}
 use Rattle.idl_lex.specs.Word.{is_word}
 use Rattle.idl_lex.specs.declared.token.PlacedToken.{PlacedToken}
@@ -27,15 +28,11 @@ abbrev pub begins_parameters : List PlacedToken → Bool
 begins_parameters [] = false
 begins_parameters (t ∷ operands) = opens_parameters t
 
--- a word can be a macro's, unless it is `defined`
-abbrev pub can_be_defined : Token → Bool
-can_be_defined t = is_word t && not (bytes_eq t (codes "defined"))
-
 -- the word and the body that the operands of `define` give, if they are well-formed
 abbrev pub definition_in : List PlacedToken → Option (List ℕ × List Token)
 definition_in [] = None
 definition_in (t ∷ body) =
-    if can_be_defined t.token && not (begins_parameters body) then Some (t.token, tokens_in body)
+    if is_macro_word t.token && not (begins_parameters body) then Some (t.token, tokens_in body)
     else None
 
 -- bodies of the same tokens, whatever stands between them

@@ -3,3 +3,4 @@ pub mod Directives
 pub mod Macros
 pub mod Output
 pub mod Replace
+pub mod Words

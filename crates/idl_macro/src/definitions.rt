@@ -1,6 +1,6 @@
 //! The macros of a root: those that the root itself defines or removes, and else those of the bank.
 
-ghost use Rattle.std.specs.Prelude.{◌≡◌, [], Some, None, IfOk, OnOk};
+ghost use Rattle.std.specs.Prelude.{◌≡◌, [], Some, None, IfOk, OnOk, OnErr};
 ghost use Rattle.std.specs.Option.{option_copied, option_map};
 ghost use Rattle.std.specs.Str.{bytes_eq};
 ghost use Rattle.idl_base.specs.Table.{insert_entry};
@@ -66,17 +66,20 @@ impl Definitions {
         }
     }
 
-    /// The macro with this word has this body from now on, whatever was said of the word.
+    /// The macro with this word has this body from now on, whatever was said of the word. Want of
+    /// memory leaves what was said as it was.
     pub fn define(&mut self, word: &Spelling, body: TokenRange) -> Result<(), AllocError>
-        ensures { OnOk result (self.new ≡ insert_entry bytes_eq self.old word.now (Some body)) }
+        ensures ok { OnOk result (self.new ≡ insert_entry bytes_eq self.old word.now (Some body)) }
+        ensures err { OnErr result (self.new ≡ self.old) }
     {
         self.entries.insert(word.clone()?, Some(body))?;
         Ok(())
     }
 
-    /// There is no macro with this word from now on.
+    /// There is no macro with this word from now on. Want of memory leaves what was said as it was.
     pub fn remove(&mut self, word: &Spelling) -> Result<(), AllocError>
-        ensures { OnOk result (self.new ≡ insert_entry bytes_eq self.old word.now None) }
+        ensures ok { OnOk result (self.new ≡ insert_entry bytes_eq self.old word.now None) }
+        ensures err { OnErr result (self.new ≡ self.old) }
     {
         self.entries.insert(word.clone()?, None)?;
         Ok(())

@@ -12,6 +12,7 @@ ghost use Rattle.idl_lex.specs.Tokens.{tokens_in};
 ghost use Rattle.idl_macro.specs.Directives.{define, undef, ifdef, ifndef, is_macro_there, definition_in, differs, first_word, same_tokens, opens_parameters};
 
 use crate::definitions::{Definitions, Macros};
+use crate::word::is_macro_word;
 use idl_event::{Answer, Code, Event, FileTokens, Item, Key, Place, Progress, RootBank};
 use idl_lex::{PlacedToken, Spelling};
 use std::alloc::AllocError;
@@ -172,7 +173,7 @@ fn definition_in<'a>(operands: &FileTokens<'a>) -> Option<(&'a Spelling, FileTok
     ensures { option_map (λ d. (d.0.now, tokens_in d.1)) result ≡ definition_in operands.now }
 {
     let (first, rest) = operands.as_slice().split_first()?;
-    if !first.token.is_word() || first.token.as_bytes() == b"defined".as_slice() {
+    if !is_macro_word(first.token.as_bytes()) {
         return None;
     }
     match rest {

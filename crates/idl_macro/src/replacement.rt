@@ -49,7 +49,11 @@ pub fn replace_text<B: RootBank>(
             file: file.clone()?,
             line: token.line,
         };
-        replace(macros, &place, from_ref(token), progress, &mut output)?;
+        let tokens = TokensAt {
+            place: &place,
+            tokens: from_ref(token),
+        };
+        replace(macros, tokens, progress, &mut output)?;
     }
     Ok(())
 }
@@ -71,7 +75,7 @@ pub fn replace_operand<B: RootBank>(
 {
     let alloc = progress.allocator();
     let mut output = Output::Operand(Vec::new(alloc));
-    replace(macros, place, tokens, progress, &mut output)?;
+    replace(macros, TokensAt { place, tokens }, progress, &mut output)?;
     match output {
         Output::Text => Ok(Vec::new(alloc)),
         Output::Operand(given) => Ok(given),
@@ -89,28 +93,34 @@ pub fn nesting()
         ≡ reached bank (replaced item place definitions more hidden t) p }
 {}
 
-// The tokens are replaced at one place. Words in whose replacement the work stands have an entry
+// Tokens that are replaced at one place.
+#[derive(Clone, Copy)]
+struct TokensAt<'a> {
+    place: &'a Place,
+    tokens: &'a [PlacedToken],
+}
+
+// The tokens are replaced at their place. Words in whose replacement the work stands have an entry
 // each, with what follows them, the outermost first.
 fn replace<B: RootBank>(
     macros: &Macros<'_, B>,
-    place: &Place,
-    tokens: &[PlacedToken],
+    source: TokensAt<'_>,
     progress: &mut Progress<B>,
     output: &mut Output,
 ) -> Result<(), AllocError>
     ensures item { OnOk result (item_of output.new ≡ item_of output.old) }
     ensures progress { OnOk result (progress.new
         ≡ reached (B.at macros.now.bank.now)
-        (replaced_at (item_of output.old place.now) place.now macros.now.definitions.now
-        (tokens_in tokens.now)) progress.old) }
+        (replaced_at (item_of output.old source.entry.place.now) source.entry.place.now macros.now.definitions.now
+        (tokens_in source.entry.tokens.now)) progress.old) }
     ensures given { OnOk result (progress.new.left ≢ None → given output.new
         ≡ given_more (given output.old)
         (outcome
-        (replaced_at (item_of output.old place.now) place.now macros.now.definitions.now
-        (tokens_in tokens.now)) (B.at macros.now.bank.now))) }
+        (replaced_at (item_of output.old source.entry.place.now) source.entry.place.now macros.now.definitions.now
+        (tokens_in source.entry.tokens.now)) (B.at macros.now.bank.now))) }
 {
     let mut stack: Table<Spelling, &[PlacedToken]> = Table::new(progress.allocator());
-    let mut left = tokens;
+    let mut left = source.tokens;
     'steps: while !progress.is_over() {
         match left.split_first() {
             None => match stack.pop() {
@@ -121,11 +131,11 @@ fn replace<B: RootBank>(
                 let token = &placed.token;
                 match replacement(&stack, macros, token, progress)? {
                     None => {
-                        output.put(place, token, progress)?;
+                        output.put(source.place, token, progress)?;
                         left = rest;
                     }
                     Some(body) => {
-                        progress.tell(Item::Turn(place.clone()?))?;
+                        progress.tell(Item::Turn(source.place.clone()?))?;
                         stack.insert(token.spelling().clone()?, rest)?;
                         left = body;
                     }

@@ -2,7 +2,7 @@
 
 ghost use Rattle.std.specs.Prelude.{◌≡◌, ◌≢◌, ◌≤◌, ◌<◌, ◌+◌, ◌-◌, ◌^◌, [], Some, IfOk, IfSome, OnOk, OnErr, MatchBool};
 ghost use Rattle.std.specs.Option.{option_copied};
-ghost use Rattle.idl_source.specs.Line.{IsLine};
+ghost use Rattle.idl_source.specs.Line.{IsLine, newline};
 ghost use Rattle.idl_session.specs.Lines.{line_with};
 ghost use Rattle.idl_session.specs.Streams.{lines_left, IsOver, fuel, TakesLine};
 
@@ -50,7 +50,7 @@ impl<const N: usize> LineBuffer<N> {
 
     /// Adds a byte, or finds that the line is too long.
     pub fn push(&mut self, byte: u8)
-        requires { byte ≢ NEWLINE }
+        requires { byte ≢ newline }
         ensures { self.new ≡ line_with N self.old byte }
     {
         if !self.over && self.bytes.try_push(byte).is_err() {

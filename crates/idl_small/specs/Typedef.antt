@@ -1,8 +1,9 @@
 -- Typedefs of basic types.
 use Rattle.std.specs.Prelude.{◌≡◌, ℕ, Bool, true, false, ◌&&◌, List, [], ◌∷◌, ◌++◌, is_some, Some}
 use Rattle.std.specs.List.{list_any}
+use denote.Enum.Bare.{sameb}
 use Rattle.idl_lex.specs.Kind.{kind_of, name_of}
-use Rattle.idl_lex.specs.contracts.keyword.KeywordPartialEq.TheImpl.{eq-value as is_same_keyword}
+use Rattle.idl_lex.specs.contracts.keyword.Keyword.{the_type}
 use Rattle.idl_lex.specs.declared.keyword.Keyword.{Keyword}
 use Rattle.idl_lex.specs.declared.keyword.Keyword.TheVariants.{Any, Boolean, Char, Double, Float, Long, Object, Octet, Short, Typedef, Unsigned, Wchar}
 use Rattle.idl_lex.specs.declared.kind.Kind.{Kind}
@@ -17,8 +18,12 @@ basic_types =
     ∷ (Float ∷ []) ∷ (Double ∷ []) ∷ (Long ∷ Double ∷ [])
     ∷ (Char ∷ []) ∷ (Wchar ∷ []) ∷ (Boolean ∷ []) ∷ (Octet ∷ []) ∷ (Any ∷ []) ∷ (Object ∷ []) ∷ []
 
+-- the two are one keyword
+abbrev pub is_same : Keyword → Keyword → Bool
+is_same = sameb the_type
+
 abbrev pub is_keyword : Keyword → Kind → Bool
-is_keyword keyword (Accepted accepted) = is_same_keyword.it accepted keyword
+is_keyword keyword (Accepted accepted) = is_same accepted keyword
 is_keyword keyword other = false
 
 -- an identifier and `;`

@@ -1,4 +1,3 @@
-pub mod CandidateLemmas
 pub mod DeviceLemmas
 pub mod DirectoryLemmas
 pub mod EntryLemmas

@@ -1,8 +1,7 @@
 -- The files as a finite map: what entries in the order of their names are a map of.
-use Rattle.std.proofs.Common.{◌≡◌, ◌≤◌, ◌+◌, ◌-◌, ◌++◌, ◌&&◌, ◌||◌, ℕ, Bool, not, ltb, leb, List, [], ◌∷◌, length, take, drop, true, IsTrue, Option, Some, None, is_none, Ok, Err, cond, get_or, T, false, refl, sym, ap, subst, ◌∙◌, arith, length-append, length-drop, length-take}
+use Rattle.std.proofs.Common.{◌≡◌, ◌≤◌, ◌+◌, ◌-◌, ◌++◌, ◌||◌, ℕ, Bool, not, ltb, List, [], ◌∷◌, length, take, drop, true, IsTrue, Option, Some, None, is_none, Ok, Err, cond, get_or, T, false, refl, sym, ap, subst, ◌∙◌, arith, length-append, length-drop, length-take}
 use Rattle.std.specs.Global.{Global}
 use Rattle.std.specs.List.{list_any, remove}
-use Rattle.std.proofs.lemmas.Bool.Decides.{nat_tests}
 use Rattle.idl_source.specs.Limits.{longest_line, most_lines}
 use Rattle.std.specs.Cmp.{alike_right}
 use Rattle.std.specs.Ordering.{eq_by_cmp, is_eq, nat_cmp, ordering_reverse}
@@ -166,14 +165,8 @@ length-spliced : (old : List (List ℕ)) (from del : ℕ) (lines : List (List �
 length-spliced old from del lines first inside =
     omega (arith, length-append (take (from - 1) old) (lines ++ drop (from - 1 + del) old), length-append lines (drop (from - 1 + del) old), length-take (from - 1) old, length-drop (from - 1 + del) old)
 
--- the tests of a splice, as they are made on numbers
-pub inside-from : (old : List (List ℕ)) (from del : ℕ) → (from ≡ 0 → ⊥) → from - 1 ≤ length old → del ≤ length old - (from - 1) → is_inside old from del ≡ true
-inside-from old from del first begin end =
-    let a : leb 1 from ≡ true = grind (arith, nat_tests) in
-    let b : leb (from - 1 + del) (length old) ≡ true = grind (arith, nat_tests) in
-    λ i. a i && b i
-
-pub is_splice_over-length : (old : List (List ℕ)) (from del : ℕ) (lines : List (List ℕ)) → (from ≡ 0 → ⊥) → from - 1 ≤ length old → del ≤ length old - (from - 1)
+-- the test of a splice, as it is made on numbers
+pub is_splice_over-length : (old : List (List ℕ)) (from del : ℕ) (lines : List (List ℕ)) → 1 ≤ from → from - 1 + del ≤ length old
     → (ltb most_lines (length old - del + length lines) || list_any (λ line. ltb longest_line (length line)) lines) ≡ is_splice_over old from del lines
-is_splice_over-length old from del lines first begin end =
-    ap (λ n. ltb most_lines n || list_any (λ line. ltb longest_line (length line)) lines) (sym (length-spliced old from del lines (omega arith) (omega arith)))
+is_splice_over-length old from del lines first inside =
+    ap (λ n. ltb most_lines n || list_any (λ line. ltb longest_line (length line)) lines) (sym (length-spliced old from del lines first inside))

@@ -1,6 +1,6 @@
 //! Files by name, and the edits of a set of files.
 
-ghost use Rattle.std.specs.Prelude.{◌≡◌, ◌≢◌, ◌↔◌, ◌≤◌, ◌+◌, ◌++◌, ◌||◌, IsFalse, IsTrue, IfOk, IfErr, Some, None, is_some, length, nat_lt, if◌then◌else◌};
+ghost use Rattle.std.specs.Prelude.{◌≡◌, ◌≢◌, ◌↔◌, ◌≤◌, ◌+◌, ◌++◌, ◌||◌, IsFalse, IsTrue, IfOk, IfErr, length, nat_lt};
 ghost use Rattle.std.specs.List.{list_any};
 ghost use Rattle.std.specs.Option.{option_copied};
 ghost use Rattle.std.specs.FinMap as map;
@@ -13,6 +13,7 @@ use crate::file::File;
 use crate::line::Line;
 use crate::name::Name;
 use crate::refusal::Refusal;
+use crate::span::Span;
 use crate::{MAX_FILES, MAX_LINE, MAX_LINES};
 use std::alloc::{AllocError, Global};
 use std::marker::Model;
@@ -94,35 +95,28 @@ impl Files {
         Ok(files)
     }
 
-    /// The files with new lines in the place of `del` lines of this file, from line `from` on, where 1 is the first. The
-    /// old files stay as they are, and the lines that stay are shared.
+    /// The files with new lines in the place of a span of this file. The old files stay as they are, and the lines that stay
+    /// are shared.
     ///
-    /// It is refused, in this order, where the name isn't one, where there is no such file, where those lines aren't all in
-    /// it, and where it would have more than [`MAX_LINES`] lines or a new line has more than [`MAX_LINE`] bytes. Memory may
+    /// It is refused, in this order, where the name isn't one, where there is no such file, where the span isn't all in it, and where it would have more than [`MAX_LINES`] lines or a new line has more than [`MAX_LINE`] bytes. Memory may
     /// be refused too.
-    pub fn splice(
-        &self,
-        name: &[u8],
-        from: usize,
-        del: usize,
-        lines: Vec<Line>,
-    ) -> Result<Files, Refusal>
-        ensures ok { IfOk result (λ files. after_splice self.now name.now from del lines.items ≡ Ok files) }
-        ensures err { IfErr result (λ refusal. refusal ≢ Refusal.NoMemory → after_splice self.now name.now from del lines.items ≡ Err refusal) }
+    pub fn splice(&self, name: &[u8], span: Span, lines: Vec<Line>) -> Result<Files, Refusal>
+        ensures ok { IfOk result (λ files. after_splice self.now name.now span.from span.del lines.items ≡ Ok files) }
+        ensures err { IfErr result (λ refusal. refusal ≢ Refusal.NoMemory → after_splice self.now name.now span.from span.del lines.items ≡ Err refusal) }
     {
         let name = allowed_name(name)?;
         let Some(file) = self.get(name.as_bytes()) else {
             return Err(Refusal::NoSuchFile);
         };
         let old = file.lines();
-        if from == 0 || old.len() < from - 1 || old.len() - (from - 1) < del {
+        if !span.is_inside(old) {
             return Err(Refusal::OutsideFile);
         }
-        if is_splice_over(old.len() - del, &lines) {
+        if is_splice_over(old.len() - span.del, &lines) {
             return Err(Refusal::OverLimit);
         }
-        let start = from - 1;
-        let lines = spliced(&old[..start], lines, &old[start + del..])?;
+        let start = span.from - 1;
+        let lines = spliced(&old[..start], lines, &old[start + span.del..])?;
         let files = self.with(name, lines)?;
         Ok(files)
     }
@@ -141,16 +135,6 @@ impl Files {
                 Ok(Files { entries })
             }
             Err(_) => Err(Refusal::NoSuchFile),
-        }
-    }
-
-    /// The name as these files hold it, where there is a file of that name.
-    pub fn held(&self, name: &[u8]) -> Option<&Name>
-        ensures { option_copied result ≡ (if is_some (map.get self.now name.now) then Some name.now else None) }
-    {
-        match place_of(&self.entries, name) {
-            Ok(place) => Some(&self.entries[place].name),
-            Err(_) => None,
         }
     }
 

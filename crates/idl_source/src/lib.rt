@@ -8,25 +8,25 @@ mod directory;
 mod entries;
 mod file;
 mod files;
-mod include;
 mod line;
 mod memory;
 mod name;
 mod parts;
 mod path;
 mod refusal;
+mod span;
 
 pub use device::{ReadFailed, Sink, Source, WriteFailed, write_all};
 pub use directory::Directory;
 pub use file::File;
 pub use files::Files;
-pub use include::find;
 pub use line::{Line, NEWLINE};
 pub use memory::{BufferSink, SliceSource};
 pub use name::Name;
 pub use parts::first_part;
 pub use path::{is_rooted, join, normal_form};
 pub use refusal::Refusal;
+pub use span::Span;
 
 /// Bytes that a name has at most.
 pub const MAX_NAME: usize = 255;

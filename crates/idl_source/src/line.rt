@@ -33,11 +33,11 @@ impl Model for Line {
 
 impl Line {
     ghost use Rattle.std.specs.Rc.{rc_slice_items};
-    ghost use Rattle.idl_source.specs.Line.{IsLine};
+    ghost use Rattle.idl_source.specs.Line.{IsLine, newline};
 
     /// Copies the bytes of a line, and answers `None` to bytes with a newline among them.
     pub fn new(alloc: Global, bytes: &[u8]) -> Result<Option<Line>, AllocError>
-        ensures none { IfOk result (λ line. IsNone line ↔ Contains bytes.now NEWLINE) }
+        ensures none { IfOk result (λ line. IsNone line ↔ Contains bytes.now newline) }
         ensures same { IfOk result (λ line. IfSome line (λ l. l ≡ bytes.now)) }
     {
         if bytes.contains(&NEWLINE) {

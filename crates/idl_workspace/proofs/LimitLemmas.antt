@@ -20,7 +20,7 @@ use Rattle.idl_source.specs.declared.refusal.Refusal.TheVariants.{BadName, NoSuc
 use Rattle.idl_workspace.specs.Edits.{Edit, Put, Splice, Remove, Define, Undef, Search, AddRoot, DropRoot, after, is_macro_over, macros_with, macros_without, result_map, roots_with, roots_without, search_list}
 use Rattle.idl_workspace.specs.Project.{Macros, Project, is_defined, is_root, no_project, with_files, with_macros, with_search, with_roots}
 use Rattle.idl_workspace.specs.WithinLimits.{IsAllowedFile, IsWithinLimits}
-use Rattle.idl_workspace.specs.Words.{is_macro_word}
+use Rattle.idl_macro.specs.Words.{is_macro_word}
 
 -- what was made of an accepted part
 accepted : {X : Type 0} (f : X → Project) (r : Result X Refusal) (new : Project) → result_map f r ≡ Ok new → (x : X) × (r ≡ Ok x) × (f x ≡ new)

@@ -12,7 +12,7 @@ use Rattle.idl_source.specs.Texts.{after_put, after_splice, after_remove}
 use Rattle.idl_source.specs.declared.refusal.Refusal.{Refusal}
 use Rattle.idl_source.specs.declared.refusal.Refusal.TheVariants.{BadName, OverLimit, BadMacro, NoSuchRoot, RootThere}
 use Rattle.idl_workspace.specs.Project.{Macros, Project, is_defined, is_root, with_files, with_macros, with_search, with_roots}
-use Rattle.idl_workspace.specs.Words.{is_macro_word}
+use Rattle.idl_macro.specs.Words.{is_macro_word}
 
 -- an edit: lines of a file, in place of all of its lines or of DEL lines from line FROM on; no file; a macro, or none; the
 -- directories of the search list; a root, or none

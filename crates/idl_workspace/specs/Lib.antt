@@ -5,5 +5,4 @@ pub mod Edits
 pub mod Project
 pub mod UpToDate
 pub mod WithinLimits
-pub mod Words
 pub mod Work

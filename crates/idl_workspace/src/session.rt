@@ -18,14 +18,14 @@ use crate::compile::{CompiledRoot, compile};
 use crate::directories::directories;
 use crate::macro_body::MacroBody;
 use crate::root_table::RootTable;
-use crate::span::Span;
-use crate::word::{is_macro_word, spelled};
+use crate::word::spelled;
 use crate::work::Work;
 use crate::{MAX_BODY, Row};
 use idl_base::Seq;
 use idl_event::{Answer, FileName, Key};
 use idl_lex::Spelling;
-use idl_source::{Files, Line, Name, Refusal};
+use idl_macro::is_macro_word;
+use idl_source::{Files, Line, Name, Refusal, Span};
 use std::alloc::{AllocError, Global};
 use std::marker::Model;
 
@@ -90,7 +90,7 @@ impl Session {
         ensures { let edit = Splice name.now span.from span.del lines.items in
             IsEdited edit self.old self.new result }
     {
-        let files = self.bank.files().splice(name, span.from, span.del, lines)?;
+        let files = self.bank.files().splice(name, span, lines)?;
         self.change_files(name, files)
     }
 
@@ -263,8 +263,7 @@ impl Session {
         let Some(file) = self.bank.files().get(name) else {
             return Refusal::NoSuchFile;
         };
-        let len = file.lines().len();
-        if span.from == 0 || len < span.from - 1 || len - (span.from - 1) < span.del {
+        if !span.is_inside(file.lines()) {
             return Refusal::OutsideFile;
         }
         Refusal::OverLimit

@@ -29,8 +29,8 @@ lines-preserved c =
     let within : count ≤ length (drop i lines) = subst (λ ls. count ≤ length ls) left c.joined_count.ensures.within in
     record {
       within = omega (arith, within, length-drop i lines, c.lines.invariant.within);
-      tokens = c.in_ok-before.ensures at.newline rest
-          ∙ ap (λ ps. c.lines.tokens.items ++ coming c.lines.before (ps ++ ended at.newline rest)) c.in_ok-line.ensures
+      tokens = c.in_ok-before.ensures at.last_number rest
+          ∙ ap (λ ps. c.lines.tokens.items ++ coming c.lines.before (ps ++ ended at.last_number rest)) c.in_ok-line.ensures
           ∙ ap (λ ps. c.lines.tokens.items ++ coming c.lines.before ps) (sym at.text)
           ∙ c.lines.invariant.tokens;
     }

@@ -29,6 +29,6 @@ pub returns : goal.returns
 returns g c =
     let it = c.args.directive.now in
     let old = option_map tokens_in (option_copied c.in_ok-old.old) in
-    ap (λ definitions. arrived definitions c.macro_of.new.progress) (c.in_ok-define.ensures ∙ ap (λ body. saying c.args.definitions.now c.in-Some.word.now (Some body)) c.in_ok-shared.ensures)
+    ap (λ definitions. arrived definitions c.macro_of.new.progress) (c.in_ok-define.ensures.ok ∙ ap (λ body. saying c.args.definitions.now c.in-Some.word.now (Some body)) c.in_ok-shared.ensures)
     ∙ arrival-define it.place it.word.now c.args.definitions.now it.operands (g.B.Bank.at c.args.bank.now) c.args.progress.now c.macro_of.new.progress
     c.in-Some.word.now (tokens_in c.in-Some.body) old c.in-Some.ensures c.in_ok-old.ensures false (c.if-differs.ensures ∙ ap (λ body. differs old (tokens_in body)) c.as_slice.ensures)

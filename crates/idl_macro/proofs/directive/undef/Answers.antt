@@ -8,7 +8,7 @@ use Rattle.idl_macro.proofs.directive.undef.Goals as goal
 pub returns-in_ok-remove-in-Some : goal.returns-in_ok-remove-in-Some
 returns-in_ok-remove-in-Some g c = λ bank.
     let it = c.args.directive.now in
-    ap (λ definitions. arrived definitions c.args.progress.now) c.in_ok-remove-in-Some.ensures
+    ap (λ definitions. arrived definitions c.args.progress.now) c.in_ok-remove-in-Some.ensures.ok
     ∙ ap (λ query. arrival bank query c.args.progress.now)
     (undef-by it.place it.word.now c.args.definitions.now it.operands (Some c.in-Some.word.now) (c.in-Some.ensures ∙ ap first_word c.as_slice.ensures))
 

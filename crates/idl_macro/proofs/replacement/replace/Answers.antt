@@ -30,8 +30,8 @@ pub steps-preserved-in-Some-pop : goal.steps-preserved-in-Some-pop
 steps-preserved-in-Some-pop g c =
     let inv = c.steps.invariant in
     let bank = g.B.Bank.at c.args.macros.now.bank.now in
-    let item = item_of c.args.output.now c.args.place.now in
-    let part = pending bank item c.args.place.now c.args.macros.now.definitions.now (turns_at_most + 1) in
+    let item = item_of c.args.output.now c.args.source.place.now in
+    let part = pending bank item c.args.source.place.now c.args.macros.now.definitions.now (turns_at_most + 1) in
     let popped = c.in-Some-pop.ensures in
     let f : Open = (c.in-Some-pop._word, c.in-Some-pop.rest) in
     let below = reverse c.pop.new.self in
@@ -41,18 +41,18 @@ steps-preserved-in-Some-pop g c =
       progress = inv.progress
           ∙ ap (λ (ts : List PlacedToken). reached bank (part (reverse c.steps.stack) (tokens_in ts)) c.steps.progress) nothing
           ∙ ap (λ (fs : List Open). reached bank (part fs []) c.steps.progress) top
-          ∙ reached-pending-end bank item c.args.place.now c.args.macros.now.definitions.now (turns_at_most + 1) f below c.steps.progress;
+          ∙ reached-pending-end bank item c.args.source.place.now c.args.macros.now.definitions.now (turns_at_most + 1) f below c.steps.progress;
       given = inv.given
           ∙ ap (λ (ts : List PlacedToken). given_more (given c.steps.output) (outcome (part (reverse c.steps.stack) (tokens_in ts)) bank)) nothing
           ∙ ap (λ (fs : List Open). given_more (given c.steps.output) (outcome (part fs []) bank)) top
-          ∙ ap (given_more (given c.steps.output)) (outcome-pending-end bank item c.args.place.now c.args.macros.now.definitions.now (turns_at_most + 1) f below);
+          ∙ ap (given_more (given c.steps.output)) (outcome-pending-end bank item c.args.source.place.now c.args.macros.now.definitions.now (turns_at_most + 1) f below);
       item = inv.item;
       depth = IsWithinTurns-closed c.steps.progress.left (length c.pop.new.self) (subst (λ (n : ℕ). IsWithinTurns c.steps.progress.left n) (ap length popped.entries ∙ length-append c.pop.new.self (f ∷ [])) inv.depth);
     }
 
 pub steps-smaller-in-None-2 : goal.steps-smaller-in-None-2
 steps-smaller-in-None-2 g c =
-    let place = c.args.place.now in
+    let place = c.args.source.place.now in
     let t = c.in-Some.placed.now.token in
     let it = item_of c.steps.output place t in
     let spent : c.put.new.progress.left ≡ left_by it c.steps.progress.left =
@@ -67,7 +67,7 @@ pub steps-preserved-in-None-2 : goal.steps-preserved-in-None-2
 steps-preserved-in-None-2 g c =
     let inv = c.steps.invariant in
     let bank = g.B.Bank.at c.args.macros.now.bank.now in
-    let place = c.args.place.now in
+    let place = c.args.source.place.now in
     let definitions = c.args.macros.now.definitions.now in
     let item = item_of c.args.output.now place in
     let part = pending bank item place definitions (turns_at_most + 1) in
@@ -127,7 +127,7 @@ pub steps-preserved : goal.steps-preserved
 steps-preserved g c =
     let inv = c.steps.invariant in
     let bank = g.B.Bank.at c.args.macros.now.bank.now in
-    let place = c.args.place.now in
+    let place = c.args.source.place.now in
     let definitions = c.args.macros.now.definitions.now in
     let item = item_of c.args.output.now place in
     let part = pending bank item place definitions (turns_at_most + 1) in
@@ -170,5 +170,5 @@ steps-preserved g c =
 pub returns-clause-progress : goal.returns-clause-progress
 returns-clause-progress g c =
     let bank = g.B.Bank.at c.args.macros.now.bank.now in
-    let rest = pending bank (item_of c.args.output.now c.args.place.now) c.args.place.now c.args.macros.now.definitions.now (turns_at_most + 1) (reverse c.steps.stack) (tokens_in c.steps.left.now) in
+    let rest = pending bank (item_of c.args.output.now c.args.source.place.now) c.args.source.place.now c.args.macros.now.definitions.now (turns_at_most + 1) (reverse c.steps.stack) (tokens_in c.steps.left.now) in
     sym (c.steps.invariant.progress ∙ progress_after-over rules key_eq bank rest c.steps.progress (c.is_over.ensures.over.0 c.steps-test.false))

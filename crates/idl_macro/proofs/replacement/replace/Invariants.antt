@@ -13,9 +13,9 @@ abbrev pub invariant-steps : goal.invariant-steps
 invariant-steps g l =
     let bank = g.B.Bank.at l.macros.bank.now in
     let definitions = l.macros.definitions.now in
-    let item = item_of l.fn.output l.place in
-    let query = replaced_at item l.place definitions (tokens_in l.fn.tokens) in
-    let rest = pending bank item l.place definitions (turns_at_most + 1) (reverse l.stack) (tokens_in l.left) in
+    let item = item_of l.fn.output l.source.place.now in
+    let query = replaced_at item l.source.place.now definitions (tokens_in l.fn.source.tokens.now) in
+    let rest = pending bank item l.source.place.now definitions (turns_at_most + 1) (reverse l.stack) (tokens_in l.left) in
     record {
       -- what the replacements that are open still stand for leads to where the whole leads
       progress : reached bank query l.fn.progress ≡ reached bank rest l.progress;
