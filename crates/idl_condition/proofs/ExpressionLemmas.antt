@@ -3,15 +3,15 @@ use Rattle.std.proofs.Common.{◌≡◌, ℕ, zero, suc, ◌<◌, ◌≤◌, inl
 use Rattle.std.proofs.lemmas.Bool.Decides.{eqb_tells}
 use Rattle.std.specs.Bool.{⊤}
 use Rattle.idl_condition.specs.Arithmetic.{Value, checked}
-use Rattle.idl_condition.specs.Operator.{rank, highest_rank, apply}
-use Rattle.idl_condition.specs.Condition.{Chain, Tail, End, Closed, Bad, Front, Rest, merge, levels, resolve, first_before, after_open, at_end, sign_of, sign_of_operator, signed, operand_at, operator_at, condition}
+use Rattle.idl_condition.specs.Operator.{rank, highest_rank, application}
+use Rattle.idl_condition.specs.Condition.{Chain, Tail, End, Closed, Bad, Front, Rest, merged, levels, resolved, first_before, after_open, at_end, sign_of, sign_of_operator, signed, operand_at, operator_at, condition}
 use Rattle.idl_condition.specs.Grammar.{operand_rank, HasValue, number, name, parenthesized, prefixed, infixed}
 use Rattle.idl_condition.specs.declared.operator.Operator.{Operator}
 use Rattle.idl_condition.specs.declared.operator.Sign.{Sign}
 use Rattle.idl_condition.specs.declared.operator.Sign.TheVariants as sign
 use Rattle.idl_condition.specs.declared.symbol.Symbol.{Symbol}
 use Rattle.idl_condition.specs.declared.symbol.Symbol.TheVariants as symbol
-use Rattle.idl_condition.proofs.ChainLemmas.{merge-here, merge-past}
+use Rattle.idl_condition.proofs.ChainLemmas.{merged-here, merged-past}
 use Rattle.idl_condition.proofs.GrammarLemmas.{HasRank-all}
 
 -- ---- chains
@@ -38,26 +38,26 @@ record AreMerged (r : ℕ) (ss : List Symbol) (m : Value × Chain) : Type 0 wher
   chain : IsChain r ys m.1
 
 -- after a merge all operators that are left have lower ranks
-merge-chain : (r : ℕ) (xs : List Symbol) (a : Value) (ys : List Symbol) (c : Chain) → HasValue r xs a → IsChain (suc r) ys c → AreMerged r (xs ++ ys) (merge r a c)
-merge-chain r xs a _ _ first ended = record { xs = xs; ys = []; is = refl; first = first; chain = ended }
-merge-chain r xs a _ _ first (joined o zs v ys c low hz rest) =
+merged-chain : (r : ℕ) (xs : List Symbol) (a : Value) (ys : List Symbol) (c : Chain) → HasValue r xs a → IsChain (suc r) ys c → AreMerged r (xs ++ ys) (merged r a c)
+merged-chain r xs a _ _ first ended = record { xs = xs; ys = []; is = refl; first = first; chain = ended }
+merged-chain r xs a _ _ first (joined o zs v ys c low hz rest) =
     elim (eqb_tells (rank o) r) [
       | inl h ↦
-          let whole : HasValue r (xs ++ symbol.Operator o ∷ zs) (apply o a v) =
+          let whole : HasValue r (xs ++ symbol.Operator o ∷ zs) (application o a v) =
           infixed r o xs zs a v (omega (arith, h.1)) (subst (λ (n : ℕ). HasValue n xs a) (sym h.1) first) (subst (λ (n : ℕ). HasValue (suc n) zs v) (sym h.1) hz) in
-          let m = merge-chain r (xs ++ symbol.Operator o ∷ zs) (apply o a v) ys c whole rest in
-          subst (λ (p : Value × Chain). AreMerged r (xs ++ symbol.Operator o ∷ (zs ++ ys)) p) (sym (merge-here r a o v c h.1))
+          let m = merged-chain r (xs ++ symbol.Operator o ∷ zs) (application o a v) ys c whole rest in
+          subst (λ (p : Value × Chain). AreMerged r (xs ++ symbol.Operator o ∷ (zs ++ ys)) p) (sym (merged-here r a o v c h.1))
           (record { xs = m.xs; ys = m.ys; is = sym (append_assoc xs (symbol.Operator o ∷ zs) ys) ∙ m.is; first = m.first; chain = m.chain })
       | inr h ↦
-          let m = merge-chain r zs v ys c (HasValue-lower (suc r) r zs v (omega arith) hz) rest in
+          let m = merged-chain r zs v ys c (HasValue-lower (suc r) r zs v (omega arith) hz) rest in
           let below : rank o < r = omega (arith, low, h.1) in
-          subst (λ (p : Value × Chain). AreMerged r (xs ++ symbol.Operator o ∷ (zs ++ ys)) p) (sym (merge-past r a o v c h.1))
+          subst (λ (p : Value × Chain). AreMerged r (xs ++ symbol.Operator o ∷ (zs ++ ys)) p) (sym (merged-past r a o v c h.1))
           (record {
             xs = xs;
             ys = symbol.Operator o ∷ (m.xs ++ m.ys);
             is = ap (λ l. xs ++ symbol.Operator o ∷ l) m.is;
             first = first;
-            chain = joined o m.xs (merge r v c).0 m.ys (merge r v c).1 below m.first m.chain;
+            chain = joined o m.xs (merged r v c).0 m.ys (merged r v c).1 below m.first m.chain;
           })
     ]
 
@@ -65,13 +65,13 @@ levels-chain : (r : ℕ) (xs : List Symbol) (a : Value) (ys : List Symbol) (c : 
 levels-chain zero xs a _ _ first ended = subst (λ (l : List Symbol). HasValue 1 l a) (sym (append-nil xs)) first
 levels-chain zero xs a _ _ first (joined o zs v ys c low hz rest) = let ranked = HasRank-all o in absurd (omega (arith, low, ranked.low))
 levels-chain (suc r) xs a ys c first chain =
-    let m = merge-chain (suc r) xs a ys c (HasValue-lower (suc (suc r)) (suc r) xs a (omega arith) first) chain in
+    let m = merged-chain (suc r) xs a ys c (HasValue-lower (suc (suc r)) (suc r) xs a (omega arith) first) chain in
     subst (λ (l : List Symbol). HasValue 1 l (levels (suc r) (a, c)).0) (sym m.is)
-    (levels-chain r m.xs (merge (suc r) a c).0 m.ys (merge (suc r) a c).1 m.first m.chain)
+    (levels-chain r m.xs (merged (suc r) a c).0 m.ys (merged (suc r) a c).1 m.first m.chain)
 
-resolve-chain : (xs : List Symbol) (a : Value) (ys : List Symbol) (c : Chain) → HasValue operand_rank xs a → IsChain operand_rank ys c → HasValue 1 (xs ++ ys) (resolve a c)
-unfolding resolve
-resolve-chain xs a ys c first chain = levels-chain highest_rank xs a ys c first chain
+resolved-chain : (xs : List Symbol) (a : Value) (ys : List Symbol) (c : Chain) → HasValue operand_rank xs a → IsChain operand_rank ys c → HasValue 1 (xs ++ ys) (resolved a c)
+unfolding resolved
+resolved-chain xs a ys c first chain = levels-chain highest_rank xs a ys c first chain
 
 -- ---- what symbols are read as
 
@@ -118,14 +118,14 @@ IsGood-open v (Closed c t) good = good
 IsGood-open v Bad good = absurd good
 
 open-front : (ss xs ys zs : List Symbol) (v : Value) (c : Chain) (t : Tail) → ss ≡ xs ++ (ys ++ zs) → HasValue operand_rank xs v → IsChain operand_rank ys c → IsTail zs t
-    → IsGood (after_open (resolve v c) t).tail → IsFront (symbol.Open ∷ ss) (after_open (resolve v c) t)
+    → IsGood (after_open (resolved v c) t).tail → IsFront (symbol.Open ∷ ss) (after_open (resolved v c) t)
 open-front ss xs ys _ v c _ e first chain over good = absurd good
 open-front ss xs ys _ v c _ e first chain (closed ys' zs' c' t' chain' tail') good = record {
   xs = symbol.Open ∷ ((xs ++ ys) ++ symbol.Close ∷ []);
   ys = ys';
   zs = zs';
   is = ap (λ l. symbol.Open ∷ l) (e ∙ sym (append_assoc xs ys (symbol.Close ∷ (ys' ++ zs'))) ∙ sym (append_assoc (xs ++ ys) (symbol.Close ∷ []) (ys' ++ zs')));
-  first = parenthesized operand_rank (xs ++ ys) (resolve v c) (resolve-chain xs v ys c first chain);
+  first = parenthesized operand_rank (xs ++ ys) (resolved v c) (resolved-chain xs v ys c first chain);
   chain = chain';
   tail = tail';
 }
@@ -142,7 +142,7 @@ mutual
   front (symbol.Complement ∷ ss) good = signed-front symbol.Complement (Some sign.Complement) ss (operand_at ss) refl (front ss) good
   front (symbol.Open ∷ ss) good =
       let f = operand_at ss in
-      let p = front ss (IsGood-open (resolve f.first f.chain) f.tail good) in
+      let p = front ss (IsGood-open (resolved f.first f.chain) f.tail good) in
       open-front ss p.xs p.ys p.zs f.first f.chain f.tail p.is p.first p.chain p.tail good
   front (symbol.Close ∷ ss) good = absurd good
   front (symbol.Other ∷ ss) good = absurd good
@@ -179,12 +179,12 @@ mutual
 IsTail-end : (zs : List Symbol) → IsTail zs End → zs ≡ []
 IsTail-end _ over = refl
 
-whole : (ss : List Symbol) (a : Value) (c : Chain) (t : Tail) (v : ℤ) → (IsGood t → IsFront ss (record { first = a; chain = c; tail = t })) → at_end (resolve a c) t ≡ Some v → HasValue 1 ss (Some v)
+whole : (ss : List Symbol) (a : Value) (c : Chain) (t : Tail) (v : ℤ) → (IsGood t → IsFront ss (record { first = a; chain = c; tail = t })) → at_end (resolved a c) t ≡ Some v → HasValue 1 ss (Some v)
 whole ss a c End v read e =
     let p = read (tt {0}) in
     let is : ss ≡ p.xs ++ p.ys = p.is ∙ ap (λ l. p.xs ++ (p.ys ++ l)) (IsTail-end p.zs p.tail) ∙ ap (λ l. p.xs ++ l) (append-nil p.ys) in
     subst (λ (l : List Symbol). HasValue 1 l (Some v)) (sym is)
-    (subst (λ (w : Value). HasValue 1 (p.xs ++ p.ys) w) e (resolve-chain p.xs a p.ys c p.first p.chain))
+    (subst (λ (w : Value). HasValue 1 (p.xs ++ p.ys) w) e (resolved-chain p.xs a p.ys c p.first p.chain))
 whole ss a c (Closed d t) v read e = cc
 whole ss a c Bad v read e = cc
 

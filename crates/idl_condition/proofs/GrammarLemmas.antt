@@ -2,7 +2,7 @@
 use Rattle.std.proofs.Common.{◌≡◌, ℕ, suc, ◌<◌, ◌≤◌, List, [], ◌∷◌, ◌++◌, refl, sym, ◌∙◌, ap, arith, append_assoc, append-nil}
 use Rattle.std.specs.Bool.{⊤}
 use Rattle.idl_condition.specs.Arithmetic.{Value}
-use Rattle.idl_condition.specs.Operator.{rank, highest_rank, apply, apply_sign}
+use Rattle.idl_condition.specs.Operator.{rank, highest_rank, application, sign_application}
 use Rattle.idl_condition.specs.Condition.{Chain, sign_of, operand_at, operator_at, condition}
 use Rattle.idl_condition.specs.Grammar.{operand_rank, HasValue, number, name, parenthesized, prefixed, infixed}
 use Rattle.idl_condition.specs.Waiting.{meaning_at, IsAbove, IsBelow}
@@ -68,12 +68,12 @@ IsBelow-operator : (o : Operator) (ss : List Symbol) → IsBelow (operator_at (s
 unfolding operand_at
 IsBelow-operator o ss = omega arith
 
-meaning_at-prefix : (es : List Entry) (s : Sign) (v : Value) (ss : List Symbol) → meaning_at (AfterOperand v) (Prefix s ∷ es) ss ≡ meaning_at (AfterOperand (apply_sign s v)) es ss
+meaning_at-prefix : (es : List Entry) (s : Sign) (v : Value) (ss : List Symbol) → meaning_at (AfterOperand v) (Prefix s ∷ es) ss ≡ meaning_at (AfterOperand (sign_application s v)) es ss
 unfolding meaning_at
 meaning_at-prefix es s v ss = sym (meaning-prefix es s v (operator_at ss).chain (operator_at ss).tail)
 
 meaning_at-infix : (es : List Entry) (a : Value) (o : Operator) (b : Value) (ss : List Symbol) → IsAbove es (rank o) → IsBelow (operator_at ss).chain (rank o) →
-    meaning_at (AfterOperand b) (Infix a o ∷ es) ss ≡ meaning_at (AfterOperand (apply o a b)) es ss
+    meaning_at (AfterOperand b) (Infix a o ∷ es) ss ≡ meaning_at (AfterOperand (application o a b)) es ss
 unfolding meaning_at
 meaning_at-infix es a o b ss above below = sym (meaning-infix es a o b (operator_at ss).chain (operator_at ss).tail (HasRank-all o) above below)
 

@@ -1,8 +1,8 @@
 -- What the entries stand for, before and after a step of the reading.
 use Rattle.std.proofs.Common.{◌≡◌, ◌≢◌, ℕ, ◌<◌, ◌≤◌, List, [], ◌∷◌, ◌++◌, None, Some, pos, refl, sym, ◌∙◌, ap, arith}
 use Rattle.idl_condition.specs.Arithmetic.{Value, checked}
-use Rattle.idl_condition.specs.Operator.{rank, apply, apply_sign}
-use Rattle.idl_condition.specs.Condition.{Chain, Tail, End, Closed, Bad, Front, resolve, after_open, at_end, operand_at, operator_at, sign_of, signed, condition}
+use Rattle.idl_condition.specs.Operator.{rank, application, sign_application}
+use Rattle.idl_condition.specs.Condition.{Chain, Tail, End, Closed, Bad, Front, resolved, after_open, at_end, operand_at, operator_at, sign_of, signed, condition}
 use Rattle.idl_condition.specs.Waiting.{meaning, meaning_at, IsAbove, IsBelow, IsComplete}
 use Rattle.idl_condition.specs.declared.condition.Place.{Place}
 use Rattle.idl_condition.specs.declared.condition.Place.TheVariants.{BeforeOperand, AfterOperand, Nowhere}
@@ -12,33 +12,33 @@ use Rattle.idl_condition.specs.declared.stack.Entry.{Entry}
 use Rattle.idl_condition.specs.declared.stack.Entry.TheVariants.{Infix, Prefix, Parenthesis}
 use Rattle.idl_condition.specs.declared.symbol.Symbol.{Symbol}
 use Rattle.idl_condition.specs.declared.symbol.Symbol.TheVariants as symbol
-use Rattle.idl_condition.proofs.ChainLemmas.{HasRank, resolve-first, resolve-behind}
+use Rattle.idl_condition.proofs.ChainLemmas.{HasRank, resolved-first, resolved-behind}
 
 -- ---- entries that are taken away
 
 meaning-behind : (es : List Entry) (x : Value) (front : Chain) (q : Operator) (a : Value) (o : Operator) (v : Value) (ps : Chain) (t : Tail) → HasRank o → rank q < rank o → IsBelow ps (rank o) →
-    meaning es x (front ++ (q, a) ∷ (o, v) ∷ ps) t ≡ meaning es x (front ++ (q, apply o a v) ∷ ps) t
+    meaning es x (front ++ (q, a) ∷ (o, v) ∷ ps) t ≡ meaning es x (front ++ (q, application o a v) ∷ ps) t
 unfolding meaning
-meaning-behind [] x front q a o v ps t ranked lower below = ap (λ w. at_end w t) (resolve-behind x front q a o v ps ranked lower below)
+meaning-behind [] x front q a o v ps t ranked lower below = ap (λ w. at_end w t) (resolved-behind x front q a o v ps ranked lower below)
 meaning-behind (Infix b p ∷ es) x front q a o v ps t ranked lower below = meaning-behind es b ((p, x) ∷ front) q a o v ps t ranked lower below
-meaning-behind (Prefix s ∷ es) x front q a o v ps t ranked lower below = meaning-behind es (apply_sign s x) front q a o v ps t ranked lower below
+meaning-behind (Prefix s ∷ es) x front q a o v ps t ranked lower below = meaning-behind es (sign_application s x) front q a o v ps t ranked lower below
 meaning-behind (Parenthesis ∷ es) x front q a o v ps End ranked lower below = refl
-meaning-behind (Parenthesis ∷ es) x front q a o v ps (Closed d t) ranked lower below = ap (λ w. meaning es w d t) (resolve-behind x front q a o v ps ranked lower below)
+meaning-behind (Parenthesis ∷ es) x front q a o v ps (Closed d t) ranked lower below = ap (λ w. meaning es w d t) (resolved-behind x front q a o v ps ranked lower below)
 meaning-behind (Parenthesis ∷ es) x front q a o v ps Bad ranked lower below = refl
 
 -- an operator that waits gets its right operand
 pub meaning-infix : (es : List Entry) (a : Value) (o : Operator) (v : Value) (ps : Chain) (t : Tail) → HasRank o → IsAbove es (rank o) → IsBelow ps (rank o) →
-    meaning es (apply o a v) ps t ≡ meaning (Infix a o ∷ es) v ps t
+    meaning es (application o a v) ps t ≡ meaning (Infix a o ∷ es) v ps t
 unfolding meaning
-meaning-infix [] a o v ps t ranked above below = ap (λ w. at_end w t) (sym (resolve-first a o v ps ranked below))
+meaning-infix [] a o v ps t ranked above below = ap (λ w. at_end w t) (sym (resolved-first a o v ps ranked below))
 meaning-infix (Infix b q ∷ es) a o v ps t ranked above below = sym (meaning-behind es b [] q a o v ps t ranked above below)
 meaning-infix (Prefix s ∷ es) a o v ps t ranked above below = absurd above
 meaning-infix (Parenthesis ∷ es) a o v ps End ranked above below = refl
-meaning-infix (Parenthesis ∷ es) a o v ps (Closed d t) ranked above below = ap (λ w. meaning es w d t) (sym (resolve-first a o v ps ranked below))
+meaning-infix (Parenthesis ∷ es) a o v ps (Closed d t) ranked above below = ap (λ w. meaning es w d t) (sym (resolved-first a o v ps ranked below))
 meaning-infix (Parenthesis ∷ es) a o v ps Bad ranked above below = refl
 
 -- a sign that waits gets its operand
-pub meaning-prefix : (es : List Entry) (s : Sign) (v : Value) (c : Chain) (t : Tail) → meaning es (apply_sign s v) c t ≡ meaning (Prefix s ∷ es) v c t
+pub meaning-prefix : (es : List Entry) (s : Sign) (v : Value) (c : Chain) (t : Tail) → meaning es (sign_application s v) c t ≡ meaning (Prefix s ∷ es) v c t
 unfolding meaning
 meaning-prefix es s v c t = refl
 
@@ -64,7 +64,7 @@ meaning-bad : (es : List Entry) (v : Value) (c : Chain) → meaning es v c Bad �
 unfolding meaning
 meaning-bad [] v c = refl
 meaning-bad (Infix a o ∷ es) v c = meaning-bad es a ((o, v) ∷ c)
-meaning-bad (Prefix s ∷ es) v c = meaning-bad es (apply_sign s v) c
+meaning-bad (Prefix s ∷ es) v c = meaning-bad es (sign_application s v) c
 meaning-bad (Parenthesis ∷ es) v c = refl
 
 pub meaning_at-operand : (es es' : List Entry) (v w : Value) (ss : List Symbol) → ((c : Chain) (t : Tail) → meaning es' w c t ≡ meaning es v c t) →
@@ -81,7 +81,7 @@ unfolding meaning_at operand_at
 meaning_at-name es ss = refl
 
 open-tail : (es : List Entry) (v : Value) (c : Chain) (t : Tail) →
-    meaning (Parenthesis ∷ es) v c t ≡ meaning es (after_open (resolve v c) t).first (after_open (resolve v c) t).chain (after_open (resolve v c) t).tail
+    meaning (Parenthesis ∷ es) v c t ≡ meaning es (after_open (resolved v c) t).first (after_open (resolved v c) t).chain (after_open (resolved v c) t).tail
 unfolding meaning
 open-tail es v c End = sym (meaning-bad es None [])
 open-tail es v c (Closed d t) = refl
@@ -139,7 +139,7 @@ meaning_at-close-settled es es' v w ss same = same [] (Closed (operator_at ss).c
 -- the parenthesis that is closed
 pub meaning_at-close : (es below : List Entry) (v w : Value) (ss : List Symbol) → SettlesTo es v (Parenthesis ∷ below) w →
     meaning_at (AfterOperand w) below ss ≡ meaning_at (AfterOperand v) es (symbol.Close ∷ ss)
-unfolding meaning_at meaning resolve
+unfolding meaning_at meaning resolved
 meaning_at-close es below v w ss same = meaning_at-close-settled es (Parenthesis ∷ below) v w ss same
 
 -- a parenthesis is closed that was not opened
@@ -184,7 +184,7 @@ meaning_at-end-settled es es' v w same = same [] End (tt {0})
 
 pub meaning_at-end-closed : (es : List Entry) (v w : Value) → SettlesTo es v [] w →
     w ≡ meaning_at (AfterOperand v) es []
-unfolding meaning resolve
+unfolding meaning resolved
 meaning_at-end-closed es v w same = meaning_at-end-settled es [] v w same
 
 -- what still waits where all operators are settled is a parenthesis

@@ -1,7 +1,7 @@
 -- The value of a condition, as a list of symbols.
 use Rattle.std.specs.Prelude.{ℕ, zero, suc, List, [], ◌∷◌, nat_eq, if◌then◌else◌, Option, None, Some, pos}
 use Rattle.idl_condition.specs.Arithmetic.{Value, checked}
-use Rattle.idl_condition.specs.Operator.{rank, highest_rank, apply, apply_sign}
+use Rattle.idl_condition.specs.Operator.{rank, highest_rank, application, sign_application}
 use Rattle.idl_condition.specs.declared.operator.Operator.{Operator}
 use Rattle.idl_condition.specs.declared.operator.Operator.TheVariants as op
 use Rattle.idl_condition.specs.declared.operator.Sign.{Sign}
@@ -14,20 +14,20 @@ abbrev pub Chain : Type 0
 Chain = List (Operator × Value)
 
 -- From the left, each operator of this rank is replaced, with its two operands, by its value.
-abbrev pub merge : ℕ → Value → Chain → Value × Chain
-merge r a [] = (a, [])
-merge r a (p ∷ ps) =
-    if nat_eq (rank p.0) r then merge r (apply p.0 a p.1) ps
-    else (a, (p.0, (merge r p.1 ps).0) ∷ (merge r p.1 ps).1)
+abbrev pub merged : ℕ → Value → Chain → Value × Chain
+merged r a [] = (a, [])
+merged r a (p ∷ ps) =
+    if nat_eq (rank p.0) r then merged r (application p.0 a p.1) ps
+    else (a, (p.0, (merged r p.1 ps).0) ∷ (merged r p.1 ps).1)
 
 -- first those of this rank, then those of the next lower one, and so on
 abbrev pub levels : ℕ → Value × Chain → Value × Chain
 levels zero c = c
-levels (suc r) c = levels r (merge (suc r) c.0 c.1)
+levels (suc r) c = levels r (merged (suc r) c.0 c.1)
 
 -- the value of an operand and of the chain after it
-unfoldable pub resolve : Value → Chain → Value
-resolve a ps = (levels highest_rank (a, ps)).0
+unfoldable pub resolved : Value → Chain → Value
+resolved a ps = (levels highest_rank (a, ps)).0
 
 -- what follows a chain: the end, a closing parenthesis with what follows that one, or what no condition has
 pub data Tail : Type 0 where
@@ -79,7 +79,7 @@ sign_of _ = None
 
 abbrev pub signed : Option Sign → Front → Front
 signed None front = bad_front
-signed (Some s) front = record { first = apply_sign s front.first; chain = front.chain; tail = front.tail }
+signed (Some s) front = record { first = sign_application s front.first; chain = front.chain; tail = front.tail }
 
 unfoldable mutual
   -- the symbols from an operand on
@@ -90,7 +90,7 @@ unfoldable mutual
   operand_at (symbol.Operator o ∷ ss) = signed (sign_of_operator o) (operand_at ss)
   operand_at (symbol.Not ∷ ss) = signed (Some sign.Not) (operand_at ss)
   operand_at (symbol.Complement ∷ ss) = signed (Some sign.Complement) (operand_at ss)
-  operand_at (symbol.Open ∷ ss) = after_open (resolve (operand_at ss).first (operand_at ss).chain) (operand_at ss).tail
+  operand_at (symbol.Open ∷ ss) = after_open (resolved (operand_at ss).first (operand_at ss).chain) (operand_at ss).tail
   operand_at (symbol.Close ∷ ss) = bad_front
   operand_at (symbol.Other ∷ ss) = bad_front
 
@@ -113,4 +113,4 @@ at_end v Bad = None
 
 -- the value of a condition, or nothing where it is faulty
 unfoldable pub condition : List Symbol → Value
-condition ss = at_end (resolve (operand_at ss).first (operand_at ss).chain) (operand_at ss).tail
+condition ss = at_end (resolved (operand_at ss).first (operand_at ss).chain) (operand_at ss).tail

@@ -1,7 +1,7 @@
 -- The expressions of C that a condition may be, with their values (C 2011, 6.5.1, 6.5.3.3 and 6.5.5 to 6.5.14).
 use Rattle.std.specs.Prelude.{◌≡◌, ℕ, suc, ◌≤◌, List, [], ◌∷◌, ◌++◌, Some, pos}
 use Rattle.idl_condition.specs.Arithmetic.{Value, checked}
-use Rattle.idl_condition.specs.Operator.{rank, highest_rank, apply, apply_sign}
+use Rattle.idl_condition.specs.Operator.{rank, highest_rank, application, sign_application}
 use Rattle.idl_condition.specs.Condition.{sign_of}
 use Rattle.idl_condition.specs.declared.operator.Operator.{Operator}
 use Rattle.idl_condition.specs.declared.operator.Sign.{Sign}
@@ -20,7 +20,7 @@ pub data HasValue : ℕ → List Symbol → Value → Type 0 where
   parenthesized : (r : ℕ) (ss : List Symbol) (v : Value) → HasValue 1 ss v
       → HasValue r (symbol.Open ∷ (ss ++ symbol.Close ∷ [])) v
   prefixed : (r : ℕ) (k : Symbol) (s : Sign) (ss : List Symbol) (v : Value) → sign_of k ≡ Some s → HasValue operand_rank ss v
-      → HasValue r (k ∷ ss) (apply_sign s v)
+      → HasValue r (k ∷ ss) (sign_application s v)
   infixed : (r : ℕ) (o : Operator) (ls rs : List Symbol) (a b : Value) → r ≤ rank o
       → HasValue (rank o) ls a → HasValue (suc (rank o)) rs b
-      → HasValue r (ls ++ symbol.Operator o ∷ rs) (apply o a b)
+      → HasValue r (ls ++ symbol.Operator o ∷ rs) (application o a b)

@@ -33,25 +33,25 @@ abbrev pub highest_rank : ℕ
 highest_rank = 10
 
 -- the value at two numbers; bits are those of two's complement
-abbrev pub operate : Operator → ℤ → ℤ → Value
-operate op.Multiply a b = checked (a *ℤ b)
-operate op.Divide a b = divided a b
-operate op.Remainder a b = remaining a b
-operate op.Add a b = checked (a +ℤ b)
-operate op.Subtract a b = checked (a -ℤ b)
-operate op.ShiftLeft a b = shifted_left a b
-operate op.ShiftRight a b = shifted_right a b
-operate op.Less a b = truth (int_lt a b)
-operate op.LessOrEqual a b = truth (not (int_lt b a))
-operate op.Greater a b = truth (int_lt b a)
-operate op.GreaterOrEqual a b = truth (not (int_lt a b))
-operate op.Equal a b = truth (int_eq a b)
-operate op.NotEqual a b = truth (not (int_eq a b))
-operate op.BitAnd a b = Some (int_bit_and w64 a b)
-operate op.BitXor a b = Some (int_bit_xor w64 a b)
-operate op.BitOr a b = Some (int_bit_or w64 a b)
-operate op.And a b = truth (not (is_zero a) && not (is_zero b))
-operate op.Or a b = truth (not (is_zero a && is_zero b))
+abbrev pub operation : Operator → ℤ → ℤ → Value
+operation op.Multiply a b = checked (a *ℤ b)
+operation op.Divide a b = divided a b
+operation op.Remainder a b = remaining a b
+operation op.Add a b = checked (a +ℤ b)
+operation op.Subtract a b = checked (a -ℤ b)
+operation op.ShiftLeft a b = shifted_left a b
+operation op.ShiftRight a b = shifted_right a b
+operation op.Less a b = truth (int_lt a b)
+operation op.LessOrEqual a b = truth (not (int_lt b a))
+operation op.Greater a b = truth (int_lt b a)
+operation op.GreaterOrEqual a b = truth (not (int_lt a b))
+operation op.Equal a b = truth (int_eq a b)
+operation op.NotEqual a b = truth (not (int_eq a b))
+operation op.BitAnd a b = Some (int_bit_and w64 a b)
+operation op.BitXor a b = Some (int_bit_xor w64 a b)
+operation op.BitOr a b = Some (int_bit_or w64 a b)
+operation op.And a b = truth (not (is_zero a) && not (is_zero b))
+operation op.Or a b = truth (not (is_zero a && is_zero b))
 
 -- what the left operand decides alone: the right one is not needed
 abbrev pub decided : Operator → ℤ → Value
@@ -60,15 +60,15 @@ decided op.Or a = if is_zero a then None else truth true
 decided _ a = None
 
 -- a faulty right operand counts only where it is needed
-abbrev pub apply : Operator → Value → Value → Value
-apply o None right = None
-apply o (Some a) None = decided o a
-apply o (Some a) (Some b) = operate o a b
+abbrev pub application : Operator → Value → Value → Value
+application o None right = None
+application o (Some a) None = decided o a
+application o (Some a) (Some b) = operation o a b
 
 -- the value of an operator before its operand
-abbrev pub apply_sign : Sign → Value → Value
-apply_sign s None = None
-apply_sign sign.Not (Some a) = truth (is_zero a)
-apply_sign sign.Complement (Some a) = Some (int_bit_not w64 a)
-apply_sign sign.Minus (Some a) = checked (neg_ℤ a)
-apply_sign sign.Plus (Some a) = Some a
+abbrev pub sign_application : Sign → Value → Value
+sign_application s None = None
+sign_application sign.Not (Some a) = truth (is_zero a)
+sign_application sign.Complement (Some a) = Some (int_bit_not w64 a)
+sign_application sign.Minus (Some a) = checked (neg_ℤ a)
+sign_application sign.Plus (Some a) = Some a

@@ -1,8 +1,8 @@
 -- What entries that wait for an operand stand for, the last that came first.
 use Rattle.std.specs.Prelude.{ℕ, ◌<◌, ◌≤◌, List, [], ◌∷◌, None, ⊤}
 use Rattle.idl_condition.specs.Arithmetic.{Value}
-use Rattle.idl_condition.specs.Operator.{rank, apply_sign}
-use Rattle.idl_condition.specs.Condition.{Chain, Tail, End, Closed, Bad, resolve, at_end, operand_at, operator_at}
+use Rattle.idl_condition.specs.Operator.{rank, sign_application}
+use Rattle.idl_condition.specs.Condition.{Chain, Tail, End, Closed, Bad, resolved, at_end, operand_at, operator_at}
 use Rattle.idl_condition.specs.declared.condition.Place.{Place}
 use Rattle.idl_condition.specs.declared.condition.Place.TheVariants.{BeforeOperand, AfterOperand, Nowhere}
 use Rattle.idl_condition.specs.declared.stack.Entry.{Entry}
@@ -11,11 +11,11 @@ use Rattle.idl_condition.specs.declared.symbol.Symbol.{Symbol}
 
 -- the value of the whole, where an operand with its chain and what follows come after these entries
 unfoldable pub meaning : List Entry → Value → Chain → Tail → Value
-meaning [] v c t = at_end (resolve v c) t
+meaning [] v c t = at_end (resolved v c) t
 meaning (Infix a o ∷ es) v c t = meaning es a ((o, v) ∷ c) t
-meaning (Prefix s ∷ es) v c t = meaning es (apply_sign s v) c t
+meaning (Prefix s ∷ es) v c t = meaning es (sign_application s v) c t
 meaning (Parenthesis ∷ es) v c End = None
-meaning (Parenthesis ∷ es) v c (Closed d t) = meaning es (resolve v c) d t
+meaning (Parenthesis ∷ es) v c (Closed d t) = meaning es (resolved v c) d t
 meaning (Parenthesis ∷ es) v c Bad = None
 
 -- the value of the whole, where these entries wait and these symbols follow

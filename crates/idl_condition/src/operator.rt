@@ -1,7 +1,7 @@
 //! The operators of a condition, with their ranks and their values.
 
 ghost use Rattle.std.specs.Prelude.{◌≡◌, ◌≤◌};
-ghost use Rattle.idl_condition.specs.Operator.{rank, highest_rank, operate, decided, apply, apply_sign};
+ghost use Rattle.idl_condition.specs.Operator.{rank, highest_rank, operation, decided, application, sign_application};
 
 use crate::arithmetic::{divide, remain, shift_left, shift_right, truth};
 
@@ -83,7 +83,7 @@ impl Operator {
 
     /// The value at two operands of which either may be faulty: a faulty right one counts only where it is needed.
     pub(crate) fn apply(self, left: Option<i64>, right: Option<i64>) -> Option<i64>
-        ensures { result ≡ apply self left right }
+        ensures { result ≡ application self left right }
     {
         let a = left?;
         match right {
@@ -94,7 +94,7 @@ impl Operator {
 
     // The value at two numbers.
     fn operate(self, a: i64, b: i64) -> Option<i64>
-        ensures { result ≡ operate self a b }
+        ensures { result ≡ operation self a b }
     {
         match self {
             Operator::Multiply => a.checked_mul(b),
@@ -133,7 +133,7 @@ impl Operator {
 impl Sign {
     /// The value at an operand that may be faulty.
     pub(crate) fn apply(self, operand: Option<i64>) -> Option<i64>
-        ensures { result ≡ apply_sign self operand }
+        ensures { result ≡ sign_application self operand }
     {
         let a = operand?;
         match self {
