@@ -45,6 +45,19 @@ module _ {K V : Type 0} (eq : K → K → Bool) (exact : (x y : K) → Decides (
       by true t rest = absurd (nowhere 0 (ap Some (sym ((exact k e.0).0 t))))
       by false t rest = ap (λ b. cond b (Some e.1) (lookup (eq k) es)) t ∙ rest
 
+  -- a key without a value stands nowhere
+  pub nowhere-lookup : (es : List (K × V)) (k : K) → lookup (eq k) es ≡ None → (j : ℕ) → slice_get (keys_of es) j ≢ Some k
+  nowhere-lookup [] k none j at = cc
+  nowhere-lookup (e ∷ es) k none zero at =
+      let here : eq k e.0 ≡ true = (exact k e.0).1 (sym (same_Some e.0 k at)) in
+      let some : Some e.1 ≡ None = sym (ap (λ b. cond b (Some e.1) (lookup (eq k) es)) here) ∙ none in
+      cc
+  nowhere-lookup (e ∷ es) k none (suc j) at = by (eq k e.0) refl (λ later. nowhere-lookup es k later j at)
+    where
+      by : (b : Bool) → eq k e.0 ≡ b → (lookup (eq k) es ≡ None → ⊥) → ⊥
+      by true t rest = let some : Some e.1 ≡ None = sym (ap (λ b. cond b (Some e.1) (lookup (eq k) es)) t) ∙ none in cc
+      by false t rest = rest (sym (ap (λ b. cond b (Some e.1) (lookup (eq k) es)) t) ∙ none)
+
   -- a put at a key that stands at one place alone
   pub insert_entry-at : (es : List (K × V)) (k : K) (v : V) (i : ℕ) → ((j : ℕ) → slice_get (keys_of es) j ≡ Some k → j ≡ i) → slice_get (keys_of es) i ≡ Some k
       → insert_entry eq es k v ≡ slice_set es i (k, v)

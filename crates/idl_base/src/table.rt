@@ -103,6 +103,17 @@ impl<K: Datum + Ord, V: Drop> Table<K, V> {
             entry.1 = value;
             return Ok(());
         }
+        self.push(key, value)
+    }
+
+    /// Puts an entry in at a new key, as the last: one search of the index, where `insert` makes two.
+    ///
+    /// Want of memory leaves the table as it was.
+    pub fn push(&mut self, key: K, value: V) -> Result<(), AllocError>
+        requires { is_some (lookup (K.eq key) self.old) ≡ false }
+        ensures entries { OnOk result (self.new ≡ self.old ++ (key, value) ∷ []) }
+        ensures err { OnErr result (self.new ≡ self.old) }
+    {
         let place = self.entries.len();
         let copy = key.clone()?;
         self.entries.reserve(1)?;

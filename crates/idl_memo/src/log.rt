@@ -74,7 +74,7 @@ impl<B: Bank> Log<B> {
             return Ok(answer);
         }
         let copy = copied(answer)?;
-        self.entries.insert(key.clone()?, copy)?;
+        self.entries.push(key.clone()?, copy)?;
         Ok(answer)
     }
 }

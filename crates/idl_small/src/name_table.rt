@@ -45,7 +45,6 @@ impl NameTable {
         requires { list_any (λ name. bytes_eq folded name) self.old ≡ false }
         ensures { OnOk result (self.new ≡ self.old ++ folded ∷ []) }
     {
-        self.names.insert(folded, ())?;
-        Ok(())
+        self.names.push(folded, ())
     }
 }

@@ -1,4 +1,5 @@
 pub mod BankLemmas
 pub mod FileLemmas
+pub mod FormLemmas
 pub mod LimitLemmas
 pub mod RootLemmas

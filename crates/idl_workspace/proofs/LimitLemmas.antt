@@ -23,7 +23,7 @@ use Rattle.idl_workspace.specs.WithinLimits.{IsAllowedFile, IsWithinLimits}
 use Rattle.idl_macro.specs.Words.{is_macro_word}
 
 -- what was made of an accepted part
-accepted : {X : Type 0} (f : X → Project) (r : Result X Refusal) (new : Project) → result_map f r ≡ Ok new → (x : X) × (r ≡ Ok x) × (f x ≡ new)
+pub accepted : {X : Type 0} (f : X → Project) (r : Result X Refusal) (new : Project) → result_map f r ≡ Ok new → (x : X) × (r ≡ Ok x) × (f x ≡ new)
 accepted f (Ok x) new e = (x, refl, cc)
 accepted f (Err refusal) new e = absurd (cc)
 

@@ -23,12 +23,6 @@ bank_of inputs key.Search = Some (answer.Search inputs.search)
 unfoldable pub bank_with : (Key → Option Answer) → Key → Option Answer → Key → Option Answer
 bank_with bank at answer k = if key_eq at k then answer else bank k
 
--- the directories of an answer about the search list
-abbrev pub directories_of : Answer → List (List ℕ)
-directories_of (answer.Macro text) = []
-directories_of (answer.File text) = []
-directories_of (answer.Search directories) = directories
-
 -- no file but the one of this name is another
 abbrev pub IsSameBeside : List ℕ → Texts → Texts → Type 0
 IsSameBeside name old new = (other : List ℕ) → bytes_eq name other ≡ false → map.get new other ≡ map.get old other

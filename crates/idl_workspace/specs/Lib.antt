@@ -4,5 +4,6 @@ pub mod Edited
 pub mod Edits
 pub mod Project
 pub mod UpToDate
+pub mod WellFormed
 pub mod WithinLimits
 pub mod Work

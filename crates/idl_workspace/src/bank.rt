@@ -8,7 +8,7 @@ ghost use Rattle.std.specs.Str.{bytes_eq};
 ghost use Rattle.indexmap.specs.IndexMap.{insert_entry};
 ghost use Rattle.idl_event.specs.declared.key.Answer.TheVariants as answers;
 ghost use Rattle.idl_event.specs.declared.key.Key.TheVariants as keys;
-ghost use Rattle.idl_workspace.specs.Bank.{IsSameBeside, bank_of, bank_with, directories_of};
+ghost use Rattle.idl_workspace.specs.Bank.{IsSameBeside, bank_of, bank_with};
 ghost use Rattle.idl_prep.specs.Candidate.{AnswersFrom};
 ghost use Rattle.idl_source.specs.Limits.{most_macros};
 ghost use Rattle.idl_workspace.specs.Project.{Inputs, is_defined, no_inputs};
@@ -33,13 +33,13 @@ pub struct SessionBank {
 }
 
 impl Model for SessionBank {
-    ghost use Rattle.std.specs.Prelude.{◌≡◌, List, ℕ};
+    ghost use Rattle.std.specs.Prelude.{◌≡◌, List, ℕ, Some};
     ghost use Rattle.std.specs.FinMap as finite;
     ghost use Rattle.std.specs.Map.{lookup};
     ghost use Rattle.std.specs.Option.{option_map};
     ghost use Rattle.std.specs.Str.{bytes_eq};
     ghost use Rattle.idl_event.specs.declared.key.Answer.TheVariants as answers;
-    ghost use Rattle.idl_workspace.specs.Bank.{directories_of};
+    ghost use Rattle.idl_prep.specs.Include.{directories_in};
     ghost use Rattle.idl_workspace.specs.Project.{Inputs, inputs_code};
 
     ghost Value = { Inputs };
@@ -49,13 +49,13 @@ impl Model for SessionBank {
     ghost view = { λ bank. record {
       files = bank.files;
       macros = bank.macros.entries;
-      search = directories_of bank.search;
+      search = directories_in (Some bank.search);
     } };
 
     // The texts say what the files say, and the search list is one.
     ghost invariant = { λ bank. ((name : List ℕ) → lookup (bytes_eq name) bank.texts.entries
         ≡ option_map answers.File (finite.get bank.files name))
-        × (bank.search ≡ answers.Search (directories_of bank.search)) };
+        × (bank.search ≡ answers.Search (directories_in (Some bank.search))) };
 }
 
 impl Drop for SessionBank {
@@ -148,8 +148,8 @@ impl SessionBank {
 
     /// Puts another search list in place.
     pub fn set_search(&mut self, search: Answer)
-        requires { search ≡ answers.Search (directories_of search) }
-        ensures set { self.new ≡ record self.old { search = directories_of search } }
+        requires { search ≡ answers.Search (directories_in (Some search)) }
+        ensures set { self.new ≡ record self.old { search = directories_in (Some search) } }
         ensures bank { bank_of self.new ≡ bank_with (bank_of self.old) keys.Search (Some search) }
     {
         self.search = search;
@@ -207,7 +207,7 @@ impl<'a> Bank for EditedBank<'a> {
 }
 
 /// Answers of inputs come from their files and their search list, so that `first_candidate` of `idl_prep` speaks of a session:
-/// there too an include finds what `find` of `idl_source` gives. This does nothing: it carries the law.
+/// there too an include finds the first of its candidates that is present. This does nothing: it carries the law.
 pub fn answers_come_from_inputs()
     ensures { (inputs : Inputs) → AnswersFrom inputs.files inputs.search (bank_of inputs) }
 {}

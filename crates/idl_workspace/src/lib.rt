@@ -17,7 +17,9 @@ mod work;
 pub use bank::answers_come_from_inputs;
 use idl_base::Text;
 pub use idl_source::Span;
-pub use limits::{MAX_BODY, MAX_DIRECTORIES, MAX_MACROS, MAX_ROOTS, edits_keep_limits};
+pub use limits::{
+    MAX_BODY, MAX_DIRECTORIES, MAX_MACROS, MAX_ROOTS, edits_keep_form, edits_keep_limits,
+};
 pub use session::Session;
 pub use work::Work;
 

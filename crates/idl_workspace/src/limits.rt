@@ -3,6 +3,7 @@
 ghost use Rattle.std.specs.Prelude.{◌≡◌, Ok};
 ghost use Rattle.idl_workspace.specs.Edits.{Edit, after};
 ghost use Rattle.idl_workspace.specs.Project.{Project, no_project};
+ghost use Rattle.idl_workspace.specs.WellFormed.{IsWellFormed};
 ghost use Rattle.idl_workspace.specs.WithinLimits.{IsWithinLimits};
 
 /// Macros that a session has at most.
@@ -23,4 +24,12 @@ pub fn edits_keep_limits()
     ensures first { IsWithinLimits no_project }
     ensures kept { (project new : Project) (edit : Edit)
         → IsWithinLimits project → after project edit ≡ Ok new → IsWithinLimits new }
+{}
+
+/// A session begins well-formed, and each edit leaves it so: names, words and directories obey their rules, and macros and
+/// roots stand once. This does nothing: it carries the law.
+pub fn edits_keep_form()
+    ensures first { IsWellFormed no_project }
+    ensures kept { (project new : Project) (edit : Edit)
+        → IsWellFormed project → after project edit ≡ Ok new → IsWellFormed new }
 {}

@@ -1,12 +1,13 @@
-use Rattle.std.proofs.Common.{◌≡◌, ℕ, ◌<◌, [], ◌∷◌, ◌++◌, cond, None, Some, is_some, true≢false, length, slice_get, refl, sym, ap, ◌∙◌, subst, arith}
+use Rattle.std.proofs.lemmas.Result.{on_ok_weaker}
+use Rattle.std.proofs.Common.{◌≡◌, ◌<◌, None, Some, is_some, true≢false, length, slice_get, refl, sym, ap, ◌∙◌, subst, arith}
 use Rattle.std.specs.Prelude.{slice_set}
-use Rattle.std.specs.BTreeMap.{get, is_at}
+use Rattle.std.specs.BTreeMap.{get}
 use Rattle.std.specs.Map.{keys_of, lookup}
 use Rattle.std.proofs.lemmas.Map.Entries.{length-keys_of}
 use Rattle.std.proofs.lemmas.Option.{none-some, same_Some, slice_get_within}
 use Rattle.idl_base.specs.Table.{IsIndexOf}
-use Rattle.idl_base.proofs.Exactness.{Decides-eq, Decides-is_at}
-use Rattle.idl_base.proofs.TableLemmas.{IsIndexOf-nowhere, IsIndexOf-push, insert_entry-at, insert_entry-new, key-at, keys_of-push, keys_of-slice_set, lookup-at, lookup-nowhere}
+use Rattle.idl_base.proofs.Exactness.{Decides-eq}
+use Rattle.idl_base.proofs.TableLemmas.{insert_entry-at, insert_entry-new, key-at, keys_of-slice_set, lookup-at, lookup-nowhere}
 use Rattle.idl_base.proofs.table.Table.insert.Goals as goal
 
 pub index_mut-entry-requires : goal.index_mut-entry-requires
@@ -40,27 +41,17 @@ returns-in-Some-clause-new_key g c absent =
     (λ j h. sym (same_Some place j ((c.in-Some.ensures j).1 h))) ((c.in-Some.ensures place).0 refl) in
     absurd (true≢false (sym (ap is_some there) ∙ absent))
 
-pub invariant_of-self-2 : goal.invariant_of-self-2
-invariant_of-self-2 g c =
-    let cmp = g.K.Ord.cmp in
-    let es = c.self.inside.entries.items in
-    let copy = c.in_ok-copy.copy in
-    let own : copy ≡ c.args.key = g.met.K.Datum.copy c.args.key copy c.in_ok-copy.ensures.cases in
-    let nowhere = λ (j : ℕ) (h : slice_get (keys_of es) j ≡ Some copy). none-some j ((c.in_default.ensures j).1 (ap (λ fs. slice_get (keys_of fs) j) (sym c.self.view_is) ∙ h ∙ ap Some own)) in
-    let ends : length (keys_of es) ≡ c.len-place.result = omega (arith, length-keys_of es, c.len-place.ensures) in
-    let grown : c.push.new.self.items ≡ es ++ (c.args.key, c.args.value) ∷ [] = c.in_ok-push.ensures.items ∙ ap (λ fs. fs ++ (c.args.key, c.args.value) ∷ []) c.in_ok-reserve.ensures.items in
-    let keys : keys_of es ++ copy ∷ [] ≡ keys_of c.push.new.self.items = ap (λ k. keys_of es ++ k ∷ []) own ∙ sym (keys_of-push es c.args.key c.args.value) ∙ ap keys_of (sym grown) in
-    subst (IsIndexOf (get cmp c.insert.new.self)) keys
-    (IsIndexOf-push (is_at (cmp copy)) copy (Decides-is_at g.K.PartialEq.eq g.met.K.Eq.laws g.met.K.Datum.same cmp g.met.K.Ord.matches_eq copy)
-    (get cmp c.self.inside.places) (get cmp c.insert.new.self) (keys_of es) c.self.invariant
-    (IsIndexOf-nowhere (get cmp c.self.inside.places) (keys_of es) copy c.self.invariant nowhere)
-    (λ q. c.in_ok-insert.ensures.updates.0 q ∙ ap (λ n. cond (is_at (cmp copy) q) (Some n) (get cmp c.self.inside.places q)) (sym ends)))
+pub push-requires : goal.push-requires
+push-requires g c =
+    let exact = Decides-eq g.K.PartialEq.eq g.met.K.Eq.laws g.met.K.Datum.same in
+    ap is_some (lookup-nowhere g.K.PartialEq.eq exact c.args.self.now c.args.key (λ j h. none-some j ((c.in_default.ensures j).1 h)))
 
 pub returns-clause-entries : goal.returns-clause-entries
 returns-clause-entries g c =
     let exact = Decides-eq g.K.PartialEq.eq g.met.K.Eq.laws g.met.K.Datum.same in
     let es = c.args.self.now in
     let absent : lookup (g.K.PartialEq.eq c.args.key) es ≡ None = lookup-nowhere g.K.PartialEq.eq exact es c.args.key (λ j h. none-some j ((c.in_default.ensures j).1 h)) in
-    c.in_ok-push.ensures.items
-    ∙ ap (λ fs. fs ++ (c.args.key, c.args.value) ∷ []) (c.in_ok-reserve.ensures.items ∙ c.self.view_is)
-    ∙ sym (insert_entry-new g.K.PartialEq.eq exact es c.args.key c.args.value absent)
+    on_ok_weaker c.push.result (λ put. put ∙ sym (insert_entry-new g.K.PartialEq.eq exact es c.args.key c.args.value absent)) c.push.ensures.entries
+
+pub returns-clause-new_key : goal.returns-clause-new_key
+returns-clause-new_key g c = on_ok_weaker c.push.result (λ put absent. put) c.push.ensures.entries

@@ -1,11 +1,12 @@
-use Rattle.std.proofs.Common.{◌≡◌, ◌∙◌, List, ℕ, Option, sym, ap}
+use Rattle.std.proofs.Common.{◌≡◌, ◌∙◌, List, ℕ, Option, Some, sym, ap}
 use Rattle.std.specs.FinMap as finite
 use Rattle.std.specs.Option.{option_map}
 use Rattle.idl_event.specs.declared.key.Answer.{Answer}
 use Rattle.idl_event.specs.declared.key.Answer.TheVariants as answers
 use Rattle.idl_event.specs.declared.key.Key.TheVariants as keys
 use Rattle.idl_source.specs.Texts.{Texts}
-use Rattle.idl_workspace.specs.Bank.{IsSameBeside, bank_of, bank_with, directories_of}
+use Rattle.idl_prep.specs.Include.{directories_in}
+use Rattle.idl_workspace.specs.Bank.{IsSameBeside, bank_of, bank_with}
 use Rattle.idl_workspace.specs.Project.{Inputs}
 use Rattle.idl_workspace.proofs.BankLemmas.{files-changed}
 use Rattle.idl_workspace.proofs.bank.SessionBank.set_files.Goals as goal
@@ -20,10 +21,10 @@ held inputs now files name a same beside is =
 
 pub returns-in_ok-insert-in-Some-clause-bank : goal.returns-in_ok-insert-in-Some-clause-bank
 returns-in_ok-insert-in-Some-clause-bank c =
-    held (record { files = c.self.inside.files; macros = c.self.inside.macros.entries; search = directories_of c.self.inside.search }) c.args.self.now
+    held (record { files = c.self.inside.files; macros = c.self.inside.macros.entries; search = directories_in (Some c.self.inside.search) }) c.args.self.now
     c.args.files c.args.name c.args.answer c.self.view_is c.requires.beside c.requires.answers
 
 pub returns-in-None-clause-bank : goal.returns-in-None-clause-bank
 returns-in-None-clause-bank c =
-    held (record { files = c.self.inside.files; macros = c.self.inside.macros.entries; search = directories_of c.self.inside.search }) c.args.self.now
+    held (record { files = c.self.inside.files; macros = c.self.inside.macros.entries; search = directories_in (Some c.self.inside.search) }) c.args.self.now
     c.args.files c.args.name c.args.answer c.self.view_is c.requires.beside c.requires.answers
