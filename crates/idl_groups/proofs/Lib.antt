@@ -1,0 +1,5 @@
+pub mod KindLemmas
+pub mod MatchedLemmas
+pub mod MatchingLemmas
+pub mod TreeLawLemmas
+pub mod TreeLemmas
