@@ -16,9 +16,9 @@ use Rattle.idl_event.specs.declared.key.Key.TheVariants as key
 use Rattle.idl_prep.specs.Directive.{Enter}
 use Rattle.idl_prep.specs.Include.{file_in}
 use Rattle.idl_prep.specs.Limits.{depth_at_most}
-use Rattle.idl_prep.specs.Line.{lines_in}
+use Rattle.idl_groups.specs.Line.{lines_in}
 use Rattle.idl_prep.specs.State.{State, nothing_said}
-use Rattle.idl_prep.specs.Tree.{tree}
+use Rattle.idl_groups.specs.Tree.{tree}
 use Rattle.idl_prep.specs.Walk.{walk}
 
 -- a file of these lines

@@ -14,7 +14,7 @@ ghost use Rattle.idl_event.specs.declared.event.Event.TheVariants.{Fault};
 ghost use Rattle.idl_event.specs.declared.key.Key.TheVariants.{File};
 ghost use Rattle.idl_event.specs.declared.event.Item.TheVariants.{Kept, Turn};
 ghost use Rattle.idl_event.specs.Expanding.{arrival, arrived};
-ghost use Rattle.idl_prep.specs.Line.{place_in};
+ghost use Rattle.idl_prep.specs.Place.{place_in};
 ghost use Rattle.idl_prep.specs.State.{ended, nothing_said, onward, telling};
 ghost use Rattle.idl_prep.specs.Include.{file_in, file_of, operand_of};
 ghost use Rattle.idl_prep.specs.Directive.{redefined, test};
@@ -22,7 +22,7 @@ ghost use Rattle.idl_memo.specs.Query.{and_then};
 ghost use Rattle.idl_macro.specs.Directives.{define, undef};
 
 use crate::find::{Found, file_named, find};
-use crate::kind::Test;
+use idl_groups::Test;
 use crate::line::Directive;
 use crate::operand::Operand;
 use crate::replaced_operand::operand_of;
