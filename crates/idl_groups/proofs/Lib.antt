@@ -1,4 +1,3 @@
-pub mod KindLemmas
 pub mod MatchedLemmas
 pub mod MatchingLemmas
 pub mod TreeLawLemmas

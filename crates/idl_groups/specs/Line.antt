@@ -1,8 +1,8 @@
 -- The lines of a file, as the preprocessor reads them.
-use Rattle.std.specs.Prelude.{ℕ, List, [], ◌∷◌, codes, map, find, Option, None, Some, if◌then◌else◌}
-use Rattle.std.specs.Borrow.{Bor}
+use Rattle.std.specs.Prelude.{ℕ, List, [], ◌∷◌, codes, map, if◌then◌else◌, unwrap_or}
 use Rattle.std.specs.Str.{bytes_eq}
 use Rattle.idl_lex.specs.Tokens.{lines_of, tokens_of}
+use Rattle.idl_lex.specs.WordTable.{value_of}
 use Rattle.idl_lex.specs.declared.token.PlacedToken.{PlacedToken}
 use Rattle.idl_groups.specs.declared.kind.Kind.{Kind}
 use Rattle.idl_groups.specs.declared.kind.Kind.TheVariants.{Alone, Opening, Elif, Else, Endif}
@@ -31,17 +31,9 @@ words =
     ∷ (codes "error", Alone Error) ∷ (codes "pragma", Alone Pragma)
     ∷ (codes "warning", Alone Ignored) ∷ (codes "ident", Alone Ignored) ∷ []
 
-abbrev pub found : Option (List ℕ × Kind) → Kind
-found None = Alone Unknown
-found (Some entry) = entry.1
-
 -- the kind of the directive with this word
 abbrev pub kind_of : List ℕ → Kind
-kind_of word = found (find (λ entry. bytes_eq entry.0 word) words)
-
--- an entry of a table, as it is read
-abbrev pub entry_of : Bor (List ℕ) × Kind → List ℕ × Kind
-entry_of entry = (entry.0.now, entry.1)
+kind_of word = unwrap_or (value_of words word) (Alone Unknown)
 
 -- the line after a `#` with this number
 abbrev pub after_hash : ℕ → List PlacedToken → Line

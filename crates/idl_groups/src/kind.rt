@@ -1,8 +1,11 @@
 //! Kinds of directives.
 
 ghost use Rattle.std.specs.Prelude.{◌≡◌, map};
-ghost use Rattle.idl_groups.specs.Line.{entry_of, kind_of, words};
+ghost use Rattle.idl_groups.specs.Line.{kind_of, words};
 ghost use Rattle.idl_groups.specs.Tree.{is_else};
+ghost use Rattle.idl_lex.specs.WordTable.{entry_of};
+
+use idl_lex::{Entry, value_of};
 
 /// A directive of one line.
 #[derive(Clone, Copy)]
@@ -38,9 +41,7 @@ pub enum Kind {
 }
 
 // A directive's word, and its kind.
-type Entry = (&'static [u8], Kind);
-
-const WORDS: [Entry; 13] = [
+const WORDS: [Entry<Kind>; 13] = [
     (b"include", Kind::Alone(Plain::Include)),
     (b"define", Kind::Alone(Plain::Define)),
     (b"undef", Kind::Alone(Plain::Undef)),
@@ -61,10 +62,7 @@ impl Kind {
     pub fn of(word: &[u8]) -> Kind
         ensures { result ≡ kind_of word.now }
     {
-        match table().iter().find(|entry| entry.0 == word) {
-            Some(entry) => entry.1,
-            None => Kind::Alone(Plain::Unknown),
-        }
+        value_of(table(), word).unwrap_or(Kind::Alone(Plain::Unknown))
     }
 
     /// Whether it is `else`.
@@ -79,7 +77,7 @@ impl Kind {
 }
 
 #[tactic(auto, unfolding(crate::specs::Line::words))]
-fn table() -> &'static [Entry]
+fn table() -> &'static [Entry<Kind>]
     ensures { map entry_of result.now ≡ words }
 {
     &WORDS

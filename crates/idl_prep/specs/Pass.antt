@@ -5,10 +5,10 @@ use Rattle.idl_event.specs.Expanding.{Expanding, Reached}
 use Rattle.idl_event.specs.declared.file_name.FileName.{FileName}
 use Rattle.idl_event.specs.declared.key.Answer.{Answer}
 use Rattle.idl_event.specs.declared.key.Key.{Key}
-use Rattle.idl_prep.specs.Directive.{Enter}
 use Rattle.idl_groups.specs.Line.{Line}
-use Rattle.idl_prep.specs.State.{State, Way, onward}
 use Rattle.idl_groups.specs.Tree.{Tree, Forest, Branches, Part, close, part, strays}
+use Rattle.idl_prep.specs.Directive.{Enter}
+use Rattle.idl_prep.specs.State.{State, Way, onward}
 use Rattle.idl_prep.specs.Walk.{skip, skip_branches, skip_tree, walk, walk_branches, walk_tree}
 use Rattle.idl_prep.specs.declared.groups.Group.{Group}
 use Rattle.idl_prep.specs.declared.groups.Opener.{Opener}

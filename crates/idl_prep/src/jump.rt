@@ -9,14 +9,13 @@ ghost use Rattle.idl_prep.specs.Told.{code_of, told};
 
 use crate::groups::Groups;
 use crate::root::Root;
-use idl_event::{Answer, Code, FileName, FileTokens, Key, Place};
+use idl_event::{Answer, Code, FileName, FileTokens, Key, Place, RootBank};
 use idl_groups::{GroupFault, Misplaced};
-use idl_memo::Bank;
 use std::alloc::AllocError;
 
 /// What is left of a file's lines once the branch that they begin with is jumped over, if it isn't taken: of what is in it,
 /// the faults of groups alone are told.
-pub fn jump<'t, B: Bank<Key = Key, Answer = Answer>>(
+pub fn jump<'t, B: RootBank>(
     root: &mut Root<B>,
     groups: &Groups,
     file: &FileName,
@@ -42,7 +41,7 @@ pub fn jump<'t, B: Bank<Key = Key, Answer = Answer>>(
 }
 
 // Faults of a file's groups.
-fn tell_faults<B: Bank<Key = Key, Answer = Answer>>(
+fn tell_faults<B: RootBank>(
     root: &mut Root<B>,
     file: &FileName,
     faults: &[GroupFault],

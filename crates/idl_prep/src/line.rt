@@ -7,8 +7,8 @@ ghost use Rattle.idl_groups.specs.Line.{after_hash, read};
 ghost use Rattle.idl_prep.specs.Place.{place_in};
 ghost use Rattle.idl_prep.specs.Read.{line_of};
 
-use idl_groups::Kind;
 use idl_event::{FileName, FileTokens, Place};
+use idl_groups::Kind;
 use idl_lex::{PlacedToken, Spelling};
 use std::alloc::AllocError;
 use std::marker::Model;

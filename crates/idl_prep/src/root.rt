@@ -22,12 +22,12 @@ ghost use Rattle.idl_memo.specs.Query.{and_then};
 ghost use Rattle.idl_macro.specs.Directives.{define, undef};
 
 use crate::find::{Found, file_named, find};
-use idl_groups::Test;
 use crate::line::Directive;
 use crate::operand::Operand;
 use crate::replaced_operand::operand_of;
 use crate::site::Site;
 use idl_event::{Answer, Code, Event, FileName, Item, Key, LexedFile, Place, Progress, RootBank};
+use idl_groups::Test;
 use idl_lex::{PlacedToken, Spelling};
 use idl_macro::{Definitions, Macros, condition, define, ifdef, ifndef, replace_text, undef};
 use idl_memo::Log;

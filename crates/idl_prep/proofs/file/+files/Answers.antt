@@ -6,10 +6,10 @@ use Rattle.idl_lex.specs.Tokens.{lines_of}
 use Rattle.idl_event.specs.declared.event.Event.TheVariants.{Entered, Left}
 use Rattle.idl_event.specs.declared.event.Item.TheVariants.{Kept}
 use Rattle.idl_groups.specs.Line.{read}
+use Rattle.idl_groups.specs.Tree.{part}
 use Rattle.idl_prep.specs.Pass.{coming, entered, to_come}
 use Rattle.idl_prep.specs.Root.{enter}
 use Rattle.idl_prep.specs.State.{onward, telling}
-use Rattle.idl_groups.specs.Tree.{part}
 use Rattle.idl_prep.proofs.FileLemmas.{ended-over, onward-enter, onward-too_deep, to_come-file, to_come-no_line}
 use Rattle.idl_prep.proofs.WalkLemmas.{onward-then}
 use Rattle.idl_prep.proofs.file.+files.Goals as goal
