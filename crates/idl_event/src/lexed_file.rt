@@ -8,17 +8,18 @@ ghost use Rattle.idl_lex.specs.Tokens.{tokens_of};
 
 use crate::token_range::FileTokens;
 use idl_base::Datum;
-use idl_lex::{Lexed, lex};
+use idl_groups::GroupedTokens;
+use idl_lex::lex;
 use idl_source::File;
 use std::alloc::{AllocError, Global};
 use std::marker::Model;
 use std::rc::Rc;
 
-/// A file, and beside it its tokens, so that they are made once. Its lines alone are its value, and a clone shares both.
+/// A file, and beside it its tokens and the branches of its groups, so that they are made once. Its lines alone are its value, and a clone shares both.
 #[derive(Drop)]
 pub struct LexedFile {
     file: File,
-    tokens: Rc<Lexed>,
+    tokens: Rc<GroupedTokens>,
 }
 
 impl Model for LexedFile {
@@ -37,7 +38,7 @@ impl LexedFile {
     pub fn new(alloc: Global, file: File) -> Result<LexedFile, AllocError>
         ensures { IfOk result (λ it. it ≡ file) }
     {
-        let tokens = lex(alloc, &file, None)?;
+        let tokens = GroupedTokens::new(alloc, lex(alloc, &file, None)?)?;
         Ok(LexedFile {
             tokens: Rc::new(alloc, tokens)?,
             file,

@@ -1,9 +1,12 @@
 //! Ranges of a file's tokens: lent ones, which know where they stand, and shared ones.
 
-ghost use Rattle.std.specs.Prelude.{◌≡◌, ◌≤◌, drop, length, take, IfOk};
+ghost use Rattle.std.specs.Prelude.{◌≡◌, ◌≤◌, drop, length, take, IfOk, IfSome};
+ghost use Rattle.idl_groups.specs.Jump.{IsJump};
+ghost use Rattle.idl_groups.specs.Line.{lines_from};
 ghost use Rattle.idl_lex.specs.Tokens.{tokens_in};
 
-use idl_lex::{Lexed, PlacedToken};
+use idl_groups::{GroupFault, GroupedTokens};
+use idl_lex::PlacedToken;
 use std::alloc::AllocError;
 use std::marker::Model;
 use std::rc::Rc;
@@ -11,7 +14,7 @@ use std::rc::Rc;
 /// Tokens of a file from one place up to another, which are lent. To every contract they are their list.
 #[derive(Drop)]
 pub struct FileTokens<'a> {
-    file: &'a Rc<Lexed>,
+    file: &'a Rc<GroupedTokens>,
     from: usize,
     to: usize,
     tokens: &'a [PlacedToken],
@@ -32,7 +35,7 @@ impl<'a> Model for FileTokens<'a> {
 
 impl<'a> FileTokens<'a> {
     /// All tokens of a file.
-    pub fn all(file: &'a Rc<Lexed>) -> FileTokens<'a>
+    pub fn all(file: &'a Rc<GroupedTokens>) -> FileTokens<'a>
         ensures { result ≡ file.now.value }
     {
         let tokens = file.tokens();
@@ -86,6 +89,20 @@ impl<'a> FileTokens<'a> {
         (first, rest)
     }
 
+    /// What comes after the branch of a group that begins with these tokens, and the faults of groups in that branch; `None`
+    /// where no branch begins whose group has come to its `else`, or hasn't.
+    pub fn jump(&self, has_else: bool) -> Option<(FileTokens<'a>, &'a [GroupFault])>
+        ensures { IfSome result (λ jump. (length jump.0 ≤ length self.now)
+            × IsJump has_else (lines_from self.now) (lines_from jump.0) jump.1.now) }
+    {
+        if self.to != self.file.tokens().len() {
+            return None;
+        }
+        let jump = self.file.jump(self.from, has_else)?;
+        let (_branch, rest) = self.split_at(jump.to - self.from);
+        Some((rest, jump.faults))
+    }
+
     /// The tokens, shared with the file from now on.
     pub fn shared(&self) -> Result<TokenRange, AllocError>
         ensures { IfOk result (λ range. range ≡ tokens_in self.now) }
@@ -102,7 +119,7 @@ impl<'a> FileTokens<'a> {
 /// wherever they stand.
 #[derive(Drop)]
 pub struct TokenRange {
-    file: Rc<Lexed>,
+    file: Rc<GroupedTokens>,
     from: usize,
     to: usize,
 }

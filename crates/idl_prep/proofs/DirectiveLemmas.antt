@@ -12,13 +12,14 @@ use Rattle.idl_event.specs.declared.key.Answer.{Answer}
 use Rattle.idl_event.specs.declared.key.Key.{Key}
 use Rattle.idl_lex.specs.Tokens.{tokens_in}
 use Rattle.idl_macro.specs.Replace.{place_at}
+use Rattle.idl_groups.specs.Line.{Directive, Directed}
+use Rattle.idl_groups.specs.declared.kind.Kind.{Kind}
+use Rattle.idl_groups.specs.declared.kind.Kind.TheVariants.{Alone}
+use Rattle.idl_groups.specs.declared.kind.Plain.{Plain}
 use Rattle.idl_prep.specs.Directive.{Enter, act, entering, first_spelling, include, including, is_of_idl, performed, plain_or, pragma, pragma_by}
 use Rattle.idl_prep.specs.Include.{Found, Operand, file_of, operand_of}
-use Rattle.idl_prep.specs.Line.{Directive, Directed, place_in}
+use Rattle.idl_prep.specs.Place.{place_in}
 use Rattle.idl_prep.specs.State.{State, Way, ended, onward, telling}
-use Rattle.idl_prep.specs.declared.kind.Kind.{Kind}
-use Rattle.idl_prep.specs.declared.kind.Kind.TheVariants.{Alone}
-use Rattle.idl_prep.specs.declared.kind.Plain.{Plain}
 use Rattle.idl_prep.proofs.WayLemmas.{arrival-then}
 
 module _ (bank : Key → Option Answer) (enter : Enter) (file : FileName) (d : Directive) where

@@ -10,12 +10,12 @@ use Rattle.idl_event.specs.declared.event.Item.TheVariants.{TooDeep, Kept}
 use Rattle.idl_event.specs.declared.key.Answer.{Answer}
 use Rattle.idl_event.specs.declared.key.Key.{Key}
 use Rattle.idl_event.specs.declared.place.Place.{Place}
+use Rattle.idl_groups.specs.Line.{lines_in, read}
+use Rattle.idl_groups.specs.Tree.{part, tree}
 use Rattle.idl_prep.specs.Directive.{Enter}
-use Rattle.idl_prep.specs.Line.{lines_in, read}
 use Rattle.idl_prep.specs.Pass.{coming, to_come}
 use Rattle.idl_prep.specs.Root.{enter, walk_file}
 use Rattle.idl_prep.specs.State.{State, Way, ended, onward, telling}
-use Rattle.idl_prep.specs.Tree.{part, tree}
 use Rattle.idl_prep.specs.declared.groups.Group.{Group}
 use Rattle.idl_prep.proofs.WalkLemmas.{onward-then}
 use Rattle.idl_prep.proofs.WayLemmas.{arrival-over}

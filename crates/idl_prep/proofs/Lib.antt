@@ -2,12 +2,10 @@ pub mod CandidateLemmas
 pub mod DirectiveLemmas
 pub mod FileLemmas
 pub mod IncludeLemmas
-pub mod KindLemmas
+pub mod JumpLemmas
 pub mod PassLemmas
 pub mod RootLemmas
 pub mod RootTaskLemmas
 pub mod StepLemmas
-pub mod TreeLawLemmas
-pub mod TreeLemmas
 pub mod WalkLemmas
 pub mod WayLemmas

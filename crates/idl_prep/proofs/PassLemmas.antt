@@ -4,18 +4,19 @@ use Rattle.idl_memo.specs.Query.{Done, Tell, and_then}
 use Rattle.idl_event.specs.Expanding.{Expanding}
 use Rattle.idl_event.specs.declared.file_name.FileName.{FileName}
 use Rattle.idl_event.specs.declared.event.Item.TheVariants.{Turn}
+use Rattle.idl_groups.specs.Line.{Directive, Line, Directed}
+use Rattle.idl_groups.specs.Tree.{IsBranch, IsOfGroup, Tree, Leaf, Stray, Group as group_tree, Forest, Empty, Grow, Branches, Closed, Unclosed, Branch, Part, Closing, AtEnd, At, before, close, directive_before, grown, is_else, part}
+use Rattle.idl_groups.specs.declared.kind.Kind.{Kind}
+use Rattle.idl_groups.specs.declared.kind.Kind.TheVariants.{Opening, Endif}
+use Rattle.idl_groups.specs.declared.kind.Test.{Test}
+use Rattle.idl_groups.proofs.TreeLemmas.{before-of_group, body_grown, close-Grow, close-branch, close-endif, close-stray, of_group-branch, strays-Grow}
 use Rattle.idl_prep.specs.Directive.{Enter, act, test}
-use Rattle.idl_prep.specs.Line.{Directive, Line, Directed, place_in}
+use Rattle.idl_prep.specs.Place.{place_in}
 use Rattle.idl_prep.specs.Pass.{begun, coming, is_walked, visit, visit_branches, visit_tree}
 use Rattle.idl_prep.specs.State.{State}
-use Rattle.idl_prep.specs.Tree.{IsBranch, IsOfGroup, Tree, Leaf, Stray, Group as group_tree, Forest, Empty, Grow, Branches, Closed, Unclosed, Branch, Part, Closing, AtEnd, At, before, close, directive_before, grown, is_else, part}
 use Rattle.idl_prep.specs.Walk.{decide, not_closed, opener_of, skip, skip_branches, walk, walk_branches}
 use Rattle.idl_prep.specs.declared.groups.Group.{Group}
-use Rattle.idl_prep.specs.declared.kind.Kind.{Kind}
-use Rattle.idl_prep.specs.declared.kind.Kind.TheVariants.{Opening, Endif}
-use Rattle.idl_prep.specs.declared.kind.Test.{Test}
 use Rattle.idl_prep.proofs.StepLemmas.{and_then-alike, and_then-and_then}
-use Rattle.idl_prep.proofs.TreeLemmas.{before-of_group, body_grown, close-Grow, close-branch, close-endif, close-stray, of_group-branch, strays-Grow}
 
 -- a group in which another branch began so
 abbrev pub continued : Group → Bool → Bool → Bool → Group

@@ -8,11 +8,12 @@ use Rattle.idl_event.specs.declared.file_name.FileName.{FileName}
 use Rattle.idl_event.specs.declared.key.Answer.{Answer}
 use Rattle.idl_event.specs.declared.key.Key.{Key}
 use Rattle.idl_event.specs.declared.place.Place.{Place}
+use Rattle.idl_groups.specs.Line.{Directive}
+use Rattle.idl_groups.specs.declared.kind.Test.{Test}
 use Rattle.idl_prep.specs.Directive.{redefined, test, tested}
-use Rattle.idl_prep.specs.Line.{Directive, place_in}
+use Rattle.idl_prep.specs.Place.{place_in}
 use Rattle.idl_prep.specs.State.{State, Way, ended, onward}
 use Rattle.idl_prep.proofs.WayLemmas.{arrival-then}
-use Rattle.idl_prep.specs.declared.kind.Test.{Test}
 
 -- a test of the directive as macros take it is that of the directive
 pub arrival-test : (bank : Key → Option Answer) (query : Place → List ℕ → Definitions → List PlacedToken → Expanding Bool) (file : FileName) (place : Place) (word : List ℕ)

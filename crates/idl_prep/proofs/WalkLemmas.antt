@@ -7,15 +7,16 @@ use Rattle.idl_event.specs.declared.event.Item.{Item}
 use Rattle.idl_event.specs.declared.event.Item.TheVariants.{Turn}
 use Rattle.idl_event.specs.declared.key.Answer.{Answer}
 use Rattle.idl_event.specs.declared.key.Key.{Key}
+use Rattle.idl_groups.specs.Line.{Directive, Line, Directed}
+use Rattle.idl_groups.specs.Tree.{IsBranch, IsOfGroup, Leaf, Stray, before, grown, is_else, part}
+use Rattle.idl_groups.specs.declared.kind.Kind.TheVariants.{Opening, Endif}
+use Rattle.idl_groups.specs.declared.kind.Test.{Test}
 use Rattle.idl_prep.specs.Directive.{Enter, act, test}
-use Rattle.idl_prep.specs.Line.{Directive, Line, Directed, place_in}
+use Rattle.idl_prep.specs.Place.{place_in}
 use Rattle.idl_prep.specs.Pass.{begun, coming, is_walked, to_come, visit_tree}
 use Rattle.idl_prep.specs.State.{State, Way, ended, onward, telling}
-use Rattle.idl_prep.specs.Tree.{IsBranch, IsOfGroup, Leaf, Stray, before, grown, is_else, part}
 use Rattle.idl_prep.specs.Walk.{decide, not_closed, opener_of}
 use Rattle.idl_prep.specs.declared.groups.Group.{Group}
-use Rattle.idl_prep.specs.declared.kind.Kind.TheVariants.{Opening, Endif}
-use Rattle.idl_prep.specs.declared.kind.Test.{Test}
 use Rattle.idl_prep.proofs.PassLemmas.{continued, coming-act, coming-branch, coming-branch-skipped, coming-endif, coming-endif-skipped, coming-nothing, coming-opening, coming-opening-skipped, coming-skipped, coming-stray, coming-stray-outside, coming-unclosed}
 use Rattle.idl_prep.proofs.WayLemmas.{arrival-and_then, arrival-then}
 

@@ -16,15 +16,16 @@ use Rattle.idl_event.specs.declared.code.Code.TheVariants as code
 use Rattle.idl_event.specs.declared.event.Event.TheVariants.{Fault, Pragma}
 use Rattle.idl_event.specs.declared.event.Item.TheVariants.{Kept, Turn}
 use Rattle.idl_event.specs.declared.place.Place.{Place}
+use Rattle.idl_groups.specs.Line.{Directive, Line, Text, Bare, Directed}
+use Rattle.idl_groups.specs.declared.kind.Kind.{Kind}
+use Rattle.idl_groups.specs.declared.kind.Kind.TheVariants.{Alone}
+use Rattle.idl_groups.specs.declared.kind.Plain.{Plain}
+use Rattle.idl_groups.specs.declared.kind.Plain.TheVariants as plain
+use Rattle.idl_groups.specs.declared.kind.Test.{Test}
+use Rattle.idl_groups.specs.declared.kind.Test.TheVariants.{If, Ifdef, Ifndef}
 use Rattle.idl_prep.specs.Include.{Found, Operand, file_of, operand_of}
-use Rattle.idl_prep.specs.Line.{Directive, Line, Text, Bare, Directed, place_in}
+use Rattle.idl_prep.specs.Place.{place_in}
 use Rattle.idl_prep.specs.State.{State}
-use Rattle.idl_prep.specs.declared.kind.Kind.{Kind}
-use Rattle.idl_prep.specs.declared.kind.Kind.TheVariants.{Alone}
-use Rattle.idl_prep.specs.declared.kind.Plain.{Plain}
-use Rattle.idl_prep.specs.declared.kind.Plain.TheVariants as plain
-use Rattle.idl_prep.specs.declared.kind.Test.{Test}
-use Rattle.idl_prep.specs.declared.kind.Test.TheVariants.{If, Ifdef, Ifndef}
 
 -- what becomes of a file that is entered at a place, by its name and its lines
 abbrev pub Enter : Type 0

@@ -2,11 +2,10 @@ pub mod Candidate
 pub mod Directive
 pub mod Include
 pub mod Limits
-pub mod Line
 pub mod Pass
+pub mod Place
 pub mod Read
 pub mod Root
 pub mod State
-pub mod Tree
-pub mod TreeLaw
+pub mod Told
 pub mod Walk

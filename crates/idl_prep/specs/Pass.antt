@@ -5,10 +5,10 @@ use Rattle.idl_event.specs.Expanding.{Expanding, Reached}
 use Rattle.idl_event.specs.declared.file_name.FileName.{FileName}
 use Rattle.idl_event.specs.declared.key.Answer.{Answer}
 use Rattle.idl_event.specs.declared.key.Key.{Key}
+use Rattle.idl_groups.specs.Line.{Line}
+use Rattle.idl_groups.specs.Tree.{Tree, Forest, Branches, Part, close, part, strays}
 use Rattle.idl_prep.specs.Directive.{Enter}
-use Rattle.idl_prep.specs.Line.{Line}
 use Rattle.idl_prep.specs.State.{State, Way, onward}
-use Rattle.idl_prep.specs.Tree.{Tree, Forest, Branches, Part, close, part, strays}
 use Rattle.idl_prep.specs.Walk.{skip, skip_branches, skip_tree, walk, walk_branches, walk_tree}
 use Rattle.idl_prep.specs.declared.groups.Group.{Group}
 use Rattle.idl_prep.specs.declared.groups.Opener.{Opener}
@@ -55,3 +55,8 @@ is_walked (g ∷ gs) = g.is_active
 abbrev pub entered : Enter → Option Inclusion → State → Expanding State
 entered enter None s = Done s
 entered enter (Some i) s = enter i.place i.name i.file.now s
+
+-- the innermost of these groups
+abbrev pub innermost : List Group → Option Group
+innermost [] = None
+innermost (g ∷ gs) = Some g

@@ -13,12 +13,12 @@ use Rattle.idl_event.specs.declared.event.Item.TheVariants.{TooDeep, Kept}
 use Rattle.idl_event.specs.declared.key.Answer.{Answer}
 use Rattle.idl_event.specs.declared.key.Key.{Key}
 use Rattle.idl_event.specs.declared.key.Key.TheVariants as key
+use Rattle.idl_groups.specs.Line.{lines_in}
+use Rattle.idl_groups.specs.Tree.{tree}
 use Rattle.idl_prep.specs.Directive.{Enter}
 use Rattle.idl_prep.specs.Include.{file_in}
 use Rattle.idl_prep.specs.Limits.{depth_at_most}
-use Rattle.idl_prep.specs.Line.{lines_in}
 use Rattle.idl_prep.specs.State.{State, nothing_said}
-use Rattle.idl_prep.specs.Tree.{tree}
 use Rattle.idl_prep.specs.Walk.{walk}
 
 -- a file of these lines

@@ -7,12 +7,13 @@ use Rattle.idl_event.specs.declared.code.Code.TheVariants.{OutOfPlace, NotClosed
 use Rattle.idl_event.specs.declared.event.Item.{Item}
 use Rattle.idl_event.specs.declared.event.Event.TheVariants.{Fault}
 use Rattle.idl_event.specs.declared.event.Item.TheVariants.{Turn, Kept}
+use Rattle.idl_groups.specs.Line.{Directive}
+use Rattle.idl_groups.specs.Tree.{Tree, Leaf, Stray, Group, Forest, Empty, Grow, Branches, Closed, Unclosed, Branch, is_else}
+use Rattle.idl_groups.specs.declared.kind.Test.TheVariants.{If}
 use Rattle.idl_prep.specs.Directive.{Enter, act, test}
-use Rattle.idl_prep.specs.Line.{Directive, place_in}
+use Rattle.idl_prep.specs.Place.{place_in}
 use Rattle.idl_prep.specs.State.{State}
-use Rattle.idl_prep.specs.Tree.{Tree, Leaf, Stray, Group, Forest, Empty, Grow, Branches, Closed, Unclosed, Branch, is_else}
 use Rattle.idl_prep.specs.declared.groups.Opener.{Opener}
-use Rattle.idl_prep.specs.declared.kind.Test.TheVariants.{If}
 
 -- the directive that opens a group
 abbrev pub opener_of : Directive → Opener

@@ -2,21 +2,21 @@
 
 ghost use Rattle.std.specs.Prelude.{◌≡◌, ◌∷◌, false, true, List, Option, IfOk, OnOk};
 ghost use Rattle.idl_event.specs.Expanding.{arrival, arrived};
+ghost use Rattle.idl_groups.specs.Line as spec;
+ghost use Rattle.idl_groups.specs.Line.{Directed};
+ghost use Rattle.idl_groups.specs.Tree.{IsBranch};
+ghost use Rattle.idl_groups.specs.declared.kind.Kind.TheVariants.{Endif, Opening};
 ghost use Rattle.idl_prep.specs.Directive.{Enter};
-ghost use Rattle.idl_prep.specs.Line as spec;
-ghost use Rattle.idl_prep.specs.Line.{Directed};
 ghost use Rattle.idl_prep.specs.Pass.{begun, is_walked, to_come};
-ghost use Rattle.idl_prep.specs.Tree.{IsBranch};
 ghost use Rattle.idl_prep.specs.Walk.{decide, opener_of};
 ghost use Rattle.idl_prep.specs.declared.groups.Group as declared;
-ghost use Rattle.idl_prep.specs.declared.kind.Kind.TheVariants.{Endif, Opening};
 
 use crate::groups::{Group, Opener};
-use crate::kind::Test;
 use crate::line::Directive;
 use crate::root::Root;
 use crate::site::Site;
 use idl_event::{Answer, FileName, Key, RootBank};
+use idl_groups::Test;
 use std::alloc::AllocError;
 
 /// A group begins in lines that are walked.

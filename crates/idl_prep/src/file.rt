@@ -7,6 +7,7 @@ ghost use Rattle.idl_prep.specs.State.{ended, onward};
 
 use crate::groups::Groups;
 use crate::inclusion::Inclusion;
+use crate::jump::jump;
 use crate::line::first_line;
 use crate::pass::{end_file, walk_line};
 use crate::root::Root;
@@ -34,7 +35,7 @@ pub fn walk_file<B: RootBank>(
         let (line, rest) = first_line(&left);
         let inclusion = walk_line(root, &mut groups, site, &line)?;
         enter_file(root, room, inclusion, site.bank)?;
-        left = rest;
+        left = jump(root, &groups, site.file, rest)?;
     }
     end_file(root, groups, site.file)?;
     Ok(())

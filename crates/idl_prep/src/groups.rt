@@ -1,7 +1,8 @@
 //! The groups of a file that are open.
 
 ghost use Rattle.std.specs.Prelude.{◌≡◌, ◌∷◌, [], IfOk, OnOk, MatchOption};
-ghost use Rattle.idl_prep.specs.Pass.{is_walked};
+ghost use Rattle.std.specs.Option.{option_copied};
+ghost use Rattle.idl_prep.specs.Pass.{innermost, is_walked};
 ghost use Rattle.idl_prep.specs.Walk.{opener_of};
 
 use crate::line::Directive;
@@ -75,6 +76,13 @@ impl Groups {
             None => true,
             Some(group) => group.is_active,
         }
+    }
+
+    /// The innermost group.
+    pub fn innermost(&self) -> Option<&Group>
+        ensures { option_copied result ≡ innermost self.now }
+    {
+        self.open.last()
     }
 
     /// A group is opened inside the others.

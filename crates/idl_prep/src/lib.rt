@@ -11,7 +11,7 @@ mod find;
 mod groups;
 mod include;
 mod inclusion;
-mod kind;
+mod jump;
 mod line;
 mod operand;
 mod pass;
@@ -23,12 +23,9 @@ mod root_task;
 mod site;
 mod stray;
 mod text;
-mod tree;
 
 pub use candidate::first_candidate;
-pub use kind::{Kind, Plain, Test};
 pub use root_task::{Expansion, RootTask, absent};
-pub use tree::tree_of_lines;
 
 /// Files that may be open inside one another, the root's among them.
 pub const MAX_DEPTH: usize = 64;

@@ -3,11 +3,12 @@
 ghost use Rattle.std.specs.Prelude.{◌≡◌, ◌<◌, ◌++◌, ◌∷◌, IfOk, length};
 ghost use Rattle.idl_lex.specs.Tokens.{lines_of};
 ghost use Rattle.idl_macro.specs.Replace.{place_at};
-ghost use Rattle.idl_prep.specs.Line.{after_hash, place_in, read};
+ghost use Rattle.idl_groups.specs.Line.{after_hash, read};
+ghost use Rattle.idl_prep.specs.Place.{place_in};
 ghost use Rattle.idl_prep.specs.Read.{line_of};
 
-use crate::kind::Kind;
 use idl_event::{FileName, FileTokens, Place};
+use idl_groups::Kind;
 use idl_lex::{PlacedToken, Spelling};
 use std::alloc::AllocError;
 use std::marker::Model;
@@ -24,7 +25,7 @@ pub struct Directive<'t> {
 
 impl<'t> Model for Directive<'t> {
     ghost use Rattle.std.specs.Prelude.{◌≡◌, ◌∷◌};
-    ghost use Rattle.idl_prep.specs.Line as spec;
+    ghost use Rattle.idl_groups.specs.Line as spec;
 
     ghost Value = { spec.Directive };
 

@@ -2,24 +2,24 @@
 
 ghost use Rattle.std.specs.Prelude.{◌≡◌, ◌∷◌, [], List, Option, IfOk, OnOk};
 ghost use Rattle.idl_memo.specs.Query.{and_then};
+ghost use Rattle.idl_groups.specs.Line as spec;
+ghost use Rattle.idl_groups.specs.Line.{Directed, Text, Bare};
+ghost use Rattle.idl_groups.specs.Tree.{IsBranch, part};
+ghost use Rattle.idl_groups.specs.declared.kind.Kind.TheVariants.{Endif};
 ghost use Rattle.idl_prep.specs.Directive.{Enter};
-ghost use Rattle.idl_prep.specs.Line as spec;
-ghost use Rattle.idl_prep.specs.Line.{Directed, Text, Bare};
 ghost use Rattle.idl_prep.specs.Pass.{coming, entered, to_come};
 ghost use Rattle.idl_prep.specs.State.{ended, onward};
-ghost use Rattle.idl_prep.specs.Tree.{IsBranch, part};
-ghost use Rattle.idl_prep.specs.declared.kind.Kind.TheVariants.{Endif};
 
 use crate::branch::{begin_branch, begin_group, end_group, skip_group};
 use crate::groups::Groups;
 use crate::inclusion::Inclusion;
-use crate::kind::Kind;
 use crate::line::{Directive, Line, read};
 use crate::perform::{act_bare, act_directive, act_text};
 use crate::root::Root;
 use crate::site::Site;
 use crate::stray::{stray_inside, stray_outside};
 use idl_event::{Answer, Code, FileName, FileTokens, Key, Place, RootBank};
+use idl_groups::Kind;
 use std::alloc::AllocError;
 
 /// The next line of a file: gives the file that is to be entered, if there is one.

@@ -4,21 +4,22 @@ ghost use Rattle.std.specs.Prelude.{◌≡◌, ◌∷◌, Some, IfOk, OnOk, Opti
 ghost use Rattle.idl_event.specs.declared.code.Code.TheVariants.{Error};
 ghost use Rattle.idl_event.specs.declared.event.Event.TheVariants.{Fault};
 ghost use Rattle.idl_event.specs.declared.event.Item.TheVariants.{Kept};
+ghost use Rattle.idl_groups.specs.Line.{Text, Bare, Directed};
+ghost use Rattle.idl_groups.specs.declared.kind.Kind.TheVariants.{Alone};
 ghost use Rattle.idl_prep.specs.Directive.{Enter, act, parted};
-ghost use Rattle.idl_prep.specs.Line.{Text, Bare, Directed, place_in};
+ghost use Rattle.idl_prep.specs.Place.{place_in};
 ghost use Rattle.idl_prep.specs.Pass.{entered};
 ghost use Rattle.idl_prep.specs.State.{ended, onward, telling};
-ghost use Rattle.idl_prep.specs.declared.kind.Kind.TheVariants.{Alone};
 
 use crate::include::include;
 use crate::inclusion::Inclusion;
-use crate::kind::Plain;
 use crate::line::Directive;
 use crate::pragma::pragma;
 use crate::root::Root;
 use crate::site::Site;
 use crate::text::parted;
 use idl_event::{Answer, Code, FileName, FileTokens, Item, Key, Place, RootBank};
+use idl_groups::Plain;
 use std::alloc::AllocError;
 
 /// A line of text, which isn't skipped.

@@ -1,12 +1,12 @@
 //! Directives of groups that are out of place.
 
 ghost use Rattle.std.specs.Prelude.{◌≡◌, ◌∷◌, [], true, List, Option, OnOk};
+ghost use Rattle.idl_groups.specs.Line as spec;
+ghost use Rattle.idl_groups.specs.Line.{Directed};
+ghost use Rattle.idl_groups.specs.Tree.{IsBranch, IsOfGroup, Stray};
 ghost use Rattle.idl_prep.specs.Directive.{Enter};
-ghost use Rattle.idl_prep.specs.Line as spec;
-ghost use Rattle.idl_prep.specs.Line.{Directed};
 ghost use Rattle.idl_prep.specs.Pass.{to_come, visit_tree};
 ghost use Rattle.idl_prep.specs.State.{ended, onward};
-ghost use Rattle.idl_prep.specs.Tree.{IsBranch, IsOfGroup, Stray};
 ghost use Rattle.idl_prep.specs.declared.groups.Group as declared;
 
 use crate::groups::Group;

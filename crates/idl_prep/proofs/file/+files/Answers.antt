@@ -5,11 +5,11 @@ use Rattle.std.proofs.lemmas.List.{length-append, nil_from_length}
 use Rattle.idl_lex.specs.Tokens.{lines_of}
 use Rattle.idl_event.specs.declared.event.Event.TheVariants.{Entered, Left}
 use Rattle.idl_event.specs.declared.event.Item.TheVariants.{Kept}
-use Rattle.idl_prep.specs.Line.{read}
+use Rattle.idl_groups.specs.Line.{read}
+use Rattle.idl_groups.specs.Tree.{part}
 use Rattle.idl_prep.specs.Pass.{coming, entered, to_come}
 use Rattle.idl_prep.specs.Root.{enter}
 use Rattle.idl_prep.specs.State.{onward, telling}
-use Rattle.idl_prep.specs.Tree.{part}
 use Rattle.idl_prep.proofs.FileLemmas.{ended-over, onward-enter, onward-too_deep, to_come-file, to_come-no_line}
 use Rattle.idl_prep.proofs.WalkLemmas.{onward-then}
 use Rattle.idl_prep.proofs.file.+files.Goals as goal
@@ -59,7 +59,7 @@ walk_file-lines-smaller g t c =
     let line = c.first_line-line.result.0 in
     let rest = c.first_line-line.result.1 in
     let all : length c.lines.left ≡ length line + length rest = ap length c.first_line-line.ensures.all ∙ length-append line rest in
-    omega (arith, c.first_line-line.ensures.some, all)
+    omega (arith, c.first_line-line.ensures.some, all, c.in_ok-left.ensures.shorter)
 
 pub walk_file-lines-preserved : goal.walk_file-lines-preserved
 walk_file-lines-preserved g t c =
@@ -69,7 +69,8 @@ walk_file-lines-preserved g t c =
     let lines = map read (lines_of c.first_line-line.result.1) in
     let found = c.in_ok-inclusion.inclusion in
     let after = coming next file c.walk_line.new.groups (part lines) in
-    onward-then bank (entered next found) after (λ s. and_then (entered next found s) after) c.walk_line.new.root c.enter_file.new.root c.in_ok-enter_file.ensures refl
+    c.in_ok-left.ensures.to_come bank next
+    ∙ onward-then bank (entered next found) after (λ s. and_then (entered next found s) after) c.walk_line.new.root c.enter_file.new.root c.in_ok-enter_file.ensures refl
     ∙ c.in_ok-inclusion.ensures next lines
     ∙ ap (λ ls. to_come bank next file c.lines.groups (map read ls) c.lines.root) (sym c.first_line-line.ensures.lines)
     ∙ c.lines.invariant

@@ -7,7 +7,7 @@ use Rattle.idl_event.specs.declared.event.Event.TheVariants.{Fault}
 use Rattle.idl_event.specs.declared.event.Item.TheVariants.{Kept}
 use Rattle.idl_event.specs.declared.place.Place.{Place}
 use Rattle.idl_prep.specs.Include.{Found}
-use Rattle.idl_prep.specs.Line.{place_in}
+use Rattle.idl_prep.specs.Place.{place_in}
 use Rattle.idl_prep.specs.State.{ended, onward, telling}
 use Rattle.idl_prep.proofs.DirectiveLemmas.{onward-entering, onward-entering-new, onward-entering-once}
 use Rattle.idl_prep.proofs.include.included.Goals as goal

@@ -4,7 +4,7 @@ use Rattle.idl_event.specs.declared.event.Event.TheVariants.{Fault}
 use Rattle.idl_event.specs.declared.event.Item.TheVariants.{Kept}
 use Rattle.idl_event.specs.declared.place.Place.{Place}
 use Rattle.idl_prep.specs.Directive.{parted}
-use Rattle.idl_prep.specs.Line.{place_in}
+use Rattle.idl_prep.specs.Place.{place_in}
 use Rattle.idl_prep.specs.State.{telling}
 use Rattle.idl_prep.proofs.perform.act_error.Goals as goal
 

@@ -1,4 +1,4 @@
-use Rattle.std.proofs.Common.{◌≤◌, ◌≡◌, ◌∙◌, ◌+◌, ap, arith, drop, length, sym}
+use Rattle.std.proofs.Common.{◌≤◌, ◌∙◌, ◌+◌, ap, arith, drop, length}
 use Rattle.idl_event.proofs.RangeLemmas.{range-back}
 use Rattle.idl_event.proofs.token_range.FileTokens.split_at.Goals as goal
 

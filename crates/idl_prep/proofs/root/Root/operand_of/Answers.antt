@@ -3,7 +3,7 @@ use Rattle.idl_event.specs.Expanding.{arrival}
 use Rattle.idl_event.specs.declared.place.Place.{Place}
 use Rattle.idl_lex.specs.declared.token.PlacedToken.{PlacedToken}
 use Rattle.idl_prep.specs.Include.{operand_of}
-use Rattle.idl_prep.specs.Line.{place_in}
+use Rattle.idl_prep.specs.Place.{place_in}
 use Rattle.idl_prep.specs.State.{Way}
 use Rattle.idl_prep.proofs.root.Root.operand_of.Goals as goal
 

@@ -1,0 +1,4 @@
+pub mod MatchedLemmas
+pub mod MatchingLemmas
+pub mod TreeLawLemmas
+pub mod TreeLemmas

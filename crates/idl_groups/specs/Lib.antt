@@ -1,0 +1,5 @@
+pub mod Jump
+pub mod Line
+pub mod Matching
+pub mod Tree
+pub mod TreeLaw

@@ -1,0 +1,28 @@
+-- What is told of faults of groups.
+use Rattle.std.specs.Prelude.{List, [], ◌∷◌, Some}
+use Rattle.idl_memo.specs.Query.{Done, Tell}
+use Rattle.idl_event.specs.Expanding.{Expanding}
+use Rattle.idl_event.specs.declared.code.Code.{Code}
+use Rattle.idl_event.specs.declared.code.Code.TheVariants as code
+use Rattle.idl_event.specs.declared.event.Event.TheVariants.{Fault}
+use Rattle.idl_event.specs.declared.event.Item.{Item}
+use Rattle.idl_event.specs.declared.event.Item.TheVariants.{Kept}
+use Rattle.idl_event.specs.declared.file_name.FileName.{FileName}
+use Rattle.idl_groups.specs.declared.fault.GroupFault.{GroupFault}
+use Rattle.idl_groups.specs.declared.fault.Misplaced.{Misplaced}
+use Rattle.idl_groups.specs.declared.fault.Misplaced.TheVariants.{OutOfPlace, NotClosed}
+use Rattle.idl_prep.specs.State.{State}
+
+abbrev pub code_of : Misplaced → Code
+code_of OutOfPlace = code.OutOfPlace
+code_of NotClosed = code.NotClosed
+
+-- a fault of a file's groups
+abbrev pub item_of : FileName → GroupFault → Item
+item_of file fault =
+    Kept (Fault (record { file = file; line = fault.line }) (code_of fault.what) (Some fault.word))
+
+-- faults are told, and nothing else
+abbrev pub told : FileName → List GroupFault → State → Expanding State
+told file [] s = Done s
+told file (fault ∷ faults) s = Tell (item_of file fault) (told file faults s)
