@@ -1,0 +1,14 @@
+pub mod Laws
+pub mod Many
+pub mod Whole
+pub mod SpellLemmas
+pub mod TokenLaws
+pub mod NameLaws
+pub mod ExpressionLaws
+pub mod Again
+pub mod ExpressionAgain
+pub mod TypeLaws
+pub mod NestedTypeLaws
+pub mod ConstructionSpelling
+pub mod ConstructionLaws
+pub mod InterfaceLaws
