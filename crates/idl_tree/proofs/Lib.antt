@@ -14,3 +14,5 @@ pub mod ConstructionSpelling
 pub mod ConstructionLaws
 pub mod NestedConstructionLaws
 pub mod InterfaceLaws
+pub mod OperationLaws
+pub mod UnitLaws
