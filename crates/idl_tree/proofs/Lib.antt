@@ -16,3 +16,4 @@ pub mod NestedConstructionLaws
 pub mod InterfaceLaws
 pub mod OperationLaws
 pub mod UnitLaws
+pub mod AgainParts
