@@ -17,3 +17,4 @@ pub mod InterfaceLaws
 pub mod OperationLaws
 pub mod UnitLaws
 pub mod AgainParts
+pub mod TypeAgain
