@@ -18,3 +18,5 @@ pub mod OperationLaws
 pub mod UnitLaws
 pub mod AgainParts
 pub mod TypeAgain
+pub mod MemberAgain
+pub mod ConstructionAgain

@@ -212,7 +212,7 @@ interface_laws d N = shape d N (either (interface_of true) (interface_of false))
 
 -- ---- what ends in a semicolon
 
-abbrev end : Lexemes
+abbrev pub end : Lexemes
 end = Punctuation mark.Semicolon ∷ []
 
 ended_parts : (d N : ℕ) {B A : Type 0} (make : A → Tree) (value1 : B → A) (spell1 : B → Lexemes) (r : ℕ → Reader A) → Laws d N value1 spell1 r
@@ -231,7 +231,7 @@ ahead_laws d N x = close_laws d N mark.Semicolon x
 
 -- ---- structs and unions
 
-abbrev structure_unit : Structure → Tree
+abbrev pub structure_unit : Structure → Tree
 structure_unit s = tree.Construction (construction.Structure s)
 
 abbrev structure_ahead : List ℕ → Tree
@@ -266,7 +266,7 @@ structure_unit_laws d N re rt rc expressions types constructions =
     (ended_parts (suc d) N structure_unit (structure_of name) spell_members (inside name) (structure_rest_laws (suc d) N re rt rc (members_behind d N 2 re rt rc expressions types constructions) name))
     (ahead_laws (suc d) N (structure_ahead name)))))
 
-abbrev union_unit : Union → Tree
+abbrev pub union_unit : Union → Tree
 union_unit u = tree.Construction (construction.Union u)
 
 abbrev union_ahead : List ℕ → Tree
