@@ -20,3 +20,5 @@ pub mod AgainParts
 pub mod TypeAgain
 pub mod MemberAgain
 pub mod ConstructionAgain
+pub mod InterfaceAgain
+pub mod UnitAgain
