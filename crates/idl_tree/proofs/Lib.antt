@@ -22,3 +22,4 @@ pub mod MemberAgain
 pub mod ConstructionAgain
 pub mod InterfaceAgain
 pub mod UnitAgain
+pub mod UnitWhole

@@ -52,7 +52,7 @@ use Rattle.idl_tree.proofs.UnitLaws.{end}
 
 typedef_reads : (t : Typedef) (n : ℕ) → length (spell_typedef t) ≤ n → Reads goes_declarators (spell_typedef t) (typedef_with (expression_at n) (type_at n) (construction_at n)) t
 unfolding typedef_with
-typedef_reads t zero le = absurd (omega (arith, le))
+typedef_reads t zero le rest h = absurd (omega (arith, le))
 typedef_reads t (suc n) le rest h =
     let sum = length-append (spell_member_type t.kind) (spell_declarators t.declarators) in
     then_reads goes_type goes_declarators (spell_member_type t.kind) (spell_declarators t.declarators) (member_type_at (suc n)) (λ kind ts. declarators_at expression_at (suc n) ts >>= λ ds. Ok (made_typedef kind ds.0, ds.1)) t.kind t
@@ -180,6 +180,10 @@ operation_first o n rest = by_parts o.is_oneway o.result o.name o.parameters o.r
         let group = append_assoc (spell_type t) tail rest in
         unit_of_type (first (spell_type t ++ (tail ++ rest))) ((type_is_again t).starts (tail ++ rest)) n ((spell_type t ++ tail) ++ rest) (ap first group)
 
+native_reads : (name : List ℕ) (rest : Lexemes) → ended_with tree.Native native_at (Word word.Native ∷ Identifier name ∷ (end ++ rest)) ≡ Ok (tree.Native name, rest)
+unfolding ended_with native_at
+native_reads name rest = refl
+
 -- ---- units
 
 unit_reads : (t : Tree) (n : ℕ) → length (spell t) ≤ n → Reads nothing (spell t) (unit_at n) t
@@ -192,9 +196,6 @@ unit_reads (tree.Typedef t) n le rest h =
     ended_reads goes_declarators tree.Typedef (spell_typedef t) (typedef_with (expression_at n) (type_at n) (construction_at n)) t refl (typedef_reads t n (omega (arith, le, length-append (spell_typedef t) end))) rest refl
 unit_reads (tree.Construction c) n le rest h = (construction_is_again c).unit n (omega (arith, le, length-append (spell_construction c) end)) rest refl
 unit_reads (tree.Native name) n le rest h = native_reads name rest
-  where
-    native_reads : (name : List ℕ) (rest : Lexemes) → ended_with tree.Native native_at (Word word.Native ∷ Identifier name ∷ (end ++ rest)) ≡ Ok (tree.Native name, rest)
-    native_reads name rest = refl
 unit_reads (tree.Constant c) n le rest h =
     ended_reads goes_expression tree.Constant (spell_constant c) (constant_with (expression_at n)) c refl (constant_reads c n (omega (arith, le, length-append (spell_constant c) end))) rest refl
 unit_reads (tree.Exception e) n le rest h =
