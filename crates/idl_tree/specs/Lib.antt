@@ -1,0 +1,17 @@
+pub mod Lexeme
+pub mod Several
+pub mod Name
+pub mod Expression
+pub mod DataType
+pub mod Construction
+pub mod Interface
+pub mod Unit
+pub mod Reading
+pub mod Fault
+pub mod Tests
+pub mod ReadName
+pub mod ReadExpression
+pub mod ReadType
+pub mod ReadConstruction
+pub mod ReadInterface
+pub mod ReadUnit

@@ -1,0 +1,82 @@
+//! Structs, unions and enums.
+
+use crate::data_type::{DataType, DiscreteType};
+use crate::declarator::Declarator;
+use crate::expression::Expression;
+use crate::name::ScopedName;
+use crate::several::Several;
+use idl_base::{Boxed, Seq, Text};
+
+/// An enum, with its enumerators.
+#[derive(Drop)]
+pub struct Enumeration {
+    pub name: Text,
+    pub enumerators: Several<Text>,
+}
+
+/// The type of a union's discriminator.
+#[derive(Drop)]
+pub enum Discriminator {
+    Discrete(DiscreteType),
+    Name(ScopedName),
+}
+
+/// A label of a case.
+#[derive(Drop)]
+pub enum Label {
+    Case(Expression),
+    Default,
+}
+
+/// A type, or one that is declared in place.
+#[cycle(construction)]
+#[derive(Drop)]
+pub enum MemberType {
+    Type(DataType),
+    Construction(Boxed<Construction>),
+}
+
+/// A struct, a union or an enum.
+#[cycle(construction)]
+#[derive(Drop)]
+pub enum Construction {
+    Structure(Structure),
+    Union(Union),
+    Enumeration(Enumeration),
+}
+
+/// A struct, with one member or more.
+#[cycle(construction)]
+#[derive(Drop)]
+pub struct Structure {
+    pub name: Text,
+    pub first: Member,
+    pub rest: Seq<Member>,
+}
+
+/// Members of one type.
+#[cycle(construction)]
+#[derive(Drop)]
+pub struct Member {
+    pub kind: MemberType,
+    pub declarators: Several<Declarator>,
+}
+
+/// A union, with one case or more.
+#[cycle(construction)]
+#[derive(Drop)]
+pub struct Union {
+    pub name: Text,
+    pub discriminator: Discriminator,
+    pub first: Case,
+    pub rest: Seq<Case>,
+}
+
+/// A member of a union, with its labels.
+#[cycle(construction)]
+#[derive(Drop)]
+pub struct Case {
+    pub labels: Several<Label>,
+    pub kind: MemberType,
+    pub declarator: Declarator,
+}

@@ -1,0 +1,72 @@
+//! Types.
+
+use crate::expression::Expression;
+use crate::name::ScopedName;
+use idl_base::Boxed;
+
+/// How wide an integer type is.
+#[derive(Clone, Copy)]
+pub enum IntegerSize {
+    Short,
+    Long,
+    LongLong,
+}
+
+/// An integer type.
+#[derive(Clone, Copy)]
+pub struct IntegerType {
+    pub is_unsigned: bool,
+    pub size: IntegerSize,
+}
+
+/// A type of keywords alone whose values can be told one from another by labels, and be constants.
+#[derive(Clone, Copy)]
+pub enum DiscreteType {
+    Integer(IntegerType),
+    Char,
+    WideChar,
+    Boolean,
+    Octet,
+}
+
+/// A type of keywords alone.
+#[derive(Clone, Copy)]
+pub enum BasicType {
+    Discrete(DiscreteType),
+    Float,
+    Double,
+    LongDouble,
+    Any,
+    Object,
+}
+
+/// `string` or `wstring`, with or without a bound.
+#[derive(Drop)]
+pub struct StringType {
+    pub is_wide: bool,
+    pub bound: Option<Expression>,
+}
+
+/// A type that holds no other one.
+#[derive(Drop)]
+pub enum PlainType {
+    Basic(BasicType),
+    String(StringType),
+    Name(ScopedName),
+}
+
+/// A type.
+#[cycle(data_type)]
+#[derive(Drop)]
+pub enum DataType {
+    Plain(PlainType),
+    Sequence(Boxed<Sequence>),
+}
+
+/// `sequence`, with or without a bound.
+#[cycle(data_type)]
+#[derive(Drop)]
+pub struct Sequence {
+    pub element: DataType,
+    pub bound: Option<Expression>,
+}

@@ -1,0 +1,15 @@
+use Rattle.std.proofs.Common.{length, ◌≤◌}
+use Rattle.idl_lex.specs.declared.mark.Mark.TheVariants.{ColonColon}
+use Rattle.idl_tree.specs.ReadName.{part_at, parts_at}
+use Rattle.idl_tree.specs.Tests.{is_mark}
+use Rattle.idl_tree.proofs.Turns.{Turns}
+use Rattle.idl_tree.proofs.read.parts.Given as goal
+
+abbrev pub invariant-parts : goal.invariant-parts
+invariant-parts l = record {
+  turns : Turns (is_mark ColonColon) part_at l.parts.items l.rest (parts_at l.fn.tokens);
+  long : length l.rest ≤ length l.fn.tokens;
+}
+
+abbrev pub decreases-parts : goal.decreases-parts
+decreases-parts l = length l.rest
