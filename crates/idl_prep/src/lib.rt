@@ -27,7 +27,7 @@ mod tree;
 
 pub use candidate::first_candidate;
 pub use kind::{Kind, Plain, Test};
-pub use root_task::{Expansion, RootTask, absent};
+pub use root_task::{RootTask, absent};
 pub use tree::tree_of_lines;
 
 /// Files that may be open inside one another, the root's among them.
