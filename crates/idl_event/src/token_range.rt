@@ -169,8 +169,10 @@ impl Hash for TokenRange {
     ghost respects_eq = { λ x y h. ap (flat_map (fed.slice fed.u8)) ((pointwise_decides bytes_decides x y).0 h) };
 
     fn hash<H: Hasher>(&self, state: &mut H) {
-        for placed in self.as_slice() {
+        let mut left = self.as_slice();
+        while let [placed, rest @ ..] = left {
             placed.token.hash(state);
+            left = rest;
         }
     }
 }
@@ -185,5 +187,15 @@ impl Datum for TokenRange {
 fn have_same_tokens(a: &[PlacedToken], b: &[PlacedToken]) -> bool
     ensures { result ≡ pointwise bytes_eq (tokens_in a.now) (tokens_in b.now) }
 {
-    a.len() == b.len() && a.iter().zip(b).all(|(x, y)| x.token == y.token)
+    let mut others = b;
+    for placed in a {
+        let [other, rest @ ..] = others else {
+            return false;
+        };
+        if placed.token != other.token {
+            return false;
+        }
+        others = rest;
+    }
+    others.is_empty()
 }

@@ -5,13 +5,14 @@
 //! knows trees or names, or which scopes are open.
 #![tactic(auto)]
 
+mod cut;
 mod ending;
 mod fault;
 mod gathered;
 mod pragma;
 mod role;
 mod run;
-mod split;
+
 mod token_rules;
 mod unit;
 mod version;
@@ -21,6 +22,6 @@ pub use fault::{Fault, first_fault};
 pub use pragma::pragma_fault;
 pub use role::{Role, Rule, rule_of};
 pub use run::Run;
-pub use split::split;
+pub use cut::split;
 pub use token_rules::token_fault;
 pub use unit::{Site, Unit, UnitText, Units};
