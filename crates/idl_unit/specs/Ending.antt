@@ -27,19 +27,19 @@ role token = role_of (kind_of token)
 
 abbrev pub opens : Role → Bool
 opens OpenBrace = true
-opens other = false
+opens role = false
 
 abbrev pub closes : Role → Bool
 closes CloseBrace = true
-closes other = false
+closes role = false
 
 abbrev pub is_semicolon : Role → Bool
 is_semicolon Semicolon = true
-is_semicolon other = false
+is_semicolon role = false
 
 abbrev pub is_interface : Role → Bool
 is_interface Interface = true
-is_interface other = false
+is_interface role = false
 
 -- the first token has this role
 abbrev pub begins : (Role → Bool) → List Token → Bool
@@ -62,7 +62,7 @@ rule_by CloseBrace rest = Closing
 rule_by Module rest = Heading
 rule_by Interface rest = Heading
 rule_by Local rest = if begins is_interface rest then Heading else Declaration
-rule_by other rest = Declaration
+rule_by role rest = Declaration
 
 -- a closing begins with `}`, and a heading with `module`, `interface`, or `local` before `interface`
 abbrev pub rule_of : List Token → Rule

@@ -1,5 +1,5 @@
 -- The tokens that may not stand in a unit, or not there.
-use Rattle.std.specs.Prelude.{ℕ, ◌+◌, Bool, true, false, ◌&&◌, ◌||◌, List, [], ◌∷◌, ◌++◌, count_by, length, map, nat_lt, Option, None, Some, if◌then◌else◌, slice_get}
+use Rattle.std.specs.Prelude.{ℕ, ◌+◌, Bool, true, false, ◌&&◌, ◌||◌, List, [], ◌∷◌, ◌++◌, count_by, length, map, nat_lt, drop, Option, None, Some, if◌then◌else◌}
 use Rattle.idl_event.specs.declared.code.Code.{Code}
 use Rattle.idl_event.specs.declared.code.Code.TheVariants.{BadToken, UnclosedLiteral, NotOneCharacter, BadEscape, MalformedInteger, FloatingLiteral, IntegerTooLarge, MixedWidths, UnclosedComment, LeftOut, NestedTooDeep, LikeKeyword}
 use Rattle.idl_lex.specs.Kind.{kind_of}
@@ -31,10 +31,10 @@ bad_codes (Preprocessing mark) = BadToken ∷ []
 bad_codes other = []
 
 -- a wide string literal directly after a narrow one, or the other way round
-abbrev pub is_other_width : Option Kind → Kind → Bool
-is_other_width (Some String) WideString = true
-is_other_width (Some WideString) String = true
-is_other_width last kind = false
+abbrev pub is_other_width : Kind → Option Kind → Bool
+is_other_width WideString (Some String) = true
+is_other_width String (Some WideString) = true
+is_other_width kind last = false
 
 abbrev pub is_const : Option Kind → Bool
 is_const (Some (Accepted Const)) = true
@@ -45,11 +45,11 @@ is_long (Some (Accepted Long)) = true
 is_long other = false
 
 -- a refused keyword; `float` or `double` directly after `const`, and `double` directly after `const long`
-abbrev pub is_left_out : Option Kind → Option Kind → Kind → Bool
-is_left_out second last Refused = true
-is_left_out second last (Accepted Float) = is_const last
-is_left_out second last (Accepted Double) = is_const last || (is_long last && is_const second)
-is_left_out second last other = false
+abbrev pub is_left_out : Kind → Option Kind → Option Kind → Bool
+is_left_out Refused last second = true
+is_left_out (Accepted Float) last second = is_const last
+is_left_out (Accepted Double) last second = is_const last || (is_long last && is_const second)
+is_left_out other last second = false
 
 -- `{`, `(`, `[` and `<`
 abbrev pub nests : Kind → Bool
@@ -79,14 +79,24 @@ is_miscased other = false
 abbrev pub code_if : Bool → Code → List Code
 code_if b code = if b then code ∷ [] else []
 
+-- the codes of a token of this kind, directly before which these two stand, the nearer first, and with which too many
+-- brackets are open or not
+abbrev pub codes_beside : Kind → Option Kind → Option Kind → Bool → List Code
+codes_beside kind last second deep =
+    bad_codes kind
+    ++ (code_if (is_other_width kind last) MixedWidths
+    ++ (code_if (is_left_out kind last second) LeftOut
+    ++ (code_if deep NestedTooDeep
+    ++ code_if (is_miscased kind) LikeKeyword)))
+
+abbrev pub first : {X : Type 0} → List X → Option X
+first [] = None
+first (x ∷ xs) = Some x
+
 -- the codes of a token of this kind, before which tokens of these kinds stand in its unit, the nearest first
 abbrev pub token_codes : List Kind → Kind → List Code
 token_codes before kind =
-    bad_codes kind
-    ++ (code_if (is_other_width (slice_get before 0) kind) MixedWidths
-    ++ (code_if (is_left_out (slice_get before 1) (slice_get before 0) kind) LeftOut
-    ++ (code_if (is_too_deep (kind ∷ before)) NestedTooDeep
-    ++ code_if (is_miscased kind) LikeKeyword)))
+    codes_beside kind (first before) (first (drop 1 before)) (is_too_deep (kind ∷ before))
 
 abbrev pub fault_at : ℕ → Code → Fault
 fault_at n code = record { index = n; code = code }

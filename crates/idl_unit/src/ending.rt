@@ -1,7 +1,7 @@
 //! The first unit of tokens.
 
 ghost use Rattle.std.specs.Prelude.{◌≡◌, ◌<◌, ◌≤◌, ◌∷◌, ◌++◌, length, take, drop};
-ghost use Rattle.idl_unit.specs.Ending.{rule_of, token_units};
+ghost use Rattle.idl_unit.specs.Ending.{begins, is_semicolon, rule_of, token_units};
 ghost use Rattle.idl_unit.specs.declared.role.Rule.TheVariants as rule;
 
 use crate::role::{Role, Rule, role_of, rule_of};
@@ -31,13 +31,7 @@ fn closing_len(tokens: &[Token]) -> usize
     ensures some { 0 < result }
     ensures within { result ≤ length tokens.now }
 {
-    let [_close, next, ..] = tokens else {
-        return 1;
-    };
-    match role_of(next) {
-        Role::Semicolon => 2,
-        _ => 1,
-    }
+    if begins_semicolon(&tokens[1..]) { 2 } else { 1 }
 }
 
 // A heading goes through the first `{` or `;`, or ends before an earlier `}`.
@@ -51,7 +45,8 @@ fn heading_len(tokens: &[Token]) -> usize
 {
     for (index, token) in tokens.iter().enumerate() {
         match role_of(token) {
-            Role::OpenBrace | Role::Semicolon => return index + 1,
+            Role::OpenBrace => return index + 1,
+            Role::Semicolon => return index + 1,
             Role::CloseBrace => return index,
             _ => {}
         }
@@ -72,11 +67,38 @@ fn declaration_len(tokens: &[Token]) -> usize
     for (index, token) in tokens.iter().enumerate() {
         match role_of(token) {
             Role::OpenBrace => depth += 1,
-            Role::CloseBrace if depth == 0 => return index,
-            Role::CloseBrace => depth -= 1,
-            Role::Semicolon if depth == 0 => return index + 1,
+            Role::CloseBrace => {
+                if depth == 0 {
+                    return index;
+                }
+                depth -= 1;
+            }
+            Role::Semicolon => {
+                if depth == 0 {
+                    return index + 1;
+                }
+            }
             _ => {}
         }
     }
     tokens.len()
+}
+
+// Whether `;` comes first.
+fn begins_semicolon(tokens: &[Token]) -> bool
+    ensures { result ≡ begins is_semicolon tokens.now }
+{
+    match tokens {
+        [first, ..] => is_semicolon(role_of(first)),
+        [] => false,
+    }
+}
+
+fn is_semicolon(role: Role) -> bool
+    ensures { result ≡ is_semicolon role }
+{
+    match role {
+        Role::Semicolon => true,
+        _ => false,
+    }
 }

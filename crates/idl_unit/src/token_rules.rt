@@ -1,10 +1,9 @@
 //! The tokens that may not stand in a unit, or not there.
 
-ghost use Rattle.std.specs.Prelude.{◌≡◌, ◌<◌, length, map, IfSome, slice_get};
+ghost use Rattle.std.specs.Prelude.{◌≡◌, ◌<◌, ◌+◌, ◌-◌, ◌^◌, Some, None, cond, length, nat_lt, IfSome};
 ghost use Rattle.std.specs.Option.{option_to_list};
-ghost use Rattle.idl_lex.specs.Kind.{kind_of};
 ghost use Rattle.idl_unit.specs.Faults.{least_fault};
-ghost use Rattle.idl_unit.specs.TokenRules.{bad_codes, defect_code, is_const, is_left_out, is_long, is_other_width, nests, token_faults, unnests};
+ghost use Rattle.idl_unit.specs.TokenRules.{bad_codes, codes_beside, defect_code, first, is_const, is_left_out, is_long, is_other_width, nests, token_faults, unnests};
 
 use crate::fault::Fault;
 use idl_event::Code;
@@ -22,7 +21,7 @@ pub fn token_fault(unit: &[Token]) -> Option<Fault>
     for (index, token) in unit.iter().enumerate() {
         let kind = token.kind();
         let through = before.with(kind);
-        if let Some(code) = token_code(before, kind, through.is_too_deep()) {
+        if let Some(code) = token_code(kind, before, through.is_too_deep()) {
             return Some(Fault { index, code });
         }
         before = through;
@@ -44,7 +43,9 @@ struct Before {
 }
 
 impl Before {
-    fn nothing() -> Before {
+    fn nothing() -> Before
+        ensures { result ≡ record { last = None; second = None; opened = 0; closed = 0 } }
+    {
         Before {
             last: None,
             second: None,
@@ -54,7 +55,14 @@ impl Before {
     }
 
     // With a token of this kind more.
-    fn with(self, kind: Kind) -> Before {
+    fn with(self, kind: Kind) -> Before
+        requires opened { self.opened < 2 ^ 64 - 1 }
+        requires closed { self.closed < 2 ^ 64 - 1 }
+        ensures last { result.last ≡ Some kind }
+        ensures second { result.second ≡ self.last }
+        ensures opened { result.opened ≡ cond (nests kind) 1 0 + self.opened }
+        ensures closed { result.closed ≡ cond (unnests kind) 1 0 + self.closed }
+    {
         Before {
             last: Some(kind),
             second: self.last,
@@ -63,21 +71,25 @@ impl Before {
         }
     }
 
-    // Whether brackets stand too deep in one another.
-    fn is_too_deep(self) -> bool {
+    // Whether too many brackets are open.
+    fn is_too_deep(self) -> bool
+        ensures { result ≡ nat_lt (self.closed + 64) self.opened }
+    {
         self.opened.saturating_sub(self.closed) > MAX_NESTING
     }
 }
 
-// The least code of a token of this kind, if it has one: brackets through it may be too deep.
-fn token_code(before: Before, kind: Kind, is_too_deep: bool) -> Option<Code> {
+// The least code of a token of this kind, if it has one. With it too many brackets are open, or not.
+fn token_code(kind: Kind, before: Before, is_too_deep: bool) -> Option<Code>
+    ensures { result ≡ first (codes_beside kind before.last before.second is_too_deep) }
+{
     if let Some(code) = bad_code(kind) {
         return Some(code);
     }
-    if is_other_width(before.last, kind) {
+    if is_other_width(kind, before.last) {
         return Some(Code::MixedWidths);
     }
-    if is_left_out(before.second, before.last, kind) {
+    if is_left_out(kind, before.last, before.second) {
         return Some(Code::LeftOut);
     }
     if is_too_deep {
@@ -117,19 +129,19 @@ fn defect_code(defect: Defect) -> Code
 }
 
 // Whether a string literal comes directly after one of the other width.
-fn is_other_width(last: Option<Kind>, kind: Kind) -> bool
-    ensures { result ≡ is_other_width last kind }
+fn is_other_width(kind: Kind, last: Option<Kind>) -> bool
+    ensures { result ≡ is_other_width kind last }
 {
-    match (last, kind) {
-        (Some(Kind::String), Kind::WideString) => true,
-        (Some(Kind::WideString), Kind::String) => true,
+    match (kind, last) {
+        (Kind::WideString, Some(Kind::String)) => true,
+        (Kind::String, Some(Kind::WideString)) => true,
         _ => false,
     }
 }
 
 // Whether the token is a refused keyword, or one that stands for a floating constant's type.
-fn is_left_out(second: Option<Kind>, last: Option<Kind>, kind: Kind) -> bool
-    ensures { result ≡ is_left_out second last kind }
+fn is_left_out(kind: Kind, last: Option<Kind>, second: Option<Kind>) -> bool
+    ensures { result ≡ is_left_out kind last second }
 {
     match kind {
         Kind::Refused => true,
