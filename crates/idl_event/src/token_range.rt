@@ -1,13 +1,20 @@
 //! Ranges of a file's tokens: lent ones, which know where they stand, and shared ones.
 
-ghost use Rattle.std.specs.Prelude.{◌≡◌, ◌≤◌, drop, length, take, IfOk, IfSome};
+ghost use Rattle.std.specs.Prelude.{◌≡◌, ◌≤◌, ◌↔◌, IsTrue, drop, flat_map, length, refl, take, IfOk, IfSome};
+ghost use Rattle.std.specs.Cmp.{partial_equiv_from_equiv};
+ghost use Rattle.std.specs.Cmp.Lexicographic.{bytes_decides, lists_equiv, lists_per, nat_list_eq_equiv, pointwise, pointwise_decides};
+ghost use Rattle.std.specs.Hash as fed;
+ghost use Rattle.std.specs.Str.{bytes_eq};
+ghost use Rattle.std.proofs.Common.{ap};
 ghost use Rattle.idl_groups.specs.Jump.{IsJump};
 ghost use Rattle.idl_groups.specs.Line.{lines_from};
 ghost use Rattle.idl_lex.specs.Tokens.{tokens_in};
 
+use idl_base::Datum;
 use idl_groups::{GroupFault, GroupedTokens};
 use idl_lex::PlacedToken;
 use std::alloc::AllocError;
+use std::hash::{Hash, Hasher};
 use std::marker::Model;
 use std::rc::Rc;
 
@@ -142,4 +149,70 @@ impl TokenRange {
     {
         &self.file.tokens()[self.from..self.to]
     }
+}
+
+impl Clone for TokenRange {
+    ghost is_clone = { λ range copy. copy ≡ range };
+
+    fn clone(&self) -> Result<TokenRange, AllocError> {
+        Ok(TokenRange {
+            file: self.file.clone()?,
+            from: self.from,
+            to: self.to,
+        })
+    }
+}
+
+impl PartialEq for TokenRange {
+    ghost eq = { pointwise bytes_eq };
+
+    ghost laws = { lists_per (partial_equiv_from_equiv nat_list_eq_equiv) };
+
+    fn eq(&self, other: &TokenRange) -> bool
+        ensures by_token { result ≡ pointwise bytes_eq self.now other.now }
+        ensures exact { IsTrue result ↔ (self.now ≡ other.now) }
+    {
+        have_same_tokens(self.as_slice(), other.as_slice())
+    }
+}
+
+impl Eq for TokenRange {
+    ghost laws = { lists_equiv nat_list_eq_equiv };
+}
+
+impl Hash for TokenRange {
+    ghost hash_input = { flat_map (fed.slice fed.u8) };
+
+    ghost respects_eq = { λ x y h. ap (flat_map (fed.slice fed.u8)) ((pointwise_decides bytes_decides x y).0 h) };
+
+    fn hash<H: Hasher>(&self, state: &mut H) {
+        let mut left = self.as_slice();
+        while let [placed, rest @ ..] = left {
+            placed.token.hash(state);
+            left = rest;
+        }
+    }
+}
+
+impl Datum for TokenRange {
+    ghost same = { λ x y. (pointwise_decides bytes_decides x y).0 };
+
+    ghost copy = { λ x y h. h };
+}
+
+// Whether the tokens are the same, wherever they stand.
+fn have_same_tokens(a: &[PlacedToken], b: &[PlacedToken]) -> bool
+    ensures { result ≡ pointwise bytes_eq (tokens_in a.now) (tokens_in b.now) }
+{
+    let mut others = b;
+    for placed in a {
+        let [other, rest @ ..] = others else {
+            return false;
+        };
+        if placed.token != other.token {
+            return false;
+        }
+        others = rest;
+    }
+    others.is_empty()
 }

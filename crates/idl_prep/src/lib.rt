@@ -25,7 +25,7 @@ mod stray;
 mod text;
 
 pub use candidate::first_candidate;
-pub use root_task::{Expansion, RootTask, absent};
+pub use root_task::{RootTask, absent};
 
 /// Files that may be open inside one another, the root's among them.
 pub const MAX_DEPTH: usize = 64;

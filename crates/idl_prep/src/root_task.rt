@@ -15,36 +15,11 @@ use crate::file::walk_file;
 use crate::root::Root;
 use crate::site::Site;
 use crate::text::text_of;
-use idl_event::{Code, Event, FileName, Key, Place, RootBank};
+use idl_event::{Code, Expansion, FileName, Key, Place, RootBank};
 use idl_memo::{Kind, Log, Task};
 use idl_source::Name;
 use std::alloc::{AllocError, Global};
-use std::marker::Model;
 use std::mem::replace;
-
-/// What a root expands to: its events in order.
-#[derive(Drop)]
-pub struct Expansion {
-    events: Vec<Event>,
-}
-
-impl Model for Expansion {
-    ghost use Rattle.std.specs.Prelude.{List};
-    ghost use Rattle.idl_event.specs.declared.event.Event.{Event};
-
-    ghost Value = { List Event };
-
-    ghost view = { λ expansion. expansion.events.items };
-}
-
-impl Expansion {
-    /// The events in order.
-    pub fn events(&self) -> &[Event]
-        ensures { result.now ≡ self.now }
-    {
-        &self.events
-    }
-}
 
 /// The expansion of the root with this name.
 #[derive(Drop)]
@@ -89,7 +64,7 @@ impl<B: RootBank> Task<B> for RootTask {
         expand(&mut root, &file, bank)?;
         let (events, logged) = root.into_parts();
         *log = logged;
-        Ok(Expansion { events })
+        Ok(Expansion::from_vec(events))
     }
 }
 

@@ -38,7 +38,7 @@ pub fn compile<B: RootBank>(
     let mut log = Log::new(alloc);
     let task = RootTask::new(root.copied());
     let expansion = task.run(alloc, bank, &mut log)?;
-    let rows = idl_small::compile(alloc, expansion.events())?;
+    let rows = idl_small::compile(alloc, expansion.as_slice())?;
     let names = absent(alloc, &log)?;
     Ok(CompiledRoot {
         rows,

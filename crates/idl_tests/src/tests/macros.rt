@@ -2,9 +2,9 @@
 
 use super::support::{file_of, has_replies};
 use idl_base::Table;
-use idl_event::{Answer, Event, FileName, Key, LexedFile};
+use idl_event::{Answer, Event, Expansion, FileName, Key, LexedFile};
 use idl_memo::{Bank, Log, Task};
-use idl_prep::{Expansion, RootTask};
+use idl_prep::RootTask;
 use idl_source::Name;
 use std::alloc::{AllocError, Global};
 use std::test::Fail;
@@ -61,7 +61,7 @@ fn expanded(alloc: Global, text: &str) -> Result<Vec<u8>, Fail> {
     let name = Name::new(b"a.idl").ok_or("no name")?;
     let bank = answers_of(alloc, &name, text)?;
     let expansion = expansion(alloc, &bank, name)?;
-    Ok(emitted(alloc, expansion.events())?)
+    Ok(emitted(alloc, expansion.as_slice())?)
 }
 
 fn expansion(alloc: Global, bank: &Answers, name: Name) -> Result<Expansion, AllocError> {
