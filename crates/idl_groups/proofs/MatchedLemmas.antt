@@ -13,7 +13,7 @@ use Rattle.idl_groups.specs.declared.branch.BranchSpan.{BranchSpan}
 use Rattle.idl_groups.specs.declared.branch.OpenBranch.{OpenBranch}
 use Rattle.idl_groups.specs.declared.fault.GroupFault.{GroupFault}
 use Rattle.idl_groups.specs.declared.fault.Misplaced.TheVariants.{OutOfPlace, NotClosed}
-use Rattle.idl_groups.specs.declared.kind.Kind.TheVariants.{Endif, Opening}
+use Rattle.idl_groups.specs.declared.kind.DirectiveKind.TheVariants.{Endif, Opening}
 use Rattle.idl_groups.specs.declared.kind.Test.{Test}
 use Rattle.idl_groups.proofs.MatchingLemmas.{open-alone, open-branch, open-endif, open-opening, open-stray, open-unclosed}
 

@@ -9,7 +9,7 @@ use Rattle.idl_groups.specs.TreeLaw.{Inside, IsFormed, IsLineAlone, IsTreeFormed
 use Rattle.idl_groups.specs.declared.branch.OpenBranch.{OpenBranch}
 use Rattle.idl_groups.specs.declared.fault.GroupFault.{GroupFault}
 use Rattle.idl_groups.specs.declared.fault.Misplaced.TheVariants.{OutOfPlace, NotClosed}
-use Rattle.idl_groups.specs.declared.kind.Kind.TheVariants.{Endif, Opening}
+use Rattle.idl_groups.specs.declared.kind.DirectiveKind.TheVariants.{Endif, Opening}
 use Rattle.idl_groups.specs.declared.kind.Test.{Test}
 use Rattle.idl_groups.proofs.TreeLawLemmas.{formed-append, lines_in_forest-append}
 

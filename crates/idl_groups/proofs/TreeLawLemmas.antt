@@ -1,11 +1,11 @@
 -- The tree of a file has its lines, each where it may stand, and is the only one.
 use Rattle.std.proofs.Common.{◌≡◌, Bool, true, false, List, [], ◌∷◌, ◌++◌, if◌then◌else◌, refl, ap, sym, subst, ◌∙◌, append_assoc}
 use Rattle.std.proofs.lemmas.List.{append-nil}
-use Rattle.idl_groups.specs.Line.{Directive, Line, Text, Bare, Directed}
+use Rattle.idl_groups.specs.Line.{Directive, Line, Text, NullDirective, Directed}
 use Rattle.idl_groups.specs.Tree.{IsBranch, IsOfGroup, Tree, Leaf, Stray, Group, Forest, Empty, Grow, Branches, Closed, Unclosed, Branch, Tail, AtEnd, At, Part, Closing, append, before, close, directive_before, group_before, grown, is_else, is_endif, part, strays, tree}
 use Rattle.idl_groups.specs.TreeLaw.{Around, Outside, Inside, AreFormed, IsAlone, IsFormed, IsTreeFormed, MayStray, lines_in_branches, lines_in_forest, lines_in_tree}
-use Rattle.idl_groups.specs.declared.kind.Kind.{Kind}
-use Rattle.idl_groups.specs.declared.kind.Kind.TheVariants.{Alone, Opening, Elif, Else, Endif}
+use Rattle.idl_groups.specs.declared.kind.DirectiveKind.{DirectiveKind}
+use Rattle.idl_groups.specs.declared.kind.DirectiveKind.TheVariants.{Alone, Opening, Elif, Else, Endif}
 use Rattle.idl_groups.specs.declared.kind.Test.{Test}
 use Rattle.idl_groups.proofs.TreeLemmas.{before-of_group, body_grown, branch_before, close-branch, close-endif, close-Grow, close-stray, ending, of_group-branch, strays-Grow}
 
@@ -54,7 +54,7 @@ lines_in_closing-close has_else body (At d front tail) =
     (λ goes_on none. ap (λ (ls : List Line). lines_in_forest body ++ (Directed d ∷ ls))
     (append_assoc (lines_in_forest next.body) (lines_in_branches next.branches) (lines_in_part next.after) ∙ lines_in_closing-close (is_else d.kind) front tail))
 
-lines_in_part-directive : (k : Kind) (d : Directive) (p : Part) → lines_in_part (directive_before k d p) ≡ Directed d ∷ lines_in_part p
+lines_in_part-directive : (k : DirectiveKind) (d : Directive) (p : Part) → lines_in_part (directive_before k d p) ≡ Directed d ∷ lines_in_part p
 unfolding lines_in_forest
 lines_in_part-directive (Alone what) d p = refl
 lines_in_part-directive (Opening what) d p =
@@ -69,7 +69,7 @@ lines_in_part-directive Endif d p = refl
 lines_in_part-before : (l : Line) (p : Part) → lines_in_part (before l p) ≡ l ∷ lines_in_part p
 unfolding lines_in_forest
 lines_in_part-before (Text tokens) p = refl
-lines_in_part-before (Bare line) p = refl
+lines_in_part-before (NullDirective line) p = refl
 lines_in_part-before (Directed d) p = lines_in_part-directive d.kind d p
 
 lines_in_part-part : (lines : List Line) → lines_in_part (part lines) ≡ lines
@@ -117,14 +117,14 @@ record IsClosingFormed (has_else : Bool) (c : Closing) : Type 0 where
   branches : AreFormed has_else c.branches (lines_in_part c.after)
   after : IsPartFormed c.after
 
-ends-endif : (k : Kind) → is_endif k ≡ true → k ≡ Endif
+ends-endif : (k : DirectiveKind) → is_endif k ≡ true → k ≡ Endif
 ends-endif (Alone what) e = cc
 ends-endif (Opening what) e = cc
 ends-endif Elif e = cc
 ends-endif Else e = cc
 ends-endif Endif e = refl
 
-goes_on-branch : (k : Kind) → IsOfGroup k → is_endif k ≡ false → IsBranch k
+goes_on-branch : (k : DirectiveKind) → IsOfGroup k → is_endif k ≡ false → IsBranch k
 goes_on-branch (Alone what) h e = absurd h
 goes_on-branch (Opening what) h e = absurd h
 goes_on-branch Elif h e = tt
@@ -153,20 +153,20 @@ formed-close has_else body (At d front tail) h k =
       after = later.after;
     })
 
-formed-directive : (k : Kind) (d : Directive) (p : Part) → d.kind ≡ k → IsPartFormed p → IsPartFormed (directive_before k d p)
+formed-directive : (k : DirectiveKind) (d : Directive) (p : Part) → d.kind ≡ k → IsPartFormed p → IsPartFormed (directive_before k d p)
 unfolding lines_in_forest IsFormed
-formed-directive (Alone what) d p is h = ((let P : Kind → Type 0 = λ k. IsAlone k in subst P (sym is) tt, h.0), h.1)
+formed-directive (Alone what) d p is h = ((let P : DirectiveKind → Type 0 = λ k. IsAlone k in subst P (sym is) tt, h.0), h.1)
 formed-directive (Opening what) d p is h =
     let c = formed-close false p.front p.tail h.0 h.1 in
     (((is, c.body, c.branches), c.after.0), c.after.1)
-formed-directive Elif d p is h = (tt, (let P : Kind → Type 0 = λ k. IsOfGroup k in subst P (sym is) tt, h.0, h.1))
-formed-directive Else d p is h = (tt, (let P : Kind → Type 0 = λ k. IsOfGroup k in subst P (sym is) tt, h.0, h.1))
-formed-directive Endif d p is h = (tt, (let P : Kind → Type 0 = λ k. IsOfGroup k in subst P (sym is) tt, h.0, h.1))
+formed-directive Elif d p is h = (tt, (let P : DirectiveKind → Type 0 = λ k. IsOfGroup k in subst P (sym is) tt, h.0, h.1))
+formed-directive Else d p is h = (tt, (let P : DirectiveKind → Type 0 = λ k. IsOfGroup k in subst P (sym is) tt, h.0, h.1))
+formed-directive Endif d p is h = (tt, (let P : DirectiveKind → Type 0 = λ k. IsOfGroup k in subst P (sym is) tt, h.0, h.1))
 
 formed-before : (l : Line) (p : Part) → IsPartFormed p → IsPartFormed (before l p)
 unfolding lines_in_forest IsFormed
 formed-before (Text tokens) p h = ((tt, h.0), h.1)
-formed-before (Bare line) p h = ((tt, h.0), h.1)
+formed-before (NullDirective line) p h = ((tt, h.0), h.1)
 formed-before (Directed d) p h = formed-directive d.kind d p refl h
 
 formed-part : (lines : List Line) → IsPartFormed (part lines)
@@ -218,12 +218,12 @@ settled-stray Outside d p h = refl
 settled-stray (Inside true) d p h = close-stray d p h
 settled-stray (Inside false) d p h = absurd h
 
-of_group-stray : (around : Around) (k : Kind) → MayStray around k → IsOfGroup k
+of_group-stray : (around : Around) (k : DirectiveKind) → MayStray around k → IsOfGroup k
 of_group-stray Outside k h = h
 of_group-stray (Inside true) k h = of_group-branch k h
 of_group-stray (Inside false) k h = absurd h
 
-before-Leaf : (k : Kind) (d : Directive) (p : Part) → IsAlone k → directive_before k d p ≡ grown (Leaf (Directed d)) p
+before-Leaf : (k : DirectiveKind) (d : Directive) (p : Part) → IsAlone k → directive_before k d p ≡ grown (Leaf (Directed d)) p
 before-Leaf (Alone what) d p h = refl
 before-Leaf (Opening what) d p h = absurd h
 before-Leaf Elif d p h = absurd h
@@ -260,7 +260,7 @@ mutual
 
   settled-tree : (around : Around) (t : Tree) (after : List Line) → IsTreeFormed around t after → settled around (part (lines_in_tree t ++ after)) ≡ body_grown t (settled around (part after))
   settled-tree around (Leaf (Text tokens)) after h = settled-grown around (Leaf (Text tokens)) (part after)
-  settled-tree around (Leaf (Bare line)) after h = settled-grown around (Leaf (Bare line)) (part after)
+  settled-tree around (Leaf (NullDirective line)) after h = settled-grown around (Leaf (NullDirective line)) (part after)
   settled-tree around (Leaf (Directed d)) after h = ap (settled around) (before-Leaf d.kind d (part after) h) ∙ settled-grown around (Leaf (Directed d)) (part after)
   settled-tree around (Stray d) after h = ap (settled around) (before-of_group d.kind d (part after) (of_group-stray around d.kind h)) ∙ settled-stray around d (part after) h
   settled-tree around (Group d what f bs) after h =

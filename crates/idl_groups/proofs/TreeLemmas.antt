@@ -2,8 +2,8 @@
 use Rattle.std.proofs.Common.{◌≡◌, Bool, true, false, if◌then◌else◌, refl, ap, ◌∙◌}
 use Rattle.idl_groups.specs.Line.{Directive, Directed}
 use Rattle.idl_groups.specs.Tree.{IsBranch, IsOfGroup, Tree, Leaf, Stray, Forest, Empty, Grow, Closed, Branch, Tail, AtEnd, At, Part, Closing, append, before, is_endif, is_else, close, directive_before, grown, strays}
-use Rattle.idl_groups.specs.declared.kind.Kind.{Kind}
-use Rattle.idl_groups.specs.declared.kind.Kind.TheVariants.{Alone, Opening, Elif, Else, Endif}
+use Rattle.idl_groups.specs.declared.kind.DirectiveKind.{DirectiveKind}
+use Rattle.idl_groups.specs.declared.kind.DirectiveKind.TheVariants.{Alone, Opening, Elif, Else, Endif}
 use Rattle.idl_groups.specs.declared.kind.Plain.{Plain}
 
 -- a tree before the group's end
@@ -35,21 +35,21 @@ before-alone d what p is = ap (λ k. directive_before k d p) is
 abbrev pub ending : Directive → Part → Part
 ending d p = record { front = Empty; tail = At d p.front p.tail }
 
-pub before-of_group : (k : Kind) (d : Directive) (p : Part) → IsOfGroup k → directive_before k d p ≡ ending d p
+pub before-of_group : (k : DirectiveKind) (d : Directive) (p : Part) → IsOfGroup k → directive_before k d p ≡ ending d p
 before-of_group (Alone what) d p h = absurd h
 before-of_group (Opening what) d p h = absurd h
 before-of_group Elif d p h = refl
 before-of_group Else d p h = refl
 before-of_group Endif d p h = refl
 
-pub of_group-branch : (k : Kind) → IsBranch k → IsOfGroup k
+pub of_group-branch : (k : DirectiveKind) → IsBranch k → IsOfGroup k
 of_group-branch (Alone what) h = h
 of_group-branch (Opening what) h = h
 of_group-branch Elif h = h
 of_group-branch Else h = h
 of_group-branch Endif h = absurd h
 
-is_endif-branch : (k : Kind) → IsBranch k → is_endif k ≡ false
+is_endif-branch : (k : DirectiveKind) → IsBranch k → is_endif k ≡ false
 is_endif-branch (Alone what) h = refl
 is_endif-branch (Opening what) h = refl
 is_endif-branch Elif h = refl
@@ -60,7 +60,7 @@ is_endif-branch Endif h = absurd h
 pub close-endif : (has_else : Bool) (d : Directive) (p : Part) → d.kind ≡ Endif → close has_else Empty (At d p.front p.tail) ≡ record { body = Empty; branches = Closed d; after = p }
 unfolding close
 close-endif has_else d p is =
-    ap (λ (k : Kind). if is_endif k then record { body = Empty; branches = Closed d; after = p }
+    ap (λ (k : DirectiveKind). if is_endif k then record { body = Empty; branches = Closed d; after = p }
     else (if has_else then close has_else (Grow (Stray d) p.front) p.tail
     else record { body = Empty; branches = Branch d (close (is_else d.kind) p.front p.tail).body (close (is_else d.kind) p.front p.tail).branches; after = (close (is_else d.kind) p.front p.tail).after })) is
 

@@ -1,12 +1,12 @@
 -- Branches of groups that aren't taken: how far they go, and the faults of groups in them, which are told all the same.
 use Rattle.std.specs.Prelude.{◌≡◌, ◌⊎◌, Bool, false, List, [], ◌∷◌, ◌++◌}
-use Rattle.idl_groups.specs.Line.{Directive, Line, Text, Bare, Directed}
+use Rattle.idl_groups.specs.Line.{Directive, Line, Text, NullDirective, Directed}
 use Rattle.idl_groups.specs.Tree.{IsBranch, Tree, Leaf, Stray, Group, Forest, Empty, Grow, Branches, Closed, Unclosed, Branch}
 use Rattle.idl_groups.specs.TreeLaw.{Inside, IsFormed, lines_in_forest}
 use Rattle.idl_groups.specs.declared.fault.GroupFault.{GroupFault}
 use Rattle.idl_groups.specs.declared.fault.Misplaced.{Misplaced}
 use Rattle.idl_groups.specs.declared.fault.Misplaced.TheVariants.{OutOfPlace, NotClosed}
-use Rattle.idl_groups.specs.declared.kind.Kind.TheVariants.{Endif}
+use Rattle.idl_groups.specs.declared.kind.DirectiveKind.TheVariants.{Endif}
 
 -- a fault that is told at a directive
 abbrev pub fault_at : Misplaced → Directive → GroupFault
@@ -42,7 +42,7 @@ pub record IsPassed (has_else : Bool) (lines rest : List Line) (faults : List Gr
 abbrev pub IsNextOfGroup : Bool → List Line → Type 0
 IsNextOfGroup has_else [] = Unit {0}
 IsNextOfGroup has_else (Text tokens ∷ rest) = ⊥
-IsNextOfGroup has_else (Bare line ∷ rest) = ⊥
+IsNextOfGroup has_else (NullDirective line ∷ rest) = ⊥
 IsNextOfGroup has_else (Directed d ∷ rest) =
     (d.kind ≡ Endif) ⊎ ((has_else ≡ false) × IsBranch d.kind)
 

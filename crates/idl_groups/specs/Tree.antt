@@ -1,9 +1,9 @@
 -- The lines of a file as a tree (after ISO/IEC 9899, 6.10, `group` and `if-section`). `TreeLaw` says which tree that is,
 -- however it is made.
 use Rattle.std.specs.Prelude.{Bool, true, false, List, [], ◌∷◌, if◌then◌else◌}
-use Rattle.idl_groups.specs.Line.{Directive, Line, Text, Bare, Directed}
-use Rattle.idl_groups.specs.declared.kind.Kind.{Kind}
-use Rattle.idl_groups.specs.declared.kind.Kind.TheVariants.{Alone, Opening, Elif, Else, Endif}
+use Rattle.idl_groups.specs.Line.{Directive, Line, Text, NullDirective, Directed}
+use Rattle.idl_groups.specs.declared.kind.DirectiveKind.{DirectiveKind}
+use Rattle.idl_groups.specs.declared.kind.DirectiveKind.TheVariants.{Alone, Opening, Elif, Else, Endif}
 use Rattle.idl_groups.specs.declared.kind.Test.{Test}
 
 mutual
@@ -44,22 +44,22 @@ abbrev pub append : Forest → Forest → Forest
 append Empty g = g
 append (Grow t f) g = Grow t (append f g)
 
-abbrev pub is_endif : Kind → Bool
+abbrev pub is_endif : DirectiveKind → Bool
 is_endif Endif = true
 is_endif other = false
 
-abbrev pub is_else : Kind → Bool
+abbrev pub is_else : DirectiveKind → Bool
 is_else Else = true
 is_else other = false
 
 -- another branch of a group begins
-abbrev pub IsBranch : Kind → Type 0
+abbrev pub IsBranch : DirectiveKind → Type 0
 IsBranch Elif = Unit {0}
 IsBranch Else = Unit {0}
 IsBranch other = ⊥
 
 -- a group goes on, or ends
-abbrev pub IsOfGroup : Kind → Type 0
+abbrev pub IsOfGroup : DirectiveKind → Type 0
 IsOfGroup Elif = Unit {0}
 IsOfGroup Else = Unit {0}
 IsOfGroup Endif = Unit {0}
@@ -87,7 +87,7 @@ group_before d what c =
     record { front = Grow (Group d what c.body c.branches) c.after.front; tail = c.after.tail }
 
 -- a directive before a part, by its kind
-abbrev pub directive_before : Kind → Directive → Part → Part
+abbrev pub directive_before : DirectiveKind → Directive → Part → Part
 directive_before (Alone what) d p = grown (Leaf (Directed d)) p
 directive_before (Opening what) d p = group_before d what (close false p.front p.tail)
 directive_before Elif d p = record { front = Empty; tail = At d p.front p.tail }
@@ -97,7 +97,7 @@ directive_before Endif d p = record { front = Empty; tail = At d p.front p.tail 
 -- a line before a part
 abbrev pub before : Line → Part → Part
 before (Text tokens) p = grown (Leaf (Text tokens)) p
-before (Bare line) p = grown (Leaf (Bare line)) p
+before (NullDirective line) p = grown (Leaf (NullDirective line)) p
 before (Directed d) p = directive_before d.kind d p
 
 unfoldable pub part : List Line → Part

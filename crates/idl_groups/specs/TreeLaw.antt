@@ -1,9 +1,9 @@
 -- What makes trees those of their lines: each directive of a group is where it may be.
 use Rattle.std.specs.Prelude.{◌≡◌, Bool, true, false, List, [], ◌∷◌, ◌++◌}
-use Rattle.idl_groups.specs.Line.{Line, Text, Bare, Directed}
+use Rattle.idl_groups.specs.Line.{Line, Text, NullDirective, Directed}
 use Rattle.idl_groups.specs.Tree.{IsBranch, IsOfGroup, Tree, Leaf, Stray, Group, Forest, Empty, Grow, Branches, Closed, Unclosed, Branch, is_else}
-use Rattle.idl_groups.specs.declared.kind.Kind.{Kind}
-use Rattle.idl_groups.specs.declared.kind.Kind.TheVariants.{Alone, Opening, Endif}
+use Rattle.idl_groups.specs.declared.kind.DirectiveKind.{DirectiveKind}
+use Rattle.idl_groups.specs.declared.kind.DirectiveKind.TheVariants.{Alone, Opening, Endif}
 
 -- the lines of a tree, from left to right
 unfoldable mutual
@@ -22,14 +22,14 @@ unfoldable mutual
   lines_in_branches (Branch d f bs) = Directed d ∷ (lines_in_forest f ++ lines_in_branches bs)
 
 -- a directive of no group
-abbrev pub IsAlone : Kind → Type 0
+abbrev pub IsAlone : DirectiveKind → Type 0
 IsAlone (Alone what) = Unit {0}
 IsAlone other = ⊥
 
 -- a line of no group's directives
 abbrev pub IsLineAlone : Line → Type 0
 IsLineAlone (Text tokens) = Unit {0}
-IsLineAlone (Bare line) = Unit {0}
+IsLineAlone (NullDirective line) = Unit {0}
 IsLineAlone (Directed d) = IsAlone d.kind
 
 -- what is around a tree: no group, or a group, and whether the group's `else` is before the tree
@@ -39,7 +39,7 @@ pub data Around : Type 0 where
 
 -- Which directives may be stray: outside every group any that belongs to one, and behind a group's `else` those of another
 -- branch.
-abbrev pub MayStray : Around → Kind → Type 0
+abbrev pub MayStray : Around → DirectiveKind → Type 0
 MayStray Outside kind = IsOfGroup kind
 MayStray (Inside true) kind = IsBranch kind
 MayStray (Inside false) kind = ⊥

@@ -4,14 +4,14 @@ ghost use Rattle.std.specs.Prelude.{◌≡◌, MatchOption};
 ghost use Rattle.idl_groups.specs.Line.{Directed, read};
 ghost use Rattle.idl_groups.specs.TreeLaw.{IsLineAlone};
 
-use crate::kind::Kind;
+use crate::kind::DirectiveKind;
 use idl_lex::PlacedToken;
 use std::marker::Model;
 
 /// A directive: its kind, the number of its line, its word, and the tokens after that.
 #[derive(Drop)]
 pub struct Directive<'t> {
-    pub kind: Kind,
+    pub kind: DirectiveKind,
     pub line: u32,
     pub word: &'t PlacedToken,
     pub operands: &'t [PlacedToken],
@@ -38,7 +38,7 @@ pub fn directive_on<'t>(line: &'t [PlacedToken]) -> Option<Directive<'t>>
     match line {
         [hash, word, operands @ ..] if hash.token.as_bytes() == b"#".as_slice() => {
             Some(Directive {
-                kind: Kind::of(word.token.as_bytes()),
+                kind: DirectiveKind::of(word.token.as_bytes()),
                 line: hash.line,
                 word,
                 operands,

@@ -1,7 +1,7 @@
 //! Kinds of directives.
 
 ghost use Rattle.std.specs.Prelude.{◌≡◌, map};
-ghost use Rattle.idl_groups.specs.Line.{kind_of, words};
+ghost use Rattle.idl_groups.specs.Line.{directive_kind, words};
 ghost use Rattle.idl_groups.specs.Tree.{is_else};
 ghost use Rattle.idl_lex.specs.WordTable.{entry_of};
 
@@ -30,7 +30,7 @@ pub enum Test {
 
 /// What a directive does.
 #[derive(Clone, Copy)]
-pub enum Kind {
+pub enum DirectiveKind {
     /// It stands alone.
     Alone(Plain),
     /// It opens a group.
@@ -41,28 +41,28 @@ pub enum Kind {
 }
 
 // A directive's word, and its kind.
-const WORDS: [Entry<Kind>; 13] = [
-    (b"include", Kind::Alone(Plain::Include)),
-    (b"define", Kind::Alone(Plain::Define)),
-    (b"undef", Kind::Alone(Plain::Undef)),
-    (b"if", Kind::Opening(Test::If)),
-    (b"ifdef", Kind::Opening(Test::Ifdef)),
-    (b"ifndef", Kind::Opening(Test::Ifndef)),
-    (b"elif", Kind::Elif),
-    (b"else", Kind::Else),
-    (b"endif", Kind::Endif),
-    (b"error", Kind::Alone(Plain::Error)),
-    (b"pragma", Kind::Alone(Plain::Pragma)),
-    (b"warning", Kind::Alone(Plain::Ignored)),
-    (b"ident", Kind::Alone(Plain::Ignored)),
+const WORDS: [Entry<DirectiveKind>; 13] = [
+    (b"include", DirectiveKind::Alone(Plain::Include)),
+    (b"define", DirectiveKind::Alone(Plain::Define)),
+    (b"undef", DirectiveKind::Alone(Plain::Undef)),
+    (b"if", DirectiveKind::Opening(Test::If)),
+    (b"ifdef", DirectiveKind::Opening(Test::Ifdef)),
+    (b"ifndef", DirectiveKind::Opening(Test::Ifndef)),
+    (b"elif", DirectiveKind::Elif),
+    (b"else", DirectiveKind::Else),
+    (b"endif", DirectiveKind::Endif),
+    (b"error", DirectiveKind::Alone(Plain::Error)),
+    (b"pragma", DirectiveKind::Alone(Plain::Pragma)),
+    (b"warning", DirectiveKind::Alone(Plain::Ignored)),
+    (b"ident", DirectiveKind::Alone(Plain::Ignored)),
 ];
 
-impl Kind {
+impl DirectiveKind {
     /// The kind of the directive with this word.
-    pub fn of(word: &[u8]) -> Kind
-        ensures { result ≡ kind_of word.now }
+    pub fn of(word: &[u8]) -> DirectiveKind
+        ensures { result ≡ directive_kind word.now }
     {
-        value_of(table(), word).unwrap_or(Kind::Alone(Plain::Unknown))
+        value_of(table(), word).unwrap_or(DirectiveKind::Alone(Plain::Unknown))
     }
 
     /// Whether it is `else`.
@@ -70,14 +70,14 @@ impl Kind {
         ensures { result ≡ is_else self }
     {
         match self {
-            Kind::Else => true,
+            DirectiveKind::Else => true,
             _ => false,
         }
     }
 }
 
 #[tactic(auto, unfolding(crate::specs::Line::words))]
-fn table() -> &'static [Entry<Kind>]
+fn table() -> &'static [Entry<DirectiveKind>]
     ensures { map entry_of result.now ≡ words }
 {
     &WORDS

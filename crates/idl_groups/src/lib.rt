@@ -15,5 +15,5 @@ mod tree;
 
 pub use fault::{GroupFault, Misplaced};
 pub use grouped::{GroupedTokens, Jump};
-pub use kind::{Kind, Plain, Test};
+pub use kind::{DirectiveKind, Plain, Test};
 pub use tree::tree_of_lines;

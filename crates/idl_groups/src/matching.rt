@@ -7,13 +7,13 @@ ghost use Rattle.idl_groups.specs.Line.{Line};
 ghost use Rattle.idl_groups.specs.Matching.{IsMatchedBy, IsSpan, IsStep, span_of};
 ghost use Rattle.idl_groups.specs.Tree.{IsBranch};
 ghost use Rattle.idl_groups.specs.declared.fault.Misplaced.TheVariants.{OutOfPlace};
-ghost use Rattle.idl_groups.specs.declared.kind.Kind.TheVariants.{Endif, Opening};
+ghost use Rattle.idl_groups.specs.declared.kind.DirectiveKind.TheVariants.{Endif, Opening};
 ghost use Rattle.idl_groups.specs.declared.kind.Test.{Test};
 
 use crate::branch::{BranchSpan, OpenBranch, OpenBranches};
 use crate::directive::Directive;
 use crate::fault::{GroupFault, Misplaced};
-use crate::kind::Kind;
+use crate::kind::DirectiveKind;
 use crate::table::BranchTable;
 use std::alloc::{AllocError, Global};
 
@@ -57,13 +57,13 @@ impl Matching {
         ensures { OnOk result (IsStep directive.now at after self.old self.new) }
     {
         match directive.kind {
-            Kind::Alone(_) => Ok(()),
-            Kind::Opening(_) => {
+            DirectiveKind::Alone(_) => Ok(()),
+            DirectiveKind::Opening(_) => {
                 self.open_group(directive, after)?;
                 Ok(())
             }
-            Kind::Elif | Kind::Else => self.begin_branch(directive, at, after),
-            Kind::Endif => {
+            DirectiveKind::Elif | DirectiveKind::Else => self.begin_branch(directive, at, after),
+            DirectiveKind::Endif => {
                 self.end_group(directive, at)?;
                 Ok(())
             }

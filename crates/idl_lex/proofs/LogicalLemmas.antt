@@ -3,7 +3,7 @@ use Rattle.std.proofs.Common.{◌≡◌, ◌∙◌, ◌<◌, ◌≤◌, ◌+◌,
 use Rattle.std.proofs.lemmas.List.{drop_more, drop_all, drop-drop, length-replicate}
 use Rattle.idl_source.specs.Line.{newline}
 use Rattle.idl_lex.specs.Text.{Placed, bytes_of, numbered, is_continued, front, joined}
-use Rattle.idl_lex.specs.Logical.{placed, line_at, joined_count, spliced}
+use Rattle.idl_lex.specs.Logical.{placed, line_at, joined_count, continued}
 
 pub bytes_of-placed : (numbers : List ℕ) (last : ℕ) (bytes : List ℕ) → bytes_of (placed numbers last bytes) ≡ bytes
 bytes_of-placed numbers last [] = refl
@@ -48,7 +48,7 @@ placed-more (m ∷ numbers) n [] more e = absurd (omega (arith, e))
 placed-more (m ∷ numbers) n (b ∷ bytes) more e = ap (λ ps. record { byte = b; line = m } ∷ ps) (placed-more numbers n bytes more (omega (arith, e)))
 
 -- the first of several lines
-pub spliced-cons : (number : ℕ) (bytes : List ℕ) (lines : List (List ℕ)) → 0 < length lines → spliced number (bytes ∷ lines) ≡ numbered number (front bytes) ++ spliced (number + 1) lines
+pub spliced-cons : (number : ℕ) (bytes : List ℕ) (lines : List (List ℕ)) → 0 < length lines → continued number (bytes ∷ lines) ≡ numbered number (front bytes) ++ continued (number + 1) lines
 spliced-cons number bytes [] some = absurd (omega arith)
 spliced-cons number bytes (next ∷ lines) some = refl
 
@@ -60,7 +60,7 @@ numbered-newline number (b ∷ bytes) = ap (λ ps. record { byte = b; line = num
 -- a first line of a text with its newline
 abbrev pub first_then : ℕ → List (List ℕ) → ℕ → ℕ → List Placed
 first_then number lines count last_number =
-    spliced number (take count lines) ++ record { byte = newline; line = last_number } ∷ joined (number + count) (drop count lines)
+    continued number (take count lines) ++ record { byte = newline; line = last_number } ∷ joined (number + count) (drop count lines)
 
 -- The joined text begins with its first line: the lines that are joined, and a newline.
 pub record Begins (number : ℕ) (lines : List (List ℕ)) : Type 0 where
@@ -98,10 +98,10 @@ Begins-more true number bytes next lines e rest =
       text =
           ap (λ b. if b then numbered number (front bytes) ++ joined (number + 1) (next ∷ lines) else numbered number (bytes ++ newline ∷ []) ++ joined (number + 1) (next ∷ lines)) e
           ∙ ap (λ ps. numbered number (front bytes) ++ ps) rest.text
-          ∙ sym (append_assoc (numbered number (front bytes)) (spliced (number + 1) (take count (next ∷ lines))) _)
+          ∙ sym (append_assoc (numbered number (front bytes)) (continued (number + 1) (take count (next ∷ lines))) _)
           ∙ ap (λ ps. ps ++ record { byte = newline; line = rest.last_number } ∷ joined (number + 1 + count) (drop count (next ∷ lines)))
           (sym (spliced-cons number bytes (take count (next ∷ lines)) (take-some count next lines (joined_count-some next lines))))
-          ∙ ap (λ n. spliced number (bytes ∷ take count (next ∷ lines)) ++ record { byte = newline; line = rest.last_number } ∷ joined n (drop count (next ∷ lines))) sum
+          ∙ ap (λ n. continued number (bytes ∷ take count (next ∷ lines)) ++ record { byte = newline; line = rest.last_number } ∷ joined n (drop count (next ∷ lines))) sum
           ∙ ap (λ b. first_then number (bytes ∷ next ∷ lines) (if b then suc count else 1) rest.last_number) (sym e);
     }
 Begins-more false number bytes next lines e rest =
@@ -121,7 +121,7 @@ Begins-joined number bytes (next ∷ lines) = Begins-more (is_continued bytes) n
 -- the text from a line on, as far as it is joined, and from the next one on
 pub record BeginsAt (lines : List (List ℕ)) (i end : ℕ) : Type 0 where
   pub last_number : ℕ
-  pub text : joined (i + 1) (drop i lines) ≡ spliced (i + 1) (take (end - i) (drop i lines)) ++ record { byte = newline; line = last_number } ∷ joined (end + 1) (drop end lines)
+  pub text : joined (i + 1) (drop i lines) ≡ continued (i + 1) (take (end - i) (drop i lines)) ++ record { byte = newline; line = last_number } ∷ joined (end + 1) (drop end lines)
 
 Begins-some : (number : ℕ) (lines : List (List ℕ)) → 0 < length lines → Begins number lines
 Begins-some number [] some = absurd (omega arith)
@@ -137,9 +137,9 @@ BeginsAt-joined lines i end lt is =
     record {
       last_number = begins.last_number;
       text = begins.text
-          ∙ ap (λ n. spliced (i + 1) (take count (drop i lines)) ++ record { byte = newline; line = begins.last_number } ∷ joined n (drop count (drop i lines))) number
-          ∙ ap (λ ls. spliced (i + 1) (take count (drop i lines)) ++ record { byte = newline; line = begins.last_number } ∷ joined (end + 1) ls) past
-          ∙ ap (λ n. spliced (i + 1) (take n (drop i lines)) ++ record { byte = newline; line = begins.last_number } ∷ joined (end + 1) (drop end lines)) size;
+          ∙ ap (λ n. continued (i + 1) (take count (drop i lines)) ++ record { byte = newline; line = begins.last_number } ∷ joined n (drop count (drop i lines))) number
+          ∙ ap (λ ls. continued (i + 1) (take count (drop i lines)) ++ record { byte = newline; line = begins.last_number } ∷ joined (end + 1) ls) past
+          ∙ ap (λ n. continued (i + 1) (take n (drop i lines)) ++ record { byte = newline; line = begins.last_number } ∷ joined (end + 1) (drop end lines)) size;
     }
 
 pub joined-nil : (number : ℕ) → joined number [] ≡ []
@@ -153,7 +153,7 @@ replicate-push items x k count lt =
     append_assoc items (x ∷ []) (replicate (count - (k + 1)) x) ∙ ap (λ n. items ++ replicate n x) (sym e)
 
 -- one line
-pub spliced-one : (number : ℕ) (lines : List (List ℕ)) (line : List ℕ) → 1 ≤ length lines → length lines < 2 → line ≡ get_or lines 0 line → placed [] number line ≡ spliced number lines
+pub spliced-one : (number : ℕ) (lines : List (List ℕ)) (line : List ℕ) → 1 ≤ length lines → length lines < 2 → line ≡ get_or lines 0 line → placed [] number line ≡ continued number lines
 spliced-one number [] line some one e = absurd (omega arith)
 spliced-one number (l ∷ []) line some one e = placed-nil number line ∙ ap (numbered number) e
 spliced-one number (l ∷ next ∷ lines) line some one e = absurd (omega arith)
@@ -161,15 +161,15 @@ spliced-one number (l ∷ next ∷ lines) line some one e = absurd (omega arith)
 -- lines joined so far, with the next one
 pub record Joined (number i : ℕ) (lines : List (List ℕ)) (numbers bytes numbers' bytes' : List ℕ) : Type 0 where
   pub numbered : length numbers' ≡ length bytes'
-  pub text : placed numbers' 0 bytes' ++ spliced (number + (i + 1)) (drop (i + 1) lines) ≡ placed numbers 0 bytes ++ spliced (number + i) (drop i lines)
+  pub text : placed numbers' 0 bytes' ++ continued (number + (i + 1)) (drop (i + 1) lines) ≡ placed numbers 0 bytes ++ continued (number + i) (drop i lines)
 
 from-place : (lines : List (List ℕ)) (number i : ℕ) (line : List ℕ) → i + 1 < length lines → line ≡ get_or lines i line
-    → spliced (number + i) (drop i lines) ≡ numbered (number + i) (front line) ++ spliced (number + (i + 1)) (drop (i + 1) lines)
+    → continued (number + i) (drop i lines) ≡ numbered (number + i) (front line) ++ continued (number + (i + 1)) (drop (i + 1) lines)
 from-place lines number i line more e =
     let sum : number + i + 1 ≡ number + (i + 1) = omega arith in
-    ap (spliced (number + i)) (drop_more lines i line (omega arith) ∙ ap (λ l. l ∷ drop (i + 1) lines) (sym e))
+    ap (continued (number + i)) (drop_more lines i line (omega arith) ∙ ap (λ l. l ∷ drop (i + 1) lines) (sym e))
     ∙ spliced-cons (number + i) line (drop (i + 1) lines) (omega (arith, length-drop (i + 1) lines, more))
-    ∙ ap (λ n. numbered (number + i) (front line) ++ spliced n (drop (i + 1) lines)) sum
+    ∙ ap (λ n. numbered (number + i) (front line) ++ continued n (drop (i + 1) lines)) sum
 
 pub join-more : (lines : List (List ℕ)) (number i : ℕ) (line numbers bytes : List ℕ) → i + 1 < length lines → line ≡ get_or lines i line → length numbers ≡ length bytes
     → Joined number i lines numbers bytes (numbers ++ replicate (length (front line)) (number + i)) (bytes ++ front line)
@@ -179,14 +179,14 @@ join-more lines number i line numbers bytes more e same =
           ∙ ap (λ n. length numbers + n) (length-replicate (length (front line)) (number + i))
           ∙ ap (λ n. n + length (front line)) same
           ∙ sym (length-append bytes (front line));
-      text = ap (λ ps. ps ++ spliced (number + (i + 1)) (drop (i + 1) lines)) (placed-more numbers (number + i) bytes (front line) same)
-          ∙ append_assoc (placed numbers 0 bytes) (numbered (number + i) (front line)) (spliced (number + (i + 1)) (drop (i + 1) lines))
+      text = ap (λ ps. ps ++ continued (number + (i + 1)) (drop (i + 1) lines)) (placed-more numbers (number + i) bytes (front line) same)
+          ∙ append_assoc (placed numbers 0 bytes) (numbered (number + i) (front line)) (continued (number + (i + 1)) (drop (i + 1) lines))
           ∙ ap (λ ps. placed numbers 0 bytes ++ ps) (sym (from-place lines number i line more e));
     }
 
 pub join-last : (lines : List (List ℕ)) (number i : ℕ) (line numbers bytes : List ℕ) → i + 1 ≤ length lines → length lines ≤ i + 1 → line ≡ get_or lines i line → length numbers ≡ length bytes
-    → placed numbers (number + i) (bytes ++ line) ≡ placed numbers 0 bytes ++ spliced (number + i) (drop i lines)
+    → placed numbers (number + i) (bytes ++ line) ≡ placed numbers 0 bytes ++ continued (number + i) (drop i lines)
 join-last lines number i line numbers bytes within last e same =
     placed-append numbers (number + i) bytes line same
-    ∙ ap (λ ls. placed numbers 0 bytes ++ spliced (number + i) ls)
+    ∙ ap (λ ls. placed numbers 0 bytes ++ continued (number + i) ls)
     (sym (drop_more lines i line (omega arith) ∙ ap (λ l. l ∷ drop (i + 1) lines) (sym e) ∙ ap (λ ls. line ∷ ls) (drop_all (i + 1) lines last)))

@@ -11,7 +11,7 @@ use Rattle.idl_lex.specs.Lexer.{after_comment, ended, is_open}
 use Rattle.idl_lex.specs.Logical.{line_at}
 use Rattle.idl_lex.specs.Scan.{further, taken}
 use Rattle.idl_lex.specs.Text.{Placed, bytes_of}
-use Rattle.idl_lex.specs.Tokens.{line_rest, lines_after, lines_of, piece_rest, token_if, token_of, tokens_after}
+use Rattle.idl_lex.specs.Tokens.{followers_on_line, lines_after, lines_of, piece_rest, token_if, token_of, tokens_after}
 use Rattle.idl_lex.specs.declared.context.Context.{Context}
 use Rattle.idl_lex.specs.declared.state.State.TheVariants.{Block, Whole}
 use Rattle.idl_lex.specs.declared.token.PlacedToken.{PlacedToken}
@@ -278,10 +278,10 @@ lines_after-drop zero tokens = refl
 lines_after-drop (suc n) [] = refl
 lines_after-drop (suc n) (t ∷ tokens) = lines_after-drop n tokens
 
-pub lines_of-first : (tokens : List PlacedToken) (n : ℕ) → 0 < length tokens → n ≡ 1 + line_rest (drop 1 tokens) → lines_of tokens ≡ take n tokens ∷ lines_of (drop n tokens)
+pub lines_of-first : (tokens : List PlacedToken) (n : ℕ) → 0 < length tokens → n ≡ 1 + followers_on_line (drop 1 tokens) → lines_of tokens ≡ take n tokens ∷ lines_of (drop n tokens)
 unfolding lines_of
 lines_of-first [] n some is = absurd (omega arith)
 lines_of-first (t ∷ tokens) n some is =
-    let k = line_rest tokens in
+    let k = followers_on_line tokens in
     let e : n ≡ suc k = omega (arith, is) in
     ap (λ ls. (t ∷ take k tokens) ∷ ls) (lines_after-drop k tokens) ∙ ap (λ m. take m (t ∷ tokens) ∷ lines_after 0 (drop m (t ∷ tokens))) (sym e)

@@ -18,7 +18,7 @@ joined_count [] = 0
 joined_count (bytes ∷ lines) = if is_continued bytes then suc (joined_count lines) else 1
 
 -- these lines as one, each but the last without its last byte
-abbrev pub spliced : ℕ → List (List ℕ) → List Placed
-spliced number [] = []
-spliced number (bytes ∷ []) = numbered number bytes
-spliced number (bytes ∷ next ∷ lines) = numbered number (front bytes) ++ spliced (number + 1) (next ∷ lines)
+abbrev pub continued : ℕ → List (List ℕ) → List Placed
+continued number [] = []
+continued number (bytes ∷ []) = numbered number bytes
+continued number (bytes ∷ next ∷ lines) = numbered number (front bytes) ++ continued (number + 1) (next ∷ lines)

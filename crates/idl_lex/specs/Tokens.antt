@@ -46,14 +46,14 @@ abbrev pub tokens_in : List PlacedToken → List Token
 tokens_in tokens = map (λ t. t.token) tokens
 
 -- how many tokens stand on a line after its first one: those before the next token that starts a line
-abbrev pub line_rest : List PlacedToken → ℕ
-line_rest tokens = prefix_len (λ t. not t.starts_line) tokens
+abbrev pub followers_on_line : List PlacedToken → ℕ
+followers_on_line tokens = prefix_len (λ t. not t.starts_line) tokens
 
 -- the lines of the tokens after the first n
 abbrev pub lines_after : ℕ → List PlacedToken → List (List PlacedToken)
 lines_after n [] = []
 lines_after (suc n) (t ∷ tokens) = lines_after n tokens
-lines_after zero (t ∷ tokens) = (t ∷ take (line_rest tokens) tokens) ∷ lines_after (line_rest tokens) tokens
+lines_after zero (t ∷ tokens) = (t ∷ take (followers_on_line tokens) tokens) ∷ lines_after (followers_on_line tokens) tokens
 
 -- tokens by lines
 unfoldable pub lines_of : List PlacedToken → List (List PlacedToken)

@@ -5,7 +5,7 @@ ghost use Rattle.idl_lex.specs.Context.{line_start};
 ghost use Rattle.idl_lex.specs.Cut.{AreTokensOf};
 ghost use Rattle.idl_lex.specs.Lexer.{coming};
 ghost use Rattle.idl_lex.specs.Text.{joined};
-ghost use Rattle.idl_lex.specs.Tokens.{line_rest, lines_of, tokens_of};
+ghost use Rattle.idl_lex.specs.Tokens.{followers_on_line, lines_of, tokens_of};
 ghost use Rattle.idl_lex.specs.declared.token.PlacedToken.{PlacedToken};
 
 use crate::lexer::{Before, push_line};
@@ -89,7 +89,7 @@ pub fn first_line(tokens: &[PlacedToken]) -> (&[PlacedToken], &[PlacedToken])
 
 // How many tokens stand on a line after its first one.
 fn line_rest(tokens: &[PlacedToken]) -> usize
-    ensures len { result ≡ line_rest tokens.now }
+    ensures len { result ≡ followers_on_line tokens.now }
     ensures within { result ≤ length tokens.now }
 {
     tokens.iter().take_while(|token| !token.starts_line).count()

@@ -3,7 +3,7 @@
 ghost use Rattle.std.specs.Prelude.{◌≡◌, ◌≤◌, ◌<◌, ◌+◌, ◌++◌, ◌^◌, length, replicate, IfOk, OnOk};
 ghost use Rattle.std.specs.Rc.{rc_slice_items};
 ghost use Rattle.idl_lex.specs.Text.{is_continued, front};
-ghost use Rattle.idl_lex.specs.Logical.{joined_count, spliced};
+ghost use Rattle.idl_lex.specs.Logical.{joined_count, continued};
 
 use crate::spelling::Spelling;
 use idl_source::Line;
@@ -34,13 +34,13 @@ impl Model for Logical {
 impl Logical {
     ghost use Rattle.std.specs.Prelude.{◌≡◌, ◌≤◌, ◌<◌, ◌+◌, ◌-◌, ◌^◌, length, take, drop, IfOk};
     ghost use Rattle.idl_lex.specs.Text.{Placed, bytes_of};
-    ghost use Rattle.idl_lex.specs.Logical.{spliced, line_at};
+    ghost use Rattle.idl_lex.specs.Logical.{continued, line_at};
 
     /// The lines, the first of which has this number, as one: each but the last without its last byte, the backslash.
     pub fn new(alloc: Global, lines: &[Line], number: usize) -> Result<Logical, AllocError>
         requires some { 0 < length lines.now }
         requires room { number + length lines.now < 2 ^ 32 }
-        ensures { IfOk result (λ logical. logical ≡ spliced number lines.now) }
+        ensures { IfOk result (λ logical. logical ≡ continued number lines.now) }
     {
         match lines {
             [line] => Ok(Logical {
@@ -99,7 +99,7 @@ pub fn joined_count(lines: &[Line]) -> usize
 fn join(alloc: Global, lines: &[Line], number: usize) -> Result<Logical, AllocError>
     requires room { number + length lines.now < 2 ^ 32 }
     requires some { 0 < length lines.now }
-    ensures { IfOk result (λ logical. logical ≡ spliced number lines.now) }
+    ensures { IfOk result (λ logical. logical ≡ continued number lines.now) }
 {
     let mut bytes = Vec::new(alloc);
     let mut numbers = Vec::new(alloc);

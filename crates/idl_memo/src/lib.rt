@@ -12,4 +12,4 @@ mod task;
 pub use bank::Bank;
 pub use log::Log;
 pub use query::{agreement, gathering, limiting, logging, progress, sequence, tracing};
-pub use task::{Kind, Task, reliance};
+pub use task::{Task, TaskKind, reliance};

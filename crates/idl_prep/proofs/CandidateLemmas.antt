@@ -16,7 +16,7 @@ use Rattle.idl_prep.specs.Include.{Found, Operand, directories_in, file_in, file
 use Rattle.idl_prep.proofs.IncludeLemmas.{cons_option-append, first_present-more, one, or_first, outcome-present_along}
 use Rattle.idl_source.specs.Candidates.{along, candidates, found}
 use Rattle.idl_source.specs.Directory.{directory_of}
-use Rattle.idl_source.specs.Path.{is_rooted, joined}
+use Rattle.idl_source.specs.Path.{is_rooted, joined_path}
 use Rattle.idl_source.specs.Texts.{Texts}
 
 -- over any bank: the first candidate along the search list that it answers with
@@ -25,7 +25,7 @@ module _ (bank : Key → Option Answer) (from : FileName) (name : List ℕ) wher
   listed = directories_in (bank key.Search)
 
   abbrev beside : Option (List ℕ)
-  beside = joined (directory_of from) name
+  beside = joined_path (directory_of from) name
 
   outcome-or_along : (f : Option Found) → outcome (or_along name f) bank ≡ outcome (or_first (along listed name) f) bank
   outcome-or_along None = outcome-present_along bank name

@@ -13,24 +13,24 @@ use Rattle.idl_event.specs.declared.key.Key.{Key}
 use Rattle.idl_lex.specs.Tokens.{tokens_in}
 use Rattle.idl_macro.specs.Replace.{place_at}
 use Rattle.idl_groups.specs.Line.{Directive, Directed}
-use Rattle.idl_groups.specs.declared.kind.Kind.{Kind}
-use Rattle.idl_groups.specs.declared.kind.Kind.TheVariants.{Alone}
+use Rattle.idl_groups.specs.declared.kind.DirectiveKind.{DirectiveKind}
+use Rattle.idl_groups.specs.declared.kind.DirectiveKind.TheVariants.{Alone}
 use Rattle.idl_groups.specs.declared.kind.Plain.{Plain}
-use Rattle.idl_prep.specs.Directive.{Enter, act, entering, first_spelling, include, including, is_of_idl, performed, plain_or, pragma, pragma_by}
+use Rattle.idl_prep.specs.Directive.{Enter, effect, entering, first_spelling, include, including, is_of_idl, plain_effect, plain_or, pragma, pragma_by}
 use Rattle.idl_prep.specs.Include.{Found, Operand, file_of, operand_of}
 use Rattle.idl_prep.specs.Place.{place_in}
-use Rattle.idl_prep.specs.State.{State, Way, ended, onward, telling}
+use Rattle.idl_prep.specs.State.{Said, Way, ended, onward, telling}
 use Rattle.idl_prep.proofs.WayLemmas.{arrival-then}
 
 module _ (bank : Key → Option Answer) (enter : Enter) (file : FileName) (d : Directive) where
   -- a directive of one line: a turn, and what it does
-  pub acted : (what kind : Plain) (way turned : Way) (came : Reached × Option State) → d.kind ≡ Alone what → what ≡ kind
-      → turned ≡ telling (item.Turn (place_in file d)) way → came ≡ onward bank (λ s. performed enter file d s kind) turned → came ≡ onward bank (act enter file (Directed d)) way
-  unfolding act
+  pub acted : (what kind : Plain) (way turned : Way) (came : Reached × Option Said) → d.kind ≡ Alone what → what ≡ kind
+      → turned ≡ telling (item.Turn (place_in file d)) way → came ≡ onward bank (λ s. plain_effect enter file d s kind) turned → came ≡ onward bank (effect enter file (Directed d)) way
+  unfolding effect
   acted what kind way turned came alone is told done =
       done
-      ∙ ap (onward bank (λ s. performed enter file d s kind)) told
-      ∙ ap (λ (k : Kind). onward bank (λ s. plain_or enter file d s k) (telling (item.Turn (place_in file d)) way)) (sym (alone ∙ ap Alone is))
+      ∙ ap (onward bank (λ s. plain_effect enter file d s kind)) told
+      ∙ ap (λ (k : DirectiveKind). onward bank (λ s. plain_or enter file d s k) (telling (item.Turn (place_in file d)) way)) (sym (alone ∙ ap Alone is))
 
   -- the operand of an include is read first
   pub onward-including : (o : Option Operand) (way way' : Way) → way'.state ≡ way.state
@@ -38,14 +38,14 @@ module _ (bank : Key → Option Answer) (enter : Enter) (file : FileName) (d : D
       → onward bank (λ s. including enter file d s o) way' ≡ onward bank (include enter file d) way
   unfolding include
   onward-including o way way' same came =
-      ap (λ (s : State). arrival bank (including enter file d s o) way'.progress) same
+      ap (λ (s : Said). arrival bank (including enter file d s o) way'.progress) same
       ∙ arrival-then bank (operand_of (place_in file d) way.state.definitions d.operands) (including enter file d way.state) o way.progress way'.progress came
 
   -- then its file is looked for
   pub onward-entering : (o : Operand) (f : Option Found) (way way' : Way) → way'.state ≡ way.state → arrived f way'.progress ≡ arrival bank (file_of file o) way.progress
       → onward bank (λ s. entering enter (place_in file d) o s f) way' ≡ onward bank (λ s. including enter file d s (Some o)) way
   onward-entering o f way way' same came =
-      ap (λ (s : State). arrival bank (entering enter (place_in file d) o s f) way'.progress) same
+      ap (λ (s : Said). arrival bank (entering enter (place_in file d) o s f) way'.progress) same
       ∙ arrival-then bank (file_of file o) (entering enter (place_in file d) o way.state) f way.progress way'.progress came
 
   -- and it is entered, unless it isn't to be entered again
@@ -63,7 +63,7 @@ module _ (bank : Key → Option Answer) (file : FileName) (d : Directive) (way :
   onward-pragma_by o first = ap (λ (o : Option (List ℕ)). onward bank (λ s. pragma_by file d s o) way) (sym first)
 
   -- by whether the word is `once`, and else whether it means something to IDL
-  abbrev by_word : Bool → Bool → Expanding State
+  abbrev by_word : Bool → Bool → Expanding Said
   by_word is_once means =
       if is_once then Done (record way.state { once = insert_key bytes_eq way.state.once file })
       else (if means then Tell (item.Kept (Pragma (place_at file d.word) (tokens_in (d.word ∷ d.operands)))) (Done way.state) else Done way.state)

@@ -15,7 +15,7 @@ use Rattle.idl_groups.specs.Tree.{part, tree}
 use Rattle.idl_prep.specs.Directive.{Enter}
 use Rattle.idl_prep.specs.Pass.{coming, to_come}
 use Rattle.idl_prep.specs.Root.{enter, walk_file}
-use Rattle.idl_prep.specs.State.{State, Way, ended, onward, telling}
+use Rattle.idl_prep.specs.State.{Said, Way, ended, onward, telling}
 use Rattle.idl_prep.specs.declared.groups.Group.{Group}
 use Rattle.idl_prep.proofs.WalkLemmas.{onward-then}
 use Rattle.idl_prep.proofs.WayLemmas.{arrival-over}
@@ -23,7 +23,7 @@ use Rattle.idl_event.specs.Expanding.{Expanding}
 
 module _ (bank : Key → Option Answer) where
   -- once a limit was passed a root is where it comes to by anything
-  pub ended-over : (query : State → Expanding State) (way : Way) → way.progress.left ≡ None → ended way ≡ onward bank query way
+  pub ended-over : (query : Said → Expanding Said) (way : Way) → way.progress.left ≡ None → ended way ≡ onward bank query way
   ended-over query way over =
       ap (λ o. (way.progress, option_map (λ _. way.state) o)) over ∙ sym (arrival-over bank (query way.state) way.progress over)
 
@@ -45,7 +45,7 @@ module _ (bank : Key → Option Answer) where
   unfolding enter
   onward-enter room less place file lines old told mid new is enters came leaves =
       let query = walk_file (enter less) file lines in
-      let leave : State → Expanding State = λ after. Tell (Kept (Left file)) (Done after) in
+      let leave : Said → Expanding Said = λ after. Tell (Kept (Left file)) (Done after) in
       ap ended leaves
       ∙ onward-then bank query leave (λ s. and_then (query s) leave) told mid came refl
       ∙ ap (onward bank (λ s. and_then (query s) leave)) enters

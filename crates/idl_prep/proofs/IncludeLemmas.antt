@@ -21,7 +21,7 @@ use Rattle.idl_prep.specs.Include.{Found, Operand, directories_in, file_in, file
 use Rattle.idl_source.specs.Directory.{directory_of}
 use Rattle.idl_prep.proofs.WayLemmas.{arrival-then}
 use Rattle.idl_source.specs.Candidates.{along}
-use Rattle.idl_source.specs.Path.{is_rooted, joined}
+use Rattle.idl_source.specs.Path.{is_rooted, joined_path}
 
 -- a file of these lines, if there are any
 abbrev pub found_as : List ℕ → Option (List (List ℕ)) → Option Found
@@ -80,20 +80,20 @@ cons_option-append None xs = refl
 cons_option-append (Some x) xs = refl
 
 pub along-drop : (directories : List (List ℕ)) (i : ℕ) (directory : List ℕ) (name : List ℕ) → i < length directories → directory ≡ get_or directories i directory
-    → along (drop i directories) name ≡ option_to_list (joined directory name) ++ along (drop (i + 1) directories) name
+    → along (drop i directories) name ≡ option_to_list (joined_path directory name) ++ along (drop (i + 1) directories) name
 along-drop directories i directory name lt is =
     at_drop_more (λ ds. along ds name) directories i directory lt
-    ∙ cons_option-append (joined (get_or directories i directory) name) (along (drop (i + 1) directories) name)
-    ∙ ap (λ (d : List ℕ). option_to_list (joined d name) ++ along (drop (i + 1) directories) name) (sym is)
+    ∙ cons_option-append (joined_path (get_or directories i directory) name) (along (drop (i + 1) directories) name)
+    ∙ ap (λ (d : List ℕ). option_to_list (joined_path d name) ++ along (drop (i + 1) directories) name) (sym is)
 
 -- the next directory is searched, and where nothing is found there, those that follow
 pub arrival-along : (bank : Key → Option Answer) (directories : List (List ℕ)) (i : ℕ) (directory name : List ℕ) (f : Option Found) (p p' : Reached)
-    → i < length directories → directory ≡ get_or directories i directory → arrived f p' ≡ arrival bank (one (joined directory name)) p
+    → i < length directories → directory ≡ get_or directories i directory → arrived f p' ≡ arrival bank (one (joined_path directory name)) p
     → arrival bank (or_first (along (drop (i + 1) directories) name) f) p' ≡ arrival bank (first_present (along (drop i directories) name)) p
 arrival-along bank directories i directory name f p p' lt is came =
     let rest = along (drop (i + 1) directories) name in
-    arrival-then bank (one (joined directory name)) (or_first rest) f p p' came
-    ∙ ap (λ (e : Expanding (Option Found)). arrival bank e p) (sym (first_present-more (joined directory name) rest))
+    arrival-then bank (one (joined_path directory name)) (or_first rest) f p p' came
+    ∙ ap (λ (e : Expanding (Option Found)). arrival bank e p) (sym (first_present-more (joined_path directory name) rest))
     ∙ ap (λ (names : List (List ℕ)). arrival bank (first_present names) p) (sym (along-drop directories i directory name lt is))
 
 -- the search along the search list begins with its directories
@@ -108,30 +108,30 @@ arrival-present_along bank name p = refl
 
 -- the file of an operand, by how it is written
 module _ (from : FileName) (o : Operand) where
-  pub file_of-rooted : is_rooted o.name ≡ true → file_of from o ≡ one (joined (directory_of from) o.name)
+  pub file_of-rooted : is_rooted o.name ≡ true → file_of from o ≡ one (joined_path (directory_of from) o.name)
   unfolding file_of
-  file_of-rooted h = ap (λ b. if b then one (joined (directory_of from) o.name)
-      else (if o.is_quoted then and_then (one (joined (directory_of from) o.name)) (or_along o.name) else present_along o.name)) h
+  file_of-rooted h = ap (λ b. if b then one (joined_path (directory_of from) o.name)
+      else (if o.is_quoted then and_then (one (joined_path (directory_of from) o.name)) (or_along o.name) else present_along o.name)) h
 
   pub file_of-along : is_rooted o.name ≡ false → o.is_quoted ≡ false → file_of from o ≡ present_along o.name
   unfolding file_of
   file_of-along h q =
-      ap (λ b. if b then one (joined (directory_of from) o.name)
-      else (if o.is_quoted then and_then (one (joined (directory_of from) o.name)) (or_along o.name) else present_along o.name)) h
-      ∙ ap (λ b. if b then and_then (one (joined (directory_of from) o.name)) (or_along o.name) else present_along o.name) q
+      ap (λ b. if b then one (joined_path (directory_of from) o.name)
+      else (if o.is_quoted then and_then (one (joined_path (directory_of from) o.name)) (or_along o.name) else present_along o.name)) h
+      ∙ ap (λ b. if b then and_then (one (joined_path (directory_of from) o.name)) (or_along o.name) else present_along o.name) q
 
-  pub file_of-quoted : is_rooted o.name ≡ false → o.is_quoted ≡ true → file_of from o ≡ and_then (one (joined (directory_of from) o.name)) (or_along o.name)
+  pub file_of-quoted : is_rooted o.name ≡ false → o.is_quoted ≡ true → file_of from o ≡ and_then (one (joined_path (directory_of from) o.name)) (or_along o.name)
   unfolding file_of
   file_of-quoted h q =
-      ap (λ b. if b then one (joined (directory_of from) o.name)
-      else (if o.is_quoted then and_then (one (joined (directory_of from) o.name)) (or_along o.name) else present_along o.name)) h
-      ∙ ap (λ b. if b then and_then (one (joined (directory_of from) o.name)) (or_along o.name) else present_along o.name) q
+      ap (λ b. if b then one (joined_path (directory_of from) o.name)
+      else (if o.is_quoted then and_then (one (joined_path (directory_of from) o.name)) (or_along o.name) else present_along o.name)) h
+      ∙ ap (λ b. if b then and_then (one (joined_path (directory_of from) o.name)) (or_along o.name) else present_along o.name) q
 
   -- in quotes, by what stands beside the including file
   pub arrival-file_of-quoted : (bank : Key → Option Answer) (f : Option Found) (p p' : Reached) → is_rooted o.name ≡ false → o.is_quoted ≡ true
-      → arrived f p' ≡ arrival bank (one (joined (directory_of from) o.name)) p → arrival bank (or_along o.name f) p' ≡ arrival bank (file_of from o) p
+      → arrived f p' ≡ arrival bank (one (joined_path (directory_of from) o.name)) p → arrival bank (or_along o.name f) p' ≡ arrival bank (file_of from o) p
   arrival-file_of-quoted bank f p p' h q came =
-      arrival-then bank (one (joined (directory_of from) o.name)) (or_along o.name) f p p' came
+      arrival-then bank (one (joined_path (directory_of from) o.name)) (or_along o.name) f p p' came
       ∙ ap (λ (e : Expanding (Option Found)). arrival bank e p) (sym (file_of-quoted h q))
 
 -- the operand of a word that is none itself

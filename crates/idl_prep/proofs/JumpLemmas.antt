@@ -6,17 +6,17 @@ use Rattle.idl_event.specs.declared.file_name.FileName.{FileName}
 use Rattle.idl_event.specs.declared.key.Answer.{Answer}
 use Rattle.idl_event.specs.declared.key.Key.{Key}
 use Rattle.idl_groups.specs.Jump.{IsJump, IsNextOfGroup, fault_at, faults_in, faults_in_branches, faults_in_tree}
-use Rattle.idl_groups.specs.Line.{Directive, Line, Text, Bare, Directed}
+use Rattle.idl_groups.specs.Line.{Directive, Line, Text, NullDirective, Directed}
 use Rattle.idl_groups.specs.Tree.{IsBranch, Tree, Leaf, Stray, Group as group_tree, Forest, Empty, Grow, Branches, Closed, Unclosed, Branch, Part, Closing, At, append, directive_before, part, close}
 use Rattle.idl_groups.specs.TreeLaw.{Inside}
 use Rattle.idl_groups.specs.declared.fault.GroupFault.{GroupFault}
 use Rattle.idl_groups.specs.declared.fault.Misplaced.TheVariants.{NotClosed}
-use Rattle.idl_groups.specs.declared.kind.Kind.TheVariants.{Endif}
+use Rattle.idl_groups.specs.declared.kind.DirectiveKind.TheVariants.{Endif}
 use Rattle.idl_groups.proofs.TreeLemmas.{before-of_group, close-branch, close-endif, of_group-branch}
 use Rattle.idl_groups.proofs.TreeLawLemmas.{append-Empty, settled, settled-forest}
 use Rattle.idl_prep.specs.Directive.{Enter}
 use Rattle.idl_prep.specs.Pass.{coming, innermost, to_come, visit, visit_branches}
-use Rattle.idl_prep.specs.State.{State, Way, ended, onward}
+use Rattle.idl_prep.specs.State.{Said, Way, ended, onward}
 use Rattle.idl_prep.specs.Told.{item_of, told}
 use Rattle.idl_prep.specs.Walk.{opener_of, skip, skip_branches, skip_tree, walk}
 use Rattle.idl_prep.specs.declared.groups.Group.{Group}
@@ -24,29 +24,29 @@ use Rattle.idl_prep.proofs.WalkLemmas.{onward-then}
 
 -- ---- skipped trees tell their faults, and nothing else
 
-and_then-told : (file : FileName) (xs ys : List GroupFault) (s : State) → and_then (told file xs s) (told file ys) ≡ told file (xs ++ ys) s
+and_then-told : (file : FileName) (xs ys : List GroupFault) (s : Said) → and_then (told file xs s) (told file ys) ≡ told file (xs ++ ys) s
 and_then-told file [] ys s = refl
 and_then-told file (x ∷ xs) ys s = ap (Tell (item_of file x)) (and_then-told file xs ys s)
 
 -- one after another
-both : (file : FileName) (xs ys : List GroupFault) (q : Expanding State) (f : State → Expanding State) (s : State) → q ≡ told file xs s → ((s : State) → f s ≡ told file ys s)
+both : (file : FileName) (xs ys : List GroupFault) (q : Expanding Said) (f : Said → Expanding Said) (s : Said) → q ≡ told file xs s → ((s : Said) → f s ≡ told file ys s)
     → and_then q f ≡ told file (xs ++ ys) s
 both file xs ys q f s p alike = (λ i. and_then (p i) (λ s'. alike s' i)) ∙ and_then-told file xs ys s
 
 mutual
   unfolding skip faults_in
 
-  skip_tree-told : (file : FileName) (t : Tree) (s : State) → skip_tree file t s ≡ told file (faults_in_tree t) s
+  skip_tree-told : (file : FileName) (t : Tree) (s : Said) → skip_tree file t s ≡ told file (faults_in_tree t) s
   skip_tree-told file (Leaf line) s = refl
   skip_tree-told file (Stray d) s = refl
   skip_tree-told file (group_tree d what f bs) s =
       both file (faults_in f) (faults_in_branches bs (fault_at NotClosed d)) (skip file f s) (skip_branches file bs (opener_of d)) s (skip-told file f s) (skip_branches-told file bs d)
 
-  skip-told : (file : FileName) (f : Forest) (s : State) → skip file f s ≡ told file (faults_in f) s
+  skip-told : (file : FileName) (f : Forest) (s : Said) → skip file f s ≡ told file (faults_in f) s
   skip-told file Empty s = refl
   skip-told file (Grow t f) s = both file (faults_in_tree t) (faults_in f) (skip_tree file t s) (skip file f) s (skip_tree-told file t s) (skip-told file f)
 
-  skip_branches-told : (file : FileName) (bs : Branches) (d : Directive) (s : State) → skip_branches file bs (opener_of d) s ≡ told file (faults_in_branches bs (fault_at NotClosed d)) s
+  skip_branches-told : (file : FileName) (bs : Branches) (d : Directive) (s : Said) → skip_branches file bs (opener_of d) s ≡ told file (faults_in_branches bs (fault_at NotClosed d)) s
   skip_branches-told file (Closed e) d s = refl
   skip_branches-told file Unclosed d s = refl
   skip_branches-told file (Branch e f bs) d s =
@@ -68,18 +68,18 @@ unfolding part close
 body-next has_else [] next = refl
 body-next has_else (Directed d ∷ rest) next = body-directive has_else d (part rest) next
 body-next has_else (Text tokens ∷ rest) next = absurd next
-body-next has_else (Bare line ∷ rest) next = absurd next
+body-next has_else (NullDirective line ∷ rest) next = absurd next
 
 module _ (enter : Enter) (file : FileName) where
   -- what is to come of a branch that isn't taken
-  coming-jump : (g : Group) (gs : List Group) (lines rest : List Line) (faults : List GroupFault) (s : State) → g.is_active ≡ false → IsJump g.has_else lines rest faults
+  coming-jump : (g : Group) (gs : List Group) (lines rest : List Line) (faults : List GroupFault) (s : Said) → g.is_active ≡ false → IsJump g.has_else lines rest faults
       → coming enter file (g ∷ gs) (part lines) s ≡ and_then (told file faults s) (coming enter file (g ∷ gs) (part rest))
   unfolding coming skip
   coming-jump g gs lines rest faults s skipped (passed, next) =
       let f = passed.between in
       let c : Closing = settled (Inside g.has_else) (part rest) in
-      let after : State → Expanding State = λ s'. and_then (visit_branches enter file g c.branches s') (coming enter file gs c.after) in
-      let inside : Closing → Expanding State = λ c. and_then (visit enter file g.is_active c.body s) (λ s'. and_then (visit_branches enter file g c.branches s') (coming enter file gs c.after)) in
+      let after : Said → Expanding Said = λ s'. and_then (visit_branches enter file g c.branches s') (coming enter file gs c.after) in
+      let inside : Closing → Expanding Said = λ c. and_then (visit enter file g.is_active c.body s) (λ s'. and_then (visit_branches enter file g c.branches s') (coming enter file gs c.after)) in
       let is : settled (Inside g.has_else) (part lines) ≡ record c { body = f } =
       ap (λ (ls : List Line). settled (Inside g.has_else) (part ls)) (sym passed.is)
       ∙ settled-forest (Inside g.has_else) f rest passed.formed
@@ -90,11 +90,11 @@ module _ (enter : Enter) (file : FileName) where
       ∙ ap (λ q. and_then q after) (skip-told file f s ∙ ap (λ xs. told file xs s) passed.told)
       ∙ (λ i. and_then (told file faults s) (λ s'. rest_of s' i))
     where
-      rest_of : (s' : State) → and_then (visit_branches enter file g (settled (Inside g.has_else) (part rest)).branches s') (coming enter file gs (settled (Inside g.has_else) (part rest)).after)
+      rest_of : (s' : Said) → and_then (visit_branches enter file g (settled (Inside g.has_else) (part rest)).branches s') (coming enter file gs (settled (Inside g.has_else) (part rest)).after)
           ≡ coming enter file (g ∷ gs) (part rest) s'
       rest_of s' =
           let c : Closing = settled (Inside g.has_else) (part rest) in
-          let after : State → Expanding State = λ s'. and_then (visit_branches enter file g c.branches s') (coming enter file gs c.after) in
+          let after : Said → Expanding Said = λ s'. and_then (visit_branches enter file g c.branches s') (coming enter file gs c.after) in
           sym (ap (λ b. and_then (visit enter file b c.body s') after) skipped ∙ ap (λ (b : Forest). and_then (skip file b s') after) (body-next g.has_else rest next))
 
   -- where a root comes to once the faults are told

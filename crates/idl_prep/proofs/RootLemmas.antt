@@ -12,7 +12,7 @@ use Rattle.idl_groups.specs.Line.{Directive}
 use Rattle.idl_groups.specs.declared.kind.Test.{Test}
 use Rattle.idl_prep.specs.Directive.{redefined, test, tested}
 use Rattle.idl_prep.specs.Place.{place_in}
-use Rattle.idl_prep.specs.State.{State, Way, ended, onward}
+use Rattle.idl_prep.specs.State.{Said, Way, ended, onward}
 use Rattle.idl_prep.proofs.WayLemmas.{arrival-then}
 
 -- a test of the directive as macros take it is that of the directive
@@ -36,7 +36,7 @@ pub ended-redefined : (bank : Key → Option Answer) (query : Definitions → Ex
     → ended (record { state = record way.state { definitions = definitions }; progress = p }) ≡ onward bank (λ s. and_then (query s.definitions) (redefined s)) way'
 ended-redefined bank query way way' definitions p came same =
     arrival-then bank (query way.state.definitions) (redefined way.state) definitions way.progress p came
-    ∙ ap (onward bank (λ (s : State). and_then (query s.definitions) (redefined s))) same
+    ∙ ap (onward bank (λ (s : Said). and_then (query s.definitions) (redefined s))) same
 
 -- a directive that defines, as macros take it
 pub onward-stated : (bank : Key → Option Answer) (file : FileName) (d : Directive) (query : Place → List ℕ → Definitions → List PlacedToken → Expanding Definitions) (place : Place) (word : List ℕ) (operands : List PlacedToken) (way : Way)
@@ -44,6 +44,6 @@ pub onward-stated : (bank : Key → Option Answer) (file : FileName) (d : Direct
     → onward bank (λ s. and_then (query place word s.definitions operands) (redefined s)) way
     ≡ onward bank (λ s. and_then (query (place_in file d) d.word.token s.definitions d.operands) (redefined s)) way
 onward-stated bank file d query place word operands way at same_word same_operands =
-    ap (λ (place : Place). onward bank (λ (s : State). and_then (query place word s.definitions operands) (redefined s)) way) at
-    ∙ ap (λ (word : List ℕ). onward bank (λ (s : State). and_then (query (place_in file d) word s.definitions operands) (redefined s)) way) same_word
-    ∙ ap (λ (ts : List PlacedToken). onward bank (λ (s : State). and_then (query (place_in file d) d.word.token s.definitions ts) (redefined s)) way) same_operands
+    ap (λ (place : Place). onward bank (λ (s : Said). and_then (query place word s.definitions operands) (redefined s)) way) at
+    ∙ ap (λ (word : List ℕ). onward bank (λ (s : Said). and_then (query (place_in file d) word s.definitions operands) (redefined s)) way) same_word
+    ∙ ap (λ (ts : List PlacedToken). onward bank (λ (s : Said). and_then (query (place_in file d) d.word.token s.definitions ts) (redefined s)) way) same_operands

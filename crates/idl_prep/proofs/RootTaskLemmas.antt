@@ -21,7 +21,7 @@ use Rattle.idl_event.specs.declared.key.Key.{Key}
 use Rattle.idl_event.specs.declared.key.Key.TheVariants as key
 use Rattle.idl_prep.specs.Include.{file_in}
 use Rattle.idl_prep.specs.Root.{absent_file, absent_files, enter, expansion, root, root_lines, walk_file}
-use Rattle.idl_prep.specs.State.{State, Way, ended, nothing_said, onward, telling}
+use Rattle.idl_prep.specs.State.{Said, Way, ended, nothing_said, onward, telling}
 use Rattle.idl_prep.specs.Limits.{depth_at_most}
 
 module _ (bank : Key → Option Answer) (name : FileName) where
@@ -37,7 +37,7 @@ module _ (bank : Key → Option Answer) (name : FileName) where
       let query = walk_file (enter (depth_at_most - 1)) name lines in
       ap (λ r. r.0) came
       ∙ ap (λ (way : Way). reached bank (query way.state) way.progress) asked
-      ∙ ap (λ (s : State). reached bank (query s) (has_asked old).progress) nothing
+      ∙ ap (λ (s : Said). reached bank (query s) (has_asked old).progress) nothing
       ∙ ap (λ found. reached bank (root_lines name found) (has_asked old).progress) (sym there)
 
   -- the file isn't there

@@ -9,26 +9,26 @@ use Rattle.idl_event.specs.declared.key.Answer.{Answer}
 use Rattle.idl_event.specs.declared.key.Key.{Key}
 use Rattle.idl_groups.specs.Line.{Directive, Line, Directed}
 use Rattle.idl_groups.specs.Tree.{IsBranch, IsOfGroup, Leaf, Stray, before, grown, is_else, part}
-use Rattle.idl_groups.specs.declared.kind.Kind.TheVariants.{Opening, Endif}
+use Rattle.idl_groups.specs.declared.kind.DirectiveKind.TheVariants.{Opening, Endif}
 use Rattle.idl_groups.specs.declared.kind.Test.{Test}
-use Rattle.idl_prep.specs.Directive.{Enter, act, test}
+use Rattle.idl_prep.specs.Directive.{Enter, effect, test}
 use Rattle.idl_prep.specs.Place.{place_in}
 use Rattle.idl_prep.specs.Pass.{begun, coming, is_walked, to_come, visit_tree}
-use Rattle.idl_prep.specs.State.{State, Way, ended, onward, telling}
-use Rattle.idl_prep.specs.Walk.{decide, not_closed, opener_of}
+use Rattle.idl_prep.specs.State.{Said, Way, ended, onward, telling}
+use Rattle.idl_prep.specs.Walk.{decision, not_closed, opener_of}
 use Rattle.idl_prep.specs.declared.groups.Group.{Group}
 use Rattle.idl_prep.proofs.PassLemmas.{continued, coming-act, coming-branch, coming-branch-skipped, coming-endif, coming-endif-skipped, coming-nothing, coming-opening, coming-opening-skipped, coming-skipped, coming-stray, coming-stray-outside, coming-unclosed}
 use Rattle.idl_prep.proofs.WayLemmas.{arrival-and_then, arrival-then}
 
 module _ (bank : Key → Option Answer) where
   -- after a step that comes to where a query does
-  pub onward-then : (query f whole : State → Expanding State) (old new : Way) → ended new ≡ onward bank query old → whole old.state ≡ and_then (query old.state) f
+  pub onward-then : (query f whole : Said → Expanding Said) (old new : Way) → ended new ≡ onward bank query old → whole old.state ≡ and_then (query old.state) f
       → onward bank f new ≡ onward bank whole old
   onward-then query f whole old new came is =
       arrival-then bank (query old.state) f new.state old.progress new.progress came ∙ ap (λ q. arrival bank q old.progress) (sym is)
 
   -- after an item, and a step that comes to where a question does
-  pub onward-decided : (item : Item) (question : State → Expanding Bool) (f : Bool → State → Expanding State) (holds : Bool) (old told new : Way)
+  pub onward-decided : (item : Item) (question : Said → Expanding Bool) (f : Bool → Said → Expanding Said) (holds : Bool) (old told new : Way)
       → told ≡ telling item old → arrived holds new.progress ≡ arrival bank (question told.state) told.progress → new.state ≡ told.state
       → onward bank (f holds) new ≡ onward bank (λ s. Tell item (and_then (question s) (λ b. f b s))) old
   onward-decided item question f holds old told new tells came same =
@@ -38,12 +38,12 @@ module _ (bank : Key → Option Answer) where
 
 module _ (bank : Key → Option Answer) (enter : Enter) (file : FileName) (gs : List Group) (l : Line) (lines : List Line) (alone : before l (part lines) ≡ grown (Leaf l) (part lines)) where
   -- a line that is walked
-  pub to_come-act : (old new : Way) → is_walked gs ≡ true → ended new ≡ onward bank (act enter file l) old → to_come bank enter file gs lines new ≡ to_come bank enter file gs (l ∷ lines) old
+  pub to_come-act : (old new : Way) → is_walked gs ≡ true → ended new ≡ onward bank (effect enter file l) old → to_come bank enter file gs lines new ≡ to_come bank enter file gs (l ∷ lines) old
   to_come-act old new walked came =
-      onward-then bank (act enter file l) (coming enter file gs (part lines)) (coming enter file gs (part (l ∷ lines))) old new came (coming-act enter file gs l lines old.state alone walked)
+      onward-then bank (effect enter file l) (coming enter file gs (part lines)) (coming enter file gs (part (l ∷ lines))) old new came (coming-act enter file gs l lines old.state alone walked)
 
   -- a line that is walked, which leaves something to be done first
-  pub to_come-act_first : (first : State → Expanding State) (old new : Way) → is_walked gs ≡ true → onward bank first new ≡ onward bank (act enter file l) old
+  pub to_come-act_first : (first : Said → Expanding Said) (old new : Way) → is_walked gs ≡ true → onward bank first new ≡ onward bank (effect enter file l) old
       → onward bank (λ s. and_then (first s) (coming enter file gs (part lines))) new ≡ to_come bank enter file gs (l ∷ lines) old
   to_come-act_first first old new walked came =
       arrival-and_then bank (first new.state) (coming enter file gs (part lines)) new.progress
@@ -71,12 +71,12 @@ module _ (bank : Key → Option Answer) (enter : Enter) (file : FileName) (d : D
 
   -- another branch begins
   pub to_come-branch : (g : Group) (gs made : List Group) (taken : Bool) (old told new : Way) → IsBranch d.kind → g.has_else ≡ false → g.is_live ≡ true
-      → told ≡ telling (Turn (place_in file d)) old → arrived taken new.progress ≡ arrival bank (decide file d g.is_taken told.state) told.progress → new.state ≡ told.state
+      → told ≡ telling (Turn (place_in file d)) old → arrived taken new.progress ≡ arrival bank (decision file d g.is_taken told.state) told.progress → new.state ≡ told.state
       → made ≡ continued g (g.is_taken || taken) taken (is_else d.kind) ∷ gs
       → to_come bank enter file made lines new ≡ to_come bank enter file (g ∷ gs) (Directed d ∷ lines) old
   to_come-branch g gs made taken old told new branch no_else live tells came same is =
       ap (λ m. to_come bank enter file m lines new) is
-      ∙ onward-decided bank (Turn (place_in file d)) (decide file d g.is_taken) (λ b s. coming enter file (continued g (g.is_taken || b) b (is_else d.kind) ∷ gs) (part lines) s) taken old told new tells came same
+      ∙ onward-decided bank (Turn (place_in file d)) (decision file d g.is_taken) (λ b s. coming enter file (continued g (g.is_taken || b) b (is_else d.kind) ∷ gs) (part lines) s) taken old told new tells came same
       ∙ ap (λ q. arrival bank q old.progress) (sym (coming-branch enter file g gs d lines old.state branch no_else live))
 
   pub to_come-branch-skipped : (g : Group) (gs made : List Group) (way : Way) → IsBranch d.kind → g.has_else ≡ false → g.is_live ≡ false → made ≡ continued g g.is_taken false (is_else d.kind) ∷ gs

@@ -21,7 +21,7 @@ use Rattle.idl_event.specs.declared.key.Key.TheVariants as key
 use Rattle.idl_event.specs.declared.place.Place.{Place}
 use Rattle.idl_source.specs.Candidates.{along}
 use Rattle.idl_source.specs.Directory.{directory_of}
-use Rattle.idl_source.specs.Path.{is_rooted, joined}
+use Rattle.idl_source.specs.Path.{is_rooted, joined_path}
 
 -- the lines of a file that is answered
 abbrev pub file_in : Option Answer → Option (List (List ℕ))
@@ -71,9 +71,9 @@ pub record Operand : Type 0 where
 -- quotes after the name beside the including file.
 unfoldable pub file_of : FileName → Operand → Expanding (Option Found)
 file_of from o =
-    if is_rooted o.name then first_present (option_to_list (joined (directory_of from) o.name))
+    if is_rooted o.name then first_present (option_to_list (joined_path (directory_of from) o.name))
     else (if o.is_quoted
-    then and_then (first_present (option_to_list (joined (directory_of from) o.name))) (or_along o.name)
+    then and_then (first_present (option_to_list (joined_path (directory_of from) o.name))) (or_along o.name)
     else present_along o.name)
 
 -- the bytes between the first and the last

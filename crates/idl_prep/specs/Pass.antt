@@ -8,28 +8,28 @@ use Rattle.idl_event.specs.declared.key.Key.{Key}
 use Rattle.idl_groups.specs.Line.{Line}
 use Rattle.idl_groups.specs.Tree.{Tree, Forest, Branches, Part, close, part, strays}
 use Rattle.idl_prep.specs.Directive.{Enter}
-use Rattle.idl_prep.specs.State.{State, Way, onward}
+use Rattle.idl_prep.specs.State.{Said, Way, onward}
 use Rattle.idl_prep.specs.Walk.{skip, skip_branches, skip_tree, walk, walk_branches, walk_tree}
 use Rattle.idl_prep.specs.declared.groups.Group.{Group}
 use Rattle.idl_prep.specs.declared.groups.Opener.{Opener}
 use Rattle.idl_prep.specs.declared.inclusion.Inclusion.{Inclusion}
 
 -- trees are walked, or skipped
-abbrev pub visit : Enter → FileName → Bool → Forest → State → Expanding State
+abbrev pub visit : Enter → FileName → Bool → Forest → Said → Expanding Said
 visit enter file active f s = if active then walk enter file f s else skip file f s
 
-abbrev pub visit_tree : Enter → FileName → Bool → Tree → State → Expanding State
+abbrev pub visit_tree : Enter → FileName → Bool → Tree → Said → Expanding Said
 visit_tree enter file active t s = if active then walk_tree enter file t s else skip_tree file t s
 
 -- the branches that follow of an open group
-abbrev pub visit_branches : Enter → FileName → Group → Branches → State → Expanding State
+abbrev pub visit_branches : Enter → FileName → Group → Branches → Said → Expanding Said
 visit_branches enter file g bs s =
     if g.is_live then walk_branches enter file bs g.opener g.is_taken s
     else skip_branches file bs g.opener s
 
 -- What follows comes to this, inside these open groups, the innermost first: the innermost is closed by what follows, and
 -- what comes after it follows inside the others.
-unfoldable pub coming : Enter → FileName → List Group → Part → State → Expanding State
+unfoldable pub coming : Enter → FileName → List Group → Part → Said → Expanding Said
 coming enter file [] p s = walk enter file (strays p.front p.tail) s
 coming enter file (g ∷ gs) p s =
     let c = close g.has_else p.front p.tail in
@@ -38,7 +38,7 @@ coming enter file (g ∷ gs) p s =
 
 -- where a root comes to by these lines, inside these open groups
 abbrev pub to_come :
-    (Key → Option Answer) → Enter → FileName → List Group → List Line → Way → Reached × Option State
+    (Key → Option Answer) → Enter → FileName → List Group → List Line → Way → Reached × Option Said
 to_come bank enter file gs lines way = onward bank (coming enter file gs (part lines)) way
 
 -- a group that was opened so
@@ -52,7 +52,7 @@ is_walked [] = true
 is_walked (g ∷ gs) = g.is_active
 
 -- what becomes of a file that is to be entered, if there is one
-abbrev pub entered : Enter → Option Inclusion → State → Expanding State
+abbrev pub entered : Enter → Option Inclusion → Said → Expanding Said
 entered enter None s = Done s
 entered enter (Some i) s = enter i.place i.name i.file.now s
 

@@ -1,10 +1,10 @@
 -- A line as the code holds it.
-use Rattle.idl_groups.specs.Line.{Line, Text, Bare, Directed}
+use Rattle.idl_groups.specs.Line.{Line, Text, NullDirective, Directed}
 use Rattle.idl_prep.specs.declared.line.Line as declared
 use Rattle.idl_prep.specs.declared.line.Line.TheVariants as held
 
 -- the line that it stands for
 abbrev pub line_of : declared.Line → Line
 line_of (held.Text tokens) = Text tokens
-line_of (held.Bare line) = Bare line
+line_of (held.NullDirective line) = NullDirective line
 line_of (held.Directed d) = Directed d

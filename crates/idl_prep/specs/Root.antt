@@ -18,11 +18,11 @@ use Rattle.idl_groups.specs.Tree.{tree}
 use Rattle.idl_prep.specs.Directive.{Enter}
 use Rattle.idl_prep.specs.Include.{file_in}
 use Rattle.idl_prep.specs.Limits.{depth_at_most}
-use Rattle.idl_prep.specs.State.{State, nothing_said}
+use Rattle.idl_prep.specs.State.{Said, nothing_said}
 use Rattle.idl_prep.specs.Walk.{walk}
 
 -- a file of these lines
-abbrev pub walk_file : Enter → FileName → List (List ℕ) → State → Expanding State
+abbrev pub walk_file : Enter → FileName → List (List ℕ) → Said → Expanding Said
 walk_file enter file lines s = walk enter file (tree (lines_in lines)) s
 
 -- A file is entered, where so many may still be entered inside one another; else it is too deep. When its lines are done it is
@@ -34,13 +34,13 @@ enter (suc room) place file lines s =
     (and_then (walk_file (enter room) file lines s) (λ after. Tell (Kept (Left file)) (Done after)))
 
 -- the lines of a root, in which one file less may be entered than may be open
-abbrev pub root_lines : FileName → Option (List (List ℕ)) → Expanding State
+abbrev pub root_lines : FileName → Option (List (List ℕ)) → Expanding Said
 root_lines root None =
     Tell (Kept (Fault (record { file = root; line = 0 }) NotFound (Some root))) (Done nothing_said)
 root_lines root (Some lines) = walk_file (enter (depth_at_most - 1)) root lines nothing_said
 
 -- a root asks for its file first
-unfoldable pub root : FileName → Expanding State
+unfoldable pub root : FileName → Expanding Said
 root name = Ask (key.File name) (λ found. root_lines name (file_in found))
 
 -- the expansion of a root, under the limits: it asks what the root asks, and gives the events

@@ -9,17 +9,17 @@ use Rattle.idl_event.specs.declared.key.Answer.{Answer}
 use Rattle.idl_event.specs.declared.key.Key.{Key}
 
 -- what was said of macros, and the files that are not to be entered again
-pub record State : Type 0 where
+pub record Said : Type 0 where
   pub definitions : Definitions
   pub once : List (List ℕ)
 
 -- nothing was said
-abbrev pub nothing_said : State
+abbrev pub nothing_said : Said
 nothing_said = record { definitions = []; once = [] }
 
 -- a root on its way: what it has said, and how far it has come
 pub record Way : Type 0 where
-  pub state : State
+  pub state : Said
   pub progress : Reached
 
 -- one item more
@@ -27,10 +27,10 @@ abbrev pub telling : Item → Way → Way
 telling item way = record way { progress = after_item rules item way.progress }
 
 -- where a root is
-abbrev pub ended : Way → Reached × Option State
+abbrev pub ended : Way → Reached × Option Said
 ended way = arrived way.state way.progress
 
 -- where a root comes to by a query of what it has said
 abbrev pub onward :
-    {A : Type 0} → (Key → Option Answer) → (State → Expanding A) → Way → Reached × Option A
+    {A : Type 0} → (Key → Option Answer) → (Said → Expanding A) → Way → Reached × Option A
 onward bank query way = arrival bank (query way.state) way.progress

@@ -11,7 +11,7 @@ use Rattle.idl_event.specs.declared.file_name.FileName.{FileName}
 use Rattle.idl_groups.specs.declared.fault.GroupFault.{GroupFault}
 use Rattle.idl_groups.specs.declared.fault.Misplaced.{Misplaced}
 use Rattle.idl_groups.specs.declared.fault.Misplaced.TheVariants.{OutOfPlace, NotClosed}
-use Rattle.idl_prep.specs.State.{State}
+use Rattle.idl_prep.specs.State.{Said}
 
 abbrev pub code_of : Misplaced → Code
 code_of OutOfPlace = code.OutOfPlace
@@ -23,6 +23,6 @@ item_of file fault =
     Kept (Fault (record { file = file; line = fault.line }) (code_of fault.what) (Some fault.word))
 
 -- faults are told, and nothing else
-abbrev pub told : FileName → List GroupFault → State → Expanding State
+abbrev pub told : FileName → List GroupFault → Said → Expanding Said
 told file [] s = Done s
 told file (fault ∷ faults) s = Tell (item_of file fault) (told file faults s)

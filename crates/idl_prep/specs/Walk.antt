@@ -10,9 +10,9 @@ use Rattle.idl_event.specs.declared.event.Item.TheVariants.{Turn, Kept}
 use Rattle.idl_groups.specs.Line.{Directive}
 use Rattle.idl_groups.specs.Tree.{Tree, Leaf, Stray, Group, Forest, Empty, Grow, Branches, Closed, Unclosed, Branch, is_else}
 use Rattle.idl_groups.specs.declared.kind.Test.TheVariants.{If}
-use Rattle.idl_prep.specs.Directive.{Enter, act, test}
+use Rattle.idl_prep.specs.Directive.{Enter, effect, test}
 use Rattle.idl_prep.specs.Place.{place_in}
-use Rattle.idl_prep.specs.State.{State}
+use Rattle.idl_prep.specs.State.{Said}
 use Rattle.idl_prep.specs.declared.groups.Opener.{Opener}
 
 -- the directive that opens a group
@@ -28,35 +28,35 @@ abbrev pub not_closed : FileName → Opener → Item
 not_closed file o = Kept (Fault (record { file = file; line = o.line }) NotClosed (Some o.word))
 
 -- whether a branch after the first is taken: none is where one before it was, and else an `else` is
-abbrev pub decide : FileName → Directive → Bool → State → Expanding Bool
-decide file d true s = Done false
-decide file d false s = if is_else d.kind then Done true else test file d If s
+abbrev pub decision : FileName → Directive → Bool → Said → Expanding Bool
+decision file d true s = Done false
+decision file d false s = if is_else d.kind then Done true else test file d If s
 
 -- in skipped lines only the directives of groups count, and they are no turns
 unfoldable mutual
-  pub skip : FileName → Forest → State → Expanding State
+  pub skip : FileName → Forest → Said → Expanding Said
   skip file Empty s = Done s
   skip file (Grow t f) s = and_then (skip_tree file t s) (skip file f)
 
-  pub skip_tree : FileName → Tree → State → Expanding State
+  pub skip_tree : FileName → Tree → Said → Expanding Said
   skip_tree file (Leaf line) s = Done s
   skip_tree file (Stray d) s = Tell (out_of_place file d) (Done s)
   skip_tree file (Group d what f bs) s =
       and_then (skip file f s) (skip_branches file bs (opener_of d))
 
-  pub skip_branches : FileName → Branches → Opener → State → Expanding State
+  pub skip_branches : FileName → Branches → Opener → Said → Expanding Said
   skip_branches file (Closed d) opener s = Done s
   skip_branches file Unclosed opener s = Tell (not_closed file opener) (Done s)
   skip_branches file (Branch d f bs) opener s =
       and_then (skip file f s) (skip_branches file bs opener)
 
 unfoldable mutual
-  pub walk : Enter → FileName → Forest → State → Expanding State
+  pub walk : Enter → FileName → Forest → Said → Expanding Said
   walk enter file Empty s = Done s
   walk enter file (Grow t f) s = and_then (walk_tree enter file t s) (walk enter file f)
 
-  pub walk_tree : Enter → FileName → Tree → State → Expanding State
-  walk_tree enter file (Leaf line) s = act enter file line s
+  pub walk_tree : Enter → FileName → Tree → Said → Expanding Said
+  walk_tree enter file (Leaf line) s = effect enter file line s
   walk_tree enter file (Stray d) s =
       Tell (Turn (place_in file d)) (Tell (out_of_place file d) (Done s))
   walk_tree enter file (Group d what f bs) s =
@@ -65,10 +65,10 @@ unfoldable mutual
       (walk_branches enter file bs (opener_of d) b)))
 
   -- the branches after the first: one before them was taken, or none
-  pub walk_branches : Enter → FileName → Branches → Opener → Bool → State → Expanding State
+  pub walk_branches : Enter → FileName → Branches → Opener → Bool → Said → Expanding Said
   walk_branches enter file (Closed d) opener taken s = Tell (Turn (place_in file d)) (Done s)
   walk_branches enter file Unclosed opener taken s = Tell (not_closed file opener) (Done s)
   walk_branches enter file (Branch d f bs) opener taken s =
-      Tell (Turn (place_in file d)) (and_then (decide file d taken s)
+      Tell (Turn (place_in file d)) (and_then (decision file d taken s)
       (λ b. and_then (if b then walk enter file f s else skip file f s)
       (walk_branches enter file bs opener (taken || b))))

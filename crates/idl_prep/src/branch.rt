@@ -5,10 +5,10 @@ ghost use Rattle.idl_event.specs.Expanding.{arrival, arrived};
 ghost use Rattle.idl_groups.specs.Line as spec;
 ghost use Rattle.idl_groups.specs.Line.{Directed};
 ghost use Rattle.idl_groups.specs.Tree.{IsBranch};
-ghost use Rattle.idl_groups.specs.declared.kind.Kind.TheVariants.{Endif, Opening};
+ghost use Rattle.idl_groups.specs.declared.kind.DirectiveKind.TheVariants.{Endif, Opening};
 ghost use Rattle.idl_prep.specs.Directive.{Enter};
 ghost use Rattle.idl_prep.specs.Pass.{begun, is_walked, to_come};
-ghost use Rattle.idl_prep.specs.Walk.{decide, opener_of};
+ghost use Rattle.idl_prep.specs.Walk.{decision, opener_of};
 ghost use Rattle.idl_prep.specs.declared.groups.Group as declared;
 
 use crate::groups::{Group, Opener};
@@ -113,7 +113,7 @@ fn decide<B: RootBank>(
 ) -> Result<bool, AllocError>
     ensures arrival { IfOk result (λ taken. arrived taken root.new.progress
         ≡ arrival (B.at site.now.bank.now)
-        (decide site.now.file.now directive.now is_taken root.old.state) root.old.progress) }
+        (decision site.now.file.now directive.now is_taken root.old.state) root.old.progress) }
     ensures state { root.new.state ≡ root.old.state }
 {
     if is_taken {

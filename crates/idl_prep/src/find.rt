@@ -7,7 +7,7 @@ ghost use Rattle.idl_event.specs.Expanding.{arrival, arrived};
 ghost use Rattle.idl_event.specs.Key.{key_eq};
 ghost use Rattle.idl_event.specs.declared.key.Key.TheVariants.{File};
 ghost use Rattle.idl_prep.specs.Include.{directories_in, file_in, file_of, first_present, present_along};
-ghost use Rattle.idl_source.specs.Path.{joined};
+ghost use Rattle.idl_source.specs.Path.{joined_path};
 
 use crate::operand::Operand;
 use idl_event::{Answer, FileName, Key, LexedFile, Progress, RootBank};
@@ -79,7 +79,7 @@ fn present<'b, B: RootBank>(
     bank: &'b B,
     progress: &mut Progress<B>,
 ) -> Result<Option<Found<'b>>, AllocError>
-    ensures { let names = option_to_list (joined directory.now name.now) in
+    ensures { let names = option_to_list (joined_path directory.now name.now) in
         IfOk result (λ found. arrived found progress.new
         ≡ arrival (B.at bank.now) (first_present names) progress.old) }
 {

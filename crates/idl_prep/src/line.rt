@@ -8,7 +8,7 @@ ghost use Rattle.idl_prep.specs.Place.{place_in};
 ghost use Rattle.idl_prep.specs.Read.{line_of};
 
 use idl_event::{FileName, FileTokens, Place};
-use idl_groups::Kind;
+use idl_groups::DirectiveKind;
 use idl_lex::{PlacedToken, Spelling};
 use std::alloc::AllocError;
 use std::marker::Model;
@@ -16,7 +16,7 @@ use std::marker::Model;
 /// A directive: its kind, the number of its line, its word, the tokens after that, and both together.
 #[derive(Drop)]
 pub struct Directive<'t> {
-    pub kind: Kind,
+    pub kind: DirectiveKind,
     pub line: u32,
     pub word: &'t PlacedToken,
     pub operands: FileTokens<'t>,
@@ -99,7 +99,7 @@ impl<'t> Directive<'t> {
 #[derive(Drop)]
 pub enum Line<'t> {
     Text(FileTokens<'t>),
-    Bare(u32),
+    NullDirective(u32),
     Directed(Directive<'t>),
 }
 
@@ -135,13 +135,13 @@ fn after_hash<'t>(line: u32, tokens: FileTokens<'t>) -> Line<'t>
         [word, ..] => {
             let (_word, operands) = tokens.split_at(1);
             Line::Directed(Directive {
-                kind: Kind::of(word.token.as_bytes()),
+                kind: DirectiveKind::of(word.token.as_bytes()),
                 line,
                 word,
                 operands,
                 tokens,
             })
         }
-        [] => Line::Bare(line),
+        [] => Line::NullDirective(line),
     }
 }

@@ -3,9 +3,9 @@
 ghost use Rattle.std.specs.Prelude.{◌≡◌, ◌∷◌, [], List, Option, IfOk, OnOk};
 ghost use Rattle.idl_memo.specs.Query.{and_then};
 ghost use Rattle.idl_groups.specs.Line as spec;
-ghost use Rattle.idl_groups.specs.Line.{Directed, Text, Bare};
+ghost use Rattle.idl_groups.specs.Line.{Directed, Text, NullDirective};
 ghost use Rattle.idl_groups.specs.Tree.{IsBranch, part};
-ghost use Rattle.idl_groups.specs.declared.kind.Kind.TheVariants.{Endif};
+ghost use Rattle.idl_groups.specs.declared.kind.DirectiveKind.TheVariants.{Endif};
 ghost use Rattle.idl_prep.specs.Directive.{Enter};
 ghost use Rattle.idl_prep.specs.Pass.{coming, entered, to_come};
 ghost use Rattle.idl_prep.specs.State.{ended, onward};
@@ -19,7 +19,7 @@ use crate::root::Root;
 use crate::site::Site;
 use crate::stray::{stray_inside, stray_outside};
 use idl_event::{Answer, Code, FileName, FileTokens, Key, Place, RootBank};
-use idl_groups::Kind;
+use idl_groups::DirectiveKind;
 use std::alloc::AllocError;
 
 /// The next line of a file: gives the file that is to be entered, if there is one.
@@ -40,7 +40,7 @@ pub fn walk_line<'b, B: RootBank>(
             walk_text(root, groups, site, &text)?;
             Ok(None)
         }
-        Line::Bare(line) => {
+        Line::NullDirective(line) => {
             walk_bare(root, groups, site.file, line)?;
             Ok(None)
         }
@@ -76,7 +76,7 @@ fn walk_bare<B: RootBank>(
 ) -> Result<(), AllocError>
     ensures { OnOk result ((bank : Key → Option Answer) (enter : Enter) (lines : List spec.Line)
         → to_come bank enter file.now groups.now lines root.new
-        ≡ to_come bank enter file.now groups.now (Bare line ∷ lines) root.old) }
+        ≡ to_come bank enter file.now groups.now (NullDirective line ∷ lines) root.old) }
 {
     if !groups.is_walked() {
         return Ok(());
@@ -99,22 +99,24 @@ fn walk_directive<'b, B: RootBank>(
         ≡ to_come bank enter file groups.old (Directed directive.now ∷ lines) root.old) }
 {
     match directive.kind {
-        Kind::Alone(what) if groups.is_walked() => Ok(act_directive(root, site, directive, what)?),
-        Kind::Alone(_) => Ok(None),
-        Kind::Opening(what) if groups.is_walked() => {
+        DirectiveKind::Alone(what) if groups.is_walked() => Ok(act_directive(
+            root, site, directive, what,
+        )?),
+        DirectiveKind::Alone(_) => Ok(None),
+        DirectiveKind::Opening(what) if groups.is_walked() => {
             let group = begin_group(root, site, directive, what)?;
             groups.push(group)?;
             Ok(None)
         }
-        Kind::Opening(_) => {
+        DirectiveKind::Opening(_) => {
             groups.push(skip_group(directive)?)?;
             Ok(None)
         }
-        Kind::Elif | Kind::Else => {
+        DirectiveKind::Elif | DirectiveKind::Else => {
             walk_branch(root, groups, site, directive)?;
             Ok(None)
         }
-        Kind::Endif => {
+        DirectiveKind::Endif => {
             walk_endif(root, groups, site.file, directive)?;
             Ok(None)
         }

@@ -4,9 +4,9 @@ ghost use Rattle.std.specs.Prelude.{◌≡◌, ◌∷◌, Some, IfOk, OnOk, Opti
 ghost use Rattle.idl_event.specs.declared.code.Code.TheVariants.{Error};
 ghost use Rattle.idl_event.specs.declared.event.Event.TheVariants.{Fault};
 ghost use Rattle.idl_event.specs.declared.event.Item.TheVariants.{Kept};
-ghost use Rattle.idl_groups.specs.Line.{Text, Bare, Directed};
-ghost use Rattle.idl_groups.specs.declared.kind.Kind.TheVariants.{Alone};
-ghost use Rattle.idl_prep.specs.Directive.{Enter, act, parted};
+ghost use Rattle.idl_groups.specs.Line.{Text, NullDirective, Directed};
+ghost use Rattle.idl_groups.specs.declared.kind.DirectiveKind.TheVariants.{Alone};
+ghost use Rattle.idl_prep.specs.Directive.{Enter, effect, parted};
 ghost use Rattle.idl_prep.specs.Place.{place_in};
 ghost use Rattle.idl_prep.specs.Pass.{entered};
 ghost use Rattle.idl_prep.specs.State.{ended, onward, telling};
@@ -23,28 +23,28 @@ use idl_groups::Plain;
 use std::alloc::AllocError;
 
 /// A line of text, which isn't skipped.
-#[tactic(auto, unfolding(crate::specs::Directive::act))]
+#[tactic(auto, unfolding(crate::specs::Directive::effect))]
 pub fn act_text<B: RootBank>(
     root: &mut Root<B>,
     site: &Site<'_, B>,
     tokens: &FileTokens<'_>,
 ) -> Result<(), AllocError>
     ensures { let bank = B.at site.now.bank.now in OnOk result ((enter : Enter)
-        → ended root.new ≡ onward bank (act enter site.now.file.now (Text tokens.now)) root.old) }
+        → ended root.new ≡ onward bank (effect enter site.now.file.now (Text tokens.now)) root.old) }
 {
     root.emit(site, tokens.as_slice())?;
     Ok(())
 }
 
 /// A `#` alone, which isn't skipped.
-#[tactic(auto, unfolding(crate::specs::Directive::act))]
+#[tactic(auto, unfolding(crate::specs::Directive::effect))]
 pub fn act_bare<B: RootBank>(
     root: &mut Root<B>,
     file: &FileName,
     line: u32,
 ) -> Result<(), AllocError>
     ensures { OnOk result ((enter : Enter) (bank : Key → Option Answer)
-        → ended root.new ≡ onward bank (act enter file.now (Bare line)) root.old) }
+        → ended root.new ≡ onward bank (effect enter file.now (NullDirective line)) root.old) }
 {
     root.tell(Item::Turn(Place {
         file: file.clone()?,
@@ -63,7 +63,7 @@ pub fn act_directive<'b, B: RootBank>(
     requires { directive.now.kind ≡ Alone what }
     ensures { let bank = B.at site.now.bank.now in IfOk result (λ inclusion. (enter : Enter)
         → onward bank (entered enter inclusion) root.new
-        ≡ onward bank (act enter site.now.file.now (Directed directive.now)) root.old) }
+        ≡ onward bank (effect enter site.now.file.now (Directed directive.now)) root.old) }
 {
     root.turn(site.file, directive)?;
     match what {

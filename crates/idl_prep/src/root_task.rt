@@ -16,7 +16,7 @@ use crate::root::Root;
 use crate::site::Site;
 use crate::text::text_of;
 use idl_event::{Code, Expansion, FileName, Key, Place, RootBank};
-use idl_memo::{Kind, Log, Task};
+use idl_memo::{Log, Task, TaskKind};
 use idl_source::Name;
 use std::alloc::{AllocError, Global};
 use std::mem::replace;
@@ -38,14 +38,14 @@ impl RootTask {
 
 impl<B: RootBank> Task<B> for RootTask {
     ghost use Rattle.std.specs.Prelude.{◌≡◌};
-    ghost use Rattle.idl_memo.specs.declared.task.Kind.TheVariants.{Expand};
+    ghost use Rattle.idl_memo.specs.declared.task.TaskKind.TheVariants.{Expand};
     ghost use Rattle.idl_prep.specs.Root.{expansion};
 
     type Text = Name;
 
     type Out = Expansion;
 
-    const KIND: Kind = Kind::Expand;
+    const KIND: TaskKind = TaskKind::Expand;
 
     ghost KIND = { Expand };
 

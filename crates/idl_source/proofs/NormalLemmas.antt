@@ -6,7 +6,7 @@ use Rattle.std.specs.Str.{bytes_eq}
 use Rattle.std.proofs.lemmas.Bool.Decides.{nat_tests}
 use Rattle.std.proofs.lemmas.List.Splits.{length-slice_split, slice_split-cons_yes}
 use Rattle.idl_source.specs.Name.{climbs, is_name, is_path, is_plain, is_up, is_visible, segments}
-use Rattle.idl_source.specs.Path.{Path, down_by, here, joined, led_by, led_by_all, name_of, slashed, text_of}
+use Rattle.idl_source.specs.Path.{Path, down_by, here, joined_path, led_by, led_by_all, name_of, slashed, text_of}
 use Rattle.idl_source.proofs.DirectoryLemmas.{first, second}
 use Rattle.idl_source.proofs.PathLemmas.{joined-beside, joined-rooted, led_by_all-append}
 
@@ -108,12 +108,12 @@ unfolding led_by_all text_of
 from_here name climb = ap (λ (l : List (List ℕ)). drop 1 (slashed l)) (climbs-form (segments name) climb) ∙ ap (drop 1) (slashed-segments name)
 
 -- a name stands for itself
-pub joined-name : (name : List ℕ) → IsTrue (is_name name) → joined (46 ∷ []) name ≡ Some name
+pub joined-name : (name : List ℕ) → IsTrue (is_name name) → joined_path (46 ∷ []) name ≡ Some name
 joined-name [] allowed = cc allowed
 joined-name (b ∷ bytes) allowed =
     let name = b ∷ bytes in
     let path : IsTrue (is_path name) = second (list_all is_visible name) _ (second (leb (length name) 255) _ (second (leb 1 (length name)) _ allowed)) in
-    elim (eqb b 47) as (λ t. eqb b 47 ≡ t → IsTrue (cond t (list_all is_plain (segments bytes)) (climbs (segments name))) → joined (46 ∷ []) name ≡ Some name) [
+    elim (eqb b 47) as (λ t. eqb b 47 ≡ t → IsTrue (cond t (list_all is_plain (segments bytes)) (climbs (segments name))) → joined_path (46 ∷ []) name ≡ Some name) [
       | true ↦ λ e g. joined-rooted (46 ∷ []) name e ∙ named (led_by_all (segments name) here) true name (from_root b bytes e g) allowed
       | false ↦ λ e g. joined-beside (46 ∷ []) name e ∙ named (led_by_all (segments (46 ∷ [])) (led_by_all (segments name) here)) false name (from_here name g) allowed
     ] refl path

@@ -7,7 +7,7 @@ use Rattle.std.proofs.lemmas.List.{append-nil, drop-drop, drop-set-lt, length-ta
 use Rattle.std.proofs.Math.Seq.{drop-append_seam}
 use borrow.Rule.Slice.PartMut.{put_mid}
 use Rattle.idl_source.specs.Name.{is_name, is_plain, is_up, is_visible, is_path, segments}
-use Rattle.idl_source.specs.Path.{Path, down_by, here, is_rooted, joined, led_by, led_by_all, slashed, text_of, name_of}
+use Rattle.idl_source.specs.Path.{Path, down_by, here, is_rooted, joined_path, led_by, led_by_all, slashed, text_of, name_of}
 
 onto_first-append : (x : ℕ) (parts others : List (List ℕ)) → 0 < length parts → onto_first x (parts ++ others) ≡ onto_first x parts ++ others
 onto_first-append x [] others some = absurd (omega arith)
@@ -140,17 +140,17 @@ drop-written array segment place start fits within =
     ∙ drop-append_seam (take place array) (47 ∷ (segment ++ drop start array))
 
 -- an operand from the root stands for itself, and another one for what it is in the directory
-pub joined-rooted : (directory spelled : List ℕ) → is_rooted spelled ≡ true → joined directory spelled ≡ name_of true (led_by_all (segments spelled) here)
-unfolding joined
+pub joined-rooted : (directory spelled : List ℕ) → is_rooted spelled ≡ true → joined_path directory spelled ≡ name_of true (led_by_all (segments spelled) here)
+unfolding joined_path
 joined-rooted directory spelled rooted = ap (λ b. cond b (name_of true (led_by_all (segments spelled) here)) (name_of (is_rooted directory) (led_by_all (segments directory) (led_by_all (segments spelled) here)))) rooted
 
-pub joined-beside : (directory spelled : List ℕ) → is_rooted spelled ≡ false → joined directory spelled ≡ name_of (is_rooted directory) (led_by_all (segments directory) (led_by_all (segments spelled) here))
-unfolding joined
+pub joined-beside : (directory spelled : List ℕ) → is_rooted spelled ≡ false → joined_path directory spelled ≡ name_of (is_rooted directory) (led_by_all (segments directory) (led_by_all (segments spelled) here))
+unfolding joined_path
 joined-beside directory spelled beside = ap (λ b. cond b (name_of true (led_by_all (segments spelled) here)) (name_of (is_rooted directory) (led_by_all (segments directory) (led_by_all (segments spelled) here)))) beside
 
 -- an operand that is too long makes no name in any directory
-pub joined-long : (directory spelled : List ℕ) → 256 < length (slashed (led_by_all (segments spelled) here).down) → joined directory spelled ≡ None
-unfolding joined
+pub joined-long : (directory spelled : List ℕ) → 256 < length (slashed (led_by_all (segments spelled) here).down) → joined_path directory spelled ≡ None
+unfolding joined_path
 joined-long directory spelled long =
     let whole : 256 < length (slashed (led_by_all (segments directory) (led_by_all (segments spelled) here)).down) = omega (arith, led_by_all-longer (segments directory) (led_by_all (segments spelled) here)) in
     elim (is_rooted spelled) as (λ b. cond b (name_of true (led_by_all (segments spelled) here)) (name_of (is_rooted directory) (led_by_all (segments directory) (led_by_all (segments spelled) here))) ≡ None) [

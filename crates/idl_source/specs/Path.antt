@@ -43,7 +43,7 @@ is_rooted [] = false
 is_rooted (b ∷ bytes) = nat_eq b 47
 
 -- the name that an operand makes in a directory. With a leading `/` it stands for itself
-unfoldable pub joined : List ℕ → List ℕ → Option (List ℕ)
-joined directory spelled =
+unfoldable pub joined_path : List ℕ → List ℕ → Option (List ℕ)
+joined_path directory spelled =
     if is_rooted spelled then name_of true (led_by_all (segments spelled) here)
     else name_of (is_rooted directory) (led_by_all (segments directory) (led_by_all (segments spelled) here))

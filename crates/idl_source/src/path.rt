@@ -3,7 +3,7 @@
 ghost use Rattle.std.specs.Prelude.{◌≡◌, ◌∷◌, ◌++◌, [], ℕ, List, IsTrue, Some, replicate, ◌+◌, ◌*◌, ◌^◌, ◌<◌, ◌≤◌, false, nat_eq, length, OnSome, IfNone};
 ghost use Rattle.std.specs.List.{All, list_all};
 ghost use Rattle.idl_source.specs.Name.{is_name, is_plain, segments};
-ghost use Rattle.idl_source.specs.Path.{here, is_rooted, joined, led_by, led_by_all, name_of, slashed};
+ghost use Rattle.idl_source.specs.Path.{here, is_rooted, joined_path, led_by, led_by_all, name_of, slashed};
 
 use crate::MAX_NAME;
 use crate::directory::Directory;
@@ -26,7 +26,7 @@ pub fn is_rooted(spelled: &[u8]) -> bool
 /// Empty segments and `.` go out, and `..` takes the segment before it away, or leads where there is none. An operand with
 /// a leading `/` stands for itself. The answer is `None` where a `..` leads above `/`, and where the result is no name.
 pub fn join(directory: &Directory, spelled: &[u8]) -> Option<Name>
-    ensures { result ≡ joined directory.now spelled.now }
+    ensures { result ≡ joined_path directory.now spelled.now }
 {
     let mut trail = Trail::here();
     trail.lead_by_all(spelled)?;
@@ -44,7 +44,7 @@ pub fn normal_form()
     ensures dot { (before after : List (List ℕ)) → led_by_all (before ++ (46 ∷ []) ∷ after) here ≡ led_by_all (before ++ after) here }
     ensures up { (before after : List (List ℕ)) (segment : List ℕ) → IsTrue (is_plain segment) → led_by_all (before ++ segment ∷ (46 ∷ 46 ∷ []) ∷ after) here ≡ led_by_all (before ++ after) here }
     ensures form { (n : ℕ) (names : List (List ℕ)) → IsTrue (list_all is_plain names) → led_by_all (replicate n (46 ∷ 46 ∷ []) ++ names) here ≡ record { up = n; down = names } }
-    ensures name { (name : List ℕ) → IsTrue (is_name name) → joined (46 ∷ []) name ≡ Some name }
+    ensures name { (name : List ℕ) → IsTrue (is_name name) → joined_path (46 ∷ []) name ≡ Some name }
 {}
 
 // A path that is read from its end, where each segment is known to stay as it comes. The text of the segments down stands

@@ -13,5 +13,5 @@ unfoldable pub compile_over : (Key → Option Answer) → List ℕ → CompiledR
 compile_over bank root = let e = expanded root bank in record { rows = small.compile e.0; absent = absent_files e.1 }
 
 -- the same over these inputs
-abbrev pub compile : Inputs → List ℕ → CompiledRoot
-compile inputs root = compile_over (bank_of inputs) root
+abbrev pub compiled_root : Inputs → List ℕ → CompiledRoot
+compiled_root inputs root = compile_over (bank_of inputs) root

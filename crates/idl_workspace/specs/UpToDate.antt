@@ -8,7 +8,7 @@ use Rattle.std.specs.Str.{bytes_eq}
 use Rattle.idl_event.specs.declared.key.Answer.{Answer}
 use Rattle.idl_event.specs.declared.key.Key.{Key}
 use Rattle.idl_source.specs.Name.{is_name}
-use Rattle.idl_workspace.specs.Compile.{compile, compile_over}
+use Rattle.idl_workspace.specs.Compile.{compiled_root, compile_over}
 use Rattle.idl_workspace.specs.Project.{Project, project_code, is_root}
 use Rattle.idl_workspace.specs.declared.compile.CompiledRoot.{CompiledRoot}
 use Rattle.idl_workspace.specs.declared.work.Work.{Work}
@@ -20,7 +20,7 @@ pub record State : Type 0 where
 
 -- what a root compiles to from scratch; another name compiles to nothing
 abbrev pub compiled_of : Project → List ℕ → Option CompiledRoot
-compiled_of project name = if is_root project name then Some (compile project.inputs name) else None
+compiled_of project name = if is_root project name then Some (compiled_root project.inputs name) else None
 
 -- the diagnostics that are answered for a name
 abbrev pub diagnostics_of : Project → List ℕ → Option (List (List ℕ))

@@ -2,7 +2,7 @@
 
 use crate::{Library, Page};
 use idl_base::{Datum, Seq, Text};
-use idl_memo::{Bank, Kind, Log, Task};
+use idl_memo::{Bank, Log, Task, TaskKind};
 use std::alloc::{AllocError, Global};
 
 /// Where a trail begins, how many pages it has at most, and how many bytes its titles.
@@ -28,14 +28,14 @@ pub struct Trail {
 }
 
 impl Task<Library> for Trail {
-    ghost use Rattle.idl_memo.specs.declared.task.Kind.TheVariants.{Check};
+    ghost use Rattle.idl_memo.specs.declared.task.TaskKind.TheVariants.{Check};
     ghost use Rattle.memo_demo.specs.Trail.{trail_from};
 
     type Text = Start;
 
     type Out = Seq<Text>;
 
-    const KIND: Kind = Kind::Check;
+    const KIND: TaskKind = TaskKind::Check;
 
     ghost KIND = { Check };
 

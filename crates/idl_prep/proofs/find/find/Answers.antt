@@ -2,7 +2,7 @@ use Rattle.std.proofs.Common.{◌≡◌, ℕ, List, Option, None, Some, true, fa
 use Rattle.idl_event.specs.Expanding.{Expanding, arrival, arrived}
 use Rattle.idl_prep.specs.Include.{Found, present_along}
 use Rattle.idl_source.specs.Directory.{directory_of}
-use Rattle.idl_source.specs.Path.{is_rooted, joined}
+use Rattle.idl_source.specs.Path.{is_rooted, joined_path}
 use Rattle.idl_prep.proofs.IncludeLemmas.{arrival-file_of-quoted, file_of-along, file_of-rooted, one}
 use Rattle.idl_prep.proofs.find.find.Goals as goal
 
@@ -12,8 +12,8 @@ returns-then-is_rooted g c =
     let o = c.args.operand.now in
     let from = c.args.from.now in
     let name = c.name-name.result.now in
-    let here : one (joined c.directory-beside.result name) ≡ one (joined (directory_of from) o.name) =
-    ap (λ (d : List ℕ). one (joined d name)) (c.directory-beside.ensures ∙ ap directory_of c.name.ensures) ∙ ap (λ (n : List ℕ). one (joined (directory_of from) n)) c.name-name.ensures in
+    let here : one (joined_path c.directory-beside.result name) ≡ one (joined_path (directory_of from) o.name) =
+    ap (λ (d : List ℕ). one (joined_path d name)) (c.directory-beside.ensures ∙ ap directory_of c.name.ensures) ∙ ap (λ (n : List ℕ). one (joined_path (directory_of from) n)) c.name-name.ensures in
     let rooted : is_rooted o.name ≡ true = ap is_rooted (sym c.name-name.ensures) ∙ sym c.is_rooted.ensures ∙ c.if-is_rooted.true in
     subst (λ (e : Expanding (Option Found)). IfOk c.present.result (λ found. arrived found c.present.new.progress ≡ arrival bank e c.args.progress.now))
     (here ∙ sym (file_of-rooted from o rooted)) c.present.ensures
@@ -35,8 +35,8 @@ returns-in-Some g c =
     let p = c.args.progress.now in
     let p' = c.present-2.new.progress in
     let name = c.name-name.result.now in
-    let here : one (joined c.directory-beside.result name) ≡ one (joined (directory_of from) o.name) =
-    ap (λ (d : List ℕ). one (joined d name)) (c.directory-beside.ensures ∙ ap directory_of c.name.ensures) ∙ ap (λ (n : List ℕ). one (joined (directory_of from) n)) c.name-name.ensures in
+    let here : one (joined_path c.directory-beside.result name) ≡ one (joined_path (directory_of from) o.name) =
+    ap (λ (d : List ℕ). one (joined_path d name)) (c.directory-beside.ensures ∙ ap directory_of c.name.ensures) ∙ ap (λ (n : List ℕ). one (joined_path (directory_of from) n)) c.name-name.ensures in
     let rooted : is_rooted o.name ≡ false = ap is_rooted (sym c.name-name.ensures) ∙ sym c.is_rooted.ensures ∙ c.if-is_rooted.false in
     let quoted : o.is_quoted ≡ true = sym c.is_quoted.ensures ∙ c.if-not-is_quoted.false in
     arrival-file_of-quoted from o bank (Some c.in-Some.found) p p' rooted quoted
@@ -50,8 +50,8 @@ returns-in-None g c =
     let p = c.args.progress.now in
     let p' = c.present-2.new.progress in
     let name = c.name-name.result.now in
-    let here : one (joined c.directory-beside.result name) ≡ one (joined (directory_of from) o.name) =
-    ap (λ (d : List ℕ). one (joined d name)) (c.directory-beside.ensures ∙ ap directory_of c.name.ensures) ∙ ap (λ (n : List ℕ). one (joined (directory_of from) n)) c.name-name.ensures in
+    let here : one (joined_path c.directory-beside.result name) ≡ one (joined_path (directory_of from) o.name) =
+    ap (λ (d : List ℕ). one (joined_path d name)) (c.directory-beside.ensures ∙ ap directory_of c.name.ensures) ∙ ap (λ (n : List ℕ). one (joined_path (directory_of from) n)) c.name-name.ensures in
     let rooted : is_rooted o.name ≡ false = ap is_rooted (sym c.name-name.ensures) ∙ sym c.is_rooted.ensures ∙ c.if-is_rooted.false in
     let quoted : o.is_quoted ≡ true = sym c.is_quoted.ensures ∙ c.if-not-is_quoted.false in
     let came = arrival-file_of-quoted from o bank None p p' rooted quoted

@@ -1,13 +1,13 @@
 use Rattle.std.proofs.Common.{refl, sym, ◌∙◌}
-use Rattle.idl_groups.specs.Line.{Bare}
+use Rattle.idl_groups.specs.Line.{NullDirective}
 use Rattle.idl_prep.proofs.WalkLemmas.{to_come-act, to_come-skipped}
 use Rattle.idl_prep.proofs.pass.walk_bare.Goals as goal
 
 pub returns-then-not-is_walked : goal.returns-then-not-is_walked
 returns-then-not-is_walked g c = λ bank enter lines.
-    to_come-skipped bank enter c.args.file.now c.args.groups.now (Bare c.args.line) lines refl c.args.root.now (sym c.is_walked.ensures ∙ c.if-not-is_walked.true)
+    to_come-skipped bank enter c.args.file.now c.args.groups.now (NullDirective c.args.line) lines refl c.args.root.now (sym c.is_walked.ensures ∙ c.if-not-is_walked.true)
 
 pub returns : goal.returns
 returns g c = λ bank enter lines.
-    to_come-act bank enter c.args.file.now c.args.groups.now (Bare c.args.line) lines refl c.args.root.now c.act_bare.new.root
+    to_come-act bank enter c.args.file.now c.args.groups.now (NullDirective c.args.line) lines refl c.args.root.now c.act_bare.new.root
     (sym c.is_walked.ensures ∙ c.if-not-is_walked.false) (c.in_ok-act_bare.ensures enter bank)

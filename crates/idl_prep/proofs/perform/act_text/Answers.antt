@@ -3,13 +3,13 @@ use Rattle.idl_memo.specs.Query.{Done}
 use Rattle.idl_event.specs.Expanding.{reached}
 use Rattle.idl_lex.specs.declared.token.PlacedToken.{PlacedToken}
 use Rattle.idl_macro.specs.Replace.{text}
-use Rattle.idl_prep.specs.Directive.{act}
+use Rattle.idl_prep.specs.Directive.{effect}
 use Rattle.idl_prep.specs.State.{ended}
 use Rattle.idl_prep.proofs.WayLemmas.{arrival-and_then}
 use Rattle.idl_prep.proofs.perform.act_text.Goals as goal
 
 pub returns : goal.returns
-unfolding act
+unfolding effect
 returns g c = λ enter.
     let way = c.args.root.now in
     let bank = g.B.Bank.at c.args.site.now.bank.now in

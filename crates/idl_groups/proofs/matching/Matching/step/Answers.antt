@@ -1,8 +1,8 @@
 use Rattle.std.proofs.Common.{◌≡◌, ap, subst, sym, ◌∙◌}
 use Rattle.idl_groups.specs.Line.{Directive, Directed}
 use Rattle.idl_groups.specs.TreeLaw.{IsAlone}
-use Rattle.idl_groups.specs.declared.kind.Kind.{Kind}
-use Rattle.idl_groups.specs.declared.kind.Kind.TheVariants.{Alone, Opening}
+use Rattle.idl_groups.specs.declared.kind.DirectiveKind.{DirectiveKind}
+use Rattle.idl_groups.specs.declared.kind.DirectiveKind.TheVariants.{Alone, Opening}
 use Rattle.idl_groups.proofs.MatchedLemmas.{matched-alone}
 use Rattle.idl_groups.proofs.matching.Matching.step.Goals as goal
 
@@ -12,7 +12,7 @@ returns-in-Alone c = λ lines is m.
     let d = c.args.directive.now in
     let alone : d.kind ≡ Alone c.in-Alone.field-0 = ap (λ (d : Directive). d.kind) (sym c.directive.view_is) ∙ c.in-Alone.is in
     matched-alone lines c.args.at c.args.after (Directed d) old.branches old.spans.items old.faults.items
-    (let P : Kind → Type 0 = λ k. IsAlone k in subst P (sym alone) tt) c.requires is m
+    (let P : DirectiveKind → Type 0 = λ k. IsAlone k in subst P (sym alone) tt) c.requires is m
 
 pub returns-in_ok-open_group-in-Opening : goal.returns-in_ok-open_group-in-Opening
 returns-in_ok-open_group-in-Opening c = λ lines is m.

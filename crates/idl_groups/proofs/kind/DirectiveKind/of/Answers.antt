@@ -1,8 +1,8 @@
 use Rattle.std.proofs.Common.{ap, ◌∙◌, unwrap_or}
 use Rattle.idl_lex.specs.WordTable.{value_of}
-use Rattle.idl_groups.specs.declared.kind.Kind.TheVariants.{Alone}
+use Rattle.idl_groups.specs.declared.kind.DirectiveKind.TheVariants.{Alone}
 use Rattle.idl_groups.specs.declared.kind.Plain.TheVariants.{Unknown}
-use Rattle.idl_groups.proofs.kind.Kind.of.Goals as goal
+use Rattle.idl_groups.proofs.kind.DirectiveKind.of.Goals as goal
 
 pub returns : goal.returns
 returns c =
