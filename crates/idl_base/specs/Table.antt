@@ -1,7 +1,9 @@
--- A table: entries in the order in which their keys were first put in, and an index of their places by key.
+-- A table: entries in the order in which their keys were first put in, and an index of their places
+-- by key.
 use Rattle.std.specs.Prelude.{◌≡◌, ◌↔◌, ℕ, Bool, List, [], ◌∷◌, Option, Some, slice_get, if◌then◌else◌}
 
--- the entries after a put: a key that is there keeps its place and takes the value, and a new key goes last
+-- the entries after a put: a key that is there keeps its place and takes the value, and a new key
+-- goes last
 abbrev pub insert_entry : {K V : Type 0} → (K → K → Bool) → List (K × V) → K → V → List (K × V)
 insert_entry eq [] k v = (k, v) ∷ []
 insert_entry eq (e ∷ es) k v = if eq k e.0 then (e.0, v) ∷ es else e ∷ insert_entry eq es k v

@@ -95,7 +95,9 @@ impl<K: Datum + Ord, V: Drop> Table<K, V> {
     /// Want of memory leaves the table as it was.
     pub fn insert(&mut self, key: K, value: V) -> Result<(), AllocError>
         ensures entries { OnOk result (self.new ≡ insert_entry K.eq self.old key value) }
-        ensures new_key { OnOk result (is_some (lookup (K.eq key) self.old) ≡ false → self.new ≡ self.old ++ (key, value) ∷ []) }
+        ensures new_key { OnOk result
+            (is_some (lookup (K.eq key) self.old) ≡ false
+            → self.new ≡ self.old ++ (key, value) ∷ []) }
         ensures err { OnErr result (self.new ≡ self.old) }
     {
         if let Some(place) = self.place_of(&key) {

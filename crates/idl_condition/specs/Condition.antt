@@ -29,7 +29,8 @@ levels (suc r) c = levels r (merged (suc r) c.0 c.1)
 unfoldable pub resolved : Value → Chain → Value
 resolved a ps = (levels highest_rank (a, ps)).0
 
--- what follows a chain: the end, a closing parenthesis with what follows that one, or what no condition has
+-- what follows a chain: the end, a closing parenthesis with what follows that one, or what no
+-- condition has
 pub data Tail : Type 0 where
   End : Tail
   Closed : Chain → Tail → Tail
@@ -79,7 +80,8 @@ sign_of _ = None
 
 abbrev pub signed : Option Sign → Front → Front
 signed None front = bad_front
-signed (Some s) front = record { first = sign_application s front.first; chain = front.chain; tail = front.tail }
+signed (Some s) front =
+    record { first = sign_application s front.first; chain = front.chain; tail = front.tail }
 
 unfoldable mutual
   -- the symbols from an operand on
@@ -90,7 +92,8 @@ unfoldable mutual
   operand_at (symbol.Operator o ∷ ss) = signed (sign_of_operator o) (operand_at ss)
   operand_at (symbol.Not ∷ ss) = signed (Some sign.Not) (operand_at ss)
   operand_at (symbol.Complement ∷ ss) = signed (Some sign.Complement) (operand_at ss)
-  operand_at (symbol.Open ∷ ss) = after_open (resolved (operand_at ss).first (operand_at ss).chain) (operand_at ss).tail
+  operand_at (symbol.Open ∷ ss) =
+      after_open (resolved (operand_at ss).first (operand_at ss).chain) (operand_at ss).tail
   operand_at (symbol.Close ∷ ss) = bad_front
   operand_at (symbol.Other ∷ ss) = bad_front
 
@@ -103,7 +106,8 @@ unfoldable mutual
   operator_at (symbol.Not ∷ ss) = bad_rest
   operator_at (symbol.Complement ∷ ss) = bad_rest
   operator_at (symbol.Open ∷ ss) = bad_rest
-  operator_at (symbol.Close ∷ ss) = record { chain = []; tail = Closed (operator_at ss).chain (operator_at ss).tail }
+  operator_at (symbol.Close ∷ ss) =
+      record { chain = []; tail = Closed (operator_at ss).chain (operator_at ss).tail }
   operator_at (symbol.Other ∷ ss) = bad_rest
 
 abbrev pub at_end : Value → Tail → Value

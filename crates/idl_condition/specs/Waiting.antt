@@ -20,7 +20,8 @@ meaning (Parenthesis ∷ es) v c Bad = None
 
 -- the value of the whole, where these entries wait and these symbols follow
 unfoldable pub meaning_at : Place → List Entry → List Symbol → Value
-meaning_at BeforeOperand es ss = meaning es (operand_at ss).first (operand_at ss).chain (operand_at ss).tail
+meaning_at BeforeOperand es ss =
+    meaning es (operand_at ss).first (operand_at ss).chain (operand_at ss).tail
 meaning_at (AfterOperand v) es ss = meaning es v (operator_at ss).chain (operator_at ss).tail
 meaning_at Nowhere es ss = None
 

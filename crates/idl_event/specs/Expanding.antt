@@ -28,5 +28,6 @@ abbrev pub arrived : {A : Type 0} → A → Reached → Reached × Option A
 arrived a p = (p, option_map (λ _. a) p.left)
 
 -- where a query comes to
-abbrev pub arrival : {A : Type 0} → (Key → Option Answer) → Expanding A → Reached → Reached × Option A
+abbrev pub arrival : {A : Type 0} → (Key → Option Answer) → Expanding A → Reached
+    → Reached × Option A
 arrival bank query p = arrived (outcome query bank) (reached bank query p)

@@ -1,4 +1,5 @@
--- What an item of an expansion leaves of the limits of a root, what stands in the place of one past them, and what is kept.
+-- What an item of an expansion leaves of the limits of a root, what stands in the place of one past
+-- them, and what is kept.
 use Rattle.std.specs.Prelude.{ℕ, ◌-◌, List, [], Option, None, Some, if◌then◌else◌, nat_eq}
 use Rattle.std.specs.Option.{option_to_list}
 use Rattle.idl_memo.specs.Progress.{Rules, Progress}
@@ -19,11 +20,13 @@ whole_allowance = record { turns = turns_at_most; tokens = tokens_at_most }
 
 -- a turn less, if one is left
 abbrev pub spend_turn : Allowance → Option Allowance
-spend_turn left = if nat_eq left.turns 0 then None else Some (record left { turns = left.turns - 1 })
+spend_turn left =
+    if nat_eq left.turns 0 then None else Some (record left { turns = left.turns - 1 })
 
 -- a token less, if one is left
 abbrev pub spend_token : Allowance → Option Allowance
-spend_token left = if nat_eq left.tokens 0 then None else Some (record left { tokens = left.tokens - 1 })
+spend_token left =
+    if nat_eq left.tokens 0 then None else Some (record left { tokens = left.tokens - 1 })
 
 -- what an event leaves of an allowance, or nothing where it is past it
 abbrev pub spend_event : Allowance → Event → Option Allowance
@@ -66,7 +69,13 @@ event_of (Turn place) = None
 event_of (TooDeep place) = None
 
 abbrev pub rules : Rules Item Event Allowance
-rules = record { spend = spend; last = λ item. Kept (last item); keep = λ item. option_to_list (event_of item) }
+rules =
+    record {
+      spend = spend;
+      last = λ item. Kept (last item);
+      keep = λ item. option_to_list
+          (event_of item);
+    }
 
 -- nothing is told, and nothing is spent
 abbrev pub beginning : List (Key × Option Answer) → Progress Key (Option Answer) Event Allowance

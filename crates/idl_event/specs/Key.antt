@@ -17,7 +17,8 @@ key_code Search = 2 ∷ []
 abbrev pub key_eq : Key → Key → Bool
 key_eq key other = bytes_eq (key_code key) (key_code other)
 
--- macros come before files, and files before the directories; words and names among themselves go byte by byte
+-- macros come before files, and files before the directories; words and names among themselves go
+-- byte by byte
 abbrev pub key_cmp : Key → Key → Ordering
 key_cmp key other = slice_cmp nat_cmp (key_code key) (key_code other)
 

@@ -37,7 +37,8 @@ impl<'a> Model for FileTokens<'a> {
 
     ghost invariant = { λ range. (range.from + length range.tokens.now ≡ range.to)
         × (range.to ≤ length range.file.now.value)
-        × (range.tokens.now ≡ take (range.to - range.from) (drop range.from range.file.now.value)) };
+        × (range.tokens.now
+        ≡ take (range.to - range.from) (drop range.from range.file.now.value)) };
 }
 
 impl<'a> FileTokens<'a> {

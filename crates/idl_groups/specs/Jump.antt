@@ -1,4 +1,5 @@
--- Branches of groups that aren't taken: how far they go, and the faults of groups in them, which are told all the same.
+-- Branches of groups that aren't taken: how far they go, and the faults of groups in them, which
+-- are told all the same.
 use Rattle.std.specs.Prelude.{◌≡◌, ◌⊎◌, Bool, false, List, [], ◌∷◌, ◌++◌}
 use Rattle.idl_groups.specs.Line.{Directive, Line, Text, NullDirective, Directed}
 use Rattle.idl_groups.specs.Tree.{IsBranch, Tree, Leaf, Stray, Group, Forest, Empty, Grow, Branches, Closed, Unclosed, Branch}
@@ -12,8 +13,8 @@ use Rattle.idl_groups.specs.declared.kind.DirectiveKind.TheVariants.{Endif}
 abbrev pub fault_at : Misplaced → Directive → GroupFault
 fault_at what d = record { what = what; line = d.line; word = d.word.token }
 
--- The faults of trees that are skipped, from left to right: a directive that is out of place, and behind its branches a
--- group that isn't closed.
+-- The faults of trees that are skipped, from left to right: a directive that is out of place, and
+-- behind its branches a group that isn't closed.
 unfoldable mutual
   pub faults_in_tree : Tree → List GroupFault
   faults_in_tree (Leaf line) = []
@@ -30,9 +31,10 @@ unfoldable mutual
   faults_in_branches Unclosed unclosed = unclosed ∷ []
   faults_in_branches (Branch d f bs) unclosed = faults_in f ++ faults_in_branches bs unclosed
 
--- From these lines to the rest there are whole trees, inside a group whose `else` came before them or didn't, with these
--- faults.
-pub record IsPassed (has_else : Bool) (lines rest : List Line) (faults : List GroupFault) : Type 0 where
+-- From these lines to the rest there are whole trees, inside a group whose `else` came before them
+-- or didn't, with these faults.
+pub record IsPassed (has_else : Bool) (lines rest : List Line) (faults : List GroupFault)
+    : Type 0 where
   pub between : Forest
   pub formed : IsFormed (Inside has_else) between rest
   pub is : lines_in_forest between ++ rest ≡ lines

@@ -39,7 +39,8 @@ directive_kind word = unwrap_or (value_of words word) (Alone Unknown)
 abbrev pub after_hash : ℕ → List PlacedToken → Line
 after_hash line [] = NullDirective line
 after_hash line (word ∷ operands) =
-    Directed (record { kind = directive_kind word.token; line = line; word = word; operands = operands })
+    Directed (record
+    { kind = directive_kind word.token; line = line; word = word; operands = operands })
 
 -- a line of these tokens: a directive where the first is `#`
 abbrev pub read : List PlacedToken → Line

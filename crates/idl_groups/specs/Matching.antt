@@ -15,13 +15,16 @@ use Rattle.idl_groups.specs.declared.matching.Matching.{Matching}
 abbrev pub lines_at : List PlacedToken → ℕ → List Line
 lines_at tokens at = lines_from (drop at tokens)
 
--- a branch in the table: with these lines from each place on, up to a place and with these faults of the file so far
-pub record IsSpan (lines : ℕ → List Line) (at : ℕ) (faults : List GroupFault) (span : BranchSpan) : Type 0 where
+-- a branch in the table: with these lines from each place on, up to a place and with these faults
+-- of the file so far
+pub record IsSpan (lines : ℕ → List Line) (at : ℕ) (faults : List GroupFault) (span : BranchSpan)
+    : Type 0 where
   pub order : span.from ≤ span.to
   pub within : span.to ≤ at
   pub faults_order : span.first_fault ≤ span.end_fault
   pub faults_within : span.end_fault ≤ length faults
-  pub jump : IsJump span.has_else (lines span.from) (lines span.to) (slice_range faults span.first_fault span.end_fault)
+  pub jump : IsJump span.has_else (lines span.from) (lines span.to)
+      (slice_range faults span.first_fault span.end_fault)
 
 -- the branch that was open, up to a place, with as many faults before that
 abbrev pub span_of : OpenBranch → ℕ → ℕ → BranchSpan
@@ -40,8 +43,8 @@ pub record IsTree (lines rest : List Line) (faults : List GroupFault) : Type 0 w
   pub is : lines_in_tree tree ++ rest ≡ lines
   pub told : faults_in_tree tree ≡ faults
 
--- A group that begins with these lines has come to its present branch, with these faults before that: whatever the branch
--- and those after it are, the group will be a tree.
+-- A group that begins with these lines has come to its present branch, with these faults before
+-- that: whatever the branch and those after it are, the group will be a tree.
 abbrev pub IsBegun : List Line → List Line → Bool → List GroupFault → GroupFault → Type 0
 IsBegun group branch has_else before unclosed =
     (f : Forest) (bs : Branches) (rest : List Line)
@@ -49,7 +52,8 @@ IsBegun group branch has_else before unclosed =
     → IsFormed (Inside has_else) f (lines_in_branches bs ++ rest) → AreFormed has_else bs rest
     → IsTree group rest (before ++ (faults_in f ++ faults_in_branches bs unclosed))
 
--- where the group of an open branch begins, and the faults that were found before the group, before the branch, and in it
+-- where the group of an open branch begins, and the faults that were found before the group, before
+-- the branch, and in it
 pub record Found : Type 0 where
   pub group : List Line
   pub outside : List GroupFault
@@ -57,7 +61,8 @@ pub record Found : Type 0 where
   pub inside : List GroupFault
 
 -- a branch is open here
-pub record IsOpen (lines : ℕ → List Line) (here : List Line) (faults : List GroupFault) (b : OpenBranch) (found : Found) : Type 0 where
+pub record IsOpen (lines : ℕ → List Line) (here : List Line) (faults : List GroupFault)
+    (b : OpenBranch) (found : Found) : Type 0 where
   pub all : found.outside ++ (found.before ++ found.inside) ≡ faults
   pub count : length found.outside + length found.before ≡ b.faults
   pub passed : IsPassed b.has_else (lines b.from) here found.inside
@@ -70,7 +75,8 @@ AreOpen lines here faults (b ∷ bs) =
     (found : Found) × IsOpen lines here faults b found × AreOpen lines found.group found.outside bs
 
 -- the groups are matched up to a place
-pub record IsMatched (lines : ℕ → List Line) (at : ℕ) (branches : List OpenBranch) (spans : List BranchSpan) (faults : List GroupFault) : Type 0 where
+pub record IsMatched (lines : ℕ → List Line) (at : ℕ) (branches : List OpenBranch)
+    (spans : List BranchSpan) (faults : List GroupFault) : Type 0 where
   pub are_spans : All (IsSpan lines at faults) spans
   pub come : All (λ (b : OpenBranch). b.from ≤ at) branches
   pub are_open : AreOpen lines (lines at) faults branches

@@ -1,5 +1,5 @@
--- The lines of a file as a tree (after ISO/IEC 9899, 6.10, `group` and `if-section`). `TreeLaw` says which tree that is,
--- however it is made.
+-- The lines of a file as a tree (after ISO/IEC 9899, 6.10, `group` and `if-section`). `TreeLaw`
+-- says which tree that is, however it is made.
 use Rattle.std.specs.Prelude.{Bool, true, false, List, [], ◌∷◌, if◌then◌else◌}
 use Rattle.idl_groups.specs.Line.{Directive, Line, Text, NullDirective, Directed}
 use Rattle.idl_groups.specs.declared.kind.DirectiveKind.{DirectiveKind}
@@ -7,8 +7,8 @@ use Rattle.idl_groups.specs.declared.kind.DirectiveKind.TheVariants.{Alone, Open
 use Rattle.idl_groups.specs.declared.kind.Test.{Test}
 
 mutual
-  -- a line of its own, a directive of a group that stands in none, or a group: its opening directive with its test, what
-  -- follows it, and its branches
+  -- a line of its own, a directive of a group that stands in none, or a group: its opening
+  -- directive with its test, what follows it, and its branches
   pub data Tree : Type 0 where
     Leaf : Line → Tree
     Stray : Directive → Tree
@@ -24,7 +24,8 @@ mutual
     Unclosed : Branches
     Branch : Directive → Forest → Branches → Branches
 
--- what follows a forest: the file's end, or a directive that belongs to a group around it, and what follows that
+-- what follows a forest: the file's end, or a directive that belongs to a group around it, and what
+-- follows that
 pub data Tail : Type 0 where
   AtEnd : Tail
   At : Directive → Forest → Tail → Tail
@@ -65,8 +66,8 @@ IsOfGroup Else = Unit {0}
 IsOfGroup Endif = Unit {0}
 IsOfGroup other = ⊥
 
--- The group that was opened before this part: it goes to its `endif`, or to the file's end. After its `else` another
--- `else` or `elif` is a stray line of the last branch.
+-- The group that was opened before this part: it goes to its `endif`, or to the file's end. After
+-- its `else` another `else` or `elif` is a stray line of the last branch.
 unfoldable pub close : Bool → Forest → Tail → Closing
 close has_else body AtEnd =
     record { body = body; branches = Unclosed; after = record { front = Empty; tail = AtEnd } }

@@ -37,8 +37,8 @@ pub data Around : Type 0 where
   Outside : Around
   Inside : Bool → Around
 
--- Which directives may be stray: outside every group any that belongs to one, and behind a group's `else` those of another
--- branch.
+-- Which directives may be stray: outside every group any that belongs to one, and behind a group's
+-- `else` those of another branch.
 abbrev pub MayStray : Around → DirectiveKind → Type 0
 MayStray Outside kind = IsOfGroup kind
 MayStray (Inside true) kind = IsBranch kind

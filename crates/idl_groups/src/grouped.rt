@@ -31,7 +31,8 @@ impl Model for GroupedTokens {
 
     ghost view = { λ it. it.lexed };
 
-    ghost invariant = { λ it. All (IsSpan (lines_at it.lexed) (length it.lexed) it.table.faults.items) it.table.spans.items };
+    ghost invariant = { λ it. All (IsSpan (lines_at it.lexed)
+        (length it.lexed) it.table.faults.items) it.table.spans.items };
 }
 
 impl Drop for GroupedTokens {

@@ -29,12 +29,14 @@ is_include Other = false
 -- `*/` stands here
 abbrev pub ends_block : Bool → List ℕ → Bool
 ends_block after_star [] = false
-ends_block after_star (b ∷ rest) = if after_star && nat_eq b 47 then true else ends_block (nat_eq b 42) rest
+ends_block after_star (b ∷ rest) =
+    if after_star && nat_eq b 47 then true else ends_block (nat_eq b 42) rest
 
 -- of a piece after a first `/`: a comment that is closed
 abbrev pub closes : List ℕ → Bool
 closes [] = false
-closes (b ∷ rest) = if nat_eq b 47 then true else (if nat_eq b 42 then ends_block false rest else false)
+closes (b ∷ rest) =
+    if nat_eq b 47 then true else (if nat_eq b 42 then ends_block false rest else false)
 
 -- a piece is no token: a white byte, a newline, or a comment that is closed
 abbrev pub is_gap : List ℕ → Bool

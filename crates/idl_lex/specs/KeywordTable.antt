@@ -9,4 +9,5 @@ use Rattle.idl_lex.specs.declared.kind.Kind.{Kind}
 abbrev pub is_in_order : List (List ℕ × Kind) → Bool
 is_in_order [] = true
 is_in_order (k ∷ []) = true
-is_in_order (k ∷ l ∷ ks) = is_lt (slice_cmp nat_cmp (folded k.0) (folded l.0)) && is_in_order (l ∷ ks)
+is_in_order (k ∷ l ∷ ks) =
+    is_lt (slice_cmp nat_cmp (folded k.0) (folded l.0)) && is_in_order (l ∷ ks)

@@ -31,7 +31,8 @@ escaped_kind (b ∷ rest) = if is_letter b then Escaped else Bad NothingEscaped
 -- the kind of what begins with a letter: a wide literal, or a word
 abbrev pub letter_kind : ℕ → List ℕ → Kind
 letter_kind b [] = word_kind (b ∷ [])
-letter_kind b (c ∷ rest) = if nat_eq b 76 && is_quote c then literal_kind true c rest else word_kind (b ∷ c ∷ rest)
+letter_kind b (c ∷ rest) =
+    if nat_eq b 76 && is_quote c then literal_kind true c rest else word_kind (b ∷ c ∷ rest)
 
 -- a `.` and a digit
 abbrev pub is_fraction : ℕ → List ℕ → Bool
@@ -53,7 +54,8 @@ abbrev pub ends_greater : List ℕ → Bool
 ends_greater [] = false
 ends_greater (b ∷ rest) = nat_eq (get_or (b ∷ rest) (length rest) 0) 62
 
--- the kind of what is no mark: an included file's name in `<` and `>`, a comment that isn't closed, or a byte that begins no token
+-- the kind of what is no mark: an included file's name in `<` and `>`, a comment that isn't closed,
+-- or a byte that begins no token
 abbrev pub unmarked_kind : ℕ → List ℕ → Kind
 unmarked_kind b rest =
     if nat_eq b 60 && ends_greater rest then HeaderName
@@ -66,7 +68,9 @@ kind_of_mark (Some kind) b rest = kind
 
 -- the kind of what begins with another byte
 abbrev pub other_kind : ℕ → List ℕ → Kind
-other_kind b rest = if is_fraction b rest then number_kind (b ∷ rest) else kind_of_mark (mark_kind (b ∷ rest)) b rest
+other_kind b rest =
+    if is_fraction b rest then number_kind (b ∷ rest)
+    else kind_of_mark (mark_kind (b ∷ rest)) b rest
 
 -- the kind of the token with this spelling
 unfoldable pub kind_of : List ℕ → Kind
@@ -83,7 +87,8 @@ abbrev pub unescaped : List ℕ → Option (List ℕ)
 unescaped [] = None
 unescaped (b ∷ rest) = Some rest
 
--- the name that a token of this kind and spelling is: an identifier, or what stands after the `_` of an escaped one
+-- the name that a token of this kind and spelling is: an identifier, or what stands after the `_`
+-- of an escaped one
 abbrev pub name_by : Kind → List ℕ → Option (List ℕ)
 name_by Identifier spelling = Some spelling
 name_by Escaped spelling = unescaped spelling

@@ -11,9 +11,12 @@ use Rattle.idl_lex.specs.declared.lexer.Before.TheVariants.{Fresh, Comment}
 use Rattle.idl_lex.specs.declared.state.State.TheVariants.{Block}
 use Rattle.idl_lex.specs.declared.token.PlacedToken.{PlacedToken}
 
--- of a comment that was opened before this text, where that token is its opening: what comes after it, or the opening alone if it isn't closed
+-- of a comment that was opened before this text, where that token is its opening: what comes after
+-- it, or the opening alone if it isn't closed
 abbrev pub after_comment : PlacedToken → Context → List Placed → List PlacedToken
-after_comment opening c text = if ends_block false (bytes_of text) then tokens_after c (taken (Block false) (bytes_of text)) text else opening ∷ []
+after_comment opening c text =
+    if ends_block false (bytes_of text)
+    then tokens_after c (taken (Block false) (bytes_of text)) text else opening ∷ []
 
 -- the tokens of a text that begins in this
 abbrev pub coming : Before → List Placed → List PlacedToken

@@ -13,7 +13,8 @@ unfoldable pub closing : ℕ → Bool → List ℕ → Option ℕ
 closing quote escaped [] = None
 closing quote escaped (b ∷ rest) =
     if escaped then option_map (λ n. suc n) (closing quote false rest)
-    else (if nat_eq b quote then Some 0 else option_map (λ n. suc n) (closing quote (nat_eq b 92) rest))
+    else (if nat_eq b quote then Some 0
+    else option_map (λ n. suc n) (closing quote (nat_eq b 92) rest))
 
 -- the bytes between a literal's quotes, of those after the opening one, if it is closed
 abbrev pub body_of : ℕ → List ℕ → Option (List ℕ)
@@ -22,9 +23,12 @@ body_of quote rest = option_map (λ n. take n rest) (closing quote false rest)
 -- what a letter or a sign after a backslash stands for
 abbrev pub simple_escape : ℕ → Option ℕ
 simple_escape b =
-    if nat_eq b 110 then Some 10 else (if nat_eq b 116 then Some 9 else (if nat_eq b 118 then Some 11
-    else (if nat_eq b 98 then Some 8 else (if nat_eq b 114 then Some 13 else (if nat_eq b 102 then Some 12
-    else (if nat_eq b 97 then Some 7 else (if nat_eq b 92 then Some 92 else (if nat_eq b 63 then Some 63
+    if nat_eq b 110 then Some 10
+    else (if nat_eq b 116 then Some 9 else (if nat_eq b 118 then Some 11
+    else (if nat_eq b 98 then Some 8
+    else (if nat_eq b 114 then Some 13 else (if nat_eq b 102 then Some 12
+    else (if nat_eq b 97 then Some 7
+    else (if nat_eq b 92 then Some 92 else (if nat_eq b 63 then Some 63
     else (if nat_eq b 39 then Some 39 else (if nat_eq b 34 then Some 34 else None))))))))))
 
 -- how many digits to a base stand here, up to a limit
@@ -33,7 +37,9 @@ digits_len base most bytes = prefix_len (is_digit_of base) (take most bytes)
 
 -- the character of a number that is at most this
 abbrev pub numbered_character : ℕ → ℕ → List ℕ → Option ℕ
-numbered_character base most digits = if are_digits base digits then (if nat_le (number base digits) most then Some (number base digits) else None) else None
+numbered_character base most digits =
+    if are_digits base digits
+    then (if nat_le (number base digits) most then Some (number base digits) else None) else None
 
 -- a character, or none for a bad escape; and how many bytes it takes
 abbrev pub Read : Type 0
@@ -41,8 +47,11 @@ Read = Option ℕ × ℕ
 
 -- an escape by its number, of a few digits to a base, at most this
 abbrev pub by_number : ℕ → ℕ → ℕ → List ℕ → Read
-by_number base digits most bytes =
-    (numbered_character base most (take (digits_len base digits bytes) bytes), digits_len base digits bytes)
+by_number base digits most bytes = (
+  numbered_character base most
+      (take (digits_len base digits bytes) bytes),
+  digits_len base digits bytes,
+)
 
 -- what was read behind a letter, with that letter
 abbrev pub after_letter : Read → Read
@@ -87,12 +96,15 @@ character_kind wide (c ∷ d ∷ cs) = Bad NotOneCharacter
 
 -- a string literal
 abbrev pub string_kind : Bool → List (Option ℕ) → Kind
-string_kind wide cs = if list_all is_text_character cs then (if wide then WideString else String) else Bad BadEscape
+string_kind wide cs =
+    if list_all is_text_character cs then (if wide then WideString else String) else Bad BadEscape
 
 -- a literal with these bytes between its quotes, if it is closed
 abbrev pub closed_kind : Bool → ℕ → Option (List ℕ) → Kind
 closed_kind wide quote None = Bad UnclosedLiteral
-closed_kind wide quote (Some body) = if nat_eq quote 39 then character_kind wide (characters wide body) else string_kind wide (characters wide body)
+closed_kind wide quote (Some body) =
+    if nat_eq quote 39 then character_kind wide (characters wide body)
+    else string_kind wide (characters wide body)
 
 -- the kind of a literal that these bytes end, the ones after its opening quote
 abbrev pub literal_kind : Bool → ℕ → List ℕ → Kind
@@ -112,9 +124,11 @@ closed_value wide (Some body) = all_good (characters wide body)
 -- the value of a literal that begins with its quote
 abbrev pub quoted_value : Bool → List ℕ → Option (List ℕ)
 quoted_value wide [] = None
-quoted_value wide (quote ∷ rest) = if is_quote quote then closed_value wide (body_of quote rest) else None
+quoted_value wide (quote ∷ rest) =
+    if is_quote quote then closed_value wide (body_of quote rest) else None
 
 -- the value of a literal by its spelling: the numbers of its characters
 abbrev pub literal_value : List ℕ → Option (List ℕ)
 literal_value [] = None
-literal_value (b ∷ rest) = if nat_eq b 76 then quoted_value true rest else quoted_value false (b ∷ rest)
+literal_value (b ∷ rest) =
+    if nat_eq b 76 then quoted_value true rest else quoted_value false (b ∷ rest)

@@ -21,4 +21,5 @@ joined_count (bytes ∷ lines) = if is_continued bytes then suc (joined_count li
 abbrev pub continued : ℕ → List (List ℕ) → List Placed
 continued number [] = []
 continued number (bytes ∷ []) = numbered number bytes
-continued number (bytes ∷ next ∷ lines) = numbered number (front bytes) ++ continued (number + 1) (next ∷ lines)
+continued number (bytes ∷ next ∷ lines) =
+    numbered number (front bytes) ++ continued (number + 1) (next ∷ lines)

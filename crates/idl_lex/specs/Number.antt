@@ -59,7 +59,8 @@ kind_of_value None = Bad IntegerTooLarge
 -- these digits of a number to a base
 abbrev pub digits_kind : ℕ → List ℕ → List ℕ → Kind
 digits_kind base digits spelling =
-    if are_digits base digits then kind_of_value (limited (number base digits)) else no_integer spelling
+    if are_digits base digits then kind_of_value (limited (number base digits))
+    else no_integer spelling
 
 -- the kind of a number
 abbrev pub number_kind : List ℕ → Kind

@@ -1,4 +1,5 @@
--- The text of a file: its lines, each ended by a newline, and each byte with the number of its line.
+-- The text of a file: its lines, each ended by a newline, and each byte with the number of its
+-- line.
 use Rattle.std.specs.Prelude.{ℕ, ◌+◌, ◌-◌, List, [], ◌∷◌, ◌++◌, Bool, get_or, length, map, nat_eq, take, if◌then◌else◌}
 use Rattle.idl_source.specs.Line.{newline}
 
@@ -22,8 +23,8 @@ is_continued bytes = nat_eq (get_or bytes (length bytes - 1) 0) 92
 abbrev pub front : List ℕ → List ℕ
 front bytes = take (length bytes - 1) bytes
 
--- The joined text of the lines from this number on: a backslash that ends a line is taken out with the newline after it,
--- but one that ends the last line stays.
+-- The joined text of the lines from this number on: a backslash that ends a line is taken out with
+-- the newline after it, but one that ends the last line stays.
 unfoldable pub joined : ℕ → List (List ℕ) → List Placed
 joined number [] = []
 joined number (bytes ∷ []) = numbered number (bytes ++ newline ∷ [])

@@ -1,4 +1,5 @@
--- The tokens of a text: each piece is the longest that can begin at its place, and those that are no tokens are dropped.
+-- The tokens of a text: each piece is the longest that can begin at its place, and those that are
+-- no tokens are dropped.
 use Rattle.std.specs.Prelude.{ℕ, zero, suc, ◌-◌, List, [], ◌∷◌, ◌++◌, codes, map, not, take, if◌then◌else◌}
 use Rattle.std.specs.List.{prefix_len}
 use Rattle.idl_lex.specs.Context.{line_start, is_nothing, is_include, is_gap, context_after}
@@ -15,7 +16,13 @@ Token = List ℕ
 -- the token with this spelling where it stands: on this line, and with this before it
 abbrev pub token_of : Context → List ℕ → ℕ → PlacedToken
 token_of c spelling line =
-    record { token = spelling; line = line; starts_line = is_nothing c.beginning; follows_word = c.follows_word }
+    record {
+      token = spelling;
+      line = line;
+      starts_line = is_nothing c.beginning;
+      follows_word =
+          c.follows_word;
+    }
 
 -- a token as it is spelled: a comment that isn't closed is `/*`
 abbrev pub spelled : List ℕ → List ℕ
@@ -27,7 +34,8 @@ token_if c piece line = if is_gap piece then [] else token_of c (spelled piece) 
 
 -- how many bytes the longest piece has after its first one
 abbrev pub piece_rest : Context → Placed → List Placed → ℕ
-piece_rest c first text = longest (is_piece (is_include c.beginning)) (first.byte ∷ bytes_of text) - 1
+piece_rest c first text =
+    longest (is_piece (is_include c.beginning)) (first.byte ∷ bytes_of text) - 1
 
 -- the tokens after the first n bytes
 unfoldable pub tokens_after : Context → ℕ → List Placed → List PlacedToken
@@ -35,7 +43,8 @@ tokens_after c n [] = []
 tokens_after c (suc n) (p ∷ text) = tokens_after c n text
 tokens_after c zero (p ∷ text) =
     token_if c (p.byte ∷ bytes_of (take (piece_rest c p text) text)) p.line
-    ++ tokens_after (context_after c (p.byte ∷ bytes_of (take (piece_rest c p text) text))) (piece_rest c p text) text
+    ++ tokens_after (context_after c (p.byte ∷ bytes_of (take (piece_rest c p text) text)))
+    (piece_rest c p text) text
 
 -- the tokens of a file of these lines, the first of which has the number 1
 unfoldable pub tokens_of : List (List ℕ) → List PlacedToken
@@ -45,7 +54,8 @@ tokens_of lines = tokens_after line_start zero (joined 1 lines)
 abbrev pub tokens_in : List PlacedToken → List Token
 tokens_in tokens = map (λ t. t.token) tokens
 
--- how many tokens stand on a line after its first one: those before the next token that starts a line
+-- how many tokens stand on a line after its first one: those before the next token that starts a
+-- line
 abbrev pub followers_on_line : List PlacedToken → ℕ
 followers_on_line tokens = prefix_len (λ t. not t.starts_line) tokens
 
@@ -53,7 +63,8 @@ followers_on_line tokens = prefix_len (λ t. not t.starts_line) tokens
 abbrev pub lines_after : ℕ → List PlacedToken → List (List PlacedToken)
 lines_after n [] = []
 lines_after (suc n) (t ∷ tokens) = lines_after n tokens
-lines_after zero (t ∷ tokens) = (t ∷ take (followers_on_line tokens) tokens) ∷ lines_after (followers_on_line tokens) tokens
+lines_after zero (t ∷ tokens) =
+    (t ∷ take (followers_on_line tokens) tokens) ∷ lines_after (followers_on_line tokens) tokens
 
 -- tokens by lines
 unfoldable pub lines_of : List PlacedToken → List (List PlacedToken)

@@ -99,7 +99,8 @@ fn table() -> &'static [Entry<Kind>]
 
 fn look_up(entries: &[Entry<Kind>], word: &[u8]) -> Option<Entry<Kind>>
     requires order { IsTrue (is_in_order (map entry_of entries.now)) }
-    ensures { option_map entry_of result ≡ find (λ k. bytes_eq (folded k.0) (folded word.now)) (map entry_of entries.entry.now) }
+    ensures { option_map entry_of result
+        ≡ find (λ k. bytes_eq (folded k.0) (folded word.now)) (map entry_of entries.entry.now) }
 {
     match entries.binary_search_by(|entry| compare_folded(entry.0, word)) {
         Ok(i) => Some(entries[i]),

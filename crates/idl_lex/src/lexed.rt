@@ -74,7 +74,8 @@ fn finish(tokens: &mut Vec<PlacedToken>, before: Before) -> Result<(), AllocErro
 /// The tokens of a file's text are those of its pieces, each the longest that can begin at its place, and there is no other way to cut it so. This
 /// does nothing: it carries the law.
 pub fn longest_pieces()
-    ensures { (lines : List (List ℕ)) → (tokens : List PlacedToken) → AreTokensOf line_start (joined 1 lines) tokens ↔ (tokens ≡ tokens_of lines) }
+    ensures { (lines : List (List ℕ)) → (tokens : List PlacedToken)
+        → AreTokensOf line_start (joined 1 lines) tokens ↔ (tokens ≡ tokens_of lines) }
 {}
 
 /// The tokens of the first line, and those after it.

@@ -105,7 +105,9 @@ fn push_piece(
 fn piece_end(context: Context, bytes: &[u8], i: usize, closing: usize) -> usize
     requires here { i < length bytes.now }
     requires closing { closing ≡ closing_end bytes.now }
-    ensures end { result ≡ i + 1 + further (is_include context.beginning) (slice_index bytes.now i) (drop (i + 1) bytes.now) }
+    ensures end { result
+        ≡ i + 1 + further (is_include context.beginning) (slice_index bytes.now i)
+        (drop (i + 1) bytes.now) }
     ensures within { result ≤ length bytes.now }
 {
     // Past the last `>` no name begins, and none is searched for.

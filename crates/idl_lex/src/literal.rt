@@ -159,7 +159,9 @@ fn body_value(alloc: Global, is_wide: bool, body: &[u8]) -> Result<Option<Seq<u1
 
 // The first character, or none for a bad escape, and how many bytes it takes.
 fn first_character(is_wide: bool, bytes: &[u8]) -> Option<(Option<u16>, usize)>
-    ensures some { IfSome result (λ read. characters is_wide bytes.now ≡ read.0 ∷ characters is_wide (drop read.1 bytes.now)) }
+    ensures some { IfSome result
+        (λ read. characters is_wide bytes.now
+        ≡ read.0 ∷ characters is_wide (drop read.1 bytes.now)) }
     ensures within { IfSome result (λ read. (0 < read.1) × (read.1 ≤ length bytes.now)) }
     ensures none { IfNone result (bytes.now ≡ []) }
 {

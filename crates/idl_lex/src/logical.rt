@@ -28,7 +28,8 @@ impl Model for Logical {
 
     ghost Value = { List Placed };
 
-    ghost view = { λ logical. placed logical.numbers.items logical.last (rc_slice_items logical.bytes) };
+    ghost view = { λ logical. placed logical.numbers.items logical.last
+        (rc_slice_items logical.bytes) };
 }
 
 impl Logical {
@@ -74,7 +75,8 @@ impl Logical {
     pub fn spelling(&self, from: usize, to: usize) -> Result<Spelling, AllocError>
         requires order { from ≤ to }
         requires within { to ≤ length self.now }
-        ensures { IfOk result (λ spelling. spelling ≡ take (to - from) (drop from (bytes_of self.now))) }
+        ensures { IfOk result
+            (λ spelling. spelling ≡ take (to - from) (drop from (bytes_of self.now))) }
     {
         Ok(Spelling::new(self.bytes.clone()?, from, to))
     }

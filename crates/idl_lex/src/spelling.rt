@@ -30,9 +30,11 @@ impl Model for Spelling {
 
     ghost Value = { List ℕ };
 
-    ghost view = { λ spelling. slice_range (rc_slice_items spelling.bytes) spelling.from spelling.to };
+    ghost view = { λ spelling. slice_range
+        (rc_slice_items spelling.bytes) spelling.from spelling.to };
 
-    ghost invariant = { λ spelling. (spelling.from ≤ spelling.to) × (spelling.to ≤ length (rc_slice_items spelling.bytes)) };
+    ghost invariant = { λ spelling. (spelling.from ≤ spelling.to)
+        × (spelling.to ≤ length (rc_slice_items spelling.bytes)) };
 }
 
 impl Spelling {

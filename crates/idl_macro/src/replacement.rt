@@ -111,12 +111,14 @@ fn replace<B: RootBank>(
     ensures item { OnOk result (item_of output.new ≡ item_of output.old) }
     ensures progress { OnOk result (progress.new
         ≡ reached (B.at macros.now.bank.now)
-        (replaced_at (item_of output.old source.entry.place.now) source.entry.place.now macros.now.definitions.now
+        (replaced_at (item_of output.old source.entry.place.now) source.entry.place.now
+        macros.now.definitions.now
         (tokens_in source.entry.tokens.now)) progress.old) }
     ensures given { OnOk result (progress.new.left ≢ None → given output.new
         ≡ given_more (given output.old)
         (outcome
-        (replaced_at (item_of output.old source.entry.place.now) source.entry.place.now macros.now.definitions.now
+        (replaced_at (item_of output.old source.entry.place.now) source.entry.place.now
+        macros.now.definitions.now
         (tokens_in source.entry.tokens.now)) (B.at macros.now.bank.now))) }
 {
     let mut stack: Table<Spelling, &[PlacedToken]> = Table::new(progress.allocator());

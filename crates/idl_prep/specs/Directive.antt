@@ -59,14 +59,16 @@ parted tokens = drop 1 (flat_map (λ t. 32 ∷ t.token) tokens)
 -- one of the three pragmas that mean something to IDL
 abbrev pub is_of_idl : List ℕ → Bool
 is_of_idl word =
-    bytes_eq word (codes "prefix") || (bytes_eq word (codes "ID") || bytes_eq word (codes "version"))
+    bytes_eq word (codes "prefix")
+    || (bytes_eq word (codes "ID") || bytes_eq word (codes "version"))
 
 -- how the first of the tokens is spelled
 abbrev pub first_spelling : List PlacedToken → Option (List ℕ)
 first_spelling [] = None
 first_spelling (t ∷ tokens) = Some t.token
 
--- `pragma` with this first word: the file is not to be entered again, or it means something to IDL, or nothing
+-- `pragma` with this first word: the file is not to be entered again, or it means something to IDL,
+-- or nothing
 abbrev pub pragma_by : FileName → Directive → Said → Option (List ℕ) → Expanding Said
 pragma_by file d s None = Done s
 pragma_by file d s (Some word) =
@@ -100,7 +102,8 @@ plain_or enter file d s other = Done s
 -- a line that isn't skipped and belongs to no group; a directive is a turn
 unfoldable pub effect : Enter → FileName → Line → Said → Expanding Said
 effect enter file (Text tokens) s = and_then (text file s.definitions tokens) (λ given. Done s)
-effect enter file (NullDirective line) s = Tell (Turn (record { file = file; line = line })) (Done s)
+effect enter file (NullDirective line) s =
+    Tell (Turn (record { file = file; line = line })) (Done s)
 effect enter file (Directed d) s = Tell (Turn (place_in file d)) (plain_or enter file d s d.kind)
 
 abbrev pub tested : FileName → Directive → Said → Test → Expanding Bool

@@ -61,19 +61,21 @@ abbrev pub or_along : List ℕ → Option Found → Expanding (Option Found)
 or_along spelled (Some found) = Done (Some found)
 or_along spelled None = present_along spelled
 
--- an operand of an include: the bytes of the file's name, whether they stand in quotes, and how it is spelled
+-- an operand of an include: the bytes of the file's name, whether they stand in quotes, and how it
+-- is spelled
 pub record Operand : Type 0 where
   pub name : List ℕ
   pub is_quoted : Bool
   pub spelling : List ℕ
 
--- The file that an operand finds: one with a leading `/` asks for that name alone; another one along the search list, in
--- quotes after the name beside the including file.
+-- The file that an operand finds: one with a leading `/` asks for that name alone; another one
+-- along the search list, in quotes after the name beside the including file.
 unfoldable pub file_of : FileName → Operand → Expanding (Option Found)
 file_of from o =
     if is_rooted o.name then first_present (option_to_list (joined_path (directory_of from) o.name))
     else (if o.is_quoted
-    then and_then (first_present (option_to_list (joined_path (directory_of from) o.name))) (or_along o.name)
+    then and_then (first_present (option_to_list (joined_path (directory_of from) o.name)))
+    (or_along o.name)
     else present_along o.name)
 
 -- the bytes between the first and the last

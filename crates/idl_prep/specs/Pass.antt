@@ -27,8 +27,8 @@ visit_branches enter file g bs s =
     if g.is_live then walk_branches enter file bs g.opener g.is_taken s
     else skip_branches file bs g.opener s
 
--- What follows comes to this, inside these open groups, the innermost first: the innermost is closed by what follows, and
--- what comes after it follows inside the others.
+-- What follows comes to this, inside these open groups, the innermost first: the innermost is
+-- closed by what follows, and what comes after it follows inside the others.
 unfoldable pub coming : Enter → FileName → List Group → Part → Said → Expanding Said
 coming enter file [] p s = walk enter file (strays p.front p.tail) s
 coming enter file (g ∷ gs) p s =
@@ -44,7 +44,13 @@ to_come bank enter file gs lines way = onward bank (coming enter file gs (part l
 -- a group that was opened so
 abbrev pub begun : Opener → Bool → Bool → Group
 begun opener live taken =
-    record { opener = opener; is_live = live; is_taken = taken; is_active = taken; has_else = false }
+    record {
+      opener = opener;
+      is_live = live;
+      is_taken = taken;
+      is_active = taken;
+      has_else = false;
+    }
 
 -- whether lines are walked inside these groups
 abbrev pub is_walked : List Group → Bool

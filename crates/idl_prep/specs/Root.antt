@@ -25,8 +25,8 @@ use Rattle.idl_prep.specs.Walk.{walk}
 abbrev pub walk_file : Enter → FileName → List (List ℕ) → Said → Expanding Said
 walk_file enter file lines s = walk enter file (tree (lines_in lines)) s
 
--- A file is entered, where so many may still be entered inside one another; else it is too deep. When its lines are done it is
--- left.
+-- A file is entered, where so many may still be entered inside one another; else it is too deep.
+-- When its lines are done it is left.
 unfoldable pub enter : ℕ → Enter
 enter zero place file lines s = Tell (TooDeep place) (Done s)
 enter (suc room) place file lines s =

@@ -30,7 +30,8 @@ pub fn act_text<B: RootBank>(
     tokens: &FileTokens<'_>,
 ) -> Result<(), AllocError>
     ensures { let bank = B.at site.now.bank.now in OnOk result ((enter : Enter)
-        → ended root.new ≡ onward bank (effect enter site.now.file.now (Text tokens.now)) root.old) }
+        → ended root.new
+        ≡ onward bank (effect enter site.now.file.now (Text tokens.now)) root.old) }
 {
     root.emit(site, tokens.as_slice())?;
     Ok(())

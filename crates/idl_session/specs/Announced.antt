@@ -9,7 +9,8 @@ use Rattle.idl_session.specs.Streams.{IsTakenBy}
 
 -- these lines, of so many that are announced, go past a limit
 abbrev pub are_over : ℕ → List (List ℕ) → Bool
-are_over count lines = nat_lt most_lines count || list_any (λ line. nat_lt longest_line (length line)) lines
+are_over count lines =
+    nat_lt most_lines count || list_any (λ line. nat_lt longest_line (length line)) lines
 
 -- what is gathered after these lines
 abbrev pub IsGathered : ℕ → List (List ℕ) → Announced → Type 0
@@ -19,7 +20,8 @@ IsGathered count lines announced.OverLimit = are_over count lines ≡ true
 IsGathered count lines announced.NoMemory = Unit {0}
 
 -- so many of the announced lines were taken
-pub record IsGathering (count taken_count : ℕ) (old new : Option (List (List ℕ))) (announced : Announced) : Type 0 where
+pub record IsGathering (count taken_count : ℕ) (old new : Option (List (List ℕ)))
+    (announced : Announced) : Type 0 where
   pub lines : List (List ℕ)
   pub taken : old ≡ prepend lines new
   pub many : length lines ≡ taken_count
@@ -32,7 +34,8 @@ IsAnnounced count lines announced.Unfinished = length lines < count
 IsAnnounced count lines announced.OverLimit = (are_over count lines ≡ true) × (length lines ≡ count)
 IsAnnounced count lines announced.NoMemory = length lines ≡ count
 
-pub record TakesAnnounced (count : ℕ) (old new : Option (List (List ℕ))) (announced : Announced) : Type 0 where
+pub record TakesAnnounced (count : ℕ) (old new : Option (List (List ℕ))) (announced : Announced)
+    : Type 0 where
   pub lines : List (List ℕ)
   pub taken : old ≡ prepend lines new
   pub enough : IsTakenBy count lines new

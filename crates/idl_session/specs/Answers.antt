@@ -1,4 +1,5 @@
--- The claim: what goes out is replies to what came in, and the session is in the state that they tell of.
+-- The claim: what goes out is replies to what came in, and the session is in the state that they
+-- tell of.
 use Rattle.std.specs.Prelude.{◌≡◌, ℕ, List, [], ◌∷◌, ◌++◌, Result}
 use Rattle.idl_source.specs.declared.refusal.Refusal.{Refusal}
 use Rattle.idl_source.specs.declared.refusal.Refusal.TheVariants as refusal
@@ -16,14 +17,16 @@ IsTurnedAway s refusal reply t = (reply ≡ refused_reply refusal) × (t ≡ s)
 
 -- an edit, and the reply that tells its result
 abbrev pub IsEditAnswered : State → Edit → List ℕ → State → Type 0
-IsEditAnswered s edit reply t = (result : Result Work Refusal) × IsEdited edit s t result × (reply ≡ edit_reply result)
+IsEditAnswered s edit reply t =
+    (result : Result Work Refusal) × IsEdited edit s t result × (reply ≡ edit_reply result)
 
 -- the reply to a command, and the state after it; a question changes nothing
 abbrev pub Answers : State → Command → List ℕ → State → Type 0
 Answers s Malformed reply t = IsTurnedAway s refusal.Malformed reply t
 Answers s Unfinished reply t = IsTurnedAway s refusal.Unfinished reply t
 Answers s (Make edit) reply t = IsEditAnswered s edit reply t
-Answers s (Ask question name) reply t = (reply ≡ query_reply name (rows_for s.project question name)) × (t ≡ s)
+Answers s (Ask question name) reply t =
+    (reply ≡ query_reply name (rows_for s.project question name)) × (t ≡ s)
 
 -- the replies to commands in order, end to end, and the state after all
 abbrev pub Replies : State → List Command → List ℕ → State → Type 0

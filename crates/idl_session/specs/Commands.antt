@@ -16,7 +16,8 @@ pub data Command : Type 0 where
 -- the command of a request, with the lines that follow as far as they are there
 abbrev pub command_of : Request → List (List ℕ) → Command
 command_of request.Malformed lines = Malformed
-command_of (request.Place edit count) lines = if nat_eq (length lines) count then Make (edit lines) else Unfinished
+command_of (request.Place edit count) lines =
+    if nat_eq (length lines) count then Make (edit lines) else Unfinished
 command_of (request.Make edit) lines = Make edit
 command_of (request.Ask question name) lines = Ask question name
 
@@ -25,7 +26,8 @@ abbrev pub commands_after : ℕ → List (List ℕ) → List Command
 commands_after n [] = []
 commands_after (suc n) (line ∷ lines) = commands_after n lines
 commands_after zero (line ∷ lines) =
-    command_of (request_of line) (take (lines_taken (request_of line)) lines) ∷ commands_after (lines_taken (request_of line)) lines
+    command_of (request_of line) (take (lines_taken (request_of line)) lines)
+    ∷ commands_after (lines_taken (request_of line)) lines
 
 -- the commands that a text makes
 abbrev pub commands_of : List ℕ → List Command

@@ -5,7 +5,8 @@ use Rattle.idl_source.specs.Device.{prepend}
 use Rattle.idl_session.specs.Lines.{line_within}
 
 -- a part of a line was taken: what is kept of it, and whether it has a byte
-pub record IsReading (n : ℕ) (old new : Option (List ℕ)) (held : Option (List ℕ)) (any : Bool) : Type 0 where
+pub record IsReading (n : ℕ) (old new : Option (List ℕ)) (held : Option (List ℕ)) (any : Bool)
+    : Type 0 where
   pub part : List ℕ
   pub one_line : list_all (λ b. not (nat_eq b 10)) part ≡ true
   pub taken : old ≡ prepend part new

@@ -9,7 +9,8 @@ use Rattle.idl_session.specs.Lines.{line_within}
 use Rattle.idl_session.specs.declared.heading.Question.{Question}
 use Rattle.idl_session.specs.declared.heading.Question.TheVariants.{Diagnostics, Dump, Absent}
 
--- no command, an edit with so many lines that follow, an edit that no line follows, or a question about a root
+-- no command, an edit with so many lines that follow, an edit that no line follows, or a question
+-- about a root
 pub data Request : Type 0 where
   Malformed : Request
   Place : (edit : List (List ℕ) → Edit) (count : ℕ) → Request
@@ -30,7 +31,10 @@ is_digit b = nat_le 48 b && nat_le b 57
 -- `0`, or one to nine digits without leading zero
 abbrev pub is_number : List ℕ → Bool
 is_number [] = false
-is_number (d ∷ digits) = is_digit d && (list_all is_digit digits && (nat_le (length digits) 8 && (not (nat_eq d 48) || nat_eq (length digits) 0)))
+is_number (d ∷ digits) =
+    is_digit d &&
+    (list_all is_digit digits
+    && (nat_le (length digits) 8 && (not (nat_eq d 48) || nat_eq (length digits) 0)))
 
 -- the number that digits make
 abbrev pub value_of : List ℕ → ℕ
@@ -41,7 +45,8 @@ put_request name count = if is_number count then Place (Put name) (value_of coun
 
 abbrev pub splice_request : List ℕ → List ℕ → List ℕ → List ℕ → Request
 splice_request name from del count =
-    if is_number from && (is_number del && is_number count) then Place (Splice name (value_of from) (value_of del)) (value_of count) else Malformed
+    if is_number from && (is_number del && is_number count)
+    then Place (Splice name (value_of from) (value_of del)) (value_of count) else Malformed
 
 -- a word and what it is about
 abbrev pub pair_request : List ℕ → List ℕ → Request
@@ -57,23 +62,29 @@ pair_request w about =
 -- by how many words follow the first
 abbrev pub counted_request : List ℕ → List (List ℕ) → Request
 counted_request w (about ∷ []) = pair_request w about
-counted_request w (name ∷ count ∷ []) = if bytes_eq w (codes "put") then put_request name count else Malformed
-counted_request w (name ∷ from ∷ del ∷ count ∷ []) = if bytes_eq w (codes "splice") then splice_request name from del count else Malformed
+counted_request w (name ∷ count ∷ []) =
+    if bytes_eq w (codes "put") then put_request name count else Malformed
+counted_request w (name ∷ from ∷ del ∷ count ∷ []) =
+    if bytes_eq w (codes "splice") then splice_request name from del count else Malformed
 counted_request w others = Malformed
 
 -- the directories of `search` are the words after it, however many
 abbrev pub request_of_words : List ℕ → List (List ℕ) → Request
-request_of_words w ws = if bytes_eq w (codes "search") then Make (Search ws) else counted_request w ws
+request_of_words w ws =
+    if bytes_eq w (codes "search") then Make (Search ws) else counted_request w ws
 
 -- the body of `define` is all bytes after the second blank
 abbrev pub define_request : List (List ℕ) → Request
 define_request [] = Malformed
-define_request (word ∷ rest) = if is_command_word word then Make (Define word (join_with_byte 32 rest)) else Malformed
+define_request (word ∷ rest) =
+    if is_command_word word then Make (Define word (join_with_byte 32 rest)) else Malformed
 
 -- all words are of bytes 33 to 126, but for those of a body
 abbrev pub request_in_words : List (List ℕ) → Request
 request_in_words [] = Malformed
-request_in_words (w ∷ ws) = if bytes_eq w (codes "define") then define_request ws else (if list_all is_command_word (w ∷ ws) then request_of_words w ws else Malformed)
+request_in_words (w ∷ ws) =
+    if bytes_eq w (codes "define") then define_request ws
+    else (if list_all is_command_word (w ∷ ws) then request_of_words w ws else Malformed)
 
 -- what is asked by a line, of which nothing may be kept
 abbrev pub request_kept : Option (List ℕ) → Request

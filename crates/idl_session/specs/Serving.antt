@@ -37,12 +37,14 @@ pub record Serves (request : Request) (old new : Standing) (reply : List ℕ) : 
 
 -- a request was served, and the reply has gone out
 abbrev pub SendsReply : Request → Standing → Standing → Type 0
-SendsReply request old new = (reply : List ℕ) × (new.written ≡ append old.written reply) × Serves request old new reply
+SendsReply request old new =
+    (reply : List ℕ) × (new.written ≡ append old.written reply) × Serves request old new reply
 
 -- a request that a failure cut short: it wasn't served, or a beginning of the reply has gone out
 abbrev pub IsCut : Stop → Request → Standing → Standing → Type 0
 IsCut ReadFailed request old new = (new.written ≡ old.written) × (new.state ≡ old.state)
-IsCut WriteFailed request old new = (reply : List ℕ) × WritesPart old.written reply new.written × Serves request old new reply
+IsCut WriteFailed request old new =
+    (reply : List ℕ) × WritesPart old.written reply new.written × Serves request old new reply
 
 -- the commands that were served, the replies that have gone out, and the state after them
 pub record Served (old new : Standing) : Type 0 where
@@ -52,15 +54,17 @@ pub record Served (old new : Standing) : Type 0 where
   pub written : new.written ≡ append old.written output
   pub replies : Replies old.state commands output new.state
 
--- the first of these commands were served before a device failed: after a failed read the replies to them have gone out,
--- and after a failed write a beginning of them
+-- the first of these commands were served before a device failed: after a failed read the replies
+-- to them have gone out, and after a failed write a beginning of them
 abbrev pub IsBeginning : Stop → List Command → Moment → Moment → Type 0
 IsBeginning ReadFailed commands old new =
     (done : List Command) × (rest : List Command) × (output : List ℕ)
-    × (commands ≡ done ++ rest) × (new.written ≡ append old.written output) × Replies old.state done output new.state
+    × (commands ≡ done ++ rest) × (new.written ≡ append old.written output)
+    × Replies old.state done output new.state
 IsBeginning WriteFailed commands old new =
     (done : List Command) × (rest : List Command) × (output : List ℕ)
-    × (commands ≡ done ++ rest) × WritesPart old.written output new.written × Replies old.state done output new.state
+    × (commands ≡ done ++ rest) × WritesPart old.written output new.written
+    × Replies old.state done output new.state
 
 -- how often reads and writes have failed
 pub record Failures : Type 0 where

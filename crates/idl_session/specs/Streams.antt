@@ -20,8 +20,10 @@ abbrev pub fuel : ℕ → List ℕ → ℕ
 fuel reads feed = reads * 4097 + length feed
 
 -- one line was taken, and this is kept of it
-abbrev pub TakesLine : ℕ → Option (List (List ℕ)) → Option (List (List ℕ)) → Option (List ℕ) → Type 0
-TakesLine n old new held = (line : List ℕ) × ((old ≡ prepend (line ∷ []) new) × (held ≡ line_within n line))
+abbrev pub TakesLine : ℕ → Option (List (List ℕ)) → Option (List (List ℕ)) → Option (List ℕ)
+    → Type 0
+TakesLine n old new held =
+    (line : List ℕ) × ((old ≡ prepend (line ∷ []) new) × (held ≡ line_within n line))
 
 -- so many lines were taken, or fewer at the end
 abbrev pub IsTakenBy : ℕ → List (List ℕ) → Option (List (List ℕ)) → Type 0

@@ -25,8 +25,8 @@ abbrev pub token_rows : Place → List ℕ → Option Code → List (List ℕ)
 token_rows place token finding =
     option_to_list (option_map (λ code. diagnostic_row place code (Some token)) finding)
 
--- The rows of the events in order, where this is found at the tokens: one for a token at which something is found, and one
--- for a fault of the preprocessor.
+-- The rows of the events in order, where this is found at the tokens: one for a token at which
+-- something is found, and one for a fault of the preprocessor.
 abbrev pub rows : List Event → List (Option Code) → List (List ℕ)
 rows [] findings = []
 rows (Emitted place token ∷ events) [] = rows events []

@@ -36,8 +36,8 @@ abbrev pub is_wide : Option Kind → Bool
 is_wide (Some WideString) = true
 is_wide other = false
 
--- The codes of a token after one of this kind, if there is one before it: string literals side by side have one width, and
--- a mark that the preprocessor alone knows is none of IDL.
+-- The codes of a token after one of this kind, if there is one before it: string literals side by
+-- side have one width, and a mark that the preprocessor alone knows is none of IDL.
 abbrev pub token_codes : Option Kind → Kind → List Code
 token_codes before (Bad why) = defect_code why ∷ []
 token_codes before (Preprocessing mark) = BadToken ∷ []
@@ -91,7 +91,8 @@ abbrev pub least_fault : List Fault → Option Fault
 least_fault [] = None
 least_fault (f ∷ fs) = Some (fold lesser_fault f fs)
 
--- the fault of a unit before which these names are declared: the least of the first step that has one
+-- the fault of a unit before which these names are declared: the least of the first step that has
+-- one
 abbrev pub fault_of : List (List ℕ) → List (List ℕ) → Option Fault
 fault_of declared unit =
     option_or (least_fault (token_faults unit))

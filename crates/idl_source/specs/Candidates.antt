@@ -11,7 +11,8 @@ use Rattle.idl_source.specs.Texts.{Texts}
 abbrev pub along : List (List ℕ) → List ℕ → List (List ℕ)
 along directories spelled = filter_map (λ directory. joined_path directory spelled) directories
 
--- an operand with a leading `/` asks for that name alone; another one for the names along the search list, in quotes after the name beside the including file
+-- an operand with a leading `/` asks for that name alone; another one for the names along the
+-- search list, in quotes after the name beside the including file
 unfoldable pub candidates : List (List ℕ) → List ℕ → List ℕ → Bool → List (List ℕ)
 candidates search from spelled quoted =
     if is_rooted spelled then option_to_list (joined_path (directory_of from) spelled)

@@ -12,4 +12,5 @@ append before ys = option_map (λ xs. xs ++ ys) before
 
 -- of these bytes a beginning has gone out, and not all
 abbrev pub WritesPart : Option (List ℕ) → List ℕ → Option (List ℕ) → Type 0
-WritesPart before bytes after = (n : ℕ) × (n < length bytes) × (after ≡ append before (take n bytes))
+WritesPart before bytes after =
+    (n : ℕ) × (n < length bytes) × (after ≡ append before (take n bytes))

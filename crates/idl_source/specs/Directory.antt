@@ -7,14 +7,21 @@ use Rattle.idl_source.specs.Name.{is_name, is_up, segments}
 
 -- a name, `.`, `/`, or 1 to 255 bytes of a run of `..`
 abbrev pub is_directory : List ℕ → Bool
-is_directory bytes = is_name bytes || (bytes_eq bytes (46 ∷ []) || (bytes_eq bytes (47 ∷ []) || (nat_le (length bytes) longest_name && list_all is_up (segments bytes))))
+is_directory bytes =
+    is_name bytes
+    || (bytes_eq bytes (46 ∷ [])
+    || (bytes_eq bytes (47 ∷ [])
+    || (nat_le (length bytes) longest_name && list_all is_up (segments bytes))))
 
 -- what stands before the last such byte, if there is one
 abbrev pub before_last : ℕ → List ℕ → Option (List ℕ)
 before_last byte [] = None
-before_last byte (b ∷ bytes) = elim (before_last byte bytes) [ Some before ↦ Some (b ∷ before) | None ↦ if nat_eq b byte then Some [] else None ]
+before_last byte (b ∷ bytes) =
+    elim (before_last byte bytes)
+    [ Some before ↦ Some (b ∷ before) | None ↦ if nat_eq b byte then Some [] else None ]
 
--- the directory of a file: its name up to the last `/`; `.` where there is none, and `/` where that stands first
+-- the directory of a file: its name up to the last `/`; `.` where there is none, and `/` where that
+-- stands first
 abbrev pub up_to : Option (List ℕ) → List ℕ
 up_to None = 46 ∷ []
 up_to (Some []) = 47 ∷ []

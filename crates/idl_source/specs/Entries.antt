@@ -24,4 +24,5 @@ pub record IsAt (entries : List (Rc Entry Global)) (name : List ℕ) (i : ℕ) :
 pub record IsGapFor (entries : List (Rc Entry Global)) (name : List ℕ) (i : ℕ) : Type 0 where
   pub in_range : i ≤ length entries
   pub lower_before : AllWithin (λ entry. slice_cmp nat_cmp entry.value.name name ≡ Less) entries 0 i
-  pub higher_after : AllWithin (λ entry. slice_cmp nat_cmp entry.value.name name ≡ Greater) entries i (length entries)
+  pub higher_after : AllWithin
+      (λ entry. slice_cmp nat_cmp entry.value.name name ≡ Greater) entries i (length entries)

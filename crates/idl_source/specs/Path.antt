@@ -13,11 +13,16 @@ here = record { up = 0; down = [] }
 
 -- a segment takes away the step up that follows it, and where none follows it is the first one down
 abbrev pub down_by : List ℕ → Path → Path
-down_by segment path = if nat_eq path.up 0 then record path { down = segment ∷ path.down } else record path { up = path.up - 1 }
+down_by segment path =
+    if nat_eq path.up 0 then record path { down = segment ∷ path.down }
+    else record path { up = path.up - 1 }
 
--- a path after a segment: `..` is a step up, a plain one a step down, and an empty one and `.` go out
+-- a path after a segment: `..` is a step up, a plain one a step down, and an empty one and `.` go
+-- out
 abbrev pub led_by : List ℕ → Path → Path
-led_by segment path = if is_up segment then record path { up = path.up + 1 } else (if is_plain segment then down_by segment path else path)
+led_by segment path =
+    if is_up segment then record path { up = path.up + 1 }
+    else (if is_plain segment then down_by segment path else path)
 
 -- a path after segments
 unfoldable pub led_by_all : List (List ℕ) → Path → Path
@@ -46,4 +51,5 @@ is_rooted (b ∷ bytes) = nat_eq b 47
 unfoldable pub joined_path : List ℕ → List ℕ → Option (List ℕ)
 joined_path directory spelled =
     if is_rooted spelled then name_of true (led_by_all (segments spelled) here)
-    else name_of (is_rooted directory) (led_by_all (segments directory) (led_by_all (segments spelled) here))
+    else name_of (is_rooted directory)
+    (led_by_all (segments directory) (led_by_all (segments spelled) here))

@@ -27,7 +27,9 @@ is_over files name lines =
 -- the files after a put, or the least refusal
 abbrev pub after_put : Texts → List ℕ → List (List ℕ) → Result Texts Refusal
 after_put files name lines =
-    if is_name name then (if is_over files name lines then Err OverLimit else Ok (map.insert files name lines)) else Err BadName
+    if is_name name
+    then (if is_over files name lines then Err OverLimit else Ok (map.insert files name lines))
+    else Err BadName
 
 -- lines FROM to FROM + DEL - 1 are in the file; 1 is the first
 abbrev pub is_inside : List (List ℕ) → ℕ → ℕ → Bool
@@ -39,19 +41,28 @@ spliced old from del lines = take (from - 1) old ++ (lines ++ drop (from - 1 + d
 
 -- they are too many, or a new one is too long
 abbrev pub is_splice_over : List (List ℕ) → ℕ → ℕ → List (List ℕ) → Bool
-is_splice_over old from del lines = nat_lt most_lines (length (spliced old from del lines)) || list_any (λ line. nat_lt longest_line (length line)) lines
+is_splice_over old from del lines =
+    nat_lt most_lines (length (spliced old from del lines))
+    || list_any (λ line. nat_lt longest_line (length line)) lines
 
 -- the files after a splice of this file, or the least refusal
-abbrev pub after_splice_of : Texts → List ℕ → Option (List (List ℕ)) → ℕ → ℕ → List (List ℕ) → Result Texts Refusal
+abbrev pub after_splice_of : Texts → List ℕ → Option (List (List ℕ)) → ℕ → ℕ → List (List ℕ)
+    → Result Texts Refusal
 after_splice_of files name None from del lines = Err NoSuchFile
 after_splice_of files name (Some old) from del lines =
-    if is_inside old from del then (if is_splice_over old from del lines then Err OverLimit else Ok (map.insert files name (spliced old from del lines)))
+    if is_inside old from del
+    then (if is_splice_over old from del lines then Err OverLimit
+    else Ok (map.insert files name (spliced old from del lines)))
     else Err OutsideFile
 
 abbrev pub after_splice : Texts → List ℕ → ℕ → ℕ → List (List ℕ) → Result Texts Refusal
-after_splice files name from del lines = if is_name name then after_splice_of files name (map.get files name) from del lines else Err BadName
+after_splice files name from del lines =
+    if is_name name then after_splice_of files name (map.get files name) from del lines
+    else Err BadName
 
 -- the files after a removal, or the least refusal
 abbrev pub after_remove : Texts → List ℕ → Result Texts Refusal
 after_remove files name =
-    if is_name name then (if is_none (map.get files name) then Err NoSuchFile else Ok (map.remove files name)) else Err BadName
+    if is_name name
+    then (if is_none (map.get files name) then Err NoSuchFile else Ok (map.remove files name))
+    else Err BadName

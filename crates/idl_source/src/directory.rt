@@ -33,7 +33,8 @@ impl Model for Directory {
 
     ghost view = { λ directory. take directory.len directory.bytes };
 
-    ghost invariant = { λ directory. (directory.len ≤ longest_name) × IsTrue (is_directory (take directory.len directory.bytes)) };
+    ghost invariant = { λ directory. (directory.len ≤ longest_name)
+        × IsTrue (is_directory (take directory.len directory.bytes)) };
 }
 
 impl Directory {

@@ -37,7 +37,10 @@ pub fn entries_with(
 ) -> Result<Vec<Rc<Entry>>, AllocError>
     // The files keep them so.
     requires { IsTrue (is_sorted (slice_cmp nat_cmp) (entries_of entries.now.items)) }
-    ensures { IfOk result (λ with. entries_of with.items ≡ put (slice_cmp nat_cmp) entry.value.name entry.value.file (entries_of entries.now.items)) }
+    ensures { IfOk result
+        (λ with. entries_of with.items
+        ≡ put (slice_cmp nat_cmp) entry.value.name entry.value.file
+        (entries_of entries.now.items)) }
 {
     let mut with = entries.clone()?;
     match place_of(entries, entry.name.as_bytes()) {
@@ -55,7 +58,8 @@ pub fn entries_with(
 /// The entries without the one at this place. They share the other ones.
 pub fn entries_without(entries: &Vec<Rc<Entry>>, place: usize) -> Result<Vec<Rc<Entry>>, AllocError>
     requires { place < length entries.now.items }
-    ensures { IfOk result (λ without. entries_of without.items ≡ without_at (entries_of entries.now.items) place) }
+    ensures { IfOk result
+        (λ without. entries_of without.items ≡ without_at (entries_of entries.now.items) place) }
 {
     let mut without = entries.clone()?;
     without.remove(place);

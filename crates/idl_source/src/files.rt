@@ -85,7 +85,9 @@ impl Files {
     /// has more than [`MAX_LINE`] bytes, or the name is new and there are [`MAX_FILES`] files. Memory may be refused too.
     pub fn put(&self, name: &[u8], lines: Vec<Line>) -> Result<Files, Refusal>
         ensures ok { IfOk result (λ files. after_put self.now name.now lines.items ≡ Ok files) }
-        ensures err { IfErr result (λ refusal. refusal ≢ Refusal.NoMemory → after_put self.now name.now lines.items ≡ Err refusal) }
+        ensures err { IfErr result
+            (λ refusal. refusal ≢ Refusal.NoMemory
+            → after_put self.now name.now lines.items ≡ Err refusal) }
     {
         let name = allowed_name(name)?;
         if self.is_over(&name, &lines) {
@@ -101,8 +103,11 @@ impl Files {
     /// It is refused, in this order, where the name isn't one, where there is no such file, where the span isn't all in it, and where it would have more than [`MAX_LINES`] lines or a new line has more than [`MAX_LINE`] bytes. Memory may
     /// be refused too.
     pub fn splice(&self, name: &[u8], span: Span, lines: Vec<Line>) -> Result<Files, Refusal>
-        ensures ok { IfOk result (λ files. after_splice self.now name.now span.from span.del lines.items ≡ Ok files) }
-        ensures err { IfErr result (λ refusal. refusal ≢ Refusal.NoMemory → after_splice self.now name.now span.from span.del lines.items ≡ Err refusal) }
+        ensures ok { IfOk result
+            (λ files. after_splice self.now name.now span.from span.del lines.items ≡ Ok files) }
+        ensures err { IfErr result
+            (λ refusal. refusal ≢ Refusal.NoMemory
+            → after_splice self.now name.now span.from span.del lines.items ≡ Err refusal) }
     {
         let name = allowed_name(name)?;
         let Some(file) = self.get(name.as_bytes()) else {
@@ -126,7 +131,8 @@ impl Files {
     /// It is refused, in this order, where the name isn't one, and where there is no such file. Memory may be refused too.
     pub fn remove(&self, name: &[u8]) -> Result<Files, Refusal>
         ensures ok { IfOk result (λ files. after_remove self.now name.now ≡ Ok files) }
-        ensures err { IfErr result (λ refusal. refusal ≢ Refusal.NoMemory → after_remove self.now name.now ≡ Err refusal) }
+        ensures err { IfErr result
+            (λ refusal. refusal ≢ Refusal.NoMemory → after_remove self.now name.now ≡ Err refusal) }
     {
         let name = allowed_name(name)?;
         match place_of(&self.entries, name.as_bytes()) {
@@ -167,7 +173,8 @@ impl Files {
 // The name of these bytes, or the refusal of what is none.
 fn allowed_name(bytes: &[u8]) -> Result<Name, Refusal>
     ensures ok { IfOk result (λ name. IsTrue (is_name bytes.now) × (name ≡ bytes.now)) }
-    ensures err { IfErr result (λ refusal. IsFalse (is_name bytes.now) × (refusal ≡ Refusal.BadName)) }
+    ensures err { IfErr result
+        (λ refusal. IsFalse (is_name bytes.now) × (refusal ≡ Refusal.BadName)) }
 {
     match Name::new(bytes) {
         Some(name) => Ok(name),
@@ -183,7 +190,9 @@ fn has_long_line(lines: &[Line]) -> bool
 
 // Whether so many lines and new ones are too many, or a new one is too long.
 fn is_splice_over(kept: usize, lines: &[Line]) -> bool
-    ensures { result ≡ (nat_lt most_lines (kept + length lines.now) || list_any (λ line. nat_lt longest_line (length line)) lines.now) }
+    ensures { result
+        ≡ (nat_lt most_lines (kept + length lines.now)
+        || list_any (λ line. nat_lt longest_line (length line)) lines.now) }
 {
     if kept > MAX_LINES || lines.len() > MAX_LINES - kept {
         return true;

@@ -40,11 +40,17 @@ pub fn join(directory: &Directory, spelled: &[u8]) -> Option<Name>
 /// The rules of the normal form. Empty segments and `.` go out, and `..` takes a segment before it away, wherever they
 /// stand; a run of `..` and then plain segments stays; and a name stands for itself. This does nothing: it carries the laws.
 pub fn normal_form()
-    ensures blank { (before after : List (List ℕ)) → led_by_all (before ++ [] ∷ after) here ≡ led_by_all (before ++ after) here }
-    ensures dot { (before after : List (List ℕ)) → led_by_all (before ++ (46 ∷ []) ∷ after) here ≡ led_by_all (before ++ after) here }
-    ensures up { (before after : List (List ℕ)) (segment : List ℕ) → IsTrue (is_plain segment) → led_by_all (before ++ segment ∷ (46 ∷ 46 ∷ []) ∷ after) here ≡ led_by_all (before ++ after) here }
-    ensures form { (n : ℕ) (names : List (List ℕ)) → IsTrue (list_all is_plain names) → led_by_all (replicate n (46 ∷ 46 ∷ []) ++ names) here ≡ record { up = n; down = names } }
-    ensures name { (name : List ℕ) → IsTrue (is_name name) → joined_path (46 ∷ []) name ≡ Some name }
+    ensures blank { (before after : List (List ℕ))
+        → led_by_all (before ++ [] ∷ after) here ≡ led_by_all (before ++ after) here }
+    ensures dot { (before after : List (List ℕ))
+        → led_by_all (before ++ (46 ∷ []) ∷ after) here ≡ led_by_all (before ++ after) here }
+    ensures up { (before after : List (List ℕ)) (segment : List ℕ) → IsTrue (is_plain segment)
+        → led_by_all (before ++ segment ∷ (46 ∷ 46 ∷ []) ∷ after) here
+        ≡ led_by_all (before ++ after) here }
+    ensures form { (n : ℕ) (names : List (List ℕ)) → IsTrue (list_all is_plain names)
+        → led_by_all (replicate n (46 ∷ 46 ∷ []) ++ names) here ≡ record { up = n; down = names } }
+    ensures name { (name : List ℕ) → IsTrue (is_name name)
+        → joined_path (46 ∷ []) name ≡ Some name }
 {}
 
 // A path that is read from its end, where each segment is known to stay as it comes. The text of the segments down stands
@@ -63,9 +69,12 @@ impl Model for Trail {
 
     ghost Value = { Path };
 
-    ghost view = { λ trail. record { up = trail.up; down = drop 1 (segments (drop trail.start trail.array)) } };
+    ghost view = { λ trail. record
+        { up = trail.up; down = drop 1 (segments (drop trail.start trail.array)) } };
 
-    ghost invariant = { λ trail. (trail.start ≤ 256) × (slashed (drop 1 (segments (drop trail.start trail.array))) ≡ drop trail.start trail.array) };
+    ghost invariant = { λ trail. (trail.start ≤ 256)
+        × (slashed (drop 1 (segments (drop trail.start trail.array)))
+        ≡ drop trail.start trail.array) };
 }
 
 impl Trail {
@@ -84,7 +93,8 @@ impl Trail {
         // A `..` has two bytes, so that they can be counted.
         requires { 2 * self.old.up + length bytes.now < 2 ^ 65 }
         ensures some { OnSome result (self.new ≡ led_by_all (segments bytes.now) self.old) }
-        ensures none { IfNone result (256 < length (slashed (led_by_all (segments bytes.now) self.old).down)) }
+        ensures none { IfNone result
+            (256 < length (slashed (led_by_all (segments bytes.now) self.old).down)) }
         ensures bound { 2 * self.new.up ≤ 2 * self.old.up + length bytes.now }
     {
         let mut left = bytes;
@@ -123,7 +133,8 @@ impl Trail {
     // Writes the segment, with `/` before it, before the text.
     fn write_before(&mut self, segment: &[u8]) -> Option<()>
         requires one { All (λ b. nat_eq b 47 ≡ false) segment.now }
-        ensures some { OnSome result (self.new ≡ record self.old { down = segment.now ∷ self.old.down }) }
+        ensures some { OnSome result
+            (self.new ≡ record self.old { down = segment.now ∷ self.old.down }) }
         ensures none { IfNone result (256 < length (slashed (segment.now ∷ self.old.down))) }
         ensures bound { self.new.up ≡ self.old.up }
     {

@@ -12,10 +12,11 @@ use Rattle.idl_event.specs.declared.key.Key.TheVariants as key
 use Rattle.idl_source.specs.Texts.{Texts}
 use Rattle.idl_workspace.specs.Project.{Inputs}
 
--- the answers of these inputs: a macro's body as a file of one line, a file's lines, and the search list; what isn't there
--- has no answer
+-- the answers of these inputs: a macro's body as a file of one line, a file's lines, and the search
+-- list; what isn't there has no answer
 unfoldable pub bank_of : Inputs → Key → Option Answer
-bank_of inputs (key.Macro word) = option_map (λ body. answer.Macro (body ∷ [])) (lookup (bytes_eq word) inputs.macros)
+bank_of inputs (key.Macro word) =
+    option_map (λ body. answer.Macro (body ∷ [])) (lookup (bytes_eq word) inputs.macros)
 bank_of inputs (key.File name) = option_map answer.File (map.get inputs.files name)
 bank_of inputs key.Search = Some (answer.Search inputs.search)
 
@@ -25,4 +26,5 @@ bank_with bank at answer k = if key_eq at k then answer else bank k
 
 -- no file but the one of this name is another
 abbrev pub IsSameBeside : List ℕ → Texts → Texts → Type 0
-IsSameBeside name old new = (other : List ℕ) → bytes_eq name other ≡ false → map.get new other ≡ map.get old other
+IsSameBeside name old new =
+    (other : List ℕ) → bytes_eq name other ≡ false → map.get new other ≡ map.get old other

@@ -10,7 +10,8 @@ use Rattle.idl_workspace.specs.declared.compile.CompiledRoot.{CompiledRoot}
 
 -- the rows of a root over these answers, and the files that it asks for and that aren't there
 unfoldable pub compile_over : (Key → Option Answer) → List ℕ → CompiledRoot
-compile_over bank root = let e = expanded root bank in record { rows = small.compile e.0; absent = absent_files e.1 }
+compile_over bank root =
+    let e = expanded root bank in record { rows = small.compile e.0; absent = absent_files e.1 }
 
 -- the same over these inputs
 abbrev pub compiled_root : Inputs → List ℕ → CompiledRoot

@@ -18,7 +18,8 @@ pub record IsAccepted (edit : Edit) (old new : State) (work : Work) : Type 0 whe
   pub kept : new.work ≡ work
   pub told : work ≡ no_work
 
--- a refused edit: nothing has changed, and the refusal is the least that applies, or else want of memory
+-- a refused edit: nothing has changed, and the refusal is the least that applies, or else want of
+-- memory
 pub record IsRefused (edit : Edit) (old new : State) (refusal : Refusal) : Type 0 where
   pub unchanged : new ≡ old
   pub least : refusal ≢ NoMemory → after old.project edit ≡ Err refusal

@@ -11,8 +11,8 @@ use Rattle.idl_source.specs.Texts.{Texts, texts_code}
 abbrev pub Macros : Type 0
 Macros = List (List ℕ × List ℕ)
 
--- what roots are made of: the files, the macros that are defined before a root's first line, and the directories in which
--- included files are searched, in order
+-- what roots are made of: the files, the macros that are defined before a root's first line, and
+-- the directories in which included files are searched, in order
 pub record Inputs : Type 0 where
   pub files : Texts
   pub macros : Macros

@@ -20,7 +20,8 @@ pub record State : Type 0 where
 
 -- what a root compiles to from scratch; another name compiles to nothing
 abbrev pub compiled_of : Project → List ℕ → Option CompiledRoot
-compiled_of project name = if is_root project name then Some (compiled_root project.inputs name) else None
+compiled_of project name =
+    if is_root project name then Some (compiled_root project.inputs name) else None
 
 -- the diagnostics that are answered for a name
 abbrev pub diagnostics_of : Project → List ℕ → Option (List (List ℕ))
@@ -39,7 +40,8 @@ abbrev pub HoldsRows : (Key → Option Answer) → List (List ℕ × CompiledRoo
 HoldsRows bank held = All (λ root. root.1 ≡ compile_over bank root.0) held
 
 -- what is held of the roots: distinct names, each with what it compiles to
-pub record IsUpToDate (bank : Key → Option Answer) (held : List (List ℕ × CompiledRoot)) : Type 0 where
+pub record IsUpToDate (bank : Key → Option Answer) (held : List (List ℕ × CompiledRoot))
+    : Type 0 where
   pub names : All (λ name. IsTrue (is_name name)) (keys_of held)
   pub distinct : IsDistinct bytes_eq (keys_of held)
   pub rows : HoldsRows bank held
@@ -50,5 +52,9 @@ state_code =
     code_by (Project × (ℕ × (ℕ × ℕ)))
     (coded× project_code (coded× coded_ℕ (coded× coded_ℕ coded_ℕ)))
     (λ s. (s.project, (s.work.expanded, (s.work.checked, s.work.printed))))
-    (λ t. record { project = t.0; work = record { expanded = t.1.0; checked = t.1.1.0; printed = t.1.1.1 } })
+    (λ t. record {
+      project = t.0;
+      work = record
+          { expanded = t.1.0; checked = t.1.1.0; printed = t.1.1.1 };
+    })
     (λ _. refl)

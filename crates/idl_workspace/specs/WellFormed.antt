@@ -10,11 +10,13 @@ use Rattle.idl_source.specs.Name.{is_name}
 use Rattle.idl_workspace.specs.Project.{Project}
 use Rattle.idl_workspace.specs.WithinLimits.{IsWithinLimits}
 
--- files and roots have names, macros have words, and the search list has directories, none of which is too long; each
--- file, each macro and each root is there once (a file is, since files are a map); and a project is within the limits
+-- files and roots have names, macros have words, and the search list has directories, none of which
+-- is too long; each file, each macro and each root is there once (a file is, since files are a
+-- map); and a project is within the limits
 pub record IsWellFormed (project : Project) : Type 0 where
   pub within : IsWithinLimits project
-  pub files : (name : List ℕ) → IsTrue (is_some (map.get project.inputs.files name)) → IsTrue (is_name name)
+  pub files : (name : List ℕ) → IsTrue (is_some (map.get project.inputs.files name))
+      → IsTrue (is_name name)
   pub words : All (λ word. IsTrue (is_macro_word word)) (keys_of project.inputs.macros)
   pub words_once : IsDistinct bytes_eq (keys_of project.inputs.macros)
   pub directories : All (λ directory. IsTrue (is_directory directory)) project.inputs.search
