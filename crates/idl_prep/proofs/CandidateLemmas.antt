@@ -3,7 +3,7 @@ use Rattle.std.proofs.Common.{◌≡◌, ℕ, List, [], ◌∷◌, Bool, true, f
 use Rattle.std.specs.FinMap as finite
 use Rattle.std.specs.List.{cons_option}
 use Rattle.std.specs.Option.{option_map, option_to_list}
-use Rattle.idl_memo.specs.Query.{Done, and_then, outcome}
+use Rattle.idl_memo.specs.Query.{Done, and_then, asked, outcome}
 use Rattle.idl_memo.proofs.QueryLaws.{outcome-and_then}
 use Rattle.idl_event.specs.Expanding.{Expanding}
 use Rattle.idl_event.specs.declared.file_name.FileName.{FileName}
@@ -11,7 +11,7 @@ use Rattle.idl_event.specs.declared.key.Answer.{Answer}
 use Rattle.idl_event.specs.declared.key.Answer.TheVariants as answer
 use Rattle.idl_event.specs.declared.key.Key.{Key}
 use Rattle.idl_event.specs.declared.key.Key.TheVariants as key
-use Rattle.idl_prep.specs.Candidate.{AnswersFrom, IsFirstPresent}
+use Rattle.idl_prep.specs.Candidate.{AnswersFrom, IsFirstPresent, files_asked, up_to_present}
 use Rattle.idl_prep.specs.Include.{Found, Operand, directories_in, file_in, file_of, first_present, or_along, present_along}
 use Rattle.idl_prep.proofs.IncludeLemmas.{cons_option-append, first_present-more, one, or_first, outcome-present_along}
 use Rattle.idl_source.specs.Candidates.{along, candidates, found}
@@ -86,3 +86,58 @@ module _ (files : Texts) (directories : List (List ℕ)) (bank : Key → Option 
       outcome-file_of bank from o
       ∙ ap (λ (directories : List (List ℕ)). outcome (first_present (candidates directories from o.name o.is_quoted)) bank) (ap directories_in answers.listed) in
       subst (IsFirstPresent files names) (sym is) (IsFirstPresent-first_present names)
+
+  -- a candidate is asked, and those after it where it isn't present
+  asked_by : (name : List ℕ) (names : List (List ℕ)) (lines : Option (List (List ℕ))) → finite.get files name ≡ lines
+      → files_asked (asked (first_present names) bank) ≡ up_to_present files names
+      → files_asked (asked (elim lines [ None ↦ first_present names | Some ls ↦ Done (Some (record { name = name; lines = ls })) ]) bank)
+      ≡ cond (is_some lines) [] (up_to_present files names)
+  asked_by name names None is rest = rest
+  asked_by name names (Some ls) is rest = refl
+
+  split-present : (name : List ℕ) (names : List (List ℕ)) (b : Bool) → name ∷ cond b [] (up_to_present files names) ≡ cond b (name ∷ []) (name ∷ up_to_present files names)
+  split-present name names true = refl
+  split-present name names false = refl
+
+  asked-first_present : (names : List (List ℕ)) → files_asked (asked (first_present names) bank) ≡ up_to_present files names
+  unfolding first_present
+  asked-first_present [] = refl
+  asked-first_present (name ∷ names) =
+      ap (λ (ns : List (List ℕ)). name ∷ ns) (asked_by name names (file_in (bank (key.File name))) (sym (file_in-bank name)) (asked-first_present names))
+      ∙ ap (λ (ls : Option (List (List ℕ))). name ∷ cond (is_some ls) [] (up_to_present files names)) (file_in-bank name)
+      ∙ split-present name names (is_some (finite.get files name))
+
+  asked-along : (name : List ℕ) → files_asked (asked (present_along name) bank) ≡ up_to_present files (along directories name)
+  unfolding present_along
+  asked-along name =
+      ap (λ (ds : List (List ℕ)). files_asked (asked (first_present (along ds name)) bank)) (ap directories_in answers.listed)
+      ∙ asked-first_present (along directories name)
+
+  asked_beside_by : (name spelled : List ℕ) (lines : Option (List (List ℕ)))
+      → files_asked (asked (and_then (elim lines [ None ↦ first_present [] | Some ls ↦ Done (Some (record { name = name; lines = ls })) ]) (or_along spelled)) bank)
+      ≡ cond (is_some lines) [] (up_to_present files (along directories spelled))
+  unfolding first_present
+  asked_beside_by name spelled None = asked-along spelled
+  asked_beside_by name spelled (Some ls) = refl
+
+  asked-beside : (name : Option (List ℕ)) (spelled : List ℕ)
+      → files_asked (asked (and_then (one name) (or_along spelled)) bank) ≡ up_to_present files (cons_option name (along directories spelled))
+  unfolding first_present
+  asked-beside None spelled = asked-along spelled
+  asked-beside (Some name) spelled =
+      ap (λ (ns : List (List ℕ)). name ∷ ns) (asked_beside_by name spelled (file_in (bank (key.File name))))
+      ∙ ap (λ (ls : Option (List (List ℕ))). name ∷ cond (is_some ls) [] (up_to_present files (along directories spelled))) (file_in-bank name)
+      ∙ split-present name (along directories spelled) (is_some (finite.get files name))
+
+  asked-chosen : (from : FileName) (name : List ℕ) (rooted quoted : Bool)
+      → let beside = joined (directory_of from) name in
+      files_asked (asked (if rooted then one beside else (if quoted then and_then (one beside) (or_along name) else present_along name)) bank)
+      ≡ up_to_present files (if rooted then option_to_list beside else (if quoted then along (directory_of from ∷ directories) name else along directories name))
+  asked-chosen from name true quoted = asked-first_present (option_to_list (joined (directory_of from) name))
+  asked-chosen from name false true = asked-beside (joined (directory_of from) name) name
+  asked-chosen from name false false = asked-along name
+
+  pub asked-file_of : (from : FileName) (o : Operand)
+      → files_asked (asked (file_of from o) bank) ≡ up_to_present files (candidates directories from o.name o.is_quoted)
+  unfolding file_of candidates
+  asked-file_of from o = asked-chosen from o.name (is_rooted o.name) o.is_quoted

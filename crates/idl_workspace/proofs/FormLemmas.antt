@@ -1,7 +1,9 @@
 -- Edits keep a project well-formed: names, words and directories are such, and macros and roots stand once.
-use Rattle.std.proofs.Common.{◌≡◌, ℕ, Bool, true, false, cond, not, ◌&&◌, ◌||◌, List, [], ◌∷◌, ◌++◌, All, IsTrue, Option, None, Some, is_none, is_some, Result, Ok, Err, length, leb, ltb, refl, sym, ap, subst}
+use Rattle.std.proofs.Common.{◌≡◌, ℕ, Bool, true, false, cond, not, ◌&&◌, ◌||◌, List, [], ◌∷◌, ◌++◌, All, IsTrue, Option, None, Some, is_none, is_some, Result, Ok, Err, length, leb, ltb, refl, sym, ap, subst, ◌∙◌}
+use Rattle.std.proofs.lemmas.Bool.{false≢true}
 use Rattle.std.proofs.lemmas.List.Elements.{All-cons, All-nil, All-push}
 use Rattle.std.proofs.lemmas.Map.Keys.{IsDistinct-cons, IsDistinct-head, IsDistinct-push, IsDistinct-tail}
+use Rattle.std.proofs.lemmas.Map.Text.{is_eq-slice_cmp}
 use Rattle.std.proofs.lemmas.Map.Views.{All-remove_key}
 use Rattle.std.specs.Cmp.Lexicographic.{bytes_decides, nat_list_cmp_total, nat_list_eq_equiv, slice_cmp}
 use Rattle.std.specs.FinMap as finite
@@ -33,7 +35,7 @@ named-insert files name lines are allowed other there =
     by (eq_by_cmp (slice_cmp nat_cmp) other name) refl (subst (λ (o : Option (List (List ℕ))). IsTrue (is_some o)) (get-insert nat_list_cmp_total files name lines other) there)
   where
     by : (same : Bool) → eq_by_cmp (slice_cmp nat_cmp) other name ≡ same → IsTrue (is_some (cond same (Some lines) (finite.get files other))) → IsTrue (is_name other)
-    by true same held = subst (λ (n : List ℕ). IsTrue (is_name n)) (sym ((bytes_decides other name).0 same)) allowed
+    by true same held = subst (λ (n : List ℕ). IsTrue (is_name n)) (sym ((bytes_decides other name).0 (sym (is_eq-slice_cmp other name) ∙ same))) allowed
     by false same held = are other held
 
 -- without a file
@@ -164,11 +166,11 @@ undef_once macros new word are e = by (is_macro_word word) e
 -- all that a test takes
 all_pass : (passes : List ℕ → Bool) (keys : List (List ℕ)) → list_all passes keys ≡ true → All (λ k. IsTrue (passes k)) keys
 all_pass passes [] e = All-nil (λ k. IsTrue (passes k))
-all_pass passes (k ∷ ks) e = by (passes k) refl e
+all_pass passes (k ∷ ks) e = by (passes k) refl (λ rest. all_pass passes ks rest) e
   where
-    by : (b : Bool) → passes k ≡ b → (b && list_all passes ks) ≡ true → All (λ k. IsTrue (passes k)) (k ∷ ks)
-    by true is rest = All-cons (λ k. IsTrue (passes k)) k ks is (all_pass passes ks rest)
-    by false is rest = absurd (cc)
+    by : (b : Bool) → passes k ≡ b → (list_all passes ks ≡ true → All (λ k. IsTrue (passes k)) ks) → (b && list_all passes ks) ≡ true → All (λ k. IsTrue (passes k)) (k ∷ ks)
+    by true is later rest = All-cons (λ k. IsTrue (passes k)) k ks is (later rest)
+    by false is later rest = absurd (cc)
 
 search_directories : (directories new : List (List ℕ)) → search_list directories ≡ Ok new → All (λ d. IsTrue (is_directory d)) new
 search_directories directories new e = by (list_all is_directory directories) (ltb 256 (length directories)) refl e
@@ -245,8 +247,8 @@ none-formed = record {
   where
     none : (name : List ℕ) → IsTrue (is_some (finite.get no_project.inputs.files name)) → ⊥
     none name there =
-        let nothing : IsTrue (is_some {A = List (List ℕ)} None) = subst (λ (o : Option (List (List ℕ))). IsTrue (is_some o)) (get-empty (slice_cmp nat_cmp) name) there in
-        absurd (cc)
+        let nothing : is_some (finite.get no_project.inputs.files name) ≡ false = ap is_some (get-empty (slice_cmp nat_cmp) name) in
+        false≢true (sym nothing ∙ there)
 
     distinct : IsDistinct {K = List ℕ} bytes_eq []
     distinct = tt

@@ -10,6 +10,7 @@ ghost use Rattle.idl_event.specs.declared.key.Answer.TheVariants as answers;
 ghost use Rattle.idl_event.specs.declared.key.Key.TheVariants as keys;
 ghost use Rattle.idl_workspace.specs.Bank.{IsSameBeside, bank_of, bank_with};
 ghost use Rattle.idl_prep.specs.Candidate.{AnswersFrom};
+ghost use Rattle.idl_prep.specs.Include.{directories_in};
 ghost use Rattle.idl_source.specs.Limits.{most_macros};
 ghost use Rattle.idl_workspace.specs.Project.{Inputs, is_defined, no_inputs};
 

@@ -4,8 +4,8 @@ ghost use Rattle.std.specs.Prelude.{◌≡◌, IfOk};
 ghost use Rattle.idl_workspace.specs.Compile.{compile_over};
 
 use idl_base::Seq;
-use idl_event::RootBank;
-use idl_memo::{Log, Task};
+use idl_event::{Answer, Key};
+use idl_memo::{Bank, Log, Task};
 use idl_prep::{RootTask, absent};
 use idl_small::Compiled;
 use idl_source::Name;
@@ -28,7 +28,7 @@ impl Drop for CompiledRoot {
 
 /// Compiles a root from scratch over a bank, in which its own file may be absent.
 #[tactic(auto, unfolding(crate::specs::Compile::compile_over))]
-pub fn compile<B: RootBank>(
+pub fn compile<B: Bank<Key = Key, Answer = Answer>>(
     alloc: Global,
     bank: &B,
     root: &Name,
