@@ -32,7 +32,8 @@ unfoldable mutual
 
 -- From these lines to the rest there are whole trees, inside a group whose `else` came before them or didn't, with these
 -- faults.
-pub record IsPassed (has_else : Bool) (lines rest : List Line) (faults : List GroupFault) : Type 0 where
+pub record IsPassed (has_else : Bool) (lines rest : List Line) (faults : List GroupFault)
+    : Type 0 where
   pub between : Forest
   pub formed : IsFormed (Inside has_else) between rest
   pub is : lines_in_forest between ++ rest ≡ lines

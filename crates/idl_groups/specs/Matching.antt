@@ -10,18 +10,27 @@ use Rattle.idl_groups.specs.declared.branch.BranchSpan.{BranchSpan}
 use Rattle.idl_groups.specs.declared.branch.OpenBranch.{OpenBranch}
 use Rattle.idl_groups.specs.declared.fault.GroupFault.{GroupFault}
 use Rattle.idl_groups.specs.declared.matching.Matching.{Matching}
+use Rattle.idl_groups.specs.declared.table.BranchTable.{BranchTable}
 
 -- the lines from each place on
 abbrev pub lines_at : List PlacedToken → ℕ → List Line
 lines_at tokens at = lines_from (drop at tokens)
 
 -- a branch in the table: with these lines from each place on, up to a place and with these faults of the file so far
-pub record IsSpan (lines : ℕ → List Line) (at : ℕ) (faults : List GroupFault) (span : BranchSpan) : Type 0 where
+pub record IsSpan (lines : ℕ → List Line) (at : ℕ) (faults : List GroupFault) (span : BranchSpan)
+    : Type 0 where
   pub order : span.from ≤ span.to
   pub within : span.to ≤ at
   pub faults_order : span.first_fault ≤ span.end_fault
   pub faults_within : span.end_fault ≤ length faults
-  pub jump : IsJump span.has_else (lines span.from) (lines span.to) (slice_range faults span.first_fault span.end_fault)
+  pub jump :
+      IsJump span.has_else (lines span.from) (lines span.to)
+      (slice_range faults span.first_fault span.end_fault)
+
+-- the table of a file with these tokens
+abbrev pub IsTableOf : List PlacedToken → BranchTable → Type 0
+IsTableOf tokens table =
+    All (IsSpan (lines_at tokens) (length tokens) table.faults.items) table.spans.items
 
 -- the branch that was open, up to a place, with as many faults before that
 abbrev pub span_of : OpenBranch → ℕ → ℕ → BranchSpan
@@ -57,7 +66,8 @@ pub record Found : Type 0 where
   pub inside : List GroupFault
 
 -- a branch is open here
-pub record IsOpen (lines : ℕ → List Line) (here : List Line) (faults : List GroupFault) (b : OpenBranch) (found : Found) : Type 0 where
+pub record IsOpen (lines : ℕ → List Line) (here : List Line) (faults : List GroupFault)
+    (b : OpenBranch) (found : Found) : Type 0 where
   pub all : found.outside ++ (found.before ++ found.inside) ≡ faults
   pub count : length found.outside + length found.before ≡ b.faults
   pub passed : IsPassed b.has_else (lines b.from) here found.inside
@@ -70,7 +80,8 @@ AreOpen lines here faults (b ∷ bs) =
     (found : Found) × IsOpen lines here faults b found × AreOpen lines found.group found.outside bs
 
 -- the groups are matched up to a place
-pub record IsMatched (lines : ℕ → List Line) (at : ℕ) (branches : List OpenBranch) (spans : List BranchSpan) (faults : List GroupFault) : Type 0 where
+pub record IsMatched (lines : ℕ → List Line) (at : ℕ) (branches : List OpenBranch)
+    (spans : List BranchSpan) (faults : List GroupFault) : Type 0 where
   pub are_spans : All (IsSpan lines at faults) spans
   pub come : All (λ (b : OpenBranch). b.from ≤ at) branches
   pub are_open : AreOpen lines (lines at) faults branches

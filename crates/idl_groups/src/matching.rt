@@ -169,7 +169,8 @@ impl Matching {
     /// The end of the file: the groups that are open are not closed, the innermost first.
     pub fn finish(mut self, at: usize) -> Result<BranchTable, AllocError>
         ensures { IfOk result (λ table. (lines : ℕ → List Line) → lines at ≡ []
-            → IsMatchedBy lines at self → All (IsSpan lines at table.faults.items) table.spans.items) }
+            → IsMatchedBy lines at self
+            → All (IsSpan lines at table.faults.items) table.spans.items) }
     {
         'branches: while let Some(branch) = self.branches.pop() {
             self.close(&branch, at)?;
