@@ -15,7 +15,8 @@ use std::alloc::{AllocError, Global};
 use std::marker::Model;
 use std::rc::Rc;
 
-/// A file, and beside it its tokens and the branches of its groups, so that they are made once. Its lines alone are its value, and a clone shares both.
+/// A file, and beside it its tokens and the branches of its groups, so that they are made once. Its lines alone are its
+/// value, and a clone shares both.
 #[derive(Drop)]
 pub struct LexedFile {
     file: File,

@@ -10,6 +10,7 @@ use Rattle.idl_groups.specs.declared.branch.BranchSpan.{BranchSpan}
 use Rattle.idl_groups.specs.declared.branch.OpenBranch.{OpenBranch}
 use Rattle.idl_groups.specs.declared.fault.GroupFault.{GroupFault}
 use Rattle.idl_groups.specs.declared.matching.Matching.{Matching}
+use Rattle.idl_groups.specs.declared.table.BranchTable.{BranchTable}
 
 -- the lines from each place on
 abbrev pub lines_at : List PlacedToken → ℕ → List Line
@@ -23,8 +24,14 @@ pub record IsSpan (lines : ℕ → List Line) (at : ℕ) (faults : List GroupFau
   pub within : span.to ≤ at
   pub faults_order : span.first_fault ≤ span.end_fault
   pub faults_within : span.end_fault ≤ length faults
-  pub jump : IsJump span.has_else (lines span.from) (lines span.to)
+  pub jump :
+      IsJump span.has_else (lines span.from) (lines span.to)
       (slice_range faults span.first_fault span.end_fault)
+
+-- the table of a file with these tokens
+abbrev pub IsTableOf : List PlacedToken → BranchTable → Type 0
+IsTableOf tokens table =
+    All (IsSpan (lines_at tokens) (length tokens) table.faults.items) table.spans.items
 
 -- the branch that was open, up to a place, with as many faults before that
 abbrev pub span_of : OpenBranch → ℕ → ℕ → BranchSpan

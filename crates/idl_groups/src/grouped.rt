@@ -1,11 +1,9 @@
 //! The tokens of a file with the branches of its groups.
 
 ghost use Rattle.std.specs.Prelude.{◌≡◌, ◌≤◌, drop, length, IfOk, IfSome};
-ghost use Rattle.std.specs.List.{All};
-ghost use Rattle.idl_lex.specs.Tokens.{lines_of};
 ghost use Rattle.idl_groups.specs.Jump.{IsJump};
 ghost use Rattle.idl_groups.specs.Line.{lines_from};
-ghost use Rattle.idl_groups.specs.Matching.{IsSpan, lines_at};
+ghost use Rattle.idl_groups.specs.Matching.{IsTableOf};
 
 use crate::directive::directive_on;
 use crate::fault::GroupFault;
@@ -22,17 +20,15 @@ pub struct GroupedTokens {
 }
 
 impl Model for GroupedTokens {
-    ghost use Rattle.std.specs.Prelude.{List, length};
-    ghost use Rattle.std.specs.List.{All};
-    ghost use Rattle.idl_groups.specs.Matching.{IsSpan, lines_at};
+    ghost use Rattle.std.specs.Prelude.{List};
+    ghost use Rattle.idl_groups.specs.Matching.{IsTableOf};
     ghost use Rattle.idl_lex.specs.declared.token.PlacedToken.{PlacedToken};
 
     ghost Value = { List PlacedToken };
 
     ghost view = { λ it. it.lexed };
 
-    ghost invariant = { λ it. All (IsSpan (lines_at it.lexed)
-        (length it.lexed) it.table.faults.items) it.table.spans.items };
+    ghost invariant = { λ it. IsTableOf it.lexed it.table };
 }
 
 impl Drop for GroupedTokens {
@@ -70,8 +66,8 @@ impl GroupedTokens {
     /// How far the branch goes that begins with a token, if one does whose group has come to its `else`, or hasn't.
     pub fn jump(&self, from: usize, has_else: bool) -> Option<Jump<'_>>
         ensures { IfSome result (λ jump. (from ≤ jump.to) × (jump.to ≤ length self.now)
-            × IsJump has_else (lines_from (drop from self.now)) (lines_from (drop jump.to self.now))
-            jump.faults.now) }
+            × IsJump has_else (lines_from (drop from self.now))
+            (lines_from (drop jump.to self.now)) jump.faults.now) }
     {
         let span = self.table.branch_from(from)?;
         if span.has_else != has_else {
@@ -87,8 +83,7 @@ impl GroupedTokens {
 
 // Matches the groups of a file.
 fn match_groups(alloc: Global, tokens: &[PlacedToken]) -> Result<BranchTable, AllocError>
-    ensures { IfOk result (λ table.
-        All (IsSpan (lines_at tokens.now) (length tokens.now) table.faults.items) table.spans.items) }
+    ensures { IfOk result (λ table. IsTableOf tokens.now table) }
 {
     let mut matching = Matching::new(alloc);
     let mut at = 0;
