@@ -148,8 +148,7 @@ unfolding member_with
 member_is_again t ds is =
     let spelled = spell_member-made t ds in
     let starts : (rest : Lexemes) → is_member_start (first (spell_member (made_member t ds) ++ rest)) ≡ true = λ rest.
-        ap (λ (w : Lexemes). is_member_start (first (w ++ rest))) spelled ∙ ap (λ (w : Lexemes). is_member_start (first w)) (append_assoc (spell_member_type t) (spell_member_rest ds) rest) ∙ is.starts (spell_member_rest ds ++ rest) in
-    (
+    ap (λ (w : Lexemes). is_member_start (first (w ++ rest))) spelled ∙ ap (λ (w : Lexemes). is_member_start (first w)) (append_assoc (spell_member_type t) (spell_member_rest ds) rest) ∙ is.starts (spell_member_rest ds ++ rest) in (
       record {
         passes = λ rest. member_goes_on (first (spell_member (made_member t ds) ++ rest)) (starts rest);
         stops = λ rest. refl;
@@ -173,8 +172,7 @@ case_is_again : (ls : Several Label) (t : MemberType) (d : Declarator) → IsMem
 unfolding case_with
 case_is_again ls t d is =
     let spelled = spell_case-made ls t d in
-    let tail : Lexemes = spell_member_type t ++ spell_case_rest d in
-    (
+    let tail : Lexemes = spell_member_type t ++ spell_case_rest d in (
       record {
         passes = λ rest. ap (λ (w : Lexemes). goes_on (first (w ++ rest))) spelled ∙ label_first ls.first (flat_map spell_label ls.rest) tail rest;
         stops = λ rest. refl;
