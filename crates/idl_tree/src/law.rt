@@ -20,16 +20,8 @@ pub fn reading()
     ensures again { (tree : Tree) (n : ℕ) → length (spell tree) < n → unit_at n (spell tree) ≡ Ok (tree, []) }
     ensures found { (n : ℕ) (tokens : Lexemes) (tree : Tree) → length tokens < n
         → unit_at n tokens ≡ Ok (tree, []) → tokens ≡ spell tree }
-<<<<<<< HEAD
-    ensures fault { (n : ℕ) (tokens : Lexemes) (left : ℕ) → length tokens < n → unit_at n tokens ≡ Err left
-        → IsFaultAt spell tokens left }
-    ensures rest { (n : ℕ) (tokens : Lexemes) (tree : Tree) (next : Lexeme) (more : Lexemes)
-        → length tokens < n → unit_at n tokens ≡ Ok (tree, next ∷ more)
-        → IsFaultAt spell tokens (length (next ∷ more)) }
-=======
     ensures fault { (n : ℕ) (tokens : Lexemes) (left : ℕ) → length tokens < n
         → unit_at n tokens ≡ Err left → IsFaultAt spell tokens left }
     ensures rest { (n : ℕ) (tokens : Lexemes) (tree : Tree) (next : Lexeme) (more : Lexemes) → length tokens < n
         → unit_at n tokens ≡ Ok (tree, next ∷ more) → IsFaultAt spell tokens (length (next ∷ more)) }
->>>>>>> units
 {}
