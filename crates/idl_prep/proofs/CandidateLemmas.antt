@@ -130,11 +130,11 @@ module _ (files : Texts) (directories : List (List ℕ)) (bank : Key → Option 
       ∙ split-present name (along directories spelled) (is_some (finite.get files name))
 
   asked-chosen : (from : FileName) (name : List ℕ) (rooted quoted : Bool)
-      → let beside = joined (directory_of from) name in
+      → let beside = joined_path (directory_of from) name in
       files_asked (asked (if rooted then one beside else (if quoted then and_then (one beside) (or_along name) else present_along name)) bank)
       ≡ up_to_present files (if rooted then option_to_list beside else (if quoted then along (directory_of from ∷ directories) name else along directories name))
-  asked-chosen from name true quoted = asked-first_present (option_to_list (joined (directory_of from) name))
-  asked-chosen from name false true = asked-beside (joined (directory_of from) name) name
+  asked-chosen from name true quoted = asked-first_present (option_to_list (joined_path (directory_of from) name))
+  asked-chosen from name false true = asked-beside (joined_path (directory_of from) name) name
   asked-chosen from name false false = asked-along name
 
   pub asked-file_of : (from : FileName) (o : Operand)

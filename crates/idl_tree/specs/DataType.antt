@@ -28,7 +28,8 @@ spell_size Short = Word word.Short ∷ []
 spell_size Long = Word word.Long ∷ []
 spell_size LongLong = Word word.Long ∷ Word word.Long ∷ []
 
--- int = ["unsigned"] ( "short" | "long" | "long" "long" ); and "char" | "wchar" | "boolean" | "octet"
+-- int = ["unsigned"] ( "short" | "long" | "long" "long" ); and "char" | "wchar" | "boolean" |
+-- "octet"
 abbrev pub spell_discrete : DiscreteType → Lexemes
 spell_discrete (discrete.Integer i) = spell_sign i.is_unsigned ++ spell_size i.size
 spell_discrete discrete.Char = Word word.Char ∷ []
