@@ -6,14 +6,16 @@ use Rattle.idl_tree.specs.Expression.{spell_literal, spell_unary_operator, spell
 use Rattle.idl_tree.specs.Lexeme.{Lexeme, Lexemes, Punctuation, Identifier, Text, WideText}
 use Rattle.idl_tree.specs.Name.{spell_leading, spell_name}
 use Rattle.idl_tree.specs.ReadExpression.{shift_operator_of, sum_operator_of, product_operator_of, unary_operator_of, text_of, wide_text_of, text_literal, wide_text_literal, pieces_at, literal_at, primary_with, parentheses_with, unary_with, made_unary, made_product, made_sum, made_shift, made_and, made_exclusive_or, made_expression, product_with, sum_with, shift_with, and_with, exclusive_or_with, or_with, expression_at}
-use Rattle.idl_tree.specs.Tests.{is_mark}
+use Rattle.idl_tree.specs.ReadName.{part_at, parts_at, name_at}
+use Rattle.idl_tree.specs.Reading.{Reader, ◌>>=◌, first, expect, many_of}
+use Rattle.idl_tree.specs.Tests.{is_mark, identifier_at, pick, picked}
 use Rattle.idl_tree.specs.declared.expression.And.{And, roll-And}
 use Rattle.idl_tree.specs.declared.expression.ExclusiveOr.{ExclusiveOr, roll-ExclusiveOr}
 use Rattle.idl_tree.specs.declared.expression.Expression.{Expression, roll-Expression}
 use Rattle.idl_tree.specs.declared.expression.Primary.{Primary, roll-Primary}
+use Rattle.idl_tree.specs.declared.expression.Primary.TheFolds.{ind-Expression, map-Primary}
 use Rattle.idl_tree.specs.declared.expression.Primary.TheOpen.{Primary-F}
 use Rattle.idl_tree.specs.declared.expression.Primary.TheVariants.{rolls-Name, rolls-Literal, rolls-Parentheses}
-use Rattle.idl_tree.specs.declared.expression.Primary.TheFolds.{ind-Expression, map-Primary}
 use Rattle.idl_tree.specs.declared.expression.Primary.TheVariants as primary
 use Rattle.idl_tree.specs.declared.expression.Product.{Product, roll-Product}
 use Rattle.idl_tree.specs.declared.expression.ProductOperator.{ProductOperator}
@@ -30,15 +32,12 @@ use Rattle.idl_tree.specs.declared.expression.UnaryOperator.TheVariants as unary
 use Rattle.idl_tree.specs.declared.literal.Literal.{Literal}
 use Rattle.idl_tree.specs.declared.literal.Literal.TheVariants as literal
 use Rattle.idl_tree.specs.declared.name.ScopedName.{ScopedName}
-use Rattle.idl_tree.specs.ReadName.{part_at, parts_at, name_at}
-use Rattle.idl_tree.specs.Reading.{Reader, ◌>>=◌, first, expect, many_of}
-use Rattle.idl_tree.specs.Tests.{identifier_at, pick, picked}
-use Rattle.idl_tree.proofs.SpellLemmas.{spell_unary-made, spell_primary-name, spell_primary-literal, spell_primary-parentheses, spell_product-made, spell_sum-made, spell_shift-made, spell_and-made, spell_exclusive_or-made, spell_expression-made}
 use Rattle.idl_tree.proofs.Again.{Later, Tree, chain_later, parted_later, Item, items, many_again, goes_or}
+use Rattle.idl_tree.proofs.ExpressionLaws.{shift_token, sum_token, product_token, shifts_picked, sums_picked, products_picked, texts_picked, wide_texts_picked}
 use Rattle.idl_tree.proofs.Many.{many_spell}
 use Rattle.idl_tree.proofs.NameLaws.{spell_part, flat_map-many}
+use Rattle.idl_tree.proofs.SpellLemmas.{spell_unary-made, spell_primary-name, spell_primary-literal, spell_primary-parentheses, spell_product-made, spell_sum-made, spell_shift-made, spell_and-made, spell_exclusive_or-made, spell_expression-made}
 use Rattle.idl_tree.proofs.TokenLaws.{Picks, only_mark, one_token}
-use Rattle.idl_tree.proofs.ExpressionLaws.{shift_token, sum_token, product_token, shifts_picked, sums_picked, products_picked, texts_picked, wide_texts_picked}
 
 -- what would go on with a primary: a part of a name, or a further piece of a string
 abbrev pub goes_primary : Option Lexeme → Bool

@@ -13,14 +13,14 @@ use Rattle.idl_tree.specs.declared.data_type.BasicType.TheVariants as basic
 use Rattle.idl_tree.specs.declared.data_type.DataType.{DataType, fold-DataType}
 use Rattle.idl_tree.specs.declared.data_type.DataType.TheFolds.{fold-roll-DataType, fold-roll-Sequence}
 use Rattle.idl_tree.specs.declared.data_type.DataType.TheOpen.{DataType-F}
-use Rattle.idl_tree.specs.declared.data_type.DataType.TheVariants as data_type
 use Rattle.idl_tree.specs.declared.data_type.DataType.TheVariants.{rolls-Plain, rolls-Sequence}
+use Rattle.idl_tree.specs.declared.data_type.DataType.TheVariants as data_type
 use Rattle.idl_tree.specs.declared.data_type.PlainType.{PlainType}
 use Rattle.idl_tree.specs.declared.data_type.PlainType.TheVariants as plain
 use Rattle.idl_tree.specs.declared.data_type.Sequence.{roll-Sequence}
 use Rattle.idl_tree.specs.declared.expression.Expression.{Expression}
-use Rattle.idl_tree.proofs.Laws.{Laws, same, either, either_spells, next_at, mapped_at, behind_at, ends_at, then_laws, last_laws, done_laws, skip_laws, choice_laws, shape, deeper, later, later_laws, no_laws}
 use Rattle.idl_tree.proofs.ExpressionLaws.{expression_laws}
+use Rattle.idl_tree.proofs.Laws.{Laws, same, either, either_spells, next_at, mapped_at, behind_at, ends_at, then_laws, last_laws, done_laws, skip_laws, choice_laws, shape, deeper, later, later_laws, no_laws}
 use Rattle.idl_tree.proofs.TokenLaws.{only_mark, only_word, close_at, close_laws}
 use Rattle.idl_tree.proofs.TypeLaws.{plain_laws}
 

@@ -1,21 +1,18 @@
 -- The spelling of a tree by those of its parts.
 use Rattle.std.proofs.Common.{◌≡◌, ◌∙◌, List, [], ◌∷◌, ◌++◌, flat_map, map, Option, refl, sym, ap}
 use Rattle.idl_lex.specs.declared.mark.Mark.TheVariants as mark
-use Rattle.idl_tree.specs.Expression.{primary_step, and_step, exclusive_or_step, expression_step, product_step, shift_step, sum_step, unary_step, product_mark, sum_mark, shift_mark, spell_unary_operator, spell_expression, spell_exclusive_or, spell_and, spell_shift, spell_sum, spell_product, spell_unary, spell_primary}
+use Rattle.idl_tree.specs.Expression.{primary_step, and_step, exclusive_or_step, expression_step, product_step, shift_step, sum_step, unary_step, product_mark, sum_mark, shift_mark, spell_unary_operator, spell_expression, spell_exclusive_or, spell_and, spell_shift, spell_sum, spell_product, spell_unary, spell_primary, spell_literal}
 use Rattle.idl_tree.specs.Lexeme.{Lexemes, Punctuation}
+use Rattle.idl_tree.specs.Name.{spell_name}
 use Rattle.idl_tree.specs.ReadExpression.{made_unary, made_product, made_sum, made_shift, made_and, made_exclusive_or, made_expression}
 use Rattle.idl_tree.specs.declared.expression.And.{And}
 use Rattle.idl_tree.specs.declared.expression.ExclusiveOr.{ExclusiveOr}
 use Rattle.idl_tree.specs.declared.expression.Expression.{Expression}
 use Rattle.idl_tree.specs.declared.expression.Primary.{Primary, fold-Primary}
+use Rattle.idl_tree.specs.declared.expression.Primary.TheFolds.{fold-roll-Primary, fold-roll-And, fold-roll-ExclusiveOr, fold-roll-Expression, fold-roll-Product, fold-roll-Shift, fold-roll-Sum, fold-roll-Unary}
+use Rattle.idl_tree.specs.declared.expression.Primary.TheOpen.{Primary-F}
 use Rattle.idl_tree.specs.declared.expression.Primary.TheVariants.{rolls-Name, rolls-Literal, rolls-Parentheses}
 use Rattle.idl_tree.specs.declared.expression.Primary.TheVariants as primary
-use Rattle.idl_tree.specs.declared.expression.Primary.TheOpen.{Primary-F}
-use Rattle.idl_tree.specs.declared.literal.Literal.{Literal}
-use Rattle.idl_tree.specs.declared.name.ScopedName.{ScopedName}
-use Rattle.idl_tree.specs.Name.{spell_name}
-use Rattle.idl_tree.specs.Expression.{spell_literal}
-use Rattle.idl_tree.specs.declared.expression.Primary.TheFolds.{fold-roll-Primary, fold-roll-And, fold-roll-ExclusiveOr, fold-roll-Expression, fold-roll-Product, fold-roll-Shift, fold-roll-Sum, fold-roll-Unary}
 use Rattle.idl_tree.specs.declared.expression.Product.{Product}
 use Rattle.idl_tree.specs.declared.expression.ProductOperator.{ProductOperator}
 use Rattle.idl_tree.specs.declared.expression.Shift.{Shift}
@@ -24,6 +21,8 @@ use Rattle.idl_tree.specs.declared.expression.Sum.{Sum}
 use Rattle.idl_tree.specs.declared.expression.SumOperator.{SumOperator}
 use Rattle.idl_tree.specs.declared.expression.Unary.{Unary}
 use Rattle.idl_tree.specs.declared.expression.UnaryOperator.{UnaryOperator}
+use Rattle.idl_tree.specs.declared.literal.Literal.{Literal}
+use Rattle.idl_tree.specs.declared.name.ScopedName.{ScopedName}
 use Rattle.idl_tree.proofs.Many.{many_spell}
 
 pub flat_map-map : {A B : Type 0} (f : B → Lexemes) (g : A → B) (xs : List A) → flat_map f (map g xs) ≡ many_spell (λ x. f (g x)) xs

@@ -1,10 +1,10 @@
 -- What holds of a reader that is chosen by the next token.
-use Rattle.std.proofs.Common.{◌≡◌, ℕ, suc, List, [], ◌∷◌, ◌++◌, length, Option, Result, Ok, Err, refl, sym, ap, ◌∙◌}
-use Rattle.idl_tree.specs.Lexeme.{Lexeme, Lexemes, Word}
-use Rattle.idl_tree.specs.Reading.{Reader, ◌>>=◌, first}
-use Rattle.idl_tree.specs.Tests.{is_word, by_word}
+use Rattle.std.proofs.Common.{◌≡◌, ℕ, suc, [], ◌∷◌, ◌++◌, length, Option, Result, Ok, Err, refl, sym, ap, ◌∙◌}
 use Rattle.idl_lex.specs.declared.keyword.Keyword.{Keyword}
-use Rattle.idl_tree.proofs.Laws.{ok_err, err_is, first-append, Read, Fault, Laws, same, mapped_at, behind_at, ends_at, last_laws, done_laws, skip_laws, shape}
+use Rattle.idl_tree.specs.Lexeme.{Lexeme, Lexemes, Word}
+use Rattle.idl_tree.specs.Reading.{Reader, first}
+use Rattle.idl_tree.specs.Tests.{is_word, by_word}
+use Rattle.idl_tree.proofs.Laws.{err_is, first-append, Laws, same, mapped_at, behind_at, ends_at, last_laws, done_laws, skip_laws, shape}
 use Rattle.idl_tree.proofs.TokenLaws.{only_word}
 
 -- the key of the next token says which reader reads, and what its trees are

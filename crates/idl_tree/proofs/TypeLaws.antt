@@ -1,9 +1,9 @@
 -- What holds of the readers of types.
 use Rattle.std.proofs.Common.{◌≡◌, ℕ, suc, Bool, true, false, cond, List, [], ◌∷◌, ◌++◌, Option, Some, None, refl, ap, arith, ◌⊎◌, inl, inr}
-use Rattle.idl_lex.specs.declared.keyword.Keyword.TheVariants as word
 use Rattle.idl_lex.specs.declared.keyword.Keyword.{Keyword}
+use Rattle.idl_lex.specs.declared.keyword.Keyword.TheVariants as word
 use Rattle.idl_lex.specs.declared.mark.Mark.TheVariants as mark
-use Rattle.idl_tree.specs.DataType.{spell_size, spell_discrete, spell_basic, spell_bound, spell_string_word, spell_string, spell_plain, spell_length, spell_declarator}
+use Rattle.idl_tree.specs.DataType.{spell_size, spell_discrete, spell_basic, spell_bound, spell_string, spell_plain, spell_length, spell_declarator}
 use Rattle.idl_tree.specs.Expression.{spell_expression}
 use Rattle.idl_tree.specs.Lexeme.{Lexeme, Lexemes, Word, Punctuation, Identifier}
 use Rattle.idl_tree.specs.Name.{spell_name}
@@ -13,17 +13,15 @@ use Rattle.idl_tree.specs.Reading.{Reader, first, many_of}
 use Rattle.idl_tree.specs.Tests.{is_mark, is_word, keyword_of, pick, identifier_at}
 use Rattle.idl_tree.specs.declared.data_type.BasicType.{BasicType}
 use Rattle.idl_tree.specs.declared.data_type.BasicType.TheVariants as basic
-use Rattle.idl_tree.specs.declared.data_type.DiscreteType.{DiscreteType}
 use Rattle.idl_tree.specs.declared.data_type.DiscreteType.TheVariants as discrete
 use Rattle.idl_tree.specs.declared.data_type.IntegerSize.{IntegerSize}
 use Rattle.idl_tree.specs.declared.data_type.IntegerSize.TheVariants.{Short, Long, LongLong}
-use Rattle.idl_tree.specs.declared.data_type.PlainType.{PlainType}
 use Rattle.idl_tree.specs.declared.data_type.PlainType.TheVariants as plain
 use Rattle.idl_tree.specs.declared.expression.Expression.{Expression}
-use Rattle.idl_tree.proofs.Laws.{Laws, same, either, next_at, mapped_at, behind_at, ends_at, then_laws, last_laws, done_laws, skip_laws, choice_laws, shape, deeper}
+use Rattle.idl_tree.proofs.Laws.{Laws, same, either, next_at, mapped_at, behind_at, ends_at, then_laws, last_laws, done_laws, skip_laws, choice_laws, shape}
 use Rattle.idl_tree.proofs.Many.{many_spell, many_laws}
 use Rattle.idl_tree.proofs.NameLaws.{flat_map-many, name_laws}
-use Rattle.idl_tree.proofs.Switch.{switch_at, switch_laws, by_laws, fails_laws, mapped_laws, word_at, word_laws, by_word_laws}
+use Rattle.idl_tree.proofs.Switch.{switch_laws, by_laws, fails_laws, mapped_laws, word_at, word_laws, by_word_laws}
 use Rattle.idl_tree.proofs.TokenLaws.{Picks, identifier_laws, only_mark, only_word, one_token, pick_laws, close_at, close_laws, some_is}
 
 -- ---- integer types

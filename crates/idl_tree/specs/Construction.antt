@@ -7,7 +7,10 @@ use Rattle.idl_tree.specs.Expression.{spell_expression}
 use Rattle.idl_tree.specs.Lexeme.{Lexemes, Word, Punctuation, Identifier}
 use Rattle.idl_tree.specs.Name.{spell_name}
 use Rattle.idl_tree.specs.Several.{spell_listed, spell_all}
+use Rattle.idl_tree.specs.declared.construction.Case.{Case}
 use Rattle.idl_tree.specs.declared.construction.Construction.{Construction}
+use Rattle.idl_tree.specs.declared.construction.Construction.TheFolds.{fold-Construction, fold-Member, fold-MemberType, fold-Case, fold-Structure, fold-Union}
+use Rattle.idl_tree.specs.declared.construction.Construction.TheOpen.{MemberType-F, Construction-F, Structure-F, Member-F, Union-F, Case-F}
 use Rattle.idl_tree.specs.declared.construction.Discriminator.{Discriminator}
 use Rattle.idl_tree.specs.declared.construction.Discriminator.TheVariants as discriminator
 use Rattle.idl_tree.specs.declared.construction.Enumeration.{Enumeration}
@@ -15,11 +18,8 @@ use Rattle.idl_tree.specs.declared.construction.Label.{Label}
 use Rattle.idl_tree.specs.declared.construction.Label.TheVariants as label
 use Rattle.idl_tree.specs.declared.construction.Member.{Member}
 use Rattle.idl_tree.specs.declared.construction.MemberType.{MemberType}
-use Rattle.idl_tree.specs.declared.construction.Case.{Case}
 use Rattle.idl_tree.specs.declared.construction.Structure.{Structure}
 use Rattle.idl_tree.specs.declared.construction.Union.{Union}
-use Rattle.idl_tree.specs.declared.construction.Construction.TheFolds.{fold-Construction, fold-Member, fold-MemberType, fold-Case, fold-Structure, fold-Union}
-use Rattle.idl_tree.specs.declared.construction.Construction.TheOpen.{MemberType-F, Construction-F, Structure-F, Member-F, Union-F, Case-F}
 
 -- "enum" ID "{" ID/"," "}"
 abbrev pub spell_enumeration : Enumeration → Lexemes

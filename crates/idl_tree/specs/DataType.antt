@@ -8,9 +8,9 @@ use Rattle.idl_tree.specs.Name.{spell_name}
 use Rattle.idl_tree.specs.declared.data_type.BasicType.{BasicType}
 use Rattle.idl_tree.specs.declared.data_type.BasicType.TheVariants as basic
 use Rattle.idl_tree.specs.declared.data_type.DataType.{DataType, fold-DataType}
+use Rattle.idl_tree.specs.declared.data_type.DataType.TheOpen.{DataType-F, Sequence-F}
 use Rattle.idl_tree.specs.declared.data_type.DiscreteType.{DiscreteType}
 use Rattle.idl_tree.specs.declared.data_type.DiscreteType.TheVariants as discrete
-use Rattle.idl_tree.specs.declared.data_type.DataType.TheOpen.{DataType-F, Sequence-F}
 use Rattle.idl_tree.specs.declared.data_type.IntegerSize.{IntegerSize}
 use Rattle.idl_tree.specs.declared.data_type.IntegerSize.TheVariants.{Short, Long, LongLong}
 use Rattle.idl_tree.specs.declared.data_type.PlainType.{PlainType}

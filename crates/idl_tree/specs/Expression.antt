@@ -11,17 +11,17 @@ use Rattle.idl_tree.specs.declared.expression.ExclusiveOr.{ExclusiveOr}
 use Rattle.idl_tree.specs.declared.expression.Expression.{Expression}
 use Rattle.idl_tree.specs.declared.expression.Primary.{Primary, fold-Primary}
 use Rattle.idl_tree.specs.declared.expression.Primary.TheFolds.{fold-And, fold-ExclusiveOr, fold-Expression, fold-Product, fold-Shift, fold-Sum, fold-Unary}
-use Rattle.idl_tree.specs.declared.expression.Product.{Product}
-use Rattle.idl_tree.specs.declared.expression.Shift.{Shift}
-use Rattle.idl_tree.specs.declared.expression.Sum.{Sum}
-use Rattle.idl_tree.specs.declared.expression.Unary.{Unary}
 use Rattle.idl_tree.specs.declared.expression.Primary.TheOpen.{Expression-F, ExclusiveOr-F, And-F, Shift-F, Sum-F, Product-F, Unary-F, Primary-F}
+use Rattle.idl_tree.specs.declared.expression.Product.{Product}
 use Rattle.idl_tree.specs.declared.expression.ProductOperator.{ProductOperator}
 use Rattle.idl_tree.specs.declared.expression.ProductOperator.TheVariants.{Times, Divided, Remainder}
+use Rattle.idl_tree.specs.declared.expression.Shift.{Shift}
 use Rattle.idl_tree.specs.declared.expression.ShiftOperator.{ShiftOperator}
 use Rattle.idl_tree.specs.declared.expression.ShiftOperator.TheVariants.{Left, Right}
+use Rattle.idl_tree.specs.declared.expression.Sum.{Sum}
 use Rattle.idl_tree.specs.declared.expression.SumOperator.{SumOperator}
 use Rattle.idl_tree.specs.declared.expression.SumOperator.TheVariants as sum
+use Rattle.idl_tree.specs.declared.expression.Unary.{Unary}
 use Rattle.idl_tree.specs.declared.expression.UnaryOperator.{UnaryOperator}
 use Rattle.idl_tree.specs.declared.expression.UnaryOperator.TheVariants as unary
 use Rattle.idl_tree.specs.declared.literal.Literal.{Literal}

@@ -1,5 +1,5 @@
 -- Reading of units.
-use Rattle.std.specs.Prelude.{ℕ, zero, suc, List, length, drop, Option, Some, None, Ok, Err, Bool, true, false, if◌then◌else◌}
+use Rattle.std.specs.Prelude.{ℕ, List, drop, Option, Some, None, Ok, Bool, if◌then◌else◌}
 use Rattle.idl_lex.specs.declared.keyword.Keyword.{Keyword}
 use Rattle.idl_lex.specs.declared.keyword.Keyword.TheVariants as word
 use Rattle.idl_lex.specs.declared.mark.Mark.TheVariants as mark
