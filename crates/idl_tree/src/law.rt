@@ -17,8 +17,7 @@ pub fn one_spelling()
 /// Reading, allowed more levels than there are tokens, gives a tree exactly where the tokens are spelled so. Else it
 /// fails, or leaves tokens, at the first one through which they are no beginning of a tree.
 pub fn reading()
-    ensures again
-        { (tree : Tree) (n : ℕ) → length (spell tree) < n → unit_at n (spell tree) ≡ Ok (tree, []) }
+    ensures again { (tree : Tree) (n : ℕ) → length (spell tree) < n → unit_at n (spell tree) ≡ Ok (tree, []) }
     ensures found { (n : ℕ) (tokens : Lexemes) (tree : Tree) → length tokens < n
         → unit_at n tokens ≡ Ok (tree, []) → tokens ≡ spell tree }
     ensures fault { (n : ℕ) (tokens : Lexemes) (left : ℕ) → length tokens < n

@@ -33,7 +33,7 @@ fields =
     via (pair (const (Ptr × Global)) this) Inside
     (λ X a. ((a.inner.ptr, a.inner.alloc), a.inner.value))
     (λ X v. record { inner = record { ptr = v.0.0; alloc = v.0.1; value = v.1 } }) (λ X a. refl)
-        (λ X v. refl)
+    (λ X v. refl)
 
 abbrev with_value : {X Y : Type 0} → Box X Global → Y → Box Y Global
 with_value b y = record { ptr = b.ptr; alloc = b.alloc; value = y }
@@ -62,10 +62,10 @@ module _ (R S : RattleType) (h : R.Denot → S.Denot) where
       view_places fields this view (λ X Y k u. refl) (λ X u. refl) R.Denot S.Denot h
       (C.the_row R).coded (C.the_row S).coded
       (invariant R.Denot) (invariant S.Denot) (λ u p q. refl) (λ u p q. refl) (λ u e. tt)
-          (λ u e. tt)
+      (λ u e. tt)
       (over (I.the_row R)) (over (I.the_row S))
       (struct_places (I.the_type R) (I.the_type S) ((λ b. with_value b (h b.value)), tt) _
-          (λ d. refl) refl (laid _ _ _ (box_places a), tt))
+      (λ d. refl) refl (laid _ _ _ (box_places a), tt))
 
   pub the_codes_placed : Recodes R S h
       → Recodes (C.the_row R) (C.the_row S) ((the_former this).map R.Denot S.Denot h)

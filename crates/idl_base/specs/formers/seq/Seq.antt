@@ -47,10 +47,10 @@ module _ (R S : RattleType) (h : R.Denot → S.Denot) where
       view_places fields (list this) view (λ X Y k u. refl) (λ X u. refl) R.Denot S.Denot h
       (C.the_row R).coded (C.the_row S).coded
       (invariant R.Denot) (invariant S.Denot) (λ u p q. refl) (λ u p q. refl) (λ u e. tt)
-          (λ u e. tt)
+      (λ u e. tt)
       (over (I.the_row R)) (over (I.the_row S))
       (struct_places (I.the_type R) (I.the_type S) (vec.mapped h, tt) _ (λ d. refl) refl
-          (laid _ _ _ (vec.the_places heap.the_row ghosts R S h a), tt))
+      (laid _ _ _ (vec.the_places heap.the_row ghosts R S h a), tt))
 
   pub the_codes_placed : Recodes R S h
       → Recodes (C.the_row R) (C.the_row S) ((the_former this).map R.Denot S.Denot h)
