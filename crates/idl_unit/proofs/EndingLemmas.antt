@@ -81,12 +81,14 @@ pub closing-two : (tokens : List Token) → rule_of tokens ≡ Closing → begin
 closing-two [] is semicolon = cc
 closing-two (t ∷ []) is semicolon = cc
 closing-two (t ∷ u ∷ rest) is semicolon =
-    let close : closes (role t) ≡ true = rule_by-Closing (role t) (u ∷ rest) is in
-    (pending-first ends t (u ∷ rest)
-    ∙ pending-step ends (t ∷ []) u rest
-    (ends-rule Closing (t ∷ []) (u ∷ rest) is ∙ ap (λ b. b || not (is_semicolon (role u))) (closes-semicolon (role t) close) ∙ ap not semicolon)
-    ∙ pending-end ends (t ∷ u ∷ []) rest (λ e. cc)
-    (ends-rule Closing (t ∷ u ∷ []) rest is ∙ ap (λ b. b || not (begins is_semicolon rest)) semicolon), omega arith)
+    let close : closes (role t) ≡ true = rule_by-Closing (role t) (u ∷ rest) is in (
+      pending-first ends t (u ∷ rest)
+          ∙ pending-step ends (t ∷ []) u rest
+          (ends-rule Closing (t ∷ []) (u ∷ rest) is ∙ ap (λ b. b || not (is_semicolon (role u))) (closes-semicolon (role t) close) ∙ ap not semicolon)
+          ∙ pending-end ends (t ∷ u ∷ []) rest (λ e. cc)
+          (ends-rule Closing (t ∷ u ∷ []) rest is ∙ ap (λ b. b || not (begins is_semicolon rest)) semicolon),
+      omega arith,
+    )
 
 -- ---- a token of a longer unit
 pub record IsAt (tokens : List Token) (i : ℕ) (t : Token) : Type 0 where
@@ -198,10 +200,12 @@ heading-through tokens i t is at h none end =
 pub heading-before : (tokens : List Token) (i : ℕ) (t : Token) → rule_of tokens ≡ Heading → IsAt tokens i t → IsHeadingTo tokens i → closes (role t) ≡ true
     → (token_units tokens ≡ take i tokens ∷ token_units (drop i tokens)) × (0 < i)
 heading-before tokens i t is at h close =
-    let l = later tokens i t Heading is (λ e. cc) at close in
-    (before tokens i t at h.cut l.1
-    (ends-rule Heading (take i tokens) (t ∷ drop (i + 1) tokens) (whole-rule tokens i t Heading is at)
-    ∙ ap (λ b. b || ends_in opens (take i tokens) || ends_in is_semicolon (take i tokens)) close), l.0)
+    let l = later tokens i t Heading is (λ e. cc) at close in (
+      before tokens i t at h.cut l.1
+          (ends-rule Heading (take i tokens) (t ∷ drop (i + 1) tokens) (whole-rule tokens i t Heading is at)
+          ∙ ap (λ b. b || ends_in opens (take i tokens) || ends_in is_semicolon (take i tokens)) close),
+      l.0,
+    )
 
 -- another token
 pub heading-step : (tokens : List Token) (i : ℕ) (t : Token) → rule_of tokens ≡ Heading → IsAt tokens i t → IsHeadingTo tokens i → closes (role t) ≡ false
@@ -275,11 +279,13 @@ declaration-through tokens i t depth is at d none other opening semicolon =
 pub declaration-before : (tokens : List Token) (i : ℕ) (t : Token) (depth : ℕ) → rule_of tokens ≡ Declaration → IsAt tokens i t → IsDeclarationTo tokens i depth → depth ≡ 0
     → closes (role t) ≡ true → (token_units tokens ≡ take i tokens ∷ token_units (drop i tokens)) × (0 < i)
 declaration-before tokens i t depth is at d none close =
-    let l = later tokens i t Declaration is (λ e. cc) at close in
-    (before tokens i t at d.cut l.1
-    (ends-rule Declaration (take i tokens) (t ∷ drop (i + 1) tokens) (whole-rule tokens i t Declaration is at)
-    ∙ ap (λ b. b && (closes (role t) || ends_in is_semicolon (take i tokens))) (balanced tokens i depth d none)
-    ∙ ap (λ b. b || ends_in is_semicolon (take i tokens)) close), l.0)
+    let l = later tokens i t Declaration is (λ e. cc) at close in (
+      before tokens i t at d.cut l.1
+          (ends-rule Declaration (take i tokens) (t ∷ drop (i + 1) tokens) (whole-rule tokens i t Declaration is at)
+          ∙ ap (λ b. b && (closes (role t) || ends_in is_semicolon (take i tokens))) (balanced tokens i depth d none)
+          ∙ ap (λ b. b || ends_in is_semicolon (take i tokens)) close),
+      l.0,
+    )
 
 -- with one token more
 declaration-more : (tokens : List Token) (i : ℕ) (t : Token) (depth next : ℕ) → IsAt tokens i t → IsDeclarationTo tokens i depth → ends (take i tokens) (t ∷ drop (i + 1) tokens) ≡ false
@@ -287,8 +293,8 @@ declaration-more : (tokens : List Token) (i : ℕ) (t : Token) (depth next : ℕ
 declaration-more tokens i t depth next at d none count semicolon within = record {
   cut = step tokens i t at d.cut none;
   count =
-    ap opened at.more ∙ omega (arith, count_by-more (λ t. opens (role t)) (take i tokens) t, count_by-more (λ t. closes (role t)) (take i tokens) t, d.count, count)
-    ∙ ap (λ n. next + n) (sym (ap closed at.more));
+      ap opened at.more ∙ omega (arith, count_by-more (λ t. opens (role t)) (take i tokens) t, count_by-more (λ t. closes (role t)) (take i tokens) t, d.count, count)
+      ∙ ap (λ n. next + n) (sym (ap closed at.more));
   semicolon = λ e. ap (ends_in is_semicolon) at.more ∙ ends_in-more is_semicolon (take i tokens) t ∙ semicolon e;
   within = within;
 }

@@ -85,9 +85,10 @@ cut-here ends front x rest none end h =
     let part = front ++ x ∷ [] in
     let is : part ∷ parts ends rest ≡ parts_after ends front (x ∷ rest) =
     sym (parts_after-more ends front x rest ∙ pending-end ends part rest (push-some front x) end) in
-    subst (IsCutInto ends (front ++ x ∷ rest)) is
-    (ap (λ r. part ++ r) h.0 ∙ append_assoc front (x ∷ []) rest,
-    (part-here ends front x rest none end (joined (parts ends rest)) h.0, h.1))
+    subst (IsCutInto ends (front ++ x ∷ rest)) is (
+      ap (λ r. part ++ r) h.0 ∙ append_assoc front (x ∷ []) rest,
+      (part-here ends front x rest none end (joined (parts ends rest)) h.0, h.1),
+    )
 
 cut-later : {X : Type 0} (ends : List X → List X → Bool) (front : List X) (x : X) (rest : List X) → ends (front ++ x ∷ []) rest ≡ false
     → IsCutInto ends ((front ++ x ∷ []) ++ rest) (parts_after ends (front ++ x ∷ []) rest) → IsCutInto ends (front ++ x ∷ rest) (parts_after ends front (x ∷ rest))

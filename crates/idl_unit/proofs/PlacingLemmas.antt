@@ -109,21 +109,21 @@ going-last front n place t events end rest =
     let dropped : sites_in events ≡ drop (length unit) (sites_in front ++ site_at n place ∷ sites_in events) =
     sym (ap (drop (length unit)) same ∙ drop_at sites (sites_in events) (length unit) long) in
     record {
-  unit = unit;
-  units = token_units (tokens_in events);
-  cut = parts_after-more ends (tokens_in front) t (tokens_in events) ∙ pending-end ends unit (tokens_in events) (some-more (tokens_in front) t) end;
-  more = omega (arith, length_push (tokens_in front) t);
-  is =
-    ap (flat_map stretch_units) (parts_after-more stretch_ends front x events ∙ pending-end stretch_ends all events (push-some front x) stretch)
-    ∙ ap (λ l. l ++ units_in events) (stretch-push front n place t)
-    ∙ append_assoc (spelled unit sites) (inner front) (units_in events)
-    ∙ ap (λ ss. spelled unit ss ++ (inner front ++ units_in events)) taken
-    ∙ ap (λ l. spelled unit (take (length unit) (sites_in front ++ site_at n place ∷ sites_in events)) ++ (inner front ++ l))
-    (sym rest
-    ∙ ap (λ ss. placed (ahead_of (token_units (tokens_in events)) ss 0) events) dropped
-    ∙ sym (placed-inside (token_units (tokens_in events)) (drop (length unit) (sites_in front ++ site_at n place ∷ sites_in events)) 1 n place t events (omega arith))
-    ∙ ap (λ m. placed (ahead_of (token_units (tokens_in events)) (drop (length unit) (sites_in front ++ site_at n place ∷ sites_in events)) m) (x ∷ events)) one);
-}
+      unit = unit;
+      units = token_units (tokens_in events);
+      cut = parts_after-more ends (tokens_in front) t (tokens_in events) ∙ pending-end ends unit (tokens_in events) (some-more (tokens_in front) t) end;
+      more = omega (arith, length_push (tokens_in front) t);
+      is =
+          ap (flat_map stretch_units) (parts_after-more stretch_ends front x events ∙ pending-end stretch_ends all events (push-some front x) stretch)
+          ∙ ap (λ l. l ++ units_in events) (stretch-push front n place t)
+          ∙ append_assoc (spelled unit sites) (inner front) (units_in events)
+          ∙ ap (λ ss. spelled unit ss ++ (inner front ++ units_in events)) taken
+          ∙ ap (λ l. spelled unit (take (length unit) (sites_in front ++ site_at n place ∷ sites_in events)) ++ (inner front ++ l))
+          (sym rest
+          ∙ ap (λ ss. placed (ahead_of (token_units (tokens_in events)) ss 0) events) dropped
+          ∙ sym (placed-inside (token_units (tokens_in events)) (drop (length unit) (sites_in front ++ site_at n place ∷ sites_in events)) 1 n place t events (omega arith))
+          ∙ ap (λ m. placed (ahead_of (token_units (tokens_in events)) (drop (length unit) (sites_in front ++ site_at n place ∷ sites_in events)) m) (x ∷ events)) one);
+    }
   where
     push-some : (front : List Numbered) (x : Numbered) → front ++ x ∷ [] ≢ []
     push-some [] x e = cc
@@ -144,23 +144,23 @@ going-token front n place t events goes g =
     let inside : 0 < length g.unit - length (tokens_in front) = omega (arith, g.more, known) in
     let fewer : length g.unit - length (tokens_in all) ≡ length g.unit - length (tokens_in front) - 1 = omega (arith, known) in
     record {
-  unit = g.unit;
-  units = g.units;
-  cut =
-    parts_after-more ends (tokens_in front) t (tokens_in events)
-    ∙ pending-open ends (tokens_in front ++ t ∷ []) (tokens_in events) goes
-    ∙ ap (λ f. parts_after ends f (tokens_in events)) (sym (tokens-push front n place t))
-    ∙ g.cut;
-  more = omega (arith, g.more, known);
-  is =
-    ap (flat_map stretch_units) (parts_after-more stretch_ends front x events ∙ pending-open stretch_ends all events stretch)
-    ∙ g.is
-    ∙ ap (λ ss. rest_of g.unit g.units ss (length (tokens_in all)) (inner all) events) same
-    ∙ ap (λ i. rest_of g.unit g.units sites (length (tokens_in all)) i events) (inner-token front n place t)
-    ∙ ap (λ l. spelled g.unit (take (length g.unit) sites) ++ (inner front ++ l))
-    (ap (λ m. placed (ahead_of g.units (drop (length g.unit) sites) m) events) fewer
-    ∙ sym (placed-inside g.units (drop (length g.unit) sites) (length g.unit - length (tokens_in front)) n place t events inside));
-}
+      unit = g.unit;
+      units = g.units;
+      cut =
+          parts_after-more ends (tokens_in front) t (tokens_in events)
+          ∙ pending-open ends (tokens_in front ++ t ∷ []) (tokens_in events) goes
+          ∙ ap (λ f. parts_after ends f (tokens_in events)) (sym (tokens-push front n place t))
+          ∙ g.cut;
+      more = omega (arith, g.more, known);
+      is =
+          ap (flat_map stretch_units) (parts_after-more stretch_ends front x events ∙ pending-open stretch_ends all events stretch)
+          ∙ g.is
+          ∙ ap (λ ss. rest_of g.unit g.units ss (length (tokens_in all)) (inner all) events) same
+          ∙ ap (λ i. rest_of g.unit g.units sites (length (tokens_in all)) i events) (inner-token front n place t)
+          ∙ ap (λ l. spelled g.unit (take (length g.unit) sites) ++ (inner front ++ l))
+          (ap (λ m. placed (ahead_of g.units (drop (length g.unit) sites) m) events) fewer
+          ∙ sym (placed-inside g.units (drop (length g.unit) sites) (length g.unit - length (tokens_in front)) n place t events inside));
+    }
 
 -- what is no token, inside a unit
 going-other : (front : List Numbered) (x : Numbered) (events : List Numbered) → token_in x ≡ [] → site_in x ≡ []
@@ -180,21 +180,21 @@ going-other front x events no_token no_site step some goes g =
     let a : Ahead = ahead_of g.units (drop (length g.unit) sites) (length g.unit - length (tokens_in front)) in
     let inside : nat_lt 0 a.inside ≡ true = lt-ltb 0 a.inside (omega (arith, g.more, known)) in
     record {
-  unit = g.unit;
-  units = g.units;
-  cut = ap (parts_after ends (tokens_in front)) tokens_rest ∙ ap (λ f. parts_after ends f (tokens_in events)) (sym tokens) ∙ g.cut;
-  more = omega (arith, g.more, known);
-  is =
-    ap (flat_map stretch_units) (parts_after-more stretch_ends front x events ∙ pending-open stretch_ends all events stretch)
-    ∙ g.is
-    ∙ ap (λ ss. rest_of g.unit g.units ss (length (tokens_in all)) (inner all) events) same
-    ∙ ap (λ k. rest_of g.unit g.units sites k (inner all) events) known
-    ∙ ap (λ i. rest_of g.unit g.units sites (length (tokens_in front)) i events) (flat_map-push (unit_in true) front x)
-    ∙ ap (λ l. spelled g.unit (take (length g.unit) sites) ++ l)
-    (append_assoc (inner front) (unit_in true x) (placed a events)
-    ∙ ap (λ b. inner front ++ (unit_in b x ++ placed a events)) (sym inside)
-    ∙ ap (λ l. inner front ++ l) (sym (step a)));
-}
+      unit = g.unit;
+      units = g.units;
+      cut = ap (parts_after ends (tokens_in front)) tokens_rest ∙ ap (λ f. parts_after ends f (tokens_in events)) (sym tokens) ∙ g.cut;
+      more = omega (arith, g.more, known);
+      is =
+          ap (flat_map stretch_units) (parts_after-more stretch_ends front x events ∙ pending-open stretch_ends all events stretch)
+          ∙ g.is
+          ∙ ap (λ ss. rest_of g.unit g.units ss (length (tokens_in all)) (inner all) events) same
+          ∙ ap (λ k. rest_of g.unit g.units sites k (inner all) events) known
+          ∙ ap (λ i. rest_of g.unit g.units sites (length (tokens_in front)) i events) (flat_map-push (unit_in true) front x)
+          ∙ ap (λ l. spelled g.unit (take (length g.unit) sites) ++ l)
+          (append_assoc (inner front) (unit_in true x) (placed a events)
+          ∙ ap (λ b. inner front ++ (unit_in b x ++ placed a events)) (sym inside)
+          ∙ ap (λ l. inner front ++ l) (sym (step a)));
+    }
 
 -- the first token of a unit that is its last
 alone : (n : ℕ) (place : Place) (t : Token) (events : List Numbered) → ends (t ∷ []) (tokens_in events) ≡ true
@@ -272,11 +272,11 @@ placed-other : (x : Numbered) (events : List Numbered) → token_in x ≡ [] →
 placed-other x events no_token no_site step p = record {
   is = outside x events no_token no_site step p.is;
   going = λ front some goes.
-    let rest : tokens_in (x ∷ events) ≡ tokens_in events = ap (λ l. l ++ tokens_in events) no_token in
-    let on : ends (tokens_in front) (tokens_in events) ≡ false = ap (ends (tokens_in front)) (sym rest) ∙ goes in
-    let tokens : tokens_in (front ++ x ∷ []) ≡ tokens_in front = flat_map-push token_in front x ∙ ap (λ l. tokens_in front ++ l) no_token ∙ append-nil (tokens_in front) in
-    going-other front x events no_token no_site step some on
-    (p.going (front ++ x ∷ []) (ap is_empty tokens ∙ some) (ap (λ ts. ends ts (tokens_in events)) tokens ∙ on));
+      let rest : tokens_in (x ∷ events) ≡ tokens_in events = ap (λ l. l ++ tokens_in events) no_token in
+      let on : ends (tokens_in front) (tokens_in events) ≡ false = ap (ends (tokens_in front)) (sym rest) ∙ goes in
+      let tokens : tokens_in (front ++ x ∷ []) ≡ tokens_in front = flat_map-push token_in front x ∙ ap (λ l. tokens_in front ++ l) no_token ∙ append-nil (tokens_in front) in
+      going-other front x events no_token no_site step some on
+      (p.going (front ++ x ∷ []) (ap is_empty tokens ∙ some) (ap (λ ts. ends ts (tokens_in events)) tokens ∙ on));
 }
 
 all-placed : (events : List Numbered) → IsPlaced events
@@ -299,14 +299,15 @@ pub begin-some : (text : List Token) (sites : List Site) (from len inside : ℕ)
 begin-some text sites from len inside outside le cut =
     let unit = take len (drop from text) in
     let long : length unit ≡ len = length-take-le len (drop from text) le in
-    let units = token_units (drop from text) in
-    (ap (λ n. begun (ahead_of units (drop from sites) n)) outside
-    ∙ ap (λ us. begun_of us (drop from sites)) cut ∙ ap (λ n. Spelled (Tokens unit) (take n (drop from sites)) ∷ []) long,
-    sym (ap (λ n. after_token (ahead_of units (drop from sites) n)) outside
-    ∙ ap (λ us. after_begun us (drop from sites)) cut
-    ∙ ap (λ n. ahead_of (token_units (drop len (drop from text))) (drop n (drop from sites)) (n - 1)) long
-    ∙ ap (λ l. ahead_of (token_units l) (drop len (drop from sites)) (len - 1)) (drop-drop len from text)
-    ∙ ap (λ l. ahead_of (token_units (drop (from + len) text)) l (len - 1)) (drop-drop len from sites)))
+    let units = token_units (drop from text) in (
+      ap (λ n. begun (ahead_of units (drop from sites) n)) outside
+          ∙ ap (λ us. begun_of us (drop from sites)) cut ∙ ap (λ n. Spelled (Tokens unit) (take n (drop from sites)) ∷ []) long,
+      sym (ap (λ n. after_token (ahead_of units (drop from sites) n)) outside
+          ∙ ap (λ us. after_begun us (drop from sites)) cut
+          ∙ ap (λ n. ahead_of (token_units (drop len (drop from text))) (drop n (drop from sites)) (n - 1)) long
+          ∙ ap (λ l. ahead_of (token_units l) (drop len (drop from sites)) (len - 1)) (drop-drop len from text)
+          ∙ ap (λ l. ahead_of (token_units (drop (from + len) text)) l (len - 1)) (drop-drop len from sites)),
+    )
 
 none-begins : (sites : List Site) → (begun (ahead_of (token_units []) sites 0) ≡ []) × (ahead_of (token_units []) sites 0 ≡ after_token (ahead_of (token_units []) sites 0))
 unfolding parts_after
@@ -318,14 +319,15 @@ pub begin-none : (text : List Token) (sites : List Site) (from inside : ℕ) →
     × (ahead_of (token_units (drop from text)) (drop from sites) inside ≡ after_token (ahead_of (token_units (drop from text)) (drop from sites) inside))
 begin-none text sites from inside outside le =
     let nil : drop from text ≡ [] = drop_all from text le in
-    let none = none-begins (drop from sites) in
-    (ap (λ n. begun (ahead_of (token_units (drop from text)) (drop from sites) n)) outside
-    ∙ ap (λ l. begun (ahead_of (token_units l) (drop from sites) 0)) nil ∙ none.0,
-    ap (λ n. ahead_of (token_units (drop from text)) (drop from sites) n) outside
-    ∙ ap (λ l. ahead_of (token_units l) (drop from sites) 0) nil
-    ∙ none.1
-    ∙ ap (λ l. after_token (ahead_of (token_units l) (drop from sites) 0)) (sym nil)
-    ∙ ap (λ n. after_token (ahead_of (token_units (drop from text)) (drop from sites) n)) (sym outside))
+    let none = none-begins (drop from sites) in (
+      ap (λ n. begun (ahead_of (token_units (drop from text)) (drop from sites) n)) outside
+          ∙ ap (λ l. begun (ahead_of (token_units l) (drop from sites) 0)) nil ∙ none.0,
+      ap (λ n. ahead_of (token_units (drop from text)) (drop from sites) n) outside
+          ∙ ap (λ l. ahead_of (token_units l) (drop from sites) 0) nil
+          ∙ none.1
+          ∙ ap (λ l. after_token (ahead_of (token_units l) (drop from sites) 0)) (sym nil)
+          ∙ ap (λ n. after_token (ahead_of (token_units (drop from text)) (drop from sites) n)) (sym outside),
+    )
 
 -- where the cut begins, it is within the text
 pub start-within : (cut : Cut) (events : List Numbered) → cut.gathered.now.text.value.items ≡ tokens_in events → cut.gathered.now.sites.value.items ≡ sites_in events

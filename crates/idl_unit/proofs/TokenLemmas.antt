@@ -181,8 +181,8 @@ pub walked-on : (unit : List Token) (index : ℕ) (state : Before) (w : IsWalked
 walked-on unit index state w t kind through next is last second opened closed e = record {
   before = kind ∷ w.before;
   faults =
-    rest-is unit index state w t kind next is
-    ∙ none-codes w.before kind (map kind_of (drop (index + 1) unit)) (token_codes w.before kind) (e ∙ ap first (sym (codes-are unit index state w kind through opened closed)));
+      rest-is unit index state w t kind next is
+      ∙ none-codes w.before kind (map kind_of (drop (index + 1) unit)) (token_codes w.before kind) (e ∙ ap first (sym (codes-are unit index state w kind through opened closed)));
   count = omega (arith, w.count);
   last = sym last;
   second = w.last ∙ sym second;

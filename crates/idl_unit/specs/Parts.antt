@@ -6,7 +6,7 @@ pub record IsPart {X : Type 0} (ends : List X → List X → Bool) (part rest : 
   pub some : part ≢ []
   pub end : ends part rest ≡ true
   pub first : (front back : List X) → part ≡ front ++ back → front ≢ [] → back ≢ []
-    → ends front (back ++ rest) ≡ false
+      → ends front (back ++ rest) ≡ false
 
 -- the parts, end to end
 abbrev pub joined : {X : Type 0} → List (List X) → List X

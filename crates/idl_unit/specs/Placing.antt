@@ -59,5 +59,5 @@ to_come cut events = cut.units.items ++ placed (ahead cut) events
 -- a token has one site, and the cut is within the text
 pub record IsWithin (cut : Cut) : Type 0 where
   pub length_same : length cut.gathered.now.sites.value.items
-    ≡ length cut.gathered.now.text.value.items
+      ≡ length cut.gathered.now.text.value.items
   pub taken_at_most : cut.taken ≤ length cut.gathered.now.text.value.items

@@ -67,7 +67,8 @@ impl<'a> Cut<'a> {
             Event::Left(file) => self.units.push(Unit::Left(file.clone()?))?,
             Event::Pragma(place, tokens) => {
                 let text = UnitText::Pragma(tokens.clone()?, self.inside > 0);
-                self.units.push(Unit::Spelled(text, one_site(alloc, number, place)?))?;
+                self.units
+                    .push(Unit::Spelled(text, one_site(alloc, number, place)?))?;
             }
             Event::Fault(_place, _code, _text) => {}
         }
@@ -92,7 +93,8 @@ impl<'a> Cut<'a> {
         let to = from + len;
         let text = Run::new(self.gathered.text.clone()?, from, to);
         let sites = Run::new(self.gathered.sites.clone()?, from, to);
-        self.units.push(Unit::Spelled(UnitText::Tokens(text), sites))?;
+        self.units
+            .push(Unit::Spelled(UnitText::Tokens(text), sites))?;
         self.taken = to;
         self.inside = len - 1;
         Ok(())

@@ -13,17 +13,16 @@ mod laws;
 mod pragma;
 mod role;
 mod run;
-
 mod token_rules;
 mod unit;
 mod version;
 
+pub use cut::split;
 pub use ending::first_unit;
 pub use fault::{Fault, first_fault};
 pub use laws::{nothing_lost, one_cut};
 pub use pragma::pragma_fault;
 pub use role::{Role, Rule, rule_of};
 pub use run::Run;
-pub use cut::split;
 pub use token_rules::token_fault;
 pub use unit::{Site, Unit, UnitText, Units};

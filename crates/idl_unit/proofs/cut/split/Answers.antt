@@ -16,9 +16,9 @@ loop-number-init c =
     let sites = ap (λ (g : Gathered). g.sites.value.items) c.new-cut.ensures.gathered ∙ c.in_ok-gathered.ensures.sites in
     let walk : c.into_iter-number-iterator.result ≡ events = search rules in
     record {
-  within = start-within cut events text sites c.new-cut.ensures.taken;
-  units = ap (to_come cut) walk ∙ start-to_come cut events text sites c.new-cut.ensures.units c.new-cut.ensures.taken c.new-cut.ensures.inside;
-}
+      within = start-within cut events text sites c.new-cut.ensures.taken;
+      units = ap (to_come cut) walk ∙ start-to_come cut events text sites c.new-cut.ensures.units c.new-cut.ensures.taken c.new-cut.ensures.inside;
+    }
 
 pub returns : goal.returns
 unfolding units_of

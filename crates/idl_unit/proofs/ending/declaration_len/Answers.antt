@@ -39,15 +39,15 @@ loop-index-preserved c =
     elim c.match-role_of.branch [
       | in-OpenBrace w ↦ subst (IsDeclarationTo tokens (i + 1)) (sym w.depth-is) (declaration-open tokens i t c.loop-index.depth c.requires.rule at d (r ∙ w.in-OpenBrace.is))
       | in-CloseBrace+else-depth-eq0 w ↦
-        let deep : 0 < c.loop-index.depth = omega arith in
-        subst (IsDeclarationTo tokens (i + 1)) (sym w.depth-is) (declaration-close tokens i t c.loop-index.depth c.requires.rule at d deep (r ∙ w.in-CloseBrace.is))
+          let deep : 0 < c.loop-index.depth = omega arith in
+          subst (IsDeclarationTo tokens (i + 1)) (sym w.depth-is) (declaration-close tokens i t c.loop-index.depth c.requires.rule at d deep (r ∙ w.in-CloseBrace.is))
       | in-Semicolon+else-depth-eq0-2 w ↦
-        let is = r ∙ w.in-Semicolon.is in
-        subst (IsDeclarationTo tokens (i + 1)) (sym w.depth-is)
-        (declaration-step tokens i t c.loop-index.depth c.requires.rule at d (ap closes is) (ap opens is) (λ e. absurd (w.if-depth-eq0-2.false e)))
+          let is = r ∙ w.in-Semicolon.is in
+          subst (IsDeclarationTo tokens (i + 1)) (sym w.depth-is)
+          (declaration-step tokens i t c.loop-index.depth c.requires.rule at d (ap closes is) (ap opens is) (λ e. absurd (w.if-depth-eq0-2.false e)))
       | in_default w ↦
-        subst (IsDeclarationTo tokens (i + 1)) (sym w.depth-is)
-        (declaration-step tokens i t c.loop-index.depth c.requires.rule at d
-        (not_closes _ (λ e. w.in_default.not-CloseBrace (c.role_of.ensures ∙ e))) (not_opens _ (λ e. w.in_default.not-OpenBrace (c.role_of.ensures ∙ e)))
-        (λ z. not_semicolon _ (λ e. w.in_default.not-Semicolon (c.role_of.ensures ∙ e))))
+          subst (IsDeclarationTo tokens (i + 1)) (sym w.depth-is)
+          (declaration-step tokens i t c.loop-index.depth c.requires.rule at d
+          (not_closes _ (λ e. w.in_default.not-CloseBrace (c.role_of.ensures ∙ e))) (not_opens _ (λ e. w.in_default.not-OpenBrace (c.role_of.ensures ∙ e)))
+          (λ z. not_semicolon _ (λ e. w.in_default.not-Semicolon (c.role_of.ensures ∙ e))))
     ]
