@@ -67,8 +67,8 @@ impl<'a> Cut<'a> {
             Event::Left(file) => self.units.push(Unit::Left(file.clone()?))?,
             Event::Pragma(place, tokens) => {
                 let text = UnitText::Pragma(tokens.clone()?, self.inside > 0);
-                self.units
-                    .push(Unit::Spelled(text, one_site(alloc, number, place)?))?;
+                let sites = one_site(alloc, number, place)?;
+                self.units.push(Unit::Spelled(text, sites))?;
             }
             Event::Fault(_place, _code, _text) => {}
         }
@@ -86,6 +86,7 @@ impl<'a> Cut<'a> {
     {
         let from = self.taken;
         let text = self.gathered.text.as_slice();
+        // Where no token is left, none begins.
         if from == text.len() {
             return Ok(());
         }
@@ -93,8 +94,8 @@ impl<'a> Cut<'a> {
         let to = from + len;
         let text = Run::new(self.gathered.text.clone()?, from, to);
         let sites = Run::new(self.gathered.sites.clone()?, from, to);
-        self.units
-            .push(Unit::Spelled(UnitText::Tokens(text), sites))?;
+        let unit = Unit::Spelled(UnitText::Tokens(text), sites);
+        self.units.push(unit)?;
         self.taken = to;
         self.inside = len - 1;
         Ok(())
