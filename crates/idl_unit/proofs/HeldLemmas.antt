@@ -1,21 +1,18 @@
 -- What placed units hold.
 use Rattle.std.proofs.Common.{◌≡◌, ◌≢◌, ◌∙◌, ℕ, zero, suc, ◌+◌, ◌-◌, ◌<◌, Bool, true, false, cond, List, [], ◌∷◌, ◌++◌, length, take, drop, refl, sym, ap, arith, append_assoc, length-append, length-drop, take-append-drop}
-use Rattle.std.specs.Prelude.{flat_map, nat_eq, nat_lt, ⊤}
+use Rattle.std.specs.Prelude.{flat_map, nat_eq, ⊤}
 use Rattle.std.specs.List.{enumerate_from}
 use Rattle.std.proofs.lemmas.List.{append-nil, nil_from_length}
 use Rattle.idl_event.specs.declared.event.Event.{Event}
 use Rattle.idl_event.specs.declared.event.Event.TheVariants as event
 use Rattle.idl_lex.specs.Tokens.{Token}
-use Rattle.idl_unit.specs.Cut.{parts}
 use Rattle.idl_unit.specs.Ending.{ends, token_units}
 use Rattle.idl_unit.specs.Held.{other_in, text_in, text_sites}
 use Rattle.idl_unit.specs.Parts.{AreParts, IsCutInto, joined}
-use Rattle.idl_unit.specs.Placing.{Ahead, after_begun, after_token, begun, begun_of, placed}
+use Rattle.idl_unit.specs.Placing.{Ahead, after_token, begun, begun_of, placed}
 use Rattle.idl_unit.specs.Units.{Numbered, sites_in, tokens_in, unit_in, units_in, units_of}
 use Rattle.idl_unit.specs.declared.unit.Site.{Site}
-use Rattle.idl_unit.specs.declared.unit.Unit.{Unit as RootUnit}
-use Rattle.idl_unit.specs.declared.unit.Unit.TheVariants.{Spelled, End}
-use Rattle.idl_unit.specs.declared.unit.UnitText.TheVariants.{Tokens}
+use Rattle.idl_unit.specs.declared.unit.Unit.TheVariants.{End}
 use Rattle.idl_unit.proofs.EndingLemmas.{ends-end}
 use Rattle.idl_unit.proofs.PartsLemmas.{are-parts}
 use Rattle.idl_unit.proofs.PlacingLemmas.{ahead_of, length-sites_in, placed-inside, placed-units}

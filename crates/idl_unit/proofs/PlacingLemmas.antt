@@ -1,13 +1,12 @@
 -- The cut of events, event by event.
-use Rattle.std.proofs.Common.{◌≡◌, ◌≢◌, ◌∙◌, ℕ, ◌+◌, ◌-◌, ◌<◌, ◌≤◌, Bool, true, false, cond, not, ◌||◌, List, [], ◌∷◌, ◌++◌, length, take, drop, refl, sym, ap, arith, append_assoc, length-drop}
-use Rattle.std.specs.Prelude.{flat_map, nat_eq, nat_lt}
+use Rattle.std.proofs.Common.{◌≡◌, ◌≢◌, ◌∙◌, ℕ, ◌+◌, ◌-◌, ◌<◌, ◌≤◌, Bool, true, false, cond, not, ◌||◌, List, [], ◌∷◌, ◌++◌, length, take, drop, refl, sym, ap, arith, append_assoc}
+use Rattle.std.specs.Prelude.{flat_map, nat_lt}
 use Rattle.std.proofs.lemmas.Bool.{ne_eqb, lt-ltb}
 use Rattle.std.proofs.lemmas.List.{append-nil, drop-drop, drop_all, drop_at, length_push, length-take-le, take_at}
-use Rattle.idl_event.specs.declared.event.Event.{Event}
 use Rattle.idl_event.specs.declared.event.Event.TheVariants as event
 use Rattle.idl_event.specs.declared.place.Place.{Place}
 use Rattle.idl_lex.specs.Tokens.{Token}
-use Rattle.idl_unit.specs.Cut.{parts, parts_after}
+use Rattle.idl_unit.specs.Cut.{parts_after}
 use Rattle.idl_unit.specs.Ending.{ends, is_empty, token_units}
 use Rattle.idl_unit.specs.Placing.{Ahead, IsWithin, after_begun, after_token, ahead, begun, begun_of, placed, to_come}
 use Rattle.idl_unit.specs.declared.cut.Cut.{Cut}
@@ -16,7 +15,7 @@ use Rattle.idl_unit.specs.declared.unit.Site.{Site}
 use Rattle.idl_unit.specs.declared.unit.Unit.{Unit as RootUnit}
 use Rattle.idl_unit.specs.declared.unit.Unit.TheVariants.{Spelled}
 use Rattle.idl_unit.specs.declared.unit.UnitText.TheVariants.{Tokens}
-use Rattle.idl_unit.proofs.CutLemmas.{parts_after-more, pending, pending-end, pending-open}
+use Rattle.idl_unit.proofs.CutLemmas.{parts_after-more, pending-end, pending-open}
 use Rattle.idl_unit.proofs.EndingLemmas.{ends-end, some-more}
 
 abbrev pub ahead_of : List (List Token) → List Site → ℕ → Ahead

@@ -1,5 +1,5 @@
 -- The forms of pragmas.
-use Rattle.std.proofs.Common.{◌≡◌, ◌<◌, false, List, [], ◌∷◌, length, Option, None, refl, arith}
+use Rattle.std.proofs.Common.{◌≡◌, ◌<◌, false, List, [], ◌∷◌, length, None, refl, arith}
 use Rattle.idl_lex.specs.Tokens.{tokens_in}
 use Rattle.idl_lex.specs.declared.token.PlacedToken.{PlacedToken}
 use Rattle.idl_unit.specs.Pragma.{after_parts, is_formed}

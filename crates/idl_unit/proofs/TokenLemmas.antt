@@ -1,5 +1,5 @@
 -- The least fault of tokens.
-use Rattle.std.proofs.Common.{◌≡◌, ◌∙◌, ℕ, ◌+◌, ◌<◌, ◌≤◌, Bool, true, false, cond, List, [], ◌∷◌, ◌++◌, length, map, take, drop, reverse, Option, None, Some, refl, sym, ap, arith, append_assoc}
+use Rattle.std.proofs.Common.{◌≡◌, ◌∙◌, ℕ, ◌+◌, ◌<◌, ◌≤◌, Bool, true, false, cond, List, [], ◌∷◌, ◌++◌, length, map, drop, Option, None, Some, refl, sym, ap, arith}
 use Rattle.std.specs.Prelude.{count_by, fold, nat_eq, nat_lt, ⊤}
 use Rattle.std.proofs.lemmas.Bool.{or_from, and_left, and_right, le-ltb, ne_eqb, cond-false}
 use Rattle.std.proofs.lemmas.List.Sums.{sum_by-cons, count_by-le-length}
@@ -13,7 +13,7 @@ use Rattle.idl_lex.specs.declared.kind.Defect.TheVariants as defect
 use Rattle.idl_lex.specs.declared.kind.Kind.{Kind}
 use Rattle.idl_lex.specs.declared.kind.Kind.TheVariants.{Accepted, Refused, Miscased, Identifier, Escaped, Integer, Character, WideCharacter, String, WideString, Punctuation, HeaderName, Preprocessing, Bad}
 use Rattle.idl_unit.specs.Faults.{least_fault, lesser_fault}
-use Rattle.idl_unit.specs.TokenRules.{code_if, codes_beside, defect_code, fault_at, faults_after, first, is_left_out, is_miscased, is_other_width, is_too_deep, nests, token_codes, token_faults, unnests}
+use Rattle.idl_unit.specs.TokenRules.{code_if, codes_beside, defect_code, fault_at, faults_after, first, is_left_out, is_other_width, is_too_deep, nests, token_codes, token_faults, unnests}
 use Rattle.idl_unit.specs.declared.fault.Fault.{Fault}
 use Rattle.idl_unit.specs.declared.token_rules.Before.{Before}
 

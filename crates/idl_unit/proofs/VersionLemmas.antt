@@ -1,8 +1,8 @@
 -- The numbers of versions, digit by digit.
-use Rattle.std.proofs.Common.{◌≡◌, ◌∙◌, ℕ, ◌+◌, ◌-◌, ◌*◌, ◌<◌, ◌≤◌, Bool, true, false, cond, ltb, ◌&&◌, List, [], ◌∷◌, length, take, drop, Option, None, Some, refl, sym, ap, arith}
+use Rattle.std.proofs.Common.{◌≡◌, ◌∙◌, ℕ, ◌+◌, ◌-◌, ◌*◌, ◌<◌, ◌≤◌, Bool, true, false, cond, ltb, ◌&&◌, List, [], ◌∷◌, length, take, drop, None, Some, refl, ap, arith}
 use Rattle.std.specs.Prelude.{fold, nat_le, position}
-use Rattle.std.specs.List.{after_first, before_first, list_all, position_or_len}
-use Rattle.std.proofs.lemmas.Bool.{le-leb, lt-leb, ltb-true, ltb-false}
+use Rattle.std.specs.List.{before_first, list_all, position_or_len}
+use Rattle.std.proofs.lemmas.Bool.{le-leb, lt-leb, ltb-false}
 use Rattle.std.proofs.lemmas.List.{drop_all}
 use Rattle.std.proofs.lemmas.Option.{cond_some}
 use Rattle.idl_lex.specs.Byte.{digit_value, is_digit}

@@ -1,5 +1,5 @@
 -- The fault of a unit's tokens.
-use Rattle.std.specs.Prelude.{Bool, ◌&&◌, ◌||◌, List, [], ◌∷◌, fold, nat_eq, nat_lt, Option, None, Some, if◌then◌else◌}
+use Rattle.std.specs.Prelude.{◌&&◌, ◌||◌, List, [], ◌∷◌, fold, nat_eq, nat_lt, Option, None, Some, if◌then◌else◌}
 use Rattle.idl_event.specs.Code.{number_of}
 use Rattle.idl_unit.specs.Pragma.{pragma_faults}
 use Rattle.idl_unit.specs.TokenRules.{token_faults}

@@ -1,6 +1,5 @@
 -- Words for the steps of the cut of events.
 use Rattle.std.specs.Prelude.{◌≡◌, ℕ, ◌-◌, ◌≤◌, List, [], ◌∷◌, ◌++◌, drop, length, nat_eq, nat_lt, take, if◌then◌else◌}
-use Rattle.idl_event.specs.declared.event.Event.{Event}
 use Rattle.idl_event.specs.declared.event.Event.TheVariants as event
 use Rattle.idl_lex.specs.Tokens.{Token}
 use Rattle.idl_unit.specs.Ending.{token_units}

@@ -10,7 +10,7 @@ use Rattle.idl_lex.specs.Tokens.{Token}
 use Rattle.idl_lex.specs.declared.kind.Kind.{Kind}
 use Rattle.idl_lex.specs.declared.kind.Kind.TheVariants.{Identifier, Escaped, Miscased, String, Punctuation}
 use Rattle.idl_lex.specs.declared.mark.Mark.TheVariants.{ColonColon}
-use Rattle.idl_unit.specs.TokenRules.{code_if, fault_at}
+use Rattle.idl_unit.specs.TokenRules.{fault_at}
 use Rattle.idl_unit.specs.declared.fault.Fault.{Fault}
 
 -- a word that is no keyword; here it may be one but for the case of letters

@@ -1,6 +1,6 @@
 use Rattle.std.proofs.Common.{ap, sym, ◌∙◌, ◌+◌, ◌<◌, arith, subst}
 use Rattle.idl_unit.specs.Ending.{closes, opens, is_semicolon}
-use Rattle.idl_unit.proofs.EndingLemmas.{IsAt, is_at, IsDeclarationTo, declaration-through, declaration-before, declaration-open, declaration-close, declaration-step, not_opens, not_closes, not_semicolon, to_end}
+use Rattle.idl_unit.proofs.EndingLemmas.{IsAt, is_at, IsDeclarationTo, declaration-through, declaration-before, declaration-open, declaration-close, declaration-step, not_opens, not_closes, not_semicolon}
 use Rattle.idl_unit.proofs.ending.declaration_len.Goals as goal
 use Rattle.idl_unit.proofs.ending.declaration_len.Goals.{in-OpenBrace, in-CloseBrace+else-depth-eq0, in-Semicolon+else-depth-eq0-2, in_default}
 

@@ -1,6 +1,6 @@
 use Rattle.std.proofs.Common.{inl, inr, ap, sym, ◌∙◌, arith}
 use Rattle.idl_unit.specs.Ending.{closes, opens, is_semicolon}
-use Rattle.idl_unit.proofs.EndingLemmas.{IsAt, is_at, heading-through, heading-before, heading-step, not_opens, not_closes, not_semicolon, to_end}
+use Rattle.idl_unit.proofs.EndingLemmas.{is_at, heading-through, heading-step, not_opens, not_closes, not_semicolon}
 use Rattle.idl_unit.proofs.ending.heading_len.Goals as goal
 
 pub returns-in-OpenBrace-clause-cut : goal.returns-in-OpenBrace-clause-cut

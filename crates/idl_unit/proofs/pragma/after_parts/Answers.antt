@@ -1,4 +1,4 @@
-use Rattle.std.proofs.Common.{◌≡◌, ◌∙◌, sym}
+use Rattle.std.proofs.Common.{◌∙◌, sym}
 use Rattle.idl_unit.proofs.PragmaLemmas.{short-none}
 use Rattle.idl_unit.proofs.pragma.after_parts.Goals as goal
 

@@ -1,4 +1,4 @@
-use Rattle.std.proofs.Common.{◌≡◌, ◌∙◌, ap, sym, ◌&&◌, ◌+◌, take, drop}
+use Rattle.std.proofs.Common.{◌∙◌, ap, sym, ◌&&◌, ◌+◌, drop}
 use Rattle.std.proofs.lemmas.List.{take_rest}
 use Rattle.idl_unit.specs.Pragma.{is_version_part}
 use Rattle.idl_unit.proofs.VersionLemmas.{version-Some, version-None}

@@ -1,4 +1,4 @@
-use Rattle.std.proofs.Common.{◌≡◌, ◌<◌, ◌+◌, ◌-◌, ◌*◌, ◌∙◌, ap, sym, arith, drop, get_or, length}
+use Rattle.std.proofs.Common.{◌<◌, ◌+◌, ◌-◌, ◌*◌, ◌∙◌, ap, sym, arith, drop, get_or, length}
 use Rattle.std.proofs.lemmas.List.{drop_more}
 use Rattle.idl_unit.proofs.VersionLemmas.{version_from, part-from, from-digit, from-large}
 use Rattle.idl_unit.proofs.version.is_version_part.Goals as goal

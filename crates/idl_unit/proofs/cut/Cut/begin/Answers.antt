@@ -1,6 +1,6 @@
-use Rattle.std.proofs.Common.{◌≡◌, ◌∙◌, ◌++◌, [], ◌≤◌, length, sym, ap, arith, rules}
+use Rattle.std.proofs.Common.{◌∙◌, ◌++◌, ◌≤◌, length, sym, ap, rules}
 use Rattle.std.proofs.lemmas.List.{append-nil}
-use Rattle.idl_unit.proofs.PlacingLemmas.{begin-none, begin-some}
+use Rattle.idl_unit.proofs.PlacingLemmas.{begin-none}
 use Rattle.idl_unit.proofs.cut.Cut.begin.Goals as goal
 
 pub returns-then-from-text-clause-units : goal.returns-then-from-text-clause-units
