@@ -1,0 +1,8 @@
+pub mod CutLemmas
+pub mod EndingLemmas
+pub mod HeldLemmas
+pub mod PartsLemmas
+pub mod PlacingLemmas
+pub mod PragmaLemmas
+pub mod TokenLemmas
+pub mod VersionLemmas

@@ -1,0 +1,30 @@
+use Rattle.std.proofs.Common.{◌≡◌, ◌∙◌, ◌++◌, ◌∷◌, [], sym, ap, rules}
+use Rattle.std.proofs.lemmas.List.{append-nil}
+use Rattle.std.specs.List.{enumerate_from}
+use Rattle.idl_unit.specs.Placing.{to_come}
+use Rattle.idl_unit.specs.Units.{units_in, units_of}
+use Rattle.idl_unit.specs.declared.gathered.Gathered.{Gathered}
+use Rattle.idl_unit.specs.declared.unit.Unit.TheVariants.{End}
+use Rattle.idl_unit.proofs.PlacingLemmas.{start-within, start-to_come}
+use Rattle.idl_unit.proofs.cut.split.Goals as goal
+
+pub loop-number-init : goal.loop-number-init
+loop-number-init c =
+    let cut = c.new-cut.result in
+    let events = enumerate_from 0 c.args.expansion.now in
+    let text = ap (λ (g : Gathered). g.text.value.items) c.new-cut.ensures.gathered ∙ c.in_ok-gathered.ensures.text in
+    let sites = ap (λ (g : Gathered). g.sites.value.items) c.new-cut.ensures.gathered ∙ c.in_ok-gathered.ensures.sites in
+    let walk : c.into_iter-number-iterator.result ≡ events = search rules in
+    record {
+      within = start-within cut events text sites c.new-cut.ensures.taken;
+      units = ap (to_come cut) walk ∙ start-to_come cut events text sites c.new-cut.ensures.units c.new-cut.ensures.taken c.new-cut.ensures.inside;
+    }
+
+pub returns : goal.returns
+unfolding units_of
+returns c =
+    let cut = c.loop-number.cut in
+    let none : c.loop-number.number-iterator ≡ [] = search rules in
+    let all : cut.units.items ≡ units_in (enumerate_from 0 c.args.expansion.now) = sym (append-nil cut.units.items) ∙ ap (to_come cut) (sym none) ∙ c.loop-number.invariant.units in
+    let pushed : c.from_vec.result ≡ cut.units.items ++ End ∷ [] = search rules in
+    pushed ∙ ap (λ l. l ++ End ∷ []) all

@@ -1,0 +1,9 @@
+pub mod Cut
+pub mod Ending
+pub mod Parts
+pub mod Units
+pub mod Placing
+pub mod Held
+pub mod TokenRules
+pub mod Pragma
+pub mod Faults

@@ -1,0 +1,115 @@
+//! The cut of an expansion into units.
+
+ghost use Rattle.std.specs.Prelude.{◌≡◌, ◌∷◌, ◌++◌, [], List, IfOk, OnOk};
+ghost use Rattle.idl_unit.specs.Placing.{ahead, after_token, begun, IsWithin, to_come};
+ghost use Rattle.idl_unit.specs.Units.{Numbered, site_at, units_of};
+
+use crate::ending::first_unit;
+use crate::gathered::Gathered;
+use crate::run::Run;
+use crate::unit::{Site, Unit, UnitText, Units};
+use idl_event::{Event, Expansion, Place};
+use std::alloc::{AllocError, Global};
+use std::rc::Rc;
+
+/// The units of what a root expands to. A unit stands where its first token does, and what stands between its tokens
+/// directly after it.
+pub fn split(alloc: Global, expansion: &Expansion) -> Result<Units, AllocError>
+    ensures { IfOk result (λ units. units ≡ units_of expansion.now) }
+{
+    let gathered = Gathered::new(alloc, expansion)?;
+    let mut cut = Cut::new(alloc, &gathered);
+    for (number, event) in expansion.events() {
+        cut.put(alloc, number, event)?;
+    }
+    let mut units = cut.units;
+    units.push(Unit::End)?;
+    Ok(Units::from_vec(units))
+}
+
+// How far the cut has come.
+#[derive(Drop)]
+struct Cut<'a> {
+    gathered: &'a Gathered,
+    units: Vec<Unit>,
+    // How many tokens stand in the units so far.
+    taken: usize,
+    // How many of these are still to come among the events.
+    inside: usize,
+}
+
+impl<'a> Cut<'a> {
+    fn new(alloc: Global, gathered: &'a Gathered) -> Cut<'a>
+        ensures gathered { result.gathered.now ≡ gathered.now }
+        ensures units { result.units.items ≡ [] }
+        ensures taken { result.taken ≡ 0 }
+        ensures inside { result.inside ≡ 0 }
+    {
+        Cut {
+            gathered,
+            units: Vec::new(alloc),
+            taken: 0,
+            inside: 0,
+        }
+    }
+
+    // Puts in what one event more gives.
+    fn put(&mut self, alloc: Global, number: usize, event: &Event) -> Result<(), AllocError>
+        requires { IsWithin self.old }
+        ensures within { OnOk result (IsWithin self.new) }
+        ensures units { OnOk result ((events : List Numbered)
+            → to_come self.new events ≡ to_come self.old ((number, event.now) ∷ events)) }
+    {
+        match event {
+            Event::Emitted(_place, _token) if self.inside > 0 => self.inside -= 1,
+            Event::Emitted(_place, _token) => self.begin()?,
+            Event::Entered(file) => self.units.push(Unit::Entered(file.clone()?))?,
+            Event::Left(file) => self.units.push(Unit::Left(file.clone()?))?,
+            Event::Pragma(place, tokens) => {
+                let text = UnitText::Pragma(tokens.clone()?, self.inside > 0);
+                let sites = one_site(alloc, number, place)?;
+                self.units.push(Unit::Spelled(text, sites))?;
+            }
+            Event::Fault(_place, _code, _text) => {}
+        }
+        Ok(())
+    }
+
+    // Puts in the unit that begins here.
+    fn begin(&mut self) -> Result<(), AllocError>
+        requires within { IsWithin self.old }
+        requires outside { self.old.inside ≡ 0 }
+        ensures within { OnOk result (IsWithin self.new) }
+        ensures units { OnOk result (self.new.units.items
+            ≡ self.old.units.items ++ begun (ahead self.old)) }
+        ensures ahead { OnOk result (ahead self.new ≡ after_token (ahead self.old)) }
+    {
+        let from = self.taken;
+        let text = self.gathered.text.as_slice();
+        // Where no token is left, none begins.
+        if from == text.len() {
+            return Ok(());
+        }
+        let len = first_unit(&text[from..]);
+        let to = from + len;
+        let text = Run::new(self.gathered.text.clone()?, from, to);
+        let sites = Run::new(self.gathered.sites.clone()?, from, to);
+        let unit = Unit::Spelled(UnitText::Tokens(text), sites);
+        self.units.push(unit)?;
+        self.taken = to;
+        self.inside = len - 1;
+        Ok(())
+    }
+}
+
+// The one site of a pragma.
+fn one_site(alloc: Global, event: usize, place: &Place) -> Result<Run<Site>, AllocError>
+    ensures { IfOk result (λ sites. sites ≡ site_at event place.now ∷ []) }
+{
+    let mut sites = Vec::new(alloc);
+    sites.push(Site {
+        event,
+        place: place.clone()?,
+    })?;
+    Ok(Run::new(Rc::new(alloc, sites)?, 0, 1))
+}

@@ -1,0 +1,28 @@
+//! The units of a root, and what may not stand in one: the events of a root are cut into openings, closings and
+//! declarations, with pragmas, file boundaries and the end between them.
+//!
+//! A unit is a range of a text that is shared, apart from the places of its tokens, which it names by number. Nothing here
+//! knows trees or names, or which scopes are open.
+#![tactic(auto)]
+
+mod cut;
+mod ending;
+mod fault;
+mod gathered;
+mod laws;
+mod pragma;
+mod role;
+mod run;
+mod token_rules;
+mod unit;
+mod version;
+
+pub use cut::split;
+pub use ending::first_unit;
+pub use fault::{Fault, first_fault};
+pub use laws::{nothing_lost, one_cut};
+pub use pragma::pragma_fault;
+pub use role::{Role, Rule, rule_of};
+pub use run::Run;
+pub use token_rules::token_fault;
+pub use unit::{Site, Unit, UnitText, Units};
