@@ -1,0 +1,75 @@
+//! Declared names.
+
+use crate::cursor::{behind, identifier, is_at};
+use crate::error::ReadError;
+use crate::expression::expression;
+use idl_base::Seq;
+use idl_lex::{Mark, Token};
+use idl_tree::{Declarator, Expression, Several};
+use std::alloc::Global;
+
+/// The length of an array, in brackets.
+fn array_length(
+    alloc: Global,
+    depth: usize,
+    tokens: &[Token],
+) -> Result<(Expression, &[Token]), ReadError> {
+    let rest = behind(tokens, Mark::OpenBracket)?;
+    let (length, rest) = expression(alloc, depth, rest)?;
+    let rest = behind(rest, Mark::CloseBracket)?;
+    Ok((length, rest))
+}
+
+/// The lengths of an array.
+fn array_lengths(
+    alloc: Global,
+    depth: usize,
+    tokens: &[Token],
+) -> Result<(Seq<Expression>, &[Token]), ReadError> {
+    let mut lengths = Vec::new(alloc);
+    let mut rest = tokens;
+    'lengths: while is_at(rest, Mark::OpenBracket) {
+        let (one, after) = array_length(alloc, depth, rest)?;
+        lengths.push(one)?;
+        rest = after;
+    }
+    Ok((Seq::from_vec(lengths), rest))
+}
+
+/// A declared name, with the lengths of its array if it is one.
+pub fn declarator(
+    alloc: Global,
+    depth: usize,
+    tokens: &[Token],
+) -> Result<(Declarator, &[Token]), ReadError> {
+    let (name, rest) = identifier(alloc, tokens)?;
+    let (lengths, rest) = array_lengths(alloc, depth, rest)?;
+    Ok((Declarator { name, lengths }, rest))
+}
+
+/// One declared name or more, with commas between.
+pub fn declarators(
+    alloc: Global,
+    depth: usize,
+    tokens: &[Token],
+) -> Result<(Several<Declarator>, &[Token]), ReadError> {
+    let (first, rest) = declarator(alloc, depth, tokens)?;
+    let (more, rest) = more_declarators(alloc, depth, rest)?;
+    Ok((Several { first, rest: more }, rest))
+}
+
+/// Declared names, each behind a comma.
+fn more_declarators(
+    alloc: Global,
+    depth: usize,
+    tokens: &[Token],
+) -> Result<(Seq<Declarator>, &[Token]), ReadError> {
+    let mut declarators = Vec::new(alloc);
+    let mut rest = tokens;
+    'declarators: while is_at(rest, Mark::Comma) {
+        let (one, after) = declarator(alloc, depth, &rest[1..])?;
+        declarators.push(one)?;
+        rest = after;
+    }
+    Ok((Seq::from_vec(declarators), rest))
+}

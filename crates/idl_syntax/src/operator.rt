@@ -1,0 +1,43 @@
+//! Operators.
+
+use crate::cursor::punctuation;
+use idl_lex::{Mark, Token};
+use idl_tree::{ProductOperator, ShiftOperator, SumOperator, UnaryOperator};
+
+/// The shift that the next token is.
+pub fn shift_operator(tokens: &[Token]) -> Option<ShiftOperator> {
+    match punctuation(tokens) {
+        Some(Mark::ShiftLeft) => Some(ShiftOperator::Left),
+        Some(Mark::ShiftRight) => Some(ShiftOperator::Right),
+        _ => None,
+    }
+}
+
+/// The operator of a sum that the next token is.
+pub fn sum_operator(tokens: &[Token]) -> Option<SumOperator> {
+    match punctuation(tokens) {
+        Some(Mark::Plus) => Some(SumOperator::Plus),
+        Some(Mark::Minus) => Some(SumOperator::Minus),
+        _ => None,
+    }
+}
+
+/// The operator of a product that the next token is.
+pub fn product_operator(tokens: &[Token]) -> Option<ProductOperator> {
+    match punctuation(tokens) {
+        Some(Mark::Star) => Some(ProductOperator::Times),
+        Some(Mark::Slash) => Some(ProductOperator::Divided),
+        Some(Mark::Percent) => Some(ProductOperator::Remainder),
+        _ => None,
+    }
+}
+
+/// The operator before an operand that the next token is.
+pub fn unary_operator(tokens: &[Token]) -> Option<UnaryOperator> {
+    match punctuation(tokens) {
+        Some(Mark::Minus) => Some(UnaryOperator::Minus),
+        Some(Mark::Plus) => Some(UnaryOperator::Plus),
+        Some(Mark::Tilde) => Some(UnaryOperator::Complement),
+        _ => None,
+    }
+}
