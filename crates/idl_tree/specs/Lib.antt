@@ -14,3 +14,4 @@ pub mod ReadExpression
 pub mod ReadType
 pub mod ReadConstruction
 pub mod ReadInterface
+pub mod ReadUnit

@@ -1,18 +1,20 @@
 -- Reading of structs, unions and enums.
 use Rattle.std.specs.Prelude.{ℕ, zero, suc, List, length, Option, Some, None, Ok, Err, Bool, true, false, not, if◌then◌else◌}
+use Rattle.idl_lex.specs.declared.keyword.Keyword.{Keyword}
 use Rattle.idl_lex.specs.declared.keyword.Keyword.TheVariants as word
 use Rattle.idl_lex.specs.declared.mark.Mark.TheVariants as mark
-use Rattle.idl_tree.specs.Lexeme.{Lexeme, Word}
+use Rattle.idl_tree.specs.Lexeme.{Lexeme}
 use Rattle.idl_tree.specs.ReadExpression.{parted_with, expression_at}
-use Rattle.idl_tree.specs.ReadName.{name_at, begins_name}
-use Rattle.idl_tree.specs.ReadType.{integer_type, size_at, declarator_with, type_at}
+use Rattle.idl_tree.specs.ReadName.{name_at}
+use Rattle.idl_tree.specs.ReadType.{discrete_at, declarator_with, type_at}
 use Rattle.idl_tree.specs.Reading.{Reader, ◌>>=◌, first, expect, many_of}
-use Rattle.idl_tree.specs.Tests.{is_mark, is_word, pick, identifier_at}
+use Rattle.idl_tree.specs.Tests.{is_mark, is_word, keyword_of, identifier_at}
 use Rattle.idl_tree.specs.declared.construction.Case.{Case, roll-Case}
 use Rattle.idl_tree.specs.declared.construction.Construction.{Construction}
 use Rattle.idl_tree.specs.declared.construction.Construction.TheVariants as construction
 use Rattle.idl_tree.specs.declared.construction.Discriminator.{Discriminator}
 use Rattle.idl_tree.specs.declared.construction.Discriminator.TheVariants as discriminator
+use Rattle.idl_tree.specs.declared.construction.Enumeration.{Enumeration}
 use Rattle.idl_tree.specs.declared.construction.Label.{Label}
 use Rattle.idl_tree.specs.declared.construction.Label.TheVariants as label
 use Rattle.idl_tree.specs.declared.construction.Member.{Member, roll-Member}
@@ -21,8 +23,6 @@ use Rattle.idl_tree.specs.declared.construction.MemberType.TheVariants as member
 use Rattle.idl_tree.specs.declared.construction.Structure.{Structure, roll-Structure}
 use Rattle.idl_tree.specs.declared.construction.Union.{Union, roll-Union}
 use Rattle.idl_tree.specs.declared.data_type.DataType.{DataType}
-use Rattle.idl_tree.specs.declared.data_type.DiscreteType.{DiscreteType}
-use Rattle.idl_tree.specs.declared.data_type.DiscreteType.TheVariants as discrete
 use Rattle.idl_tree.specs.declared.declarator.Declarator.{Declarator}
 use Rattle.idl_tree.specs.declared.expression.Expression.{Expression}
 use Rattle.idl_tree.specs.declared.several.Several.{Several}
@@ -41,59 +41,43 @@ all_with p item ts = do
   xs ← many_of p item x.1
   Ok (several x.0 xs.0, xs.1)
 
--- the discrete types of one keyword
-pub data SingleDiscrete : Type 0 where
-  CharWord : SingleDiscrete
-  WcharWord : SingleDiscrete
-  BooleanWord : SingleDiscrete
-  OctetWord : SingleDiscrete
+-- disc, by its first keyword
+abbrev pub discriminator_by : Option Keyword → Reader Discriminator
+discriminator_by None ts = name_at ts >>= λ n. Ok (discriminator.Name n.0, n.1)
+discriminator_by others ts = discrete_at ts >>= λ d. Ok (discriminator.Discrete d.0, d.1)
 
-abbrev pub single_discrete_of : Option Lexeme → Option SingleDiscrete
-single_discrete_of (Some (Word word.Char)) = Some CharWord
-single_discrete_of (Some (Word word.Wchar)) = Some WcharWord
-single_discrete_of (Some (Word word.Boolean)) = Some BooleanWord
-single_discrete_of (Some (Word word.Octet)) = Some OctetWord
-single_discrete_of _ = None
-
-abbrev pub single_discrete : SingleDiscrete → DiscreteType
-single_discrete CharWord = discrete.Char
-single_discrete WcharWord = discrete.WideChar
-single_discrete BooleanWord = discrete.Boolean
-single_discrete OctetWord = discrete.Octet
-
-abbrev pub begins_size : Option Lexeme → Bool
-begins_size (Some (Word word.Long)) = true
-begins_size (Some (Word word.Short)) = true
-begins_size _ = false
-
-unfoldable pub discrete_at : Reader DiscreteType
-discrete_at ts =
-    if is_word word.Unsigned (first ts) then (expect (is_word word.Unsigned) ts >>= λ rest. size_at rest >>= λ s. Ok (integer_type true s.0, s.1))
-    else (if begins_size (first ts) then (size_at ts >>= λ s. Ok (integer_type false s.0, s.1))
-    else (pick single_discrete_of ts >>= λ s. Ok (single_discrete s.0, s.1)))
-
--- disc
 unfoldable pub discriminator_at : Reader Discriminator
-discriminator_at ts =
-    if begins_name (first ts) then (name_at ts >>= λ n. Ok (discriminator.Name n.0, n.1))
-    else (discrete_at ts >>= λ d. Ok (discriminator.Discrete d.0, d.1))
+discriminator_at ts = discriminator_by (keyword_of (first ts)) ts
+
+abbrev pub is_label_word : Option Keyword → Bool
+is_label_word (Some word.Case) = true
+is_label_word (Some word.Default) = true
+is_label_word _ = false
 
 abbrev pub begins_label : Option Lexeme → Bool
-begins_label (Some (Word word.Case)) = true
-begins_label (Some (Word word.Default)) = true
-begins_label _ = false
+begins_label t = is_label_word (keyword_of t)
 
--- label
+-- label = "case" expr ":" | "default" ":"
 unfoldable pub label_with : Reader Expression → Reader Label
 label_with expression ts =
-    if is_word word.Case (first ts) then (expect (is_word word.Case) ts >>= λ rest. expression rest >>= λ e. expect (is_mark mark.Colon) e.1 >>= λ r. Ok (label.Case e.0, r))
-    else (expect (is_word word.Default) ts >>= λ rest. expect (is_mark mark.Colon) rest >>= λ r. Ok (label.Default, r))
+    if is_word word.Case (first ts) then (do
+      rest ← expect (is_word word.Case) ts
+      e ← expression rest
+      rest2 ← expect (is_mark mark.Colon) e.1
+      Ok (label.Case e.0, rest2))
+    else (do
+      rest ← expect (is_word word.Default) ts
+      rest2 ← expect (is_mark mark.Colon) rest
+      Ok (label.Default, rest2))
+
+abbrev pub is_construction_word : Option Keyword → Bool
+is_construction_word (Some word.Struct) = true
+is_construction_word (Some word.Union) = true
+is_construction_word (Some word.Enum) = true
+is_construction_word _ = false
 
 abbrev pub begins_construction : Option Lexeme → Bool
-begins_construction (Some (Word word.Struct)) = true
-begins_construction (Some (Word word.Union)) = true
-begins_construction (Some (Word word.Enum)) = true
-begins_construction _ = false
+begins_construction t = is_construction_word (keyword_of t)
 
 -- type | constr
 unfoldable pub member_type_with : Reader DataType → Reader Construction → Reader MemberType
@@ -111,9 +95,10 @@ abbrev pub made_case : Several Label → MemberType → Declarator → Case
 made_case labels kind declarator = roll-Case (record { labels = labels; kind = kind; declarator = declarator })
 
 abbrev pub made_union : List ℕ → Discriminator → Case → List Case → Union
-made_union name discriminator c cs = roll-Union (record { name = name; discriminator = discriminator; first = c; rest = cs })
+made_union name discriminator c cs =
+    roll-Union (record { name = name; discriminator = discriminator; first = c; rest = cs })
 
--- member
+-- member = ( type | constr ) declr/"," ";"
 unfoldable pub member_with : Reader Expression → Reader DataType → Reader Construction → Reader Member
 member_with expression type inner ts = do
   t ← member_type_with type inner ts
@@ -121,7 +106,7 @@ member_with expression type inner ts = do
   rest ← expect (is_mark mark.Semicolon) ds.1
   Ok (made_member t.0 ds.0, rest)
 
--- case
+-- case = label+ ( type | constr ) declr ";"
 unfoldable pub case_with : Reader Expression → Reader DataType → Reader Construction → Reader Case
 case_with expression type inner ts = do
   ls ← all_with begins_label (label_with expression) ts
@@ -134,34 +119,54 @@ case_with expression type inner ts = do
 abbrev pub goes_on : Option Lexeme → Bool
 goes_on t = not (is_mark mark.CloseBrace t)
 
+-- "{" member+ "}", of the struct with this name
+unfoldable pub structure_rest_with : Reader Expression → Reader DataType → Reader Construction
+    → List ℕ → Reader Structure
+structure_rest_with expression type inner name ts = do
+  rest ← expect (is_mark mark.OpenBrace) ts
+  m ← member_with expression type inner rest
+  ms ← many_of goes_on (member_with expression type inner) m.1
+  rest2 ← expect (is_mark mark.CloseBrace) ms.1
+  Ok (made_structure name m.0 ms.0, rest2)
+
+-- "struct" ID "{" member+ "}"
 unfoldable pub structure_with : Reader Expression → Reader DataType → Reader Construction → Reader Structure
 structure_with expression type inner ts = do
   rest ← expect (is_word word.Struct) ts
   name ← identifier_at rest
-  rest2 ← expect (is_mark mark.OpenBrace) name.1
-  m ← member_with expression type inner rest2
-  ms ← many_of goes_on (member_with expression type inner) m.1
-  rest3 ← expect (is_mark mark.CloseBrace) ms.1
-  Ok (made_structure name.0 m.0 ms.0, rest3)
+  structure_rest_with expression type inner name.0 name.1
 
+-- "{" case+ "}", of the union with this name and discriminator
+unfoldable pub cases_with : Reader Expression → Reader DataType → Reader Construction
+    → List ℕ → Discriminator → Reader Union
+cases_with expression type inner name discriminator ts = do
+  rest ← expect (is_mark mark.OpenBrace) ts
+  c ← case_with expression type inner rest
+  cs ← many_of goes_on (case_with expression type inner) c.1
+  rest2 ← expect (is_mark mark.CloseBrace) cs.1
+  Ok (made_union name discriminator c.0 cs.0, rest2)
+
+-- "switch" "(" disc ")" "{" case+ "}", of the union with this name
+unfoldable pub union_rest_with : Reader Expression → Reader DataType → Reader Construction → List ℕ → Reader Union
+union_rest_with expression type inner name ts = do
+  rest ← expect (is_word word.Switch) ts
+  rest2 ← expect (is_mark mark.OpenParenthesis) rest
+  d ← discriminator_at rest2
+  rest3 ← expect (is_mark mark.CloseParenthesis) d.1
+  cases_with expression type inner name d.0 rest3
+
+-- "union" ID "switch" "(" disc ")" "{" case+ "}"
 unfoldable pub union_with : Reader Expression → Reader DataType → Reader Construction → Reader Union
 union_with expression type inner ts = do
   rest ← expect (is_word word.Union) ts
   name ← identifier_at rest
-  rest2 ← expect (is_word word.Switch) name.1
-  rest3 ← expect (is_mark mark.OpenParenthesis) rest2
-  d ← discriminator_at rest3
-  rest4 ← expect (is_mark mark.CloseParenthesis) d.1
-  rest5 ← expect (is_mark mark.OpenBrace) rest4
-  c ← case_with expression type inner rest5
-  cs ← many_of goes_on (case_with expression type inner) c.1
-  rest6 ← expect (is_mark mark.CloseBrace) cs.1
-  Ok (made_union name.0 d.0 c.0 cs.0, rest6)
+  union_rest_with expression type inner name.0 name.1
 
-abbrev pub enumerated : List ℕ → Several (List ℕ) → Construction
-enumerated name enumerators = construction.Enumeration (record { name = name; enumerators = enumerators })
+abbrev pub enumerated : List ℕ → Several (List ℕ) → Enumeration
+enumerated name enumerators = record { name = name; enumerators = enumerators }
 
-unfoldable pub enumeration_at : Reader Construction
+-- "enum" ID "{" ID/"," "}"
+unfoldable pub enumeration_at : Reader Enumeration
 enumeration_at ts = do
   rest ← expect (is_word word.Enum) ts
   name ← identifier_at rest
@@ -170,11 +175,18 @@ enumeration_at ts = do
   rest3 ← expect (is_mark mark.CloseBrace) ids.1
   Ok (enumerated name.0 ids.0, rest3)
 
+-- constr, by its first keyword
+abbrev pub construction_by : Reader Expression → Reader DataType → Reader Construction
+    → Option Keyword → Reader Construction
+construction_by expression type inner (Some word.Struct) ts =
+    structure_with expression type inner ts >>= λ s. Ok (construction.Structure s.0, s.1)
+construction_by expression type inner (Some word.Union) ts =
+    union_with expression type inner ts >>= λ u. Ok (construction.Union u.0, u.1)
+construction_by expression type inner others ts =
+    enumeration_at ts >>= λ e. Ok (construction.Enumeration e.0, e.1)
+
 unfoldable pub construction_with : Reader Expression → Reader DataType → Reader Construction → Reader Construction
-construction_with expression type inner ts =
-    if is_word word.Struct (first ts) then (structure_with expression type inner ts >>= λ s. Ok (construction.Structure s.0, s.1))
-    else (if is_word word.Union (first ts) then (union_with expression type inner ts >>= λ u. Ok (construction.Union u.0, u.1))
-    else enumeration_at ts)
+construction_with expression type inner ts = construction_by expression type inner (keyword_of (first ts)) ts
 
 -- at most n deep
 unfoldable pub construction_at : ℕ → Reader Construction

@@ -1,12 +1,13 @@
 -- Reading of types and declared names.
 use Rattle.std.specs.Prelude.{ℕ, zero, suc, List, length, Option, Some, None, Ok, Err, Bool, true, false, if◌then◌else◌}
+use Rattle.idl_lex.specs.declared.keyword.Keyword.{Keyword}
 use Rattle.idl_lex.specs.declared.keyword.Keyword.TheVariants as word
 use Rattle.idl_lex.specs.declared.mark.Mark.TheVariants as mark
 use Rattle.idl_tree.specs.Lexeme.{Lexeme, Word}
 use Rattle.idl_tree.specs.ReadExpression.{expression_at}
-use Rattle.idl_tree.specs.ReadName.{name_at, begins_name}
+use Rattle.idl_tree.specs.ReadName.{name_at}
 use Rattle.idl_tree.specs.Reading.{Reader, ◌>>=◌, first, expect, many_of}
-use Rattle.idl_tree.specs.Tests.{is_mark, is_word, pick, identifier_at}
+use Rattle.idl_tree.specs.Tests.{is_mark, is_word, keyword_of, by_word, pick, identifier_at}
 use Rattle.idl_tree.specs.declared.data_type.BasicType.{BasicType}
 use Rattle.idl_tree.specs.declared.data_type.BasicType.TheVariants as basic
 use Rattle.idl_tree.specs.declared.data_type.DataType.{DataType}
@@ -18,98 +19,124 @@ use Rattle.idl_tree.specs.declared.data_type.IntegerSize.TheVariants.{Short, Lon
 use Rattle.idl_tree.specs.declared.data_type.PlainType.{PlainType}
 use Rattle.idl_tree.specs.declared.data_type.PlainType.TheVariants as plain
 use Rattle.idl_tree.specs.declared.data_type.Sequence.{roll-Sequence}
+use Rattle.idl_tree.specs.declared.data_type.StringType.{StringType}
 use Rattle.idl_tree.specs.declared.declarator.Declarator.{Declarator}
 use Rattle.idl_tree.specs.declared.expression.Expression.{Expression}
 
 abbrev pub integer_type : Bool → IntegerSize → DiscreteType
 integer_type is_unsigned size = discrete.Integer (record { is_unsigned = is_unsigned; size = size })
 
-abbrev pub unsigned_type : IntegerSize → BasicType
-unsigned_type size = basic.Discrete (integer_type true size)
-
-abbrev pub signed_type : IntegerSize → BasicType
-signed_type size = basic.Discrete (integer_type false size)
+-- "long" | "long" "long", behind the first of them
+unfoldable pub long_size_at : Reader IntegerSize
+long_size_at ts =
+    if is_word word.Long (first ts) then by_word word.Long LongLong ts else Ok (Long, ts)
 
 -- "short" | "long" | "long" "long"
 unfoldable pub size_at : Reader IntegerSize
 size_at ts =
-    if is_word word.Long (first ts) then (expect (is_word word.Long) ts >>= λ rest. if is_word word.Long (first rest) then (expect (is_word word.Long) rest >>= λ r. Ok (LongLong, r)) else Ok (Long, rest))
-    else (expect (is_word word.Short) ts >>= λ r. Ok (Short, r))
+    if is_word word.Long (first ts) then (expect (is_word word.Long) ts >>= λ rest. long_size_at rest)
+    else by_word word.Short Short ts
 
--- the types of one keyword
-pub data SingleType : Type 0 where
-  ShortWord : SingleType
-  FloatWord : SingleType
-  DoubleWord : SingleType
-  CharWord : SingleType
-  WcharWord : SingleType
-  BooleanWord : SingleType
-  OctetWord : SingleType
-  AnyWord : SingleType
-  ObjectWord : SingleType
+abbrev pub unsigned_at : Reader DiscreteType
+unsigned_at ts = do
+  rest ← expect (is_word word.Unsigned) ts
+  size ← size_at rest
+  Ok (integer_type true size.0, size.1)
 
-abbrev pub single_type_of : Option Lexeme → Option SingleType
-single_type_of (Some (Word word.Short)) = Some ShortWord
-single_type_of (Some (Word word.Float)) = Some FloatWord
-single_type_of (Some (Word word.Double)) = Some DoubleWord
-single_type_of (Some (Word word.Char)) = Some CharWord
-single_type_of (Some (Word word.Wchar)) = Some WcharWord
-single_type_of (Some (Word word.Boolean)) = Some BooleanWord
-single_type_of (Some (Word word.Octet)) = Some OctetWord
-single_type_of (Some (Word word.Any)) = Some AnyWord
-single_type_of (Some (Word word.Object)) = Some ObjectWord
-single_type_of _ = None
+abbrev pub signed_at : Reader DiscreteType
+signed_at ts = do
+  size ← size_at ts
+  Ok (integer_type false size.0, size.1)
 
-abbrev pub single_type : SingleType → BasicType
-single_type ShortWord = signed_type Short
-single_type FloatWord = basic.Float
-single_type DoubleWord = basic.Double
-single_type CharWord = basic.Discrete discrete.Char
-single_type WcharWord = basic.Discrete discrete.WideChar
-single_type BooleanWord = basic.Discrete discrete.Boolean
-single_type OctetWord = basic.Discrete discrete.Octet
-single_type AnyWord = basic.Any
-single_type ObjectWord = basic.Object
+-- int | "char" | "wchar" | "boolean" | "octet", by the first keyword
+abbrev pub discrete_by : Option Keyword → Reader DiscreteType
+discrete_by (Some word.Unsigned) ts = unsigned_at ts
+discrete_by (Some word.Short) ts = signed_at ts
+discrete_by (Some word.Long) ts = signed_at ts
+discrete_by (Some word.Char) ts = by_word word.Char discrete.Char ts
+discrete_by (Some word.Wchar) ts = by_word word.Wchar discrete.WideChar ts
+discrete_by (Some word.Boolean) ts = by_word word.Boolean discrete.Boolean ts
+discrete_by (Some word.Octet) ts = by_word word.Octet discrete.Octet ts
+discrete_by others ts = Err (length ts)
 
--- what `long` begins
+unfoldable pub discrete_at : Reader DiscreteType
+discrete_at ts = discrete_by (keyword_of (first ts)) ts
+
+abbrev pub signed_type : IntegerSize → BasicType
+signed_type size = basic.Discrete (integer_type false size)
+
+-- "long" | "long" "long" | "long" "double", behind the first of them
+abbrev pub long_by : Option Keyword → Reader BasicType
+long_by (Some word.Long) ts = by_word word.Long (signed_type LongLong) ts
+long_by (Some word.Double) ts = by_word word.Double basic.LongDouble ts
+long_by others ts = Ok (signed_type Long, ts)
+
 unfoldable pub long_at : Reader BasicType
-long_at ts =
-    if is_word word.Long (first ts) then (expect (is_word word.Long) ts >>= λ r. Ok (signed_type LongLong, r))
-    else (if is_word word.Double (first ts) then (expect (is_word word.Double) ts >>= λ r. Ok (basic.LongDouble, r))
-    else Ok (signed_type Long, ts))
+long_at ts = do
+  rest ← expect (is_word word.Long) ts
+  long_by (keyword_of (first rest)) rest
 
--- a type of keywords
+-- a type of keywords alone, by the first of them
+abbrev pub basic_by : Option Keyword → Reader BasicType
+basic_by (Some word.Long) ts = long_at ts
+basic_by (Some word.Float) ts = by_word word.Float basic.Float ts
+basic_by (Some word.Double) ts = by_word word.Double basic.Double ts
+basic_by (Some word.Any) ts = by_word word.Any basic.Any ts
+basic_by (Some word.Object) ts = by_word word.Object basic.Object ts
+basic_by others ts = discrete_at ts >>= λ d. Ok (basic.Discrete d.0, d.1)
+
 unfoldable pub basic_at : Reader BasicType
-basic_at ts =
-    if is_word word.Unsigned (first ts) then (expect (is_word word.Unsigned) ts >>= λ rest. size_at rest >>= λ s. Ok (unsigned_type s.0, s.1))
-    else (if is_word word.Long (first ts) then (expect (is_word word.Long) ts >>= λ rest. long_at rest)
-    else (pick single_type_of ts >>= λ s. Ok (single_type s.0, s.1)))
+basic_at ts = basic_by (keyword_of (first ts)) ts
 
 -- [ "<" expr ">" ]
 unfoldable pub bound_with : Reader Expression → Reader (Option Expression)
 bound_with expression ts =
-    if is_mark mark.Less (first ts) then (expect (is_mark mark.Less) ts >>= λ rest. expression rest >>= λ e. expect (is_mark mark.Greater) e.1 >>= λ r. Ok (Some e.0, r))
+    if is_mark mark.Less (first ts) then (do
+      rest ← expect (is_mark mark.Less) ts
+      e ← expression rest
+      rest2 ← expect (is_mark mark.Greater) e.1
+      Ok (Some e.0, rest2))
     else Ok (None, ts)
 
-abbrev pub string_type : Bool → Option Expression → PlainType
-string_type is_wide bound = plain.String (record { is_wide = is_wide; bound = bound })
+-- whether a string's keyword is that of a wide one
+abbrev pub string_word_of : Option Lexeme → Option Bool
+string_word_of (Some (Word word.String)) = Some false
+string_word_of (Some (Word word.Wstring)) = Some true
+string_word_of _ = None
+
+abbrev pub string_type : Bool → Option Expression → StringType
+string_type is_wide bound = record { is_wide = is_wide; bound = bound }
+
+-- string = ( "string" | "wstring" ) [ "<" expr ">" ]
+unfoldable pub string_with : Reader Expression → Reader StringType
+string_with expression ts = do
+  is_wide ← pick string_word_of ts
+  bound ← bound_with expression is_wide.1
+  Ok (string_type is_wide.0 bound.0, bound.1)
+
+-- ptype, by its first keyword
+abbrev pub plain_by : Reader Expression → Option Keyword → Reader PlainType
+plain_by expression (Some word.String) ts = string_with expression ts >>= λ s. Ok (plain.String s.0, s.1)
+plain_by expression (Some word.Wstring) ts = string_with expression ts >>= λ s. Ok (plain.String s.0, s.1)
+plain_by expression None ts = name_at ts >>= λ n. Ok (plain.Name n.0, n.1)
+plain_by expression others ts = basic_at ts >>= λ b. Ok (plain.Basic b.0, b.1)
 
 unfoldable pub plain_with : Reader Expression → Reader PlainType
-plain_with expression ts =
-    if is_word word.String (first ts) then (expect (is_word word.String) ts >>= λ rest. bound_with expression rest >>= λ b. Ok (string_type false b.0, b.1))
-    else (if is_word word.Wstring (first ts) then (expect (is_word word.Wstring) ts >>= λ rest. bound_with expression rest >>= λ b. Ok (string_type true b.0, b.1))
-    else (if begins_name (first ts) then (name_at ts >>= λ n. Ok (plain.Name n.0, n.1))
-    else (basic_at ts >>= λ b. Ok (plain.Basic b.0, b.1))))
+plain_with expression ts = plain_by expression (keyword_of (first ts)) ts
 
 -- [ "," expr ]
 unfoldable pub limit_with : Reader Expression → Reader (Option Expression)
 limit_with expression ts =
-    if is_mark mark.Comma (first ts) then (expect (is_mark mark.Comma) ts >>= λ rest. expression rest >>= λ e. Ok (Some e.0, e.1))
+    if is_mark mark.Comma (first ts) then (do
+      rest ← expect (is_mark mark.Comma) ts
+      e ← expression rest
+      Ok (Some e.0, e.1))
     else Ok (None, ts)
 
 abbrev pub made_sequence : DataType → Option Expression → DataType
 made_sequence element bound = data_type.Sequence (roll-Sequence (record { element = element; bound = bound }))
 
+-- "sequence" "<" type [ "," expr ] ">"
 unfoldable pub sequence_with : Reader Expression → Reader DataType → Reader DataType
 sequence_with expression inner ts = do
   rest ← expect (is_word word.Sequence) ts
@@ -119,6 +146,7 @@ sequence_with expression inner ts = do
   rest3 ← expect (is_mark mark.Greater) b.1
   Ok (made_sequence t.0 b.0, rest3)
 
+-- type = ptype | "sequence" "<" type [ "," expr ] ">"
 unfoldable pub type_with : Reader Expression → Reader DataType → Reader DataType
 type_with expression inner ts =
     if is_word word.Sequence (first ts) then sequence_with expression inner ts
@@ -129,6 +157,7 @@ unfoldable pub type_at : ℕ → Reader DataType
 type_at zero ts = Err (length ts)
 type_at (suc n) ts = type_with (expression_at n) (type_at n) ts
 
+-- "[" expr "]"
 unfoldable pub length_with : Reader Expression → Reader Expression
 length_with expression ts = do
   rest ← expect (is_mark mark.OpenBracket) ts
@@ -139,6 +168,7 @@ length_with expression ts = do
 abbrev pub declared : List ℕ → List Expression → Declarator
 declared name lengths = record { name = name; lengths = lengths }
 
+-- declr = ID ( "[" expr "]" )*
 unfoldable pub declarator_with : Reader Expression → Reader Declarator
 declarator_with expression ts = do
   name ← identifier_at ts

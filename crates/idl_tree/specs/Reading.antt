@@ -22,7 +22,9 @@ expect p ts = if p (first ts) then Ok (drop 1 ts) else Err (length ts)
 -- items, each of which begins with a token that passes the test
 abbrev pub many_at : {A : Type 0} → (Option Lexeme → Bool) → Reader A → ℕ → Reader (List A)
 many_at p item zero ts = Err (length ts)
-many_at p item (suc k) ts = if p (first ts) then (item ts >>= λ x. many_at p item k x.1 >>= λ y. Ok (x.0 ∷ y.0, y.1)) else Ok ([], ts)
+many_at p item (suc k) ts =
+    if p (first ts) then (item ts >>= λ x. many_at p item k x.1 >>= λ y. Ok (x.0 ∷ y.0, y.1))
+    else Ok ([], ts)
 
 abbrev pub many_of : {A : Type 0} → (Option Lexeme → Bool) → Reader A → Reader (List A)
 many_of p item ts = many_at p item (suc (length ts)) ts

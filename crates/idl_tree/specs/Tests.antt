@@ -6,7 +6,7 @@ use Rattle.idl_lex.specs.contracts.mark.Mark.{the_type as the_marks}
 use Rattle.idl_lex.specs.declared.keyword.Keyword.{Keyword}
 use Rattle.idl_lex.specs.declared.mark.Mark.{Mark}
 use Rattle.idl_tree.specs.Lexeme.{Lexeme, Word, Punctuation, Identifier}
-use Rattle.idl_tree.specs.Reading.{Reader, first}
+use Rattle.idl_tree.specs.Reading.{Reader, ◌>>=◌, first, expect}
 
 abbrev pub is_mark : Mark → Option Lexeme → Bool
 is_mark m (Some (Punctuation found)) = sameb the_marks found m
@@ -15,6 +15,15 @@ is_mark m _ = false
 abbrev pub is_word : Keyword → Option Lexeme → Bool
 is_word k (Some (Word found)) = sameb the_keywords found k
 is_word k _ = false
+
+-- the keyword that a token is
+abbrev pub keyword_of : Option Lexeme → Option Keyword
+keyword_of (Some (Word keyword)) = Some keyword
+keyword_of _ = None
+
+-- a keyword that says it all
+abbrev pub by_word : {A : Type 0} → Keyword → A → Reader A
+by_word keyword value ts = expect (is_word keyword) ts >>= λ rest. Ok (value, rest)
 
 abbrev pub picked : {A : Type 0} → Option A → List Lexeme → Result (A × List Lexeme) ℕ
 picked None ts = Err (length ts)
