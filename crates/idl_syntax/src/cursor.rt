@@ -1,12 +1,23 @@
 //! Single tokens.
 
+ghost use Rattle.std.specs.Prelude.{◌≡◌, ◌<◌, length, IfOk};
+ghost use Rattle.std.specs.Option.{option_copied};
+ghost use Rattle.idl_tree.specs.Lexeme.{lexemes};
+ghost use Rattle.idl_tree.specs.Reading.{first};
+ghost use Rattle.idl_tree.specs.Tests.{identifier_at, identifier_of, is_mark, is_word, keyword_of};
+ghost use Rattle.idl_syntax.specs.Gives.{Advances, Passes, Reads};
+ghost use Rattle.idl_syntax.specs.Next.{mark_of};
+
 use crate::error::ReadError;
 use idl_base::Text;
 use idl_lex::{Keyword, Kind, Mark, Token};
 use std::alloc::Global;
 
 /// The mark that the next token is.
-pub fn punctuation(tokens: &[Token]) -> Option<Mark> {
+#[tactic(auto, unfolding(idl_tree::specs::Lexeme::lexeme_of))]
+pub fn punctuation(tokens: &[Token]) -> Option<Mark>
+    ensures { result ≡ mark_of (first (lexemes tokens.now)) }
+{
     match tokens {
         [token, ..] => match token.kind() {
             Kind::Punctuation(mark) => Some(mark),
@@ -17,7 +28,10 @@ pub fn punctuation(tokens: &[Token]) -> Option<Mark> {
 }
 
 /// The keyword that the next token is.
-pub fn keyword(tokens: &[Token]) -> Option<Keyword> {
+#[tactic(auto, unfolding(idl_tree::specs::Lexeme::lexeme_of))]
+pub fn keyword(tokens: &[Token]) -> Option<Keyword>
+    ensures { result ≡ keyword_of (first (lexemes tokens.now)) }
+{
     match tokens {
         [token, ..] => match token.kind() {
             Kind::Accepted(keyword) => Some(keyword),
@@ -28,7 +42,9 @@ pub fn keyword(tokens: &[Token]) -> Option<Keyword> {
 }
 
 /// Whether the next token is this mark.
-pub fn is_at(tokens: &[Token], mark: Mark) -> bool {
+pub fn is_at(tokens: &[Token], mark: Mark) -> bool
+    ensures { result ≡ is_mark mark (first (lexemes tokens.now)) }
+{
     match punctuation(tokens) {
         Some(found) => found == mark,
         None => false,
@@ -36,7 +52,9 @@ pub fn is_at(tokens: &[Token], mark: Mark) -> bool {
 }
 
 /// Whether the next token is this keyword.
-pub fn is_at_word(tokens: &[Token], word: Keyword) -> bool {
+pub fn is_at_word(tokens: &[Token], word: Keyword) -> bool
+    ensures { result ≡ is_word word (first (lexemes tokens.now)) }
+{
     match keyword(tokens) {
         Some(found) => found == word,
         None => false,
@@ -44,7 +62,10 @@ pub fn is_at_word(tokens: &[Token], word: Keyword) -> bool {
 }
 
 /// What stands behind this mark.
-pub fn behind(tokens: &[Token], mark: Mark) -> Result<&[Token], ReadError> {
+pub fn behind(tokens: &[Token], mark: Mark) -> Result<&[Token], ReadError>
+    ensures reads { Passes (is_mark mark) tokens.now result }
+    ensures shorter { IfOk result (λ x. length x.now < length tokens.now) }
+{
     if is_at(tokens, mark) {
         Ok(&tokens[1..])
     } else {
@@ -53,7 +74,10 @@ pub fn behind(tokens: &[Token], mark: Mark) -> Result<&[Token], ReadError> {
 }
 
 /// What stands behind this keyword.
-pub fn behind_word(tokens: &[Token], word: Keyword) -> Result<&[Token], ReadError> {
+pub fn behind_word(tokens: &[Token], word: Keyword) -> Result<&[Token], ReadError>
+    ensures reads { Passes (is_word word) tokens.now result }
+    ensures shorter { IfOk result (λ x. length x.now < length tokens.now) }
+{
     if is_at_word(tokens, word) {
         Ok(&tokens[1..])
     } else {
@@ -62,7 +86,10 @@ pub fn behind_word(tokens: &[Token], word: Keyword) -> Result<&[Token], ReadErro
 }
 
 /// The name that the next token is, without an escape.
-fn name(tokens: &[Token]) -> Option<&[u8]> {
+#[tactic(auto, unfolding(idl_tree::specs::Lexeme::lexeme_of))]
+fn name(tokens: &[Token]) -> Option<&[u8]>
+    ensures { option_copied result ≡ identifier_of (first (lexemes tokens.now)) }
+{
     match tokens {
         [token, ..] => token.name(),
         [] => None,
@@ -70,7 +97,10 @@ fn name(tokens: &[Token]) -> Option<&[u8]> {
 }
 
 /// An identifier.
-pub fn identifier(alloc: Global, tokens: &[Token]) -> Result<(Text, &[Token]), ReadError> {
+pub fn identifier(alloc: Global, tokens: &[Token]) -> Result<(Text, &[Token]), ReadError>
+    ensures reads { Reads identifier_at tokens.now result }
+    ensures shorter { Advances tokens.now result }
+{
     match name(tokens) {
         Some(name) => Ok((Text::from_slice(alloc, name)?, &tokens[1..])),
         None => Err(ReadError::Syntax(tokens.len())),

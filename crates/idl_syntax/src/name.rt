@@ -1,5 +1,15 @@
 //! Scoped names, and lists of names.
 
+ghost use Rattle.std.specs.Prelude.{◌≡◌, ◌<◌, ◌≤◌, length, IfOk};
+ghost use Rattle.idl_lex.specs.declared.mark.Mark.TheVariants.{Comma};
+ghost use Rattle.idl_tree.specs.ReadConstruction.{listed_with};
+ghost use Rattle.idl_tree.specs.ReadExpression.{behind_with};
+ghost use Rattle.idl_tree.specs.ReadInterface.{list_at, more_names_at, raises_at, raises_if};
+ghost use Rattle.idl_tree.specs.ReadName.{name_at, part_at, parts_at};
+ghost use Rattle.idl_tree.specs.Reading.{many_of};
+ghost use Rattle.idl_tree.specs.Tests.{identifier_at, is_mark};
+ghost use Rattle.idl_syntax.specs.Gives.{Advances, Reads, Remains};
+
 use crate::cursor::{behind, behind_word, identifier, is_at, is_at_word};
 use crate::error::ReadError;
 use idl_base::{Seq, Text};
@@ -8,7 +18,11 @@ use idl_tree::{ScopedName, Several};
 use std::alloc::Global;
 
 /// A scoped name, with or without a leading `::`.
-pub fn scoped_name(alloc: Global, tokens: &[Token]) -> Result<(ScopedName, &[Token]), ReadError> {
+#[tactic(auto, unfolding(idl_tree::specs::ReadName::name_at))]
+pub fn scoped_name(alloc: Global, tokens: &[Token]) -> Result<(ScopedName, &[Token]), ReadError>
+    ensures reads { Reads name_at tokens.now result }
+    ensures shorter { Advances tokens.now result }
+{
     let is_global = is_at(tokens, Mark::ColonColon);
     let rest = if is_global { &tokens[1..] } else { tokens };
     let (first, rest) = identifier(alloc, rest)?;
@@ -22,13 +36,20 @@ pub fn scoped_name(alloc: Global, tokens: &[Token]) -> Result<(ScopedName, &[Tok
 }
 
 /// A further part of a name.
-fn part(alloc: Global, tokens: &[Token]) -> Result<(Text, &[Token]), ReadError> {
+#[tactic(auto, unfolding(idl_tree::specs::ReadName::part_at))]
+fn part(alloc: Global, tokens: &[Token]) -> Result<(Text, &[Token]), ReadError>
+    ensures reads { Reads part_at tokens.now result }
+    ensures shorter { Advances tokens.now result }
+{
     let rest = behind(tokens, Mark::ColonColon)?;
     identifier(alloc, rest)
 }
 
 /// The further parts of a name.
-fn parts(alloc: Global, tokens: &[Token]) -> Result<(Seq<Text>, &[Token]), ReadError> {
+fn parts(alloc: Global, tokens: &[Token]) -> Result<(Seq<Text>, &[Token]), ReadError>
+    ensures reads { Reads parts_at tokens.now result }
+    ensures within { Remains tokens.now result }
+{
     let mut parts = Vec::new(alloc);
     let mut rest = tokens;
     'parts: while is_at(rest, Mark::ColonColon) {
@@ -40,10 +61,14 @@ fn parts(alloc: Global, tokens: &[Token]) -> Result<(Seq<Text>, &[Token]), ReadE
 }
 
 /// One scoped name or more, with commas between.
+#[tactic(auto, unfolding(idl_tree::specs::ReadExpression::parted_with))]
 pub fn scoped_names(
     alloc: Global,
     tokens: &[Token],
-) -> Result<(Several<ScopedName>, &[Token]), ReadError> {
+) -> Result<(Several<ScopedName>, &[Token]), ReadError>
+    ensures reads { Reads (listed_with name_at) tokens.now result }
+    ensures shorter { Advances tokens.now result }
+{
     let (first, rest) = scoped_name(alloc, tokens)?;
     let (more, rest) = more_scoped_names(alloc, rest)?;
     Ok((Several { first, rest: more }, rest))
@@ -53,7 +78,10 @@ pub fn scoped_names(
 fn more_scoped_names(
     alloc: Global,
     tokens: &[Token],
-) -> Result<(Seq<ScopedName>, &[Token]), ReadError> {
+) -> Result<(Seq<ScopedName>, &[Token]), ReadError>
+    ensures reads { Reads (many_of (is_mark Comma) (behind_with Comma name_at)) tokens.now result }
+    ensures within { Remains tokens.now result }
+{
     let mut names = Vec::new(alloc);
     let mut rest = tokens;
     'names: while is_at(rest, Mark::Comma) {
@@ -65,10 +93,14 @@ fn more_scoped_names(
 }
 
 /// One identifier or more, with commas between.
+#[tactic(auto, unfolding(idl_tree::specs::ReadExpression::parted_with))]
 pub fn identifiers(
     alloc: Global,
     tokens: &[Token],
-) -> Result<(Several<Text>, &[Token]), ReadError> {
+) -> Result<(Several<Text>, &[Token]), ReadError>
+    ensures reads { Reads (listed_with identifier_at) tokens.now result }
+    ensures shorter { Advances tokens.now result }
+{
     let (first, rest) = identifier(alloc, tokens)?;
     let (more, rest) = more_identifiers(alloc, rest)?;
     Ok((Several { first, rest: more }, rest))
@@ -78,7 +110,10 @@ pub fn identifiers(
 pub fn more_identifiers(
     alloc: Global,
     tokens: &[Token],
-) -> Result<(Seq<Text>, &[Token]), ReadError> {
+) -> Result<(Seq<Text>, &[Token]), ReadError>
+    ensures reads { Reads more_names_at tokens.now result }
+    ensures within { Remains tokens.now result }
+{
     let mut names = Vec::new(alloc);
     let mut rest = tokens;
     'names: while is_at(rest, Mark::Comma) {
@@ -90,10 +125,14 @@ pub fn more_identifiers(
 }
 
 /// Scoped names in parentheses.
+#[tactic(auto, unfolding(idl_tree::specs::ReadInterface::list_at))]
 fn scoped_name_list(
     alloc: Global,
     tokens: &[Token],
-) -> Result<(Several<ScopedName>, &[Token]), ReadError> {
+) -> Result<(Several<ScopedName>, &[Token]), ReadError>
+    ensures reads { Reads list_at tokens.now result }
+    ensures shorter { Advances tokens.now result }
+{
     let rest = behind(tokens, Mark::OpenParenthesis)?;
     let (names, rest) = scoped_names(alloc, rest)?;
     let rest = behind(rest, Mark::CloseParenthesis)?;
@@ -101,21 +140,29 @@ fn scoped_name_list(
 }
 
 /// A keyword and scoped names in parentheses.
+#[tactic(auto, unfolding(idl_tree::specs::ReadInterface::raises_at))]
 pub fn raises(
     alloc: Global,
     word: Keyword,
     tokens: &[Token],
-) -> Result<(Several<ScopedName>, &[Token]), ReadError> {
+) -> Result<(Several<ScopedName>, &[Token]), ReadError>
+    ensures reads { Reads (raises_at word) tokens.now result }
+    ensures shorter { Advances tokens.now result }
+{
     let rest = behind_word(tokens, word)?;
     scoped_name_list(alloc, rest)
 }
 
 /// The same, if the keyword stands there.
+#[tactic(auto, unfolding(idl_tree::specs::ReadInterface::raises_if))]
 pub fn raises_if(
     alloc: Global,
     word: Keyword,
     tokens: &[Token],
-) -> Result<(Option<Several<ScopedName>>, &[Token]), ReadError> {
+) -> Result<(Option<Several<ScopedName>>, &[Token]), ReadError>
+    ensures reads { Reads (raises_if word) tokens.now result }
+    ensures within { Remains tokens.now result }
+{
     if !is_at_word(tokens, word) {
         return Ok((None, tokens));
     }
