@@ -1,14 +1,14 @@
 -- A loop over items: what it has read and what it is to read are what reading gives.
-use Rattle.std.proofs.Common.{◌≡◌, ℕ, zero, suc, ◌<◌, ◌-◌, Bool, true, false, List, [], ◌∷◌, ◌++◌, length, map, drop, Option, Result, Ok, Err, refl, sym, ap, subst, ◌∙◌, append_assoc, append-nil, arith, slice_range, length-drop}
+use Rattle.std.proofs.Common.{◌≡◌, ℕ, zero, suc, ◌<◌, ◌-◌, Bool, true, false, List, [], ◌∷◌, ◌++◌, length, map, drop, Option, Some, None, is_some, Result, Ok, Err, refl, sym, ap, subst, ◌∙◌, append_assoc, append-nil, arith, slice_range, length-drop}
 use Rattle.std.proofs.lemmas.List.{length-map, take_all}
 use Rattle.idl_lex.specs.declared.mark.Mark.{Mark}
 use Rattle.idl_syntax.specs.declared.error.ReadError.{ReadError}
 use Rattle.idl_syntax.specs.declared.error.ReadError.TheVariants as errors
 use Rattle.idl_syntax.specs.Gives.{Fails}
 use Rattle.idl_tree.specs.Lexeme.{Lexeme, lexeme_of, lexemes}
-use Rattle.idl_tree.specs.ReadExpression.{behind_with}
+use Rattle.idl_tree.specs.ReadExpression.{behind_with, step_with}
 use Rattle.idl_tree.specs.Reading.{Reader, ◌>>=◌, first, many_at, many_of}
-use Rattle.idl_tree.specs.Tests.{is_mark}
+use Rattle.idl_tree.specs.Tests.{is_mark, pick}
 
 -- what was read, before what is read
 abbrev pub with_front : {A : Type 0} → List A → Result (List A × List Lexeme) ℕ → Result (List A × List Lexeme) ℕ
@@ -95,3 +95,57 @@ pub loop_behind_fails : {A : Type 0} (m : Mark) (item : Reader A) (items : List 
 loop_behind_fails m item items rest total why t h f =
     let read : Fails why (item (lexemes (drop 1 rest))) = subst (λ (ts : List (List ℕ)). Fails why (item (lexemes ts))) (rest_is rest) f in
     turns_fail (is_mark m) (behind_with m item) items (lexemes rest) total why t h (subst (Fails why) (sym (behind_mark m item rest h)) read)
+
+-- items that are a token each
+pub loop_pick : {A : Type 0} (f : Option Lexeme → Option A) (items items' : List A) (rest : List (List ℕ)) (total : Result (List A × List Lexeme) ℕ) (x : A)
+    → f None ≡ None → Turns (λ t. is_some (f t)) (pick f) items (lexemes rest) total → f (first (lexemes rest)) ≡ Some x → items' ≡ items ++ x ∷ []
+    → Turns (λ t. is_some (f t)) (pick f) items' (lexemes (slice_range rest 1 (length rest))) total
+loop_pick f items items' [] total x nothing t h items-is = absurd cc
+loop_pick {A} f items items' (token ∷ rest) total x nothing t h items-is =
+    let test : is_some (f (first (lexemes (token ∷ rest)))) ≡ true = rw h refl in
+    let one : pick f (lexemes (token ∷ rest)) ≡ Ok (x, lexemes rest) = rw h refl in
+    let same : slice_range (token ∷ rest) 1 (length (token ∷ rest)) ≡ rest = rest_is (token ∷ rest) in
+    subst (λ (ts : List (List ℕ)). Turns (λ t. is_some (f t)) (pick f) items' (lexemes ts) total) (sym same)
+      (loop_step (λ t. is_some (f t)) (pick f) items items' (token ∷ rest) rest total x t test one (omega arith) items-is)
+
+pub loop_pick_ends : {A : Type 0} (f : Option Lexeme → Option A) (items : List A) (rest : List (List ℕ)) (total : Result (List A × List Lexeme) ℕ)
+    → Turns (λ t. is_some (f t)) (pick f) items (lexemes rest) total → f (first (lexemes rest)) ≡ None → total ≡ Ok (items, lexemes rest)
+loop_pick_ends f items rest total t h = turns_stop (λ t. is_some (f t)) (pick f) items (lexemes rest) total t (rw h refl)
+
+-- operators with operands
+abbrev with_operator : {O A : Type 0} → O → A × List Lexeme → Result ((O × A) × List Lexeme) ℕ
+with_operator o x = Ok ((o, x.0), x.1)
+
+operator_step : {O A : Type 0} (operator : Option Lexeme → Option O) (operand : Reader A) (o : O) (token : List ℕ) (rest : List (List ℕ)) → operator (first (lexemes (token ∷ rest))) ≡ Some o
+    → step_with operator operand (lexemes (token ∷ rest)) ≡ (operand (lexemes (slice_range (token ∷ rest) 1 (length (token ∷ rest)))) >>= λ x. Ok ((o, x.0), x.1))
+unfolding step_with
+operator_step {O} {A} operator operand o token rest h = rw h (ap (λ (ts : List (List ℕ)). operand (lexemes ts) >>= with_operator o) (sym (rest_is (token ∷ rest))))
+
+pub loop_operator : {O A : Type 0} (operator : Option Lexeme → Option O) (operand : Reader A) (items items' : List (O × A)) (rest after : List (List ℕ)) (total : Result (List (O × A) × List Lexeme) ℕ) (o : O) (x : A)
+    → operator None ≡ None → Turns (λ t. is_some (operator t)) (step_with operator operand) items (lexemes rest) total → operator (first (lexemes rest)) ≡ Some o
+    → operand (lexemes (slice_range rest 1 (length rest))) ≡ Ok (x, lexemes after) → length after < length (slice_range rest 1 (length rest)) → items' ≡ items ++ (o, x) ∷ []
+    → Turns (λ t. is_some (operator t)) (step_with operator operand) items' (lexemes after) total
+loop_operator operator operand items items' [] after total o x nothing t h e shorter items-is = absurd cc
+loop_operator operator operand items items' (token ∷ rest) after total o x nothing t h e shorter items-is =
+    let test : is_some (operator (first (lexemes (token ∷ rest)))) ≡ true = rw h refl in
+    let one : step_with operator operand (lexemes (token ∷ rest)) ≡ Ok ((o, x), lexemes after) = operator_step operator operand o token rest h ∙ rw e refl in
+    let less : length after < length (drop 1 (token ∷ rest)) = subst (λ (ts : List (List ℕ)). length after < length ts) (rest_is (token ∷ rest)) shorter in
+    loop_step (λ t. is_some (operator t)) (step_with operator operand) items items' (token ∷ rest) after total (o, x) t test one (shorter_rest (token ∷ rest) after less) items-is
+
+step_fails : {O A : Type 0} (o : O) (why : ReadError) (read : Result (A × List Lexeme) ℕ) → Fails why read → Fails why (read >>= with_operator o)
+step_fails o errors.Memory read f = tt
+step_fails o (errors.Syntax left) read f = rw f refl
+
+pub loop_operator_fails : {O A : Type 0} (operator : Option Lexeme → Option O) (operand : Reader A) (items : List (O × A)) (rest : List (List ℕ)) (total : Result (List (O × A) × List Lexeme) ℕ) (o : O) (why : ReadError)
+    → operator None ≡ None → Turns (λ t. is_some (operator t)) (step_with operator operand) items (lexemes rest) total → operator (first (lexemes rest)) ≡ Some o
+    → Fails why (operand (lexemes (slice_range rest 1 (length rest)))) → Fails why total
+loop_operator_fails operator operand items [] total o why nothing t h f = absurd cc
+loop_operator_fails {O} {A} operator operand items (token ∷ rest) total o why nothing t h f =
+    let test : is_some (operator (first (lexemes (token ∷ rest)))) ≡ true = rw h refl in
+    let read : Fails why (step_with operator operand (lexemes (token ∷ rest))) =
+          subst (Fails why) (sym (operator_step operator operand o token rest h)) (step_fails o why (operand (lexemes (slice_range (token ∷ rest) 1 (length (token ∷ rest))))) f) in
+    turns_fail (λ t. is_some (operator t)) (step_with operator operand) items (lexemes (token ∷ rest)) total why t test read
+
+pub loop_operator_ends : {O A : Type 0} (operator : Option Lexeme → Option O) (operand : Reader A) (items : List (O × A)) (rest : List (List ℕ)) (total : Result (List (O × A) × List Lexeme) ℕ)
+    → Turns (λ t. is_some (operator t)) (step_with operator operand) items (lexemes rest) total → operator (first (lexemes rest)) ≡ None → total ≡ Ok (items, lexemes rest)
+loop_operator_ends operator operand items rest total t h = turns_stop (λ t. is_some (operator t)) (step_with operator operand) items (lexemes rest) total t (rw h refl)

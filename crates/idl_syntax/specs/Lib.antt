@@ -1,2 +1,4 @@
 pub mod Gives
 pub mod Next
+pub mod Literal
+pub mod Steps

@@ -87,7 +87,7 @@ pub fn behind_word(tokens: &[Token], word: Keyword) -> Result<&[Token], ReadErro
 
 /// The name that the next token is, without an escape.
 #[tactic(auto, unfolding(idl_tree::specs::Lexeme::lexeme_of))]
-fn name(tokens: &[Token]) -> Option<&[u8]>
+pub fn name(tokens: &[Token]) -> Option<&[u8]>
     ensures { option_copied result ≡ identifier_of (first (lexemes tokens.now)) }
 {
     match tokens {

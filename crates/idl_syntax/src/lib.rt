@@ -3,4 +3,7 @@
 
 mod cursor;
 mod error;
+mod expression;
+mod literal;
 mod name;
+mod operator;
