@@ -4,7 +4,7 @@ ghost use Rattle.std.specs.Prelude.{◌≡◌, ◌<◌, length, IfOk};
 ghost use Rattle.std.specs.Option.{option_copied};
 ghost use Rattle.idl_tree.specs.Lexeme.{lexemes};
 ghost use Rattle.idl_tree.specs.Reading.{first};
-ghost use Rattle.idl_tree.specs.Tests.{identifier_at, identifier_of, is_mark, is_word, keyword_of};
+ghost use Rattle.idl_tree.specs.Tests.{by_word, identifier_at, identifier_of, is_mark, is_word, keyword_of};
 ghost use Rattle.idl_syntax.specs.Gives.{Advances, Passes, Reads};
 ghost use Rattle.idl_syntax.specs.Next.{mark_of};
 
@@ -83,6 +83,19 @@ pub fn behind_word(tokens: &[Token], word: Keyword) -> Result<&[Token], ReadErro
     } else {
         Err(ReadError::Syntax(tokens.len()))
     }
+}
+
+/// A keyword that says it all.
+pub fn by_word<T: Copy>(
+    tokens: &[Token],
+    word: Keyword,
+    value: T,
+) -> Result<(T, &[Token]), ReadError>
+    ensures reads { Reads (by_word word value) tokens.now result }
+    ensures shorter { Advances tokens.now result }
+{
+    let rest = behind_word(tokens, word)?;
+    Ok((value, rest))
 }
 
 /// The name that the next token is, without an escape.

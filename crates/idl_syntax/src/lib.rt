@@ -1,7 +1,10 @@
 //! The parser.
 #![tactic(auto)]
 
+mod construction;
 mod cursor;
+mod data_type;
+mod declarator;
 mod error;
 mod expression;
 mod literal;
