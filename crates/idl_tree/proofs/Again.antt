@@ -65,7 +65,7 @@ spell_operated token spell s = token s.0 ∷ spell s.1
 abbrev pub goes_or : (Option Lexeme → Bool) → (Option Lexeme → Bool) → Option Lexeme → Bool
 goes_or p goes t = cond (p t) true (goes t)
 
-neither : (b c : Bool) → cond b true c ≡ false → (b ≡ false) × (c ≡ false)
+pub neither : (b c : Bool) → cond b true c ≡ false → (b ≡ false) × (c ≡ false)
 neither true c h = absurd cc
 neither false c h = (refl, h)
 

@@ -1,25 +1,27 @@
 -- The spelling of structs, unions and enums by those of their parts.
-use Rattle.std.proofs.Common.{◌≡◌, ◌∙◌, ℕ, List, [], ◌∷◌, ◌++◌, sym, ap}
+use Rattle.std.proofs.Common.{◌≡◌, ◌∙◌, ℕ, List, [], ◌∷◌, ◌++◌, sym, ap, arith, length, subst, ◌<◌}
+use Rattle.std.proofs.lemmas.List.{length-append}
 use Rattle.idl_lex.specs.declared.keyword.Keyword.TheVariants as word
 use Rattle.idl_lex.specs.declared.mark.Mark.TheVariants as mark
 use Rattle.idl_tree.specs.Construction.{spell_enumeration, spell_discriminator, spell_label, construction_step, member_type_step, case_step, member_step, structure_step, union_step, spell_construction, spell_member_type, spell_case, spell_member, spell_structure, spell_union}
 use Rattle.idl_tree.specs.DataType.{spell_type, spell_declarator}
-use Rattle.idl_tree.specs.Lexeme.{Lexemes, Word, Punctuation, Identifier}
+use Rattle.idl_tree.specs.Lexeme.{Lexemes, Word, Punctuation, Identifier, Lexeme}
 use Rattle.idl_tree.specs.ReadConstruction.{made_member, made_structure, made_case, made_union}
+use Rattle.idl_tree.specs.Reading.{first}
 use Rattle.idl_tree.specs.Several.{spell_listed, spell_all}
 use Rattle.idl_tree.specs.declared.construction.Case.{Case}
 use Rattle.idl_tree.specs.declared.construction.Construction.{Construction, fold-Construction}
-use Rattle.idl_tree.specs.declared.construction.Construction.TheFolds.{fold-MemberType, fold-roll-Construction, fold-roll-MemberType, fold-roll-Case, fold-roll-Member, fold-roll-Structure, fold-roll-Union}
-use Rattle.idl_tree.specs.declared.construction.Construction.TheOpen.{Construction-F, MemberType-F}
-use Rattle.idl_tree.specs.declared.construction.Construction.TheVariants as construction
+use Rattle.idl_tree.specs.declared.construction.Construction.TheFolds.{fold-MemberType, fold-roll-Construction, fold-roll-MemberType, fold-roll-Case, fold-roll-Member, fold-roll-Structure, fold-roll-Union, fold_out-Case, fold_out-Member}
+use Rattle.idl_tree.specs.declared.construction.Construction.TheOpen.{Construction-F, MemberType-F, Member-F, Case-F}
 use Rattle.idl_tree.specs.declared.construction.Construction.TheVariants.{rolls-Structure, rolls-Union, rolls-Enumeration}
+use Rattle.idl_tree.specs.declared.construction.Construction.TheVariants as construction
 use Rattle.idl_tree.specs.declared.construction.Discriminator.{Discriminator}
 use Rattle.idl_tree.specs.declared.construction.Enumeration.{Enumeration}
 use Rattle.idl_tree.specs.declared.construction.Label.{Label}
 use Rattle.idl_tree.specs.declared.construction.Member.{Member}
 use Rattle.idl_tree.specs.declared.construction.MemberType.{MemberType}
-use Rattle.idl_tree.specs.declared.construction.MemberType.TheVariants as member_type
 use Rattle.idl_tree.specs.declared.construction.MemberType.TheVariants.{rolls-Type, rolls-Construction}
+use Rattle.idl_tree.specs.declared.construction.MemberType.TheVariants as member_type
 use Rattle.idl_tree.specs.declared.construction.Structure.{Structure}
 use Rattle.idl_tree.specs.declared.construction.Union.{Union}
 use Rattle.idl_tree.specs.declared.data_type.DataType.{DataType}
@@ -74,3 +76,23 @@ unfolding spell_union spell_case
 spell_union-made name d c cs =
     fold-roll-Union Lexemes Lexemes Lexemes Lexemes Lexemes Lexemes construction_step member_type_step case_step member_step structure_step union_step (record { name = name; discriminator = d; first = c; rest = cs })
     ∙ ap (λ (w : Lexemes). Word word.Union ∷ Identifier name ∷ Word word.Switch ∷ Punctuation mark.OpenParenthesis ∷ (spell_discriminator d ++ (Punctuation mark.CloseParenthesis ∷ Punctuation mark.OpenBrace ∷ (spell_case c ++ (w ++ Punctuation mark.CloseBrace ∷ []))))) (flat_map-map (λ w. w) _ cs)
+
+-- ---- none is without tokens
+
+ends_some : (a b : Lexemes) (t : Lexeme) → 0 < length (a ++ (b ++ t ∷ []))
+ends_some a b t = omega (arith, length-append a (b ++ t ∷ []), length-append b (t ∷ []))
+
+member_step_some : (x : Member-F Lexemes Lexemes Lexemes Lexemes Lexemes Lexemes) → 0 < length (member_step x)
+member_step_some x = ends_some x.kind (spell_listed spell_declarator x.declarators) (Punctuation mark.Semicolon)
+
+case_step_some : (x : Case-F Lexemes Lexemes Lexemes Lexemes Lexemes Lexemes) → 0 < length (case_step x)
+case_step_some x =
+    omega (arith, length-append (spell_all spell_label x.labels) (x.kind ++ (spell_declarator x.declarator ++ Punctuation mark.Semicolon ∷ [])), ends_some x.kind (spell_declarator x.declarator) (Punctuation mark.Semicolon))
+
+pub member_some : (m : Member) → 0 < length (spell_member m)
+unfolding spell_member
+member_some m = subst (λ (w : Lexemes). 0 < length w) (sym (fold_out-Member Lexemes Lexemes Lexemes Lexemes Lexemes Lexemes construction_step member_type_step case_step member_step structure_step union_step m)) (member_step_some _)
+
+pub case_some : (c : Case) → 0 < length (spell_case c)
+unfolding spell_case
+case_some c = subst (λ (w : Lexemes). 0 < length w) (sym (fold_out-Case Lexemes Lexemes Lexemes Lexemes Lexemes Lexemes construction_step member_type_step case_step member_step structure_step union_step c)) (case_step_some _)

@@ -111,31 +111,31 @@ abbrev pub ends_at : {C : Type 0} → C → ℕ → Reader C
 ends_at c n ts = Ok (c, ts)
 
 -- ---- one reader after another
-module _ (d N : ℕ) {A B C : Type 0} (spell1 : A → List Lexeme) (r1 : ℕ → Reader A) (value2 : A → B → C) (spell2 : B → List Lexeme) (r2 : A → ℕ → Reader C) where
-  abbrev pub then_value : A × B → C
-  then_value p = value2 p.0 p.1
+module _ (d N : ℕ) {E A B C : Type 0} (value1 : E → A) (spell1 : E → List Lexeme) (r1 : ℕ → Reader A) (value2 : A → B → C) (spell2 : B → List Lexeme) (r2 : A → ℕ → Reader C) where
+  abbrev pub then_value : E × B → C
+  then_value p = value2 (value1 p.0) p.1
 
-  abbrev pub then_spell : A × B → List Lexeme
+  abbrev pub then_spell : E × B → List Lexeme
   then_spell p = spell1 p.0 ++ spell2 p.1
 
   abbrev pub then_at : ℕ → Reader C
   then_at n ts = r1 n ts >>= λ x. r2 x.0 n x.1
 
-  pub then_laws : Laws d N same spell1 r1 → ((a : A) → Laws d N (value2 a) spell2 (r2 a)) → Laws d N then_value then_spell then_at
-  then_laws one two = record {
-    example = (one.example, (two one.example).example);
+  pub follow_laws : Laws d N value1 spell1 r1 → ((a : A) → Laws d N (value2 a) spell2 (r2 a)) → Laws d N then_value then_spell then_at
+  follow_laws one two = record {
+    example = (one.example, (two (value1 one.example)).example);
     sound = λ n ts c rest room e. sound n ts c rest room (bind_ok (r1 n ts) (λ x. r2 x.0 n x.1) (c, rest) e);
     fault = λ n ts k room e. fault n ts k room (bind_err (r1 n ts) (λ x. r2 x.0 n x.1) k e);
   }
     where
       -- the first part is read again, and the second goes on
-      again : (m : ℕ) (a : A) (x : A × List Lexeme) (more : List Lexeme) (o : Result (C × List Lexeme) ℕ) → r1 m (spell1 a ++ more) ≡ Ok (x.0, more) → r2 x.0 m more ≡ o → then_at m (spell1 a ++ more) ≡ o
+      again : (m : ℕ) (a : E) (x : A × List Lexeme) (more : List Lexeme) (o : Result (C × List Lexeme) ℕ) → r1 m (spell1 a ++ more) ≡ Ok (x.0, more) → r2 x.0 m more ≡ o → then_at m (spell1 a ++ more) ≡ o
       again m a x more o one-is two-is = ap (λ (r : Result (A × List Lexeme) ℕ). r >>= λ x. r2 x.0 m x.1) one-is ∙ two-is
 
       sound : (n : ℕ) (ts : List Lexeme) (c : C) (rest : List Lexeme) → Room d N n ts → (x : A × List Lexeme) × (r1 n ts ≡ Ok x) × (r2 x.0 n x.1 ≡ Ok (c, rest)) → Read d N then_value then_spell then_at ts c rest
       sound n ts c rest room b =
           let p = one.sound n ts b.0.0 b.0.1 room b.1 in
-          let a-is : p.tree ≡ b.0.0 = p.is in
+          let a-is : value1 p.tree ≡ b.0.0 = p.is in
           let room2 = room_rest d N n (spell1 p.tree) b.0.1 (subst (λ (w : List Lexeme). Room d N n w) p.parts room) in
           let q = (two b.0.0).sound n b.0.1 c rest room2 b.2 in
           record {
@@ -158,9 +158,9 @@ module _ (d N : ℕ) {A B C : Type 0} (spell1 : A → List Lexeme) (r1 : ℕ →
             parts = f.parts;
             left = f.left;
             local = λ m other room same_first. ap (λ (r : Result (A × List Lexeme) ℕ). r >>= λ x. r2 x.0 m x.1) (f.local m other room same_first);
-            tree = (f.tree, (two f.tree).example);
-            more = f.more ++ spell2 (two f.tree).example;
-            alive = ap (λ (w : List Lexeme). w ++ spell2 (two f.tree).example) f.alive ∙ append_assoc f.front f.more (spell2 (two f.tree).example);
+            tree = (f.tree, (two (value1 f.tree)).example);
+            more = f.more ++ spell2 (two (value1 f.tree)).example;
+            alive = ap (λ (w : List Lexeme). w ++ spell2 (two (value1 f.tree)).example) f.alive ∙ append_assoc f.front f.more (spell2 (two (value1 f.tree)).example);
           }
       fault n ts k room (in_second x e1 e2) =
           let p = one.sound n ts x.0 x.1 room e1 in
@@ -180,6 +180,11 @@ module _ (d N : ℕ) {A B C : Type 0} (spell1 : A → List Lexeme) (r1 : ℕ →
             more = f.more;
             alive = ap (λ (w : List Lexeme). spell1 p.tree ++ w) f.alive ∙ sym (append_assoc (spell1 p.tree) f.front f.more);
           }
+
+-- the same where the first reader reads whole trees
+pub then_laws : (d N : ℕ) {A B C : Type 0} (spell1 : A → List Lexeme) (r1 : ℕ → Reader A) (value2 : A → B → C) (spell2 : B → List Lexeme) (r2 : A → ℕ → Reader C)
+    → Laws d N same spell1 r1 → ((a : A) → Laws d N (value2 a) spell2 (r2 a)) → Laws d N (λ (p : A × B). value2 p.0 p.1) (λ p. spell1 p.0 ++ spell2 p.1) (next_at r1 r2)
+then_laws d N {A} spell1 r1 value2 spell2 r2 one two = follow_laws d N (λ (a : A). a) spell1 r1 value2 spell2 r2 one two
 
 -- ---- the last reader, whose value f sees
 module _ (d N : ℕ) {A C : Type 0} (f : A → C) (spell1 : A → List Lexeme) (r1 : ℕ → Reader A) where

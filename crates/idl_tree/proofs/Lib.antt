@@ -3,6 +3,7 @@ pub mod Many
 pub mod Whole
 pub mod SpellLemmas
 pub mod TokenLaws
+pub mod Switch
 pub mod NameLaws
 pub mod ExpressionLaws
 pub mod Again
@@ -11,4 +12,14 @@ pub mod TypeLaws
 pub mod NestedTypeLaws
 pub mod ConstructionSpelling
 pub mod ConstructionLaws
+pub mod NestedConstructionLaws
 pub mod InterfaceLaws
+pub mod OperationLaws
+pub mod UnitLaws
+pub mod AgainParts
+pub mod TypeAgain
+pub mod MemberAgain
+pub mod ConstructionAgain
+pub mod InterfaceAgain
+pub mod UnitAgain
+pub mod UnitWhole

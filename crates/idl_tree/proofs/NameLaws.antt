@@ -26,7 +26,7 @@ parts_laws : (d N : ℕ) → Laws d N same (many_spell spell_part) (λ n. parts_
 unfolding parts_at
 parts_laws d N = many_laws d N (is_mark ColonColon) spell_part (λ n. part_at) (λ a. omega arith) (part_laws d N)
 
-abbrev named : Bool → List ℕ → List (List ℕ) → ScopedName
+abbrev pub named : Bool → List ℕ → List (List ℕ) → ScopedName
 named b s ss = record { is_global = b; first = s; rest = ss }
 
 abbrev name_parts : Type 0

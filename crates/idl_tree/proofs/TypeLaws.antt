@@ -3,44 +3,39 @@ use Rattle.std.proofs.Common.{◌≡◌, ℕ, suc, Bool, true, false, cond, List
 use Rattle.idl_lex.specs.declared.keyword.Keyword.TheVariants as word
 use Rattle.idl_lex.specs.declared.keyword.Keyword.{Keyword}
 use Rattle.idl_lex.specs.declared.mark.Mark.TheVariants as mark
-use Rattle.idl_tree.specs.DataType.{spell_size, spell_basic, spell_bound, spell_plain, spell_length, spell_declarator}
+use Rattle.idl_tree.specs.DataType.{spell_size, spell_discrete, spell_basic, spell_bound, spell_string_word, spell_string, spell_plain, spell_length, spell_declarator}
 use Rattle.idl_tree.specs.Expression.{spell_expression}
 use Rattle.idl_tree.specs.Lexeme.{Lexeme, Lexemes, Word, Punctuation, Identifier}
 use Rattle.idl_tree.specs.Name.{spell_name}
-use Rattle.idl_tree.specs.ReadName.{name_at, begins_name}
-use Rattle.idl_tree.specs.ReadType.{unsigned_type, signed_type, size_at, SingleType, ShortWord, FloatWord, DoubleWord, CharWord, WcharWord, BooleanWord, OctetWord, AnyWord, ObjectWord, single_type_of, single_type, long_at, basic_at, bound_with, string_type, plain_with, length_with, declared, declarator_with}
+use Rattle.idl_tree.specs.ReadName.{name_at}
+use Rattle.idl_tree.specs.ReadType.{integer_type, long_size_at, size_at, unsigned_at, signed_at, discrete_by, discrete_at, signed_type, long_by, long_at, basic_by, basic_at, bound_with, string_word_of, string_type, string_with, plain_by, plain_with, length_with, declared, declarator_with}
 use Rattle.idl_tree.specs.Reading.{Reader, first, many_of}
-use Rattle.idl_tree.specs.Tests.{is_mark, is_word, pick, identifier_at}
+use Rattle.idl_tree.specs.Tests.{is_mark, is_word, keyword_of, pick, identifier_at}
 use Rattle.idl_tree.specs.declared.data_type.BasicType.{BasicType}
 use Rattle.idl_tree.specs.declared.data_type.BasicType.TheVariants as basic
+use Rattle.idl_tree.specs.declared.data_type.DiscreteType.{DiscreteType}
+use Rattle.idl_tree.specs.declared.data_type.DiscreteType.TheVariants as discrete
 use Rattle.idl_tree.specs.declared.data_type.IntegerSize.{IntegerSize}
 use Rattle.idl_tree.specs.declared.data_type.IntegerSize.TheVariants.{Short, Long, LongLong}
 use Rattle.idl_tree.specs.declared.data_type.PlainType.{PlainType}
 use Rattle.idl_tree.specs.declared.data_type.PlainType.TheVariants as plain
 use Rattle.idl_tree.specs.declared.expression.Expression.{Expression}
-use Rattle.idl_tree.specs.declared.name.ScopedName.{ScopedName}
 use Rattle.idl_tree.proofs.Laws.{Laws, same, either, next_at, mapped_at, behind_at, ends_at, then_laws, last_laws, done_laws, skip_laws, choice_laws, shape, deeper}
 use Rattle.idl_tree.proofs.Many.{many_spell, many_laws}
 use Rattle.idl_tree.proofs.NameLaws.{flat_map-many, name_laws}
+use Rattle.idl_tree.proofs.Switch.{switch_at, switch_laws, by_laws, fails_laws, mapped_laws, word_at, word_laws, by_word_laws}
 use Rattle.idl_tree.proofs.TokenLaws.{Picks, identifier_laws, only_mark, only_word, one_token, pick_laws, close_at, close_laws, some_is}
-
--- a keyword that ends what was read
-abbrev word_at : {C : Type 0} → Keyword → C → ℕ → Reader C
-word_at k c = behind_at (is_word k) (ends_at c)
-
-word_laws : (d N : ℕ) {C : Type 0} (k : Keyword) (c : C) → Laws d N (λ (u : Unit {0}). c) (λ u. Word k ∷ []) (word_at k c)
-word_laws d N k c = skip_laws d N (is_word k) (Word k) (λ (u : Unit {0}). c) (λ u. []) (ends_at c) (only_word k) (done_laws (suc d) N c)
 
 -- ---- integer types
 
-abbrev more_long_value : {C : Type 0} → C → C → Unit {0} ⊎ Unit {0} → C
-more_long_value more less = either (λ u. more) (λ u. less)
+abbrev more_long_value : Unit {0} ⊎ Unit {0} → IntegerSize
+more_long_value = either (λ u. LongLong) (λ u. Long)
 
 abbrev more_long_spell : Unit {0} ⊎ Unit {0} → Lexemes
 more_long_spell = either (λ u. Word word.Long ∷ []) (λ u. [])
 
 abbrev size_value : (Unit {0} ⊎ Unit {0}) ⊎ Unit {0} → IntegerSize
-size_value = either (more_long_value LongLong Long) (λ u. Short)
+size_value = either more_long_value (λ u. Short)
 
 abbrev size_spell : (Unit {0} ⊎ Unit {0}) ⊎ Unit {0} → Lexemes
 size_spell = either (λ x. Word word.Long ∷ more_long_spell x) (λ u. Word word.Short ∷ [])
@@ -54,105 +49,79 @@ abbrev more_long_at : ℕ → Reader IntegerSize
 more_long_at n ts = cond (is_word word.Long (first ts)) (word_at word.Long LongLong n ts) (ends_at Long n ts)
 
 pub size_laws : (d N : ℕ) → Laws d N same spell_size (λ n. size_at)
-unfolding size_at
-size_laws d N = shape d N size_value size_spell spell_size (λ n ts. cond (is_word word.Long (first ts)) (behind_at (is_word word.Long) more_long_at n ts) (word_at word.Short Short n ts)) (λ n. size_at) sizes (λ n ts. refl)
-    (choice_laws d N (is_word word.Long) (more_long_value LongLong Long) (λ x. Word word.Long ∷ more_long_spell x) (behind_at (is_word word.Long) more_long_at) (λ u. Short) (λ u. Word word.Short ∷ []) (word_at word.Short Short)
-    (skip_laws d N (is_word word.Long) (Word word.Long) (more_long_value LongLong Long) more_long_spell more_long_at (only_word word.Long)
+unfolding size_at long_size_at
+size_laws d N = shape d N size_value size_spell spell_size
+    (λ n ts. cond (is_word word.Long (first ts)) (behind_at (is_word word.Long) more_long_at n ts) (word_at word.Short Short n ts))
+    (λ n. size_at) sizes (λ n ts. refl)
+    (choice_laws d N (is_word word.Long) more_long_value (λ x. Word word.Long ∷ more_long_spell x) (behind_at (is_word word.Long) more_long_at) (λ u. Short) (λ u. Word word.Short ∷ []) (word_at word.Short Short)
+    (skip_laws d N (is_word word.Long) (Word word.Long) more_long_value more_long_spell more_long_at (only_word word.Long)
     (choice_laws (suc d) N (is_word word.Long) (λ u. LongLong) (λ u. Word word.Long ∷ []) (word_at word.Long LongLong) (λ u. Long) (λ u. []) (ends_at Long) (word_laws (suc d) N word.Long LongLong) (done_laws (suc d) N Long)))
     (word_laws d N word.Short Short))
 
-abbrev single_token : SingleType → Lexeme
-single_token ShortWord = Word word.Short
-single_token FloatWord = Word word.Float
-single_token DoubleWord = Word word.Double
-single_token CharWord = Word word.Char
-single_token WcharWord = Word word.Wchar
-single_token BooleanWord = Word word.Boolean
-single_token OctetWord = Word word.Octet
-single_token AnyWord = Word word.Any
-single_token ObjectWord = Word word.Object
+unsigned_laws : (d N : ℕ) → Laws d N same spell_discrete (λ n. unsigned_at)
+unsigned_laws d N = shape d N (integer_type true) (λ s. Word word.Unsigned ∷ spell_size s) spell_discrete
+    (behind_at (is_word word.Unsigned) (mapped_at (integer_type true) (λ n. size_at))) (λ n. unsigned_at) (λ s. refl) (λ n ts. refl)
+    (skip_laws d N (is_word word.Unsigned) (Word word.Unsigned) (integer_type true) spell_size (mapped_at (integer_type true) (λ n. size_at)) (only_word word.Unsigned)
+    (last_laws (suc d) N (integer_type true) spell_size (λ n. size_at) (size_laws (suc d) N)))
 
-singles_picked : Picks single_type_of single_token
-singles_picked = record { example = AnyWord; wanted = refl; only = only; again = again }
-  where
-    only : (t : Lexeme) (a : SingleType) → single_type_of (Some t) ≡ Some a → t ≡ single_token a
-    only (Word word.Short) a h = ap single_token (some_is ShortWord a h)
-    only (Word word.Float) a h = ap single_token (some_is FloatWord a h)
-    only (Word word.Double) a h = ap single_token (some_is DoubleWord a h)
-    only (Word word.Char) a h = ap single_token (some_is CharWord a h)
-    only (Word word.Wchar) a h = ap single_token (some_is WcharWord a h)
-    only (Word word.Boolean) a h = ap single_token (some_is BooleanWord a h)
-    only (Word word.Octet) a h = ap single_token (some_is OctetWord a h)
-    only (Word word.Any) a h = ap single_token (some_is AnyWord a h)
-    only (Word word.Object) a h = ap single_token (some_is ObjectWord a h)
-    only _ a h = absurd cc
+signed_laws : (d N : ℕ) → Laws d N same spell_discrete (λ n. signed_at)
+signed_laws d N = mapped_laws d N (integer_type false) spell_size spell_discrete (λ n. size_at) (λ s. refl) (size_laws d N)
 
-    again : (a : SingleType) → single_type_of (Some (single_token a)) ≡ Some a
-    again ShortWord = refl
-    again FloatWord = refl
-    again DoubleWord = refl
-    again CharWord = refl
-    again WcharWord = refl
-    again BooleanWord = refl
-    again OctetWord = refl
-    again AnyWord = refl
-    again ObjectWord = refl
+discrete_each : (d N : ℕ) (k : Option Keyword) → Laws d N same spell_discrete (λ n. discrete_by k)
+discrete_each d N (Some word.Unsigned) = unsigned_laws d N
+discrete_each d N (Some word.Short) = signed_laws d N
+discrete_each d N (Some word.Long) = signed_laws d N
+discrete_each d N (Some word.Char) = by_word_laws d N spell_discrete word.Char discrete.Char refl
+discrete_each d N (Some word.Wchar) = by_word_laws d N spell_discrete word.Wchar discrete.WideChar refl
+discrete_each d N (Some word.Boolean) = by_word_laws d N spell_discrete word.Boolean discrete.Boolean refl
+discrete_each d N (Some word.Octet) = by_word_laws d N spell_discrete word.Octet discrete.Octet refl
+discrete_each d N _ = fails_laws d N spell_discrete discrete.Octet
 
--- ---- what `long` begins
-
-abbrev long_value : Unit {0} ⊎ (Unit {0} ⊎ Unit {0}) → BasicType
-long_value = either (λ u. signed_type LongLong) (either (λ u. basic.LongDouble) (λ u. signed_type Long))
-
-abbrev long_spell : Unit {0} ⊎ (Unit {0} ⊎ Unit {0}) → Lexemes
-long_spell = either (λ u. Word word.Long ∷ []) (either (λ u. Word word.Double ∷ []) (λ u. []))
-
-long_laws : (d N : ℕ) → Laws d N long_value long_spell (λ n. long_at)
-unfolding long_at
-long_laws d N = choice_laws d N (is_word word.Long) (λ u. signed_type LongLong) (λ u. Word word.Long ∷ []) (word_at word.Long (signed_type LongLong)) (either (λ u. basic.LongDouble) (λ u. signed_type Long)) (either (λ u. Word word.Double ∷ []) (λ u. []))
-    (λ n ts. cond (is_word word.Double (first ts)) (word_at word.Double basic.LongDouble n ts) (ends_at (signed_type Long) n ts))
-    (word_laws d N word.Long (signed_type LongLong))
-    (choice_laws d N (is_word word.Double) (λ u. basic.LongDouble) (λ u. Word word.Double ∷ []) (word_at word.Double basic.LongDouble) (λ u. signed_type Long) (λ u. []) (ends_at (signed_type Long)) (word_laws d N word.Double basic.LongDouble) (done_laws d N (signed_type Long)))
+pub discrete_laws : (d N : ℕ) → Laws d N same spell_discrete (λ n. discrete_at)
+unfolding discrete_at
+discrete_laws d N = by_laws d N keyword_of spell_discrete (λ k n. discrete_by k) None (discrete_each d N)
 
 -- ---- types of keywords
 
-abbrev basic_value : IntegerSize ⊎ ((Unit {0} ⊎ (Unit {0} ⊎ Unit {0})) ⊎ SingleType) → BasicType
-basic_value = either unsigned_type (either long_value single_type)
+-- what stands behind `long`, by its first keyword
+abbrev long_value : Option Keyword → BasicType
+long_value (Some word.Long) = signed_type LongLong
+long_value (Some word.Double) = basic.LongDouble
+long_value _ = signed_type Long
 
-abbrev basic_spell : IntegerSize ⊎ ((Unit {0} ⊎ (Unit {0} ⊎ Unit {0})) ⊎ SingleType) → Lexemes
-basic_spell = either (λ s. Word word.Unsigned ∷ spell_size s) (either (λ x. Word word.Long ∷ long_spell x) (one_token single_token))
+abbrev long_spell : Option Keyword → Lexemes
+long_spell (Some word.Long) = Word word.Long ∷ []
+long_spell (Some word.Double) = Word word.Double ∷ []
+long_spell _ = []
 
-basics : (x : IntegerSize ⊎ ((Unit {0} ⊎ (Unit {0} ⊎ Unit {0})) ⊎ SingleType)) → spell_basic (basic_value x) ≡ basic_spell x
-basics (inl s) = refl
-basics (inr (inl (inl u))) = refl
-basics (inr (inl (inr (inl u)))) = refl
-basics (inr (inl (inr (inr u)))) = refl
-basics (inr (inr ShortWord)) = refl
-basics (inr (inr FloatWord)) = refl
-basics (inr (inr DoubleWord)) = refl
-basics (inr (inr CharWord)) = refl
-basics (inr (inr WcharWord)) = refl
-basics (inr (inr BooleanWord)) = refl
-basics (inr (inr OctetWord)) = refl
-basics (inr (inr AnyWord)) = refl
-basics (inr (inr ObjectWord)) = refl
+long_each : (d N : ℕ) (k : Option Keyword) → Laws d N (λ (u : Unit {0}). long_value k) (λ u. long_spell k) (λ n. long_by k)
+long_each d N (Some word.Long) = word_laws d N word.Long (signed_type LongLong)
+long_each d N (Some word.Double) = word_laws d N word.Double basic.LongDouble
+long_each d N _ = done_laws d N (signed_type Long)
 
-abbrev unsigned_at : ℕ → Reader BasicType
-unsigned_at = behind_at (is_word word.Unsigned) (mapped_at unsigned_type (λ n. size_at))
+longs : (k : Option Keyword) → spell_basic (long_value k) ≡ Word word.Long ∷ long_spell k
+longs (Some word.Long) = refl
+longs (Some word.Double) = refl
+longs _ = refl
 
-abbrev after_long_at : ℕ → Reader BasicType
-after_long_at = behind_at (is_word word.Long) (λ n. long_at)
+long_laws : (d N : ℕ) → Laws d N same spell_basic (λ n. long_at)
+unfolding long_at
+long_laws d N = shape d N (λ (p : Option Keyword × Unit {0}). long_value p.0) (λ p. Word word.Long ∷ long_spell p.0) spell_basic
+    (behind_at (is_word word.Long) (λ n ts. long_by (keyword_of (first ts)) ts)) (λ n. long_at) (λ p. longs p.0) (λ n ts. refl)
+    (skip_laws d N (is_word word.Long) (Word word.Long) (λ (p : Option Keyword × Unit {0}). long_value p.0) (λ p. long_spell p.0) (λ n ts. long_by (keyword_of (first ts)) ts) (only_word word.Long)
+    (switch_laws (suc d) N keyword_of (λ k (u : Unit {0}). long_value k) (λ k u. long_spell k) (λ k n. long_by k) None (long_each (suc d) N)))
 
-abbrev other_basic_at : ℕ → Reader BasicType
-other_basic_at n ts = cond (is_word word.Long (first ts)) (after_long_at n ts) (mapped_at single_type (λ n. pick single_type_of) n ts)
+basic_each : (d N : ℕ) (k : Option Keyword) → Laws d N same spell_basic (λ n. basic_by k)
+basic_each d N (Some word.Long) = long_laws d N
+basic_each d N (Some word.Float) = by_word_laws d N spell_basic word.Float basic.Float refl
+basic_each d N (Some word.Double) = by_word_laws d N spell_basic word.Double basic.Double refl
+basic_each d N (Some word.Any) = by_word_laws d N spell_basic word.Any basic.Any refl
+basic_each d N (Some word.Object) = by_word_laws d N spell_basic word.Object basic.Object refl
+basic_each d N _ = mapped_laws d N basic.Discrete spell_discrete spell_basic (λ n. discrete_at) (λ s. refl) (discrete_laws d N)
 
 pub basic_laws : (d N : ℕ) → Laws d N same spell_basic (λ n. basic_at)
 unfolding basic_at
-basic_laws d N = shape d N basic_value basic_spell spell_basic (λ n ts. cond (is_word word.Unsigned (first ts)) (unsigned_at n ts) (other_basic_at n ts)) (λ n. basic_at) basics (λ n ts. refl)
-    (choice_laws d N (is_word word.Unsigned) unsigned_type (λ s. Word word.Unsigned ∷ spell_size s) unsigned_at (either long_value single_type) (either (λ x. Word word.Long ∷ long_spell x) (one_token single_token)) other_basic_at
-    (skip_laws d N (is_word word.Unsigned) (Word word.Unsigned) unsigned_type spell_size (mapped_at unsigned_type (λ n. size_at)) (only_word word.Unsigned) (last_laws (suc d) N unsigned_type spell_size (λ n. size_at) (size_laws (suc d) N)))
-    (choice_laws d N (is_word word.Long) long_value (λ x. Word word.Long ∷ long_spell x) after_long_at single_type (one_token single_token) (mapped_at single_type (λ n. pick single_type_of))
-    (skip_laws d N (is_word word.Long) (Word word.Long) long_value long_spell (λ n. long_at) (only_word word.Long) (long_laws (suc d) N))
-    (last_laws d N single_type (one_token single_token) (λ n. pick single_type_of) (pick_laws d N single_type_of single_token singles_picked))))
+basic_laws d N = by_laws d N keyword_of spell_basic (λ k n. basic_by k) None (basic_each d N)
 
 -- ---- bounds
 
@@ -171,7 +140,8 @@ some_bound_at r = behind_at (is_mark mark.Less) (next_at r (λ e. close_at mark.
 
 pub bound_laws : (d N : ℕ) (r : ℕ → Reader Expression) → Laws (suc d) N same spell_expression r → Laws d N same spell_bound (λ n. bound_with (r n))
 unfolding bound_with
-bound_laws d N r laws = shape d N bound_value bound_spell spell_bound (λ n ts. cond (is_mark mark.Less (first ts)) (some_bound_at r n ts) (ends_at None n ts)) (λ n. bound_with (r n)) bounds (λ n ts. refl)
+bound_laws d N r laws = shape d N bound_value bound_spell spell_bound
+    (λ n ts. cond (is_mark mark.Less (first ts)) (some_bound_at r n ts) (ends_at None n ts)) (λ n. bound_with (r n)) bounds (λ n ts. refl)
     (choice_laws d N (is_mark mark.Less) (λ (p : Expression × Unit {0}). Some p.0) (λ p. Punctuation mark.Less ∷ (spell_expression p.0 ++ Punctuation mark.Greater ∷ [])) (some_bound_at r) (λ (u : Unit {0}). None) (λ u. []) (ends_at None)
     (skip_laws d N (is_mark mark.Less) (Punctuation mark.Less) (λ (p : Expression × Unit {0}). Some p.0) (λ p. spell_expression p.0 ++ Punctuation mark.Greater ∷ []) (next_at r (λ e. close_at mark.Greater (Some e))) (only_mark mark.Less)
     (then_laws (suc d) N spell_expression r (λ (e : Expression) (u : Unit {0}). Some e) (λ u. Punctuation mark.Greater ∷ []) (λ e. close_at mark.Greater (Some e)) laws (λ e. close_laws (suc d) N mark.Greater (Some e))))
@@ -179,47 +149,50 @@ bound_laws d N r laws = shape d N bound_value bound_spell spell_bound (λ n ts. 
 
 -- ---- types that hold no other one
 
-abbrev plain_value : Option Expression ⊎ (Option Expression ⊎ (ScopedName ⊎ BasicType)) → PlainType
-plain_value = either (string_type false) (either (string_type true) (either plain.Name plain.Basic))
+abbrev pub string_token : Bool → Lexeme
+string_token true = Word word.Wstring
+string_token false = Word word.String
 
-abbrev plain_spell : Option Expression ⊎ (Option Expression ⊎ (ScopedName ⊎ BasicType)) → Lexemes
-plain_spell = either (λ b. Word word.String ∷ spell_bound b) (either (λ b. Word word.Wstring ∷ spell_bound b) (either spell_name spell_basic))
+pub string_words_picked : Picks string_word_of string_token
+string_words_picked = record { example = false; wanted = refl; only = only; again = again }
+  where
+    only : (t : Lexeme) (a : Bool) → string_word_of (Some t) ≡ Some a → t ≡ string_token a
+    only (Word word.String) a h = ap string_token (some_is false a h)
+    only (Word word.Wstring) a h = ap string_token (some_is true a h)
+    only _ a h = absurd cc
 
-plains : (x : Option Expression ⊎ (Option Expression ⊎ (ScopedName ⊎ BasicType))) → spell_plain (plain_value x) ≡ plain_spell x
-plains (inl b) = refl
-plains (inr (inl b)) = refl
-plains (inr (inr (inl n))) = refl
-plains (inr (inr (inr b))) = refl
+    again : (a : Bool) → string_word_of (Some (string_token a)) ≡ Some a
+    again true = refl
+    again false = refl
 
-abbrev string_at : (ℕ → Reader Expression) → Keyword → Bool → ℕ → Reader PlainType
-string_at r k is_wide = behind_at (is_word k) (mapped_at (string_type is_wide) (λ n. bound_with (r n)))
+strings : (p : Bool × Option Expression) → spell_string (string_type p.0 p.1) ≡ one_token string_token p.0 ++ spell_bound p.1
+strings (true, b) = refl
+strings (false, b) = refl
 
-abbrev unquoted_at : ℕ → Reader PlainType
-unquoted_at n ts = cond (begins_name (first ts)) (mapped_at plain.Name (λ n. name_at) n ts) (mapped_at plain.Basic (λ n. basic_at) n ts)
+pub string_laws : (d N : ℕ) (r : ℕ → Reader Expression) → Laws (suc d) N same spell_expression r → Laws d N same spell_string (λ n. string_with (r n))
+unfolding string_with
+string_laws d N r laws = shape d N (λ (p : Bool × Option Expression). string_type p.0 p.1) (λ p. one_token string_token p.0 ++ spell_bound p.1) spell_string
+    (next_at (λ n. pick string_word_of) (λ w. mapped_at (string_type w) (λ n. bound_with (r n)))) (λ n. string_with (r n)) strings (λ n ts. refl)
+    (then_laws d N (one_token string_token) (λ n. pick string_word_of) string_type spell_bound (λ w. mapped_at (string_type w) (λ n. bound_with (r n)))
+    (pick_laws d N string_word_of string_token string_words_picked)
+    (λ w. last_laws d N (string_type w) spell_bound (λ n. bound_with (r n)) (bound_laws d N r laws)))
 
-abbrev narrow_at : (ℕ → Reader Expression) → ℕ → Reader PlainType
-narrow_at r n ts = cond (is_word word.Wstring (first ts)) (string_at r word.Wstring true n ts) (unquoted_at n ts)
-
-string_laws : (d N : ℕ) (r : ℕ → Reader Expression) (k : Keyword) (is_wide : Bool) → Laws (suc d) N same spell_bound (λ n. bound_with (r n)) → Laws d N (string_type is_wide) (λ b. Word k ∷ spell_bound b) (string_at r k is_wide)
-string_laws d N r k is_wide laws = skip_laws d N (is_word k) (Word k) (string_type is_wide) spell_bound (mapped_at (string_type is_wide) (λ n. bound_with (r n))) (only_word k) (last_laws (suc d) N (string_type is_wide) spell_bound (λ n. bound_with (r n)) laws)
+plain_each : (d N : ℕ) (r : ℕ → Reader Expression) → Laws (suc d) N same spell_expression r → (k : Option Keyword) → Laws d N same spell_plain (λ n. plain_by (r n) k)
+plain_each d N r laws (Some word.String) = mapped_laws d N plain.String spell_string spell_plain (λ n. string_with (r n)) (λ s. refl) (string_laws d N r laws)
+plain_each d N r laws (Some word.Wstring) = mapped_laws d N plain.String spell_string spell_plain (λ n. string_with (r n)) (λ s. refl) (string_laws d N r laws)
+plain_each d N r laws None = mapped_laws d N plain.Name spell_name spell_plain (λ n. name_at) (λ n. refl) (name_laws d N)
+plain_each d N r laws _ = mapped_laws d N plain.Basic spell_basic spell_plain (λ n. basic_at) (λ b. refl) (basic_laws d N)
 
 pub plain_laws : (d N : ℕ) (r : ℕ → Reader Expression) → Laws (suc d) N same spell_expression r → Laws d N same spell_plain (λ n. plain_with (r n))
 unfolding plain_with
-plain_laws d N r laws =
-    let bounded = bound_laws (suc d) N r (deeper (suc d) N same spell_expression r laws) in
-    shape d N plain_value plain_spell spell_plain (λ n ts. cond (is_word word.String (first ts)) (string_at r word.String false n ts) (narrow_at r n ts)) (λ n. plain_with (r n)) plains (λ n ts. refl)
-    (choice_laws d N (is_word word.String) (string_type false) (λ b. Word word.String ∷ spell_bound b) (string_at r word.String false) (either (string_type true) (either plain.Name plain.Basic)) (either (λ b. Word word.Wstring ∷ spell_bound b) (either spell_name spell_basic)) (narrow_at r)
-    (string_laws d N r word.String false bounded)
-    (choice_laws d N (is_word word.Wstring) (string_type true) (λ b. Word word.Wstring ∷ spell_bound b) (string_at r word.Wstring true) (either plain.Name plain.Basic) (either spell_name spell_basic) unquoted_at
-    (string_laws d N r word.Wstring true bounded)
-    (choice_laws d N begins_name plain.Name spell_name (mapped_at plain.Name (λ n. name_at)) plain.Basic spell_basic (mapped_at plain.Basic (λ n. basic_at))
-    (last_laws d N plain.Name spell_name (λ n. name_at) (name_laws d N)) (last_laws d N plain.Basic spell_basic (λ n. basic_at) (basic_laws d N)))))
+plain_laws d N r laws = by_laws d N keyword_of spell_plain (λ k n. plain_by (r n) k) None (plain_each d N r laws)
 
 -- ---- declared names
 
 length_laws : (d N : ℕ) (r : ℕ → Reader Expression) → Laws (suc d) N same spell_expression r → Laws d N same spell_length (λ n. length_with (r n))
 unfolding length_with
-length_laws d N r laws = shape d N (λ (p : Expression × Unit {0}). p.0) (λ p. Punctuation mark.OpenBracket ∷ (spell_expression p.0 ++ Punctuation mark.CloseBracket ∷ [])) spell_length (behind_at (is_mark mark.OpenBracket) (next_at r (λ e. close_at mark.CloseBracket e))) (λ n. length_with (r n)) (λ p. refl) (λ n ts. refl)
+length_laws d N r laws = shape d N (λ (p : Expression × Unit {0}). p.0) (λ p. Punctuation mark.OpenBracket ∷ (spell_expression p.0 ++ Punctuation mark.CloseBracket ∷ [])) spell_length
+    (behind_at (is_mark mark.OpenBracket) (next_at r (λ e. close_at mark.CloseBracket e))) (λ n. length_with (r n)) (λ p. refl) (λ n ts. refl)
     (skip_laws d N (is_mark mark.OpenBracket) (Punctuation mark.OpenBracket) (λ (p : Expression × Unit {0}). p.0) (λ p. spell_expression p.0 ++ Punctuation mark.CloseBracket ∷ []) (next_at r (λ e. close_at mark.CloseBracket e)) (only_mark mark.OpenBracket)
     (then_laws (suc d) N spell_expression r (λ (e : Expression) (u : Unit {0}). e) (λ u. Punctuation mark.CloseBracket ∷ []) (λ e. close_at mark.CloseBracket e) laws (λ e. close_laws (suc d) N mark.CloseBracket e)))
 
@@ -228,7 +201,8 @@ lengths_at r n = many_of (is_mark mark.OpenBracket) (length_with (r n))
 
 pub declarator_laws : (d N : ℕ) (r : ℕ → Reader Expression) → Laws (suc d) N same spell_expression r → Laws d N same spell_declarator (λ n. declarator_with (r n))
 unfolding declarator_with
-declarator_laws d N r laws = shape d N (λ (p : List ℕ × List Expression). declared p.0 p.1) (λ p. one_token Identifier p.0 ++ many_spell spell_length p.1) spell_declarator (next_at (λ n. identifier_at) (λ name. mapped_at (declared name) (lengths_at r))) (λ n. declarator_with (r n))
+declarator_laws d N r laws = shape d N (λ (p : List ℕ × List Expression). declared p.0 p.1) (λ p. one_token Identifier p.0 ++ many_spell spell_length p.1) spell_declarator
+    (next_at (λ n. identifier_at) (λ name. mapped_at (declared name) (lengths_at r))) (λ n. declarator_with (r n))
     (λ p. ap (λ (w : Lexemes). Identifier p.0 ∷ w) (flat_map-many spell_length p.1)) (λ n ts. refl)
     (then_laws d N (one_token Identifier) (λ n. identifier_at) declared (many_spell spell_length) (λ name. mapped_at (declared name) (lengths_at r)) (identifier_laws d N)
     (λ name. last_laws d N (declared name) (many_spell spell_length) (lengths_at r) (many_laws d N (is_mark mark.OpenBracket) spell_length (λ n. length_with (r n)) (λ e. omega arith) (length_laws d N r laws))))

@@ -25,7 +25,8 @@ use Rattle.idl_tree.specs.declared.construction.Construction.TheOpen.{MemberType
 abbrev pub spell_enumeration : Enumeration → Lexemes
 spell_enumeration e =
     Word word.Enum ∷ Identifier e.name ∷ Punctuation mark.OpenBrace
-    ∷ (spell_listed (λ name. Identifier name ∷ []) e.enumerators ++ Punctuation mark.CloseBrace ∷ [])
+    ∷ (spell_listed (λ name. Identifier name ∷ []) e.enumerators
+    ++ Punctuation mark.CloseBrace ∷ [])
 
 -- disc
 abbrev pub spell_discriminator : Discriminator → Lexemes
@@ -42,44 +43,63 @@ abbrev pub member_type_step : MemberType-F Lexemes Lexemes Lexemes Lexemes Lexem
 member_type_step (MemberType-F.Type t) = spell_type t
 member_type_step (MemberType-F.Construction c) = c
 
-abbrev pub construction_step : Construction-F Lexemes Lexemes Lexemes Lexemes Lexemes Lexemes → Lexemes
+abbrev pub construction_step : Construction-F Lexemes Lexemes Lexemes Lexemes Lexemes Lexemes
+    → Lexemes
 construction_step (Construction-F.Structure s) = s
 construction_step (Construction-F.Union u) = u
 construction_step (Construction-F.Enumeration e) = spell_enumeration e
 
 -- "struct" ID "{" member+ "}"
 abbrev pub structure_step : Structure-F Lexemes Lexemes Lexemes Lexemes Lexemes Lexemes → Lexemes
-structure_step s = Word word.Struct ∷ Identifier s.name ∷ Punctuation mark.OpenBrace ∷ (s.first ++ (flat_map (λ m. m) s.rest ++ Punctuation mark.CloseBrace ∷ []))
+structure_step s =
+    Word word.Struct ∷ Identifier s.name ∷ Punctuation mark.OpenBrace
+    ∷ (s.first ++ (flat_map (λ m. m) s.rest ++ Punctuation mark.CloseBrace ∷ []))
 
 -- member = ( type | constr ) declr/"," ";"
 abbrev pub member_step : Member-F Lexemes Lexemes Lexemes Lexemes Lexemes Lexemes → Lexemes
-member_step m = m.kind ++ (spell_listed spell_declarator m.declarators ++ Punctuation mark.Semicolon ∷ [])
+member_step m =
+    m.kind ++ (spell_listed spell_declarator m.declarators ++ Punctuation mark.Semicolon ∷ [])
 
 -- "union" ID "switch" "(" disc ")" "{" case+ "}"
 abbrev pub union_step : Union-F Lexemes Lexemes Lexemes Lexemes Lexemes Lexemes → Lexemes
 union_step u =
     Word word.Union ∷ Identifier u.name ∷ Word word.Switch ∷ Punctuation mark.OpenParenthesis
-    ∷ (spell_discriminator u.discriminator ++ (Punctuation mark.CloseParenthesis ∷ Punctuation mark.OpenBrace
+    ∷ (spell_discriminator u.discriminator
+    ++ (Punctuation mark.CloseParenthesis ∷ Punctuation mark.OpenBrace
     ∷ (u.first ++ (flat_map (λ c. c) u.rest ++ Punctuation mark.CloseBrace ∷ []))))
 
 -- case = label+ ( type | constr ) declr ";"
 abbrev pub case_step : Case-F Lexemes Lexemes Lexemes Lexemes Lexemes Lexemes → Lexemes
-case_step c = spell_all spell_label c.labels ++ (c.kind ++ (spell_declarator c.declarator ++ Punctuation mark.Semicolon ∷ []))
+case_step c =
+    spell_all spell_label c.labels
+    ++ (c.kind ++ (spell_declarator c.declarator ++ Punctuation mark.Semicolon ∷ []))
 
 unfoldable pub spell_construction : Construction → Lexemes
-spell_construction = fold-Construction Lexemes Lexemes Lexemes Lexemes Lexemes Lexemes construction_step member_type_step case_step member_step structure_step union_step
+spell_construction =
+    fold-Construction Lexemes Lexemes Lexemes Lexemes Lexemes Lexemes
+    construction_step member_type_step case_step member_step structure_step union_step
 
 unfoldable pub spell_member_type : MemberType → Lexemes
-spell_member_type = fold-MemberType Lexemes Lexemes Lexemes Lexemes Lexemes Lexemes construction_step member_type_step case_step member_step structure_step union_step
+spell_member_type =
+    fold-MemberType Lexemes Lexemes Lexemes Lexemes Lexemes Lexemes
+    construction_step member_type_step case_step member_step structure_step union_step
 
 unfoldable pub spell_case : Case → Lexemes
-spell_case = fold-Case Lexemes Lexemes Lexemes Lexemes Lexemes Lexemes construction_step member_type_step case_step member_step structure_step union_step
+spell_case =
+    fold-Case Lexemes Lexemes Lexemes Lexemes Lexemes Lexemes
+    construction_step member_type_step case_step member_step structure_step union_step
 
 unfoldable pub spell_member : Member → Lexemes
-spell_member = fold-Member Lexemes Lexemes Lexemes Lexemes Lexemes Lexemes construction_step member_type_step case_step member_step structure_step union_step
+spell_member =
+    fold-Member Lexemes Lexemes Lexemes Lexemes Lexemes Lexemes
+    construction_step member_type_step case_step member_step structure_step union_step
 
 unfoldable pub spell_structure : Structure → Lexemes
-spell_structure = fold-Structure Lexemes Lexemes Lexemes Lexemes Lexemes Lexemes construction_step member_type_step case_step member_step structure_step union_step
+spell_structure =
+    fold-Structure Lexemes Lexemes Lexemes Lexemes Lexemes Lexemes
+    construction_step member_type_step case_step member_step structure_step union_step
 
 unfoldable pub spell_union : Union → Lexemes
-spell_union = fold-Union Lexemes Lexemes Lexemes Lexemes Lexemes Lexemes construction_step member_type_step case_step member_step structure_step union_step
+spell_union =
+    fold-Union Lexemes Lexemes Lexemes Lexemes Lexemes Lexemes
+    construction_step member_type_step case_step member_step structure_step union_step

@@ -28,7 +28,7 @@ spell_size Short = Word word.Short ∷ []
 spell_size Long = Word word.Long ∷ []
 spell_size LongLong = Word word.Long ∷ Word word.Long ∷ []
 
--- int = ["unsigned"] ( "short" | "long" | "long" "long" ); and the others that a discriminator may have
+-- int = ["unsigned"] ( "short" | "long" | "long" "long" ); and "char" | "wchar" | "boolean" | "octet"
 abbrev pub spell_discrete : DiscreteType → Lexemes
 spell_discrete (discrete.Integer i) = spell_sign i.is_unsigned ++ spell_size i.size
 spell_discrete discrete.Char = Word word.Char ∷ []
@@ -75,14 +75,17 @@ data_type_step (DataType-F.Plain p) = spell_plain p
 data_type_step (DataType-F.Sequence inner) = inner
 
 abbrev pub sequence_step : Sequence-F Lexemes Lexemes → Lexemes
-sequence_step s = Word word.Sequence ∷ Punctuation mark.Less ∷ (s.element ++ (spell_limit s.bound ++ Punctuation mark.Greater ∷ []))
+sequence_step s =
+    Word word.Sequence ∷ Punctuation mark.Less
+    ∷ (s.element ++ (spell_limit s.bound ++ Punctuation mark.Greater ∷ []))
 
 unfoldable pub spell_type : DataType → Lexemes
 spell_type = fold-DataType Lexemes Lexemes data_type_step sequence_step
 
 -- "[" expr "]"
 abbrev pub spell_length : Expression → Lexemes
-spell_length e = Punctuation mark.OpenBracket ∷ (spell_expression e ++ Punctuation mark.CloseBracket ∷ [])
+spell_length e =
+    Punctuation mark.OpenBracket ∷ (spell_expression e ++ Punctuation mark.CloseBracket ∷ [])
 
 -- declr = ID ( "[" expr "]" )*
 abbrev pub spell_declarator : Declarator → Lexemes

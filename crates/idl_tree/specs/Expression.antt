@@ -57,61 +57,94 @@ spell_unary_operator (Some unary.Plus) = Punctuation mark.Plus ∷ []
 spell_unary_operator (Some unary.Complement) = Punctuation mark.Tilde ∷ []
 
 -- primary = name | literal | "(" expr ")"
-abbrev pub primary_step : Primary-F Lexemes Lexemes Lexemes Lexemes Lexemes Lexemes Lexemes Lexemes → Lexemes
+abbrev pub primary_step : Primary-F Lexemes Lexemes Lexemes Lexemes
+    Lexemes Lexemes Lexemes Lexemes → Lexemes
 primary_step (Primary-F.Name n) = spell_name n
 primary_step (Primary-F.Literal l) = spell_literal l
-primary_step (Primary-F.Parentheses inner) = Punctuation mark.OpenParenthesis ∷ (inner ++ Punctuation mark.CloseParenthesis ∷ [])
+primary_step (Primary-F.Parentheses inner) =
+    Punctuation mark.OpenParenthesis ∷ (inner ++ Punctuation mark.CloseParenthesis ∷ [])
 
 -- at most one of - + ~ ; primary
-abbrev pub unary_step : Unary-F Lexemes Lexemes Lexemes Lexemes Lexemes Lexemes Lexemes Lexemes → Lexemes
+abbrev pub unary_step : Unary-F Lexemes Lexemes Lexemes Lexemes
+    Lexemes Lexemes Lexemes Lexemes → Lexemes
 unary_step u = spell_unary_operator u.operator ++ u.operand
 
 -- operands with * / % between them
-abbrev pub product_step : Product-F Lexemes Lexemes Lexemes Lexemes Lexemes Lexemes Lexemes Lexemes → Lexemes
+abbrev pub product_step : Product-F Lexemes Lexemes Lexemes Lexemes
+    Lexemes Lexemes Lexemes Lexemes → Lexemes
 product_step p = p.first ++ flat_map (λ s. Punctuation (product_mark s.0) ∷ s.1) p.rest
 
 -- operands with + - between them
-abbrev pub sum_step : Sum-F Lexemes Lexemes Lexemes Lexemes Lexemes Lexemes Lexemes Lexemes → Lexemes
+abbrev pub sum_step : Sum-F Lexemes Lexemes Lexemes Lexemes
+    Lexemes Lexemes Lexemes Lexemes → Lexemes
 sum_step p = p.first ++ flat_map (λ s. Punctuation (sum_mark s.0) ∷ s.1) p.rest
 
 -- operands with << >> between them
-abbrev pub shift_step : Shift-F Lexemes Lexemes Lexemes Lexemes Lexemes Lexemes Lexemes Lexemes → Lexemes
+abbrev pub shift_step : Shift-F Lexemes Lexemes Lexemes Lexemes
+    Lexemes Lexemes Lexemes Lexemes → Lexemes
 shift_step p = p.first ++ flat_map (λ s. Punctuation (shift_mark s.0) ∷ s.1) p.rest
 
 -- operands with & between them
-abbrev pub and_step : And-F Lexemes Lexemes Lexemes Lexemes Lexemes Lexemes Lexemes Lexemes → Lexemes
+abbrev pub and_step : And-F Lexemes Lexemes Lexemes Lexemes
+    Lexemes Lexemes Lexemes Lexemes → Lexemes
 and_step p = p.first ++ flat_map (λ operand. Punctuation mark.Ampersand ∷ operand) p.rest
 
 -- operands with ^ between them
-abbrev pub exclusive_or_step : ExclusiveOr-F Lexemes Lexemes Lexemes Lexemes Lexemes Lexemes Lexemes Lexemes → Lexemes
+abbrev pub exclusive_or_step : ExclusiveOr-F Lexemes Lexemes Lexemes Lexemes
+    Lexemes Lexemes Lexemes Lexemes → Lexemes
 exclusive_or_step p = p.first ++ flat_map (λ operand. Punctuation mark.Caret ∷ operand) p.rest
 
 -- operands with | between them
-abbrev pub expression_step : Expression-F Lexemes Lexemes Lexemes Lexemes Lexemes Lexemes Lexemes Lexemes → Lexemes
+abbrev pub expression_step : Expression-F Lexemes Lexemes Lexemes Lexemes
+    Lexemes Lexemes Lexemes Lexemes → Lexemes
 expression_step p = p.first ++ flat_map (λ operand. Punctuation mark.Bar ∷ operand) p.rest
 
 -- an expression
 unfoldable pub spell_expression : Expression → Lexemes
-spell_expression = fold-Expression Lexemes Lexemes Lexemes Lexemes Lexemes Lexemes Lexemes Lexemes primary_step and_step exclusive_or_step expression_step product_step shift_step sum_step unary_step
+spell_expression =
+    fold-Expression Lexemes Lexemes Lexemes Lexemes Lexemes Lexemes Lexemes Lexemes
+    primary_step and_step exclusive_or_step expression_step
+    product_step shift_step sum_step unary_step
 
 -- the ranks below
 unfoldable pub spell_exclusive_or : ExclusiveOr → Lexemes
-spell_exclusive_or = fold-ExclusiveOr Lexemes Lexemes Lexemes Lexemes Lexemes Lexemes Lexemes Lexemes primary_step and_step exclusive_or_step expression_step product_step shift_step sum_step unary_step
+spell_exclusive_or =
+    fold-ExclusiveOr Lexemes Lexemes Lexemes Lexemes Lexemes Lexemes Lexemes Lexemes
+    primary_step and_step exclusive_or_step expression_step
+    product_step shift_step sum_step unary_step
 
 unfoldable pub spell_and : And → Lexemes
-spell_and = fold-And Lexemes Lexemes Lexemes Lexemes Lexemes Lexemes Lexemes Lexemes primary_step and_step exclusive_or_step expression_step product_step shift_step sum_step unary_step
+spell_and =
+    fold-And Lexemes Lexemes Lexemes Lexemes Lexemes Lexemes Lexemes Lexemes
+    primary_step and_step exclusive_or_step expression_step
+    product_step shift_step sum_step unary_step
 
 unfoldable pub spell_shift : Shift → Lexemes
-spell_shift = fold-Shift Lexemes Lexemes Lexemes Lexemes Lexemes Lexemes Lexemes Lexemes primary_step and_step exclusive_or_step expression_step product_step shift_step sum_step unary_step
+spell_shift =
+    fold-Shift Lexemes Lexemes Lexemes Lexemes Lexemes Lexemes Lexemes Lexemes
+    primary_step and_step exclusive_or_step expression_step
+    product_step shift_step sum_step unary_step
 
 unfoldable pub spell_sum : Sum → Lexemes
-spell_sum = fold-Sum Lexemes Lexemes Lexemes Lexemes Lexemes Lexemes Lexemes Lexemes primary_step and_step exclusive_or_step expression_step product_step shift_step sum_step unary_step
+spell_sum =
+    fold-Sum Lexemes Lexemes Lexemes Lexemes Lexemes Lexemes Lexemes Lexemes
+    primary_step and_step exclusive_or_step expression_step
+    product_step shift_step sum_step unary_step
 
 unfoldable pub spell_product : Product → Lexemes
-spell_product = fold-Product Lexemes Lexemes Lexemes Lexemes Lexemes Lexemes Lexemes Lexemes primary_step and_step exclusive_or_step expression_step product_step shift_step sum_step unary_step
+spell_product =
+    fold-Product Lexemes Lexemes Lexemes Lexemes Lexemes Lexemes Lexemes Lexemes
+    primary_step and_step exclusive_or_step expression_step
+    product_step shift_step sum_step unary_step
 
 unfoldable pub spell_unary : Unary → Lexemes
-spell_unary = fold-Unary Lexemes Lexemes Lexemes Lexemes Lexemes Lexemes Lexemes Lexemes primary_step and_step exclusive_or_step expression_step product_step shift_step sum_step unary_step
+spell_unary =
+    fold-Unary Lexemes Lexemes Lexemes Lexemes Lexemes Lexemes Lexemes Lexemes
+    primary_step and_step exclusive_or_step expression_step
+    product_step shift_step sum_step unary_step
 
 unfoldable pub spell_primary : Primary → Lexemes
-spell_primary = fold-Primary Lexemes Lexemes Lexemes Lexemes Lexemes Lexemes Lexemes Lexemes primary_step and_step exclusive_or_step expression_step product_step shift_step sum_step unary_step
+spell_primary =
+    fold-Primary Lexemes Lexemes Lexemes Lexemes Lexemes Lexemes Lexemes Lexemes
+    primary_step and_step exclusive_or_step expression_step
+    product_step shift_step sum_step unary_step

@@ -36,17 +36,23 @@ spell_bases (Some bases) = Punctuation mark.Colon ∷ spell_listed spell_name ba
 
 -- ["local"] "interface" ID [":" name/","] "{"
 abbrev pub spell_interface : Interface → Lexemes
-spell_interface i = spell_local i.is_local ++ (Word word.Interface ∷ Identifier i.name ∷ (spell_bases i.bases ++ Punctuation mark.OpenBrace ∷ []))
+spell_interface i =
+    spell_local i.is_local
+    ++ (Word word.Interface ∷ Identifier i.name
+    ∷ (spell_bases i.bases ++ Punctuation mark.OpenBrace ∷ []))
 
 -- forward = ["local"] "interface" ID | "struct" ID | "union" ID
 abbrev pub spell_forward : Forward → Lexemes
-spell_forward (forward.Interface is_local name) = spell_local is_local ++ (Word word.Interface ∷ Identifier name ∷ [])
+spell_forward (forward.Interface is_local name) =
+    spell_local is_local ++ (Word word.Interface ∷ Identifier name ∷ [])
 spell_forward (forward.Structure name) = Word word.Struct ∷ Identifier name ∷ []
 spell_forward (forward.Union name) = Word word.Union ∷ Identifier name ∷ []
 
 -- list = "(" name/"," ")"
 abbrev pub spell_list : Several ScopedName → Lexemes
-spell_list ns = Punctuation mark.OpenParenthesis ∷ (spell_listed spell_name ns ++ Punctuation mark.CloseParenthesis ∷ [])
+spell_list ns =
+    Punctuation mark.OpenParenthesis
+    ∷ (spell_listed spell_name ns ++ Punctuation mark.CloseParenthesis ∷ [])
 
 -- raises = "raises" list
 abbrev pub spell_raises : Several ScopedName → Lexemes
@@ -57,7 +63,8 @@ spell_setraises ns = Word word.Setraises ∷ spell_list ns
 
 -- excs = "getraises" list [ "setraises" list ] | "setraises" list
 abbrev pub spell_exceptions : AttributeRaises → Lexemes
-spell_exceptions (Get ns set) = Word word.Getraises ∷ (spell_list ns ++ spell_if spell_setraises set)
+spell_exceptions (Get ns set) =
+    Word word.Getraises ∷ (spell_list ns ++ spell_if spell_setraises set)
 spell_exceptions (Set ns) = spell_setraises ns
 
 abbrev pub spell_identifiers : Several (List ℕ) → Lexemes
@@ -75,7 +82,8 @@ spell_attribute_names (names.Plain ids) = spell_identifiers ids
 
 -- "readonly" "attribute" type ( ID raises | ID/"," )
 abbrev pub spell_readonly_attribute : ReadonlyAttribute → Lexemes
-spell_readonly_attribute a = Word word.Readonly ∷ Word word.Attribute ∷ (spell_type a.kind ++ spell_readonly_names a.names)
+spell_readonly_attribute a =
+    Word word.Readonly ∷ Word word.Attribute ∷ (spell_type a.kind ++ spell_readonly_names a.names)
 
 -- "attribute" type ( ID excs | ID/"," )
 abbrev pub spell_attribute : Attribute → Lexemes
@@ -105,11 +113,15 @@ spell_text pieces = spell_all (λ piece. Text piece ∷ []) pieces
 
 -- "context" "(" text/"," ")"
 abbrev pub spell_context : Several (Several (List ℕ)) → Lexemes
-spell_context texts = Word word.Context ∷ Punctuation mark.OpenParenthesis ∷ (spell_listed spell_text texts ++ Punctuation mark.CloseParenthesis ∷ [])
+spell_context texts =
+    Word word.Context ∷ Punctuation mark.OpenParenthesis
+    ∷ (spell_listed spell_text texts ++ Punctuation mark.CloseParenthesis ∷ [])
 
--- oper = ["oneway"] ( "void" | type ) ID "(" [ param/"," ] ")" [raises] [ "context" "(" text/"," ")" ]
+-- oper = ["oneway"] ( "void" | type ) ID "(" [ param/"," ] ")" [raises]
+--     [ "context" "(" text/"," ")" ]
 abbrev pub spell_operation : Operation → Lexemes
 spell_operation o =
-    spell_oneway o.is_oneway ++ (spell_result o.result ++ (Identifier o.name ∷ Punctuation mark.OpenParenthesis
+    spell_oneway o.is_oneway
+    ++ (spell_result o.result ++ (Identifier o.name ∷ Punctuation mark.OpenParenthesis
     ∷ (spell_if (spell_listed spell_parameter) o.parameters ++ (Punctuation mark.CloseParenthesis
     ∷ (spell_if spell_raises o.raises ++ spell_if spell_context o.context)))))

@@ -8,7 +8,8 @@ use Rattle.idl_lex.specs.declared.kind.Kind.{Kind}
 use Rattle.idl_lex.specs.declared.kind.Kind.TheVariants as kind
 use Rattle.idl_lex.specs.declared.mark.Mark.{Mark}
 
--- A keyword, a mark, an identifier without its escape, a literal by its value, or what stands in no tree.
+-- A keyword, a mark, an identifier without its escape, a literal by its value, or what stands in
+-- no tree.
 pub data Lexeme : Type 0 where
   Word : Keyword → Lexeme
   Punctuation : Mark → Lexeme

@@ -10,4 +10,7 @@ spell_leading false = []
 
 -- name = ["::"] ID ( "::" ID )*
 abbrev pub spell_name : ScopedName → Lexemes
-spell_name n = spell_leading n.is_global ++ (Identifier n.first ∷ flat_map (λ part. Punctuation ColonColon ∷ Identifier part ∷ []) n.rest)
+spell_name n =
+    spell_leading n.is_global
+    ++ (Identifier n.first
+    ∷ flat_map (λ part. Punctuation ColonColon ∷ Identifier part ∷ []) n.rest)

@@ -82,7 +82,8 @@ begins_construction t = is_construction_word (keyword_of t)
 -- type | constr
 unfoldable pub member_type_with : Reader DataType → Reader Construction → Reader MemberType
 member_type_with type inner ts =
-    if begins_construction (first ts) then (inner ts >>= λ c. Ok (member_type.Construction c.0, c.1))
+    if begins_construction (first ts)
+    then (inner ts >>= λ c. Ok (member_type.Construction c.0, c.1))
     else (type ts >>= λ t. Ok (member_type.Type t.0, t.1))
 
 abbrev pub made_member : MemberType → Several Declarator → Member
@@ -92,14 +93,16 @@ abbrev pub made_structure : List ℕ → Member → List Member → Structure
 made_structure name m ms = roll-Structure (record { name = name; first = m; rest = ms })
 
 abbrev pub made_case : Several Label → MemberType → Declarator → Case
-made_case labels kind declarator = roll-Case (record { labels = labels; kind = kind; declarator = declarator })
+made_case labels kind declarator =
+    roll-Case (record { labels = labels; kind = kind; declarator = declarator })
 
 abbrev pub made_union : List ℕ → Discriminator → Case → List Case → Union
 made_union name discriminator c cs =
     roll-Union (record { name = name; discriminator = discriminator; first = c; rest = cs })
 
 -- member = ( type | constr ) declr/"," ";"
-unfoldable pub member_with : Reader Expression → Reader DataType → Reader Construction → Reader Member
+unfoldable pub member_with : Reader Expression → Reader DataType → Reader Construction
+    → Reader Member
 member_with expression type inner ts = do
   t ← member_type_with type inner ts
   ds ← listed_with (declarator_with expression) t.1
@@ -107,7 +110,8 @@ member_with expression type inner ts = do
   Ok (made_member t.0 ds.0, rest)
 
 -- case = label+ ( type | constr ) declr ";"
-unfoldable pub case_with : Reader Expression → Reader DataType → Reader Construction → Reader Case
+unfoldable pub case_with : Reader Expression → Reader DataType → Reader Construction
+    → Reader Case
 case_with expression type inner ts = do
   ls ← all_with begins_label (label_with expression) ts
   t ← member_type_with type inner ls.1
@@ -130,7 +134,8 @@ structure_rest_with expression type inner name ts = do
   Ok (made_structure name m.0 ms.0, rest2)
 
 -- "struct" ID "{" member+ "}"
-unfoldable pub structure_with : Reader Expression → Reader DataType → Reader Construction → Reader Structure
+unfoldable pub structure_with : Reader Expression → Reader DataType → Reader Construction
+    → Reader Structure
 structure_with expression type inner ts = do
   rest ← expect (is_word word.Struct) ts
   name ← identifier_at rest
@@ -147,7 +152,8 @@ cases_with expression type inner name discriminator ts = do
   Ok (made_union name discriminator c.0 cs.0, rest2)
 
 -- "switch" "(" disc ")" "{" case+ "}", of the union with this name
-unfoldable pub union_rest_with : Reader Expression → Reader DataType → Reader Construction → List ℕ → Reader Union
+unfoldable pub union_rest_with : Reader Expression → Reader DataType → Reader Construction
+    → List ℕ → Reader Union
 union_rest_with expression type inner name ts = do
   rest ← expect (is_word word.Switch) ts
   rest2 ← expect (is_mark mark.OpenParenthesis) rest
@@ -156,7 +162,8 @@ union_rest_with expression type inner name ts = do
   cases_with expression type inner name d.0 rest3
 
 -- "union" ID "switch" "(" disc ")" "{" case+ "}"
-unfoldable pub union_with : Reader Expression → Reader DataType → Reader Construction → Reader Union
+unfoldable pub union_with : Reader Expression → Reader DataType → Reader Construction
+    → Reader Union
 union_with expression type inner ts = do
   rest ← expect (is_word word.Union) ts
   name ← identifier_at rest
@@ -185,8 +192,10 @@ construction_by expression type inner (Some word.Union) ts =
 construction_by expression type inner others ts =
     enumeration_at ts >>= λ e. Ok (construction.Enumeration e.0, e.1)
 
-unfoldable pub construction_with : Reader Expression → Reader DataType → Reader Construction → Reader Construction
-construction_with expression type inner ts = construction_by expression type inner (keyword_of (first ts)) ts
+unfoldable pub construction_with : Reader Expression → Reader DataType → Reader Construction
+    → Reader Construction
+construction_with expression type inner ts =
+    construction_by expression type inner (keyword_of (first ts)) ts
 
 -- at most n deep
 unfoldable pub construction_at : ℕ → Reader Construction

@@ -57,7 +57,8 @@ step_with operator operand ts = do
   Ok ((o.0, x.0), x.1)
 
 -- an operand, and operators with operands
-unfoldable pub chain_with : {O A C : Type 0} → (A → List (O × A) → C) → (Option Lexeme → Option O) → Reader A → Reader C
+unfoldable pub chain_with : {O A C : Type 0} → (A → List (O × A) → C) → (Option Lexeme → Option O)
+    → Reader A → Reader C
 chain_with make operator operand ts = do
   x ← operand ts
   xs ← many_of (λ t. is_some (operator t)) (step_with operator operand) x.1
@@ -123,7 +124,8 @@ wide_text_literal p = literal.WideText (record { first = p.0; rest = p.1 })
 unfoldable pub literal_at : Reader Literal
 literal_at ts =
     if is_some (text_of (first ts)) then (pieces_at text_of ts >>= λ p. Ok (text_literal p.0, p.1))
-    else (if is_some (wide_text_of (first ts)) then (pieces_at wide_text_of ts >>= λ p. Ok (wide_text_literal p.0, p.1))
+    else (if is_some (wide_text_of (first ts))
+    then (pieces_at wide_text_of ts >>= λ p. Ok (wide_text_literal p.0, p.1))
     else (pick single_of ts >>= λ s. Ok (single_literal s.0, s.1)))
 
 unfoldable pub parentheses_with : Reader Expression → Reader Primary
@@ -168,7 +170,8 @@ made_expression x xs = roll-Expression (record { first = x; rest = xs })
 
 -- the ranks over what reads what is in parentheses
 abbrev pub product_with : Reader Expression → Reader Product
-product_with expression = chain_with made_product product_operator_of (unary_with (primary_with expression))
+product_with expression =
+    chain_with made_product product_operator_of (unary_with (primary_with expression))
 
 abbrev pub sum_with : Reader Expression → Reader Sum
 sum_with expression = chain_with made_sum sum_operator_of (product_with expression)

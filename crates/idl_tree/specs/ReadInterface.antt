@@ -56,7 +56,8 @@ more_names_at ts = many_of (is_mark mark.Comma) (behind_with mark.Comma identifi
 -- what follows the first name: raises, or further names
 unfoldable pub readonly_rest : List ℕ → Reader ReadonlyNames
 readonly_rest name ts =
-    if is_word word.Raises (first ts) then (raises_at word.Raises ts >>= λ ns. Ok (readonly.Raising name ns.0, ns.1))
+    if is_word word.Raises (first ts)
+    then (raises_at word.Raises ts >>= λ ns. Ok (readonly.Raising name ns.0, ns.1))
     else (more_names_at ts >>= λ more. Ok (plain_names name more.0, more.1))
 
 -- ID raises | ID/","
@@ -89,10 +90,12 @@ plain_attribute_names name more = names.Plain (several name more)
 
 -- what follows the first name, by its first keyword: what is raised, or further names
 abbrev pub attribute_by : List ℕ → Option Keyword → Reader AttributeNames
-attribute_by name (Some word.Getraises) ts = getraises_at ts >>= λ got. Ok (names.Raising name got.0, got.1)
+attribute_by name (Some word.Getraises) ts =
+    getraises_at ts >>= λ got. Ok (names.Raising name got.0, got.1)
 attribute_by name (Some word.Setraises) ts =
     raises_at word.Setraises ts >>= λ set. Ok (names.Raising name (Set set.0), set.1)
-attribute_by name others ts = more_names_at ts >>= λ more. Ok (plain_attribute_names name more.0, more.1)
+attribute_by name others ts =
+    more_names_at ts >>= λ more. Ok (plain_attribute_names name more.0, more.1)
 
 -- ID excs | ID/","
 unfoldable pub attribute_names_at : Reader AttributeNames
@@ -172,8 +175,9 @@ made_operation is_oneway result name parameters raises context = record {
   context = context;
 }
 
--- "(" [ param/"," ] ")" [raises] [ "context" "(" text/"," ")" ], of the operation with this name and result
-unfoldable pub operation_rest_with : Reader DataType → Bool → Option DataType → List ℕ → Reader Operation
+-- "(" [ param/"," ] ")" [raises] [ "context" "(" text/"," ")" ], behind a result and a name
+unfoldable pub operation_rest_with : Reader DataType → Bool → Option DataType → List ℕ
+    → Reader Operation
 operation_rest_with type is_oneway result name ts = do
   rest ← expect (is_mark mark.OpenParenthesis) ts
   parameters ← parameters_with type rest
@@ -182,7 +186,8 @@ operation_rest_with type is_oneway result name ts = do
   context ← context_if raises.1
   Ok (made_operation is_oneway result name parameters.0 raises.0 context.0, context.1)
 
--- oper = ["oneway"] ( "void" | type ) ID "(" [ param/"," ] ")" [raises] [ "context" "(" text/"," ")" ]
+-- oper = ["oneway"] ( "void" | type ) ID "(" [ param/"," ] ")" [raises]
+--     [ "context" "(" text/"," ")" ]
 unfoldable pub operation_with : Reader DataType → Reader Operation
 operation_with type ts = do
   let is_oneway : Bool = is_word word.Oneway (first ts)

@@ -34,7 +34,8 @@ long_size_at ts =
 -- "short" | "long" | "long" "long"
 unfoldable pub size_at : Reader IntegerSize
 size_at ts =
-    if is_word word.Long (first ts) then (expect (is_word word.Long) ts >>= λ rest. long_size_at rest)
+    if is_word word.Long (first ts)
+    then (expect (is_word word.Long) ts >>= λ rest. long_size_at rest)
     else by_word word.Short Short ts
 
 abbrev pub unsigned_at : Reader DiscreteType
@@ -116,8 +117,10 @@ string_with expression ts = do
 
 -- ptype, by its first keyword
 abbrev pub plain_by : Reader Expression → Option Keyword → Reader PlainType
-plain_by expression (Some word.String) ts = string_with expression ts >>= λ s. Ok (plain.String s.0, s.1)
-plain_by expression (Some word.Wstring) ts = string_with expression ts >>= λ s. Ok (plain.String s.0, s.1)
+plain_by expression (Some word.String) ts =
+    string_with expression ts >>= λ s. Ok (plain.String s.0, s.1)
+plain_by expression (Some word.Wstring) ts =
+    string_with expression ts >>= λ s. Ok (plain.String s.0, s.1)
 plain_by expression None ts = name_at ts >>= λ n. Ok (plain.Name n.0, n.1)
 plain_by expression others ts = basic_at ts >>= λ b. Ok (plain.Basic b.0, b.1)
 
@@ -134,7 +137,8 @@ limit_with expression ts =
     else Ok (None, ts)
 
 abbrev pub made_sequence : DataType → Option Expression → DataType
-made_sequence element bound = data_type.Sequence (roll-Sequence (record { element = element; bound = bound }))
+made_sequence element bound =
+    data_type.Sequence (roll-Sequence (record { element = element; bound = bound }))
 
 -- "sequence" "<" type [ "," expr ] ">"
 unfoldable pub sequence_with : Reader Expression → Reader DataType → Reader DataType

@@ -32,7 +32,8 @@ abbrev pub made_typedef : MemberType → Several Declarator → Typedef
 made_typedef kind declarators = record { kind = kind; declarators = declarators }
 
 -- typedef = "typedef" ( type | constr ) declr/","
-unfoldable pub typedef_with : Reader Expression → Reader DataType → Reader Construction → Reader Typedef
+unfoldable pub typedef_with : Reader Expression → Reader DataType → Reader Construction
+    → Reader Typedef
 typedef_with expression type inner ts = do
   rest ← expect (is_word word.Typedef) ts
   t ← member_type_with type inner rest
@@ -46,7 +47,8 @@ constant_type_by expression (Some word.String) ts =
 constant_type_by expression (Some word.Wstring) ts =
     string_with expression ts >>= λ s. Ok (constant_type.String s.0, s.1)
 constant_type_by expression None ts = name_at ts >>= λ n. Ok (constant_type.Name n.0, n.1)
-constant_type_by expression others ts = discrete_at ts >>= λ d. Ok (constant_type.Discrete d.0, d.1)
+constant_type_by expression others ts =
+    discrete_at ts >>= λ d. Ok (constant_type.Discrete d.0, d.1)
 
 unfoldable pub constant_type_with : Reader Expression → Reader ConstantType
 constant_type_with expression ts = constant_type_by expression (keyword_of (first ts)) ts
@@ -68,7 +70,8 @@ abbrev pub made_exception : List ℕ → List Member → Exception
 made_exception name members = record { name = name; members = members }
 
 -- except = "exception" ID "{" member* "}"
-unfoldable pub exception_with : Reader Expression → Reader DataType → Reader Construction → Reader Exception
+unfoldable pub exception_with : Reader Expression → Reader DataType → Reader Construction
+    → Reader Exception
 exception_with expression type inner ts = do
   rest ← expect (is_word word.Exception) ts
   name ← identifier_at rest
@@ -111,7 +114,8 @@ abbrev pub ahead : Bool → List ℕ → Tree
 ahead is_local name = tree.Forward (forward.Interface is_local name)
 
 abbrev pub opened : Bool → List ℕ → Option (Several ScopedName) → Tree
-opened is_local name bases = tree.Interface (record { is_local = is_local; name = name; bases = bases })
+opened is_local name bases =
+    tree.Interface (record { is_local = is_local; name = name; bases = bases })
 
 -- [":" name/","] "{", or ";" of a declaration ahead
 unfoldable pub interface_rest : Bool → List ℕ → Reader Tree
@@ -146,23 +150,30 @@ ahead_at declaration ts = do
   Ok (declaration, rest)
 
 -- "struct" ID ( ";" | "{" member+ "}" ";" )
-unfoldable pub structure_unit_with : Reader Expression → Reader DataType → Reader Construction → Reader Tree
+unfoldable pub structure_unit_with : Reader Expression → Reader DataType → Reader Construction
+    → Reader Tree
 structure_unit_with expression type inner ts = do
   rest ← expect (is_word word.Struct) ts
   name ← identifier_at rest
-  if is_mark mark.OpenBrace (first name.1) then ended_with (λ s. tree.Construction (construction.Structure s)) (structure_rest_with expression type inner name.0) name.1
+  if is_mark mark.OpenBrace (first name.1)
+      then ended_with (λ s. tree.Construction (construction.Structure s))
+      (structure_rest_with expression type inner name.0) name.1
       else ahead_at (tree.Forward (forward.Structure name.0)) name.1
 
 -- "union" ID ( ";" | "switch" "(" disc ")" "{" case+ "}" ";" )
-unfoldable pub union_unit_with : Reader Expression → Reader DataType → Reader Construction → Reader Tree
+unfoldable pub union_unit_with : Reader Expression → Reader DataType → Reader Construction
+    → Reader Tree
 union_unit_with expression type inner ts = do
   rest ← expect (is_word word.Union) ts
   name ← identifier_at rest
-  if is_word word.Switch (first name.1) then ended_with (λ u. tree.Construction (construction.Union u)) (union_rest_with expression type inner name.0) name.1
+  if is_word word.Switch (first name.1)
+      then ended_with (λ u. tree.Construction (construction.Union u))
+      (union_rest_with expression type inner name.0) name.1
       else ahead_at (tree.Forward (forward.Union name.0)) name.1
 
 -- a unit that isn't a closing, by its first keyword
-abbrev pub unit_by : Reader Expression → Reader DataType → Reader Construction → Option Keyword → Reader Tree
+abbrev pub unit_by : Reader Expression → Reader DataType → Reader Construction
+    → Option Keyword → Reader Tree
 unit_by expression type inner (Some word.Module) ts = module_at ts
 unit_by expression type inner (Some word.Local) ts = interface_at ts
 unit_by expression type inner (Some word.Interface) ts = interface_at ts
@@ -173,12 +184,14 @@ unit_by expression type inner (Some word.Enum) ts =
 unit_by expression type inner (Some word.Typedef) ts =
     ended_with tree.Typedef (typedef_with expression type inner) ts
 unit_by expression type inner (Some word.Native) ts = ended_with tree.Native native_at ts
-unit_by expression type inner (Some word.Const) ts = ended_with tree.Constant (constant_with expression) ts
+unit_by expression type inner (Some word.Const) ts =
+    ended_with tree.Constant (constant_with expression) ts
 unit_by expression type inner (Some word.Exception) ts =
     ended_with tree.Exception (exception_with expression type inner) ts
 unit_by expression type inner (Some word.Readonly) ts =
     ended_with tree.ReadonlyAttribute (readonly_attribute_with type) ts
-unit_by expression type inner (Some word.Attribute) ts = ended_with tree.Attribute (attribute_with type) ts
+unit_by expression type inner (Some word.Attribute) ts =
+    ended_with tree.Attribute (attribute_with type) ts
 unit_by expression type inner others ts = ended_with tree.Operation (operation_with type) ts
 
 -- opening | closing | decl

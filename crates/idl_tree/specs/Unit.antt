@@ -19,7 +19,8 @@ use Rattle.idl_tree.specs.declared.unit.Typedef.{Typedef}
 
 -- typedef = "typedef" ( type | constr ) declr/","
 abbrev pub spell_typedef : Typedef → Lexemes
-spell_typedef t = Word word.Typedef ∷ (spell_member_type t.kind ++ spell_listed spell_declarator t.declarators)
+spell_typedef t =
+    Word word.Typedef ∷ (spell_member_type t.kind ++ spell_listed spell_declarator t.declarators)
 
 -- ctype
 abbrev pub spell_constant_type : ConstantType → Lexemes
@@ -29,11 +30,16 @@ spell_constant_type (kind.Name n) = spell_name n
 
 -- const = "const" ctype ID "=" expr
 abbrev pub spell_constant : Constant → Lexemes
-spell_constant c = Word word.Const ∷ (spell_constant_type c.kind ++ (Identifier c.name ∷ Punctuation mark.Equals ∷ spell_expression c.value))
+spell_constant c =
+    Word word.Const
+    ∷ (spell_constant_type c.kind
+    ++ (Identifier c.name ∷ Punctuation mark.Equals ∷ spell_expression c.value))
 
 -- except = "exception" ID "{" member* "}"
 abbrev pub spell_exception : Exception → Lexemes
-spell_exception e = Word word.Exception ∷ Identifier e.name ∷ Punctuation mark.OpenBrace ∷ (flat_map spell_member e.members ++ Punctuation mark.CloseBrace ∷ [])
+spell_exception e =
+    Word word.Exception ∷ Identifier e.name ∷ Punctuation mark.OpenBrace
+    ∷ (flat_map spell_member e.members ++ Punctuation mark.CloseBrace ∷ [])
 
 -- an opening, a closing, or a declaration with its `;`
 abbrev pub ended : Lexemes → Lexemes

@@ -9,6 +9,7 @@ mod data_type;
 mod declarator;
 mod expression;
 mod interface;
+mod law;
 mod literal;
 mod name;
 mod operation;
@@ -28,6 +29,7 @@ pub use expression::{
     SumOperator, Unary, UnaryOperator,
 };
 pub use interface::{Forward, Interface};
+pub use law::{one_spelling, reading};
 pub use literal::Literal;
 pub use name::ScopedName;
 pub use operation::{Direction, Operation, Parameter};
