@@ -67,7 +67,7 @@ pub loop_step : {A : Type 0} (p : Option Lexeme → Bool) (item : Reader A) (ite
     → Turns p item items' (lexemes after) total
 loop_step {A} p item items items' rest after total x t h e shorter items-is =
     turns_step p item items (lexemes rest) total x (lexemes after) items' t h e
-      (omega (arith, shorter, length-map after lexeme_of, length-map rest lexeme_of)) items-is
+    (omega (arith, shorter, length-map after lexeme_of, length-map rest lexeme_of)) items-is
 
 -- an item behind a mark
 behind_mark : {A : Type 0} (m : Mark) (item : Reader A) (rest : List (List ℕ)) → is_mark m (first (lexemes rest)) ≡ true → behind_with m item (lexemes rest) ≡ item (lexemes (drop 1 rest))
@@ -106,7 +106,7 @@ loop_pick {A} f items items' (token ∷ rest) total x nothing t h items-is =
     let one : pick f (lexemes (token ∷ rest)) ≡ Ok (x, lexemes rest) = rw h refl in
     let same : slice_range (token ∷ rest) 1 (length (token ∷ rest)) ≡ rest = rest_is (token ∷ rest) in
     subst (λ (ts : List (List ℕ)). Turns (λ t. is_some (f t)) (pick f) items' (lexemes ts) total) (sym same)
-      (loop_step (λ t. is_some (f t)) (pick f) items items' (token ∷ rest) rest total x t test one (omega arith) items-is)
+    (loop_step (λ t. is_some (f t)) (pick f) items items' (token ∷ rest) rest total x t test one (omega arith) items-is)
 
 pub loop_pick_ends : {A : Type 0} (f : Option Lexeme → Option A) (items : List A) (rest : List (List ℕ)) (total : Result (List A × List Lexeme) ℕ)
     → Turns (λ t. is_some (f t)) (pick f) items (lexemes rest) total → f (first (lexemes rest)) ≡ None → total ≡ Ok (items, lexemes rest)
@@ -143,7 +143,7 @@ loop_operator_fails operator operand items [] total o why nothing t h f = absurd
 loop_operator_fails {O} {A} operator operand items (token ∷ rest) total o why nothing t h f =
     let test : is_some (operator (first (lexemes (token ∷ rest)))) ≡ true = rw h refl in
     let read : Fails why (step_with operator operand (lexemes (token ∷ rest))) =
-          subst (Fails why) (sym (operator_step operator operand o token rest h)) (step_fails o why (operand (lexemes (slice_range (token ∷ rest) 1 (length (token ∷ rest))))) f) in
+    subst (Fails why) (sym (operator_step operator operand o token rest h)) (step_fails o why (operand (lexemes (slice_range (token ∷ rest) 1 (length (token ∷ rest))))) f) in
     turns_fail (λ t. is_some (operator t)) (step_with operator operand) items (lexemes (token ∷ rest)) total why t test read
 
 pub loop_operator_ends : {O A : Type 0} (operator : Option Lexeme → Option O) (operand : Reader A) (items : List (O × A)) (rest : List (List ℕ)) (total : Result (List (O × A) × List Lexeme) ℕ)

@@ -7,8 +7,9 @@ ghost use Rattle.idl_tree.specs.ReadExpression.{expression_at};
 ghost use Rattle.idl_tree.specs.ReadType.{type_at};
 ghost use Rattle.idl_tree.specs.Reading.{first, many_of};
 ghost use Rattle.idl_syntax.specs.Gives.{Advances, Reads, Remains};
+ghost use Rattle.idl_syntax.specs.Nested.{nested};
 
-use crate::cursor::{behind, behind_word, identifier, is_at, is_at_word, keyword};
+use crate::cursor::{behind, behind_word, closed, identifier, is_at, is_at_word, keyword};
 use crate::data_type::{data_type, discrete_type};
 use crate::declarator::{declarator, declarators};
 use crate::error::ReadError;
@@ -32,8 +33,7 @@ pub fn enumeration(alloc: Global, tokens: &[Token]) -> Result<(Enumeration, &[To
     let (name, rest) = identifier(alloc, rest)?;
     let rest = behind(rest, Mark::OpenBrace)?;
     let (enumerators, rest) = identifiers(alloc, rest)?;
-    let rest = behind(rest, Mark::CloseBrace)?;
-    Ok((Enumeration { name, enumerators }, rest))
+    closed(Enumeration { name, enumerators }, rest, Mark::CloseBrace)
 }
 
 /// The type of a union's discriminator.
@@ -56,19 +56,14 @@ fn discriminator(alloc: Global, tokens: &[Token]) -> Result<(Discriminator, &[To
 
 /// A label of a case.
 #[tactic(auto, unfolding(idl_tree::specs::ReadConstruction::label_with))]
-fn label(
-    alloc: Global,
-    depth: usize,
-    tokens: &[Token],
-) -> Result<(Label, &[Token]), ReadError>
+fn label(alloc: Global, depth: usize, tokens: &[Token]) -> Result<(Label, &[Token]), ReadError>
     ensures reads { Reads (label_with (expression_at depth)) tokens.now result }
     ensures shorter { Advances tokens.now result }
 {
     if is_at_word(tokens, Keyword::Case) {
         let rest = behind_word(tokens, Keyword::Case)?;
         let (value, rest) = expression(alloc, depth, rest)?;
-        let rest = behind(rest, Mark::Colon)?;
-        Ok((Label::Case(value), rest))
+        closed(Label::Case(value), rest, Mark::Colon)
     } else {
         let rest = behind_word(tokens, Keyword::Default)?;
         let rest = behind(rest, Mark::Colon)?;
@@ -90,7 +85,8 @@ fn labels(
     depth: usize,
     tokens: &[Token],
 ) -> Result<(Several<Label>, &[Token]), ReadError>
-    ensures reads { Reads (all_with begins_label (label_with (expression_at depth))) tokens.now result }
+    ensures reads { Reads (all_with begins_label (label_with (expression_at depth)))
+        tokens.now result }
     ensures shorter { Advances tokens.now result }
 {
     let (first, rest) = label(alloc, depth, tokens)?;
@@ -104,7 +100,8 @@ fn more_labels(
     depth: usize,
     tokens: &[Token],
 ) -> Result<(Seq<Label>, &[Token]), ReadError>
-    ensures reads { Reads (many_of begins_label (label_with (expression_at depth))) tokens.now result }
+    ensures reads { Reads (many_of begins_label (label_with (expression_at depth)))
+        tokens.now result }
     ensures within { Remains tokens.now result }
 {
     let mut labels = Vec::new(alloc);
@@ -165,7 +162,8 @@ pub fn member_type(
     depth: usize,
     tokens: &[Token],
 ) -> Result<(MemberType, &[Token]), ReadError>
-    ensures reads { Reads (member_type_with (type_at depth) (construction_at depth)) tokens.now result }
+    ensures reads { Reads (member_type_with (type_at depth) (construction_at depth))
+        tokens.now result }
     ensures shorter { Advances tokens.now result }
 {
     if is_at_construction(tokens) {
@@ -181,18 +179,13 @@ pub fn member_type(
 /// Members of one type.
 #[cycle(construction)]
 #[tactic(auto, unfolding(idl_tree::specs::ReadConstruction::member_with))]
-fn member(
-    alloc: Global,
-    depth: usize,
-    tokens: &[Token],
-) -> Result<(Member, &[Token]), ReadError>
-    ensures reads { Reads (member_with (expression_at depth) (type_at depth) (construction_at depth)) tokens.now result }
+fn member(alloc: Global, depth: usize, tokens: &[Token]) -> Result<(Member, &[Token]), ReadError>
+    ensures reads { Reads (nested member_with depth) tokens.now result }
     ensures shorter { Advances tokens.now result }
 {
     let (kind, rest) = member_type(alloc, depth, tokens)?;
     let (declarators, rest) = declarators(alloc, depth, rest)?;
-    let rest = behind(rest, Mark::Semicolon)?;
-    Ok((Member { kind, declarators }, rest))
+    closed(Member { kind, declarators }, rest, Mark::Semicolon)
 }
 
 /// The members before a closing brace.
@@ -202,7 +195,7 @@ pub fn members(
     depth: usize,
     tokens: &[Token],
 ) -> Result<(Seq<Member>, &[Token]), ReadError>
-    ensures reads { Reads (many_of goes_on (member_with (expression_at depth) (type_at depth) (construction_at depth))) tokens.now result }
+    ensures reads { Reads (many_of goes_on (nested member_with depth)) tokens.now result }
     ensures within { Remains tokens.now result }
 {
     let mut members = Vec::new(alloc);
@@ -223,7 +216,7 @@ fn structure(
     depth: usize,
     tokens: &[Token],
 ) -> Result<(Structure, &[Token]), ReadError>
-    ensures reads { Reads (structure_with (expression_at depth) (type_at depth) (construction_at depth)) tokens.now result }
+    ensures reads { Reads (nested structure_with depth) tokens.now result }
     ensures shorter { Advances tokens.now result }
 {
     let rest = behind_word(tokens, Keyword::Struct)?;
@@ -240,30 +233,25 @@ pub fn structure_rest(
     name: Text,
     tokens: &[Token],
 ) -> Result<(Structure, &[Token]), ReadError>
-    ensures reads { Reads (structure_rest_with (expression_at depth) (type_at depth) (construction_at depth) name) tokens.now result }
+    ensures reads { Reads (nested structure_rest_with depth name) tokens.now result }
     ensures shorter { Advances tokens.now result }
 {
     let rest = behind(tokens, Mark::OpenBrace)?;
     let (first, rest) = member(alloc, depth, rest)?;
     let (more, rest) = members(alloc, depth, rest)?;
-    let rest = behind(rest, Mark::CloseBrace)?;
     let structure = Structure {
         name,
         first,
         rest: more,
     };
-    Ok((structure, rest))
+    closed(structure, rest, Mark::CloseBrace)
 }
 
 /// A union.
 #[cycle(construction)]
 #[tactic(auto, unfolding(idl_tree::specs::ReadConstruction::union_with))]
-fn union_type(
-    alloc: Global,
-    depth: usize,
-    tokens: &[Token],
-) -> Result<(Union, &[Token]), ReadError>
-    ensures reads { Reads (union_with (expression_at depth) (type_at depth) (construction_at depth)) tokens.now result }
+fn union_type(alloc: Global, depth: usize, tokens: &[Token]) -> Result<(Union, &[Token]), ReadError>
+    ensures reads { Reads (nested union_with depth) tokens.now result }
     ensures shorter { Advances tokens.now result }
 {
     let rest = behind_word(tokens, Keyword::Union)?;
@@ -280,13 +268,13 @@ pub fn union_rest(
     name: Text,
     tokens: &[Token],
 ) -> Result<(Union, &[Token]), ReadError>
-    ensures reads { Reads (union_rest_with (expression_at depth) (type_at depth) (construction_at depth) name) tokens.now result }
+    ensures reads { Reads (nested union_rest_with depth name) tokens.now result }
     ensures shorter { Advances tokens.now result }
 {
     let rest = behind_word(tokens, Keyword::Switch)?;
     let rest = behind(rest, Mark::OpenParenthesis)?;
     let (discriminator, rest) = discriminator(alloc, rest)?;
-    let rest = behind(rest, Mark::CloseParenthesis)?;
+    let (discriminator, rest) = closed(discriminator, rest, Mark::CloseParenthesis)?;
     union_cases(alloc, depth, (name, discriminator), rest)
 }
 
@@ -299,13 +287,12 @@ fn union_cases(
     head: (Text, Discriminator),
     tokens: &[Token],
 ) -> Result<(Union, &[Token]), ReadError>
-    ensures reads { Reads (cases_with (expression_at depth) (type_at depth) (construction_at depth) head.0 head.1) tokens.now result }
+    ensures reads { Reads (nested cases_with depth head.0 head.1) tokens.now result }
     ensures shorter { Advances tokens.now result }
 {
     let rest = behind(tokens, Mark::OpenBrace)?;
     let (first, rest) = case(alloc, depth, rest)?;
     let (more, rest) = cases(alloc, depth, rest)?;
-    let rest = behind(rest, Mark::CloseBrace)?;
     let (name, discriminator) = head;
     let union = Union {
         name,
@@ -313,40 +300,31 @@ fn union_cases(
         first,
         rest: more,
     };
-    Ok((union, rest))
+    closed(union, rest, Mark::CloseBrace)
 }
 
 /// A member of a union, with its labels.
 #[cycle(construction)]
 #[tactic(auto, unfolding(idl_tree::specs::ReadConstruction::case_with))]
-fn case(
-    alloc: Global,
-    depth: usize,
-    tokens: &[Token],
-) -> Result<(Case, &[Token]), ReadError>
-    ensures reads { Reads (case_with (expression_at depth) (type_at depth) (construction_at depth)) tokens.now result }
+fn case(alloc: Global, depth: usize, tokens: &[Token]) -> Result<(Case, &[Token]), ReadError>
+    ensures reads { Reads (nested case_with depth) tokens.now result }
     ensures shorter { Advances tokens.now result }
 {
     let (labels, rest) = labels(alloc, depth, tokens)?;
     let (kind, rest) = member_type(alloc, depth, rest)?;
     let (declarator, rest) = declarator(alloc, depth, rest)?;
-    let rest = behind(rest, Mark::Semicolon)?;
     let case = Case {
         labels,
         kind,
         declarator,
     };
-    Ok((case, rest))
+    closed(case, rest, Mark::Semicolon)
 }
 
 /// The cases before a closing brace.
 #[cycle(construction)]
-fn cases(
-    alloc: Global,
-    depth: usize,
-    tokens: &[Token],
-) -> Result<(Seq<Case>, &[Token]), ReadError>
-    ensures reads { Reads (many_of goes_on (case_with (expression_at depth) (type_at depth) (construction_at depth))) tokens.now result }
+fn cases(alloc: Global, depth: usize, tokens: &[Token]) -> Result<(Seq<Case>, &[Token]), ReadError>
+    ensures reads { Reads (many_of goes_on (nested case_with depth)) tokens.now result }
     ensures within { Remains tokens.now result }
 {
     let mut cases = Vec::new(alloc);

@@ -6,7 +6,7 @@ ghost use Rattle.idl_tree.specs.Lexeme.{lexemes};
 ghost use Rattle.idl_tree.specs.Reading.{first};
 ghost use Rattle.idl_tree.specs.Tests.{by_word, identifier_at, identifier_of, is_mark, is_word, keyword_of};
 ghost use Rattle.idl_syntax.specs.Gives.{Advances, Passes, Reads};
-ghost use Rattle.idl_syntax.specs.Next.{mark_of};
+ghost use Rattle.idl_syntax.specs.Next.{closed_with, mark_of, named_with};
 
 use crate::error::ReadError;
 use idl_base::Text;
@@ -71,6 +71,28 @@ pub fn behind(tokens: &[Token], mark: Mark) -> Result<&[Token], ReadError>
     } else {
         Err(ReadError::Syntax(tokens.len()))
     }
+}
+
+/// What was read, with an identifier behind it.
+pub fn named<T: Drop>(
+    alloc: Global,
+    read: T,
+    tokens: &[Token],
+) -> Result<((T, Text), &[Token]), ReadError>
+    ensures reads { Reads (named_with read) tokens.now result }
+    ensures shorter { Advances tokens.now result }
+{
+    let (name, rest) = identifier(alloc, tokens)?;
+    Ok(((read, name), rest))
+}
+
+/// What was read, with this mark behind it.
+pub fn closed<T: Drop>(read: T, tokens: &[Token], mark: Mark) -> Result<(T, &[Token]), ReadError>
+    ensures reads { Reads (closed_with mark read) tokens.now result }
+    ensures shorter { Advances tokens.now result }
+{
+    let rest = behind(tokens, mark)?;
+    Ok((read, rest))
 }
 
 /// What stands behind this keyword.

@@ -7,7 +7,7 @@ ghost use Rattle.idl_tree.specs.ReadType.{basic_at, bound_with, discrete_at, lim
 ghost use Rattle.idl_tree.specs.Reading.{first};
 ghost use Rattle.idl_syntax.specs.Gives.{Advances, Reads, Remains};
 
-use crate::cursor::{behind, behind_word, by_word, is_at, is_at_word, keyword};
+use crate::cursor::{behind, behind_word, by_word, closed, is_at, is_at_word, keyword};
 use crate::error::ReadError;
 use crate::expression::expression;
 use crate::name::scoped_name;
@@ -148,8 +148,7 @@ fn string_bound(
     }
     let rest = behind(tokens, Mark::Less)?;
     let (bound, rest) = expression(alloc, depth, rest)?;
-    let rest = behind(rest, Mark::Greater)?;
-    Ok((Some(bound), rest))
+    closed(Some(bound), rest, Mark::Greater)
 }
 
 /// `string` or `wstring`, with or without a bound.
@@ -260,7 +259,7 @@ fn sequence(
     let rest = behind(rest, Mark::Less)?;
     let (element, rest) = data_type(alloc, depth, rest)?;
     let (bound, rest) = sequence_bound(alloc, depth, rest)?;
-    let rest = behind(rest, Mark::Greater)?;
+    let ((element, bound), rest) = closed((element, bound), rest, Mark::Greater)?;
     let sequence = Boxed::new(alloc, Sequence { element, bound })?;
     Ok((DataType::Sequence(sequence), rest))
 }

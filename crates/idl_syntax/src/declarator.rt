@@ -9,7 +9,7 @@ ghost use Rattle.idl_tree.specs.Reading.{many_of};
 ghost use Rattle.idl_tree.specs.Tests.{is_mark};
 ghost use Rattle.idl_syntax.specs.Gives.{Advances, Reads, Remains};
 
-use crate::cursor::{behind, identifier, is_at};
+use crate::cursor::{behind, closed, identifier, is_at};
 use crate::error::ReadError;
 use crate::expression::expression;
 use idl_base::Seq;
@@ -29,8 +29,7 @@ fn array_length(
 {
     let rest = behind(tokens, Mark::OpenBracket)?;
     let (length, rest) = expression(alloc, depth, rest)?;
-    let rest = behind(rest, Mark::CloseBracket)?;
-    Ok((length, rest))
+    closed(length, rest, Mark::CloseBracket)
 }
 
 /// The lengths of an array.
@@ -39,7 +38,8 @@ fn array_lengths(
     depth: usize,
     tokens: &[Token],
 ) -> Result<(Seq<Expression>, &[Token]), ReadError>
-    ensures reads { Reads (many_of (is_mark OpenBracket) (length_with (expression_at depth))) tokens.now result }
+    ensures reads { Reads (many_of (is_mark OpenBracket) (length_with (expression_at depth)))
+        tokens.now result }
     ensures within { Remains tokens.now result }
 {
     let mut lengths = Vec::new(alloc);
@@ -88,7 +88,8 @@ fn more_declarators(
     depth: usize,
     tokens: &[Token],
 ) -> Result<(Seq<Declarator>, &[Token]), ReadError>
-    ensures reads { Reads (many_of (is_mark Comma) (behind_with Comma (declarator_with (expression_at depth)))) tokens.now result }
+    ensures reads { Reads (many_of (is_mark Comma) (behind_with Comma (declarator_with
+        (expression_at depth)))) tokens.now result }
     ensures within { Remains tokens.now result }
 {
     let mut declarators = Vec::new(alloc);

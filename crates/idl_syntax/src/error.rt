@@ -10,7 +10,7 @@ use std::alloc::{AllocError, AllocFailed};
 pub enum ReadError {
     /// There is no more memory.
     Memory,
-    /// No tree has this spelling. So many tokens are left where the tokens stop being the beginning of one.
+    /// No tree has this spelling. So many tokens are left where they stop being the beginning of one.
     Syntax(usize),
 }
 

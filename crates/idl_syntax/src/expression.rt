@@ -10,7 +10,7 @@ ghost use Rattle.idl_tree.specs.Tests.{is_mark};
 ghost use Rattle.idl_syntax.specs.Gives.{Advances, Reads, Remains};
 ghost use Rattle.idl_syntax.specs.Steps.{steps_with};
 
-use crate::cursor::{behind, is_at, name};
+use crate::cursor::{behind, closed, is_at, name};
 use crate::error::ReadError;
 use crate::literal::literal;
 use crate::name::scoped_name;
@@ -63,7 +63,8 @@ fn more_alternatives(
     depth: usize,
     tokens: &[Token],
 ) -> Result<(Seq<ExclusiveOr>, &[Token]), ReadError>
-    ensures reads { Reads (many_of (is_mark mark.Bar) (behind_with mark.Bar (exclusive_or_with (expression_at depth)))) tokens.now result }
+    ensures reads { Reads (many_of (is_mark mark.Bar) (behind_with mark.Bar (exclusive_or_with
+        (expression_at depth)))) tokens.now result }
     ensures within { Remains tokens.now result }
 {
     let mut operands = Vec::new(alloc);
@@ -99,7 +100,8 @@ fn more_ands(
     depth: usize,
     tokens: &[Token],
 ) -> Result<(Seq<And>, &[Token]), ReadError>
-    ensures reads { Reads (many_of (is_mark mark.Caret) (behind_with mark.Caret (and_with (expression_at depth)))) tokens.now result }
+    ensures reads { Reads (many_of (is_mark mark.Caret) (behind_with mark.Caret (and_with
+        (expression_at depth)))) tokens.now result }
     ensures within { Remains tokens.now result }
 {
     let mut operands = Vec::new(alloc);
@@ -115,11 +117,7 @@ fn more_ands(
 /// Operands with `&` between them.
 #[cycle(expression)]
 #[tactic(auto, unfolding(idl_tree::specs::ReadExpression::parted_with))]
-fn and(
-    alloc: Global,
-    depth: usize,
-    tokens: &[Token],
-) -> Result<(And, &[Token]), ReadError>
+fn and(alloc: Global, depth: usize, tokens: &[Token]) -> Result<(And, &[Token]), ReadError>
     ensures reads { Reads (and_with (expression_at depth)) tokens.now result }
     ensures shorter { Advances tokens.now result }
 {
@@ -135,7 +133,8 @@ fn more_shifts(
     depth: usize,
     tokens: &[Token],
 ) -> Result<(Seq<Shift>, &[Token]), ReadError>
-    ensures reads { Reads (many_of (is_mark mark.Ampersand) (behind_with mark.Ampersand (shift_with (expression_at depth)))) tokens.now result }
+    ensures reads { Reads (many_of (is_mark mark.Ampersand) (behind_with mark.Ampersand (shift_with
+        (expression_at depth)))) tokens.now result }
     ensures within { Remains tokens.now result }
 {
     let mut operands = Vec::new(alloc);
@@ -151,11 +150,7 @@ fn more_shifts(
 /// An operand, and shifts of it.
 #[cycle(expression)]
 #[tactic(auto, unfolding(idl_tree::specs::ReadExpression::chain_with))]
-fn shift(
-    alloc: Global,
-    depth: usize,
-    tokens: &[Token],
-) -> Result<(Shift, &[Token]), ReadError>
+fn shift(alloc: Global, depth: usize, tokens: &[Token]) -> Result<(Shift, &[Token]), ReadError>
     ensures reads { Reads (shift_with (expression_at depth)) tokens.now result }
     ensures shorter { Advances tokens.now result }
 {
@@ -171,7 +166,8 @@ fn more_sums(
     depth: usize,
     tokens: &[Token],
 ) -> Result<(Seq<(ShiftOperator, Sum)>, &[Token]), ReadError>
-    ensures reads { Reads (steps_with shift_operator_of (sum_with (expression_at depth))) tokens.now result }
+    ensures reads { Reads (steps_with shift_operator_of (sum_with (expression_at depth))) tokens.now
+        result }
     ensures within { Remains tokens.now result }
 {
     let mut steps = Vec::new(alloc);
@@ -187,11 +183,7 @@ fn more_sums(
 /// An operand, and what is added or taken away.
 #[cycle(expression)]
 #[tactic(auto, unfolding(idl_tree::specs::ReadExpression::chain_with))]
-fn sum(
-    alloc: Global,
-    depth: usize,
-    tokens: &[Token],
-) -> Result<(Sum, &[Token]), ReadError>
+fn sum(alloc: Global, depth: usize, tokens: &[Token]) -> Result<(Sum, &[Token]), ReadError>
     ensures reads { Reads (sum_with (expression_at depth)) tokens.now result }
     ensures shorter { Advances tokens.now result }
 {
@@ -207,7 +199,8 @@ fn more_products(
     depth: usize,
     tokens: &[Token],
 ) -> Result<(Seq<(SumOperator, Product)>, &[Token]), ReadError>
-    ensures reads { Reads (steps_with sum_operator_of (product_with (expression_at depth))) tokens.now result }
+    ensures reads { Reads (steps_with sum_operator_of (product_with (expression_at depth)))
+        tokens.now result }
     ensures within { Remains tokens.now result }
 {
     let mut steps = Vec::new(alloc);
@@ -223,11 +216,7 @@ fn more_products(
 /// An operand, and factors and divisors.
 #[cycle(expression)]
 #[tactic(auto, unfolding(idl_tree::specs::ReadExpression::chain_with))]
-fn product(
-    alloc: Global,
-    depth: usize,
-    tokens: &[Token],
-) -> Result<(Product, &[Token]), ReadError>
+fn product(alloc: Global, depth: usize, tokens: &[Token]) -> Result<(Product, &[Token]), ReadError>
     ensures reads { Reads (product_with (expression_at depth)) tokens.now result }
     ensures shorter { Advances tokens.now result }
 {
@@ -243,7 +232,8 @@ fn more_unaries(
     depth: usize,
     tokens: &[Token],
 ) -> Result<(Seq<(ProductOperator, Unary)>, &[Token]), ReadError>
-    ensures reads { Reads (steps_with product_operator_of (unary_with (primary_with (expression_at depth)))) tokens.now result }
+    ensures reads { Reads (steps_with product_operator_of (unary_with (primary_with (expression_at
+        depth)))) tokens.now result }
     ensures within { Remains tokens.now result }
 {
     let mut steps = Vec::new(alloc);
@@ -259,16 +249,16 @@ fn more_unaries(
 /// An operand, with at most one operator before it.
 #[cycle(expression)]
 #[tactic(auto, unfolding(idl_tree::specs::ReadExpression::unary_with))]
-fn unary(
-    alloc: Global,
-    depth: usize,
-    tokens: &[Token],
-) -> Result<(Unary, &[Token]), ReadError>
+fn unary(alloc: Global, depth: usize, tokens: &[Token]) -> Result<(Unary, &[Token]), ReadError>
     ensures reads { Reads (unary_with (primary_with (expression_at depth))) tokens.now result }
     ensures shorter { Advances tokens.now result }
 {
     let operator = unary_operator(tokens);
-    let rest = if operator.is_some() { &tokens[1..] } else { tokens };
+    let rest = if operator.is_some() {
+        &tokens[1..]
+    } else {
+        tokens
+    };
     let (operand, rest) = primary(alloc, depth, rest)?;
     Ok((Unary { operator, operand }, rest))
 }
@@ -276,11 +266,7 @@ fn unary(
 /// A name, a literal, or an expression in parentheses.
 #[cycle(expression)]
 #[tactic(auto, unfolding(idl_tree::specs::ReadExpression::primary_with))]
-fn primary(
-    alloc: Global,
-    depth: usize,
-    tokens: &[Token],
-) -> Result<(Primary, &[Token]), ReadError>
+fn primary(alloc: Global, depth: usize, tokens: &[Token]) -> Result<(Primary, &[Token]), ReadError>
     ensures reads { Reads (primary_with (expression_at depth)) tokens.now result }
     ensures shorter { Advances tokens.now result }
 {
@@ -318,6 +304,6 @@ fn parentheses(
 {
     let rest = behind(tokens, Mark::OpenParenthesis)?;
     let (inner, rest) = expression(alloc, depth, rest)?;
-    let rest = behind(rest, Mark::CloseParenthesis)?;
+    let (inner, rest) = closed(inner, rest, Mark::CloseParenthesis)?;
     Ok((Primary::Parentheses(Boxed::new(alloc, inner)?), rest))
 }

@@ -55,10 +55,7 @@ fn is_at_wide_text(tokens: &[Token]) -> bool
 
 /// One narrow string literal or more, side by side.
 #[tactic(auto, unfolding(idl_tree::specs::ReadInterface::text_at, idl_tree::specs::ReadConstruction::all_with))]
-pub fn text(
-    alloc: Global,
-    tokens: &[Token],
-) -> Result<(Several<Seq<u16>>, &[Token]), ReadError>
+pub fn text(alloc: Global, tokens: &[Token]) -> Result<(Several<Seq<u16>>, &[Token]), ReadError>
     ensures reads { Reads text_at tokens.now result }
     ensures shorter { Advances tokens.now result }
 {
@@ -99,10 +96,7 @@ fn text_piece(alloc: Global, tokens: &[Token]) -> Result<Option<Seq<u16>>, Alloc
 
 /// One wide string literal or more, side by side.
 #[tactic(auto, unfolding(idl_tree::specs::ReadConstruction::all_with))]
-fn wide_text(
-    alloc: Global,
-    tokens: &[Token],
-) -> Result<(Several<Seq<u16>>, &[Token]), ReadError>
+fn wide_text(alloc: Global, tokens: &[Token]) -> Result<(Several<Seq<u16>>, &[Token]), ReadError>
     ensures reads { Reads wide_text_at tokens.now result }
     ensures shorter { Advances tokens.now result }
 {
@@ -114,11 +108,9 @@ fn wide_text(
 }
 
 /// The wide string literals that stand here.
-fn more_wide_text(
-    alloc: Global,
-    tokens: &[Token],
-) -> Result<(Seq<Seq<u16>>, &[Token]), ReadError>
-    ensures reads { Reads (many_of (λ t. is_some (wide_text_of t)) (pick wide_text_of)) tokens.now result }
+fn more_wide_text(alloc: Global, tokens: &[Token]) -> Result<(Seq<Seq<u16>>, &[Token]), ReadError>
+    ensures reads { Reads (many_of (λ t. is_some (wide_text_of t)) (pick wide_text_of)) tokens.now
+        result }
     ensures within { Remains tokens.now result }
 {
     let mut pieces = Vec::new(alloc);
@@ -161,7 +153,8 @@ fn single_literal(alloc: Global, tokens: &[Token]) -> Result<(Literal, &[Token])
 /// The literal that a token is by itself, if it is one.
 #[tactic(auto, unfolding(idl_tree::specs::Lexeme::lexeme_of))]
 fn value(alloc: Global, token: &Token) -> Result<Option<Literal>, AllocError>
-    ensures { IfOk result (λ found. found ≡ option_map single_literal (single_of (Some (lexeme_of token.now)))) }
+    ensures { IfOk result (λ found. found ≡ option_map single_literal (single_of (Some (lexeme_of
+        token.now)))) }
 {
     match token.kind() {
         Kind::Integer => Ok(integer_value(token.as_bytes()).map(Literal::Integer)),

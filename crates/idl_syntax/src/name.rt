@@ -10,7 +10,7 @@ ghost use Rattle.idl_tree.specs.Reading.{many_of};
 ghost use Rattle.idl_tree.specs.Tests.{identifier_at, is_mark};
 ghost use Rattle.idl_syntax.specs.Gives.{Advances, Reads, Remains};
 
-use crate::cursor::{behind, behind_word, identifier, is_at, is_at_word};
+use crate::cursor::{behind, behind_word, closed, identifier, is_at, is_at_word};
 use crate::error::ReadError;
 use idl_base::{Seq, Text};
 use idl_lex::{Keyword, Mark, Token};
@@ -94,10 +94,7 @@ fn more_scoped_names(
 
 /// One identifier or more, with commas between.
 #[tactic(auto, unfolding(idl_tree::specs::ReadExpression::parted_with))]
-pub fn identifiers(
-    alloc: Global,
-    tokens: &[Token],
-) -> Result<(Several<Text>, &[Token]), ReadError>
+pub fn identifiers(alloc: Global, tokens: &[Token]) -> Result<(Several<Text>, &[Token]), ReadError>
     ensures reads { Reads (listed_with identifier_at) tokens.now result }
     ensures shorter { Advances tokens.now result }
 {
@@ -107,10 +104,7 @@ pub fn identifiers(
 }
 
 /// Identifiers, each behind a comma.
-pub fn more_identifiers(
-    alloc: Global,
-    tokens: &[Token],
-) -> Result<(Seq<Text>, &[Token]), ReadError>
+pub fn more_identifiers(alloc: Global, tokens: &[Token]) -> Result<(Seq<Text>, &[Token]), ReadError>
     ensures reads { Reads more_names_at tokens.now result }
     ensures within { Remains tokens.now result }
 {
@@ -135,8 +129,7 @@ fn scoped_name_list(
 {
     let rest = behind(tokens, Mark::OpenParenthesis)?;
     let (names, rest) = scoped_names(alloc, rest)?;
-    let rest = behind(rest, Mark::CloseParenthesis)?;
-    Ok((names, rest))
+    closed(names, rest, Mark::CloseParenthesis)
 }
 
 /// A keyword and scoped names in parentheses.
