@@ -2,7 +2,7 @@
 
 ghost use Rattle.std.specs.Prelude.{◌≡◌, ◌<◌, ◌≤◌, length, IfOk};
 ghost use Rattle.idl_tree.specs.Lexeme.{lexemes};
-ghost use Rattle.idl_tree.specs.ReadConstruction.{all_with, begins_construction, begins_label, case_with, cases_with, construction_at, discriminator_at, enumeration_at, goes_on, label_with, member_type_with, member_with, structure_rest_with, structure_with, union_rest_with, union_with};
+ghost use Rattle.idl_tree.specs.ReadConstruction.{all_with, begins_construction, begins_label, case_with, cases_with, construction_at, construction_with, discriminator_at, enumeration_at, goes_on, label_with, member_type_with, member_with, structure_rest_with, structure_with, union_rest_with, union_with};
 ghost use Rattle.idl_tree.specs.ReadExpression.{expression_at};
 ghost use Rattle.idl_tree.specs.ReadType.{type_at};
 ghost use Rattle.idl_tree.specs.Reading.{first, many_of};
@@ -126,7 +126,7 @@ fn is_at_construction(tokens: &[Token]) -> bool
 
 /// A struct, a union or an enum, with less than so many levels.
 #[cycle(construction)]
-#[tactic(auto, unfolding(idl_tree::specs::ReadConstruction::construction_at, idl_tree::specs::ReadConstruction::construction_with))]
+#[tactic(auto, unfolding(idl_tree::specs::ReadConstruction::construction_at))]
 pub fn construction(
     alloc: Global,
     depth: usize,
@@ -138,13 +138,27 @@ pub fn construction(
     if depth == 0 {
         return Err(ReadError::Syntax(tokens.len()));
     }
+    construction_inside(alloc, depth - 1, tokens)
+}
+
+/// A struct, a union or an enum, by its first keyword.
+#[cycle(construction)]
+#[tactic(auto, unfolding(idl_tree::specs::ReadConstruction::construction_with))]
+fn construction_inside(
+    alloc: Global,
+    depth: usize,
+    tokens: &[Token],
+) -> Result<(Construction, &[Token]), ReadError>
+    ensures reads { Reads (nested construction_with depth) tokens.now result }
+    ensures shorter { Advances tokens.now result }
+{
     match keyword(tokens) {
         Some(Keyword::Struct) => {
-            let (structure, rest) = structure(alloc, depth - 1, tokens)?;
+            let (structure, rest) = structure(alloc, depth, tokens)?;
             Ok((Construction::Structure(structure), rest))
         }
         Some(Keyword::Union) => {
-            let (union, rest) = union_type(alloc, depth - 1, tokens)?;
+            let (union, rest) = union_type(alloc, depth, tokens)?;
             Ok((Construction::Union(union), rest))
         }
         _ => {

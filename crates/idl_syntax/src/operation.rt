@@ -5,7 +5,7 @@ ghost use Rattle.idl_lex.specs.declared.mark.Mark.TheVariants.{Comma};
 ghost use Rattle.idl_tree.specs.Lexeme.{lexemes};
 ghost use Rattle.idl_tree.specs.ReadConstruction.{listed_with};
 ghost use Rattle.idl_tree.specs.ReadExpression.{behind_with};
-ghost use Rattle.idl_tree.specs.ReadInterface.{context_at, context_if, direction_of, operation_with, parameter_with, parameters_with, result_with, text_at};
+ghost use Rattle.idl_tree.specs.ReadInterface.{context_at, context_if, direction_of, operation_rest_with, operation_with, parameter_with, parameters_with, result_with, text_at};
 ghost use Rattle.idl_tree.specs.ReadType.{type_at};
 ghost use Rattle.idl_tree.specs.Reading.{first, many_of};
 ghost use Rattle.idl_tree.specs.Tests.{is_mark};
@@ -191,7 +191,7 @@ fn context_if(
 }
 
 /// An operation.
-#[tactic(auto, unfolding(idl_tree::specs::ReadInterface::operation_with, idl_tree::specs::ReadInterface::operation_rest_with))]
+#[tactic(auto, unfolding(idl_tree::specs::ReadInterface::operation_with))]
 pub fn operation(
     alloc: Global,
     depth: usize,
@@ -203,12 +203,29 @@ pub fn operation(
     let is_oneway = is_at_word(tokens, Keyword::Oneway);
     let rest = if is_oneway { &tokens[1..] } else { tokens };
     let (result, rest) = operation_result(alloc, depth, rest)?;
-    let (head, rest) = named(alloc, result, rest)?;
-    let ((result, name), rest) = closed(head, rest, Mark::OpenParenthesis)?;
+    let (head, rest) = named(alloc, (is_oneway, result), rest)?;
+    operation_rest(alloc, depth, head, rest)
+}
+
+/// What stands behind the name of an operation, of which it is known whether it is oneway, and its
+/// result.
+#[tactic(auto, unfolding(idl_tree::specs::ReadInterface::operation_rest_with))]
+fn operation_rest(
+    alloc: Global,
+    depth: usize,
+    head: ((bool, Option<DataType>), Text),
+    tokens: &[Token],
+) -> Result<(Operation, &[Token]), ReadError>
+    ensures reads { Reads (operation_rest_with (type_at depth) head.0.0 head.0.1 head.1)
+        tokens.now result }
+    ensures shorter { Advances tokens.now result }
+{
+    let rest = behind(tokens, Mark::OpenParenthesis)?;
     let (parameters, rest) = parameters(alloc, depth, rest)?;
     let (parameters, rest) = closed(parameters, rest, Mark::CloseParenthesis)?;
     let (raised, rest) = raises_if(alloc, Keyword::Raises, rest)?;
     let (context, rest) = context_if(alloc, rest)?;
+    let ((is_oneway, result), name) = head;
     let operation = Operation {
         is_oneway,
         result,

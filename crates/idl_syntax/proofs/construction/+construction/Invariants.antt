@@ -10,6 +10,9 @@ use Rattle.idl_syntax.proofs.construction.+construction.Given as goal
 abbrev pub decreases-construction : goal.decreases-construction
 decreases-construction l = l.depth * 20
 
+abbrev pub decreases-construction_inside : goal.decreases-construction_inside
+decreases-construction_inside l = l.depth * 20 + 13
+
 abbrev pub decreases-structure : goal.decreases-structure
 decreases-structure l = l.depth * 20 + 11
 
