@@ -8,24 +8,48 @@ use crate::several::Several;
 use idl_base::{Boxed, Seq, Text};
 
 /// An enum, with its enumerators.
-#[derive(Drop)]
 pub struct Enumeration {
     pub name: Text,
     pub enumerators: Several<Text>,
 }
 
+impl Drop for Enumeration {
+    fn drop(self) {
+        let Enumeration {
+            name: _name,
+            enumerators: _enumerators,
+        } = self;
+    }
+}
+
 /// The type of a union's discriminator.
-#[derive(Drop)]
 pub enum Discriminator {
     Discrete(DiscreteType),
     Name(ScopedName),
 }
 
+impl Drop for Discriminator {
+    fn drop(self) {
+        match self {
+            Discriminator::Discrete(_a) => {}
+            Discriminator::Name(_a) => {}
+        }
+    }
+}
+
 /// A label of a case.
-#[derive(Drop)]
 pub enum Label {
     Case(Expression),
     Default,
+}
+
+impl Drop for Label {
+    fn drop(self) {
+        match self {
+            Label::Case(_a) => {}
+            Label::Default => {}
+        }
+    }
 }
 
 /// A type, or one that is declared in place.

@@ -41,18 +41,35 @@ pub enum BasicType {
 }
 
 /// `string` or `wstring`, with or without a bound.
-#[derive(Drop)]
 pub struct StringType {
     pub is_wide: bool,
     pub bound: Option<Expression>,
 }
 
+impl Drop for StringType {
+    fn drop(self) {
+        let StringType {
+            is_wide: _is_wide,
+            bound: _bound,
+        } = self;
+    }
+}
+
 /// A type that holds no other one.
-#[derive(Drop)]
 pub enum PlainType {
     Basic(BasicType),
     String(StringType),
     Name(ScopedName),
+}
+
+impl Drop for PlainType {
+    fn drop(self) {
+        match self {
+            PlainType::Basic(_a) => {}
+            PlainType::String(_a) => {}
+            PlainType::Name(_a) => {}
+        }
+    }
 }
 
 /// A type.

@@ -4,8 +4,16 @@ use crate::expression::Expression;
 use idl_base::{Seq, Text};
 
 /// A declared name, and the lengths of its array if it is one.
-#[derive(Drop)]
 pub struct Declarator {
     pub name: Text,
     pub lengths: Seq<Expression>,
+}
+
+impl Drop for Declarator {
+    fn drop(self) {
+        let Declarator {
+            name: _name,
+            lengths: _lengths,
+        } = self;
+    }
 }

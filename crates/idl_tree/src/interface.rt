@@ -5,17 +5,35 @@ use crate::several::Several;
 use idl_base::Text;
 
 /// The opening of an interface.
-#[derive(Drop)]
 pub struct Interface {
     pub is_local: bool,
     pub name: Text,
     pub bases: Option<Several<ScopedName>>,
 }
 
+impl Drop for Interface {
+    fn drop(self) {
+        let Interface {
+            is_local: _is_local,
+            name: _name,
+            bases: _bases,
+        } = self;
+    }
+}
+
 /// A forward declaration.
-#[derive(Drop)]
 pub enum Forward {
     Interface(bool, Text),
     Structure(Text),
     Union(Text),
+}
+
+impl Drop for Forward {
+    fn drop(self) {
+        match self {
+            Forward::Interface(_a, _b) => {}
+            Forward::Structure(_a) => {}
+            Forward::Union(_a) => {}
+        }
+    }
 }

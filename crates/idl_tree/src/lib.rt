@@ -18,7 +18,7 @@ mod unit;
 
 pub use attribute::{Attribute, AttributeNames, AttributeRaises, ReadonlyAttribute, ReadonlyNames};
 pub use construction::{
-    Case, Construction, Enumeration, Label, Member, MemberType, Structure, Union,
+    Case, Construction, Discriminator, Enumeration, Label, Member, MemberType, Structure, Union,
 };
 pub use data_type::{
     BasicType, DataType, DiscreteType, IntegerSize, IntegerType, PlainType, Sequence, StringType,

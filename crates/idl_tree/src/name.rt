@@ -3,9 +3,18 @@
 use idl_base::{Seq, Text};
 
 /// A scoped name: `["::"] ID ( "::" ID )*`, each part without an escape.
-#[derive(Drop)]
 pub struct ScopedName {
     pub is_global: bool,
     pub first: Text,
     pub rest: Seq<Text>,
+}
+
+impl Drop for ScopedName {
+    fn drop(self) {
+        let ScopedName {
+            is_global: _is_global,
+            first: _first,
+            rest: _rest,
+        } = self;
+    }
 }

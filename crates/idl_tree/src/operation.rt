@@ -14,15 +14,23 @@ pub enum Direction {
 }
 
 /// A parameter.
-#[derive(Drop)]
 pub struct Parameter {
     pub direction: Direction,
     pub kind: DataType,
     pub name: Text,
 }
 
+impl Drop for Parameter {
+    fn drop(self) {
+        let Parameter {
+            direction: _direction,
+            kind: _kind,
+            name: _name,
+        } = self;
+    }
+}
+
 /// An operation. Without a result it is `void`.
-#[derive(Drop)]
 pub struct Operation {
     pub is_oneway: bool,
     pub result: Option<DataType>,
@@ -30,4 +38,17 @@ pub struct Operation {
     pub parameters: Option<Several<Parameter>>,
     pub raises: Option<Several<ScopedName>>,
     pub context: Option<Several<Several<Seq<u16>>>>,
+}
+
+impl Drop for Operation {
+    fn drop(self) {
+        let Operation {
+            is_oneway: _is_oneway,
+            result: _result,
+            name: _name,
+            parameters: _parameters,
+            raises: _raises,
+            context: _context,
+        } = self;
+    }
 }

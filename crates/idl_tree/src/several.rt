@@ -3,8 +3,16 @@
 use idl_base::Seq;
 
 /// A list that isn't empty.
-#[derive(Drop)]
 pub struct Several<T> {
     pub first: T,
     pub rest: Seq<T>,
+}
+
+impl<T: Drop> Drop for Several<T> {
+    fn drop(self) {
+        let Several {
+            first: _first,
+            rest: _rest,
+        } = self;
+    }
 }

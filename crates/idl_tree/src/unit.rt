@@ -12,37 +12,70 @@ use crate::several::Several;
 use idl_base::{Seq, Text};
 
 /// A typedef.
-#[derive(Drop)]
 pub struct Typedef {
     pub kind: MemberType,
     pub declarators: Several<Declarator>,
 }
 
+impl Drop for Typedef {
+    fn drop(self) {
+        let Typedef {
+            kind: _kind,
+            declarators: _declarators,
+        } = self;
+    }
+}
+
 /// The type of a constant.
-#[derive(Drop)]
 pub enum ConstantType {
     Discrete(DiscreteType),
     String(StringType),
     Name(ScopedName),
 }
 
+impl Drop for ConstantType {
+    fn drop(self) {
+        match self {
+            ConstantType::Discrete(_a) => {}
+            ConstantType::String(_a) => {}
+            ConstantType::Name(_a) => {}
+        }
+    }
+}
+
 /// A constant.
-#[derive(Drop)]
 pub struct Constant {
     pub kind: ConstantType,
     pub name: Text,
     pub value: Expression,
 }
 
+impl Drop for Constant {
+    fn drop(self) {
+        let Constant {
+            kind: _kind,
+            name: _name,
+            value: _value,
+        } = self;
+    }
+}
+
 /// An exception, with its members.
-#[derive(Drop)]
 pub struct Exception {
     pub name: Text,
     pub members: Seq<Member>,
 }
 
+impl Drop for Exception {
+    fn drop(self) {
+        let Exception {
+            name: _name,
+            members: _members,
+        } = self;
+    }
+}
+
 /// What a unit is.
-#[derive(Drop)]
 pub enum Tree {
     Closing,
     Module(Text),
@@ -56,4 +89,23 @@ pub enum Tree {
     ReadonlyAttribute(ReadonlyAttribute),
     Attribute(Attribute),
     Operation(Operation),
+}
+
+impl Drop for Tree {
+    fn drop(self) {
+        match self {
+            Tree::Closing => {}
+            Tree::Module(_a) => {}
+            Tree::Interface(_a) => {}
+            Tree::Forward(_a) => {}
+            Tree::Typedef(_a) => {}
+            Tree::Construction(_a) => {}
+            Tree::Native(_a) => {}
+            Tree::Constant(_a) => {}
+            Tree::Exception(_a) => {}
+            Tree::ReadonlyAttribute(_a) => {}
+            Tree::Attribute(_a) => {}
+            Tree::Operation(_a) => {}
+        }
+    }
 }

@@ -1,0 +1,4 @@
+pub mod Turns
+pub mod Literals
+pub mod Names
+pub mod Parses

@@ -1,0 +1,6 @@
+pub mod Gives
+pub mod Fault
+pub mod Next
+pub mod Literal
+pub mod Steps
+pub mod Nested
