@@ -1,5 +1,5 @@
 -- Literals, by the kinds of their tokens.
-use Rattle.std.proofs.Common.{◌≡◌, ℕ, Bool, true, false, List, [], ◌∷◌, Option, Some, None, is_some, Result, Ok, Err, refl, sym, ap, subst, ◌∙◌}
+use Rattle.std.proofs.Common.{◌≡◌, ℕ, true, false, List, [], ◌∷◌, Option, Some, None, is_some, Result, Ok, Err, refl, ap}
 use Rattle.idl_lex.specs.Kind.{kind_of, name_of}
 use Rattle.idl_lex.specs.Number.{integer_value}
 use Rattle.idl_lex.specs.Literal.{literal_value}
@@ -13,7 +13,7 @@ use Rattle.idl_tree.specs.Lexeme.{Lexeme, Identifier, Integer, Character, WideCh
 use Rattle.idl_tree.specs.ReadConstruction.{several, all_with}
 use Rattle.idl_tree.specs.ReadExpression.{literal_at, pieces_at, text_literal, text_of, wide_text_literal, wide_text_of}
 use Rattle.idl_tree.specs.ReadInterface.{text_at}
-use Rattle.idl_tree.specs.Reading.{◌>>=◌, first, many_of}
+use Rattle.idl_tree.specs.Reading.{◌>>=◌, many_of}
 use Rattle.idl_tree.specs.Tests.{pick}
 use Rattle.idl_tree.specs.declared.literal.Literal.{Literal}
 use Rattle.idl_tree.specs.declared.literal.Literal.TheVariants as literal

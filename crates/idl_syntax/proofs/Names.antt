@@ -1,5 +1,5 @@
 -- Where a name begins.
-use Rattle.std.proofs.Common.{◌≡◌, ℕ, List, Bool, true, Option, Some, None, refl}
+use Rattle.std.proofs.Common.{◌≡◌, ℕ, List, true, Option, Some, None, refl}
 use Rattle.idl_lex.specs.declared.mark.Mark.TheVariants.{ColonColon}
 use Rattle.idl_tree.specs.Lexeme.{Lexeme, Identifier, Punctuation}
 use Rattle.idl_tree.specs.ReadName.{begins_name}

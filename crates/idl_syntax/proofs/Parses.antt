@@ -1,5 +1,5 @@
 -- What a whole reading says of the tokens of the code.
-use Rattle.std.proofs.Common.{◌≡◌, ℕ, ◌+◌, ◌<◌, List, [], ◌∷◌, length, Result, Ok, Err, ap, ◌∙◌, subst, arith}
+use Rattle.std.proofs.Common.{◌≡◌, ℕ, ◌+◌, ◌<◌, List, [], ◌∷◌, length, Ok, Err, subst, arith}
 use Rattle.std.proofs.lemmas.List.{length-map}
 use Rattle.idl_syntax.specs.Fault.{IsFault}
 use Rattle.idl_syntax.specs.Gives.{Fails}

@@ -1,5 +1,5 @@
 -- A loop over items: what it has read and what it is to read are what reading gives.
-use Rattle.std.proofs.Common.{◌≡◌, ℕ, zero, suc, ◌<◌, ◌-◌, Bool, true, false, List, [], ◌∷◌, ◌++◌, length, map, drop, Option, Some, None, is_some, Result, Ok, Err, refl, sym, ap, subst, ◌∙◌, append_assoc, append-nil, arith, slice_range, length-drop}
+use Rattle.std.proofs.Common.{◌≡◌, ℕ, zero, suc, ◌<◌, ◌-◌, Bool, true, false, List, [], ◌∷◌, ◌++◌, length, drop, Option, Some, None, is_some, Result, Ok, Err, refl, sym, ap, subst, ◌∙◌, append_assoc, append-nil, arith, slice_range, length-drop}
 use Rattle.std.proofs.lemmas.List.{length-map, take_all}
 use Rattle.idl_lex.specs.declared.mark.Mark.{Mark}
 use Rattle.idl_syntax.specs.declared.error.ReadError.{ReadError}

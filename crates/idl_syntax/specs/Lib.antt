@@ -4,3 +4,5 @@ pub mod Next
 pub mod Literal
 pub mod Steps
 pub mod Nested
+pub mod Behind
+pub mod Parse

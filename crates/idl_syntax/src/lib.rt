@@ -1,10 +1,9 @@
-//! The parser of OMG IDL units: which tree the tokens of a unit spell, or where they stop being the
-//! beginning of one.
+//! The parser of OMG IDL units: the tree of a unit, or its fault, with the place where the unit stops
+//! being the beginning of one.
 //!
 //! A reader takes the tokens that are left, and gives a tree with the tokens behind it. Lists are read
 //! in loops. What may stand in itself (parentheses, sequences, structs and unions) is read by functions
-//! that call one another, as deep as the unit nests: who calls `parse` makes sure that it nests at most
-//! 64 levels.
+//! that call one another, as deep as the unit nests: what nests more than 64 levels is refused before.
 #![tactic(auto)]
 
 mod attribute;
@@ -19,7 +18,9 @@ mod literal;
 mod name;
 mod operation;
 mod operator;
+mod pragma;
 mod unit;
+mod unit_tree;
+mod version;
 
-pub use error::ReadError;
-pub use unit::parse;
+pub use unit_tree::{SyntaxFault, UnitTree, parse};

@@ -33,7 +33,7 @@ use std::alloc::Global;
 ///
 /// `ReadError::Syntax` says that no tree is spelled so, and how many tokens are left where they stop
 /// being the beginning of a unit. Calls go as deep as the unit nests, which the caller bounds.
-pub fn parse(alloc: Global, tokens: &[Token]) -> Result<Tree, ReadError>
+pub fn tree(alloc: Global, tokens: &[Token]) -> Result<Tree, ReadError>
     ensures tree { IfOk result (λ tree. lexemes tokens.now ≡ spell tree) }
     ensures fault { IfErr result (IsFault (lexemes tokens.now)) }
 {

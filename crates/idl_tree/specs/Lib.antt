@@ -15,3 +15,4 @@ pub mod ReadType
 pub mod ReadConstruction
 pub mod ReadInterface
 pub mod ReadUnit
+pub mod Pragma

@@ -13,6 +13,7 @@ mod law;
 mod literal;
 mod name;
 mod operation;
+mod pragma;
 mod several;
 mod unit;
 
@@ -33,5 +34,6 @@ pub use law::{one_spelling, reading};
 pub use literal::Literal;
 pub use name::ScopedName;
 pub use operation::{Direction, Operation, Parameter};
+pub use pragma::Pragma;
 pub use several::Several;
 pub use unit::{Constant, ConstantType, Exception, Tree, Typedef};

@@ -3,6 +3,4 @@ pub mod EndingLemmas
 pub mod HeldLemmas
 pub mod PartsLemmas
 pub mod PlacingLemmas
-pub mod PragmaLemmas
 pub mod TokenLemmas
-pub mod VersionLemmas

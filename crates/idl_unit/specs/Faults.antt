@@ -1,11 +1,7 @@
--- The fault of a unit's tokens.
+-- The least of faults.
 use Rattle.std.specs.Prelude.{◌&&◌, ◌||◌, List, [], ◌∷◌, fold, nat_eq, nat_lt, Option, None, Some, if◌then◌else◌}
 use Rattle.idl_event.specs.Code.{number_of}
-use Rattle.idl_unit.specs.Pragma.{pragma_faults}
-use Rattle.idl_unit.specs.TokenRules.{token_faults}
 use Rattle.idl_unit.specs.declared.fault.Fault.{Fault}
-use Rattle.idl_unit.specs.declared.unit.UnitText.{UnitText}
-use Rattle.idl_unit.specs.declared.unit.UnitText.TheVariants.{Tokens, Pragma}
 
 -- the lesser of two faults: by the token, and at one token by the code
 abbrev pub lesser_fault : Fault → Fault → Fault
@@ -16,8 +12,3 @@ lesser_fault f g =
 abbrev pub least_fault : List Fault → Option Fault
 least_fault [] = None
 least_fault (f ∷ fs) = Some (fold lesser_fault f fs)
-
--- all faults of a unit's tokens; none of the rules of tokens counts in a pragma
-abbrev pub unit_faults : UnitText → List Fault
-unit_faults (Tokens unit) = token_faults unit
-unit_faults (Pragma tokens inside) = pragma_faults tokens inside

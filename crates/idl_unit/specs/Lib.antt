@@ -5,5 +5,4 @@ pub mod Units
 pub mod Placing
 pub mod Held
 pub mod TokenRules
-pub mod Pragma
 pub mod Faults
