@@ -4,6 +4,7 @@ mod conditions;
 mod data;
 mod deep;
 mod directives;
+mod jumps;
 mod kinds;
 mod limits;
 mod literals;

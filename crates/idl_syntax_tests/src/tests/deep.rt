@@ -1,7 +1,6 @@
 //! What is deep or long has its end.
 
 use super::support::has_units;
-use std::alloc::{AllocError, Global};
 use std::test::Fail;
 
 // 64 brackets may stand in one another; one more is a fault.
@@ -10,6 +9,7 @@ fn units_nest_64_levels(rt: HostRuntime) -> Result<(), Fail> {
     for (head, open, close, tail, want, index) in &[
         ("const A K = ", "(", ")", ";", "const name parentheses", 68),
         ("const A K = ", "-(", ")", ";", "const name minus", 133),
+        ("", "struct S {", " a; }", ";", "struct one struct one", 194),
         (
             "typedef ",
             "sequence<",
@@ -18,24 +18,15 @@ fn units_nest_64_levels(rt: HostRuntime) -> Result<(), Fail> {
             "typedef sequence one",
             130,
         ),
-        (
-            "typedef",
-            " struct S {",
-            " a; }",
-            " a;",
-            "typedef struct one",
-            195,
-        ),
     ] {
         let alloc = rt.alloc();
-        let text = nested(alloc, 64, [head, open, "A", close, tail])?;
+        let opened = open.repeat(alloc, 64)?;
+        let closed = close.repeat(alloc, 64)?;
+        let text = format!(in alloc; "{head}{opened}A{closed}{tail}")?;
         has_units(&rt, text.as_str(), want)?;
-        let text = nested(alloc, 65, [head, open, "A", close, tail])?;
-        has_units(
-            &rt,
-            text.as_str(),
-            format!(in alloc; "E24 {index}")?.as_str(),
-        )?;
+        let text = format!(in alloc; "{head}{opened}{open}A{close}{closed}{tail}")?;
+        let want = format!(in alloc; "E24 {index}")?;
+        has_units(&rt, text.as_str(), want.as_str())?;
     }
     Ok(())
 }
@@ -44,25 +35,9 @@ fn units_nest_64_levels(rt: HostRuntime) -> Result<(), Fail> {
 #[test]
 fn scopes_stand_in_one_another(rt: HostRuntime) -> Result<(), Fail> {
     let alloc = rt.alloc();
-    let text = nested(
-        alloc,
-        64,
-        ["module M {\n", "module M {\n", "", "};\n", "};"],
-    )?;
-    let want = nested(
-        alloc,
-        64,
-        ["module", " / module", "", " / closing", " / closing"],
-    )?;
-    has_units(&rt, text.as_str(), want.as_str())
-}
-
-// A middle in so many openings and closings, between a head and a tail.
-fn nested(alloc: Global, count: usize, parts: [&str; 5]) -> Result<String, AllocError> {
-    let [head, open, middle, close, tail] = parts;
-    let opened = open.repeat(alloc, count)?;
-    let closed = close.repeat(alloc, count)?;
-    format!(in alloc; "{head}{opened}{middle}{closed}{tail}")
+    let text = "module M { ".repeat(alloc, 65)?;
+    let want = "module / ".repeat(alloc, 65)?;
+    has_units(&rt, text.as_str(), want.as_str().trim_end_matches(" / "))
 }
 
 #[test]

@@ -19,7 +19,6 @@ fn tokens_have_these_faults(rt: HostRuntime) -> Result<(), Fail> {
         ("const string S = \"a\" L\"b\" \"c\";", "E08 5"),
         ("typedef A X; /* a", "typedef name one / E09 0"),
         ("typedef fixed X;", "E21 1"),
-        ("const float F = 1;", "E21 1"),
         ("const long double D = 1;", "E21 2"),
         ("typedef long Boolean;", "E36 2"),
         // The first of several faults, before a tree that isn't there.
@@ -60,20 +59,13 @@ fn trees_are_missed_at_these_tokens(rt: HostRuntime) -> Result<(), Fail> {
 fn pragmas_have_these_faults(rt: HostRuntime) -> Result<(), Fail> {
     for (text, want) in &[
         ("#pragma prefix \"P\"", "prefix 1"),
-        (
-            "#pragma ID ::A::_b \"IDL:X/T:2.0\"",
-            "ID global name of parts 11",
-        ),
+        ("#pragma ID ::A::_b \"x\"", "ID global name of parts 1"),
         ("#pragma ID Boolean \"\"", "ID name 0"),
         ("#pragma version A::B 02.4", "version name of parts 2 4"),
         ("#pragma version A 65535.65535", "version name 65535 65535"),
-        (
-            "struct S {\n#pragma prefix \"P\"\nA a; };",
-            "struct one name one / E25 0",
-        ),
+        ("A\n#pragma prefix \"P\"\nf();", "operation name / E25 0"),
         ("#pragma prefix", "E26 0"),
         ("#pragma prefix L\"P\"", "E26 0"),
-        ("#pragma prefix \"P\" \"Q\"", "E26 0"),
         ("#pragma prefix \"\\q\"", "E26 0"),
         ("#pragma ID module \"x\"", "E26 0"),
         ("#pragma ID A:: \"x\"", "E26 0"),
@@ -88,7 +80,6 @@ fn pragmas_have_these_faults(rt: HostRuntime) -> Result<(), Fail> {
 #[test]
 fn files_have_these_units(rt: HostRuntime) -> Result<(), Fail> {
     for (text, want) in &[
-        ("", ""),
         (
             "valuetype V { };\nconst double D = 1.5;\nconst long K = 1.5;\nstruct P { double x; };",
             "E21 0 / E21 1 / E06 4 / struct one double one",

@@ -19,7 +19,6 @@ fn units_are_these(rt: HostRuntime) -> Result<(), Fail> {
         ("typedef A B;", "typedef name one"),
         ("typedef A B, C[1];", "typedef name many"),
         ("typedef A B[1];", "typedef name array"),
-        ("typedef A B[1][2];", "typedef name arrays"),
         ("typedef struct S { A a; } T;", "typedef struct one"),
         ("struct S { A a; };", "struct one name one"),
         ("struct S { A a, b; A c; };", "struct many name many"),
@@ -30,19 +29,15 @@ fn units_are_these(rt: HostRuntime) -> Result<(), Fail> {
         ),
         (
             "union U switch (A) { case 1: A a; };",
-            "union name one case name",
+            "union name one one case name",
         ),
         (
             "union U switch (A) { default: A a[1]; case 2: A b; };",
-            "union name many default name",
+            "union name many one default name",
         ),
         (
-            "union U switch (A) { default: case 1: A a; };",
-            "union name one default and more name",
-        ),
-        (
-            "union U switch (A) { case 1: case 2: enum E { B } a; };",
-            "union name one case and more enum",
+            "union U switch (A) { case 1: default: enum E { B } a; };",
+            "union name one many case enum",
         ),
         ("enum E { A };", "enum one"),
         ("enum E { A, B, C };", "enum many"),
@@ -116,7 +111,7 @@ fn discrete_types_are_these(rt: HostRuntime) -> Result<(), Fail> {
             "typedef {word} T; const {word} K = A; union U switch ({word}) {{ default: A a; }};"
         )?;
         let want = format!(in alloc;
-            "typedef {word} one / const {word} name / union {word} one default name"
+            "typedef {word} one / const {word} name / union {word} one one default name"
         )?;
         has_units(&rt, text.as_str(), want.as_str())?;
     }
@@ -145,7 +140,6 @@ fn expressions_are_these(rt: HostRuntime) -> Result<(), Fail> {
         ("0x1F", "integer"),
         ("'a'", "character"),
         ("L'a'", "wide character"),
-        ("\"a\"", "text"),
         ("\"a\" \"\" \"b\"", "text"),
         ("L\"a\" L\"b\"", "wide text"),
         ("TRUE", "TRUE"),

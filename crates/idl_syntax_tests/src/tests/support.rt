@@ -41,10 +41,11 @@ fn say_unit(alloc: Global, said: &mut String, unit: &UnitText) -> Result<(), All
 fn expansion_of(alloc: Global, text: &str) -> Result<Expansion, Fail> {
     let name = Name::new(b"a.idl").ok_or("no name")?;
     let file = FileName::new(alloc, &name)?;
+    let place = Place { file, line: 1 };
     let mut events = Vec::new(alloc);
     for line in text.split('\n') {
         let lexed = LexedFile::new(alloc, file_of(alloc, line)?)?;
-        push_events(&mut events, &file, &lexed)?;
+        push_events(&mut events, &place, &lexed)?;
     }
     Ok(Expansion::from_vec(events))
 }
@@ -60,7 +61,7 @@ fn file_of(alloc: Global, line: &str) -> Result<File, AllocError> {
 
 fn push_events(
     events: &mut Vec<Event>,
-    file: &FileName,
+    place: &Place,
     lexed: &LexedFile,
 ) -> Result<(), AllocError> {
     let tokens = lexed.tokens();
@@ -68,16 +69,11 @@ fn push_events(
         && hash.token.as_bytes() == b"#".as_slice()
     {
         let (_hash, pragma) = tokens.split_at(1);
-        events.push(Event::Pragma(place_in(file)?, pragma.shared()?))?;
+        events.push(Event::Pragma(place.clone()?, pragma.shared()?))?;
         return Ok(());
     }
     for token in tokens.as_slice() {
-        events.push(Event::Emitted(place_in(file)?, token.token.clone()?))?;
+        events.push(Event::Emitted(place.clone()?, token.token.clone()?))?;
     }
     Ok(())
-}
-
-fn place_in(file: &FileName) -> Result<Place, AllocError> {
-    let file = file.clone()?;
-    Ok(Place { file, line: 1 })
 }

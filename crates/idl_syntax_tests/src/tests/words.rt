@@ -1,13 +1,12 @@
-//! Trees in words: which production a unit is of, and its parts.
+//! Trees in words: the production of a unit, and its parts; of a list, how many there are and what the first is.
 
-use super::expressions::expression_word;
-use super::types::{
-    constant_type_word, discriminator_word, member_type_word, name_word, type_word,
-};
 use idl_base::Seq;
 use idl_tree::{
-    Attribute, AttributeNames, AttributeRaises, Construction, Declarator, Direction, Forward,
-    Interface, Label, Member, Operation, Pragma, ReadonlyNames, Several, Tree,
+    Attribute, AttributeNames, AttributeRaises, BasicType, ConstantType, Construction, DataType,
+    Declarator, Direction, DiscreteType, Discriminator, Expression, Forward, IntegerSize,
+    IntegerType, Interface, Label, Literal, Member, MemberType, Operation, PlainType, Pragma,
+    Primary, Product, ProductOperator, ReadonlyNames, ScopedName, Several, Shift, ShiftOperator,
+    StringType, Sum, SumOperator, Tree, Unary, UnaryOperator,
 };
 use std::alloc::AllocError;
 
@@ -102,8 +101,13 @@ fn say_construction(said: &mut String, construction: &Construction) -> Result<()
         Construction::Union(union) => {
             let discriminator = discriminator_word(&union.discriminator);
             say(said, &["union", discriminator, how_many(&union.rest)])?;
-            let kind = member_type_word(&union.first.kind);
-            say(said, &[labels_word(&union.first.labels), kind])
+            let labels = &union.first.labels;
+            let label = match &labels.first {
+                Label::Case(_value) => "case",
+                Label::Default => "default",
+            };
+            say(said, &[how_many(&labels.rest), label])?;
+            say(said, &[member_type_word(&union.first.kind)])
         }
         Construction::Enumeration(enumeration) => {
             say(said, &["enum", how_many(&enumeration.enumerators.rest)])
@@ -114,15 +118,6 @@ fn say_construction(said: &mut String, construction: &Construction) -> Result<()
 fn say_member(said: &mut String, member: &Member) -> Result<(), AllocError> {
     let kind = member_type_word(&member.kind);
     say(said, &[kind, declarators_word(&member.declarators)])
-}
-
-fn labels_word(labels: &Several<Label>) -> &'static str {
-    match (&labels.first, labels.rest.is_empty()) {
-        (Label::Case(_value), true) => "case",
-        (Label::Case(_value), false) => "case and more",
-        (Label::Default, true) => "default",
-        (Label::Default, false) => "default and more",
-    }
 }
 
 fn say_attribute(said: &mut String, attribute: &Attribute) -> Result<(), AllocError> {
@@ -165,4 +160,155 @@ fn word_if(condition: bool, word: &'static str) -> &'static str {
 // How many there are with one before these.
 fn how_many<T>(rest: &Seq<T>) -> &'static str {
     if rest.is_empty() { "one" } else { "many" }
+}
+
+fn member_type_word(kind: &MemberType) -> &'static str {
+    match kind {
+        MemberType::Type(kind) => type_word(kind),
+        MemberType::Construction(construction) => match construction.get() {
+            Construction::Structure(_structure) => "struct",
+            Construction::Union(_union) => "union",
+            Construction::Enumeration(_enumeration) => "enum",
+        },
+    }
+}
+
+fn type_word(kind: &DataType) -> &'static str {
+    match kind {
+        DataType::Plain(plain) => plain_word(plain),
+        DataType::Sequence(sequence) => match &sequence.get().bound {
+            None => "sequence",
+            Some(_bound) => "bounded sequence",
+        },
+    }
+}
+
+fn plain_word(plain: &PlainType) -> &'static str {
+    match plain {
+        PlainType::Basic(BasicType::Discrete(discrete)) => discrete_word(*discrete),
+        PlainType::Basic(BasicType::Float) => "float",
+        PlainType::Basic(BasicType::Double) => "double",
+        PlainType::Basic(BasicType::LongDouble) => "long double",
+        PlainType::Basic(BasicType::Any) => "any",
+        PlainType::Basic(BasicType::Object) => "Object",
+        PlainType::String(string) => string_word(string),
+        PlainType::Name(name) => name_word(name),
+    }
+}
+
+fn discrete_word(discrete: DiscreteType) -> &'static str {
+    match discrete {
+        DiscreteType::Integer(integer) => integer_word(integer),
+        DiscreteType::Char => "char",
+        DiscreteType::WideChar => "wchar",
+        DiscreteType::Boolean => "boolean",
+        DiscreteType::Octet => "octet",
+    }
+}
+
+fn integer_word(integer: IntegerType) -> &'static str {
+    match (integer.is_unsigned, integer.size) {
+        (false, IntegerSize::Short) => "short",
+        (false, IntegerSize::Long) => "long",
+        (false, IntegerSize::LongLong) => "long long",
+        (true, IntegerSize::Short) => "unsigned short",
+        (true, IntegerSize::Long) => "unsigned long",
+        (true, IntegerSize::LongLong) => "unsigned long long",
+    }
+}
+
+fn string_word(string: &StringType) -> &'static str {
+    match (string.is_wide, string.bound.is_some()) {
+        (false, false) => "string",
+        (false, true) => "bounded string",
+        (true, false) => "wstring",
+        (true, true) => "bounded wstring",
+    }
+}
+
+fn name_word(name: &ScopedName) -> &'static str {
+    match (name.is_global, name.rest.is_empty()) {
+        (false, true) => "name",
+        (false, false) => "name of parts",
+        (true, true) => "global name",
+        (true, false) => "global name of parts",
+    }
+}
+
+fn constant_type_word(kind: &ConstantType) -> &'static str {
+    match kind {
+        ConstantType::Discrete(discrete) => discrete_word(*discrete),
+        ConstantType::String(string) => string_word(string),
+        ConstantType::Name(name) => name_word(name),
+    }
+}
+
+fn discriminator_word(discriminator: &Discriminator) -> &'static str {
+    match discriminator {
+        Discriminator::Discrete(discrete) => discrete_word(*discrete),
+        Discriminator::Name(name) => name_word(name),
+    }
+}
+
+// The operator that is applied last, and else the operand.
+fn expression_word(expression: &Expression) -> &'static str {
+    let exclusive_or = &expression.first;
+    let and = &exclusive_or.first;
+    if !expression.rest.is_empty() {
+        "|"
+    } else if !exclusive_or.rest.is_empty() {
+        "^"
+    } else if !and.rest.is_empty() {
+        "&"
+    } else {
+        shift_word(&and.first)
+    }
+}
+
+fn shift_word(shift: &Shift) -> &'static str {
+    match shift.rest.as_slice().last() {
+        None => sum_word(&shift.first),
+        Some((ShiftOperator::Left, _operand)) => "<<",
+        Some((ShiftOperator::Right, _operand)) => ">>",
+    }
+}
+
+fn sum_word(sum: &Sum) -> &'static str {
+    match sum.rest.as_slice().last() {
+        None => product_word(&sum.first),
+        Some((SumOperator::Plus, _operand)) => "+",
+        Some((SumOperator::Minus, _operand)) => "-",
+    }
+}
+
+fn product_word(product: &Product) -> &'static str {
+    match product.rest.as_slice().last() {
+        None => unary_word(&product.first),
+        Some((ProductOperator::Times, _operand)) => "*",
+        Some((ProductOperator::Divided, _operand)) => "/",
+        Some((ProductOperator::Remainder, _operand)) => "%",
+    }
+}
+
+fn unary_word(unary: &Unary) -> &'static str {
+    match unary.operator {
+        None => primary_word(&unary.operand),
+        Some(UnaryOperator::Minus) => "minus",
+        Some(UnaryOperator::Plus) => "plus",
+        Some(UnaryOperator::Complement) => "complement",
+    }
+}
+
+fn primary_word(primary: &Primary) -> &'static str {
+    match primary {
+        Primary::Name(name) => name_word(name),
+        Primary::Literal(Literal::Integer(_value)) => "integer",
+        Primary::Literal(Literal::Character(_value)) => "character",
+        Primary::Literal(Literal::WideCharacter(_value)) => "wide character",
+        Primary::Literal(Literal::Text(_pieces)) => "text",
+        Primary::Literal(Literal::WideText(_pieces)) => "wide text",
+        Primary::Literal(Literal::True) => "TRUE",
+        Primary::Literal(Literal::False) => "FALSE",
+        Primary::Parentheses(_expression) => "parentheses",
+    }
 }
