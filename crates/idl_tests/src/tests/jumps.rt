@@ -21,9 +21,9 @@ fn skipped_branches_tell_their_faults(rt: HostRuntime) -> Result<(), Fail> {
 fn a_guarded_file_is_included_ten_thousand_times(rt: HostRuntime) -> Result<(), Fail> {
     let guarded = repeated(
         rt.alloc(),
-        "put g.idl 200000\n#ifndef G\n#define G\n",
+        "put g.idl 50000\n#ifndef G\n#define G\n",
         ";\n",
-        199_997,
+        49_997,
         "#endif\nput f.idl 10000\n",
     )?;
     let last = "root f.idl\nabsent f.idl\n";
