@@ -7,7 +7,6 @@ use Rattle.idl_tree.specs.Construction.{spell_enumeration, spell_discriminator, 
 use Rattle.idl_tree.specs.DataType.{spell_type, spell_declarator}
 use Rattle.idl_tree.specs.Lexeme.{Lexemes, Word, Punctuation, Identifier, Lexeme}
 use Rattle.idl_tree.specs.ReadConstruction.{made_member, made_structure, made_case, made_union}
-use Rattle.idl_tree.specs.Reading.{first}
 use Rattle.idl_tree.specs.Several.{spell_listed, spell_all}
 use Rattle.idl_tree.specs.declared.construction.Case.{Case}
 use Rattle.idl_tree.specs.declared.construction.Construction.{Construction, fold-Construction}

@@ -28,7 +28,7 @@ use Rattle.idl_tree.specs.declared.data_type.Sequence.{Sequence, roll-Sequence}
 use Rattle.idl_tree.specs.declared.data_type.StringType.{StringType}
 use Rattle.idl_tree.specs.declared.expression.Expression.{Expression}
 use Rattle.idl_tree.specs.declared.name.ScopedName.{ScopedName}
-use Rattle.idl_tree.proofs.Again.{Later, goes_or, neither, plain}
+use Rattle.idl_tree.proofs.Again.{Later, goes_or, neither}
 use Rattle.idl_tree.proofs.AgainParts.{Parted, Reads, nothing, spelled_reads, then_reads}
 use Rattle.idl_tree.proofs.ExpressionAgain.{expression_again, goes_expression, name_again}
 use Rattle.idl_tree.proofs.NameLaws.{named}
