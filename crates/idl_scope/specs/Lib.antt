@@ -1,0 +1,9 @@
+pub mod Answer
+pub mod Entity
+pub mod Facts
+pub mod Held
+pub mod Key
+pub mod Kind
+pub mod Lookup
+pub mod Meaning
+pub mod Path
