@@ -1,0 +1,6 @@
+pub mod Membership
+pub mod Reaching
+pub mod Worlds
+pub mod Walked
+pub mod Meant
+pub mod LookupLaws

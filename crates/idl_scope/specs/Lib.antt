@@ -1,4 +1,5 @@
 pub mod Answer
+pub mod Bases
 pub mod Entity
 pub mod Facts
 pub mod Held

@@ -2,9 +2,10 @@
 use Rattle.std.specs.Prelude.{◌≡◌, ◌≢◌, ◌⊎◌, ℕ, suc, Bool, true, false, MatchBool, List, [], ◌∷◌, ◌+◌, Option, Some, None, Result, Ok, Err, Contains}
 use Rattle.idl_lex.specs.Keywords.{folded}
 use Rattle.idl_tree.specs.declared.name.ScopedName.{ScopedName}
-use Rattle.idl_scope.specs.Facts.{entity_key, entity_in}
+use Rattle.idl_scope.specs.Facts.{UnitFacts, answers, entity_key, entity_in, over}
 use Rattle.idl_scope.specs.Lookup.{bases_of, inherits, is_scope, searched}
 use Rattle.idl_scope.specs.Path.{name_of}
+use Rattle.idl_scope.specs.declared.addition.Addition.{Addition}
 use Rattle.idl_scope.specs.declared.answer.Answer.{Answer}
 use Rattle.idl_scope.specs.declared.answer.Scope.{Scope}
 use Rattle.idl_scope.specs.declared.entity.Entity.{Entity}
@@ -12,10 +13,15 @@ use Rattle.idl_scope.specs.declared.fault.NameCode.{NameCode}
 use Rattle.idl_scope.specs.declared.fault.NameCode.TheVariants.{Undeclared, Ambiguous, OtherSpelling, NoScope}
 use Rattle.idl_scope.specs.declared.fault.NameFault.{NameFault}
 use Rattle.idl_scope.specs.declared.fault.NameFault.TheVariants.{At}
+use Rattle.idl_scope.specs.declared.found.Found.{Found}
 use Rattle.idl_scope.specs.declared.key.Key.{Key}
 use Rattle.idl_scope.specs.declared.key.Key.TheVariants.{Declared}
 use Rattle.idl_scope.specs.declared.kind.Kind.{Kind}
 use Rattle.idl_scope.specs.declared.kind.Kind.TheVariants.{Module}
+
+-- the answers over facts, as these additions change them
+abbrev pub seen : List Addition → List UnitFacts → Key → Option Answer
+seen own facts key = over own key (answers facts key)
 
 -- what a scope itself declares a name as
 abbrev pub own_at : (Key → Option Answer) → List ℕ → List (List ℕ) → Option Entity
@@ -82,6 +88,11 @@ Denotes answers cursor name r =
     (j : Result Entity NameCode)
     × Judges (FirstHas answers (searched name.is_global cursor) (folded name.first)) name.first j
     × Goes 0 j (λ first. DenotesIn answers 0 first name.rest r) r
+
+-- the entity that is found, or the fault
+abbrev pub entity_found : Result Found NameFault → Result Entity NameFault
+entity_found (Ok found) = Ok found.entity
+entity_found (Err fault) = Err fault
 
 -- the use of a name in these scopes introduces it into this one: the innermost, or one outward of it
 -- with no module up to there; and no scope up to there declares it

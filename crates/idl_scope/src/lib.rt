@@ -12,6 +12,7 @@ mod fault;
 mod found;
 mod key;
 mod kind;
+mod laws;
 mod path;
 mod shared;
 
@@ -22,6 +23,7 @@ pub use facts::Facts;
 pub use fault::{NameCode, NameFault};
 pub use found::Found;
 pub use key::Key;
+pub use laws::{denotation, found_in_a_scope};
 pub use kind::{Kind, Stage};
 pub use path::Path;
 pub use shared::Shared;

@@ -1,0 +1,109 @@
+-- The questions of a walk over bases come to what a walk over places does.
+use Rattle.std.proofs.Common.{◌≡◌, ◌⊎◌, ℕ, zero, suc, ◌+◌, ◌≤◌, Bool, true, false, cond, List, [], ◌∷◌, ◌++◌, length, Option, Some, None, refl, ap, ◌∙◌, sym, inl, inr, arith, length-append, append-nil, append_assoc, subst}
+use Rattle.std.specs.Prelude.{option_to_list, slice_get, ◌||◌}
+use Rattle.std.specs.List.{list_any}
+use Rattle.std.specs.Cmp.Lexicographic.{bytes_decides, pointwise_decides}
+use Rattle.std.proofs.lemmas.Bool.{false≢true}
+use Rattle.std.proofs.lemmas.Option.{slice_get_past}
+use Rattle.idl_memo.specs.Query.{Query, Ask, Done, outcome}
+use Rattle.idl_scope.specs.Facts.{entity_key, entity_in, joined}
+use Rattle.idl_scope.specs.Key.{path_eq}
+use Rattle.idl_scope.specs.Lookup.{Lookup, bases_of, choose, walk, reached}
+use Rattle.idl_scope.specs.Meaning.{own_at, bases_at}
+use Rattle.idl_scope.specs.declared.answer.Answer.{Answer}
+use Rattle.idl_scope.specs.declared.entity.Entity.{Entity}
+use Rattle.idl_scope.specs.declared.key.Key.{Key}
+use Rattle.idl_scope.specs.declared.key.Key.TheVariants.{Declared}
+use Rattle.idl_scope.proofs.Membership.{IsIn}
+use Rattle.idl_scope.proofs.Reaching.{visited, onward, added}
+
+-- whether a path is among those
+abbrev pub among : List (List ℕ) → List (List (List ℕ)) → Bool
+among p paths = list_any (path_eq p) paths
+
+or_true : (t : Bool) → (t || true) ≡ true
+or_true true = refl
+or_true false = refl
+
+pub among-IsIn : (p : List (List ℕ)) (paths : List (List (List ℕ))) → (among p paths ≡ true → IsIn p paths) × (IsIn p paths → among p paths ≡ true)
+among-IsIn p [] = (λ h. absurd (false≢true h), λ i. absurd i)
+among-IsIn p (q ∷ paths) = (there (among-IsIn p paths).0 (path_eq p q) refl, back (among-IsIn p paths).1)
+  where
+    there : (among p paths ≡ true → IsIn p paths) → (t : Bool) → path_eq p q ≡ t → (t || among p paths) ≡ true → IsIn p (q ∷ paths)
+    there rest true e h = inl (sym ((pointwise_decides bytes_decides p q).0 e))
+    there rest false e h = inr (rest h)
+
+    back : (IsIn p paths → among p paths ≡ true) → IsIn p (q ∷ paths) → (path_eq p q || among p paths) ≡ true
+    back rest (inl e) = rw ((pointwise_decides bytes_decides p q).1 (sym e)) refl
+    back rest (inr i) = rw (rest i) (or_true (path_eq p q))
+
+-- paths that are joined go behind the queue, unless they are there
+joined-added : (queue paths : List (List (List ℕ))) → joined queue paths ≡ queue ++ added among queue paths
+joined-added queue [] = sym (append-nil queue)
+joined-added queue (p ∷ paths) = by_test (among p queue) (joined-added queue paths) (joined-added (queue ++ p ∷ []) paths)
+  where
+    by_test : (t : Bool) → joined queue paths ≡ queue ++ added among queue paths → joined (queue ++ p ∷ []) paths ≡ (queue ++ p ∷ []) ++ added among (queue ++ p ∷ []) paths
+        → joined (cond t queue (queue ++ p ∷ [])) paths ≡ queue ++ cond t (added among queue paths) (p ∷ added among (queue ++ p ∷ []) paths)
+    by_test true old new = old
+    by_test false old new = new ∙ append_assoc queue (p ∷ []) (added among (queue ++ p ∷ []) paths)
+
+slice_get-seam : {A : Type 0} (xs : List A) (y : A) (ys : List A) → slice_get (xs ++ y ∷ ys) (length xs) ≡ Some y
+slice_get-seam [] y ys = refl
+slice_get-seam (x ∷ xs) y ys = slice_get-seam xs y ys
+
+module _ (bank : Key → Option Answer) (n : List ℕ) where
+  -- a walk that has entered some places of its queue comes to what is visited
+  abbrev Comes : ℕ → List (List (List ℕ)) → List (List (List ℕ)) → List Entity → Type 0
+  Comes turns entered left found = outcome (walk turns n (length entered) (entered ++ left) found) bank ≡ visited among (own_at bank n) (bases_at bank) turns entered left found
+
+  -- one turn of a walk
+  abbrev one_turn : ℕ → ℕ → List (List (List ℕ)) → List Entity → List (List ℕ) → Lookup (List Entity)
+  one_turn turns at queue found b = Ask (Declared n b) (λ own. choose (entity_in own)
+      (Ask (entity_key b) (λ base. walk turns n (at + 1) (joined queue (bases_of (entity_in base))) found))
+      (λ e. walk turns n (at + 1) queue (found ++ e ∷ [])))
+
+  walk_out : (at : ℕ) (queue : List (List (List ℕ))) (found : List Entity) → outcome (walk zero n at queue found) bank ≡ found
+  unfolding walk
+  walk_out at queue found = refl
+
+  walk_end : (turns at : ℕ) (queue : List (List (List ℕ))) (found : List Entity) → slice_get queue at ≡ None → outcome (walk (suc turns) n at queue found) bank ≡ found
+  unfolding walk
+  walk_end turns at queue found h = ap (λ o. outcome (elim o as (λ _. Lookup (List Entity)) [ None ↦ Done found | Some b ↦ one_turn turns at queue found b ]) bank) h
+
+  walk_turn : (turns at : ℕ) (queue : List (List (List ℕ))) (found : List Entity) (b : List (List ℕ)) → slice_get queue at ≡ Some b → outcome (walk (suc turns) n at queue found) bank ≡ outcome (one_turn turns at queue found b) bank
+  unfolding walk
+  walk_turn turns at queue found b h = ap (λ o. outcome (elim o as (λ _. Lookup (List Entity)) [ None ↦ Done found | Some c ↦ one_turn turns at queue found c ]) bank) h
+
+  turn : (turns : ℕ) (entered left : List (List (List ℕ))) (found : List Entity) (b : List (List ℕ)) (own : Option Entity) → own_at bank n b ≡ own
+      → ((more : List (List (List ℕ))) (es : List Entity) → Comes turns (entered ++ b ∷ []) more es)
+      → outcome (choose own
+        (Ask (entity_key b) (λ base. walk turns n (length entered + 1) (joined (entered ++ b ∷ left) (bases_of (entity_in base))) found))
+        (λ e. walk turns n (length entered + 1) (entered ++ b ∷ left) (found ++ e ∷ []))) bank
+      ≡ visited among (own_at bank n) (bases_at bank) turns (entered ++ b ∷ []) (left ++ added among (entered ++ b ∷ left) (onward (bases_at bank) b own)) (found ++ option_to_list own)
+  turn turns entered left found b own o on = by_own own
+    where
+      at : length (entered ++ b ∷ []) ≡ length entered + 1
+      at = length-append entered (b ∷ [])
+
+      queue : (more : List (List (List ℕ))) → (entered ++ b ∷ left) ++ more ≡ (entered ++ b ∷ []) ++ (left ++ more)
+      queue more = append_assoc entered (b ∷ left) more ∙ sym (append_assoc entered (b ∷ []) (left ++ more))
+
+      from : (more : List (List (List ℕ))) (es : List Entity) → outcome (walk turns n (length entered + 1) ((entered ++ b ∷ left) ++ more) es) bank ≡ visited among (own_at bank n) (bases_at bank) turns (entered ++ b ∷ []) (left ++ more) es
+      from more es = rw (← at, queue more) (on (left ++ more) es)
+
+      by_own : (own : Option Entity) → outcome (choose own
+          (Ask (entity_key b) (λ base. walk turns n (length entered + 1) (joined (entered ++ b ∷ left) (bases_of (entity_in base))) found))
+          (λ e. walk turns n (length entered + 1) (entered ++ b ∷ left) (found ++ e ∷ []))) bank
+          ≡ visited among (own_at bank n) (bases_at bank) turns (entered ++ b ∷ []) (left ++ added among (entered ++ b ∷ left) (onward (bases_at bank) b own)) (found ++ option_to_list own)
+      by_own None = rw (append-nil found) (ap (λ q. outcome (walk turns n (length entered + 1) q found) bank) (joined-added (entered ++ b ∷ left) (bases_at bank b)) ∙ from (added among (entered ++ b ∷ left) (bases_at bank b)) found)
+      by_own (Some e) = ap (λ q. outcome (walk turns n (length entered + 1) q (found ++ e ∷ [])) bank) (sym (append-nil (entered ++ b ∷ left))) ∙ from [] (found ++ e ∷ [])
+
+  outcome-walk : (turns : ℕ) (entered left : List (List (List ℕ))) (found : List Entity) → Comes turns entered left found
+  outcome-walk zero entered left found = walk_out (length entered) (entered ++ left) found
+  outcome-walk (suc turns) entered [] found = walk_end turns (length entered) (entered ++ []) found (slice_get_past (entered ++ []) (length entered) (let l = length-append entered [] in omega (arith, l)))
+  outcome-walk (suc turns) entered (b ∷ left) found =
+      walk_turn turns (length entered) (entered ++ b ∷ left) found b (slice_get-seam entered b left)
+      ∙ turn turns entered left found b (own_at bank n b) refl (λ more es. outcome-walk turns (entered ++ b ∷ []) more es)
+
+  pub outcome-reached : (turns : ℕ) (starts : List (List (List ℕ))) → outcome (reached turns n starts) bank ≡ visited among (own_at bank n) (bases_at bank) turns [] (added among [] starts) []
+  outcome-reached turns starts = rw (joined-added [] starts) (outcome-walk turns [] (added among [] starts) [])
