@@ -4,3 +4,5 @@ pub mod Worlds
 pub mod Walked
 pub mod Meant
 pub mod LookupLaws
+pub mod DenotesOnce
+pub mod Introduced

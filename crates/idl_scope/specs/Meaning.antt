@@ -112,3 +112,14 @@ IsInnermost (s ∷ scopes) t = s ≡ t
 abbrev pub Introduces : (Key → Option Answer) → List Scope → List ℕ → Scope → Type 0
 Introduces answers cursor n t =
     NoneDeclaresTo answers cursor n t × (IsInnermost cursor t ⊎ NoModuleTo cursor t)
+
+-- the first of these scopes, if there is one, is a module
+abbrev pub IsModuleFirst : List Scope → Type 0
+IsModuleFirst [] = Unit {0}
+IsModuleFirst (s ∷ scopes) = s.kind ≡ Module
+
+-- each of these scopes that has bases stands in a module
+abbrev pub StandInModules : (Key → Option Answer) → List Scope → Type 0
+StandInModules answers [] = Unit {0}
+StandInModules answers (s ∷ scopes) =
+    ((bases_at answers s.path ≡ []) ⊎ IsModuleFirst scopes) × StandInModules answers scopes

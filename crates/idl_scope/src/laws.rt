@@ -3,7 +3,7 @@
 //! Each function does nothing: it carries its laws as clauses. The facts are any facts, also such as no declarations add; only
 //! the turns that a walk over bases may make must be as many as the facts name bases.
 
-ghost use Rattle.std.specs.Prelude.{◌≡◌, ◌≢◌, ◌↔◌, ℕ, List, Result, AllPairs, Contains};
+ghost use Rattle.std.specs.Prelude.{◌≡◌, ◌≢◌, ◌↔◌, ℕ, List, Result, AllPairs, Contains, Option};
 ghost use Rattle.idl_memo.specs.Query.{outcome};
 ghost use Rattle.idl_tree.specs.declared.name.ScopedName.{ScopedName};
 ghost use Rattle.idl_scope.specs.Bases.{HasTurnsFor};
@@ -11,8 +11,11 @@ ghost use Rattle.idl_scope.specs.Facts.{UnitFacts};
 ghost use Rattle.idl_scope.specs.Lookup.{denoted, has};
 ghost use Rattle.idl_scope.specs.Meaning.{Denotes, Has, entity_found, seen};
 ghost use Rattle.idl_scope.specs.declared.addition.Addition.{Addition};
+ghost use Rattle.idl_scope.specs.declared.answer.Answer.{Answer};
 ghost use Rattle.idl_scope.specs.declared.answer.Scope.{Scope};
 ghost use Rattle.idl_scope.specs.declared.entity.Entity.{Entity};
+ghost use Rattle.idl_scope.specs.declared.fault.NameFault.{NameFault};
+ghost use Rattle.idl_scope.specs.declared.key.Key.{Key};
 ghost use Rattle.idl_scope.specs.declared.kind.Kind.{Kind};
 
 /// What is found under a name in a scope is what the scope declares or reaches through its bases, all of it, and each
@@ -29,11 +32,14 @@ pub fn found_in_a_scope()
         → AllPairs (λ e f. e ≢ f) (outcome (has turns kind path n) (seen own facts)) }
 {}
 
-/// A scoped name is found as what it denotes, or has the fault that it denotes.
+/// A scoped name denotes one thing, an entity or a fault, and lookup comes to it.
 pub fn denotation()
     ensures denoted { (facts : List UnitFacts) (own : List Addition) (turns : ℕ)
         → HasTurnsFor facts own turns
         → (cursor : List Scope) (name : ScopedName)
         → Denotes (seen own facts) cursor name
         (entity_found (outcome (denoted turns cursor name) (seen own facts))) }
+    ensures once { (answers : Key → Option Answer) (cursor : List Scope) (name : ScopedName)
+        (r s : Result Entity NameFault)
+        → Denotes answers cursor name r → Denotes answers cursor name s → r ≡ s }
 {}
