@@ -1,19 +1,23 @@
 -- The laws of names, from what lookup comes to.
-use Rattle.std.proofs.Common.{◌≡◌, ℕ, ◌+◌, ◌≤◌, List, ◌++◌, length, Option, Some, None, length-append, subst, arith, sym}
+use Rattle.std.proofs.Common.{◌≡◌, ℕ, ◌+◌, ◌≤◌, Bool, true, false, cond, List, ◌++◌, length, take, Option, Some, None, Result, Ok, length-append, subst, arith, sym}
 use Rattle.std.specs.Prelude.{◌≢◌, ◌↔◌, AllPairs, Contains}
+use Rattle.std.proofs.lemmas.Bool.{false≢true}
+use Rattle.idl_lex.specs.Keywords.{folded}
 use Rattle.idl_memo.specs.Query.{outcome}
 use Rattle.idl_tree.specs.declared.name.ScopedName.{ScopedName}
 use Rattle.idl_scope.specs.Bases.{bases_in, bases_among, bases_named, HasTurnsFor}
 use Rattle.idl_scope.specs.Facts.{UnitFacts, answers, over}
-use Rattle.idl_scope.specs.Lookup.{denoted, has}
-use Rattle.idl_scope.specs.Meaning.{Denotes, Has, entity_found, seen}
+use Rattle.idl_scope.specs.Lookup.{denoted, has, reach, searched}
+use Rattle.idl_scope.specs.Meaning.{Denotes, FirstHas, Has, Introduces, StandInModules, entity_found, seen}
 use Rattle.idl_scope.specs.declared.addition.Addition.{Addition}
 use Rattle.idl_scope.specs.declared.answer.Scope.{Scope}
 use Rattle.idl_scope.specs.declared.entity.Entity.{Entity}
+use Rattle.idl_scope.specs.declared.found.Found.{Found}
 use Rattle.idl_scope.specs.declared.kind.Kind.{Kind}
 use Rattle.idl_scope.proofs.Membership.{IsIn, IsIn-left, IsIn-right, Contains-IsIn, IsIn-Contains, AllPairs-Distinct}
-use Rattle.idl_scope.proofs.Meant.{has-Has, denoted-Denotes}
-use Rattle.idl_scope.proofs.Worlds.{AreGrounded, answers-grounded, over-grounded, addition-grounded, wider-grounded, flat_map-in}
+use Rattle.idl_scope.proofs.Introduced.{first-home, Introduces_in, in_Introduces}
+use Rattle.idl_scope.proofs.Meant.{has-Has, denoted-Denotes, denoted-Ok}
+use Rattle.idl_scope.proofs.Worlds.{AreGrounded, answers-grounded, over-grounded, addition-grounded, wider-grounded, flat_map-in, own_at-home}
 
 module _ (facts : List UnitFacts) (own : List Addition) where
   -- the bases that facts and additions name
@@ -25,6 +29,21 @@ module _ (facts : List UnitFacts) (own : List Addition) where
   seen-grounded = over-grounded (bases_named facts ++ bases_among own) own (answers facts)
       (wider-grounded (bases_named facts) (bases_named facts ++ bases_among own) (λ c i. IsIn-left c (bases_named facts) (bases_among own) i) (answers facts) (answers-grounded facts))
       (λ a i. addition-grounded (bases_named facts ++ bases_among own) a (λ c j. IsIn-right c (bases_named facts) (bases_among own) (flat_map-in bases_in own a c i j)))
+
+  -- a name without leading `::` is introduced into the scopes that the rules tell, and, where scopes with bases stand in modules,
+  -- into no others
+  introduces_by : (b : Bool) → b ≡ false → (cursor : List Scope) (n : List ℕ) (first : Entity) → FirstHas (seen own facts) (searched b cursor) n first → (r : ℕ) → r ≡ cond b 0 (reach cursor first)
+      → ((s : Scope) → Introduces (seen own facts) cursor n s → IsIn s (take r cursor)) × (StandInModules (seen own facts) cursor → (s : Scope) → IsIn s (take r cursor) → Introduces (seen own facts) cursor n s)
+  introduces_by true g cursor n first has r e = absurd (false≢true (sym g))
+  introduces_by false g cursor n first has r e =
+      let at_home = own_at-home places (seen own facts) seen-grounded n in
+      let home = first-home (seen own facts) n at_home cursor first has in
+      rw e (Introduces_in (seen own facts) n at_home first home cursor, λ stand s i. in_Introduces (seen own facts) n at_home first home cursor s has stand i)
+
+  -- and one with it into none
+  none_by : (b : Bool) → b ≡ true → (r reaches : ℕ) → r ≡ cond b 0 reaches → r ≡ 0
+  none_by true g r reaches e = e
+  none_by false g r reaches e = absurd (false≢true g)
 
   module _ (turns : ℕ) (h : HasTurnsFor facts own turns) where
     enough : length places ≤ turns
@@ -41,3 +60,18 @@ module _ (facts : List UnitFacts) (own : List Addition) where
 
     pub denotes : (cursor : List Scope) (name : ScopedName) → Denotes (seen own facts) cursor name (entity_found (outcome (denoted turns cursor name) (seen own facts)))
     denotes cursor name = denoted-Denotes places (seen own facts) seen-grounded turns enough cursor name
+
+    pub introduces-all : (cursor : List Scope) (name : ScopedName) (found : Found) → outcome (denoted turns cursor name) (seen own facts) ≡ Ok found → name.is_global ≡ false
+        → (s : Scope) → Introduces (seen own facts) cursor (folded name.first) s → Contains (take found.reach cursor) s
+    introduces-all cursor name found h g s i =
+        let first = denoted-Ok places (seen own facts) seen-grounded turns enough cursor name found h in
+        Contains-IsIn s (take found.reach cursor) ((introduces_by name.is_global g cursor (folded name.first) first.0 first.1 found.reach first.2).0 s i)
+
+    pub introduces-only : (cursor : List Scope) (name : ScopedName) (found : Found) → outcome (denoted turns cursor name) (seen own facts) ≡ Ok found → name.is_global ≡ false
+        → StandInModules (seen own facts) cursor → (s : Scope) → Contains (take found.reach cursor) s → Introduces (seen own facts) cursor (folded name.first) s
+    introduces-only cursor name found h g stand s i =
+        let first = denoted-Ok places (seen own facts) seen-grounded turns enough cursor name found h in
+        (introduces_by name.is_global g cursor (folded name.first) first.0 first.1 found.reach first.2).1 stand s (IsIn-Contains s (take found.reach cursor) i)
+
+    pub introduces-none : (cursor : List Scope) (name : ScopedName) (found : Found) → outcome (denoted turns cursor name) (seen own facts) ≡ Ok found → name.is_global ≡ true → found.reach ≡ 0
+    introduces-none cursor name found h g = let first = denoted-Ok places (seen own facts) seen-grounded turns enough cursor name found h in none_by name.is_global g found.reach (reach cursor first.0) first.2

@@ -9,7 +9,7 @@ use Rattle.idl_memo.specs.Query.{Query, Ask, Done, outcome, and_then}
 use Rattle.idl_memo.proofs.QueryLaws.{outcome-and_then}
 use Rattle.idl_tree.specs.declared.name.ScopedName.{ScopedName}
 use Rattle.idl_scope.specs.Facts.{entity_key, entity_in}
-use Rattle.idl_scope.specs.Lookup.{Lookup, bases_of, inherits, choose, reached, has, is_nothing, outward, judged, placed, by_result, part_of, is_scope, further, searched, found_as, denoted}
+use Rattle.idl_scope.specs.Lookup.{Lookup, bases_of, inherits, choose, reached, has, is_nothing, outward, judged, placed, by_result, part_of, is_scope, further, reach, searched, found_as, denoted}
 use Rattle.idl_scope.specs.Meaning.{own_at, bases_at, Through, Own, Up, Has, FirstHas, Judges, Goes, DenotesIn, Denotes, entity_found}
 use Rattle.idl_scope.specs.Path.{name_of, scope_of}
 use Rattle.idl_scope.specs.declared.answer.Answer.{Answer}
@@ -40,6 +40,22 @@ some_same h = cc
 
 one_item : (P : Entity → Type 0) (x : Entity) → P x → ((e : Entity) → P e → e ≡ x) → IsAll P (x ∷ [])
 one_item P x p only = (λ e. (λ i. elim i [ inl h ↦ subst P h p | inr f ↦ absurd f ], λ q. inl (sym (only e q))), (λ h. h, tt))
+
+err_ok : {A B : Type 0} {x : B} {y : A} → ◌≡◌ {A = Result A B} (Err x) (Ok y) → ⊥
+err_ok h = cc
+
+ok_same : {A B : Type 0} {x y : A} → ◌≡◌ {A = Result A B} (Ok x) (Ok y) → x ≡ y
+ok_same h = cc
+
+-- what is judged to be the one entity is among the list
+judged-Ok : (name : List ℕ) (es : List Entity) (e : Entity) → judged name es ≡ Ok e → IsIn e es
+judged-Ok name [] e h = absurd (err_ok h)
+judged-Ok name (x ∷ []) e h = by_test (bytes_eq (name_of x.path) name) h
+  where
+    by_test : (t : Bool) → cond t (Ok x) (Err OtherSpelling) ≡ Ok e → IsIn e (x ∷ [])
+    by_test true k = inl (ok_same k)
+    by_test false k = absurd (err_ok k)
+judged-Ok name (x ∷ y ∷ es) e h = absurd (err_ok h)
 
 judged-Judges : (P : Entity → Type 0) (es : List Entity) → IsAll P es → (name : List ℕ) → Judges P name (judged name es)
 judged-Judges P [] is name = λ x p. (is.0 x).1 p
@@ -173,3 +189,31 @@ module _ (places : List (List (List ℕ))) (bank : Key → Option Answer) (g : A
       goes : (j : Result Entity NameCode) → Goes 0 j (λ first. DenotesIn bank 0 first name.rest (entity_found (outcome (on (placed 0 j)) bank))) (entity_found (outcome (on (placed 0 j)) bank))
       goes (Ok first) = let Q : Result Entity NameFault → Type 0 = DenotesIn bank 0 first name.rest in subst Q (sym (finish cursor name first)) (further-DenotesIn 0 first name.rest)
       goes (Err code) = refl
+
+  -- where a name is found, its first part is found, and introduced as far as that reaches
+  abbrev HasFirst : List Scope → ScopedName → Found → Type 0
+  HasFirst cursor name found = (first : Entity) × FirstHas bank (searched name.is_global cursor) (folded name.first) first × (found.reach ≡ cond name.is_global 0 (reach cursor first))
+
+  pub denoted-Ok : (cursor : List Scope) (name : ScopedName) (found : Found) → outcome (denoted turns cursor name) bank ≡ Ok found → HasFirst cursor name found
+  denoted-Ok cursor name found h = by_judged (judged name.first es) refl (sym comes ∙ h)
+    where
+      es : List Entity
+      es = outcome (outward turns (searched name.is_global cursor) (folded name.first)) bank
+
+      all : IsAll (FirstHas bank (searched name.is_global cursor) (folded name.first)) es
+      all = outward-FirstHas (searched name.is_global cursor) (folded name.first)
+
+      on : Result Entity NameFault → Lookup (Result Found NameFault)
+      on r = by_result r (λ first. and_then (further turns 0 first name.rest) (λ last. Done (found_as name cursor first last))) (λ fault. Done (Err fault))
+
+      comes : outcome (denoted turns cursor name) bank ≡ outcome (on (placed 0 (judged name.first es))) bank
+      comes = outcome-and_then (part_of 0 name.first (outward turns (searched name.is_global cursor) (folded name.first))) on bank
+          ∙ ap (λ r. outcome (on r) bank) (outcome-part_of 0 name.first (outward turns (searched name.is_global cursor) (folded name.first)))
+
+      reaches : (first : Entity) (r : Result Entity NameFault) → found_as name cursor first r ≡ Ok found → found.reach ≡ cond name.is_global 0 (reach cursor first)
+      reaches first (Ok e) k = sym (ap (λ f. f.reach) (ok_same k))
+      reaches first (Err fault) k = absurd (err_ok k)
+
+      by_judged : (j : Result Entity NameCode) → judged name.first es ≡ j → outcome (on (placed 0 j)) bank ≡ Ok found → HasFirst cursor name found
+      by_judged (Ok first) j k = (first, (all.0 first).0 (judged-Ok name.first es first j), reaches first (outcome (further turns 0 first name.rest) bank) (sym (outcome-and_then (further turns 0 first name.rest) (λ last. Done (found_as name cursor first last)) bank) ∙ k))
+      by_judged (Err code) j k = absurd (err_ok k)

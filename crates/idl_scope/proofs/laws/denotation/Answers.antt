@@ -1,6 +1,5 @@
 use Rattle.idl_scope.proofs.LookupLaws.{denotes}
 use Rattle.idl_scope.proofs.DenotesOnce.{denotes_once}
-use Rattle.idl_scope.proofs.Introduced.{in_Introduces}
 use Rattle.idl_scope.proofs.laws.denotation.Goals as goal
 
 pub returns-clause-denoted : goal.returns-clause-denoted
