@@ -6,3 +6,4 @@ pub mod Meant
 pub mod LookupLaws
 pub mod DenotesOnce
 pub mod Introduced
+pub mod FactsLaws

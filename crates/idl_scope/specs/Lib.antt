@@ -7,4 +7,5 @@ pub mod Key
 pub mod Kind
 pub mod Lookup
 pub mod Meaning
+pub mod Outside
 pub mod Path

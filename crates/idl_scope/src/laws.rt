@@ -3,15 +3,17 @@
 //! Each function does nothing: it carries its laws as clauses. The facts are any facts, also such as no declarations add; only
 //! the turns that a walk over bases may make must be as many as the facts name bases.
 
-ghost use Rattle.std.specs.Prelude.{◌≡◌, ◌≢◌, ◌↔◌, false, true, ℕ, List, Ok, Option, Result, AllPairs, Contains, take};
+ghost use Rattle.std.specs.Prelude.{◌≡◌, ◌≢◌, ◌↔◌, ◌∷◌, ◌++◌, [], false, true, ℕ, List, Ok, Option, Result, AllPairs, Contains, take};
 ghost use Rattle.idl_lex.specs.Keywords.{folded};
-ghost use Rattle.idl_memo.specs.Query.{outcome};
+ghost use Rattle.idl_memo.specs.Query.{Agree, asked, outcome};
 ghost use Rattle.idl_tree.specs.declared.name.ScopedName.{ScopedName};
 ghost use Rattle.idl_scope.specs.Bases.{HasTurnsFor};
-ghost use Rattle.idl_scope.specs.Facts.{UnitFacts};
-ghost use Rattle.idl_scope.specs.Lookup.{denoted, has};
+ghost use Rattle.idl_scope.specs.Facts.{UnitFacts, World, after, after_all, answers, over};
+ghost use Rattle.idl_scope.specs.Lookup.{Lookup, denoted, has, under};
 ghost use Rattle.idl_scope.specs.Meaning.{Denotes, Has, Introduces, StandInModules, entity_found, seen};
+ghost use Rattle.idl_scope.specs.Outside.{AgreeOutside, AreApart, looked_at_by};
 ghost use Rattle.idl_scope.specs.declared.addition.Addition.{Addition};
+ghost use Rattle.idl_scope.specs.declared.addition.Step.TheVariants.{Stays};
 ghost use Rattle.idl_scope.specs.declared.answer.Answer.{Answer};
 ghost use Rattle.idl_scope.specs.declared.answer.Scope.{Scope};
 ghost use Rattle.idl_scope.specs.declared.entity.Entity.{Entity};
@@ -69,4 +71,46 @@ pub fn introduction()
         → (cursor : List Scope) (name : ScopedName) (found : Found)
         → outcome (denoted turns cursor name) (seen own facts) ≡ Ok found
         → name.is_global ≡ true → found.reach ≡ 0 }
+{}
+
+/// What a unit's earlier tokens add is seen as what a unit adds that changes no open scope. What is asked under additions is
+/// asked of the answers as they change them.
+pub fn own_facts<A>()
+    ensures seen { (facts : List UnitFacts) (own : List Addition) (key : Key)
+        → answers (facts ++ record { additions = own; step = Stays } ∷ []) key ≡ seen own facts key }
+    ensures outcome { (own : List Addition) (query : Lookup A) (bank : Key → Option Answer)
+        → outcome (under own query) bank ≡ outcome query (λ key. over own key (bank key)) }
+    ensures asked { (own : List Addition) (query : Lookup A) (bank : Key → Option Answer)
+        → asked (under own query) bank ≡ asked query (λ key. over own key (bank key)) }
+{}
+
+/// Facts that are added one after another are added together; and facts that are added to answers that are the same outside some
+/// keys, and look at none of these, leave such answers.
+pub fn adding()
+    ensures together { (w : World) (facts more : List UnitFacts)
+        → after_all w (facts ++ more) ≡ after_all (after_all w facts) more }
+    ensures additions { (additions : List Addition) (keys : List Key)
+        (bank other : Key → Option Answer)
+        → AgreeOutside keys bank other
+        → AgreeOutside keys (λ key. over additions key (bank key))
+        (λ key. over additions key (other key)) }
+    ensures facts { (keys : List Key) (w other : World) (facts : UnitFacts)
+        → AgreeOutside keys w.answers other.answers → other.inside ≡ w.inside
+        → AreApart (looked_at_by w facts) keys
+        → AgreeOutside keys (after w facts).answers (after other facts).answers }
+{}
+
+/// Over answers that agree on the keys that a name asks, it is found as the same and asks the same keys. Answers that agree
+/// outside keys that it doesn't ask do so.
+pub fn reliance()
+    ensures outcome { (turns : ℕ) (cursor : List Scope) (name : ScopedName)
+        (bank other : Key → Option Answer)
+        → Agree (asked (denoted turns cursor name) bank) bank other
+        → outcome (denoted turns cursor name) other ≡ outcome (denoted turns cursor name) bank }
+    ensures asked { (turns : ℕ) (cursor : List Scope) (name : ScopedName)
+        (bank other : Key → Option Answer)
+        → Agree (asked (denoted turns cursor name) bank) bank other
+        → asked (denoted turns cursor name) other ≡ asked (denoted turns cursor name) bank }
+    ensures outside { (keys asks : List Key) (bank other : Key → Option Answer)
+        → AgreeOutside keys bank other → AreApart asks keys → Agree asks bank other }
 {}

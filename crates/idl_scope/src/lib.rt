@@ -23,7 +23,7 @@ pub use facts::Facts;
 pub use fault::{NameCode, NameFault};
 pub use found::Found;
 pub use key::Key;
-pub use laws::{denotation, found_in_a_scope, introduction};
+pub use laws::{adding, denotation, found_in_a_scope, introduction, own_facts, reliance};
 pub use kind::{Kind, Stage};
 pub use path::Path;
 pub use shared::Shared;
