@@ -1,5 +1,5 @@
 -- A scoped name denotes one thing.
-use Rattle.std.proofs.Common.{◌≡◌, ◌⊎◌, ℕ, ◌+◌, Bool, true, false, List, [], ◌∷◌, Option, Result, Ok, Err, refl, ap, ◌∙◌, sym, subst}
+use Rattle.std.proofs.Common.{◌≡◌, ℕ, ◌+◌, Bool, true, false, List, [], ◌∷◌, Option, Result, Ok, Err, refl, ap, ◌∙◌, sym, subst}
 use Rattle.std.specs.Prelude.{MatchBool}
 use Rattle.idl_lex.specs.Keywords.{folded}
 use Rattle.idl_tree.specs.declared.name.ScopedName.{ScopedName}

@@ -1,28 +1,28 @@
 -- Facts that are added to facts, and to answers that are the same outside some keys.
-use Rattle.std.proofs.Common.{◌≡◌, ◌⊎◌, ℕ, ◌+◌, Bool, true, false, cond, List, [], ◌∷◌, ◌++◌, map, Option, Some, None, refl, ap, ◌∙◌, sym, inl, inr, subst}
-use Rattle.std.specs.Prelude.{Contains, All, drop}
+use Rattle.std.proofs.Common.{◌≡◌, ℕ, ◌+◌, Bool, true, false, cond, List, [], ◌∷◌, ◌++◌, map, Option, Some, None, refl, ap, ◌∙◌, inl, inr}
+use Rattle.std.specs.Prelude.{Contains, drop}
 use Rattle.std.proofs.lemmas.List.Elements.{All-weaker, All-contains_itself}
-use Rattle.idl_memo.specs.Query.{Query, Done, Ask, Tell, outcome, asked, Agree}
+use Rattle.idl_memo.specs.Query.{Done, Ask, Tell, outcome, asked, Agree}
 use Rattle.idl_scope.specs.Facts.{UnitFacts, World, entity_key, entity_in, scopes_in, count_in, over, operations_of, joined, inherited, innermost, closed, closing, with_answer, with_additions, after_opening, after_closing, after_nameless, after_step, after, after_all, first_world, world, answers, nameless, path_around, next_body, more_inside, operations_among}
 use Rattle.idl_scope.specs.Key.{key_eq}
 use Rattle.idl_scope.specs.Kind.{kind_eq}
 use Rattle.idl_scope.specs.Lookup.{Lookup, under}
 use Rattle.idl_scope.specs.Meaning.{seen}
-use Rattle.idl_scope.specs.Outside.{AgreeOutside, gathered_at, looked_at, looked_at_by, AreApart}
+use Rattle.idl_scope.specs.Outside.{AgreeOutside, WorldsAgreeOutside, gathered_at, looked_at, looked_at_by, AreApart}
 use Rattle.idl_scope.specs.declared.addition.Addition.{Addition}
-use Rattle.idl_scope.specs.declared.addition.Addition.TheVariants.{Declares, Uses}
+use Rattle.idl_scope.specs.declared.addition.Addition.TheVariants.{Declares}
 use Rattle.idl_scope.specs.declared.addition.Step.{Step}
 use Rattle.idl_scope.specs.declared.addition.Step.TheVariants.{Stays, Opens, OpensNameless, Closes}
 use Rattle.idl_scope.specs.declared.answer.Answer.{Answer}
-use Rattle.idl_scope.specs.declared.answer.Answer.TheVariants.{Open, Known, Used, Count}
+use Rattle.idl_scope.specs.declared.answer.Answer.TheVariants.{Open, Count}
 use Rattle.idl_scope.specs.declared.answer.Scope.{Scope}
 use Rattle.idl_scope.specs.declared.entity.Entity.{Entity}
 use Rattle.idl_scope.specs.declared.key.Key.{Key}
-use Rattle.idl_scope.specs.declared.key.Key.TheVariants.{Cursor, Declared, Introduced, Opened, Nameless}
+use Rattle.idl_scope.specs.declared.key.Key.TheVariants.{Cursor, Opened, Nameless}
 use Rattle.idl_scope.specs.declared.kind.Kind.{Kind}
 use Rattle.idl_scope.specs.declared.kind.Kind.TheVariants.{Interface}
 use Rattle.idl_scope.specs.declared.kind.Stage.TheVariants.{Complete}
-use Rattle.idl_scope.proofs.Membership.{IsIn, Contains-IsIn, IsIn-Contains, IsIn-left, IsIn-right}
+use Rattle.idl_scope.proofs.Membership.{IsIn, Contains-IsIn}
 
 -- ---- facts behind facts
 
@@ -71,7 +71,7 @@ module _ (keys : List Key) where
     opening-outside s t h cursor k out =
         ap (λ x. (after_opening v x).answers k) h
         ∙ with_answer-outside Cursor (Open (s ∷ scopes_in (w.answers Cursor))) (Open (s ∷ scopes_in (v.answers Cursor))) (with_answer (Opened s.path) (Count s.body) w.answers) (with_answer (Opened s.path) (Count s.body) v.answers)
-          (ap (λ o. Open (s ∷ scopes_in o)) cursor) (with_answer-outside (Opened s.path) (Count s.body) (Count s.body) w.answers v.answers refl same) k out
+        (ap (λ o. Open (s ∷ scopes_in o)) cursor) (with_answer-outside (Opened s.path) (Count s.body) (Count s.body) w.answers v.answers refl same) k out
 
     inherited-same : (found bases : List (List (List ℕ))) → ((b : List (List ℕ)) → IsIn b bases → v.answers (entity_key b) ≡ w.answers (entity_key b)) → inherited v.answers found bases ≡ inherited w.answers found bases
     inherited-same found [] h = refl
@@ -145,9 +145,22 @@ module _ (keys : List Key) where
   step-outside w v Closes same inside h =
       λ k out. ap (λ o. (after_closing v (scopes_in o)).answers k) (h Cursor (inl refl)) ∙ closing-outside w v same inside (scopes_in (w.answers Cursor)) (λ q i. h q (inr i)) k out
 
+  -- and the operations and attributes of the open scopes are the same
+  closing-inside : (w v : World) (scopes : List Scope) → v.inside ≡ w.inside → (after_closing v scopes).inside ≡ (after_closing w scopes).inside
+  closing-inside w v [] inside = inside
+  closing-inside w v (s ∷ []) inside = inside
+  closing-inside w v (s ∷ t ∷ outer) inside = ap (drop 1) inside
+
+  step-inside : (w v : World) (step : Step) → v.inside ≡ w.inside → ((k : Key) → IsIn k (looked_at w step) → v.answers k ≡ w.answers k) → (after_step v step).inside ≡ (after_step w step).inside
+  step-inside w v Stays inside h = inside
+  step-inside w v (Opens path kind) inside h = ap (λ own. [] ∷ own) inside
+  step-inside w v (OpensNameless kind) inside h = ap (λ own. [] ∷ own) inside
+  step-inside w v Closes inside h = ap (λ o. (after_closing v (scopes_in o)).inside) (h Cursor (inl refl)) ∙ closing-inside w v (scopes_in (w.answers Cursor)) inside
+
   -- the facts of a unit, added to worlds that agree outside some keys, of which they look at none
-  pub after-outside : (w v : World) (f : UnitFacts) → AgreeOutside keys w.answers v.answers → v.inside ≡ w.inside → AreApart (looked_at_by w f) keys → AgreeOutside keys (after w f).answers (after v f).answers
-  after-outside w v f same inside apart =
+  pub after-outside : (w v : World) (f : UnitFacts) → WorldsAgreeOutside keys w v → AreApart (looked_at_by w f) keys → WorldsAgreeOutside keys (after w f) (after v f)
+  after-outside w v f (same, inside) apart =
       let added = over-outside f.additions keys w.answers v.answers same in
-      step-outside (with_additions f.additions w) (with_additions f.additions v) f.step added (ap (λ x. more_inside x (operations_among f.additions)) inside)
-      (λ k i. added k (apart k (Contains-IsIn k (looked_at_by w f) i)))
+      let more = ap (λ x. more_inside x (operations_among f.additions)) inside in
+      let read : (k : Key) → IsIn k (looked_at_by w f) → over f.additions k (v.answers k) ≡ over f.additions k (w.answers k) = λ k i. added k (apart k (Contains-IsIn k (looked_at_by w f) i)) in
+      (step-outside (with_additions f.additions w) (with_additions f.additions v) f.step added more read, step-inside (with_additions f.additions w) (with_additions f.additions v) f.step more read)

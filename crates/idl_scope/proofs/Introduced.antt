@@ -1,13 +1,12 @@
 -- Into which scopes the use of a name introduces it.
-use Rattle.std.proofs.Common.{◌≡◌, ◌⊎◌, ℕ, zero, suc, Bool, true, false, cond, List, [], ◌∷◌, ◌++◌, take, Option, Some, None, refl, ap, ◌∙◌, sym, inl, inr, subst}
+use Rattle.std.proofs.Common.{◌≡◌, ◌⊎◌, ℕ, suc, Bool, true, false, cond, List, [], ◌∷◌, take, Option, Some, None, refl, ◌∙◌, sym, inl, inr, subst}
 use Rattle.std.specs.Prelude.{◌≢◌}
 use Rattle.std.specs.Cmp.Lexicographic.{bytes_decides, pointwise_decides}
 use Rattle.std.proofs.lemmas.Bool.{false≢true}
-use Rattle.idl_scope.specs.Key.{path_eq, same_path}
 use Rattle.idl_scope.specs.Kind.{kind_eq, same_kind}
-use Rattle.idl_scope.specs.Lookup.{inherits, outer_reach, reach}
-use Rattle.idl_scope.specs.Meaning.{own_at, bases_at, Through, Own, Up, Has, FirstHas, Introduces, NoneDeclaresTo, NoModuleTo, IsInnermost, IsModuleFirst, StandInModules}
-use Rattle.idl_scope.specs.Path.{scope_of}
+use Rattle.idl_scope.specs.Lookup.{outer_reach, reach}
+use Rattle.idl_scope.specs.Meaning.{own_at, bases_at, Through, Own, Up, Has, FirstHas, Introduces, NoneDeclaresTo, NoModuleTo, IsModuleFirst, StandInModules}
+use Rattle.idl_scope.specs.Path.{path_eq, same_path, scope_of}
 use Rattle.idl_scope.specs.declared.answer.Answer.{Answer}
 use Rattle.idl_scope.specs.declared.answer.Scope.{Scope}
 use Rattle.idl_scope.specs.declared.entity.Entity.{Entity}

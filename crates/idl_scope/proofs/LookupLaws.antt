@@ -1,14 +1,15 @@
 -- The laws of names, from what lookup comes to.
-use Rattle.std.proofs.Common.{◌≡◌, ℕ, ◌+◌, ◌≤◌, Bool, true, false, cond, List, ◌++◌, length, take, Option, Some, None, Result, Ok, length-append, subst, arith, sym}
+use Rattle.std.proofs.Common.{◌≡◌, ℕ, ◌≤◌, Bool, true, false, cond, List, ◌++◌, length, take, Ok, length-append, arith, sym, Some}
 use Rattle.std.specs.Prelude.{◌≢◌, ◌↔◌, AllPairs, Contains}
 use Rattle.std.proofs.lemmas.Bool.{false≢true}
 use Rattle.idl_lex.specs.Keywords.{folded}
 use Rattle.idl_memo.specs.Query.{outcome}
 use Rattle.idl_tree.specs.declared.name.ScopedName.{ScopedName}
 use Rattle.idl_scope.specs.Bases.{bases_in, bases_among, bases_named, HasTurnsFor}
-use Rattle.idl_scope.specs.Facts.{UnitFacts, answers, over}
+use Rattle.idl_scope.specs.Facts.{UnitFacts, answers}
 use Rattle.idl_scope.specs.Lookup.{denoted, has, reach, searched}
-use Rattle.idl_scope.specs.Meaning.{Denotes, FirstHas, Has, Introduces, StandInModules, entity_found, seen}
+use Rattle.idl_scope.specs.Meaning.{Denotes, FirstHas, Has, Introduces, StandInModules, entity_found, own_at, seen}
+use Rattle.idl_scope.specs.Path.{name_of, scope_of}
 use Rattle.idl_scope.specs.declared.addition.Addition.{Addition}
 use Rattle.idl_scope.specs.declared.answer.Scope.{Scope}
 use Rattle.idl_scope.specs.declared.entity.Entity.{Entity}
@@ -17,7 +18,7 @@ use Rattle.idl_scope.specs.declared.kind.Kind.{Kind}
 use Rattle.idl_scope.proofs.Membership.{IsIn, IsIn-left, IsIn-right, Contains-IsIn, IsIn-Contains, AllPairs-Distinct}
 use Rattle.idl_scope.proofs.Introduced.{first-home, Introduces_in, in_Introduces}
 use Rattle.idl_scope.proofs.Meant.{has-Has, denoted-Denotes, denoted-Ok}
-use Rattle.idl_scope.proofs.Worlds.{AreGrounded, answers-grounded, over-grounded, addition-grounded, wider-grounded, flat_map-in, own_at-home}
+use Rattle.idl_scope.proofs.Worlds.{AreGrounded, answers-grounded, over-grounded, addition-grounded, wider-grounded, flat_map-in, own_at-home, own_at-name}
 
 module _ (facts : List UnitFacts) (own : List Addition) where
   -- the bases that facts and additions name
@@ -29,6 +30,9 @@ module _ (facts : List UnitFacts) (own : List Addition) where
   seen-grounded = over-grounded (bases_named facts ++ bases_among own) own (answers facts)
       (wider-grounded (bases_named facts) (bases_named facts ++ bases_among own) (λ c i. IsIn-left c (bases_named facts) (bases_among own) i) (answers facts) (answers-grounded facts))
       (λ a i. addition-grounded (bases_named facts ++ bases_among own) a (λ c j. IsIn-right c (bases_named facts) (bases_among own) (flat_map-in bases_in own a c i j)))
+
+  pub own_path : (n : List ℕ) (path : List (List ℕ)) (e : Entity) → own_at (seen own facts) n path ≡ Some e → (folded (name_of e.path) ≡ n) × (scope_of e.path ≡ path)
+  own_path n path e h = (own_at-name places (seen own facts) seen-grounded n path e h, own_at-home places (seen own facts) seen-grounded n path e h)
 
   -- a name without leading `::` is introduced into the scopes that the rules tell, and, where scopes with bases stand in modules,
   -- into no others

@@ -1,6 +1,6 @@
 -- Membership by recursion over the list, and lists whose items are apart.
-use Rattle.std.proofs.Common.{◌≡◌, ◌⊎◌, ℕ, zero, suc, ◌+◌, ◌≤◌, ◌<◌, Bool, true, false, cond, List, [], ◌∷◌, ◌++◌, length, get_or, Option, Some, None, refl, ap, ◌∙◌, sym, inl, inr, arith, length-append, subst, append-nil, append_assoc}
-use Rattle.std.specs.Prelude.{◌≢◌, option_to_list, Contains, AllPairs, slice_get}
+use Rattle.std.proofs.Common.{◌≡◌, ◌⊎◌, ℕ, zero, suc, ◌≤◌, ◌<◌, Bool, true, false, List, [], ◌∷◌, ◌++◌, length, get_or, Option, Some, None, refl, ap, sym, inl, inr, arith, length-append, subst}
+use Rattle.std.specs.Prelude.{◌≢◌, option_to_list, Contains, AllPairs}
 
 abbrev pub IsIn : {A : Type 0} → A → List A → Type 0
 IsIn x [] = ⊥

@@ -1,8 +1,8 @@
 -- A walk that enters each place once finds all that is reached, nothing else, and each once.
-use Rattle.std.proofs.Common.{◌≡◌, ◌⊎◌, ℕ, zero, suc, ◌+◌, ◌≤◌, Bool, true, false, cond, List, [], ◌∷◌, ◌++◌, length, Option, Some, None, refl, ap, ◌∙◌, sym, inl, inr, arith, length-append, subst, append-nil, append_assoc}
+use Rattle.std.proofs.Common.{◌≡◌, ◌⊎◌, ℕ, zero, suc, ◌+◌, ◌≤◌, Bool, true, false, cond, List, [], ◌∷◌, ◌++◌, length, Option, Some, None, refl, ◌∙◌, sym, inl, inr, arith, length-append, subst, append-nil, append_assoc}
 use Rattle.std.specs.Prelude.{option_to_list}
 use Rattle.std.proofs.lemmas.Bool.{false≢true}
-use Rattle.idl_scope.proofs.Membership.{IsIn, either, IsIn-left, IsIn-right, IsIn-split, IsIn-option, IsIn-one, Distinct, Distinct-push, Distinct-apart, length-Distinct}
+use Rattle.idl_scope.proofs.Membership.{IsIn, IsIn-left, IsIn-right, IsIn-split, IsIn-option, IsIn-one, Distinct, Distinct-push, Distinct-apart, length-Distinct}
 
 -- what is there at a place, or, where there is nothing, is reached from the places that it leads to
 pub data Reached {P E : Type 0} (own : P → Option E) (next : P → List P) : List P → E → Type 0 where
@@ -205,9 +205,10 @@ module _ {P E : Type 0} (among : P → List P → Bool) (decides : (b : P) (xs :
   pub visited-Reached : (places : List P) → ((b c : P) → IsIn b places → IsIn c (next b) → IsIn c places) → (turns : ℕ) (starts : List P) → ((b : P) → IsIn b starts → IsIn b places) → length places ≤ turns → (e : E) →
       (IsIn e (visited among own next turns [] (added among [] starts) []) → Reached own next starts e) × (Reached own next starts e → IsIn e (visited among own next turns [] (added among [] starts) []))
   unfolding Closed
-  visited-Reached places inside turns starts known h e =
-      (λ i. elim (sound turns [] (added among [] starts) [] e i) [ inl p ↦ absurd p | inr t ↦ wider starts t (λ b j. added-within [] starts b j) ],
-      λ t. complete places inside turns [] (added among [] starts) [] (added-Distinct [] starts tt) (λ b i. known b (added-within [] starts b i)) (omega (arith, h)) (λ b i. absurd i) starts e t (λ b i. added-whole [] starts b i))
+  visited-Reached places inside turns starts known h e = (
+    λ i. elim (sound turns [] (added among [] starts) [] e i) [ inl p ↦ absurd p | inr t ↦ wider starts t (λ b j. added-within [] starts b j) ],
+    λ t. complete places inside turns [] (added among [] starts) [] (added-Distinct [] starts tt) (λ b i. known b (added-within [] starts b i)) (omega (arith, h)) (λ b i. absurd i) starts e t (λ b i. added-whole [] starts b i),
+  )
 
   pub visited-Distinct : (home : E → P) → ((b : P) (e : E) → own b ≡ Some e → home e ≡ b) → (turns : ℕ) (starts : List P) → Distinct (visited among own next turns [] (added among [] starts) [])
   unfolding Comes

@@ -1,19 +1,19 @@
 -- The questions of a walk over bases come to what a walk over places does.
-use Rattle.std.proofs.Common.{◌≡◌, ◌⊎◌, ℕ, zero, suc, ◌+◌, ◌≤◌, Bool, true, false, cond, List, [], ◌∷◌, ◌++◌, length, Option, Some, None, refl, ap, ◌∙◌, sym, inl, inr, arith, length-append, append-nil, append_assoc, subst}
+use Rattle.std.proofs.Common.{◌≡◌, ℕ, zero, suc, ◌+◌, Bool, true, false, cond, List, [], ◌∷◌, ◌++◌, length, Option, Some, None, refl, ap, ◌∙◌, sym, inl, inr, arith, length-append, append-nil, append_assoc}
 use Rattle.std.specs.Prelude.{option_to_list, slice_get, ◌||◌}
 use Rattle.std.specs.List.{list_any}
 use Rattle.std.specs.Cmp.Lexicographic.{bytes_decides, pointwise_decides}
 use Rattle.std.proofs.lemmas.Bool.{false≢true}
 use Rattle.std.proofs.lemmas.Option.{slice_get_past}
-use Rattle.idl_memo.specs.Query.{Query, Ask, Done, outcome}
+use Rattle.idl_memo.specs.Query.{Ask, Done, and_then, outcome}
+use Rattle.idl_memo.proofs.QueryLaws.{outcome-and_then}
 use Rattle.idl_scope.specs.Facts.{entity_key, entity_in, joined}
-use Rattle.idl_scope.specs.Key.{path_eq}
-use Rattle.idl_scope.specs.Lookup.{Lookup, bases_of, choose, walk, reached}
+use Rattle.idl_scope.specs.Lookup.{Lookup, bases_of, choose, entered, walk, reached}
 use Rattle.idl_scope.specs.Meaning.{own_at, bases_at}
+use Rattle.idl_scope.specs.Path.{path_eq}
 use Rattle.idl_scope.specs.declared.answer.Answer.{Answer}
 use Rattle.idl_scope.specs.declared.entity.Entity.{Entity}
 use Rattle.idl_scope.specs.declared.key.Key.{Key}
-use Rattle.idl_scope.specs.declared.key.Key.TheVariants.{Declared}
 use Rattle.idl_scope.proofs.Membership.{IsIn}
 use Rattle.idl_scope.proofs.Reaching.{visited, onward, added}
 
@@ -54,13 +54,23 @@ slice_get-seam (x ∷ xs) y ys = slice_get-seam xs y ys
 module _ (bank : Key → Option Answer) (n : List ℕ) where
   -- a walk that has entered some places of its queue comes to what is visited
   abbrev Comes : ℕ → List (List (List ℕ)) → List (List (List ℕ)) → List Entity → Type 0
-  Comes turns entered left found = outcome (walk turns n (length entered) (entered ++ left) found) bank ≡ visited among (own_at bank n) (bases_at bank) turns entered left found
+  Comes turns before left found = outcome (walk turns n (length before) (before ++ left) found) bank ≡ visited among (own_at bank n) (bases_at bank) turns before left found
 
   -- one turn of a walk
   abbrev one_turn : ℕ → ℕ → List (List (List ℕ)) → List Entity → List (List ℕ) → Lookup (List Entity)
-  one_turn turns at queue found b = Ask (Declared n b) (λ own. choose (entity_in own)
-      (Ask (entity_key b) (λ base. walk turns n (at + 1) (joined queue (bases_of (entity_in base))) found))
-      (λ e. walk turns n (at + 1) queue (found ++ e ∷ [])))
+  one_turn turns at queue found b = and_then (entered n b) (λ r. walk turns n (at + 1) (joined queue r.1) (found ++ option_to_list r.0))
+
+  -- what is asked of a base behind its own declaration
+  abbrev entered_by : List (List ℕ) → Option Entity → Lookup (Option Entity × List (List (List ℕ)))
+  entered_by b own = choose own (Ask (entity_key b) (λ base. Done (None, bases_of (entity_in base)))) (λ e. Done (Some e, []))
+
+  -- what the entering of a base comes to
+  outcome-entered : (b : List (List ℕ)) → outcome (entered n b) bank ≡ (own_at bank n b, onward (bases_at bank) b (own_at bank n b))
+  outcome-entered b = by_own (own_at bank n b)
+    where
+      by_own : (own : Option Entity) → outcome (entered_by b own) bank ≡ (own, onward (bases_at bank) b own)
+      by_own None = refl
+      by_own (Some e) = refl
 
   walk_out : (at : ℕ) (queue : List (List (List ℕ))) (found : List Entity) → outcome (walk zero n at queue found) bank ≡ found
   unfolding walk
@@ -74,36 +84,31 @@ module _ (bank : Key → Option Answer) (n : List ℕ) where
   unfolding walk
   walk_turn turns at queue found b h = ap (λ o. outcome (elim o as (λ _. Lookup (List Entity)) [ None ↦ Done found | Some c ↦ one_turn turns at queue found c ]) bank) h
 
-  turn : (turns : ℕ) (entered left : List (List (List ℕ))) (found : List Entity) (b : List (List ℕ)) (own : Option Entity) → own_at bank n b ≡ own
-      → ((more : List (List (List ℕ))) (es : List Entity) → Comes turns (entered ++ b ∷ []) more es)
-      → outcome (choose own
-        (Ask (entity_key b) (λ base. walk turns n (length entered + 1) (joined (entered ++ b ∷ left) (bases_of (entity_in base))) found))
-        (λ e. walk turns n (length entered + 1) (entered ++ b ∷ left) (found ++ e ∷ []))) bank
-      ≡ visited among (own_at bank n) (bases_at bank) turns (entered ++ b ∷ []) (left ++ added among (entered ++ b ∷ left) (onward (bases_at bank) b own)) (found ++ option_to_list own)
-  turn turns entered left found b own o on = by_own own
+  turn : (turns : ℕ) (before left : List (List (List ℕ))) (found : List Entity) (b : List (List ℕ))
+      → ((more : List (List (List ℕ))) (es : List Entity) → Comes turns (before ++ b ∷ []) more es)
+      → outcome (one_turn turns (length before) (before ++ b ∷ left) found b) bank
+      ≡ visited among (own_at bank n) (bases_at bank) turns (before ++ b ∷ []) (left ++ added among (before ++ b ∷ left) (onward (bases_at bank) b (own_at bank n b))) (found ++ option_to_list (own_at bank n b))
+  turn turns before left found b on =
+      outcome-and_then (entered n b) (λ r. walk turns n (length before + 1) (joined (before ++ b ∷ left) r.1) (found ++ option_to_list r.0)) bank
+      ∙ ap (λ r. outcome (walk turns n (length before + 1) (joined (before ++ b ∷ left) r.1) (found ++ option_to_list r.0)) bank) (outcome-entered b)
+      ∙ ap (λ q. outcome (walk turns n (length before + 1) q (found ++ option_to_list (own_at bank n b))) bank) (joined-added (before ++ b ∷ left) (onward (bases_at bank) b (own_at bank n b)))
+      ∙ from (added among (before ++ b ∷ left) (onward (bases_at bank) b (own_at bank n b))) (found ++ option_to_list (own_at bank n b))
     where
-      at : length (entered ++ b ∷ []) ≡ length entered + 1
-      at = length-append entered (b ∷ [])
+      at : length (before ++ b ∷ []) ≡ length before + 1
+      at = length-append before (b ∷ [])
 
-      queue : (more : List (List (List ℕ))) → (entered ++ b ∷ left) ++ more ≡ (entered ++ b ∷ []) ++ (left ++ more)
-      queue more = append_assoc entered (b ∷ left) more ∙ sym (append_assoc entered (b ∷ []) (left ++ more))
+      queue : (more : List (List (List ℕ))) → (before ++ b ∷ left) ++ more ≡ (before ++ b ∷ []) ++ (left ++ more)
+      queue more = append_assoc before (b ∷ left) more ∙ sym (append_assoc before (b ∷ []) (left ++ more))
 
-      from : (more : List (List (List ℕ))) (es : List Entity) → outcome (walk turns n (length entered + 1) ((entered ++ b ∷ left) ++ more) es) bank ≡ visited among (own_at bank n) (bases_at bank) turns (entered ++ b ∷ []) (left ++ more) es
+      from : (more : List (List (List ℕ))) (es : List Entity) → outcome (walk turns n (length before + 1) ((before ++ b ∷ left) ++ more) es) bank ≡ visited among (own_at bank n) (bases_at bank) turns (before ++ b ∷ []) (left ++ more) es
       from more es = rw (← at, queue more) (on (left ++ more) es)
 
-      by_own : (own : Option Entity) → outcome (choose own
-          (Ask (entity_key b) (λ base. walk turns n (length entered + 1) (joined (entered ++ b ∷ left) (bases_of (entity_in base))) found))
-          (λ e. walk turns n (length entered + 1) (entered ++ b ∷ left) (found ++ e ∷ []))) bank
-          ≡ visited among (own_at bank n) (bases_at bank) turns (entered ++ b ∷ []) (left ++ added among (entered ++ b ∷ left) (onward (bases_at bank) b own)) (found ++ option_to_list own)
-      by_own None = rw (append-nil found) (ap (λ q. outcome (walk turns n (length entered + 1) q found) bank) (joined-added (entered ++ b ∷ left) (bases_at bank b)) ∙ from (added among (entered ++ b ∷ left) (bases_at bank b)) found)
-      by_own (Some e) = ap (λ q. outcome (walk turns n (length entered + 1) q (found ++ e ∷ [])) bank) (sym (append-nil (entered ++ b ∷ left))) ∙ from [] (found ++ e ∷ [])
-
-  outcome-walk : (turns : ℕ) (entered left : List (List (List ℕ))) (found : List Entity) → Comes turns entered left found
-  outcome-walk zero entered left found = walk_out (length entered) (entered ++ left) found
-  outcome-walk (suc turns) entered [] found = walk_end turns (length entered) (entered ++ []) found (slice_get_past (entered ++ []) (length entered) (let l = length-append entered [] in omega (arith, l)))
-  outcome-walk (suc turns) entered (b ∷ left) found =
-      walk_turn turns (length entered) (entered ++ b ∷ left) found b (slice_get-seam entered b left)
-      ∙ turn turns entered left found b (own_at bank n b) refl (λ more es. outcome-walk turns (entered ++ b ∷ []) more es)
+  outcome-walk : (turns : ℕ) (before left : List (List (List ℕ))) (found : List Entity) → Comes turns before left found
+  outcome-walk zero before left found = walk_out (length before) (before ++ left) found
+  outcome-walk (suc turns) before [] found = walk_end turns (length before) (before ++ []) found (slice_get_past (before ++ []) (length before) (let l = length-append before [] in omega (arith, l)))
+  outcome-walk (suc turns) before (b ∷ left) found =
+      walk_turn turns (length before) (before ++ b ∷ left) found b (slice_get-seam before b left)
+      ∙ turn turns before left found b (λ more es. outcome-walk turns (before ++ b ∷ []) more es)
 
   pub outcome-reached : (turns : ℕ) (starts : List (List (List ℕ))) → outcome (reached turns n starts) bank ≡ visited among (own_at bank n) (bases_at bank) turns [] (added among [] starts) []
   outcome-reached turns starts = rw (joined-added [] starts) (outcome-walk turns [] (added among [] starts) [])

@@ -1,10 +1,10 @@
 -- What the answers over facts keep, whatever is added: an entity stands under its own path, and its bases are among those that
 -- the facts name.
-use Rattle.std.proofs.Common.{◌≡◌, ◌⊎◌, ℕ, ◌+◌, Bool, true, false, cond, List, [], ◌∷◌, ◌++◌, Option, Some, None, refl, ap, ◌∙◌, sym, inl, inr, subst}
+use Rattle.std.proofs.Common.{◌≡◌, ◌⊎◌, ℕ, Bool, true, false, cond, List, [], ◌∷◌, Option, Some, None, refl, ap, ◌∙◌, sym, inl, inr, subst}
 use Rattle.std.specs.Prelude.{flat_map}
 use Rattle.idl_lex.specs.Keywords.{folded}
 use Rattle.idl_scope.specs.Bases.{bases_in, bases_among, bases_named}
-use Rattle.idl_scope.specs.Facts.{UnitFacts, World, entity_key, entity_in, scopes_in, count_in, key_of, answer_of, addition_at, over, with_answer, with_additions, first_answer, first_world, closed, closing, after_closing, after_opening, after_nameless, next_body, nameless, path_around, after_step, after, after_all, world, answers}
+use Rattle.idl_scope.specs.Facts.{UnitFacts, World, entity_key, entity_in, scopes_in, key_of, answer_of, addition_at, over, with_answer, with_additions, first_answer, first_world, closed, closing, after_closing, after_opening, after_nameless, after_step, after, after_all, world, answers}
 use Rattle.idl_scope.specs.Key.{key_eq, same_key}
 use Rattle.idl_scope.specs.Kind.{kind_eq}
 use Rattle.idl_scope.specs.Lookup.{bases_of, has_bases}
@@ -159,6 +159,9 @@ answers-grounded facts = after_all-grounded (bases_named facts) first_world fact
 
 -- ---- what lookup needs of such answers
 
+name_same : (n m : List ℕ) (p q : List (List ℕ)) → Declared n p ≡ Declared m q → n ≡ m
+name_same n m p q h = cc
+
 declared_same : (n m : List ℕ) (p q : List (List ℕ)) → Declared n p ≡ Declared m q → p ≡ q
 declared_same n m p q h = cc
 
@@ -166,6 +169,10 @@ module _ (places : List (List (List ℕ))) (bank : Key → Option Answer) (g : A
   -- what a scope declares stands in it
   pub own_at-home : (n : List ℕ) (b : List (List ℕ)) (e : Entity) → own_at bank n b ≡ Some e → scope_of e.path ≡ b
   own_at-home n b e h = sym (declared_same n (folded (name_of e.path)) b (scope_of e.path) (g (Declared n b) (Known e) (entity_in-Some (bank (Declared n b)) e h) e refl).0)
+
+  -- under its own name
+  pub own_at-name : (n : List ℕ) (b : List (List ℕ)) (e : Entity) → own_at bank n b ≡ Some e → folded (name_of e.path) ≡ n
+  own_at-name n b e h = sym (name_same n (folded (name_of e.path)) b (scope_of e.path) (g (Declared n b) (Known e) (entity_in-Some (bank (Declared n b)) e h) e refl).0)
 
   -- the bases at a path are among those
   pub bases_at-within : (b c : List (List ℕ)) → IsIn c (bases_at bank b) → IsIn c places

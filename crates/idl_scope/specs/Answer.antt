@@ -4,7 +4,7 @@ use Rattle.std.specs.Cmp.Lexicographic.{pointwise}
 use Rattle.std.proofs.Common.{ap}
 use Rattle.idl_base.specs.Exact.{both, same_list, same_number}
 use Rattle.idl_scope.specs.Entity.{entity_eq, same_entity}
-use Rattle.idl_scope.specs.Key.{path_eq, same_path}
+use Rattle.idl_scope.specs.Path.{path_eq, same_path}
 use Rattle.idl_scope.specs.Kind.{kind_eq, same_kind}
 use Rattle.idl_scope.specs.contracts.answer.AnswerPartialEq.TheImpl.{ghosts}
 use Rattle.idl_scope.specs.declared.answer.Answer.{Answer}

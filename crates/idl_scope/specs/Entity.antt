@@ -3,7 +3,7 @@ use Rattle.std.specs.Prelude.{◌≡◌, Bool, true, ◌&&◌}
 use Rattle.std.specs.Bool.{beq}
 use Rattle.std.specs.Cmp.Lexicographic.{pointwise}
 use Rattle.idl_base.specs.Exact.{both, same_bool, same_list}
-use Rattle.idl_scope.specs.Key.{path_eq, same_path}
+use Rattle.idl_scope.specs.Path.{path_eq, same_path}
 use Rattle.idl_scope.specs.Kind.{kind_eq, same_kind, stage_eq, same_stage}
 use Rattle.idl_scope.specs.declared.entity.Entity.{Entity}
 

@@ -2,9 +2,9 @@
 use Rattle.std.specs.Prelude.{ℕ, ◌+◌, Bool, true, false, List, [], ◌∷◌, ◌++◌, Option, Some, None, decimal, drop, if◌then◌else◌}
 use Rattle.std.specs.List.{list_any}
 use Rattle.idl_lex.specs.Keywords.{folded}
-use Rattle.idl_scope.specs.Key.{key_eq, path_eq}
+use Rattle.idl_scope.specs.Key.{key_eq}
 use Rattle.idl_scope.specs.Kind.{kind_eq}
-use Rattle.idl_scope.specs.Path.{name_of, scope_of}
+use Rattle.idl_scope.specs.Path.{name_of, path_eq, scope_of}
 use Rattle.idl_scope.specs.declared.addition.Addition.{Addition}
 use Rattle.idl_scope.specs.declared.addition.Addition.TheVariants.{Declares, Uses}
 use Rattle.idl_scope.specs.declared.addition.Step.{Step}

@@ -1,10 +1,17 @@
--- How facts are kept: each addition at its key.
-use Rattle.std.specs.Prelude.{◌≡◌, List, [], ◌∷◌, Option}
-use Rattle.idl_scope.specs.Facts.{key_of}
+-- How facts are kept, and what they come to: each addition at its key, and each answer at its key.
+use Rattle.std.specs.Prelude.{◌≡◌, ℕ, List, [], ◌∷◌, Option}
+use Rattle.std.specs.Map.{lookup}
+use Rattle.idl_scope.specs.Facts.{key_of, World}
+use Rattle.idl_scope.specs.Key.{key_eq}
 use Rattle.idl_scope.specs.declared.addition.Addition.{Addition}
+use Rattle.idl_scope.specs.declared.answer.Answer.{Answer}
 use Rattle.idl_scope.specs.declared.key.Key.{Key}
 
 -- each entry has the key of its addition
 abbrev pub HaveOwnKeys : List (Key × Addition) → Type 0
 HaveOwnKeys [] = Unit {0}
 HaveOwnKeys (e ∷ entries) = (e.0 ≡ key_of e.1) × HaveOwnKeys entries
+
+-- what these answers, with the operations and attributes so far of open scopes, hold
+abbrev pub held : List (Key × Answer) → List (List (List (List ℕ))) → World
+held entries inside = record { answers = λ k. lookup (key_eq k) entries; inside = inside }

@@ -1,24 +1,16 @@
 -- When two keys are one.
-use Rattle.std.specs.Prelude.{◌≡◌, ℕ, Bool, true, false, ◌&&◌, List, nat_eq, refl}
-use Rattle.std.specs.Cmp.Lexicographic.{bytes_decides, pointwise, pointwise_decides}
-use Rattle.std.specs.Str.{bytes_eq}
+use Rattle.std.specs.Prelude.{◌≡◌, Bool, true, refl}
+use Rattle.std.specs.Cmp.Lexicographic.{bytes_decides}
 use Rattle.std.proofs.Common.{ap}
 use Rattle.idl_base.specs.Exact.{both, same_number}
+use Rattle.idl_scope.specs.Path.{same_path}
 use Rattle.idl_scope.specs.contracts.key.KeyPartialEq.TheImpl.{ghosts}
 use Rattle.idl_scope.specs.declared.key.Key.{Key}
 use Rattle.idl_scope.specs.declared.key.Key.TheVariants.{Cursor, Declared, Introduced, Opened, Nameless}
 
--- whether two paths are one
-abbrev pub path_eq : List (List ℕ) → List (List ℕ) → Bool
-path_eq = pointwise bytes_eq
-
 -- whether two keys are one
 abbrev pub key_eq : Key → Key → Bool
 key_eq = ghosts.eq
-
--- paths that are found equal are one
-pub same_path : (p q : List (List ℕ)) → path_eq p q ≡ true → p ≡ q
-same_path p q = (pointwise_decides bytes_decides p q).0
 
 -- keys that are found equal are one
 pub same_key : (key other : Key) → key_eq key other ≡ true → key ≡ other

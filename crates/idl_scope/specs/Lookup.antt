@@ -1,14 +1,14 @@
 -- How a scoped name is looked up: what is asked, and what comes of it.
 -- Bases are entered one after another, at most so many; each once.
 use Rattle.std.specs.Prelude.{ℕ, zero, suc, ◌+◌, Bool, true, false, List, [], ◌∷◌, ◌++◌, Option, Some, None, Result, Ok, Err, option_to_list, slice_get, if◌then◌else◌}
+use denote.Ref.{Bor}
 use Rattle.std.specs.Str.{bytes_eq}
 use Rattle.idl_lex.specs.Keywords.{folded}
 use Rattle.idl_memo.specs.Query.{Query, Done, Ask, Tell, and_then}
 use Rattle.idl_tree.specs.declared.name.ScopedName.{ScopedName}
 use Rattle.idl_scope.specs.Facts.{entity_key, entity_in, joined, global_scope, over}
-use Rattle.idl_scope.specs.Key.{path_eq}
 use Rattle.idl_scope.specs.Kind.{kind_eq}
-use Rattle.idl_scope.specs.Path.{name_of, scope_of}
+use Rattle.idl_scope.specs.Path.{name_of, path_eq, scope_of}
 use Rattle.idl_scope.specs.declared.addition.Addition.{Addition}
 use Rattle.idl_scope.specs.declared.answer.Answer.{Answer}
 use Rattle.idl_scope.specs.declared.answer.Scope.{Scope}
@@ -16,7 +16,7 @@ use Rattle.idl_scope.specs.declared.entity.Entity.{Entity}
 use Rattle.idl_scope.specs.declared.fault.NameCode.{NameCode}
 use Rattle.idl_scope.specs.declared.fault.NameCode.TheVariants.{Undeclared, Ambiguous, OtherSpelling, NoScope}
 use Rattle.idl_scope.specs.declared.fault.NameFault.{NameFault}
-use Rattle.idl_scope.specs.declared.fault.NameFault.TheVariants.{At}
+use Rattle.idl_scope.specs.declared.fault.NameFault.TheVariants.{At, Memory}
 use Rattle.idl_scope.specs.declared.found.Found.{Found}
 use Rattle.idl_scope.specs.declared.key.Key.{Key}
 use Rattle.idl_scope.specs.declared.key.Key.TheVariants.{Declared}
@@ -65,6 +65,13 @@ abbrev pub choose : {A : Type 0} → Option Entity → A → (Entity → A) → 
 choose None nothing found = nothing
 choose (Some e) nothing found = found e
 
+-- what a base itself declares a name as, or else its bases
+abbrev pub entered : List ℕ → List (List ℕ) → Lookup (Option Entity × List (List (List ℕ)))
+entered n b =
+    Ask (Declared n b) (λ own. choose (entity_in own)
+    (Ask (entity_key b) (λ base. Done (None, bases_of (entity_in base))))
+    (λ e. Done (Some e, [])))
+
 -- the entities declared as a name in bases, or else in the bases of these: the queue has each base
 -- once, those before a place are entered, and these are found
 unfoldable pub walk : ℕ → List ℕ → ℕ → List (List (List ℕ)) → List Entity → Lookup (List Entity)
@@ -72,9 +79,8 @@ walk zero n at queue found = Done found
 walk (suc turns) n at queue found =
     elim (slice_get queue at)
     [ None ↦ Done found
-    | Some b ↦ Ask (Declared n b) (λ own. choose (entity_in own)
-    (Ask (entity_key b) (λ base. walk turns n (at + 1) (joined queue (bases_of (entity_in base))) found))
-    (λ e. walk turns n (at + 1) queue (found ++ e ∷ []))) ]
+    | Some b ↦ and_then (entered n b)
+    (λ r. walk turns n (at + 1) (joined queue r.1) (found ++ option_to_list r.0)) ]
 
 -- those reached through bases
 abbrev pub reached : ℕ → List ℕ → List (List (List ℕ)) → Lookup (List Entity)
@@ -166,3 +172,14 @@ denoted turns cursor name =
     (λ first. and_then (further turns 0 first name.rest)
     (λ last. Done (found_as name cursor first last)))
     (λ fault. Done (Err fault)))
+
+-- the entity to which a result leads
+abbrev pub named : {E : Type 0} → Result (Bor Entity) E → Result Entity E
+named (Ok e) = Ok e.now
+named (Err fault) = Err fault
+
+-- a fact about a result that is no want of memory
+abbrev pub IfSettled : {A : Type 0} → Result A NameFault → (Result A NameFault → Type 0) → Type 0
+IfSettled (Ok a) Fact = Fact (Ok a)
+IfSettled (Err Memory) Fact = Unit {0}
+IfSettled (Err (At code part)) Fact = Fact (Err (At code part))

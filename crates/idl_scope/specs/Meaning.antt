@@ -1,5 +1,5 @@
 -- What names denote, over answers: the scoping rules, without a word of how a name is looked up.
-use Rattle.std.specs.Prelude.{◌≡◌, ◌≢◌, ◌⊎◌, ℕ, suc, Bool, true, false, MatchBool, List, [], ◌∷◌, ◌+◌, Option, Some, None, Result, Ok, Err, Contains}
+use Rattle.std.specs.Prelude.{◌≡◌, ◌≢◌, ◌⊎◌, ℕ, true, MatchBool, List, [], ◌∷◌, ◌+◌, Option, Some, None, Result, Ok, Err, Contains}
 use Rattle.idl_lex.specs.Keywords.{folded}
 use Rattle.idl_tree.specs.declared.name.ScopedName.{ScopedName}
 use Rattle.idl_scope.specs.Facts.{UnitFacts, answers, entity_key, entity_in, over}

@@ -14,6 +14,11 @@ use Rattle.idl_scope.specs.declared.kind.Kind.TheVariants.{Interface}
 abbrev pub AgreeOutside : List Key → (Key → Option Answer) → (Key → Option Answer) → Type 0
 AgreeOutside keys answers other = (key : Key) → (Contains keys key → ⊥) → other key ≡ answers key
 
+-- and so are two worlds, with the same operations and attributes of the open scopes
+abbrev pub WorldsAgreeOutside : List Key → World → World → Type 0
+WorldsAgreeOutside keys w other =
+    AgreeOutside keys w.answers other.answers × (other.inside ≡ w.inside)
+
 -- the keys at which an interface's operations are gathered when it closes: its own and its bases'
 abbrev pub gathered_at : World → List Scope → List Key
 gathered_at w [] = []

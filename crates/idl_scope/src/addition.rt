@@ -10,6 +10,7 @@ use crate::kind::Kind;
 use crate::path::Path;
 use crate::shared::Shared;
 use idl_lex::Spelling;
+use std::alloc::{AllocError, Global};
 
 /// What a declared name adds, or the use of one.
 #[derive(Clone, Drop)]
@@ -31,4 +32,30 @@ pub enum Step {
     OpensNameless(Kind),
     /// The innermost scope is closed.
     Closes,
+}
+
+impl Addition {
+    /// The key whose answer it changes.
+    pub fn key(&self, alloc: Global) -> Result<Key, AllocError>
+        ensures { IfOk result (λ key. key ≡ key_of self.now) }
+    {
+        match self {
+            Addition::Declares(entity) => Key::of_entity(alloc, &entity.get().path),
+            Addition::Uses(name, path, body) => {
+                let name = name.clone()?;
+                let path = path.clone()?;
+                Ok(Key::Introduced(name, path, *body))
+            }
+        }
+    }
+
+    /// The answer that it leaves there.
+    pub fn answer(&self) -> Result<Answer, AllocError>
+        ensures { IfOk result (λ answer. answer ≡ answer_of self.now) }
+    {
+        match self {
+            Addition::Declares(entity) => Ok(Answer::Known(entity.clone()?)),
+            Addition::Uses(_, _, _) => Ok(Answer::Used),
+        }
+    }
 }

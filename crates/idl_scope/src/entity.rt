@@ -1,5 +1,8 @@
 //! Entities: what names are declared as.
 
+ghost use Rattle.std.specs.Prelude.{◌≡◌};
+ghost use Rattle.idl_scope.specs.Facts.{is_operation};
+
 use crate::kind::{Kind, Stage};
 use crate::path::Path;
 use idl_base::{Datum, Seq};
@@ -26,4 +29,13 @@ impl Datum for Entity {
     ghost same = { same_entity };
 
     ghost copy = { copied_entity };
+}
+
+impl Entity {
+    /// Whether it is an operation or an attribute.
+    pub fn is_operation(&self) -> bool
+        ensures { result ≡ is_operation self.now }
+    {
+        self.kind == Kind::Operation || self.kind == Kind::Attribute
+    }
 }

@@ -2,6 +2,7 @@
 
 ghost use Rattle.std.specs.Prelude.{◌≡◌};
 ghost use Rattle.std.specs.Cmp.{on_equiv, on_per, partial_equiv_from_equiv, nat_eq_equiv};
+ghost use Rattle.idl_scope.specs.Lookup.{has_bases, inherits, is_scope};
 ghost use Rattle.idl_scope.specs.Kind.{kind_number, kind_eq, same_kind, stage_number, stage_eq, same_stage};
 
 use idl_base::Datum;
@@ -58,6 +59,37 @@ impl Kind {
             Kind::Operation => 11,
             Kind::Parameter => 12,
             Kind::Member => 13,
+        }
+    }
+}
+
+impl Kind {
+    /// Whether a scope of this kind has what its bases have.
+    pub fn inherits(self) -> bool
+        ensures { result ≡ inherits self }
+    {
+        self == Kind::Interface
+    }
+
+    /// Whether further parts of a name are looked for in an entity of this kind.
+    pub fn is_scope(self) -> bool
+        ensures { result ≡ is_scope self }
+    {
+        match self {
+            Kind::Module | Kind::Interface | Kind::Structure | Kind::Union | Kind::Exception => true,
+            _ => false,
+        }
+    }
+}
+
+impl Stage {
+    /// Whether what is declared in bases is reached from an entity at this stage.
+    pub fn has_bases(self) -> bool
+        ensures { result ≡ has_bases self }
+    {
+        match self {
+            Stage::Ahead | Stage::Begun => false,
+            Stage::Open | Stage::Complete => true,
         }
     }
 }

@@ -1,17 +1,18 @@
 //! The laws of names: that lookup comes to what the scoping rules say.
 //!
-//! Each function does nothing: it carries its laws as clauses. The facts are any facts, also such as no declarations add; only
-//! the turns that a walk over bases may make must be as many as the facts name bases.
+//! Each function does nothing: it carries its laws as clauses. They hold of any facts, also of such as
+//! no declarations add; only, a walk over bases must be allowed as many turns as the facts name bases.
 
-ghost use Rattle.std.specs.Prelude.{◌≡◌, ◌≢◌, ◌↔◌, ◌∷◌, ◌++◌, [], false, true, ℕ, List, Ok, Option, Result, AllPairs, Contains, take};
+ghost use Rattle.std.specs.Prelude.{◌≡◌, ◌≢◌, ◌↔◌, ◌∷◌, ◌++◌, [], false, true, ℕ, List, Ok, Option, Result, Some, AllPairs, Contains, take};
 ghost use Rattle.idl_lex.specs.Keywords.{folded};
 ghost use Rattle.idl_memo.specs.Query.{Agree, asked, outcome};
 ghost use Rattle.idl_tree.specs.declared.name.ScopedName.{ScopedName};
 ghost use Rattle.idl_scope.specs.Bases.{HasTurnsFor};
 ghost use Rattle.idl_scope.specs.Facts.{UnitFacts, World, after, after_all, answers, over};
 ghost use Rattle.idl_scope.specs.Lookup.{Lookup, denoted, has, under};
-ghost use Rattle.idl_scope.specs.Meaning.{Denotes, Has, Introduces, StandInModules, entity_found, seen};
-ghost use Rattle.idl_scope.specs.Outside.{AgreeOutside, AreApart, looked_at_by};
+ghost use Rattle.idl_scope.specs.Meaning.{Denotes, Has, Introduces, StandInModules, entity_found, own_at, seen};
+ghost use Rattle.idl_scope.specs.Outside.{AgreeOutside, AreApart, WorldsAgreeOutside, looked_at_by};
+ghost use Rattle.idl_scope.specs.Path.{name_of, scope_of};
 ghost use Rattle.idl_scope.specs.declared.addition.Addition.{Addition};
 ghost use Rattle.idl_scope.specs.declared.addition.Step.TheVariants.{Stays};
 ghost use Rattle.idl_scope.specs.declared.answer.Answer.{Answer};
@@ -22,8 +23,16 @@ ghost use Rattle.idl_scope.specs.declared.found.Found.{Found};
 ghost use Rattle.idl_scope.specs.declared.key.Key.{Key};
 ghost use Rattle.idl_scope.specs.declared.kind.Kind.{Kind};
 
-/// What is found under a name in a scope is what the scope declares or reaches through its bases, all of it, and each
-/// entity once.
+/// An entity is answered at the name and in the scope that its path tells, and nowhere else.
+pub fn own_path()
+    ensures { (facts : List UnitFacts) (own : List Addition) (n : List ℕ) (path : List (List ℕ))
+        (e : Entity)
+        → own_at (seen own facts) n path ≡ Some e
+        → (folded (name_of e.path) ≡ n) × (scope_of e.path ≡ path) }
+{}
+
+/// What is found under a name in a scope is what the scope declares or reaches through its bases, all
+/// of it, and each entity once.
 pub fn found_in_a_scope()
     ensures all { (facts : List UnitFacts) (own : List Addition) (turns : ℕ)
         → HasTurnsFor facts own turns
@@ -48,9 +57,10 @@ pub fn denotation()
         → Denotes answers cursor name r → Denotes answers cursor name s → r ≡ s }
 {}
 
-/// The use of a name introduces its first part into the scopes that the rules tell, as far outward as its reach.
+/// The use of a name introduces its first part into the scopes that the rules tell: as many, the
+/// innermost first, as its reach says.
 ///
-/// That it is no further asks that scopes with bases stand in modules, as interfaces do.
+/// That they are no more asks that scopes with bases stand in modules, as interfaces do.
 pub fn introduction()
     ensures all { (facts : List UnitFacts) (own : List Addition) (turns : ℕ)
         → HasTurnsFor facts own turns
@@ -73,19 +83,20 @@ pub fn introduction()
         → name.is_global ≡ true → found.reach ≡ 0 }
 {}
 
-/// What a unit's earlier tokens add is seen as what a unit adds that changes no open scope. What is asked under additions is
-/// asked of the answers as they change them.
+/// What a unit's earlier tokens add is seen as what a unit adds that changes no open scope. What is
+/// asked under additions is asked of the answers as they change them.
 pub fn own_facts<A>()
     ensures seen { (facts : List UnitFacts) (own : List Addition) (key : Key)
-        → answers (facts ++ record { additions = own; step = Stays } ∷ []) key ≡ seen own facts key }
+        → answers (facts ++ record { additions = own; step = Stays } ∷ []) key
+        ≡ seen own facts key }
     ensures outcome { (own : List Addition) (query : Lookup A) (bank : Key → Option Answer)
         → outcome (under own query) bank ≡ outcome query (λ key. over own key (bank key)) }
     ensures asked { (own : List Addition) (query : Lookup A) (bank : Key → Option Answer)
         → asked (under own query) bank ≡ asked query (λ key. over own key (bank key)) }
 {}
 
-/// Facts that are added one after another are added together; and facts that are added to answers that are the same outside some
-/// keys, and look at none of these, leave such answers.
+/// Facts that are added one after another are added together. Answers that are the same outside some
+/// keys stay so under the same additions, and under the same facts if these look at none of the keys.
 pub fn adding()
     ensures together { (w : World) (facts more : List UnitFacts)
         → after_all w (facts ++ more) ≡ after_all (after_all w facts) more }
@@ -95,13 +106,12 @@ pub fn adding()
         → AgreeOutside keys (λ key. over additions key (bank key))
         (λ key. over additions key (other key)) }
     ensures facts { (keys : List Key) (w other : World) (facts : UnitFacts)
-        → AgreeOutside keys w.answers other.answers → other.inside ≡ w.inside
-        → AreApart (looked_at_by w facts) keys
-        → AgreeOutside keys (after w facts).answers (after other facts).answers }
+        → WorldsAgreeOutside keys w other → AreApart (looked_at_by w facts) keys
+        → WorldsAgreeOutside keys (after w facts) (after other facts) }
 {}
 
-/// Over answers that agree on the keys that a name asks, it is found as the same and asks the same keys. Answers that agree
-/// outside keys that it doesn't ask do so.
+/// Over answers that agree on the keys that a name asks, it is found as the same and asks the same
+/// keys. Answers that agree outside keys that it doesn't ask are such answers.
 pub fn reliance()
     ensures outcome { (turns : ℕ) (cursor : List Scope) (name : ScopedName)
         (bank other : Key → Option Answer)

@@ -1,11 +1,11 @@
 //! Paths: where an entity or a scope stands.
 
-ghost use Rattle.std.specs.Prelude.{◌≡◌, ◌↔◌, ◌∷◌, [], IfOk, IsTrue, Some, drop, refl};
+ghost use Rattle.std.specs.Prelude.{◌≡◌, ◌≤◌, ◌∷◌, [], IfOk, Some, drop, length, refl};
 ghost use Rattle.std.specs.Cmp.{partial_equiv_from_equiv};
 ghost use Rattle.std.specs.Cmp.Lexicographic.{lists_agrees, lists_equiv, lists_per, lists_po, lists_ties, lists_total, nat_list_cmp_total, nat_list_eq_equiv, pointwise, slice_cmp, slice_partial_cmp, texts_po, texts_ties};
 ghost use Rattle.std.specs.Ordering.{nat_cmp};
 ghost use Rattle.std.specs.Str.{bytes_eq};
-ghost use Rattle.idl_scope.specs.Path.{name_of, scope_of};
+ghost use Rattle.idl_scope.specs.Path.{name_of, path_eq, scope_of};
 
 use idl_base::Datum;
 use idl_lex::Spelling;
@@ -78,13 +78,28 @@ impl Path {
         ensures { IfOk result (λ path. path ≡ scope_of self.now) }
     {
         let names = self.names.clone()?;
-        let from = if self.from < names.len() {
-            self.from + 1
-        } else {
-            self.from
-        };
+        let from = behind_first(self.names.as_slice(), self.from);
         Ok(Path { names, from })
     }
+
+    /// Whether it stands directly in the scope with that path.
+    pub fn is_in(&self, scope: &Path) -> bool
+        ensures { result ≡ path_eq (scope_of self.now) scope.now }
+    {
+        match self.as_slice() {
+            [] => scope.as_slice().is_empty(),
+            [_, outer @ ..] => outer == scope.as_slice(),
+        }
+    }
+}
+
+// The place behind the first of the names from a place on, if there is one.
+fn behind_first(names: &[Spelling], from: usize) -> usize
+    requires { from ≤ length names.now }
+    ensures at { drop result names.now ≡ scope_of (drop from names.now) }
+    ensures within { result ≤ length names.now }
+{
+    if from < names.len() { from + 1 } else { from }
 }
 
 impl Clone for Path {
@@ -105,8 +120,7 @@ impl PartialEq for Path {
     ghost laws = { lists_per (partial_equiv_from_equiv nat_list_eq_equiv) };
 
     fn eq(&self, other: &Path) -> bool
-        ensures by_name { result ≡ pointwise bytes_eq self.now other.now }
-        ensures exact { IsTrue result ↔ (self.now ≡ other.now) }
+        ensures { result ≡ pointwise bytes_eq self.now other.now }
     {
         self.as_slice() == other.as_slice()
     }

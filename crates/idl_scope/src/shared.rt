@@ -40,7 +40,7 @@ impl<T: Drop> Shared<T> {
     }
 }
 
-impl<T: Datum + Drop> Clone for Shared<T> {
+impl<T: Drop> Clone for Shared<T> {
     ghost is_clone = { λ shared copy. copy ≡ shared };
 
     fn clone(&self) -> Result<Shared<T>, AllocError> {
