@@ -1,4 +1,5 @@
 pub mod AnswerLemmas
+pub mod CountLemmas
 pub mod PlaceLemmas
 pub mod QueueLemmas
 pub mod RunLemmas
