@@ -1,4 +1,5 @@
 pub mod AnswerLemmas
+pub mod CountLemmas
 pub mod DenotesOnce
 pub mod FactsLaws
 pub mod Introduced

@@ -13,6 +13,9 @@ module _ {A : Type 0} where
   drop-at (y ∷ ys) zero x h = ap (λ z. z ∷ ys) (same_Some y x h)
   drop-at (y ∷ ys) (suc i) x h = drop-at ys i x h
 
+  pub drop-at1 : (xs : List A) (i : ℕ) (x : A) → slice_get xs i ≡ Some x → drop i xs ≡ x ∷ drop (i + 1) xs
+  drop-at1 xs i x h = rw add-one (drop-at xs i x h)
+
   -- and where none stands there
   pub past-end : (xs : List A) (i : ℕ) → slice_get xs i ≡ None → length xs ≤ i
   past-end [] i h = omega arith

@@ -6,8 +6,10 @@ use Rattle.idl_memo.specs.Query.{Query, Done, Ask, Tell, and_then, run, noted}
 use Rattle.idl_memo.proofs.QueryLaws.{run-and_then_at}
 use Rattle.idl_scope.specs.Facts.{answers, entity_in, entity_key, joined, over}
 use Rattle.idl_scope.specs.Key.{key_eq}
-use Rattle.idl_scope.specs.Lookup.{Lookup, bases_of, by_result, choose, entered, further, has, inherits, is_nothing, is_scope, judged, outward, part_of, placed, reached, under, walk}
+use Rattle.idl_scope.specs.Lookup.{Lookup, bases_of, by_result, choose, denoted, entered, found_as, further, has, inherits, is_nothing, is_scope, judged, outward, part_of, placed, reached, searched, under, walk}
 use Rattle.idl_lex.specs.Keywords.{folded}
+use Rattle.idl_tree.specs.declared.name.ScopedName.{ScopedName}
+use Rattle.idl_scope.specs.declared.found.Found.{Found}
 use Rattle.idl_scope.specs.declared.addition.Addition.{Addition}
 use Rattle.idl_scope.specs.declared.answer.Answer.{Answer}
 use Rattle.idl_scope.specs.declared.answer.Scope.{Scope}
@@ -127,3 +129,18 @@ module _ (own : List Addition) (bank : Key → Option Answer) where
   further_on turns part e name names log r after h gives =
       ap (λ b. runs (cond b (and_then (part_of (part + 1) name (has turns e.kind e.path (folded name))) (λ r. by_result r (λ f. further turns (part + 1) f names) (λ fault. Done (Err fault)))) (Done (Err (At NoScope part)))) log) h
       ∙ runs-and_then (part_of (part + 1) name (has turns e.kind e.path (folded name))) (λ r. by_result r (λ f. further turns (part + 1) f names) (λ fault. Done (Err fault))) log r after gives
+
+  -- what a name comes to from its first part
+  abbrev pub from_first : ℕ → List Scope → ScopedName → Entity → Lookup (Result Found NameFault)
+  from_first turns cursor name first = and_then (further turns 0 first name.rest) (λ last. Done (found_as name cursor first last))
+
+  pub from_first_on : (turns : ℕ) (cursor : List Scope) (name : ScopedName) (first : Entity) (log : List (Key × Option Answer)) (r : Result Entity NameFault) (after : List (Key × Option Answer))
+      → (r, after) ≡ runs (further turns 0 first name.rest) log → runs (from_first turns cursor name first) log ≡ (found_as name cursor first r, after)
+  from_first_on turns cursor name first log r after h = runs-and_then (further turns 0 first name.rest) (λ last. Done (found_as name cursor first last)) log r after h
+
+  pub denoted_on : (turns : ℕ) (cursor : List Scope) (name : ScopedName) (log : List (Key × Option Answer)) (r : Result Entity NameFault) (after : List (Key × Option Answer))
+      → (r, after) ≡ runs (part_of 0 name.first (outward turns (searched name.is_global cursor) (folded name.first))) log
+      → runs (denoted turns cursor name) log ≡ runs (by_result r (from_first turns cursor name) (λ fault. Done (Err fault))) after
+  denoted_on turns cursor name log r after h =
+      runs-and_then (part_of 0 name.first (outward turns (searched name.is_global cursor) (folded name.first)))
+      (λ r. by_result r (from_first turns cursor name) (λ fault. Done (Err fault))) log r after h

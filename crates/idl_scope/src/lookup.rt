@@ -163,7 +163,7 @@ impl<'a> View<'a> {
                 path: &scope.path,
             };
             let found = self.has(log, place, name)?;
-            if !found.is_empty() {
+            if !found.as_slice().is_empty() {
                 return Ok(found);
             }
         }

@@ -91,14 +91,29 @@ impl<'a> View<'a> {
             (part_of 0 name.now.first (outward TURNS (searched name.now.is_global cursor.now) (folded name.now.first))))
             (answers self.entry.env.now) log.old) }
     {
-        let folded = folded_name(self.env.alloc(), name.first.as_bytes())?;
-        let found = if name.is_global {
-            let global = Scope::global(self.env.alloc())?;
-            self.outward(log, &[global], &folded)?
-        } else {
-            self.outward(log, cursor, &folded)?
-        };
+        let found = self.first_found(log, cursor, name)?;
         Ok(judged(0, name.first.as_bytes(), found.as_slice()))
+    }
+
+    // What there is under the first part of a name.
+    fn first_found(
+        self,
+        log: &mut Log<Env>,
+        cursor: &[Scope],
+        name: &ScopedName,
+    ) -> Result<Vec<&'a Shared<Entity>>, AllocError>
+        ensures { IfOk result (λ es.
+            (map (λ e. e.now) es.items, log.new)
+            ≡ run key_eq (under self.entry.own.now.additions
+            (outward TURNS (searched name.now.is_global cursor.now) (folded name.now.first)))
+            (answers self.entry.env.now) log.old) }
+    {
+        let folded = folded_name(self.env.alloc(), name.first.as_bytes())?;
+        if name.is_global {
+            let global = Scope::global(self.env.alloc())?;
+            return self.outward(log, &[global], &folded);
+        }
+        self.outward(log, cursor, &folded)
     }
 
     // What the part with a number denotes in the entity before it.

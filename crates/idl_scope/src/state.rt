@@ -1,9 +1,9 @@
 //! What the facts so far come to.
 
 ghost use Rattle.std.specs.Prelude.{◌≡◌, ◌<◌, ◌∷◌, ◌++◌, [], IfOk, OnOk, drop, map, option_to_list};
-ghost use Rattle.std.specs.Option.{option_copied};
-ghost use Rattle.idl_scope.specs.Facts.{after, after_closing, after_nameless, after_opening, after_step, closed, closing, entity_key, first_world, inherited, innermost, joined, more_inside, nameless, operations_among, operations_of, path_around, with_additions, with_answer, count_in, entity_in, scopes_in, over};
-ghost use Rattle.idl_scope.specs.Held.{held};
+ghost use Rattle.std.specs.Option.{option_map};
+ghost use Rattle.idl_scope.specs.Facts.{after, after_closing, after_nameless, after_opening, after_step, closed, closing, entity_key, first_world, inherited, innermost, joined, more_inside, nameless, next_body, operations_among, operations_of, path_around, with_additions, with_answer, count_in, entity_in, scopes_in, over};
+ghost use Rattle.idl_scope.specs.Held.{closable, held};
 ghost use Rattle.idl_scope.specs.Key.{key_eq};
 ghost use Rattle.idl_scope.specs.declared.addition.Addition.TheVariants.{Declares};
 ghost use Rattle.idl_scope.specs.declared.addition.Step.TheVariants.{Closes, Opens, OpensNameless};
@@ -65,9 +65,19 @@ impl State {
             ≡ after (held self.old.answers self.old.inside.items) facts.now) }
     {
         self.add_all(alloc, facts)?;
-        match facts.step() {
+        self.take(alloc, facts.step())
+    }
+
+    // What it comes to with a change of the open scopes.
+    fn take(&mut self, alloc: Global, step: &Step) -> Result<(), AllocError>
+        requires { (key : Key) → count_in (lookup (key_eq key) self.old.answers) < 18446744073709551615 }
+        ensures { OnOk result
+            (held self.new.answers self.new.inside.items
+            ≡ after_step (held self.old.answers self.old.inside.items) step.now) }
+    {
+        match step {
             Step::Stays => Ok(()),
-            Step::Opens(path, kind) => self.open(alloc, path.clone()?, *kind),
+            Step::Opens(path, kind) => self.open(alloc, path, *kind),
             Step::OpensNameless(kind) => self.open_nameless(alloc, *kind),
             Step::Closes => self.close(alloc),
         }
@@ -84,20 +94,37 @@ impl State {
     }
 
     // What it comes to with one more body of a scope.
-    fn open(&mut self, alloc: Global, path: Path, kind: Kind) -> Result<(), AllocError>
-        requires { count_in (lookup (key_eq (Opened path)) self.old.answers) < 18446744073709551615 }
+    fn open(&mut self, alloc: Global, path: &Path, kind: Kind) -> Result<(), AllocError>
+        requires { count_in (lookup (key_eq (Opened path.now)) self.old.answers) < 18446744073709551615 }
         ensures { OnOk result
             (held self.new.answers self.new.inside.items
-            ≡ after_step (held self.old.answers self.old.inside.items) (Opens path kind)) }
+            ≡ after_step (held self.old.answers self.old.inside.items) (Opens path.now kind)) }
     {
-        let key = Key::Opened(path.clone()?);
-        let body = count_in(self.answers.get(&key)) + 1;
-        let scope = Scope { path, kind, body };
+        let scope = self.next_body(path, kind)?;
+        let body = scope.body;
+        let key = Key::Opened(scope.path.clone()?);
         let scopes = opened(alloc, scope, scopes_in(self.answers.get(&Key::Cursor)))?;
         self.answers.insert(key, Answer::Count(body))?;
         self.answers.insert(Key::Cursor, scopes)?;
         self.inside.insert(0, Seq::new(alloc))?;
         Ok(())
+    }
+
+    // The next body of a scope.
+    fn next_body(&self, path: &Path, kind: Kind) -> Result<Scope, AllocError>
+        requires { count_in (lookup (key_eq (Opened path.now)) self.now.answers) < 18446744073709551615 }
+        ensures { IfOk result (λ scope.
+            scope
+            ≡ record {
+                path = path.now;
+                kind = kind;
+                body = next_body (held self.now.answers self.now.inside.items) path.now;
+            }) }
+    {
+        let key = Key::Opened(path.clone()?);
+        let body = count_in(self.answers.get(&key)) + 1;
+        let path = path.clone()?;
+        Ok(Scope { path, kind, body })
     }
 
     // What it comes to with a nameless scope.
@@ -115,7 +142,7 @@ impl State {
             &name,
         )?;
         self.answers.insert(Key::Nameless, Answer::Count(number + 1))?;
-        self.open(alloc, path, kind)
+        self.open(alloc, &path, kind)
     }
 
     // What it comes to with the innermost scope closed, if it isn't the global one.
@@ -124,15 +151,12 @@ impl State {
             (held self.new.answers self.new.inside.items
             ≡ after_step (held self.old.answers self.old.inside.items) Closes) }
     {
-        let [scope, outer @ ..] = scopes_in(self.answers.get(&Key::Cursor)) else {
+        let Some((scope, outer)) = closable(scopes_in(self.answers.get(&Key::Cursor))) else {
             return Ok(());
         };
-        if outer.is_empty() {
-            return Ok(());
-        }
         let scopes = open_scopes(alloc, outer)?;
         let closing = self.closing(alloc, scope)?;
-        put_closing(alloc, &mut self.answers, closing)?;
+        put_closing(alloc, &mut self.answers, &closing)?;
         self.answers.insert(Key::Cursor, scopes)?;
         leave(&mut self.inside);
         Ok(())
@@ -144,15 +168,16 @@ impl State {
             closing (held self.now.answers self.now.inside.items) scope.now
             ≡ map Declares (option_to_list entity)) }
     {
-        if scope.kind != Kind::Interface {
+        if !scope.kind.inherits() {
             return Ok(None);
         }
         let key = Key::of_entity(alloc, &scope.path)?;
         let Some(entity) = entity_in(self.answers.get(&key)) else {
             return Ok(None);
         };
-        let operations = self.operations(alloc, entity.get())?;
-        let closed = closed(entity.get(), operations)?;
+        let interface = entity.get();
+        let operations = self.operations(alloc, interface)?;
+        let closed = closed(interface, operations)?;
         Ok(Some(Shared::new(alloc, closed)?))
     }
 
@@ -171,21 +196,32 @@ impl State {
     }
 }
 
+// The innermost of the open scopes and those outward of it, if it isn't the global one.
+fn closable(scopes: &[Scope]) -> Option<(&Scope, &[Scope])>
+    ensures { option_map (λ p. (p.0.now, p.1.now)) result ≡ closable scopes.now }
+{
+    match scopes {
+        [scope, _, ..] => Some((scope, &scopes[1..])),
+        _ => None,
+    }
+}
+
 // The answers with that of an interface that closes, if one does.
 fn put_closing(
     alloc: Global,
     answers: &mut Table<Key, Answer>,
-    closing: Option<Shared<Entity>>,
+    closing: &Option<Shared<Entity>>,
 ) -> Result<(), AllocError>
     ensures { OnOk result
         ((k : Key)
         → lookup (key_eq k) answers.new
-        ≡ over (map Declares (option_to_list closing)) k (lookup (key_eq k) answers.old)) }
+        ≡ over (map Declares (option_to_list closing.now)) k (lookup (key_eq k) answers.old)) }
 {
     let Some(entity) = closing else {
         return Ok(());
     };
     let key = Key::of_entity(alloc, &entity.get().path)?;
+    let entity = entity.clone()?;
     answers.insert(key, Answer::Known(entity))?;
     Ok(())
 }
