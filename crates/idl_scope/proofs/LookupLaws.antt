@@ -1,24 +1,36 @@
 -- The laws of names, from what lookup comes to.
-use Rattle.std.proofs.Common.{◌≡◌, ℕ, ◌≤◌, Bool, true, false, cond, List, ◌++◌, length, take, Ok, length-append, arith, sym, Some}
+use Rattle.std.proofs.Common.{◌≡◌, ℕ, ◌≤◌, Bool, true, false, cond, List, ◌++◌, length, take, Option, Some, Result, Ok, Err, length-append, subst, ap, ◌∙◌, arith, sym}
 use Rattle.std.specs.Prelude.{◌≢◌, ◌↔◌, AllPairs, Contains}
 use Rattle.std.proofs.lemmas.Bool.{false≢true}
 use Rattle.idl_lex.specs.Keywords.{folded}
-use Rattle.idl_memo.specs.Query.{outcome}
+use Rattle.idl_memo.specs.Query.{outcome, run}
 use Rattle.idl_tree.specs.declared.name.ScopedName.{ScopedName}
 use Rattle.idl_scope.specs.Bases.{bases_in, bases_among, bases_named, HasTurnsFor}
 use Rattle.idl_scope.specs.Facts.{UnitFacts, answers}
-use Rattle.idl_scope.specs.Lookup.{denoted, has, reach, searched}
+use Rattle.idl_scope.specs.Key.{key_eq}
+use Rattle.idl_scope.specs.Lookup.{IfSettled, denoted, has, reach, searched, under}
 use Rattle.idl_scope.specs.Meaning.{Denotes, FirstHas, Has, Introduces, StandInModules, entity_found, own_at, seen}
 use Rattle.idl_scope.specs.Path.{name_of, scope_of}
 use Rattle.idl_scope.specs.declared.addition.Addition.{Addition}
+use Rattle.idl_scope.specs.declared.answer.Answer.{Answer}
 use Rattle.idl_scope.specs.declared.answer.Scope.{Scope}
 use Rattle.idl_scope.specs.declared.entity.Entity.{Entity}
+use Rattle.idl_scope.specs.declared.fault.NameFault.{NameFault}
+use Rattle.idl_scope.specs.declared.fault.NameFault.TheVariants.{At, Memory}
 use Rattle.idl_scope.specs.declared.found.Found.{Found}
+use Rattle.idl_scope.specs.declared.key.Key.{Key}
 use Rattle.idl_scope.specs.declared.kind.Kind.{Kind}
 use Rattle.idl_scope.proofs.Membership.{IsIn, IsIn-left, IsIn-right, Contains-IsIn, IsIn-Contains, AllPairs-Distinct}
+use Rattle.idl_scope.proofs.FactsLaws.{outcome-under}
 use Rattle.idl_scope.proofs.Introduced.{first-home, Introduces_in, in_Introduces}
 use Rattle.idl_scope.proofs.Meant.{has-Has, denoted-Denotes, denoted-Ok}
 use Rattle.idl_scope.proofs.Worlds.{AreGrounded, answers-grounded, over-grounded, addition-grounded, wider-grounded, flat_map-in, own_at-home, own_at-name}
+
+-- a fact about a result, whatever it is
+pub IfSettled-always : {A : Type 0} (r : Result A NameFault) (Fact : Result A NameFault → Type 0) → Fact r → IfSettled r Fact
+IfSettled-always (Ok a) Fact h = h
+IfSettled-always (Err Memory) Fact h = tt
+IfSettled-always (Err (At code part)) Fact h = h
 
 module _ (facts : List UnitFacts) (own : List Addition) where
   -- the bases that facts and additions name
@@ -64,6 +76,14 @@ module _ (facts : List UnitFacts) (own : List Addition) where
 
     pub denotes : (cursor : List Scope) (name : ScopedName) → Denotes (seen own facts) cursor name (entity_found (outcome (denoted turns cursor name) (seen own facts)))
     denotes cursor name = denoted-Denotes places (seen own facts) seen-grounded turns enough cursor name
+
+    -- what a run under a unit's own additions leaves is what the name denotes
+    pub denotes-run : (cursor : List Scope) (name : ScopedName) (log after : List (Key × Option Answer)) (r : Result Found NameFault)
+        → (r, after) ≡ run key_eq (under own (denoted turns cursor name)) (answers facts) log → Denotes (seen own facts) cursor name (entity_found r)
+    denotes-run cursor name log after r same =
+        let found : r ≡ outcome (denoted turns cursor name) (seen own facts) = ap (λ (p : Result Found NameFault × List (Key × Option Answer)). p.0) same ∙ outcome-under own (answers facts) (denoted turns cursor name) in
+        let Q : Result Found NameFault → Type 0 = λ x. Denotes (seen own facts) cursor name (entity_found x) in
+        subst Q (sym found) (denotes cursor name)
 
     pub introduces-all : (cursor : List Scope) (name : ScopedName) (found : Found) → outcome (denoted turns cursor name) (seen own facts) ≡ Ok found → name.is_global ≡ false
         → (s : Scope) → Introduces (seen own facts) cursor (folded name.first) s → Contains (take found.reach cursor) s

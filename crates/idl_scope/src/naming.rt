@@ -2,9 +2,11 @@
 
 ghost use Rattle.std.specs.Prelude.{◌≡◌, ◌≤◌, IfOk, if◌then◌else◌, length, map};
 ghost use Rattle.idl_memo.specs.Query.{run};
+ghost use Rattle.idl_scope.specs.Bases.{HasTurnsFor};
 ghost use Rattle.idl_scope.specs.Facts.{answers, global_scope};
 ghost use Rattle.idl_scope.specs.Key.{key_eq};
 ghost use Rattle.idl_scope.specs.Lookup.{denoted, further, has, judged, named, outer_reach, part_of, placed, reach, searched, outward, under, IfSettled};
+ghost use Rattle.idl_scope.specs.Meaning.{Denotes, entity_found, seen};
 ghost use Rattle.idl_lex.specs.Keywords.{folded};
 ghost use Rattle.idl_scope.specs.declared.lookup.TheConstants.{TURNS};
 
@@ -33,13 +35,19 @@ pub struct Standpoint<'a> {
 }
 
 /// What a scoped name denotes. The keys asked are logged; after want of memory nothing is said of the log.
+///
+/// A walk over bases makes at most `TURNS` turns, which are more than enough: one for each base that the facts name.
 pub fn resolve(
     env: &Env,
     log: &mut Log<Env>,
     place: Standpoint<'_>,
     name: &ScopedName,
 ) -> Result<Found, NameFault>
-    ensures { IfSettled result (λ r.
+    ensures denotes { HasTurnsFor env.now place.entry.own.now.additions TURNS
+        → IfSettled result (λ r.
+        Denotes (seen place.entry.own.now.additions env.now) place.entry.cursor.now name.now
+        (entity_found r)) }
+    ensures asked { IfSettled result (λ r.
         (r, log.new)
         ≡ run key_eq
         (under place.entry.own.now.additions (denoted TURNS place.entry.cursor.now name.now))
