@@ -1,6 +1,6 @@
 -- No count is greater than the number of units.
 use Rattle.std.proofs.Common.{◌≡◌, ℕ, zero, suc, ◌+◌, ◌<◌, ◌≤◌, Bool, true, false, cond, List, [], ◌∷◌, ◌++◌, Option, Some, None, length, refl, sym, ap, ◌∙◌, arith}
-use Rattle.idl_scope.specs.Facts.{UnitFacts, World, addition_at, after, after_all, after_closing, after_nameless, after_opening, after_step, answer_of, closing, count_in, first_answer, first_world, next_body, over, scopes_in, with_additions, with_answer, world}
+use Rattle.idl_scope.specs.Facts.{UnitFacts, World, addition_at, after, after_all, after_closing, after_nameless, after_opening, after_step, answer_of, closing, count_in, first_answer, first_world, nameless, next_body, over, path_around, scopes_in, with_additions, with_answer, world}
 use Rattle.idl_scope.specs.Key.{key_eq}
 use Rattle.idl_scope.specs.declared.addition.Addition.{Addition}
 use Rattle.idl_scope.specs.declared.addition.Addition.TheVariants.{Declares, Uses}
@@ -45,8 +45,8 @@ AtMost-nameless w n h k =
     with_counts (Count (count_in (w.answers Nameless) + 1)) (w.answers k) (suc n) one (AtMost-more w n h k) (key_eq k Nameless)
 
 AtMost-closing : (w : World) (n : ℕ) (scopes : List Scope) → AtMost w n → AtMost (after_closing w scopes) n
-AtMost-closing w n [] h = h
-AtMost-closing w n (s ∷ []) h = h
+AtMost-closing w n [] h k = h k
+AtMost-closing w n (s ∷ []) h k = h k
 AtMost-closing w n (s ∷ t ∷ outer) h k =
     let none : 0 ≤ n = omega arith in
     with_counts (Open (t ∷ outer)) _ n none (over_counts (w.answers k) n (h k) (addition_at (closing w s) k)) (key_eq k Cursor)
@@ -56,7 +56,10 @@ AtMost-step w n Stays h = AtMost-more w n h
 AtMost-step w n (Opens path kind) h =
     let body : next_body w path ≤ suc n = (let at = h (Opened path) in omega arith) in
     AtMost-opening w (suc n) (record { path = path; kind = kind; body = next_body w path }) body (AtMost-more w n h)
-AtMost-step w n (OpensNameless kind) h = AtMost-opening (after_nameless w) (suc n) _ (let at = h (Opened _) in omega arith) (AtMost-nameless w n h)
+AtMost-step w n (OpensNameless kind) h =
+    let path = nameless (count_in (w.answers Nameless)) ∷ path_around (scopes_in (w.answers Cursor)) in
+    let body : next_body w path ≤ suc n = (let at = h (Opened path) in omega arith) in
+    AtMost-opening (after_nameless w) (suc n) (record { path = path; kind = kind; body = next_body w path }) body (AtMost-nameless w n h)
 AtMost-step w n Closes h = AtMost-more (after_closing w (scopes_in (w.answers Cursor))) n (AtMost-closing w n (scopes_in (w.answers Cursor)) h)
 
 AtMost-after_all : (facts : List UnitFacts) (w : World) (n : ℕ) → AtMost w n → AtMost (after_all w facts) (n + length facts)
@@ -72,10 +75,16 @@ first_counts (Introduced n path body) = omega arith
 first_counts (Opened path) = omega arith
 first_counts Nameless = omega arith
 
+count-after_all : (facts : List UnitFacts) (k : Key) → count_in ((after_all first_world facts).answers k) ≤ length facts
+count-after_all facts k = let at = AtMost-after_all facts first_world 0 first_counts k in omega arith
+
+world-is : (facts : List UnitFacts) → world facts ≡ after_all first_world facts
+unfolding world
+world-is facts = refl
+
 -- a count is at most the number of units
 pub count-world : (facts : List UnitFacts) (k : Key) → count_in ((world facts).answers k) ≤ length facts
-unfolding world
-count-world facts k = AtMost-after_all facts first_world 0 first_counts k
+count-world facts k = rw (world-is facts) (count-after_all facts k)
 
 after_all-push : (facts : List UnitFacts) (f : UnitFacts) (w : World) → after_all w (facts ++ f ∷ []) ≡ after (after_all w facts) f
 after_all-push [] f w = refl

@@ -160,8 +160,8 @@ after_closing w (s ∷ t ∷ outer) = record {
 abbrev pub after_opening : World → Scope → World
 after_opening w s = record {
   answers =
-    with_answer Cursor (Open (s ∷ scopes_in (w.answers Cursor)))
-    (with_answer (Opened s.path) (Count s.body) w.answers);
+      with_answer Cursor (Open (s ∷ scopes_in (w.answers Cursor)))
+      (with_answer (Opened s.path) (Count s.body) w.answers);
   inside = [] ∷ w.inside;
 }
 

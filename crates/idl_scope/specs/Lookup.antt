@@ -77,10 +77,11 @@ entered n b =
 unfoldable pub walk : ℕ → List ℕ → ℕ → List (List (List ℕ)) → List Entity → Lookup (List Entity)
 walk zero n at queue found = Done found
 walk (suc turns) n at queue found =
-    elim (slice_get queue at)
-    [ None ↦ Done found
-    | Some b ↦ and_then (entered n b)
-    (λ r. walk turns n (at + 1) (joined queue r.1) (found ++ option_to_list r.0)) ]
+    elim (slice_get queue at) [
+      | None ↦ Done found
+      | Some b ↦ and_then (entered n b)
+          (λ r. walk turns n (at + 1) (joined queue r.1) (found ++ option_to_list r.0))
+    ]
 
 -- those reached through bases
 abbrev pub reached : ℕ → List ℕ → List (List (List ℕ)) → Lookup (List Entity)

@@ -26,8 +26,8 @@ impl Model for Facts {
     ghost Value = { UnitFacts };
 
     ghost view = { λ facts. record {
-        additions = map (λ e. e.1) facts.additions;
-        step = facts.step;
+      additions = map (λ e. e.1) facts.additions;
+      step = facts.step;
     } };
 
     ghost invariant = { λ facts. HaveOwnKeys facts.additions };

@@ -76,7 +76,8 @@ impl Kind {
         ensures { result ≡ is_scope self }
     {
         match self {
-            Kind::Module | Kind::Interface | Kind::Structure | Kind::Union | Kind::Exception => true,
+            Kind::Module | Kind::Interface | Kind::Structure | Kind::Union | Kind::Exception =>
+                true,
             _ => false,
         }
     }

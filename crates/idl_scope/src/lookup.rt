@@ -43,11 +43,7 @@ pub struct Place<'a> {
 
 impl<'a> View<'a> {
     // What is declared at a key.
-    fn entity(
-        self,
-        log: &mut Log<Env>,
-        key: &Key,
-    ) -> Result<Option<&'a Shared<Entity>>, AllocError>
+    fn entity(self, log: &mut Log<Env>, key: &Key) -> Result<Option<&'a Shared<Entity>>, AllocError>
         ensures entity { IfOk result (λ e.
             option_copied e
             ≡ entity_in (over self.entry.own.now.additions key.now (answers self.entry.env.now key.now))) }

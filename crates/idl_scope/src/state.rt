@@ -116,9 +116,9 @@ impl State {
         ensures { IfOk result (λ scope.
             scope
             ≡ record {
-                path = path.now;
-                kind = kind;
-                body = next_body (held self.now.answers self.now.inside.items) path.now;
+              path = path.now;
+              kind = kind;
+              body = next_body (held self.now.answers self.now.inside.items) path.now;
             }) }
     {
         let key = Key::Opened(path.clone()?);
@@ -136,12 +136,9 @@ impl State {
     {
         let number = count_in(self.answers.get(&Key::Nameless));
         let name = nameless_name(alloc, number)?;
-        let path = child_of_first(
-            alloc,
-            scopes_in(self.answers.get(&Key::Cursor)),
-            &name,
-        )?;
-        self.answers.insert(Key::Nameless, Answer::Count(number + 1))?;
+        let path = child_of_first(alloc, scopes_in(self.answers.get(&Key::Cursor)), &name)?;
+        self.answers
+            .insert(Key::Nameless, Answer::Count(number + 1))?;
         self.open(alloc, &path, kind)
     }
 
@@ -309,11 +306,7 @@ fn append(paths: &mut Vec<Path>, others: &[Path]) -> Result<(), AllocError>
 }
 
 // The answers with those of the additions.
-fn put_all(
-    alloc: Global,
-    answers: &mut Table<Key, Answer>,
-    facts: &Facts,
-) -> Result<(), AllocError>
+fn put_all(alloc: Global, answers: &mut Table<Key, Answer>, facts: &Facts) -> Result<(), AllocError>
     ensures { OnOk result
         ((k : Key)
         → lookup (key_eq k) answers.new ≡ over facts.now.additions k (lookup (key_eq k) answers.old)) }
@@ -393,11 +386,7 @@ fn opened(alloc: Global, scope: Scope, outer: &[Scope]) -> Result<Answer, AllocE
 }
 
 // The path of a name in the innermost of the scopes.
-fn child_of_first(
-    alloc: Global,
-    scopes: &[Scope],
-    name: &Spelling,
-) -> Result<Path, AllocError>
+fn child_of_first(alloc: Global, scopes: &[Scope], name: &Spelling) -> Result<Path, AllocError>
     ensures { IfOk result (λ path. path ≡ name.now ∷ path_around scopes.now) }
 {
     match scopes {

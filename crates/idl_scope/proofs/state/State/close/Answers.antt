@@ -20,9 +20,9 @@ returns c =
     let scopes = c.scopes_in.ensures ∙ ap scopes_in c.get.ensures in
     let able = ap closable (sym scopes) ∙ sym c.in-Some.ensures in
     let answers : kept c.insert.new.self ≡ with_answer Cursor (Open outer) (λ k. over (closing w scope) k (kept entries k)) =
-        ap kept c.in_ok-insert.ensures.entries
-        ∙ kept-put c.put_closing.new.answers Cursor c.in_ok-scopes.scopes
-        ∙ (λ i. with_answer Cursor (c.in_ok-scopes.ensures i) (λ k. c.in_ok-put_closing.ensures k i))
-        ∙ (λ i. with_answer Cursor (Open outer) (λ k. over (sym c.in_ok-closing.ensures i) k (kept entries k))) in
+    ap kept c.in_ok-insert.ensures.entries
+    ∙ kept-put c.put_closing.new.answers Cursor c.in_ok-scopes.scopes
+    ∙ (λ i. with_answer Cursor (c.in_ok-scopes.ensures i) (λ k. c.in_ok-put_closing.ensures k i))
+    ∙ (λ i. with_answer Cursor (Open outer) (λ k. over (sym c.in_ok-closing.ensures i) k (kept entries k))) in
     (λ i. record { answers = answers i; inside = c.leave.ensures i })
     ∙ sym (after_closing-some w (scopes_in (kept entries Cursor)) scope outer able)

@@ -15,7 +15,7 @@ returns c =
     let inside = c.args.self.now.inside.items in
     let scope = c.in_ok-scope.scope in
     let put : c.insert.new.self ≡ insert_entry key_eq entries (Opened scope.path) (Count scope.body) =
-        c.in_ok-insert.ensures.entries ∙ ap (λ p. insert_entry key_eq entries (Opened p) (Count scope.body)) c.in_ok-clone.ensures.cases in
+    c.in_ok-insert.ensures.entries ∙ ap (λ p. insert_entry key_eq entries (Opened p) (Count scope.body)) c.in_ok-clone.ensures.cases in
     let both = c.in_ok-insert-2.ensures.entries ∙ ap (λ es. insert_entry key_eq es Cursor c.in_ok-scopes.scopes) put in
     let outer = c.scopes_in.ensures ∙ ap scopes_in c.get.ensures in
     let opened = c.in_ok-scopes.ensures ∙ ap (λ scopes. Open (scope ∷ scopes)) outer in

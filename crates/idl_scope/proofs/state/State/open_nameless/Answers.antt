@@ -26,7 +26,7 @@ returns c =
     let number = c.count_in-number.ensures ∙ ap count_in c.get.ensures in
     let put = c.in_ok-insert.ensures.entries ∙ ap (λ n. insert_entry key_eq entries Nameless (Count (n + 1))) number in
     let counted : held c.insert.new.self inside ≡ after_nameless (held entries inside) =
-        ap (λ es. held es inside) put ∙ (λ i. record { answers = kept-put entries Nameless (Count (count_in (lookup (key_eq Nameless) entries) + 1)) i; inside = inside }) in
+    ap (λ es. held es inside) put ∙ (λ i. record { answers = kept-put entries Nameless (Count (count_in (lookup (key_eq Nameless) entries) + 1)) i; inside = inside }) in
     let name = c.in_ok-name.ensures ∙ ap nameless number in
     let outer = c.scopes_in.ensures ∙ ap scopes_in c.get-2.ensures in
     let path = c.in_ok-path.ensures ∙ (λ i. name i ∷ path_around (outer i)) in
