@@ -1,0 +1,166 @@
+-- Facts that are added to facts, and to answers that are the same outside some keys.
+use Rattle.std.proofs.Common.{◌≡◌, ℕ, ◌+◌, Bool, true, false, cond, List, [], ◌∷◌, ◌++◌, map, Option, Some, None, refl, ap, ◌∙◌, inl, inr}
+use Rattle.std.specs.Prelude.{Contains, drop}
+use Rattle.std.proofs.lemmas.List.Elements.{All-weaker, All-contains_itself}
+use Rattle.idl_memo.specs.Query.{Done, Ask, Tell, outcome, asked, Agree}
+use Rattle.idl_scope.specs.Facts.{UnitFacts, World, entity_key, entity_in, scopes_in, count_in, over, operations_of, joined, inherited, innermost, closed, closing, with_answer, with_additions, after_opening, after_closing, after_nameless, after_step, after, after_all, first_world, world, answers, nameless, path_around, next_body, more_inside, operations_among}
+use Rattle.idl_scope.specs.Key.{key_eq}
+use Rattle.idl_scope.specs.Kind.{kind_eq}
+use Rattle.idl_scope.specs.Lookup.{Lookup, under}
+use Rattle.idl_scope.specs.Meaning.{seen}
+use Rattle.idl_scope.specs.Outside.{AgreeOutside, WorldsAgreeOutside, gathered_at, looked_at, looked_at_by, AreApart}
+use Rattle.idl_scope.specs.declared.addition.Addition.{Addition}
+use Rattle.idl_scope.specs.declared.addition.Addition.TheVariants.{Declares}
+use Rattle.idl_scope.specs.declared.addition.Step.{Step}
+use Rattle.idl_scope.specs.declared.addition.Step.TheVariants.{Stays, Opens, OpensNameless, Closes}
+use Rattle.idl_scope.specs.declared.answer.Answer.{Answer}
+use Rattle.idl_scope.specs.declared.answer.Answer.TheVariants.{Open, Count}
+use Rattle.idl_scope.specs.declared.answer.Scope.{Scope}
+use Rattle.idl_scope.specs.declared.entity.Entity.{Entity}
+use Rattle.idl_scope.specs.declared.key.Key.{Key}
+use Rattle.idl_scope.specs.declared.key.Key.TheVariants.{Cursor, Opened, Nameless}
+use Rattle.idl_scope.specs.declared.kind.Kind.{Kind}
+use Rattle.idl_scope.specs.declared.kind.Kind.TheVariants.{Interface}
+use Rattle.idl_scope.specs.declared.kind.Stage.TheVariants.{Complete}
+use Rattle.idl_scope.proofs.Membership.{IsIn, Contains-IsIn}
+
+-- ---- facts behind facts
+
+pub after_all-append : (w : World) (facts more : List UnitFacts) → after_all w (facts ++ more) ≡ after_all (after_all w facts) more
+after_all-append w [] more = refl
+after_all-append w (f ∷ facts) more = after_all-append (after w f) facts more
+
+pub world-append : (facts more : List UnitFacts) → world (facts ++ more) ≡ after_all (world facts) more
+unfolding world
+world-append facts more = after_all-append first_world facts more
+
+-- what a unit's earlier tokens add is seen as what a unit adds that changes no open scope
+pub answers-own : (facts : List UnitFacts) (own : List Addition) (k : Key) → answers (facts ++ record { additions = own; step = Stays } ∷ []) k ≡ seen own facts k
+answers-own facts own k = ap (λ w. w.answers k) (world-append facts (record { additions = own; step = Stays } ∷ []))
+
+-- ---- a query under additions
+
+module _ {A : Type 0} (own : List Addition) (bank : Key → Option Answer) where
+  pub outcome-under : (query : Lookup A) → outcome (under own query) bank ≡ outcome query (λ k. over own k (bank k))
+  outcome-under (Done a) = refl
+  outcome-under (Ask k next) = outcome-under (next (over own k (bank k)))
+  outcome-under (Tell x query) = outcome-under query
+
+  pub asked-under : (query : Lookup A) → asked (under own query) bank ≡ asked query (λ k. over own k (bank k))
+  asked-under (Done a) = refl
+  asked-under (Ask k next) = ap (λ ks. k ∷ ks) (asked-under (next (over own k (bank k))))
+  asked-under (Tell x query) = asked-under query
+
+-- ---- answers that agree outside some keys
+
+-- answers that agree outside keys that are not asked agree on the asked ones
+pub Agree-outside : (keys asks : List Key) (bank other : Key → Option Answer) → AgreeOutside keys bank other → AreApart asks keys → Agree asks bank other
+Agree-outside keys asks bank other same apart = All-weaker (Contains asks) (λ k. other k ≡ bank k) (λ k c. same k (apart k c)) asks (All-contains_itself asks)
+
+-- additions keep such answers so
+pub over-outside : (additions : List Addition) (keys : List Key) (bank other : Key → Option Answer) → AgreeOutside keys bank other → AgreeOutside keys (λ k. over additions k (bank k)) (λ k. over additions k (other k))
+over-outside additions keys bank other same k out = ap (over additions k) (same k out)
+
+module _ (keys : List Key) where
+  with_answer-outside : (q : Key) (a b : Answer) (bank other : Key → Option Answer) → b ≡ a → AgreeOutside keys bank other → AgreeOutside keys (with_answer q a bank) (with_answer q b other)
+  with_answer-outside q a b bank other h same k out = ap (λ x. cond (key_eq k q) (Some x) (other k)) h ∙ ap (λ v. cond (key_eq k q) (Some a) v) (same k out)
+
+  module _ (w v : World) (same : AgreeOutside keys w.answers v.answers) (inside : v.inside ≡ w.inside) where
+    -- after one more body is opened
+    opening-outside : (s t : Scope) → t ≡ s → v.answers Cursor ≡ w.answers Cursor → AgreeOutside keys (after_opening w s).answers (after_opening v t).answers
+    opening-outside s t h cursor k out =
+        ap (λ x. (after_opening v x).answers k) h
+        ∙ with_answer-outside Cursor (Open (s ∷ scopes_in (w.answers Cursor))) (Open (s ∷ scopes_in (v.answers Cursor))) (with_answer (Opened s.path) (Count s.body) w.answers) (with_answer (Opened s.path) (Count s.body) v.answers)
+        (ap (λ o. Open (s ∷ scopes_in o)) cursor) (with_answer-outside (Opened s.path) (Count s.body) (Count s.body) w.answers v.answers refl same) k out
+
+    inherited-same : (found bases : List (List (List ℕ))) → ((b : List (List ℕ)) → IsIn b bases → v.answers (entity_key b) ≡ w.answers (entity_key b)) → inherited v.answers found bases ≡ inherited w.answers found bases
+    inherited-same found [] h = refl
+    inherited-same found (b ∷ bases) h =
+        ap (λ o. inherited v.answers (joined found (operations_of (entity_in o))) bases) (h b (inl refl))
+        ∙ inherited-same (joined found (operations_of (entity_in (w.answers (entity_key b))))) bases (λ c i. h c (inr i))
+
+    closed-same : (e : Entity) → ((b : List (List ℕ)) → IsIn b e.bases → v.answers (entity_key b) ≡ w.answers (entity_key b)) → closed v e ≡ closed w e
+    closed-same e h =
+        let ops = inherited-same [] e.bases h in
+        λ i. record e { stage = Complete; operations = ops i ++ innermost (inside i) }
+
+    -- what the closing of a scope declares is the same, where its keys have the same answers
+    closing-same : (s t : Scope) (outer : List Scope) → ((k : Key) → IsIn k (gathered_at w (s ∷ t ∷ outer)) → v.answers k ≡ w.answers k) → closing v s ≡ closing w s
+    closing-same s t outer h = by_kind (kind_eq s.kind Interface) h
+      where
+        declares : World → Option Entity → List Addition
+        declares u o = elim o [ None ↦ [] | Some e ↦ Declares (closed u e) ∷ [] ]
+
+        bases : Option Entity → List Key
+        bases o = elim o [ None ↦ [] | Some e ↦ map entity_key e.bases ]
+
+        map-in : (b : List (List ℕ)) (bs : List (List (List ℕ))) → IsIn b bs → IsIn (entity_key b) (map entity_key bs)
+        map-in b [] i = absurd i
+        map-in b (c ∷ bs) (inl e) = inl (ap entity_key e)
+        map-in b (c ∷ bs) (inr i) = inr (map-in b bs i)
+
+        by_entity : (o : Option Entity) → ((k : Key) → IsIn k (bases o) → v.answers k ≡ w.answers k) → declares v o ≡ declares w o
+        by_entity None g = refl
+        by_entity (Some e) g = ap (λ x. Declares x ∷ []) (closed-same e (λ b i. g (entity_key b) (map-in b e.bases i)))
+
+        by_kind : (b : Bool) → ((k : Key) → IsIn k (cond b (entity_key s.path ∷ bases (entity_in (w.answers (entity_key s.path)))) []) → v.answers k ≡ w.answers k)
+            → cond b (declares v (entity_in (v.answers (entity_key s.path)))) [] ≡ cond b (declares w (entity_in (w.answers (entity_key s.path)))) []
+        by_kind true g = ap (λ o. declares v (entity_in o)) (g (entity_key s.path) (inl refl)) ∙ by_entity (entity_in (w.answers (entity_key s.path))) (λ k i. g k (inr i))
+        by_kind false g = refl
+
+    closing-outside : (scopes : List Scope) → ((k : Key) → IsIn k (gathered_at w scopes) → v.answers k ≡ w.answers k) → AgreeOutside keys (after_closing w scopes).answers (after_closing v scopes).answers
+    closing-outside [] h = same
+    closing-outside (s ∷ []) h = same
+    closing-outside (s ∷ t ∷ outer) h =
+        with_answer-outside Cursor (Open (t ∷ outer)) (Open (t ∷ outer)) (λ k. over (closing w s) k (w.answers k)) (λ k. over (closing v s) k (v.answers k)) refl
+        (λ k out. ap (λ c. over c k (v.answers k)) (closing-same s t outer h) ∙ ap (over (closing w s) k) (same k out))
+
+  -- after a nameless scope is opened
+  nameless-outside : (w v : World) (kind : Kind) → AgreeOutside keys w.answers v.answers → v.inside ≡ w.inside → ((k : Key) → IsIn k (looked_at w (OpensNameless kind)) → v.answers k ≡ w.answers k)
+      → AgreeOutside keys (after_step w (OpensNameless kind)).answers (after_step v (OpensNameless kind)).answers
+  nameless-outside w v kind same inside h =
+      opening-outside (after_nameless w) (after_nameless v)
+      (with_answer-outside Nameless (Count (count_in (w.answers Nameless) + 1)) (Count (count_in (v.answers Nameless) + 1)) w.answers v.answers (ap (λ o. Count (count_in o + 1)) (h Nameless (inl refl))) same)
+      inside (scope w) (scope v) (λ i. record { path = path i; kind = kind; body = body i }) (h Cursor (inr (inl refl)))
+    where
+      path_of : World → List (List ℕ)
+      path_of u = nameless (count_in (u.answers Nameless)) ∷ path_around (scopes_in (u.answers Cursor))
+
+      scope : World → Scope
+      scope u = record { path = path_of u; kind = kind; body = next_body u (path_of u) }
+
+      path : path_of v ≡ path_of w
+      path = let count = h Nameless (inl refl) in let cursor = h Cursor (inr (inl refl)) in λ i. nameless (count_in (count i)) ∷ path_around (scopes_in (cursor i))
+
+      body : next_body v (path_of v) ≡ next_body w (path_of w)
+      body = ap (next_body v) path ∙ ap (λ o. count_in o + 1) (h (Opened (path_of w)) (inr (inr (inl refl))))
+
+  -- after a change of the open scopes, where the keys that it looks at have the same answers
+  step-outside : (w v : World) (step : Step) → AgreeOutside keys w.answers v.answers → v.inside ≡ w.inside → ((k : Key) → IsIn k (looked_at w step) → v.answers k ≡ w.answers k) → AgreeOutside keys (after_step w step).answers (after_step v step).answers
+  step-outside w v Stays same inside h = same
+  step-outside w v (Opens path kind) same inside h =
+      opening-outside w v same inside (record { path = path; kind = kind; body = next_body w path }) (record { path = path; kind = kind; body = next_body v path })
+      (ap (λ o. record { path = path; kind = kind; body = count_in o + 1 }) (h (Opened path) (inr (inl refl)))) (h Cursor (inl refl))
+  step-outside w v (OpensNameless kind) same inside h = nameless-outside w v kind same inside h
+  step-outside w v Closes same inside h =
+      λ k out. ap (λ o. (after_closing v (scopes_in o)).answers k) (h Cursor (inl refl)) ∙ closing-outside w v same inside (scopes_in (w.answers Cursor)) (λ q i. h q (inr i)) k out
+
+  -- and the operations and attributes of the open scopes are the same
+  closing-inside : (w v : World) (scopes : List Scope) → v.inside ≡ w.inside → (after_closing v scopes).inside ≡ (after_closing w scopes).inside
+  closing-inside w v [] inside = inside
+  closing-inside w v (s ∷ []) inside = inside
+  closing-inside w v (s ∷ t ∷ outer) inside = ap (drop 1) inside
+
+  step-inside : (w v : World) (step : Step) → v.inside ≡ w.inside → ((k : Key) → IsIn k (looked_at w step) → v.answers k ≡ w.answers k) → (after_step v step).inside ≡ (after_step w step).inside
+  step-inside w v Stays inside h = inside
+  step-inside w v (Opens path kind) inside h = ap (λ own. [] ∷ own) inside
+  step-inside w v (OpensNameless kind) inside h = ap (λ own. [] ∷ own) inside
+  step-inside w v Closes inside h = ap (λ o. (after_closing v (scopes_in o)).inside) (h Cursor (inl refl)) ∙ closing-inside w v (scopes_in (w.answers Cursor)) inside
+
+  -- the facts of a unit, added to worlds that agree outside some keys, of which they look at none
+  pub after-outside : (w v : World) (f : UnitFacts) → WorldsAgreeOutside keys w v → AreApart (looked_at_by w f) keys → WorldsAgreeOutside keys (after w f) (after v f)
+  after-outside w v f (same, inside) apart =
+      let added = over-outside f.additions keys w.answers v.answers same in
+      let more = ap (λ x. more_inside x (operations_among f.additions)) inside in
+      let read : (k : Key) → IsIn k (looked_at_by w f) → over f.additions k (v.answers k) ≡ over f.additions k (w.answers k) = λ k i. added k (apart k (Contains-IsIn k (looked_at_by w f) i)) in
+      (step-outside (with_additions f.additions w) (with_additions f.additions v) f.step added more read, step-inside (with_additions f.additions w) (with_additions f.additions v) f.step more read)

@@ -1,0 +1,15 @@
+pub mod AnswerLemmas
+pub mod CountLemmas
+pub mod DenotesOnce
+pub mod FactsLaws
+pub mod Introduced
+pub mod LookupLaws
+pub mod Meant
+pub mod Membership
+pub mod PlaceLemmas
+pub mod QueueLemmas
+pub mod Reaching
+pub mod RunLemmas
+pub mod StateLemmas
+pub mod Walked
+pub mod Worlds

@@ -1,0 +1,45 @@
+-- The items of a list by their places.
+use Rattle.std.proofs.Common.{◌≡◌, ℕ, zero, suc, ◌+◌, ◌-◌, ◌<◌, ◌≤◌, List, [], ◌∷◌, Option, Some, None, length, take, drop, get_or, map, refl, sym, ap, ◌∙◌, arith, add-one, length-drop}
+use Rattle.std.specs.Prelude.{slice_get}
+use Rattle.std.proofs.Math.Seq.{drop-cons}
+use Rattle.std.proofs.lemmas.List.{take_all}
+use Rattle.std.proofs.lemmas.Option.{same_Some}
+use Rattle.idl_scope.specs.Path.{scope_of}
+
+module _ {A : Type 0} where
+  -- the rest from a place on, where an item stands there
+  pub drop-at : (xs : List A) (i : ℕ) (x : A) → slice_get xs i ≡ Some x → drop i xs ≡ x ∷ drop (suc i) xs
+  drop-at [] i x h = cc
+  drop-at (y ∷ ys) zero x h = ap (λ z. z ∷ ys) (same_Some y x h)
+  drop-at (y ∷ ys) (suc i) x h = drop-at ys i x h
+
+  pub drop-at1 : (xs : List A) (i : ℕ) (x : A) → slice_get xs i ≡ Some x → drop i xs ≡ x ∷ drop (i + 1) xs
+  drop-at1 xs i x h = rw add-one (drop-at xs i x h)
+
+  -- and where none stands there
+  pub past-end : (xs : List A) (i : ℕ) → slice_get xs i ≡ None → length xs ≤ i
+  past-end [] i h = omega arith
+  past-end (y ∷ ys) zero h = cc
+  past-end (y ∷ ys) (suc i) h = let rest = past-end ys i h in omega arith
+
+  -- the rest of a list from one of its items on
+  pub from_here : (xs : List A) (i : ℕ) (x : A) → i < length xs → x ≡ get_or xs i x → drop i xs ≡ x ∷ drop (i + 1) xs
+  from_here xs i x h e = rw add-one (drop-cons xs i x h ∙ ap (λ y. y ∷ drop (suc i) xs) (sym e))
+
+  pub from_here_at : (xs : List A) (i : ℕ) (d : A) → i < length xs → drop i xs ≡ get_or xs i d ∷ drop (i + 1) xs
+  from_here_at xs i d h = rw add-one (drop-cons xs i d h)
+
+  -- all behind the first
+  pub behind_first : (xs : List A) → take (length xs - 1) (drop 1 xs) ≡ drop 1 xs
+  behind_first xs = take_all (length xs - 1) (drop 1 xs) (simp length-drop (omega arith))
+
+-- what is at a place of a list that a function made
+pub slice_get-map : {A B : Type 0} (f : A → B) (xs : List A) (i : ℕ) (y : B) → slice_get (map f xs) i ≡ Some y → drop i (map f xs) ≡ y ∷ drop (suc i) (map f xs)
+slice_get-map f xs i y h = drop-at (map f xs) i y h
+
+-- what is behind the first of the names from a place on
+pub scope_of-drop : (names : List (List ℕ)) (from : ℕ) → drop (suc from) names ≡ scope_of (drop from names)
+scope_of-drop [] zero = refl
+scope_of-drop [] (suc from) = refl
+scope_of-drop (n ∷ names) zero = refl
+scope_of-drop (n ∷ names) (suc from) = scope_of-drop names from

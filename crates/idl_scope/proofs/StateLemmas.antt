@@ -1,0 +1,90 @@
+-- What answers that are kept come to.
+use Rattle.std.proofs.Common.{◌≡◌, ℕ, suc, ◌+◌, ◌-◌, ◌<◌, ◌≤◌, Bool, true, false, cond, List, [], ◌∷◌, ◌++◌, Option, Some, None, length, map, drop, refl, sym, ap, ◌∙◌, arith, append_assoc}
+use Rattle.std.specs.Map.{lookup, keys_of}
+use Rattle.std.proofs.lemmas.Option.{same_Some}
+use Rattle.idl_base.specs.Table.{insert_entry}
+use Rattle.idl_scope.specs.Facts.{World, addition_at, after_closing, after_opening, answer_of, closed, closing, count_in, entity_in, entity_key, is_operation, operations_among, over, scopes_in, with_answer}
+use Rattle.idl_scope.specs.Held.{closable, held}
+use Rattle.idl_scope.specs.Key.{key_eq}
+use Rattle.idl_scope.specs.Kind.{kind_eq}
+use Rattle.idl_scope.specs.Lookup.{inherits}
+use Rattle.std.specs.List.{insert}
+use Rattle.idl_scope.proofs.AnswerLemmas.{lookup-insert_entry}
+use Rattle.idl_scope.specs.declared.addition.Addition.{Addition}
+use Rattle.idl_scope.specs.declared.addition.Addition.TheVariants.{Declares, Uses}
+use Rattle.idl_scope.specs.declared.answer.Answer.{Answer}
+use Rattle.idl_scope.specs.declared.answer.Answer.TheVariants.{Open, Known, Used, Count}
+use Rattle.idl_scope.specs.declared.answer.Scope.{Scope}
+use Rattle.idl_scope.specs.declared.entity.Entity.{Entity}
+use Rattle.idl_scope.specs.declared.key.Key.{Key}
+use Rattle.idl_scope.specs.declared.kind.Kind.TheVariants.{Interface}
+use Rattle.idl_scope.specs.declared.key.Key.TheVariants.{Cursor, Opened}
+
+-- the answers of a table
+abbrev pub kept : List (Key × Answer) → Key → Option Answer
+kept entries k = lookup (key_eq k) entries
+
+-- with one put in
+pub kept-put : (entries : List (Key × Answer)) (q : Key) (a : Answer) → kept (insert_entry key_eq entries q a) ≡ with_answer q a (kept entries)
+kept-put entries q a = λ i k. lookup-insert_entry entries q a k i
+
+-- worlds are one where their answers are and what is inside is
+pub world_is : (answers other : Key → Option Answer) (inside within : List (List (List (List ℕ)))) → answers ≡ other → inside ≡ within → ◌≡◌ {A = World} (record { answers = answers; inside = inside }) (record { answers = other; inside = within })
+world_is answers other inside within h g = λ i. record { answers = h i; inside = g i }
+
+-- a body more
+pub held-opening : (entries : List (Key × Answer)) (inside within : List (List (List (List ℕ)))) (s : Scope) (opened : Answer)
+    → opened ≡ Open (s ∷ scopes_in (kept entries Cursor)) → within ≡ [] ∷ inside
+    → held (insert_entry key_eq (insert_entry key_eq entries (Opened s.path) (Count s.body)) Cursor opened) within ≡ after_opening (held entries inside) s
+held-opening entries inside within s opened is_open is_within =
+    world_is _ _ _ _
+    (kept-put (insert_entry key_eq entries (Opened s.path) (Count s.body)) Cursor opened
+    ∙ ap (with_answer Cursor opened) (kept-put entries (Opened s.path) (Count s.body))
+    ∙ ap (λ a. with_answer Cursor a (with_answer (Opened s.path) (Count s.body) (kept entries))) is_open)
+    is_within
+
+-- operations and attributes among additions of which this is the first
+pub operations_among-cons : (a : Addition) (additions : List Addition) → operations_among (a ∷ additions) ≡ operations_among (a ∷ []) ++ operations_among additions
+operations_among-cons (Declares e) additions = by (is_operation e)
+  where
+    by : (b : Bool) → cond b (e.path ∷ operations_among additions) (operations_among additions) ≡ cond b (e.path ∷ []) [] ++ operations_among additions
+    by true = refl
+    by false = refl
+operations_among-cons (Uses n path body) additions = refl
+
+-- an item put in first
+pub insert-first : {A : Type 0} (xs : List A) (x : A) → insert xs 0 x ≡ x ∷ xs
+insert-first [] x = refl
+insert-first (y ∷ ys) x = refl
+
+-- additions count nothing
+pub count-over : (additions : List Addition) (k : Key) (before : Option Answer) (n : ℕ) → count_in before < n → count_in (over additions k before) < n
+count-over additions k before n h = by (addition_at additions k)
+  where
+    none : 0 < n
+    none = omega arith
+
+    by : (o : Option Addition) → count_in (elim o [ None ↦ before | Some a ↦ Some (answer_of a) ]) < n
+    by None = h
+    by (Some (Declares e)) = none
+    by (Some (Uses m path body)) = none
+
+-- an interface that closes
+pub closing_is : (w : World) (s : Scope) (e : Entity) → inherits s.kind ≡ true → entity_in (w.answers (entity_key s.path)) ≡ Some e → closing w s ≡ Declares (closed w e) ∷ []
+closing_is w s e h is =
+    ap (λ b. cond b (elim (entity_in (w.answers (entity_key s.path))) [ None ↦ [] | Some e ↦ Declares (closed w e) ∷ [] ]) []) h
+    ∙ ap (λ o. elim o [ None ↦ [] | Some e ↦ Declares (closed w e) ∷ [] ]) is
+
+-- after a closing, by what can be closed
+pub after_closing-none : (w : World) (scopes : List Scope) → closable scopes ≡ None → after_closing w scopes ≡ w
+after_closing-none w [] h = refl
+after_closing-none w (s ∷ []) h = refl
+after_closing-none w (s ∷ t ∷ outer) h = cc
+
+pub after_closing-some : (w : World) (scopes : List Scope) (s : Scope) (outer : List Scope) → closable scopes ≡ Some (s, outer)
+    → after_closing w scopes ≡ record { answers = with_answer Cursor (Open outer) (λ k. over (closing w s) k (w.answers k)); inside = drop 1 w.inside }
+after_closing-some w [] s outer h = cc
+after_closing-some w (x ∷ []) s outer h = cc
+after_closing-some w (x ∷ t ∷ more) s outer h =
+    let same : (x, t ∷ more) ≡ (s, outer) = same_Some (x, t ∷ more) (s, outer) h in
+    λ i. record { answers = with_answer Cursor (Open (same i).1) (λ k. over (closing w (same i).0) k (w.answers k)); inside = drop 1 w.inside }

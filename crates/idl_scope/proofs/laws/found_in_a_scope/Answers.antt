@@ -1,0 +1,8 @@
+use Rattle.idl_scope.proofs.LookupLaws.{has-all, has-once}
+use Rattle.idl_scope.proofs.laws.found_in_a_scope.Goals as goal
+
+pub returns-clause-all : goal.returns-clause-all
+returns-clause-all c = has-all
+
+pub returns-clause-once : goal.returns-clause-once
+returns-clause-once c = has-once

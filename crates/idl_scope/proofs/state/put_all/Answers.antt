@@ -1,0 +1,30 @@
+use Rattle.std.proofs.Common.{◌≡◌, sym, ap, ◌∙◌, suc, ◌+◌, ◌-◌, ◌∷◌, Some, cond, drop, arith}
+use Rattle.std.specs.Map.{lookup}
+use Rattle.idl_scope.specs.Facts.{answer_of, key_of, over}
+use Rattle.idl_scope.specs.Key.{key_eq}
+use Rattle.idl_scope.proofs.AnswerLemmas.{lookup-insert_entry, over-cons}
+use Rattle.idl_scope.proofs.PlaceLemmas.{drop-at}
+use Rattle.idl_scope.proofs.state.put_all.Goals as goal
+
+pub loop-back-preserved : goal.loop-back-preserved
+loop-back-preserved c =
+    let additions = c.args.facts.now.additions in
+    let count = c.len-count.result in
+    let back = c.loop-back.back in
+    let one = c.in-Some.addition.now in
+    let old = c.loop-back.answers in
+    let first = c.args.answers.now in
+    let before : count - (back + 1) ≡ count - 1 - back = omega arith in
+    let behind : suc (count - 1 - back) ≡ count - back = omega arith in
+    let here = ap (λ j. drop j additions) before ∙ drop-at additions (count - 1 - back) one (sym c.in-Some.ensures) ∙ ap (λ j. one ∷ drop j additions) behind in
+    record {
+      count = c.loop-back.invariant.count;
+      within = omega arith;
+      answers = λ k.
+          ap (lookup (key_eq k)) c.in_ok-insert.ensures.entries
+          ∙ lookup-insert_entry old _ _ k
+          ∙ (λ i. cond (key_eq k (c.in_ok-key.ensures i)) (Some (c.in_ok-answer.ensures i)) (lookup (key_eq k) old))
+          ∙ ap (λ o. cond (key_eq k (key_of one)) (Some (answer_of one)) o) (c.loop-back.invariant.answers k)
+          ∙ sym (over-cons one (drop (count - back) additions) k (lookup (key_eq k) first))
+          ∙ ap (λ l. over l k (lookup (key_eq k) first)) (sym here);
+    }

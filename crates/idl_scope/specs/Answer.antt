@@ -1,0 +1,77 @@
+-- When two scopes, or two answers, are one.
+use Rattle.std.specs.Prelude.{◌≡◌, Bool, true, false, ◌&&◌, nat_eq, refl}
+use Rattle.std.specs.Cmp.Lexicographic.{pointwise}
+use Rattle.std.proofs.Common.{ap}
+use Rattle.idl_base.specs.Exact.{both, same_list, same_number}
+use Rattle.idl_scope.specs.Entity.{entity_eq, same_entity}
+use Rattle.idl_scope.specs.Path.{path_eq, same_path}
+use Rattle.idl_scope.specs.Kind.{kind_eq, same_kind}
+use Rattle.idl_scope.specs.contracts.answer.AnswerPartialEq.TheImpl.{ghosts}
+use Rattle.idl_scope.specs.declared.answer.Answer.{Answer}
+use Rattle.idl_scope.specs.declared.answer.Answer.TheVariants.{Open, Known, Used, Count}
+use Rattle.idl_scope.specs.declared.answer.Scope.{Scope}
+
+-- whether two scopes are one
+abbrev pub scope_eq : Scope → Scope → Bool
+scope_eq s t = path_eq s.path t.path && (kind_eq s.kind t.kind && nat_eq s.body t.body)
+
+pub same_scope : (s t : Scope) → scope_eq s t ≡ true → s ≡ t
+same_scope s t h =
+    let a = both _ _ h in
+    let b = both _ _ a.1 in
+    let path = same_path s.path t.path a.0 in
+    let kind = same_kind s.kind t.kind b.0 in
+    let body = same_number s.body t.body b.1 in
+    λ i. record { path = path i; kind = kind i; body = body i }
+
+pub copied_scope : (s copy : Scope)
+    → (copy.path ≡ s.path) × ((copy.kind ≡ s.kind) × (copy.body ≡ s.body)) → copy ≡ s
+copied_scope s copy h = λ i. record { path = h.0 i; kind = h.1.0 i; body = h.1.1 i }
+
+-- whether two answers are one
+abbrev pub answer_eq : Answer → Answer → Bool
+answer_eq = ghosts.eq
+
+pub same_answer : (a b : Answer) → answer_eq a b ≡ true → a ≡ b
+same_answer (Open s) (Open t) h = ap Open (same_list scope_eq same_scope s t h)
+same_answer (Open s) (Known f) h = cc
+same_answer (Open s) Used h = cc
+same_answer (Open s) (Count m) h = cc
+same_answer (Known e) (Open t) h = cc
+same_answer (Known e) (Known f) h = ap Known (same_entity e f h)
+same_answer (Known e) Used h = cc
+same_answer (Known e) (Count m) h = cc
+same_answer Used (Open t) h = cc
+same_answer Used (Known f) h = cc
+same_answer Used Used h = refl
+same_answer Used (Count m) h = cc
+same_answer (Count n) (Open t) h = cc
+same_answer (Count n) (Known f) h = cc
+same_answer (Count n) Used h = cc
+same_answer (Count n) (Count m) h = ap Count (same_number n m h)
+
+-- a copied answer is its source, by the copies of its parts
+abbrev pub IsAnswerCopy : Answer → Answer → Type 0
+IsAnswerCopy (Open s) (Open t) = t ≡ s
+IsAnswerCopy (Known e) (Known f) = f ≡ e
+IsAnswerCopy Used Used = Unit {0}
+IsAnswerCopy (Count n) (Count m) = m ≡ n
+IsAnswerCopy answer copy = ⊥
+
+pub copied_answer : (a copy : Answer) → IsAnswerCopy a copy → copy ≡ a
+copied_answer (Open s) (Open t) h = ap Open h
+copied_answer (Open s) (Known f) h = absurd h
+copied_answer (Open s) Used h = absurd h
+copied_answer (Open s) (Count m) h = absurd h
+copied_answer (Known e) (Open t) h = absurd h
+copied_answer (Known e) (Known f) h = ap Known h
+copied_answer (Known e) Used h = absurd h
+copied_answer (Known e) (Count m) h = absurd h
+copied_answer Used (Open t) h = absurd h
+copied_answer Used (Known f) h = absurd h
+copied_answer Used Used h = refl
+copied_answer Used (Count m) h = absurd h
+copied_answer (Count n) (Open t) h = absurd h
+copied_answer (Count n) (Known f) h = absurd h
+copied_answer (Count n) Used h = absurd h
+copied_answer (Count n) (Count m) h = ap Count h

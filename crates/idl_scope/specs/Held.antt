@@ -1,0 +1,24 @@
+-- How facts are kept, and what they come to: each addition at its key, and each answer at its key.
+use Rattle.std.specs.Prelude.{◌≡◌, ℕ, List, [], ◌∷◌, Option, None, Some}
+use Rattle.std.specs.Map.{lookup}
+use Rattle.idl_scope.specs.Facts.{key_of, World}
+use Rattle.idl_scope.specs.Key.{key_eq}
+use Rattle.idl_scope.specs.declared.addition.Addition.{Addition}
+use Rattle.idl_scope.specs.declared.answer.Answer.{Answer}
+use Rattle.idl_scope.specs.declared.answer.Scope.{Scope}
+use Rattle.idl_scope.specs.declared.key.Key.{Key}
+
+-- each entry has the key of its addition
+abbrev pub HaveOwnKeys : List (Key × Addition) → Type 0
+HaveOwnKeys [] = Unit {0}
+HaveOwnKeys (e ∷ entries) = (e.0 ≡ key_of e.1) × HaveOwnKeys entries
+
+-- what these answers, with the operations and attributes so far of open scopes, hold
+abbrev pub held : List (Key × Answer) → List (List (List (List ℕ))) → World
+held entries inside = record { answers = λ k. lookup (key_eq k) entries; inside = inside }
+
+-- the innermost of these open scopes, and those outward of it, where it is not the last
+abbrev pub closable : List Scope → Option (Scope × List Scope)
+closable [] = None
+closable (s ∷ []) = None
+closable (s ∷ t ∷ outer) = Some (s, t ∷ outer)

@@ -1,0 +1,82 @@
+-- When two keys are one.
+use Rattle.std.specs.Prelude.{◌≡◌, Bool, true, refl}
+use Rattle.std.specs.Cmp.Lexicographic.{bytes_decides}
+use Rattle.std.proofs.Common.{ap}
+use Rattle.idl_base.specs.Exact.{both, same_number}
+use Rattle.idl_scope.specs.Path.{same_path}
+use Rattle.idl_scope.specs.contracts.key.KeyPartialEq.TheImpl.{ghosts}
+use Rattle.idl_scope.specs.declared.key.Key.{Key}
+use Rattle.idl_scope.specs.declared.key.Key.TheVariants.{Cursor, Declared, Introduced, Opened, Nameless}
+
+-- whether two keys are one
+abbrev pub key_eq : Key → Key → Bool
+key_eq = ghosts.eq
+
+-- keys that are found equal are one
+pub same_key : (key other : Key) → key_eq key other ≡ true → key ≡ other
+same_key Cursor Cursor h = refl
+same_key Cursor (Declared m q) h = cc
+same_key Cursor (Introduced m q b) h = cc
+same_key Cursor (Opened q) h = cc
+same_key Cursor Nameless h = cc
+same_key (Declared n p) Cursor h = cc
+same_key (Declared n p) (Declared m q) h =
+    let parts = both _ _ h in
+    λ i. Declared ((bytes_decides n m).0 parts.0 i) (same_path p q parts.1 i)
+same_key (Declared n p) (Introduced m q b) h = cc
+same_key (Declared n p) (Opened q) h = cc
+same_key (Declared n p) Nameless h = cc
+same_key (Introduced n p a) Cursor h = cc
+same_key (Introduced n p a) (Declared m q) h = cc
+same_key (Introduced n p a) (Introduced m q b) h =
+    let parts = both _ _ h in
+    let rest = both _ _ parts.1 in
+    λ i. Introduced ((bytes_decides n m).0 parts.0 i) (same_path p q rest.0 i) (same_number a b rest.1 i)
+same_key (Introduced n p a) (Opened q) h = cc
+same_key (Introduced n p a) Nameless h = cc
+same_key (Opened p) Cursor h = cc
+same_key (Opened p) (Declared m q) h = cc
+same_key (Opened p) (Introduced m q b) h = cc
+same_key (Opened p) (Opened q) h = ap Opened (same_path p q h)
+same_key (Opened p) Nameless h = cc
+same_key Nameless Cursor h = cc
+same_key Nameless (Declared m q) h = cc
+same_key Nameless (Introduced m q b) h = cc
+same_key Nameless (Opened q) h = cc
+same_key Nameless Nameless h = refl
+
+-- a copied key is its source, by the copies of its parts
+abbrev pub IsKeyCopy : Key → Key → Type 0
+IsKeyCopy Cursor Cursor = Unit {0}
+IsKeyCopy (Declared n p) (Declared m q) = (m ≡ n) × (q ≡ p)
+IsKeyCopy (Introduced n p a) (Introduced m q b) = (m ≡ n) × ((q ≡ p) × (b ≡ a))
+IsKeyCopy (Opened p) (Opened q) = q ≡ p
+IsKeyCopy Nameless Nameless = Unit {0}
+IsKeyCopy key copy = ⊥
+
+pub copied_key : (key copy : Key) → IsKeyCopy key copy → copy ≡ key
+copied_key Cursor Cursor h = refl
+copied_key Cursor (Declared m q) h = absurd h
+copied_key Cursor (Introduced m q b) h = absurd h
+copied_key Cursor (Opened q) h = absurd h
+copied_key Cursor Nameless h = absurd h
+copied_key (Declared n p) Cursor h = absurd h
+copied_key (Declared n p) (Declared m q) h = λ i. Declared (h.0 i) (h.1 i)
+copied_key (Declared n p) (Introduced m q b) h = absurd h
+copied_key (Declared n p) (Opened q) h = absurd h
+copied_key (Declared n p) Nameless h = absurd h
+copied_key (Introduced n p a) Cursor h = absurd h
+copied_key (Introduced n p a) (Declared m q) h = absurd h
+copied_key (Introduced n p a) (Introduced m q b) h = λ i. Introduced (h.0 i) (h.1.0 i) (h.1.1 i)
+copied_key (Introduced n p a) (Opened q) h = absurd h
+copied_key (Introduced n p a) Nameless h = absurd h
+copied_key (Opened p) Cursor h = absurd h
+copied_key (Opened p) (Declared m q) h = absurd h
+copied_key (Opened p) (Introduced m q b) h = absurd h
+copied_key (Opened p) (Opened q) h = ap Opened h
+copied_key (Opened p) Nameless h = absurd h
+copied_key Nameless Cursor h = absurd h
+copied_key Nameless (Declared m q) h = absurd h
+copied_key Nameless (Introduced m q b) h = absurd h
+copied_key Nameless (Opened q) h = absurd h
+copied_key Nameless Nameless h = refl

@@ -1,0 +1,11 @@
+pub mod Answer
+pub mod Bases
+pub mod Entity
+pub mod Facts
+pub mod Held
+pub mod Key
+pub mod Kind
+pub mod Lookup
+pub mod Meaning
+pub mod Outside
+pub mod Path

@@ -1,0 +1,94 @@
+//! What is answered about names.
+
+ghost use Rattle.std.specs.Prelude.{◌≡◌, IfOk};
+ghost use Rattle.std.specs.Option.{option_copied};
+ghost use Rattle.idl_scope.specs.Facts.{count_in, entity_in, global_scope, scopes_in};
+
+use crate::entity::Entity;
+use crate::kind::Kind;
+use crate::path::Path;
+use crate::shared::Shared;
+use idl_base::{Datum, Seq};
+use std::alloc::{AllocError, Global};
+
+/// An open scope: its path, what it is of, and which of its bodies this is. The one body of the global scope has the number 0,
+/// and those of others are counted from 1.
+#[derive(Clone, PartialEq, Eq, Drop)]
+pub struct Scope {
+    pub path: Path,
+    pub kind: Kind,
+    pub body: usize,
+}
+
+/// What an environment answers.
+#[derive(Clone, PartialEq, Eq, Drop)]
+pub enum Answer {
+    /// These scopes are open, the innermost first and the global one last.
+    Open(Shared<Seq<Scope>>),
+    /// The name is declared as this.
+    Known(Shared<Entity>),
+    /// The name was introduced.
+    Used,
+    /// So many were opened.
+    Count(usize),
+}
+
+impl Scope {
+    /// The global scope.
+    pub fn global(alloc: Global) -> Result<Scope, AllocError>
+        ensures { IfOk result (λ scope. scope ≡ global_scope) }
+    {
+        let path = Path::global(alloc)?;
+        Ok(Scope {
+            path,
+            kind: Kind::Module,
+            body: 0,
+        })
+    }
+}
+
+impl Datum for Scope {
+    ghost use Rattle.idl_scope.specs.Answer.{same_scope, copied_scope};
+
+    ghost same = { same_scope };
+
+    ghost copy = { copied_scope };
+}
+
+impl Datum for Answer {
+    ghost use Rattle.idl_scope.specs.Answer.{same_answer, copied_answer};
+
+    ghost same = { same_answer };
+
+    ghost copy = { copied_answer };
+}
+
+/// The open scopes that an answer tells, if it does.
+pub fn scopes_in<'a>(answer: Option<&'a Answer>) -> &'a [Scope]
+    ensures { result.now ≡ scopes_in (option_copied answer.entry) }
+{
+    match answer {
+        Some(Answer::Open(scopes)) => scopes.get().as_slice(),
+        _ => &[],
+    }
+}
+
+/// The entity that an answer tells, if it does.
+pub fn entity_in<'a>(answer: Option<&'a Answer>) -> Option<&'a Shared<Entity>>
+    ensures { option_copied result ≡ entity_in (option_copied answer.entry) }
+{
+    match answer {
+        Some(Answer::Known(entity)) => Some(entity),
+        _ => None,
+    }
+}
+
+/// The count that an answer tells, or 0.
+pub fn count_in(answer: Option<&Answer>) -> usize
+    ensures { result ≡ count_in (option_copied answer.entry) }
+{
+    match answer {
+        Some(Answer::Count(count)) => *count,
+        _ => 0,
+    }
+}

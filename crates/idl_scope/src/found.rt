@@ -1,0 +1,12 @@
+//! What a name denotes.
+
+use crate::entity::Entity;
+use crate::shared::Shared;
+
+/// What a name denotes.
+#[derive(Drop)]
+pub struct Found {
+    pub entity: Shared<Entity>,
+    /// The use introduces the name's first part into so many of the scopes in which it stands, the innermost first.
+    pub reach: usize,
+}

@@ -1,0 +1,44 @@
+//! What is asked about names.
+
+ghost use Rattle.std.specs.Prelude.{◌≡◌, IfOk};
+ghost use Rattle.idl_scope.specs.Facts.{entity_key};
+
+use crate::name::folded_name;
+use crate::path::Path;
+use idl_base::Datum;
+use idl_lex::Spelling;
+use std::alloc::{AllocError, Global};
+
+/// What is asked of an environment.
+#[derive(Clone, PartialEq, Eq, PartialOrd, Ord, Drop)]
+pub enum Key {
+    /// The open scopes.
+    Cursor,
+    /// What a folded name is declared as in the scope at a path.
+    Declared(Spelling, Path),
+    /// Whether a folded name was introduced into the body with this number of the scope at a path.
+    Introduced(Spelling, Path, usize),
+    /// How many bodies of the scope at a path were opened.
+    Opened(Path),
+    /// How many nameless scopes were opened.
+    Nameless,
+}
+
+impl Datum for Key {
+    ghost use Rattle.idl_scope.specs.Key.{same_key, copied_key};
+
+    ghost same = { same_key };
+
+    ghost copy = { copied_key };
+}
+
+impl Key {
+    /// What is asked of the entity at a path: its own name, folded, in the scope around.
+    pub fn of_entity(alloc: Global, path: &Path) -> Result<Key, AllocError>
+        ensures { IfOk result (λ key. key ≡ entity_key path.now) }
+    {
+        let name = folded_name(alloc, path.name())?;
+        let scope = path.scope()?;
+        Ok(Key::Declared(name, scope))
+    }
+}

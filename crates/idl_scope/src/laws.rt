@@ -1,0 +1,126 @@
+//! The laws of names: that lookup comes to what the scoping rules say.
+//!
+//! Each function does nothing: it carries its laws as clauses. They hold of any facts, also of such as
+//! no declarations add; only, a walk over bases must be allowed as many turns as the facts name bases.
+
+ghost use Rattle.std.specs.Prelude.{◌≡◌, ◌≢◌, ◌↔◌, ◌∷◌, ◌++◌, [], false, true, ℕ, List, Ok, Option, Result, Some, AllPairs, Contains, take};
+ghost use Rattle.idl_lex.specs.Keywords.{folded};
+ghost use Rattle.idl_memo.specs.Query.{Agree, asked, outcome};
+ghost use Rattle.idl_tree.specs.declared.name.ScopedName.{ScopedName};
+ghost use Rattle.idl_scope.specs.Bases.{HasTurnsFor};
+ghost use Rattle.idl_scope.specs.Facts.{UnitFacts, World, after, after_all, answers, over};
+ghost use Rattle.idl_scope.specs.Lookup.{Lookup, denoted, has, under};
+ghost use Rattle.idl_scope.specs.Meaning.{Denotes, Has, Introduces, StandInModules, entity_found, own_at, seen};
+ghost use Rattle.idl_scope.specs.Outside.{AgreeOutside, AreApart, WorldsAgreeOutside, looked_at_by};
+ghost use Rattle.idl_scope.specs.Path.{name_of, scope_of};
+ghost use Rattle.idl_scope.specs.declared.addition.Addition.{Addition};
+ghost use Rattle.idl_scope.specs.declared.addition.Step.TheVariants.{Stays};
+ghost use Rattle.idl_scope.specs.declared.answer.Answer.{Answer};
+ghost use Rattle.idl_scope.specs.declared.answer.Scope.{Scope};
+ghost use Rattle.idl_scope.specs.declared.entity.Entity.{Entity};
+ghost use Rattle.idl_scope.specs.declared.fault.NameFault.{NameFault};
+ghost use Rattle.idl_scope.specs.declared.found.Found.{Found};
+ghost use Rattle.idl_scope.specs.declared.key.Key.{Key};
+ghost use Rattle.idl_scope.specs.declared.kind.Kind.{Kind};
+
+/// An entity is answered at the name and in the scope that its path tells, and nowhere else.
+pub fn own_path()
+    ensures { (facts : List UnitFacts) (own : List Addition) (n : List ℕ) (path : List (List ℕ))
+        (e : Entity)
+        → own_at (seen own facts) n path ≡ Some e
+        → (folded (name_of e.path) ≡ n) × (scope_of e.path ≡ path) }
+{}
+
+/// What is found under a name in a scope is what the scope declares or reaches through its bases, all
+/// of it, and each entity once.
+pub fn found_in_a_scope()
+    ensures all { (facts : List UnitFacts) (own : List Addition) (turns : ℕ)
+        → HasTurnsFor facts own turns
+        → (kind : Kind) (path : List (List ℕ)) (n : List ℕ) (e : Entity)
+        → Contains (outcome (has turns kind path n) (seen own facts)) e
+        ↔ Has (seen own facts) kind path n e }
+    ensures once { (facts : List UnitFacts) (own : List Addition) (turns : ℕ)
+        → HasTurnsFor facts own turns
+        → (kind : Kind) (path : List (List ℕ)) (n : List ℕ)
+        → AllPairs (λ e f. e ≢ f) (outcome (has turns kind path n) (seen own facts)) }
+{}
+
+/// A scoped name denotes one thing, an entity or a fault, and lookup comes to it.
+pub fn denotation()
+    ensures denoted { (facts : List UnitFacts) (own : List Addition) (turns : ℕ)
+        → HasTurnsFor facts own turns
+        → (cursor : List Scope) (name : ScopedName)
+        → Denotes (seen own facts) cursor name
+        (entity_found (outcome (denoted turns cursor name) (seen own facts))) }
+    ensures once { (answers : Key → Option Answer) (cursor : List Scope) (name : ScopedName)
+        (r s : Result Entity NameFault)
+        → Denotes answers cursor name r → Denotes answers cursor name s → r ≡ s }
+{}
+
+/// The use of a name introduces its first part into the scopes that the rules tell: as many, the
+/// innermost first, as its reach says.
+///
+/// That they are no more asks that scopes with bases stand in modules, as interfaces do.
+pub fn introduction()
+    ensures all { (facts : List UnitFacts) (own : List Addition) (turns : ℕ)
+        → HasTurnsFor facts own turns
+        → (cursor : List Scope) (name : ScopedName) (found : Found)
+        → outcome (denoted turns cursor name) (seen own facts) ≡ Ok found
+        → name.is_global ≡ false
+        → (s : Scope) → Introduces (seen own facts) cursor (folded name.first) s
+        → Contains (take found.reach cursor) s }
+    ensures only { (facts : List UnitFacts) (own : List Addition) (turns : ℕ)
+        → HasTurnsFor facts own turns
+        → (cursor : List Scope) (name : ScopedName) (found : Found)
+        → outcome (denoted turns cursor name) (seen own facts) ≡ Ok found
+        → name.is_global ≡ false → StandInModules (seen own facts) cursor
+        → (s : Scope) → Contains (take found.reach cursor) s
+        → Introduces (seen own facts) cursor (folded name.first) s }
+    ensures global { (facts : List UnitFacts) (own : List Addition) (turns : ℕ)
+        → HasTurnsFor facts own turns
+        → (cursor : List Scope) (name : ScopedName) (found : Found)
+        → outcome (denoted turns cursor name) (seen own facts) ≡ Ok found
+        → name.is_global ≡ true → found.reach ≡ 0 }
+{}
+
+/// What a unit's earlier tokens add is seen as what a unit adds that changes no open scope. What is
+/// asked under additions is asked of the answers as they change them.
+pub fn own_facts<A>()
+    ensures seen { (facts : List UnitFacts) (own : List Addition) (key : Key)
+        → answers (facts ++ record { additions = own; step = Stays } ∷ []) key
+        ≡ seen own facts key }
+    ensures outcome { (own : List Addition) (query : Lookup A) (bank : Key → Option Answer)
+        → outcome (under own query) bank ≡ outcome query (λ key. over own key (bank key)) }
+    ensures asked { (own : List Addition) (query : Lookup A) (bank : Key → Option Answer)
+        → asked (under own query) bank ≡ asked query (λ key. over own key (bank key)) }
+{}
+
+/// Facts that are added one after another are added together. Answers that are the same outside some
+/// keys stay so under the same additions, and under the same facts if these look at none of the keys.
+pub fn adding()
+    ensures together { (w : World) (facts more : List UnitFacts)
+        → after_all w (facts ++ more) ≡ after_all (after_all w facts) more }
+    ensures additions { (additions : List Addition) (keys : List Key)
+        (bank other : Key → Option Answer)
+        → AgreeOutside keys bank other
+        → AgreeOutside keys (λ key. over additions key (bank key))
+        (λ key. over additions key (other key)) }
+    ensures facts { (keys : List Key) (w other : World) (facts : UnitFacts)
+        → WorldsAgreeOutside keys w other → AreApart (looked_at_by w facts) keys
+        → WorldsAgreeOutside keys (after w facts) (after other facts) }
+{}
+
+/// Over answers that agree on the keys that a name asks, it is found as the same and asks the same
+/// keys. Answers that agree outside keys that it doesn't ask are such answers.
+pub fn reliance()
+    ensures outcome { (turns : ℕ) (cursor : List Scope) (name : ScopedName)
+        (bank other : Key → Option Answer)
+        → Agree (asked (denoted turns cursor name) bank) bank other
+        → outcome (denoted turns cursor name) other ≡ outcome (denoted turns cursor name) bank }
+    ensures asked { (turns : ℕ) (cursor : List Scope) (name : ScopedName)
+        (bank other : Key → Option Answer)
+        → Agree (asked (denoted turns cursor name) bank) bank other
+        → asked (denoted turns cursor name) other ≡ asked (denoted turns cursor name) bank }
+    ensures outside { (keys asks : List Key) (bank other : Key → Option Answer)
+        → AgreeOutside keys bank other → AreApart asks keys → Agree asks bank other }
+{}

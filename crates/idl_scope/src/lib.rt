@@ -1,0 +1,38 @@
+//! Names: what the declarations of a root declare and introduce, and what a scoped name denotes among them.
+//!
+//! An environment answers questions about the facts that units add, and a name is looked up by such questions alone. Nothing
+//! here knows trees but scoped names, or which declarations are allowed.
+#![tactic(auto)]
+
+mod addition;
+mod answer;
+mod entity;
+mod env;
+mod facts;
+mod fault;
+mod found;
+mod key;
+mod kind;
+mod laws;
+mod lookup;
+mod name;
+mod naming;
+mod path;
+mod queue;
+mod shared;
+mod state;
+
+pub use addition::{Addition, Step};
+pub use answer::{Answer, Scope, count_in, entity_in, scopes_in};
+pub use entity::Entity;
+pub use env::Env;
+pub use facts::Facts;
+pub use fault::{NameCode, NameFault};
+pub use found::Found;
+pub use key::Key;
+pub use kind::{Kind, Stage};
+pub use laws::{adding, denotation, found_in_a_scope, introduction, own_facts, own_path, reliance};
+pub use name::{folded_name, shared_name};
+pub use naming::{Standpoint, resolve};
+pub use path::Path;
+pub use shared::Shared;

@@ -1,0 +1,203 @@
+//! What a scope has under a name, over an environment and what a unit's earlier tokens add.
+
+ghost use Rattle.std.specs.Prelude.{◌≡◌, ◌++◌, IfOk, OnOk, Some, map, option_to_list};
+ghost use Rattle.std.specs.Option.{option_copied};
+ghost use Rattle.idl_memo.specs.Query.{noted, run};
+ghost use Rattle.idl_scope.specs.Facts.{answer_of, answers, entity_in, over};
+ghost use Rattle.idl_scope.specs.Key.{key_eq};
+ghost use Rattle.idl_scope.specs.Lookup.{bases_of, entered, has, outward, reached, under};
+ghost use Rattle.idl_scope.specs.declared.key.Key.TheVariants.{Declared};
+ghost use Rattle.idl_scope.specs.declared.lookup.TheConstants.{TURNS};
+
+use crate::addition::Addition;
+use crate::answer::{Answer, Scope, entity_in};
+use crate::entity::Entity;
+use crate::env::Env;
+use crate::facts::Facts;
+use crate::key::Key;
+use crate::kind::Kind;
+use crate::path::Path;
+use crate::queue::join;
+use crate::shared::Shared;
+use idl_base::Table;
+use idl_lex::Spelling;
+use idl_memo::Log;
+use std::alloc::AllocError;
+
+/// At most so many bases are entered for a name: more than memory holds.
+pub const TURNS: usize = usize::MAX;
+
+/// An environment, and over it what a unit's earlier tokens add.
+#[derive(Clone, Copy)]
+pub struct View<'a> {
+    pub env: &'a Env,
+    pub own: &'a Facts,
+}
+
+/// A scope in which a name is looked for: what it is of, and its path.
+#[derive(Clone, Copy)]
+pub struct Place<'a> {
+    pub kind: Kind,
+    pub path: &'a Path,
+}
+
+impl<'a> View<'a> {
+    // What is declared at a key.
+    fn entity(self, log: &mut Log<Env>, key: &Key) -> Result<Option<&'a Shared<Entity>>, AllocError>
+        ensures entity { IfOk result (λ e.
+            option_copied e
+            ≡ entity_in (over self.entry.own.now.additions key.now (answers self.entry.env.now key.now))) }
+        ensures logged { OnOk result (log.new ≡ noted key_eq (answers self.entry.env.now) log.old key.now) }
+    {
+        let before = log.ask(key, self.env)?;
+        match self.own.get(key) {
+            Some(addition) => Ok(declared_by(addition)),
+            None => Ok(entity_in(before)),
+        }
+    }
+
+    // What a scope itself declares a name as.
+    fn own(
+        self,
+        log: &mut Log<Env>,
+        path: &Path,
+        name: &Spelling,
+    ) -> Result<Option<&'a Shared<Entity>>, AllocError>
+        ensures entity { IfOk result (λ e.
+            option_copied e
+            ≡ entity_in (over self.entry.own.now.additions (Declared name.now path.now)
+            (answers self.entry.env.now (Declared name.now path.now)))) }
+        ensures logged { OnOk result
+            (log.new ≡ noted key_eq (answers self.entry.env.now) log.old (Declared name.now path.now)) }
+    {
+        let key = Key::Declared(name.clone()?, path.clone()?);
+        self.entity(log, &key)
+    }
+
+    // What a base itself declares a name as, or else its bases, which are entered next.
+    fn enter(
+        self,
+        log: &mut Log<Env>,
+        name: &Spelling,
+        base: &Path,
+    ) -> Result<(Option<&'a Shared<Entity>>, &'a [Path]), AllocError>
+        ensures { IfOk result (λ r.
+            ((option_copied r.0, r.1.now), log.new)
+            ≡ run key_eq (under self.entry.own.now.additions (entered name.now base.now)) (answers self.entry.env.now) log.old) }
+    {
+        if let Some(declared) = self.own(log, base, name)? {
+            return Ok((Some(declared), &[]));
+        }
+        let key = Key::of_entity(self.env.alloc(), base)?;
+        Ok((None, bases_of(self.entity(log, &key)?)))
+    }
+
+    // What is reached under a name through bases.
+    fn reached(
+        self,
+        log: &mut Log<Env>,
+        name: &Spelling,
+        bases: &[Path],
+    ) -> Result<Vec<&'a Shared<Entity>>, AllocError>
+        ensures { IfOk result (λ es.
+            (map (λ e. e.now) es.items, log.new)
+            ≡ run key_eq (under self.entry.own.now.additions (reached TURNS name.now bases.now)) (answers self.entry.env.now) log.old) }
+    {
+        let mut queue = Table::new(self.env.alloc());
+        join(&mut queue, bases)?;
+        let mut found = Vec::new(self.env.alloc());
+        for turn in 0..TURNS {
+            let Some((base, ())) = queue.get_index(turn) else {
+                return Ok(found);
+            };
+            let (declared, more) = self.enter(log, name, base)?;
+            keep(&mut found, declared)?;
+            join(&mut queue, more)?;
+        }
+        Ok(found)
+    }
+
+    /// What a scope has under a name.
+    pub fn has(
+        self,
+        log: &mut Log<Env>,
+        place: Place<'_>,
+        name: &Spelling,
+    ) -> Result<Vec<&'a Shared<Entity>>, AllocError>
+        ensures { IfOk result (λ es.
+            (map (λ e. e.now) es.items, log.new)
+            ≡ run key_eq (under self.entry.own.now.additions (has TURNS place.entry.kind place.entry.path.now name.now)) (answers self.entry.env.now) log.old) }
+    {
+        let own = self.own(log, place.path, name)?;
+        let mut found = Vec::new(self.env.alloc());
+        keep(&mut found, own)?;
+        if !place.kind.inherits() {
+            return Ok(found);
+        }
+        let key = Key::of_entity(self.env.alloc(), place.path)?;
+        let scope = self.entity(log, &key)?;
+        if own.is_some() {
+            return Ok(found);
+        }
+        self.reached(log, name, bases_of(scope))
+    }
+
+    /// What the innermost of these scopes has that has the name.
+    pub fn outward(
+        self,
+        log: &mut Log<Env>,
+        scopes: &[Scope],
+        name: &Spelling,
+    ) -> Result<Vec<&'a Shared<Entity>>, AllocError>
+        ensures { IfOk result (λ es.
+            (map (λ e. e.now) es.items, log.new)
+            ≡ run key_eq (under self.entry.own.now.additions (outward TURNS scopes.now name.now)) (answers self.entry.env.now) log.old) }
+    {
+        for scope in scopes {
+            let place = Place {
+                kind: scope.kind,
+                path: &scope.path,
+            };
+            let found = self.has(log, place, name)?;
+            if !found.as_slice().is_empty() {
+                return Ok(found);
+            }
+        }
+        Ok(Vec::new(self.env.alloc()))
+    }
+}
+
+// The entity that an addition declares, if it does.
+fn declared_by(addition: &Addition) -> Option<&Shared<Entity>>
+    ensures { option_copied result ≡ entity_in (Some (answer_of addition.now)) }
+{
+    match addition {
+        Addition::Declares(entity) => Some(entity),
+        Addition::Uses(_, _, _) => None,
+    }
+}
+
+// The bases of an entity that count.
+fn bases_of<'a>(entity: Option<&'a Shared<Entity>>) -> &'a [Path]
+    ensures { result.now ≡ bases_of (option_copied entity.entry) }
+{
+    match entity {
+        Some(shared) if shared.get().stage.has_bases() => shared.get().bases.as_slice(),
+        _ => &[],
+    }
+}
+
+// Keeps a declaration, if there is one.
+fn keep<'a>(
+    found: &mut Vec<&'a Shared<Entity>>,
+    declared: Option<&'a Shared<Entity>>,
+) -> Result<(), AllocError>
+    ensures { OnOk result
+        (map (λ e. e.now) found.new.items
+        ≡ map (λ e. e.now) found.old.items ++ option_to_list (option_copied declared.entry)) }
+{
+    if let Some(entity) = declared {
+        found.push(entity)?;
+    }
+    Ok(())
+}

@@ -1,0 +1,229 @@
+//! What a scoped name denotes.
+
+ghost use Rattle.std.specs.Prelude.{◌≡◌, ◌≤◌, IfOk, if◌then◌else◌, length, map};
+ghost use Rattle.idl_memo.specs.Query.{run};
+ghost use Rattle.idl_scope.specs.Bases.{HasTurnsFor};
+ghost use Rattle.idl_scope.specs.Facts.{answers, global_scope};
+ghost use Rattle.idl_scope.specs.Key.{key_eq};
+ghost use Rattle.idl_scope.specs.Lookup.{denoted, further, has, judged, named, outer_reach, part_of, placed, reach, searched, outward, under, IfSettled};
+ghost use Rattle.idl_scope.specs.Meaning.{Denotes, entity_found, seen};
+ghost use Rattle.idl_lex.specs.Keywords.{folded};
+ghost use Rattle.idl_scope.specs.declared.lookup.TheConstants.{TURNS};
+
+use crate::answer::Scope;
+use crate::entity::Entity;
+use crate::env::Env;
+use crate::facts::Facts;
+use crate::fault::{NameCode, NameFault};
+use crate::found::Found;
+use crate::kind::Kind;
+use crate::lookup::{Place, View};
+use crate::name::folded_name;
+use crate::shared::Shared;
+use idl_base::Text;
+use idl_memo::Log;
+use idl_tree::ScopedName;
+use std::alloc::AllocError;
+
+/// Where a name stands.
+#[derive(Clone, Copy)]
+pub struct Standpoint<'a> {
+    /// What the unit's earlier tokens add.
+    pub own: &'a Facts,
+    /// The scopes around the name, the innermost first and the global one last.
+    pub cursor: &'a [Scope],
+}
+
+/// What a scoped name denotes. The keys asked are logged; after want of memory nothing is said of the log.
+///
+/// A walk over bases makes at most `TURNS` turns, which are more than enough: one for each base that the facts name.
+pub fn resolve(
+    env: &Env,
+    log: &mut Log<Env>,
+    place: Standpoint<'_>,
+    name: &ScopedName,
+) -> Result<Found, NameFault>
+    ensures denotes { HasTurnsFor env.now place.entry.own.now.additions TURNS
+        → IfSettled result (λ r.
+        Denotes (seen place.entry.own.now.additions env.now) place.entry.cursor.now name.now
+        (entity_found r)) }
+    ensures asked { IfSettled result (λ r.
+        (r, log.new)
+        ≡ run key_eq
+        (under place.entry.own.now.additions (denoted TURNS place.entry.cursor.now name.now))
+        (answers env.now) log.old) }
+{
+    let view = View {
+        env,
+        own: place.own,
+    };
+    view.denoted(log, place.cursor, name)?
+}
+
+impl<'a> View<'a> {
+    // What a scoped name denotes, and how far its use introduces it.
+    fn denoted(
+        self,
+        log: &mut Log<Env>,
+        cursor: &[Scope],
+        name: &ScopedName,
+    ) -> Result<Result<Found, NameFault>, AllocError>
+        ensures { IfOk result (λ r.
+            (r, log.new)
+            ≡ run key_eq (under self.entry.own.now.additions (denoted TURNS cursor.now name.now)) (answers self.entry.env.now) log.old) }
+    {
+        let first = match self.first_part(log, cursor, name)? {
+            Ok(first) => first,
+            Err(fault) => return Ok(Err(fault)),
+        };
+        match self.further(log, first, name.rest.as_slice())? {
+            Ok(last) => {
+                let entity = last.clone()?;
+                let reach = reach_of(name, cursor, first.get());
+                Ok(Ok(Found { entity, reach }))
+            }
+            Err(fault) => Ok(Err(fault)),
+        }
+    }
+
+    // What the first part of a name denotes.
+    fn first_part(
+        self,
+        log: &mut Log<Env>,
+        cursor: &[Scope],
+        name: &ScopedName,
+    ) -> Result<Result<&'a Shared<Entity>, NameFault>, AllocError>
+        ensures { IfOk result (λ r.
+            (named r, log.new)
+            ≡ run key_eq (under self.entry.own.now.additions
+            (part_of 0 name.now.first (outward TURNS (searched name.now.is_global cursor.now) (folded name.now.first))))
+            (answers self.entry.env.now) log.old) }
+    {
+        let found = self.first_found(log, cursor, name)?;
+        Ok(judged(0, name.first.as_bytes(), found.as_slice()))
+    }
+
+    // What there is under the first part of a name.
+    fn first_found(
+        self,
+        log: &mut Log<Env>,
+        cursor: &[Scope],
+        name: &ScopedName,
+    ) -> Result<Vec<&'a Shared<Entity>>, AllocError>
+        ensures { IfOk result (λ es.
+            (map (λ e. e.now) es.items, log.new)
+            ≡ run key_eq (under self.entry.own.now.additions
+            (outward TURNS (searched name.now.is_global cursor.now) (folded name.now.first)))
+            (answers self.entry.env.now) log.old) }
+    {
+        let folded = folded_name(self.env.alloc(), name.first.as_bytes())?;
+        if name.is_global {
+            let global = Scope::global(self.env.alloc())?;
+            return self.outward(log, &[global], &folded);
+        }
+        self.outward(log, cursor, &folded)
+    }
+
+    // What the part with a number denotes in the entity before it.
+    fn next_part(
+        self,
+        log: &mut Log<Env>,
+        before: &Entity,
+        part: usize,
+        name: &Text,
+    ) -> Result<Result<&'a Shared<Entity>, NameFault>, AllocError>
+        ensures { IfOk result (λ r.
+            (named r, log.new)
+            ≡ run key_eq (under self.entry.own.now.additions
+            (part_of part name.now (has TURNS before.now.kind before.now.path (folded name.now))))
+            (answers self.entry.env.now) log.old) }
+    {
+        let folded = folded_name(self.env.alloc(), name.as_bytes())?;
+        let place = Place {
+            kind: before.kind,
+            path: &before.path,
+        };
+        let found = self.has(log, place, &folded)?;
+        Ok(judged(part, name.as_bytes(), found.as_slice()))
+    }
+
+    // What the parts behind the first denote.
+    fn further(
+        self,
+        log: &mut Log<Env>,
+        first: &'a Shared<Entity>,
+        names: &[Text],
+    ) -> Result<Result<&'a Shared<Entity>, NameFault>, AllocError>
+        ensures { IfOk result (λ r.
+            (named r, log.new)
+            ≡ run key_eq (under self.entry.own.now.additions (further TURNS 0 first.now names.now))
+            (answers self.entry.env.now) log.old) }
+    {
+        let mut entity = first;
+        for (part, name) in names.iter().enumerate() {
+            if !entity.get().kind.is_scope() {
+                return Ok(Err(NameFault::At(NameCode::NoScope, part)));
+            }
+            match self.next_part(log, entity.get(), part + 1, name)? {
+                Ok(next) => entity = next,
+                Err(fault) => return Ok(Err(fault)),
+            }
+        }
+        Ok(Ok(entity))
+    }
+}
+
+// The one entity, spelled so, or the fault at the part with a number.
+fn judged<'a>(
+    part: usize,
+    name: &[u8],
+    found: &[&'a Shared<Entity>],
+) -> Result<&'a Shared<Entity>, NameFault>
+    ensures { named result ≡ placed part (judged name.now (map (λ e. e.now) found.now)) }
+{
+    match found {
+        [] => Err(NameFault::At(NameCode::Undeclared, part)),
+        [entity] => {
+            if entity.get().path.name() == name {
+                Ok(*entity)
+            } else {
+                Err(NameFault::At(NameCode::OtherSpelling, part))
+            }
+        }
+        _ => Err(NameFault::At(NameCode::Ambiguous, part)),
+    }
+}
+
+// Into how many of the scopes the use of a name introduces its first part, which denotes this.
+fn reach_of(name: &ScopedName, cursor: &[Scope], first: &Entity) -> usize
+    ensures { result ≡ (if name.now.is_global then 0 else reach cursor.now first.now) }
+{
+    if name.is_global {
+        return 0;
+    }
+    match cursor {
+        [] => 0,
+        [innermost, outer @ ..] => {
+            if first.path.is_in(&innermost.path) {
+                0
+            } else if innermost.kind == Kind::Module {
+                1
+            } else {
+                1 + outer_reach(outer, first)
+            }
+        }
+    }
+}
+
+// Into how many of the scopes outward from one that is no module.
+fn outer_reach(scopes: &[Scope], first: &Entity) -> usize
+    ensures reach { result ≡ outer_reach scopes.now first.now }
+    ensures within { result ≤ length scopes.now }
+{
+    for (index, scope) in scopes.iter().enumerate() {
+        if scope.kind == Kind::Module || first.path.is_in(&scope.path) {
+            return index;
+        }
+    }
+    scopes.len()
+}

@@ -1,0 +1,165 @@
+//! Paths: where an entity or a scope stands.
+
+ghost use Rattle.std.specs.Prelude.{◌≡◌, ◌≤◌, ◌∷◌, [], IfOk, Some, drop, length, refl};
+ghost use Rattle.std.specs.Cmp.{partial_equiv_from_equiv};
+ghost use Rattle.std.specs.Cmp.Lexicographic.{lists_agrees, lists_equiv, lists_per, lists_po, lists_ties, lists_total, nat_list_cmp_total, nat_list_eq_equiv, pointwise, slice_cmp, slice_partial_cmp, texts_po, texts_ties};
+ghost use Rattle.std.specs.Ordering.{nat_cmp};
+ghost use Rattle.std.specs.Str.{bytes_eq};
+ghost use Rattle.idl_scope.specs.Path.{name_of, path_eq, scope_of};
+
+use idl_base::Datum;
+use idl_lex::Spelling;
+use std::alloc::{AllocError, Global};
+use std::cmp::Ordering;
+use std::marker::Model;
+use std::rc::Rc;
+
+/// A path: the name of an entity as it is spelled, then those of the scopes around it, the innermost first. The global scope's
+/// has none.
+///
+/// To every contract it is the list of its names. A clone, and the path of the scope around, share them.
+#[derive(Drop)]
+pub struct Path {
+    names: Rc<Vec<Spelling>>,
+    from: usize,
+}
+
+impl Model for Path {
+    ghost use Rattle.std.specs.Prelude.{◌≤◌, List, ℕ, drop, length};
+
+    ghost Value = { List (List ℕ) };
+
+    ghost view = { λ path. drop path.from path.names.value.items };
+
+    ghost invariant = { λ path. path.from ≤ length path.names.value.items };
+}
+
+impl Path {
+    /// The path of the global scope.
+    pub fn global(alloc: Global) -> Result<Path, AllocError>
+        ensures { IfOk result (λ path. path ≡ []) }
+    {
+        let names = Rc::new(alloc, Vec::new(alloc))?;
+        Ok(Path { names, from: 0 })
+    }
+
+    /// The path of a name in the scope with this path.
+    pub fn child(&self, alloc: Global, name: &Spelling) -> Result<Path, AllocError>
+        ensures { IfOk result (λ path. path ≡ name.now ∷ self.now) }
+    {
+        let mut names = Vec::new(alloc);
+        names.push(name.clone()?)?;
+        for outer in self.as_slice() {
+            names.push(outer.clone()?)?;
+        }
+        let names = Rc::new(alloc, names)?;
+        Ok(Path { names, from: 0 })
+    }
+
+    /// The names, the innermost first.
+    pub fn as_slice(&self) -> &[Spelling]
+        ensures { result.now ≡ self.now }
+    {
+        &self.names.as_slice()[self.from..]
+    }
+
+    /// The name of what stands there, which the global scope has not.
+    pub fn name(&self) -> &[u8]
+        ensures { result.now ≡ name_of self.now }
+    {
+        match self.as_slice() {
+            [] => &[],
+            [name, ..] => name.as_bytes(),
+        }
+    }
+
+    /// The path of the scope around; of the global scope, its own.
+    pub fn scope(&self) -> Result<Path, AllocError>
+        ensures { IfOk result (λ path. path ≡ scope_of self.now) }
+    {
+        let names = self.names.clone()?;
+        let from = behind_first(self.names.as_slice(), self.from);
+        Ok(Path { names, from })
+    }
+
+    /// Whether it stands directly in the scope with that path.
+    pub fn is_in(&self, scope: &Path) -> bool
+        ensures { result ≡ path_eq (scope_of self.now) scope.now }
+    {
+        match self.as_slice() {
+            [] => scope.as_slice().is_empty(),
+            [_, outer @ ..] => outer == scope.as_slice(),
+        }
+    }
+}
+
+// The place behind the first of the names from a place on, if there is one.
+fn behind_first(names: &[Spelling], from: usize) -> usize
+    requires { from ≤ length names.now }
+    ensures at { drop result names.now ≡ scope_of (drop from names.now) }
+    ensures within { result ≤ length names.now }
+{
+    if from < names.len() { from + 1 } else { from }
+}
+
+impl Clone for Path {
+    ghost is_clone = { λ path copy. copy ≡ path };
+
+    fn clone(&self) -> Result<Path, AllocError> {
+        let names = self.names.clone()?;
+        Ok(Path {
+            names,
+            from: self.from,
+        })
+    }
+}
+
+impl PartialEq for Path {
+    ghost eq = { pointwise bytes_eq };
+
+    ghost laws = { lists_per (partial_equiv_from_equiv nat_list_eq_equiv) };
+
+    fn eq(&self, other: &Path) -> bool
+        ensures { result ≡ pointwise bytes_eq self.now other.now }
+    {
+        self.as_slice() == other.as_slice()
+    }
+}
+
+impl Eq for Path {
+    ghost laws = { lists_equiv nat_list_eq_equiv };
+}
+
+impl PartialOrd for Path {
+    ghost partial_cmp = { slice_partial_cmp (λ x y. Some (slice_cmp nat_cmp x y)) };
+
+    ghost laws = { lists_po texts_po };
+
+    fn partial_cmp(&self, other: &Path) -> Option<Ordering> {
+        self.as_slice().partial_cmp(&other.as_slice())
+    }
+}
+
+impl Ord for Path {
+    ghost cmp = { slice_cmp (slice_cmp nat_cmp) };
+
+    ghost total = { lists_total nat_list_cmp_total };
+
+    ghost matches_partial_cmp = { lists_agrees (λ x y. refl) };
+
+    ghost matches_eq = { lists_ties (slice_cmp nat_cmp) texts_ties };
+
+    fn cmp(&self, other: &Path) -> Ordering
+        ensures { result ≡ slice_cmp (slice_cmp nat_cmp) self.now other.now }
+    {
+        self.as_slice().cmp(&other.as_slice())
+    }
+}
+
+impl Datum for Path {
+    ghost use Rattle.std.specs.Cmp.Lexicographic.{bytes_decides, pointwise_decides};
+
+    ghost same = { λ x y. (pointwise_decides bytes_decides x y).0 };
+
+    ghost copy = { λ x y h. h };
+}

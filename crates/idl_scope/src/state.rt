@@ -1,0 +1,406 @@
+//! What the facts so far come to.
+
+ghost use Rattle.std.specs.Prelude.{◌≡◌, ◌<◌, ◌∷◌, ◌++◌, [], IfOk, OnOk, drop, map, option_to_list};
+ghost use Rattle.std.specs.Option.{option_map};
+ghost use Rattle.idl_scope.specs.Facts.{after, after_closing, after_nameless, after_opening, after_step, closed, closing, entity_key, first_world, inherited, innermost, joined, more_inside, nameless, next_body, operations_among, operations_of, path_around, with_additions, with_answer, count_in, entity_in, scopes_in, over};
+ghost use Rattle.idl_scope.specs.Held.{closable, held};
+ghost use Rattle.idl_scope.specs.Key.{key_eq};
+ghost use Rattle.idl_scope.specs.declared.addition.Addition.TheVariants.{Declares};
+ghost use Rattle.idl_scope.specs.declared.addition.Step.TheVariants.{Closes, Opens, OpensNameless};
+ghost use Rattle.idl_scope.specs.declared.answer.Answer.TheVariants as answers;
+ghost use Rattle.idl_scope.specs.declared.key.Key.{Key};
+ghost use Rattle.idl_scope.specs.declared.key.Key.TheVariants.{Opened};
+ghost use Rattle.idl_scope.specs.declared.kind.Stage.TheVariants as stages;
+ghost use Rattle.std.specs.Map.{keys_of, lookup};
+
+use crate::addition::{Addition, Step};
+use crate::answer::{Answer, Scope, count_in, entity_in, scopes_in};
+use crate::entity::Entity;
+use crate::facts::Facts;
+use crate::key::Key;
+use crate::kind::{Kind, Stage};
+use crate::name::shared_name;
+use crate::path::Path;
+use crate::queue::join;
+use crate::shared::Shared;
+use idl_base::{Seq, Table};
+use idl_lex::Spelling;
+use itoa::Buffer;
+use std::alloc::{AllocError, Global};
+
+/// The answers at their keys, and beside them the paths of the operations and attributes so far of each open scope, the
+/// innermost first.
+pub struct State {
+    pub answers: Table<Key, Answer>,
+    pub inside: Vec<Seq<Path>>,
+}
+
+impl Drop for State {
+    fn drop(self) {
+        let State {
+            answers: _answers,
+            inside: _inside,
+        } = self;
+    }
+}
+
+impl State {
+    /// The global scope is open, and nothing is declared.
+    pub fn new(alloc: Global) -> Result<State, AllocError>
+        ensures { IfOk result (λ state. held state.answers state.inside.items ≡ first_world) }
+    {
+        let scopes = opened(alloc, Scope::global(alloc)?, &[])?;
+        let mut answers = Table::new(alloc);
+        answers.insert(Key::Cursor, scopes)?;
+        let mut inside = Vec::new(alloc);
+        inside.push(Seq::new(alloc))?;
+        Ok(State { answers, inside })
+    }
+
+    /// What it comes to with what a unit adds.
+    pub fn add(&mut self, alloc: Global, facts: &Facts) -> Result<(), AllocError>
+        requires { (key : Key) → count_in (lookup (key_eq key) self.old.answers) < 18446744073709551615 }
+        ensures { OnOk result
+            (held self.new.answers self.new.inside.items
+            ≡ after (held self.old.answers self.old.inside.items) facts.now) }
+    {
+        self.add_all(alloc, facts)?;
+        self.take(alloc, facts.step())
+    }
+
+    // What it comes to with a change of the open scopes.
+    fn take(&mut self, alloc: Global, step: &Step) -> Result<(), AllocError>
+        requires { (key : Key) → count_in (lookup (key_eq key) self.old.answers) < 18446744073709551615 }
+        ensures { OnOk result
+            (held self.new.answers self.new.inside.items
+            ≡ after_step (held self.old.answers self.old.inside.items) step.now) }
+    {
+        match step {
+            Step::Stays => Ok(()),
+            Step::Opens(path, kind) => self.open(alloc, path, *kind),
+            Step::OpensNameless(kind) => self.open_nameless(alloc, *kind),
+            Step::Closes => self.close(alloc),
+        }
+    }
+
+    // What it comes to with the additions.
+    fn add_all(&mut self, alloc: Global, facts: &Facts) -> Result<(), AllocError>
+        ensures { OnOk result
+            (held self.new.answers self.new.inside.items
+            ≡ with_additions facts.now.additions (held self.old.answers self.old.inside.items)) }
+    {
+        put_all(alloc, &mut self.answers, facts)?;
+        add_inside(&mut self.inside, operations_among(alloc, facts)?)
+    }
+
+    // What it comes to with one more body of a scope.
+    fn open(&mut self, alloc: Global, path: &Path, kind: Kind) -> Result<(), AllocError>
+        requires { count_in (lookup (key_eq (Opened path.now)) self.old.answers) < 18446744073709551615 }
+        ensures { OnOk result
+            (held self.new.answers self.new.inside.items
+            ≡ after_step (held self.old.answers self.old.inside.items) (Opens path.now kind)) }
+    {
+        let scope = self.next_body(path, kind)?;
+        let body = scope.body;
+        let key = Key::Opened(scope.path.clone()?);
+        let scopes = opened(alloc, scope, scopes_in(self.answers.get(&Key::Cursor)))?;
+        self.answers.insert(key, Answer::Count(body))?;
+        self.answers.insert(Key::Cursor, scopes)?;
+        self.inside.insert(0, Seq::new(alloc))?;
+        Ok(())
+    }
+
+    // The next body of a scope.
+    fn next_body(&self, path: &Path, kind: Kind) -> Result<Scope, AllocError>
+        requires { count_in (lookup (key_eq (Opened path.now)) self.now.answers) < 18446744073709551615 }
+        ensures { IfOk result (λ scope.
+            scope
+            ≡ record {
+              path = path.now;
+              kind = kind;
+              body = next_body (held self.now.answers self.now.inside.items) path.now;
+            }) }
+    {
+        let key = Key::Opened(path.clone()?);
+        let body = count_in(self.answers.get(&key)) + 1;
+        let path = path.clone()?;
+        Ok(Scope { path, kind, body })
+    }
+
+    // What it comes to with a nameless scope.
+    fn open_nameless(&mut self, alloc: Global, kind: Kind) -> Result<(), AllocError>
+        requires { (key : Key) → count_in (lookup (key_eq key) self.old.answers) < 18446744073709551615 }
+        ensures { OnOk result
+            (held self.new.answers self.new.inside.items
+            ≡ after_step (held self.old.answers self.old.inside.items) (OpensNameless kind)) }
+    {
+        let number = count_in(self.answers.get(&Key::Nameless));
+        let name = nameless_name(alloc, number)?;
+        let path = child_of_first(alloc, scopes_in(self.answers.get(&Key::Cursor)), &name)?;
+        self.answers
+            .insert(Key::Nameless, Answer::Count(number + 1))?;
+        self.open(alloc, &path, kind)
+    }
+
+    // What it comes to with the innermost scope closed, if it isn't the global one.
+    fn close(&mut self, alloc: Global) -> Result<(), AllocError>
+        ensures { OnOk result
+            (held self.new.answers self.new.inside.items
+            ≡ after_step (held self.old.answers self.old.inside.items) Closes) }
+    {
+        let Some((scope, outer)) = closable(scopes_in(self.answers.get(&Key::Cursor))) else {
+            return Ok(());
+        };
+        let scopes = open_scopes(alloc, outer)?;
+        let closing = self.closing(alloc, scope)?;
+        put_closing(alloc, &mut self.answers, &closing)?;
+        self.answers.insert(Key::Cursor, scopes)?;
+        leave(&mut self.inside);
+        Ok(())
+    }
+
+    // The interface that is closed with this scope, if it is of one.
+    fn closing(&self, alloc: Global, scope: &Scope) -> Result<Option<Shared<Entity>>, AllocError>
+        ensures { IfOk result (λ entity.
+            closing (held self.now.answers self.now.inside.items) scope.now
+            ≡ map Declares (option_to_list entity)) }
+    {
+        if !scope.kind.inherits() {
+            return Ok(None);
+        }
+        let key = Key::of_entity(alloc, &scope.path)?;
+        let Some(entity) = entity_in(self.answers.get(&key)) else {
+            return Ok(None);
+        };
+        let interface = entity.get();
+        let operations = self.operations(alloc, interface)?;
+        let closed = closed(interface, operations)?;
+        Ok(Some(Shared::new(alloc, closed)?))
+    }
+
+    // The operations and attributes of an interface that closes: the inherited ones and then its own.
+    fn operations(&self, alloc: Global, interface: &Entity) -> Result<Vec<Path>, AllocError>
+        ensures { IfOk result (λ paths.
+            paths.items
+            ≡ inherited (λ k. lookup (key_eq k) self.now.answers) [] interface.now.bases
+            ++ innermost self.now.inside.items) }
+    {
+        let mut paths = inherited(alloc, &self.answers, interface.bases.as_slice())?;
+        if let Some(own) = self.inside.first() {
+            append(&mut paths, own.as_slice())?;
+        }
+        Ok(paths)
+    }
+}
+
+// The innermost of the open scopes and those outward of it, if it isn't the global one.
+fn closable(scopes: &[Scope]) -> Option<(&Scope, &[Scope])>
+    ensures { option_map (λ p. (p.0.now, p.1.now)) result ≡ closable scopes.now }
+{
+    match scopes {
+        [scope, _, ..] => Some((scope, &scopes[1..])),
+        _ => None,
+    }
+}
+
+// The answers with that of an interface that closes, if one does.
+fn put_closing(
+    alloc: Global,
+    answers: &mut Table<Key, Answer>,
+    closing: &Option<Shared<Entity>>,
+) -> Result<(), AllocError>
+    ensures { OnOk result
+        ((k : Key)
+        → lookup (key_eq k) answers.new
+        ≡ over (map Declares (option_to_list closing.now)) k (lookup (key_eq k) answers.old)) }
+{
+    let Some(entity) = closing else {
+        return Ok(());
+    };
+    let key = Key::of_entity(alloc, &entity.get().path)?;
+    let entity = entity.clone()?;
+    answers.insert(key, Answer::Known(entity))?;
+    Ok(())
+}
+
+// All but the innermost.
+fn leave(inside: &mut Vec<Seq<Path>>)
+    ensures { inside.new.items ≡ drop 1 inside.old.items }
+{
+    if !inside.is_empty() {
+        inside.remove(0);
+    }
+}
+
+// An interface as it is once it is closed, with these operations and attributes.
+fn closed(interface: &Entity, operations: Vec<Path>) -> Result<Entity, AllocError>
+    ensures { IfOk result (λ entity.
+        entity ≡ record interface.now { stage = stages.Complete; operations = operations.items }) }
+{
+    let path = interface.path.clone()?;
+    let bases = interface.bases.clone()?;
+    Ok(Entity {
+        path,
+        kind: interface.kind,
+        is_local: interface.is_local,
+        stage: Stage::Complete,
+        bases,
+        operations: Seq::from_vec(operations),
+    })
+}
+
+// The operations and attributes of the bases in their order, none twice.
+fn inherited(
+    alloc: Global,
+    answers: &Table<Key, Answer>,
+    bases: &[Path],
+) -> Result<Vec<Path>, AllocError>
+    ensures { IfOk result (λ paths.
+        paths.items ≡ inherited (λ k. lookup (key_eq k) answers.now) [] bases.now) }
+{
+    let mut found = Table::new(alloc);
+    for base in bases {
+        join(&mut found, operations_at(alloc, answers, base)?)?;
+    }
+    listed(alloc, &found)
+}
+
+// The operations and attributes of the closed interface at a path.
+fn operations_at<'a>(
+    alloc: Global,
+    answers: &'a Table<Key, Answer>,
+    path: &Path,
+) -> Result<&'a [Path], AllocError>
+    ensures { IfOk result (λ paths.
+        paths.now ≡ operations_of (entity_in (lookup (key_eq (entity_key path.now)) answers.now))) }
+{
+    let key = Key::of_entity(alloc, path)?;
+    match entity_in(answers.get(&key)) {
+        Some(entity) => Ok(entity.get().operations.as_slice()),
+        None => Ok(&[]),
+    }
+}
+
+// The paths of a queue in order.
+fn listed(alloc: Global, found: &Table<Path, ()>) -> Result<Vec<Path>, AllocError>
+    ensures { IfOk result (λ paths. paths.items ≡ keys_of found.now) }
+{
+    let mut paths = Vec::new(alloc);
+    for index in 0..found.len() {
+        let Some((path, ())) = found.get_index(index) else {
+            continue;
+        };
+        paths.push(path.clone()?)?;
+    }
+    Ok(paths)
+}
+
+// These paths, and copies of the others.
+fn append(paths: &mut Vec<Path>, others: &[Path]) -> Result<(), AllocError>
+    ensures { OnOk result (paths.new.items ≡ paths.old.items ++ others.now) }
+{
+    for path in others {
+        paths.push(path.clone()?)?;
+    }
+    Ok(())
+}
+
+// The answers with those of the additions.
+fn put_all(alloc: Global, answers: &mut Table<Key, Answer>, facts: &Facts) -> Result<(), AllocError>
+    ensures { OnOk result
+        ((k : Key)
+        → lookup (key_eq k) answers.new ≡ over facts.now.additions k (lookup (key_eq k) answers.old)) }
+{
+    let count = facts.len();
+    for back in 0..count {
+        let Some(addition) = facts.addition(count - 1 - back) else {
+            continue;
+        };
+        answers.insert(addition.key(alloc)?, addition.answer()?)?;
+    }
+    Ok(())
+}
+
+// The paths of the operations and attributes among what is declared.
+fn operations_among(alloc: Global, facts: &Facts) -> Result<Vec<Path>, AllocError>
+    ensures { IfOk result (λ paths. paths.items ≡ operations_among facts.now.additions) }
+{
+    let mut paths = Vec::new(alloc);
+    for index in 0..facts.len() {
+        let Some(addition) = facts.addition(index) else {
+            continue;
+        };
+        keep_operation(&mut paths, addition)?;
+    }
+    Ok(paths)
+}
+
+// Keeps the path of what an addition declares, if it is an operation or attribute.
+fn keep_operation(paths: &mut Vec<Path>, addition: &Addition) -> Result<(), AllocError>
+    ensures { OnOk result
+        (paths.new.items ≡ paths.old.items ++ operations_among (addition.now ∷ [])) }
+{
+    let Addition::Declares(entity) = addition else {
+        return Ok(());
+    };
+    if !entity.get().is_operation() {
+        return Ok(());
+    }
+    paths.push(entity.get().path.clone()?)?;
+    Ok(())
+}
+
+// The innermost ones with more.
+fn add_inside(inside: &mut Vec<Seq<Path>>, paths: Vec<Path>) -> Result<(), AllocError>
+    ensures { OnOk result (inside.new.items ≡ more_inside inside.old.items paths.items) }
+{
+    if inside.is_empty() {
+        return Ok(());
+    }
+    let mut own = inside.remove(0).into_vec();
+    append(&mut own, paths.as_slice())?;
+    inside.insert(0, Seq::from_vec(own))?;
+    Ok(())
+}
+
+// These scopes are open.
+fn open_scopes(alloc: Global, scopes: &[Scope]) -> Result<Answer, AllocError>
+    ensures { IfOk result (λ answer. answer ≡ answers.Open scopes.now) }
+{
+    let scopes = Vec::from_clones(alloc, scopes)?;
+    let scopes = Shared::new(alloc, Seq::from_vec(scopes))?;
+    Ok(Answer::Open(scopes))
+}
+
+// This scope is open, and then the others.
+fn opened(alloc: Global, scope: Scope, outer: &[Scope]) -> Result<Answer, AllocError>
+    ensures { IfOk result (λ answer. answer ≡ answers.Open (scope ∷ outer.now)) }
+{
+    let mut scopes = Vec::new(alloc);
+    scopes.push(scope)?;
+    for other in outer {
+        scopes.push(other.clone()?)?;
+    }
+    let scopes = Shared::new(alloc, Seq::from_vec(scopes))?;
+    Ok(Answer::Open(scopes))
+}
+
+// The path of a name in the innermost of the scopes.
+fn child_of_first(alloc: Global, scopes: &[Scope], name: &Spelling) -> Result<Path, AllocError>
+    ensures { IfOk result (λ path. path ≡ name.now ∷ path_around scopes.now) }
+{
+    match scopes {
+        [] => Path::global(alloc)?.child(alloc, name),
+        [innermost, ..] => innermost.path.child(alloc, name),
+    }
+}
+
+// The name of the nameless scope with this number.
+fn nameless_name(alloc: Global, number: usize) -> Result<Spelling, AllocError>
+    ensures { IfOk result (λ name. name ≡ nameless number) }
+{
+    let mut buffer = Buffer::new();
+    let mut name = Vec::from_slice(alloc, b"?")?;
+    name.extend_from_slice(buffer.format(number).as_bytes())?;
+    shared_name(alloc, name.as_slice())
+}
