@@ -1,6 +1,6 @@
 -- No count is greater than the number of units.
-use Rattle.std.proofs.Common.{◌≡◌, ℕ, zero, suc, ◌+◌, ◌<◌, ◌≤◌, Bool, true, false, cond, List, [], ◌∷◌, ◌++◌, Option, Some, None, length, refl, sym, ap, ◌∙◌, arith}
-use Rattle.idl_scope.specs.Facts.{UnitFacts, World, addition_at, after, after_all, after_closing, after_nameless, after_opening, after_step, answer_of, closing, count_in, first_answer, first_world, nameless, next_body, over, path_around, scopes_in, with_additions, with_answer, world}
+use Rattle.std.proofs.Common.{◌≡◌, ℕ, suc, ◌+◌, ◌≤◌, Bool, true, false, cond, List, [], ◌∷◌, ◌++◌, Option, Some, None, length, refl, arith}
+use Rattle.idl_scope.specs.Facts.{UnitFacts, World, addition_at, after, after_all, after_closing, after_nameless, after_opening, after_step, answer_of, closing, count_in, first_world, nameless, next_body, path_around, scopes_in, with_additions, world}
 use Rattle.idl_scope.specs.Key.{key_eq}
 use Rattle.idl_scope.specs.declared.addition.Addition.{Addition}
 use Rattle.idl_scope.specs.declared.addition.Addition.TheVariants.{Declares, Uses}

@@ -1,10 +1,10 @@
 -- Runs of lookups over a bank, under what a unit's earlier tokens add.
-use Rattle.std.proofs.Common.{◌≡◌, ℕ, zero, suc, ◌+◌, ◌-◌, ◌<◌, ◌≤◌, Bool, true, false, cond, List, [], ◌∷◌, ◌++◌, Option, Some, None, Result, Ok, Err, length, map, drop, eqb, refl, sym, ap, ◌∙◌, arith}
+use Rattle.std.proofs.Common.{◌≡◌, ℕ, zero, suc, ◌+◌, ◌<◌, true, false, cond, List, [], ◌∷◌, ◌++◌, Option, Some, None, Result, Err, length, map, eqb, refl, sym, ap, ◌∙◌, arith}
 use Rattle.std.specs.Prelude.{option_to_list, slice_get}
 use Rattle.std.proofs.lemmas.Bool.Decides.{nat_tests}
-use Rattle.idl_memo.specs.Query.{Query, Done, Ask, Tell, and_then, run, noted}
+use Rattle.idl_memo.specs.Query.{Done, Ask, Tell, and_then, run, noted}
 use Rattle.idl_memo.proofs.QueryLaws.{run-and_then_at}
-use Rattle.idl_scope.specs.Facts.{answers, entity_in, entity_key, joined, over}
+use Rattle.idl_scope.specs.Facts.{entity_in, entity_key, joined, over}
 use Rattle.idl_scope.specs.Key.{key_eq}
 use Rattle.idl_scope.specs.Lookup.{Lookup, bases_of, by_result, choose, denoted, entered, found_as, further, has, inherits, is_nothing, is_scope, judged, outward, part_of, placed, reached, searched, under, walk}
 use Rattle.idl_lex.specs.Keywords.{folded}

@@ -1,23 +1,21 @@
 -- What answers that are kept come to.
-use Rattle.std.proofs.Common.{◌≡◌, ℕ, suc, ◌+◌, ◌-◌, ◌<◌, ◌≤◌, Bool, true, false, cond, List, [], ◌∷◌, ◌++◌, Option, Some, None, length, map, drop, refl, sym, ap, ◌∙◌, arith, append_assoc}
-use Rattle.std.specs.Map.{lookup, keys_of}
+use Rattle.std.proofs.Common.{◌≡◌, ℕ, ◌<◌, Bool, true, false, cond, List, [], ◌∷◌, ◌++◌, Option, Some, None, drop, refl, ap, ◌∙◌, arith}
+use Rattle.std.specs.Map.{lookup}
 use Rattle.std.proofs.lemmas.Option.{same_Some}
 use Rattle.idl_base.specs.Table.{insert_entry}
 use Rattle.idl_scope.specs.Facts.{World, addition_at, after_closing, after_opening, answer_of, closed, closing, count_in, entity_in, entity_key, is_operation, operations_among, over, scopes_in, with_answer}
 use Rattle.idl_scope.specs.Held.{closable, held}
 use Rattle.idl_scope.specs.Key.{key_eq}
-use Rattle.idl_scope.specs.Kind.{kind_eq}
 use Rattle.idl_scope.specs.Lookup.{inherits}
 use Rattle.std.specs.List.{insert}
 use Rattle.idl_scope.proofs.AnswerLemmas.{lookup-insert_entry}
 use Rattle.idl_scope.specs.declared.addition.Addition.{Addition}
 use Rattle.idl_scope.specs.declared.addition.Addition.TheVariants.{Declares, Uses}
 use Rattle.idl_scope.specs.declared.answer.Answer.{Answer}
-use Rattle.idl_scope.specs.declared.answer.Answer.TheVariants.{Open, Known, Used, Count}
+use Rattle.idl_scope.specs.declared.answer.Answer.TheVariants.{Open, Count}
 use Rattle.idl_scope.specs.declared.answer.Scope.{Scope}
 use Rattle.idl_scope.specs.declared.entity.Entity.{Entity}
 use Rattle.idl_scope.specs.declared.key.Key.{Key}
-use Rattle.idl_scope.specs.declared.kind.Kind.TheVariants.{Interface}
 use Rattle.idl_scope.specs.declared.key.Key.TheVariants.{Cursor, Opened}
 
 -- the answers of a table

@@ -1,9 +1,8 @@
 -- When two scopes, or two answers, are one.
-use Rattle.std.specs.Prelude.{◌≡◌, Bool, true, false, ◌&&◌, nat_eq, refl}
-use Rattle.std.specs.Cmp.Lexicographic.{pointwise}
+use Rattle.std.specs.Prelude.{◌≡◌, Bool, true, ◌&&◌, nat_eq, refl}
 use Rattle.std.proofs.Common.{ap}
 use Rattle.idl_base.specs.Exact.{both, same_list, same_number}
-use Rattle.idl_scope.specs.Entity.{entity_eq, same_entity}
+use Rattle.idl_scope.specs.Entity.{same_entity}
 use Rattle.idl_scope.specs.Path.{path_eq, same_path}
 use Rattle.idl_scope.specs.Kind.{kind_eq, same_kind}
 use Rattle.idl_scope.specs.contracts.answer.AnswerPartialEq.TheImpl.{ghosts}

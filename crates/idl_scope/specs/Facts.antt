@@ -1,5 +1,5 @@
 -- The facts that units add, one unit after another, and the answers that they leave at each key.
-use Rattle.std.specs.Prelude.{ℕ, ◌+◌, Bool, true, false, List, [], ◌∷◌, ◌++◌, Option, Some, None, decimal, drop, if◌then◌else◌}
+use Rattle.std.specs.Prelude.{ℕ, ◌+◌, Bool, true, List, [], ◌∷◌, ◌++◌, Option, Some, None, decimal, drop, if◌then◌else◌}
 use Rattle.std.specs.List.{list_any}
 use Rattle.idl_lex.specs.Keywords.{folded}
 use Rattle.idl_scope.specs.Key.{key_eq}

@@ -1,7 +1,5 @@
-use Rattle.std.proofs.Common.{◌≡◌, ◌<◌, ◌≤◌, ◌++◌, ◌∷◌, [], length, sym, ap, ◌∙◌, arith}
-use Rattle.std.specs.Map.{lookup}
+use Rattle.std.proofs.Common.{◌<◌, ◌++◌, ◌∷◌, [], sym, ap, ◌∙◌, arith}
 use Rattle.idl_scope.specs.Facts.{World, after, count_in, world}
-use Rattle.idl_scope.specs.Key.{key_eq}
 use Rattle.idl_scope.proofs.CountLemmas.{count-world, world-push}
 use Rattle.idl_scope.proofs.env.Env.add.Goals as goal
 

@@ -1,4 +1,4 @@
-use Rattle.std.proofs.Common.{sym, ap, ◌∙◌, map}
+use Rattle.std.proofs.Common.{ap, ◌∙◌, map}
 use Rattle.idl_base.specs.Table.{insert_entry}
 use Rattle.idl_scope.specs.Facts.{UnitFacts, with_addition}
 use Rattle.idl_scope.specs.Held.{HaveOwnKeys}

@@ -1,4 +1,4 @@
-use Rattle.std.proofs.Common.{sym, ap, ◌∙◌, map}
+use Rattle.std.proofs.Common.{sym, ◌∙◌, map}
 use Rattle.idl_lex.specs.Keywords.{folded}
 use Rattle.idl_scope.specs.Facts.{answers}
 use Rattle.idl_scope.specs.Lookup.{judged, outward, placed, searched}

@@ -1,10 +1,6 @@
-use Rattle.std.proofs.Common.{◌≡◌, sym, ap, ◌∙◌, drop, Some, map}
-use Rattle.std.specs.Prelude.{option_to_list}
-use Rattle.std.specs.Map.{lookup}
-use Rattle.idl_base.specs.Table.{insert_entry}
+use Rattle.std.proofs.Common.{◌≡◌, sym, ap, ◌∙◌}
 use Rattle.idl_scope.specs.Facts.{closing, over, scopes_in, with_answer}
 use Rattle.idl_scope.specs.Held.{closable, held}
-use Rattle.idl_scope.specs.Key.{key_eq}
 use Rattle.idl_scope.specs.declared.answer.Answer.TheVariants.{Open}
 use Rattle.idl_scope.specs.declared.key.Key.TheVariants.{Cursor}
 use Rattle.idl_scope.proofs.StateLemmas.{after_closing-some, kept, kept-put}

@@ -1,12 +1,11 @@
-use Rattle.std.proofs.Common.{◌≡◌, ap, ◌∙◌, ◌∷◌, []}
+use Rattle.std.proofs.Common.{◌≡◌, ap, ◌∙◌, ◌∷◌}
 use Rattle.idl_base.specs.Table.{insert_entry}
 use Rattle.idl_scope.specs.Facts.{after_opening, scopes_in}
 use Rattle.idl_scope.specs.Held.{held}
 use Rattle.idl_scope.specs.Key.{key_eq}
 use Rattle.idl_scope.specs.declared.answer.Answer.TheVariants.{Open, Count}
-use Rattle.idl_scope.specs.declared.answer.Scope.{Scope}
 use Rattle.idl_scope.specs.declared.key.Key.TheVariants.{Cursor, Opened}
-use Rattle.idl_scope.proofs.StateLemmas.{held-opening, insert-first, kept}
+use Rattle.idl_scope.proofs.StateLemmas.{held-opening, insert-first}
 use Rattle.idl_scope.proofs.state.State.open.Goals as goal
 
 pub returns : goal.returns
