@@ -46,7 +46,8 @@ impl<'a> View<'a> {
     fn entity(self, log: &mut Log<Env>, key: &Key) -> Result<Option<&'a Shared<Entity>>, AllocError>
         ensures entity { IfOk result (λ e.
             option_copied e
-            ≡ entity_in (over self.entry.own.now.additions key.now (answers self.entry.env.now key.now))) }
+            ≡ entity_in
+            (over self.entry.own.now.additions key.now (answers self.entry.env.now key.now))) }
         ensures logged { OnOk result (log.new ≡ noted key_eq (answers self.entry.env.now) log.old key.now) }
     {
         let before = log.ask(key, self.env)?;
@@ -83,7 +84,9 @@ impl<'a> View<'a> {
     ) -> Result<(Option<&'a Shared<Entity>>, &'a [Path]), AllocError>
         ensures { IfOk result (λ r.
             ((option_copied r.0, r.1.now), log.new)
-            ≡ run key_eq (under self.entry.own.now.additions (entered name.now base.now)) (answers self.entry.env.now) log.old) }
+            ≡ run key_eq
+            (under self.entry.own.now.additions (entered name.now base.now))
+            (answers self.entry.env.now) log.old) }
     {
         if let Some(declared) = self.own(log, base, name)? {
             return Ok((Some(declared), &[]));
@@ -101,7 +104,9 @@ impl<'a> View<'a> {
     ) -> Result<Vec<&'a Shared<Entity>>, AllocError>
         ensures { IfOk result (λ es.
             (map (λ e. e.now) es.items, log.new)
-            ≡ run key_eq (under self.entry.own.now.additions (reached TURNS name.now bases.now)) (answers self.entry.env.now) log.old) }
+            ≡ run key_eq
+            (under self.entry.own.now.additions (reached TURNS name.now bases.now))
+            (answers self.entry.env.now) log.old) }
     {
         let mut queue = Table::new(self.env.alloc());
         join(&mut queue, bases)?;
@@ -126,7 +131,10 @@ impl<'a> View<'a> {
     ) -> Result<Vec<&'a Shared<Entity>>, AllocError>
         ensures { IfOk result (λ es.
             (map (λ e. e.now) es.items, log.new)
-            ≡ run key_eq (under self.entry.own.now.additions (has TURNS place.entry.kind place.entry.path.now name.now)) (answers self.entry.env.now) log.old) }
+            ≡ run key_eq
+            (under self.entry.own.now.additions
+            (has TURNS place.entry.kind place.entry.path.now name.now))
+            (answers self.entry.env.now) log.old) }
     {
         let own = self.own(log, place.path, name)?;
         let mut found = Vec::new(self.env.alloc());
@@ -151,7 +159,9 @@ impl<'a> View<'a> {
     ) -> Result<Vec<&'a Shared<Entity>>, AllocError>
         ensures { IfOk result (λ es.
             (map (λ e. e.now) es.items, log.new)
-            ≡ run key_eq (under self.entry.own.now.additions (outward TURNS scopes.now name.now)) (answers self.entry.env.now) log.old) }
+            ≡ run key_eq
+            (under self.entry.own.now.additions (outward TURNS scopes.now name.now))
+            (answers self.entry.env.now) log.old) }
     {
         for scope in scopes {
             let place = Place {

@@ -70,7 +70,9 @@ impl<'a> View<'a> {
     ) -> Result<Result<Found, NameFault>, AllocError>
         ensures { IfOk result (λ r.
             (r, log.new)
-            ≡ run key_eq (under self.entry.own.now.additions (denoted TURNS cursor.now name.now)) (answers self.entry.env.now) log.old) }
+            ≡ run key_eq
+            (under self.entry.own.now.additions (denoted TURNS cursor.now name.now))
+            (answers self.entry.env.now) log.old) }
     {
         let first = match self.first_part(log, cursor, name)? {
             Ok(first) => first,
@@ -96,7 +98,8 @@ impl<'a> View<'a> {
         ensures { IfOk result (λ r.
             (named r, log.new)
             ≡ run key_eq (under self.entry.own.now.additions
-            (part_of 0 name.now.first (outward TURNS (searched name.now.is_global cursor.now) (folded name.now.first))))
+            (part_of 0 name.now.first
+            (outward TURNS (searched name.now.is_global cursor.now) (folded name.now.first))))
             (answers self.entry.env.now) log.old) }
     {
         let found = self.first_found(log, cursor, name)?;
@@ -156,7 +159,8 @@ impl<'a> View<'a> {
     ) -> Result<Result<&'a Shared<Entity>, NameFault>, AllocError>
         ensures { IfOk result (λ r.
             (named r, log.new)
-            ≡ run key_eq (under self.entry.own.now.additions (further TURNS 0 first.now names.now))
+            ≡ run key_eq
+            (under self.entry.own.now.additions (further TURNS 0 first.now names.now))
             (answers self.entry.env.now) log.old) }
     {
         let mut entity = first;
