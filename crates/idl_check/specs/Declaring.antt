@@ -1,0 +1,152 @@
+-- Declared names: what they are declared as, and what is wrong with that.
+use Rattle.std.specs.Prelude.{ℕ, Bool, true, false, ◌&&◌, ◌||◌, List, [], ◌∷◌, ◌++◌, fold, is_some, map, not, Option, None, Some, if◌then◌else◌}
+use Rattle.std.specs.Bool.{beq}
+use Rattle.std.specs.List.{list_any}
+use Rattle.std.specs.Str.{bytes_eq}
+use Rattle.idl_check.specs.Codes.{Table}
+use Rattle.idl_check.specs.declared.standing.Standing.{Standing}
+use Rattle.idl_event.specs.declared.code.Code.TheVariants.{AlreadyDeclared, NameOfScope, DeclaredAfterUse, OtherForward, InheritedTwice}
+use Rattle.idl_lex.specs.Keywords.{folded}
+use Rattle.idl_memo.specs.Query.{Done, Ask, and_then}
+use Rattle.idl_scope.specs.Facts.{entity_in, entity_key, is_operation, with_addition}
+use Rattle.idl_scope.specs.Kind.{kind_eq, stage_eq}
+use Rattle.idl_scope.specs.Lookup.{Lookup, bases_of, inherits, is_scope, reached}
+use Rattle.idl_scope.specs.Path.{name_of}
+use Rattle.idl_scope.specs.declared.addition.Addition.{Addition}
+use Rattle.idl_scope.specs.declared.addition.Addition.TheVariants.{Declares}
+use Rattle.idl_scope.specs.declared.answer.Scope.{Scope}
+use Rattle.idl_scope.specs.declared.entity.Entity.{Entity}
+use Rattle.idl_scope.specs.declared.key.Key.TheVariants.{Declared, Introduced}
+use Rattle.idl_scope.specs.declared.kind.Kind.{Kind}
+use Rattle.idl_scope.specs.declared.kind.Kind.TheVariants.{Module, Interface, Structure, Union, Exception, Enumeration, Enumerator, Alias, Native, Constant, Attribute, Operation, Parameter, Member}
+use Rattle.idl_scope.specs.declared.kind.Stage.{Stage}
+use Rattle.idl_scope.specs.declared.kind.Stage.TheVariants.{Ahead, Begun, Open, Complete}
+use Rattle.idl_site.specs.declared.site.Declaration.{Declaration}
+use Rattle.idl_site.specs.declared.site.Declaration.TheVariants as declaration
+
+abbrev pub kind_of : Declaration → Kind
+kind_of declaration.Module = Module
+kind_of (declaration.Interface is_local) = Interface
+kind_of (declaration.InterfaceAhead is_local) = Interface
+kind_of declaration.Structure = Structure
+kind_of declaration.StructureAhead = Structure
+kind_of declaration.Union = Union
+kind_of declaration.UnionAhead = Union
+kind_of declaration.Exception = Exception
+kind_of declaration.Enumeration = Enumeration
+kind_of declaration.Enumerator = Enumerator
+kind_of declaration.Alias = Alias
+kind_of declaration.Native = Native
+kind_of declaration.Constant = Constant
+kind_of declaration.Attribute = Attribute
+kind_of declaration.Operation = Operation
+kind_of declaration.Parameter = Parameter
+kind_of declaration.Member = Member
+
+abbrev pub is_local_in : Declaration → Bool
+is_local_in (declaration.Interface is_local) = is_local
+is_local_in (declaration.InterfaceAhead is_local) = is_local
+is_local_in other = false
+
+-- How far it has come at its name: an interface, a struct, a union or a constant has begun, and is
+-- complete when its unit ends.
+abbrev pub stage_of : Declaration → Stage
+stage_of (declaration.InterfaceAhead is_local) = Ahead
+stage_of declaration.StructureAhead = Ahead
+stage_of declaration.UnionAhead = Ahead
+stage_of (declaration.Interface is_local) = Begun
+stage_of declaration.Structure = Begun
+stage_of declaration.Union = Begun
+stage_of declaration.Constant = Begun
+stage_of other = Complete
+
+-- the entity that a name is declared as in the scope at a path
+abbrev pub entity_of : Declaration → List ℕ → List (List ℕ) → Entity
+entity_of way name scope = record {
+  path = name ∷ scope;
+  kind = kind_of way;
+  is_local = is_local_in way;
+  stage = stage_of way;
+  bases = [];
+  operations = [];
+}
+
+-- it as its unit leaves it: an interface is open with these bases
+abbrev pub finished : List (List (List ℕ)) → Entity → Entity
+finished bases e =
+    if kind_eq e.kind Interface then record e { stage = Open; bases = bases }
+    else record e { stage = Complete }
+
+-- additions with those that finish what has begun
+abbrev pub with_finished : List (List (List ℕ)) → List Addition → List Entity → List Addition
+with_finished bases own begun = fold with_addition own (map (λ e. Declares (finished bases e)) begun)
+
+-- what is inherited under a folded name in a scope, which its bases may have
+abbrev pub inherited : ℕ → Scope → List ℕ → Lookup (List Entity)
+inherited turns s n =
+    if inherits s.kind
+    then Ask (entity_key s.path) (λ scope. reached turns n (bases_of (entity_in scope)))
+    else Done []
+
+-- what stands under a folded name in the scope in which it is declared
+abbrev pub standing : ℕ → Scope → List ℕ → Lookup Standing
+standing turns s n =
+    Ask (Declared n s.path) (λ there.
+    Ask (Introduced n s.path s.body) (λ used.
+    and_then (inherited turns s n) (λ found.
+    Done (record {
+      there = entity_in there;
+      is_used = is_some used;
+      is_inherited = list_any is_operation found;
+    }))))
+
+-- interfaces, structs and unions may be declared ahead
+abbrev pub may_be_ahead : Kind → Bool
+may_be_ahead kind = kind_eq kind Interface || (kind_eq kind Structure || kind_eq kind Union)
+
+abbrev pub is_ahead : Entity → Bool
+is_ahead e = stage_eq e.stage Ahead
+
+-- A name may be declared again with the same spelling: a module, and what is declared ahead before
+-- or after its definition.
+abbrev pub are_modules : Entity → Entity → Bool
+are_modules old new = kind_eq old.kind Module && kind_eq new.kind Module
+
+abbrev pub come_ahead : Entity → Entity → Bool
+come_ahead old new =
+    (may_be_ahead old.kind && may_be_ahead new.kind) && (is_ahead old || is_ahead new)
+
+abbrev pub may_follow : Entity → Entity → Bool
+may_follow old new =
+    bytes_eq (name_of old.path) (name_of new.path) && (are_modules old new || come_ahead old new)
+
+-- but then as the same kind, and local as before or not
+abbrev pub differs : Entity → Entity → Bool
+differs old new = not (kind_eq old.kind new.kind) || not (beq old.is_local new.is_local)
+
+-- whether an entity is there and passes a test
+abbrev pub is_there : Option Entity → (Entity → Bool) → Bool
+is_there None test = false
+is_there (Some old) test = test old
+
+-- the name, in a scope that a name can lead to, is the scope's own
+abbrev pub is_name_of_scope : Scope → Entity → Bool
+is_name_of_scope s e =
+    is_scope s.kind && bytes_eq (folded (name_of s.path)) (folded (name_of e.path))
+
+-- the faults of a declared name
+abbrev pub declared_table : Scope → Standing → Entity → Table
+declared_table s standing e =
+    (is_there standing.there (λ old. not (may_follow old e)), AlreadyDeclared)
+    ∷ (is_name_of_scope s e, NameOfScope)
+    ∷ (standing.is_used, DeclaredAfterUse)
+    ∷ (is_there standing.there (λ old. may_follow old e && differs old e), OtherForward)
+    ∷ (standing.is_inherited, InheritedTwice) ∷ []
+
+-- what is there already stays as it is where a module is opened again, or where it is declared ahead
+abbrev pub stays : Option Entity → Entity → Bool
+stays there e = is_there there (λ old. may_follow old e && (kind_eq e.kind Module || is_ahead e))
+
+-- what a declared name adds
+abbrev pub with_declared : Option Entity → Entity → List Addition → List Addition
+with_declared there e own = if stays there e then own else with_addition own (Declares e)

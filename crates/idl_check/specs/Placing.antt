@@ -1,0 +1,88 @@
+-- Where a unit may stand, and what it does to the open scopes.
+use Rattle.std.specs.Prelude.{ℕ, ◌-◌, ◌≤◌, Bool, true, false, ◌&&◌, ◌||◌, List, [], ◌∷◌, length, nat_leq, not, Option, None, Some, if◌then◌else◌}
+use Rattle.idl_check.specs.Codes.{faults_by}
+use Rattle.idl_event.specs.declared.code.Code.TheVariants.{NestedTooDeep}
+use Rattle.idl_lex.specs.Tokens.{Token}
+use Rattle.idl_scope.specs.Facts.{path_around}
+use Rattle.idl_scope.specs.Kind.{kind_eq}
+use Rattle.idl_scope.specs.declared.addition.Step.{Step}
+use Rattle.idl_scope.specs.declared.addition.Step.TheVariants.{Stays, Opens, OpensNameless, Closes}
+use Rattle.idl_scope.specs.declared.answer.Scope.{Scope}
+use Rattle.idl_scope.specs.declared.kind.Kind.{Kind}
+use Rattle.idl_scope.specs.declared.kind.Kind.TheVariants as kind
+use Rattle.idl_tree.specs.declared.interface.Forward.TheVariants as forward
+use Rattle.idl_tree.specs.declared.unit.Tree.{Tree}
+use Rattle.idl_tree.specs.declared.unit.Tree.TheVariants as tree
+use Rattle.idl_unit.specs.Ending.{begins, ends_in, opens, role, rule_of}
+use Rattle.idl_unit.specs.declared.fault.Fault.{Fault}
+use Rattle.idl_unit.specs.declared.role.Role.{Role}
+use Rattle.idl_unit.specs.declared.role.Role.TheVariants.{Module}
+use Rattle.idl_unit.specs.declared.role.Rule.{Rule}
+use Rattle.idl_unit.specs.declared.role.Rule.TheVariants.{Closing, Heading, Declaration}
+
+abbrev pub is_module : Role → Bool
+is_module Module = true
+is_module other = false
+
+-- the kind of the scope that a heading opens: what its keyword says, where it ends in `{`
+abbrev pub heading_kind : List Token → Option Kind
+heading_kind tokens =
+    if ends_in opens tokens
+    then Some (if begins is_module tokens then kind.Module else kind.Interface) else None
+
+abbrev pub opened_by : Rule → List Token → Option Kind
+opened_by Heading tokens = heading_kind tokens
+opened_by other tokens = None
+
+abbrev pub opened_kind : List Token → Option Kind
+opened_kind tokens = opened_by (rule_of tokens) tokens
+
+abbrev pub is_closing_by : Rule → Bool
+is_closing_by Closing = true
+is_closing_by other = false
+
+-- what a faulty unit does to the open scopes: an opening opens a nameless one, and a closing closes
+abbrev pub faulty_step : List Token → Step
+faulty_step tokens =
+    elim (opened_kind tokens) [
+      | Some kind ↦ OpensNameless kind
+      | None ↦ if is_closing_by (rule_of tokens) then Closes else Stays
+    ]
+
+-- and a unit without fault, in the scope at a path
+abbrev pub step_of : Tree → List (List ℕ) → Step
+step_of tree.Closing scope = Closes
+step_of (tree.Module name) scope = Opens (name ∷ scope) kind.Module
+step_of (tree.Interface i) scope = Opens (i.name ∷ scope) kind.Interface
+step_of other scope = Stays
+
+-- how many scopes are open beside the global one, the last of these
+abbrev pub depth : List Scope → ℕ
+depth scopes = length scopes - 1
+
+-- an opening where 64 scopes are open, at its `{`
+abbrev pub opening_faults : List Token → List Scope → List Fault
+opening_faults tokens scopes =
+    elim (opened_kind tokens) [
+      | None ↦ []
+      | Some kind ↦ faults_by (length tokens - 1) ((nat_leq 64 (depth scopes), NestedTooDeep) ∷ [])
+    ]
+
+-- in a scope that is an interface or not, a unit stands that may not stand there
+abbrev pub is_misplaced_in : Bool → Tree → Bool
+is_misplaced_in in_interface (tree.Module name) = in_interface
+is_misplaced_in in_interface (tree.Interface i) = in_interface
+is_misplaced_in in_interface (tree.Forward (forward.Interface is_local name)) = in_interface
+is_misplaced_in in_interface (tree.ReadonlyAttribute a) = not in_interface
+is_misplaced_in in_interface (tree.Attribute a) = not in_interface
+is_misplaced_in in_interface (tree.Operation o) = not in_interface
+is_misplaced_in in_interface other = false
+
+abbrev pub is_interface : List Scope → Bool
+is_interface [] = false
+is_interface (s ∷ scopes) = kind_eq s.kind kind.Interface
+
+-- a unit that the innermost of these scopes doesn't hold; the global scope holds no closing
+abbrev pub is_misplaced : Tree → List Scope → Bool
+is_misplaced tree.Closing scopes = nat_leq (depth scopes) 0
+is_misplaced other scopes = is_misplaced_in (is_interface scopes) other

@@ -1,0 +1,112 @@
+-- Used names: what they may denote where they stand, and what bases bring.
+use Rattle.std.specs.Prelude.{ℕ, ◌+◌, ◌*◌, Bool, true, false, ◌&&◌, ◌||◌, List, [], ◌∷◌, ◌++◌, fold, length, map, not, take, Option, None, Some, if◌then◌else◌}
+use Rattle.std.specs.List.{list_any}
+use Rattle.std.specs.Map.{lookup}
+use Rattle.std.specs.Str.{bytes_eq}
+use Rattle.idl_base.specs.Table.{insert_entry}
+use Rattle.idl_check.specs.Codes.{Table}
+use Rattle.idl_event.specs.declared.code.Code.{Code}
+use Rattle.idl_event.specs.declared.code.Code.TheVariants as code
+use Rattle.idl_lex.specs.Keywords.{folded}
+use Rattle.idl_scope.specs.Facts.{joined, with_addition}
+use Rattle.idl_scope.specs.Kind.{kind_eq, stage_eq}
+use Rattle.idl_scope.specs.Path.{name_of, path_eq}
+use Rattle.idl_scope.specs.declared.addition.Addition.{Addition}
+use Rattle.idl_scope.specs.declared.addition.Addition.TheVariants.{Uses}
+use Rattle.idl_scope.specs.declared.answer.Scope.{Scope}
+use Rattle.idl_scope.specs.declared.entity.Entity.{Entity}
+use Rattle.idl_scope.specs.declared.fault.NameCode.{NameCode}
+use Rattle.idl_scope.specs.declared.fault.NameCode.TheVariants.{Undeclared, Ambiguous, OtherSpelling, NoScope}
+use Rattle.idl_scope.specs.declared.kind.Kind.{Kind}
+use Rattle.idl_scope.specs.declared.kind.Kind.TheVariants.{Interface, Structure, Union, Exception, Enumeration, Enumerator, Alias, Native, Constant}
+use Rattle.idl_scope.specs.declared.kind.Stage.TheVariants.{Complete}
+use Rattle.idl_site.specs.declared.site.Use.{Use}
+use Rattle.idl_site.specs.declared.site.Use.TheVariants.{AsBase, AsType, AsElement, AsConstantType, AsDiscriminator, AsOperand, Raised}
+use Rattle.idl_tree.specs.declared.name.ScopedName.{ScopedName}
+
+-- the number of a name's part, where the name begins at this token
+abbrev pub part_at : ℕ → ScopedName → ℕ → ℕ
+part_at at name part = at + (if name.is_global then 1 else 0) + 2 * part
+
+abbrev pub last_at : ℕ → ScopedName → ℕ
+last_at at name = part_at at name (length name.rest)
+
+-- the code of what a name denotes nothing for
+abbrev pub name_code : NameCode → Code
+name_code Undeclared = code.NameNotFound
+name_code Ambiguous = code.AmbiguousName
+name_code OtherSpelling = code.OtherCase
+name_code NoScope = code.NoScope
+
+abbrev pub is_type : Kind → Bool
+is_type Interface = true
+is_type Structure = true
+is_type Union = true
+is_type Enumeration = true
+is_type Alias = true
+is_type Native = true
+is_type other = false
+
+-- an enumerator, or a constant that is not the one whose value is being told
+abbrev pub has_value : Entity → Bool
+has_value e =
+    (kind_eq e.kind Constant || kind_eq e.kind Enumerator) && stage_eq e.stage Complete
+
+-- whether a name may be used so that denotes this
+abbrev pub suits : Use → Entity → Bool
+suits (AsBase is_local) e = kind_eq e.kind Interface
+suits AsType e = is_type e.kind
+suits AsElement e = is_type e.kind
+suits AsConstantType e = is_type e.kind
+suits AsDiscriminator e = is_type e.kind
+suits AsOperand e = has_value e
+suits Raised e = kind_eq e.kind Exception
+
+-- the bases that were named so far: their paths, and those of the operations and attributes that
+-- they bring, by the folded names
+pub record Bases : Type 0 where
+  pub paths : List (List (List ℕ))
+  pub operations : List (List ℕ × List (List ℕ))
+
+-- an operation or attribute stands beside another one that was brought under its name
+abbrev pub is_another : List (List ℕ × List (List ℕ)) → List (List ℕ) → Bool
+is_another operations p =
+    elim (lookup (bytes_eq (folded (name_of p))) operations)
+    [ None ↦ false | Some q ↦ not (path_eq p q) ]
+
+-- the bases with one more
+abbrev pub with_operation : List (List ℕ × List (List ℕ)) → List (List ℕ)
+    → List (List ℕ × List (List ℕ))
+with_operation operations p = insert_entry bytes_eq operations (folded (name_of p)) p
+
+abbrev pub with_base : Entity → Bases → Bases
+with_base e bases = record {
+  paths = joined bases.paths (e.path ∷ []);
+  operations = fold with_operation bases.operations e.operations;
+}
+
+-- the faults of a base of an interface, which is local or not
+abbrev pub base_table : Bool → Bases → Entity → Table
+base_table is_local bases e =
+    (not (stage_eq e.stage Complete), code.IncompleteBase)
+    ∷ (list_any (path_eq e.path) bases.paths, code.RepeatedBase)
+    ∷ (list_any (is_another bases.operations) e.operations, code.InheritedTwice)
+    ∷ (e.is_local && not is_local, code.LocalBase) ∷ []
+
+-- the faults of a name that denotes this
+abbrev pub suited_table : Use → Bases → Entity → Table
+suited_table (AsBase is_local) bases e = base_table is_local bases e
+suited_table other bases e = []
+
+abbrev pub used_table : Use → Bases → Entity → Table
+used_table way bases e =
+    if suits way e then suited_table way bases e else (true, code.WrongKind) ∷ []
+
+-- the bases after a name that is used so and denotes this
+abbrev pub bases_after : Use → Entity → Bases → Bases
+bases_after (AsBase is_local) e bases = with_base e bases
+bases_after other e bases = bases
+
+-- the use of a folded name introduces it into these scopes
+abbrev pub with_uses : List ℕ → List Scope → List Addition → List Addition
+with_uses n scopes own = fold with_addition own (map (λ s. Uses n s.path s.body) scopes)

@@ -1,0 +1,141 @@
+-- The verdict of a unit: its fault, what it adds, and its row in the dump.
+-- A fault is found in three steps: the rules of tokens, the tree, and the rules over tree and names.
+use Rattle.std.specs.Prelude.{ℕ, suc, ◌-◌, Bool, List, [], ◌∷◌, ◌++◌, length, Option, None, Some, Result, Ok, Err, if◌then◌else◌}
+use Rattle.idl_check.specs.Declaring.{with_finished}
+use Rattle.idl_check.specs.Placing.{depth, faulty_step, is_misplaced, opened_kind, opening_faults, step_of}
+use Rattle.idl_check.specs.Row.{row_of}
+use Rattle.idl_check.specs.Walk.{Walk, first_walk, walk}
+use Rattle.idl_check.specs.declared.verdict.Verdict.{Verdict}
+use Rattle.idl_event.specs.declared.code.Code.TheVariants.{NoTree, MisplacedUnit}
+use Rattle.idl_lex.specs.Keywords.{folded}
+use Rattle.idl_lex.specs.Tokens.{Token}
+use Rattle.idl_memo.specs.Query.{Done, Ask, and_then}
+use Rattle.idl_scope.specs.Facts.{UnitFacts, path_around, scopes_in}
+use Rattle.idl_scope.specs.Lookup.{Lookup, outward}
+use Rattle.idl_scope.specs.declared.addition.Step.{Step}
+use Rattle.idl_scope.specs.declared.addition.Step.TheVariants.{Stays, Opens, OpensNameless, Closes}
+use Rattle.idl_scope.specs.declared.answer.Scope.{Scope}
+use Rattle.idl_scope.specs.declared.entity.Entity.{Entity}
+use Rattle.idl_scope.specs.declared.key.Key.TheVariants.{Cursor, Opened, Nameless}
+use Rattle.idl_site.specs.Item.{Item, items}
+use Rattle.idl_site.specs.Item.Item as item
+use Rattle.idl_site.specs.UnitParts.{unit_parts}
+use Rattle.idl_syntax.specs.Parse.{pragma_faults}
+use Rattle.idl_tree.specs.Lexeme.{Lexeme, lexemes}
+use Rattle.idl_tree.specs.ReadUnit.{unit_at}
+use Rattle.idl_tree.specs.declared.unit.Tree.{Tree}
+use Rattle.idl_tree.specs.declared.unit.Tree.TheVariants as tree
+use Rattle.idl_unit.specs.Faults.{least_fault}
+use Rattle.idl_unit.specs.TokenRules.{fault_at, token_faults}
+use Rattle.idl_unit.specs.declared.fault.Fault.{Fault}
+use Rattle.idl_unit.specs.declared.unit.UnitText.{UnitText}
+use Rattle.idl_unit.specs.declared.unit.UnitText.TheVariants as unit
+
+-- what a unit with this fault adds: nothing but what it does to the open scopes
+abbrev pub faulty : Fault → Step → Verdict
+faulty fault step = record {
+  fault = Some fault;
+  writes = record { additions = []; step = step };
+  row = None;
+}
+
+-- a faulty unit of tokens; for an opening it is asked how many nameless scopes there were
+abbrev pub refused : List Token → Fault → Lookup Verdict
+refused tokens fault =
+    elim (opened_kind tokens) [
+      | None ↦ Done (faulty fault (faulty_step tokens))
+      | Some kind ↦ Ask Nameless (λ count. Done (faulty fault (faulty_step tokens)))
+    ]
+
+-- how many scopes are open around a unit: around a closing, those open after it
+abbrev pub row_depth : Tree → List Scope → ℕ
+row_depth tree.Closing scopes = depth scopes - 1
+row_depth other scopes = depth scopes
+
+-- a unit without fault, over which a walk has come to this
+abbrev pub sound : List Token → List Scope → Tree → Walk → Verdict
+sound tokens scopes tree w = record {
+  fault = None;
+  writes = record {
+    additions = with_finished w.bases.paths w.own w.begun;
+    step = step_of tree (path_around scopes);
+  };
+  row = Some (row_of (row_depth tree scopes) tokens (items (unit_parts tree)) w.found);
+}
+
+-- of a scope that is opened it is asked how often it was before
+abbrev pub asking : Step → Verdict → Lookup Verdict
+asking (Opens path kind) verdict = Ask (Opened path) (λ count. Done verdict)
+asking other verdict = Done verdict
+
+-- what a walk comes to
+abbrev pub judged : List Token → List Scope → Tree → Walk → Lookup Verdict
+judged tokens scopes tree w =
+    elim w.fault [
+      | Some fault ↦ refused tokens fault
+      | None ↦ asking (step_of tree (path_around scopes)) (sound tokens scopes tree w)
+    ]
+
+-- the part of a name with which the sites begin, if they do
+abbrev pub first_part : List Item → Option (List ℕ)
+first_part (item.Tokens 0 ∷ sites) = first_part sites
+first_part (item.Used way name ∷ sites) = if name.is_global then None else Some name.first
+first_part others = None
+
+-- a unit that its scope doesn't hold: what its first token asks is asked, and no more
+abbrev pub misplaced : ℕ → List Token → List Scope → Tree → Lookup Verdict
+misplaced turns tokens scopes tree =
+    and_then
+    (elim (first_part (items (unit_parts tree)))
+      [ None ↦ Done [] | Some name ↦ outward turns scopes (folded name) ])
+    (λ found. refused tokens (fault_at 0 MisplacedUnit))
+
+-- the third step
+abbrev pub by_names : ℕ → List Token → List Scope → Tree → Lookup Verdict
+by_names turns tokens scopes tree =
+    if is_misplaced tree scopes then misplaced turns tokens scopes tree
+    else and_then (walk turns (items (unit_parts tree)) (first_walk scopes))
+    (λ w. judged tokens scopes tree w)
+
+-- the tree that all of these tokens spell
+abbrev pub whole : Result (Tree × List Lexeme) ℕ → Option Tree
+whole (Ok (tree, [])) = Some tree
+whole other = None
+
+abbrev pub tree_of : List Token → Option Tree
+tree_of tokens = whole (unit_at (suc (length tokens)) (lexemes tokens))
+
+-- the second step, and then the third
+abbrev pub by_tree : ℕ → List Token → List Scope → Lookup Verdict
+by_tree turns tokens scopes =
+    elim (tree_of tokens) [
+      | None ↦ refused tokens (fault_at 0 NoTree)
+      | Some tree ↦ by_names turns tokens scopes tree
+    ]
+
+-- the faults of the first step
+abbrev pub first_faults : List Token → List Scope → List Fault
+first_faults tokens scopes = token_faults tokens ++ opening_faults tokens scopes
+
+-- a unit of tokens in these scopes
+abbrev pub token_verdict : ℕ → List Token → List Scope → Lookup Verdict
+token_verdict turns tokens scopes =
+    elim (least_fault (first_faults tokens scopes)) [
+      | Some fault ↦ refused tokens fault
+      | None ↦ by_tree turns tokens scopes
+    ]
+
+-- a pragma, which adds nothing as yet
+abbrev pub pragma_verdict : Option Fault → Verdict
+pragma_verdict fault = record {
+  fault = fault;
+  writes = record { additions = []; step = Stays };
+  row = None;
+}
+
+-- a unit
+unfoldable pub verdict : ℕ → UnitText → Lookup Verdict
+verdict turns (unit.Tokens tokens) =
+    Ask Cursor (λ cursor. token_verdict turns tokens (scopes_in cursor))
+verdict turns (unit.Pragma tokens inside) =
+    Ask Cursor (λ cursor. Done (pragma_verdict (least_fault (pragma_faults tokens inside))))

@@ -1,0 +1,187 @@
+//! Declared names: what they are declared as, and what is wrong with that.
+
+ghost use Rattle.std.specs.Prelude.{◌≡◌, IfOk};
+ghost use Rattle.idl_check.specs.Declaring.{kind_of, is_local_in, stage_of, entity_of, finished, may_be_ahead, may_follow, differs, is_name_of_scope, declared_table, stays};
+ghost use Rattle.idl_check.specs.Codes.{codes_in};
+ghost use Rattle.idl_unit.specs.TokenRules.{first};
+
+use crate::codes::first_code;
+use crate::standing::Standing;
+use idl_base::Seq;
+use idl_event::Code;
+use idl_lex::Spelling;
+use idl_scope::{Entity, Kind, Path, Scope, Shared, Stage, folded_name};
+use idl_site::Declaration;
+use std::alloc::{AllocError, Global};
+
+/// What is declared.
+pub fn kind_of(way: Declaration) -> Kind
+    ensures { result ≡ kind_of way }
+{
+    match way {
+        Declaration::Module => Kind::Module,
+        Declaration::Interface(_) | Declaration::InterfaceAhead(_) => Kind::Interface,
+        Declaration::Structure | Declaration::StructureAhead => Kind::Structure,
+        Declaration::Union | Declaration::UnionAhead => Kind::Union,
+        Declaration::Exception => Kind::Exception,
+        Declaration::Enumeration => Kind::Enumeration,
+        Declaration::Enumerator => Kind::Enumerator,
+        Declaration::Alias => Kind::Alias,
+        Declaration::Native => Kind::Native,
+        Declaration::Constant => Kind::Constant,
+        Declaration::Attribute => Kind::Attribute,
+        Declaration::Operation => Kind::Operation,
+        Declaration::Parameter => Kind::Parameter,
+        Declaration::Member => Kind::Member,
+    }
+}
+
+// Whether it is an interface that is declared local.
+fn is_local_in(way: Declaration) -> bool
+    ensures { result ≡ is_local_in way }
+{
+    match way {
+        Declaration::Interface(is_local) | Declaration::InterfaceAhead(is_local) => is_local,
+        _ => false,
+    }
+}
+
+// How far it has come at its name.
+fn stage_of(way: Declaration) -> Stage
+    ensures { result ≡ stage_of way }
+{
+    match way {
+        Declaration::InterfaceAhead(_) | Declaration::StructureAhead | Declaration::UnionAhead => {
+            Stage::Ahead
+        }
+        Declaration::Interface(_)
+        | Declaration::Structure
+        | Declaration::Union
+        | Declaration::Constant => Stage::Begun,
+        _ => Stage::Complete,
+    }
+}
+
+/// The entity that a name is declared as in the scope at a path.
+pub fn entity_of(
+    alloc: Global,
+    way: Declaration,
+    name: &Spelling,
+    scope: &Path,
+) -> Result<Shared<Entity>, AllocError>
+    ensures { IfOk result (λ entity. entity ≡ entity_of way name.now scope.now) }
+{
+    let path = scope.child(alloc, name)?;
+    let entity = Entity {
+        path,
+        kind: kind_of(way),
+        is_local: is_local_in(way),
+        stage: stage_of(way),
+        bases: Seq::new(alloc),
+        operations: Seq::new(alloc),
+    };
+    Shared::new(alloc, entity)
+}
+
+/// An entity that has begun, as its unit leaves it: an interface is open with these bases.
+pub fn finished(
+    alloc: Global,
+    bases: &Seq<Path>,
+    begun: &Entity,
+) -> Result<Shared<Entity>, AllocError>
+    ensures { IfOk result (λ entity. entity ≡ finished bases.now begun.now) }
+{
+    let is_interface = begun.kind == Kind::Interface;
+    let path = begun.path.clone()?;
+    let bases = if is_interface { bases.clone()? } else { begun.bases.clone()? };
+    let operations = begun.operations.clone()?;
+    let entity = Entity {
+        path,
+        kind: begun.kind,
+        is_local: begun.is_local,
+        stage: if is_interface { Stage::Open } else { Stage::Complete },
+        bases,
+        operations,
+    };
+    Shared::new(alloc, entity)
+}
+
+// Whether it may be declared ahead.
+fn may_be_ahead(kind: Kind) -> bool
+    ensures { result ≡ may_be_ahead kind }
+{
+    kind == Kind::Interface || kind == Kind::Structure || kind == Kind::Union
+}
+
+// Whether one of them is declared ahead, and both may be.
+fn come_ahead(old: &Entity, new: &Entity) -> bool {
+    may_be_ahead(old.kind)
+        && may_be_ahead(new.kind)
+        && (old.stage == Stage::Ahead || new.stage == Stage::Ahead)
+}
+
+// Whether a name that is there may be declared again as this.
+fn may_follow(old: &Entity, new: &Entity) -> bool
+    ensures { result ≡ may_follow old.now new.now }
+{
+    let are_modules = old.kind == Kind::Module && new.kind == Kind::Module;
+    old.path.name() == new.path.name() && (are_modules || come_ahead(old, new))
+}
+
+// Whether it is then of another kind, or local as the other isn't.
+fn differs(old: &Entity, new: &Entity) -> bool
+    ensures { result ≡ differs old.now new.now }
+{
+    old.kind != new.kind || old.is_local != new.is_local
+}
+
+// Whether the name is the scope's own.
+fn is_name_of_scope(alloc: Global, scope: &Scope, new: &Entity) -> Result<bool, AllocError>
+    ensures { IfOk result (λ b. b ≡ is_name_of_scope scope.now new.now) }
+{
+    if !scope.kind.is_scope() {
+        return Ok(false);
+    }
+    let own = folded_name(alloc, scope.path.name())?;
+    let name = folded_name(alloc, new.path.name())?;
+    Ok(own == name)
+}
+
+/// The code of the least fault of a declared name.
+pub fn declared_code(
+    alloc: Global,
+    scope: &Scope,
+    standing: &Standing,
+    new: &Entity,
+) -> Result<Option<Code>, AllocError>
+    ensures { IfOk result (λ code.
+        code ≡ first (codes_in (declared_table scope.now standing.now new.now))) }
+{
+    let (is_taken, is_other) = match &standing.there {
+        Some(old) => {
+            let follows = may_follow(old.get(), new);
+            (!follows, follows && differs(old.get(), new))
+        }
+        None => (false, false),
+    };
+    let is_own = is_name_of_scope(alloc, scope, new)?;
+    Ok(first_code(&[
+        (is_taken, Code::AlreadyDeclared),
+        (is_own, Code::NameOfScope),
+        (standing.is_used, Code::DeclaredAfterUse),
+        (is_other, Code::OtherForward),
+        (standing.is_inherited, Code::InheritedTwice),
+    ]))
+}
+
+/// Whether what is there already stays as it is.
+pub fn stays(there: &Option<Shared<Entity>>, new: &Entity) -> bool
+    ensures { result ≡ stays there.now new.now }
+{
+    match there {
+        Some(old) => {
+            may_follow(old.get(), new) && (new.kind == Kind::Module || new.stage == Stage::Ahead)
+        }
+        None => false,
+    }
+}

@@ -1,0 +1,20 @@
+//! Declarations: the verdict of each unit of a root, which is its least fault, or what it adds to the facts, and its row in the
+//! dump.
+//!
+//! A unit is walked over in the order of its tokens, each name is looked up by questions, and each site has a table of what may
+//! be wrong there. Nothing here knows places, or the values of expressions.
+#![tactic(auto)]
+
+mod bases;
+mod codes;
+mod declaring;
+mod placing;
+mod row;
+mod standing;
+mod task;
+mod using;
+mod verdict;
+mod walk;
+
+pub use task::DeclarationTask;
+pub use verdict::{Row, Verdict};
