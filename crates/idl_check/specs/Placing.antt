@@ -1,5 +1,5 @@
 -- Where a unit may stand, and what it does to the open scopes.
-use Rattle.std.specs.Prelude.{ℕ, ◌-◌, ◌≤◌, Bool, true, false, ◌&&◌, ◌||◌, List, [], ◌∷◌, length, nat_leq, not, Option, None, Some, if◌then◌else◌}
+use Rattle.std.specs.Prelude.{ℕ, ◌-◌, ◌≤◌, Bool, true, false, ◌&&◌, ◌||◌, List, [], ◌∷◌, length, nat_le, not, Option, None, Some, if◌then◌else◌}
 use Rattle.idl_check.specs.Codes.{faults_by}
 use Rattle.idl_event.specs.declared.code.Code.TheVariants.{NestedTooDeep}
 use Rattle.idl_lex.specs.Tokens.{Token}
@@ -22,7 +22,7 @@ use Rattle.idl_unit.specs.declared.role.Rule.TheVariants.{Closing, Heading, Decl
 
 abbrev pub is_module : Role → Bool
 is_module Module = true
-is_module other = false
+is_module role = false
 
 -- the kind of the scope that a heading opens: what its keyword says, where it ends in `{`
 abbrev pub heading_kind : List Token → Option Kind
@@ -65,7 +65,7 @@ abbrev pub opening_faults : List Token → List Scope → List Fault
 opening_faults tokens scopes =
     elim (opened_kind tokens) [
       | None ↦ []
-      | Some kind ↦ faults_by (length tokens - 1) ((nat_leq 64 (depth scopes), NestedTooDeep) ∷ [])
+      | Some kind ↦ faults_by (length tokens - 1) ((nat_le 64 (depth scopes), NestedTooDeep) ∷ [])
     ]
 
 -- in a scope that is an interface or not, a unit stands that may not stand there
@@ -84,5 +84,5 @@ is_interface (s ∷ scopes) = kind_eq s.kind kind.Interface
 
 -- a unit that the innermost of these scopes doesn't hold; the global scope holds no closing
 abbrev pub is_misplaced : Tree → List Scope → Bool
-is_misplaced tree.Closing scopes = nat_leq (depth scopes) 0
+is_misplaced tree.Closing scopes = nat_le (depth scopes) 0
 is_misplaced other scopes = is_misplaced_in (is_interface scopes) other

@@ -1,13 +1,12 @@
 -- The row of a unit in the dump.
-use Rattle.std.specs.Prelude.{ℕ, ◌+◌, ◌-◌, ◌*◌, ◌/◌, ◌%◌, Bool, true, false, ◌&&◌, ◌||◌, List, [], ◌∷◌, ◌++◌, codes, drop, flat_map, length, nat_eq, nat_leq, repeat, reverse, take, Option, None, Some, if◌then◌else◌}
+use Rattle.std.specs.Prelude.{ℕ, ◌+◌, ◌-◌, ◌*◌, ◌/◌, ◌%◌, Bool, true, false, ◌&&◌, ◌||◌, List, [], ◌∷◌, ◌++◌, codes, drop, flat_map, length, nat_eq, nat_le, repeat, reverse, take, Option, None, Some, if◌then◌else◌}
 use Rattle.std.specs.List.{list_any}
 use Rattle.std.specs.Str.{bytes_eq}
 use Rattle.idl_check.specs.declared.verdict.Row.{Row}
 use Rattle.idl_check.specs.declared.verdict.Row.TheVariants.{Spelled, Unknown}
 use Rattle.idl_lex.specs.Keywords.{like_keyword}
 use Rattle.idl_lex.specs.Tokens.{Token}
-use Rattle.idl_site.specs.Item.{Item, item_length}
-use Rattle.idl_site.specs.Item.Item as item
+use Rattle.idl_site.specs.Item.{Item, item_length, Item as item}
 use Rattle.idl_tree.specs.declared.several.Several.{Several}
 
 -- a name, with `_` before it where it is a keyword but for the case of letters
@@ -23,7 +22,7 @@ path_word path = flat_map (λ name. codes "::" ++ escaped name) (reverse path)
 abbrev pub character : ℕ → List ℕ
 character c =
     if nat_eq c 34 || nat_eq c 92 then 92 ∷ c ∷ []
-    else if nat_leq 32 c && nat_leq c 126 then c ∷ []
+    else if nat_le 32 c && nat_le c 126 then c ∷ []
     else 92 ∷ 48 + c / 64 ∷ 48 + (c / 8) % 8 ∷ 48 + c % 8 ∷ []
 
 -- string literals as one
@@ -63,6 +62,6 @@ is_value other = false
 
 -- the row of a unit around which so many scopes are open
 unfoldable pub row_of : ℕ → List Token → List Item → List (List (List ℕ)) → Row
-row_of open tokens sites found =
+row_of depth tokens sites found =
     if list_any is_value sites then Unknown
-    else Spelled (repeat (2 * open) 32 ++ spaced (words tokens sites found))
+    else Spelled (repeat (2 * depth) 32 ++ spaced (words tokens sites found))

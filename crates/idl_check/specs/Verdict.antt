@@ -17,8 +17,7 @@ use Rattle.idl_scope.specs.declared.addition.Step.TheVariants.{Stays, Opens, Ope
 use Rattle.idl_scope.specs.declared.answer.Scope.{Scope}
 use Rattle.idl_scope.specs.declared.entity.Entity.{Entity}
 use Rattle.idl_scope.specs.declared.key.Key.TheVariants.{Cursor, Opened, Nameless}
-use Rattle.idl_site.specs.Item.{Item, items}
-use Rattle.idl_site.specs.Item.Item as item
+use Rattle.idl_site.specs.Item.{Item, items, Item as item}
 use Rattle.idl_site.specs.UnitParts.{unit_parts}
 use Rattle.idl_syntax.specs.Parse.{pragma_faults}
 use Rattle.idl_tree.specs.Lexeme.{Lexeme, lexemes}

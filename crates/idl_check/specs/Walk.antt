@@ -16,8 +16,7 @@ use Rattle.idl_scope.specs.declared.fault.NameFault.{NameFault}
 use Rattle.idl_scope.specs.declared.fault.NameFault.TheVariants.{At, Memory}
 use Rattle.idl_scope.specs.declared.found.Found.{Found}
 use Rattle.idl_scope.specs.declared.kind.Stage.TheVariants.{Begun}
-use Rattle.idl_site.specs.Item.{Item, item_length}
-use Rattle.idl_site.specs.Item.Item as item
+use Rattle.idl_site.specs.Item.{Item, item_length, Item as item}
 use Rattle.idl_site.specs.declared.site.Declaration.{Declaration}
 use Rattle.idl_site.specs.declared.site.Use.{Use}
 use Rattle.idl_tree.specs.declared.name.ScopedName.{ScopedName}
