@@ -1,7 +1,6 @@
 -- The laws of names, from what lookup comes to.
-use Rattle.std.proofs.Common.{◌≡◌, ℕ, ◌≤◌, Bool, true, false, cond, List, ◌++◌, length, take, Option, Some, Result, Ok, Err, length-append, subst, ap, ◌∙◌, arith, sym}
-use Rattle.std.specs.Prelude.{◌≢◌, ◌↔◌, AllPairs, Contains}
-use Rattle.std.proofs.lemmas.Bool.{false≢true}
+use Rattle.std.proofs.Common.{◌≡◌, ℕ, ◌+◌, ◌≤◌, Bool, true, false, cond, List, ◌++◌, length, take, Option, Some, Result, Ok, Err, length-append, subst, ap, ◌∙◌, arith, sym}
+use Rattle.std.specs.Prelude.{◌≢◌, ◌↔◌, AllPairs, Contains, IfOk, MatchBool}
 use Rattle.idl_lex.specs.Keywords.{folded}
 use Rattle.idl_memo.specs.Query.{outcome, run}
 use Rattle.idl_tree.specs.declared.name.ScopedName.{ScopedName}
@@ -9,7 +8,7 @@ use Rattle.idl_scope.specs.Bases.{bases_in, bases_among, bases_named, HasTurnsFo
 use Rattle.idl_scope.specs.Facts.{UnitFacts, answers}
 use Rattle.idl_scope.specs.Key.{key_eq}
 use Rattle.idl_scope.specs.Lookup.{IfSettled, denoted, has, reach, searched, under}
-use Rattle.idl_scope.specs.Meaning.{Denotes, FirstHas, Has, Introduces, StandInModules, entity_found, own_at, seen}
+use Rattle.idl_scope.specs.Meaning.{Denotes, FirstHas, Has, Introduces, Reaches, entity_found, own_at, seen}
 use Rattle.idl_scope.specs.Path.{name_of, scope_of}
 use Rattle.idl_scope.specs.declared.addition.Addition.{Addition}
 use Rattle.idl_scope.specs.declared.answer.Answer.{Answer}
@@ -20,7 +19,7 @@ use Rattle.idl_scope.specs.declared.fault.NameFault.TheVariants.{At, Memory}
 use Rattle.idl_scope.specs.declared.found.Found.{Found}
 use Rattle.idl_scope.specs.declared.key.Key.{Key}
 use Rattle.idl_scope.specs.declared.kind.Kind.{Kind}
-use Rattle.idl_scope.proofs.Membership.{IsIn, IsIn-left, IsIn-right, Contains-IsIn, IsIn-Contains, AllPairs-Distinct}
+use Rattle.idl_scope.proofs.Membership.{IsIn-left, IsIn-right, Contains-IsIn, IsIn-Contains, AllPairs-Distinct}
 use Rattle.idl_scope.proofs.FactsLaws.{outcome-under}
 use Rattle.idl_scope.proofs.Introduced.{first-home, Introduces_in, in_Introduces}
 use Rattle.idl_scope.proofs.Meant.{has-Has, denoted-Denotes, denoted-Ok}
@@ -46,20 +45,18 @@ module _ (facts : List UnitFacts) (own : List Addition) where
   pub own_path : (n : List ℕ) (path : List (List ℕ)) (e : Entity) → own_at (seen own facts) n path ≡ Some e → (folded (name_of e.path) ≡ n) × (scope_of e.path ≡ path)
   own_path n path e h = (own_at-name places (seen own facts) seen-grounded n path e h, own_at-home places (seen own facts) seen-grounded n path e h)
 
-  -- a name without leading `::` is introduced into the scopes that the rules tell, and, where scopes with bases stand in modules,
-  -- into no others
-  introduces_by : (b : Bool) → b ≡ false → (cursor : List Scope) (n : List ℕ) (first : Entity) → FirstHas (seen own facts) (searched b cursor) n first → (r : ℕ) → r ≡ cond b 0 (reach cursor first)
-      → ((s : Scope) → Introduces (seen own facts) cursor n s → IsIn s (take r cursor)) × (StandInModules (seen own facts) cursor → (s : Scope) → IsIn s (take r cursor) → Introduces (seen own facts) cursor n s)
-  introduces_by true g cursor n first has r e = absurd (false≢true (sym g))
-  introduces_by false g cursor n first has r e =
+  -- a name is introduced into the scopes that the rules tell, and into no others
+  reaches_by : (b : Bool) (cursor : List Scope) (n : List ℕ) (first : Entity) → ((x : Entity) → FirstHas (seen own facts) (searched b cursor) n x → x ≡ first) → (r : ℕ) → r ≡ cond b 0 (reach cursor first)
+      → MatchBool b (r ≡ 0) ((x : Entity) → FirstHas (seen own facts) cursor n x → (s : Scope) → Contains (take r cursor) s ↔ Introduces (seen own facts) cursor n x s)
+  reaches_by true cursor n first only r e = e
+  reaches_by false cursor n first only r e = λ x h s.
       let at_home = own_at-home places (seen own facts) seen-grounded n in
-      let home = first-home (seen own facts) n at_home cursor first has in
-      rw e (Introduces_in (seen own facts) n at_home first home cursor, λ stand s i. in_Introduces (seen own facts) n at_home first home cursor s has stand i)
-
-  -- and one with it into none
-  none_by : (b : Bool) → b ≡ true → (r reaches : ℕ) → r ≡ cond b 0 reaches → r ≡ 0
-  none_by true g r reaches e = e
-  none_by false g r reaches e = absurd (false≢true g)
+      let home = first-home (seen own facts) n at_home cursor x h in
+      let far : r ≡ reach cursor x = e ∙ ap (reach cursor) (sym (only x h)) in
+      rw far (
+        λ c. in_Introduces (seen own facts) n at_home x home cursor s (IsIn-Contains s (take (reach cursor x) cursor) c),
+        λ i. Contains-IsIn s (take (reach cursor x) cursor) (Introduces_in (seen own facts) n at_home x home cursor s i),
+      )
 
   module _ (turns : ℕ) (h : HasTurnsFor facts own turns) where
     enough : length places ≤ turns
@@ -77,25 +74,37 @@ module _ (facts : List UnitFacts) (own : List Addition) where
     pub denotes : (cursor : List Scope) (name : ScopedName) → Denotes (seen own facts) cursor name (entity_found (outcome (denoted turns cursor name) (seen own facts)))
     denotes cursor name = denoted-Denotes places (seen own facts) seen-grounded turns enough cursor name
 
-    -- what a run under a unit's own additions leaves is what the name denotes
-    pub denotes-run : (cursor : List Scope) (name : ScopedName) (log after : List (Key × Option Answer)) (r : Result Found NameFault)
-        → (r, after) ≡ run key_eq (under own (denoted turns cursor name)) (answers facts) log → Denotes (seen own facts) cursor name (entity_found r)
-    denotes-run cursor name log after r same =
-        let found : r ≡ outcome (denoted turns cursor name) (seen own facts) = ap (λ (p : Result Found NameFault × List (Key × Option Answer)). p.0) same ∙ outcome-under own (answers facts) (denoted turns cursor name) in
-        let Q : Result Found NameFault → Type 0 = λ x. Denotes (seen own facts) cursor name (entity_found x) in
-        subst Q (sym found) (denotes cursor name)
-
-    pub introduces-all : (cursor : List Scope) (name : ScopedName) (found : Found) → outcome (denoted turns cursor name) (seen own facts) ≡ Ok found → name.is_global ≡ false
-        → (s : Scope) → Introduces (seen own facts) cursor (folded name.first) s → Contains (take found.reach cursor) s
-    introduces-all cursor name found h g s i =
+    pub reaches : (cursor : List Scope) (name : ScopedName) (found : Found) → outcome (denoted turns cursor name) (seen own facts) ≡ Ok found → Reaches (seen own facts) cursor name found.reach
+    reaches cursor name found h =
         let first = denoted-Ok places (seen own facts) seen-grounded turns enough cursor name found h in
-        Contains-IsIn s (take found.reach cursor) ((introduces_by name.is_global g cursor (folded name.first) first.0 first.1 found.reach first.2).0 s i)
+        reaches_by name.is_global cursor (folded name.first) first.0 first.1 found.reach first.2
 
-    pub introduces-only : (cursor : List Scope) (name : ScopedName) (found : Found) → outcome (denoted turns cursor name) (seen own facts) ≡ Ok found → name.is_global ≡ false
-        → StandInModules (seen own facts) cursor → (s : Scope) → Contains (take found.reach cursor) s → Introduces (seen own facts) cursor (folded name.first) s
-    introduces-only cursor name found h g stand s i =
-        let first = denoted-Ok places (seen own facts) seen-grounded turns enough cursor name found h in
-        (introduces_by name.is_global g cursor (folded name.first) first.0 first.1 found.reach first.2).1 stand s (IsIn-Contains s (take found.reach cursor) i)
+  -- ---- of runs under a unit's own additions, in which however many turns make no difference from some number on
 
-    pub introduces-none : (cursor : List Scope) (name : ScopedName) (found : Found) → outcome (denoted turns cursor name) (seen own facts) ≡ Ok found → name.is_global ≡ true → found.reach ≡ 0
-    introduces-none cursor name found h g = let first = denoted-Ok places (seen own facts) seen-grounded turns enough cursor name found h in none_by name.is_global g found.reach (reach cursor first.0) first.2
+  Runs : ℕ → List Scope → ScopedName → List (Key × Option Answer) → List (Key × Option Answer) → Result Found NameFault → Type 0
+  Runs least cursor name log after r = (turns : ℕ) → least ≤ turns → (r, after) ≡ run key_eq (under own (denoted turns cursor name)) (answers facts) log
+
+  -- what is left is what is found with turns for all bases
+  enough_turns : (least : ℕ) (cursor : List Scope) (name : ScopedName) (log after : List (Key × Option Answer)) (r : Result Found NameFault) → Runs least cursor name log after r
+      → (turns : ℕ) × HasTurnsFor facts own turns × (r ≡ outcome (denoted turns cursor name) (seen own facts))
+  unfolding Runs
+  enough_turns least cursor name log after r runs =
+      let named = length (bases_named facts) + length (bases_among own) in
+      let same = runs (least + named) (omega arith) in
+      (least + named, omega arith, ap (λ (p : Result Found NameFault × List (Key × Option Answer)). p.0) same ∙ outcome-under own (answers facts) (denoted (least + named) cursor name))
+
+  pub denotes-run : (least : ℕ) (cursor : List Scope) (name : ScopedName) (log after : List (Key × Option Answer)) (r : Result Found NameFault)
+      → ((turns : ℕ) → least ≤ turns → (r, after) ≡ run key_eq (under own (denoted turns cursor name)) (answers facts) log) → Denotes (seen own facts) cursor name (entity_found r)
+  unfolding Runs
+  denotes-run least cursor name log after r runs =
+      let known = enough_turns least cursor name log after r runs in
+      let Q : Result Found NameFault → Type 0 = λ x. Denotes (seen own facts) cursor name (entity_found x) in
+      subst Q (sym known.2) (denotes known.0 known.1 cursor name)
+
+  pub reaches-run : (least : ℕ) (cursor : List Scope) (name : ScopedName) (log after : List (Key × Option Answer)) (r : Result Found NameFault)
+      → ((turns : ℕ) → least ≤ turns → (r, after) ≡ run key_eq (under own (denoted turns cursor name)) (answers facts) log) → IfOk r (λ found. Reaches (seen own facts) cursor name found.reach)
+  unfolding Runs
+  reaches-run least cursor name log after (Ok found) runs =
+      let known = enough_turns least cursor name log after (Ok found) runs in
+      reaches known.0 known.1 cursor name found (sym known.2)
+  reaches-run least cursor name log after (Err fault) runs = tt

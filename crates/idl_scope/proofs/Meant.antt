@@ -46,15 +46,16 @@ err_ok h = cc
 ok_same : {A B : Type 0} {x y : A} → ◌≡◌ {A = Result A B} (Ok x) (Ok y) → x ≡ y
 ok_same h = cc
 
--- what is judged to be the one entity is among the list
-judged-Ok : (name : List ℕ) (es : List Entity) (e : Entity) → judged name es ≡ Ok e → IsIn e es
-judged-Ok name [] e h = absurd (err_ok h)
-judged-Ok name (x ∷ []) e h = by_test (bytes_eq (name_of x.path) name) h
+-- what is judged to be the one entity is all of the list
+judged-only : (name : List ℕ) (es : List Entity) (e : Entity) → judged name es ≡ Ok e → (x : Entity) → IsIn x es → x ≡ e
+judged-only name [] e h x i = absurd i
+judged-only name (y ∷ []) e h x (inr i) = absurd i
+judged-only name (y ∷ []) e h x (inl same) = by_test (bytes_eq (name_of y.path) name) h
   where
-    by_test : (t : Bool) → cond t (Ok x) (Err OtherSpelling) ≡ Ok e → IsIn e (x ∷ [])
-    by_test true k = inl (ok_same k)
+    by_test : (t : Bool) → cond t (Ok y) (Err OtherSpelling) ≡ Ok e → x ≡ e
+    by_test true k = sym same ∙ ok_same k
     by_test false k = absurd (err_ok k)
-judged-Ok name (x ∷ y ∷ es) e h = absurd (err_ok h)
+judged-only name (y ∷ z ∷ es) e h x i = absurd (err_ok h)
 
 judged-Judges : (P : Entity → Type 0) (es : List Entity) → IsAll P es → (name : List ℕ) → Judges P name (judged name es)
 judged-Judges P [] is name = λ x p. (is.0 x).1 p
@@ -189,9 +190,9 @@ module _ (places : List (List (List ℕ))) (bank : Key → Option Answer) (g : A
       goes (Ok first) = let Q : Result Entity NameFault → Type 0 = DenotesIn bank 0 first name.rest in subst Q (sym (finish cursor name first)) (further-DenotesIn 0 first name.rest)
       goes (Err code) = refl
 
-  -- where a name is found, its first part is found, and introduced as far as that reaches
+  -- where a name is found, its first part is found, as nothing else, and introduced as far as that reaches
   abbrev HasFirst : List Scope → ScopedName → Found → Type 0
-  HasFirst cursor name found = (first : Entity) × FirstHas bank (searched name.is_global cursor) (folded name.first) first × (found.reach ≡ cond name.is_global 0 (reach cursor first))
+  HasFirst cursor name found = (first : Entity) × ((x : Entity) → FirstHas bank (searched name.is_global cursor) (folded name.first) x → x ≡ first) × (found.reach ≡ cond name.is_global 0 (reach cursor first))
 
   pub denoted-Ok : (cursor : List Scope) (name : ScopedName) (found : Found) → outcome (denoted turns cursor name) bank ≡ Ok found → HasFirst cursor name found
   denoted-Ok cursor name found h = by_judged (judged name.first es) refl (sym comes ∙ h)
@@ -214,5 +215,5 @@ module _ (places : List (List (List ℕ))) (bank : Key → Option Answer) (g : A
       reaches first (Err fault) k = absurd (err_ok k)
 
       by_judged : (j : Result Entity NameCode) → judged name.first es ≡ j → outcome (on (placed 0 j)) bank ≡ Ok found → HasFirst cursor name found
-      by_judged (Ok first) j k = (first, (all.0 first).0 (judged-Ok name.first es first j), reaches first (outcome (further turns 0 first name.rest) bank) (sym (outcome-and_then (further turns 0 first name.rest) (λ last. Done (found_as name cursor first last)) bank) ∙ k))
+      by_judged (Ok first) j k = (first, (λ x h. judged-only name.first es first j x ((all.0 x).1 h)), reaches first (outcome (further turns 0 first name.rest) bank) (sym (outcome-and_then (further turns 0 first name.rest) (λ last. Done (found_as name cursor first last)) bank) ∙ k))
       by_judged (Err code) j k = absurd (err_ok k)

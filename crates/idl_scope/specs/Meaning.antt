@@ -1,5 +1,5 @@
 -- What names denote, over answers: the scoping rules, without a word of how a name is looked up.
-use Rattle.std.specs.Prelude.{◌≡◌, ◌≢◌, ◌⊎◌, ℕ, true, MatchBool, List, [], ◌∷◌, ◌+◌, Option, Some, None, Result, Ok, Err, Contains}
+use Rattle.std.specs.Prelude.{◌≡◌, ◌≢◌, ◌↔◌, ◌⊎◌, ℕ, true, MatchBool, List, [], ◌∷◌, ◌+◌, Option, Some, None, Result, Ok, Err, Contains, take}
 use Rattle.idl_lex.specs.Keywords.{folded}
 use Rattle.idl_tree.specs.declared.name.ScopedName.{ScopedName}
 use Rattle.idl_scope.specs.Facts.{UnitFacts, answers, entity_key, entity_in, over}
@@ -94,32 +94,31 @@ abbrev pub entity_found : Result Found NameFault → Result Entity NameFault
 entity_found (Ok found) = Ok found.entity
 entity_found (Err fault) = Err fault
 
--- the use of a name in these scopes introduces it into this one: the innermost, or one outward of it
--- with no module up to there; and no scope up to there declares it
+-- the use of a name that denotes this introduces it into that one of the scopes in which it stands:
+-- the innermost, or one outward of it with no module up to there; and no scope up to there declares
+-- what it denotes
 abbrev pub NoModuleTo : List Scope → Scope → Type 0
 NoModuleTo [] t = ⊥
 NoModuleTo (s ∷ scopes) t = (s.kind ≢ Module) × ((s ≡ t) ⊎ NoModuleTo scopes t)
 
-abbrev pub NoneDeclaresTo : (Key → Option Answer) → List Scope → List ℕ → Scope → Type 0
-NoneDeclaresTo answers [] n t = ⊥
-NoneDeclaresTo answers (s ∷ scopes) n t =
-    (own_at answers n s.path ≡ None) × ((s ≡ t) ⊎ NoneDeclaresTo answers scopes n t)
+abbrev pub NoneDeclaresTo : (Key → Option Answer) → List Scope → List ℕ → Entity → Scope → Type 0
+NoneDeclaresTo answers [] n e t = ⊥
+NoneDeclaresTo answers (s ∷ scopes) n e t =
+    (own_at answers n s.path ≢ Some e) × ((s ≡ t) ⊎ NoneDeclaresTo answers scopes n e t)
 
 abbrev pub IsInnermost : List Scope → Scope → Type 0
 IsInnermost [] t = ⊥
 IsInnermost (s ∷ scopes) t = s ≡ t
 
-abbrev pub Introduces : (Key → Option Answer) → List Scope → List ℕ → Scope → Type 0
-Introduces answers cursor n t =
-    NoneDeclaresTo answers cursor n t × (IsInnermost cursor t ⊎ NoModuleTo cursor t)
+abbrev pub Introduces : (Key → Option Answer) → List Scope → List ℕ → Entity → Scope → Type 0
+Introduces answers cursor n e t =
+    NoneDeclaresTo answers cursor n e t × (IsInnermost cursor t ⊎ NoModuleTo cursor t)
 
--- the first of these scopes, if there is one, is a module
-abbrev pub IsModuleFirst : List Scope → Type 0
-IsModuleFirst [] = Unit {0}
-IsModuleFirst (s ∷ scopes) = s.kind ≡ Module
-
--- each of these scopes that has bases stands in a module
-abbrev pub StandInModules : (Key → Option Answer) → List Scope → Type 0
-StandInModules answers [] = Unit {0}
-StandInModules answers (s ∷ scopes) =
-    ((bases_at answers s.path ≡ []) ⊎ IsModuleFirst scopes) × StandInModules answers scopes
+-- the use of a scoped name introduces its first part into so many of the scopes, the innermost first,
+-- and into no others; with a leading `::` into none
+abbrev pub Reaches : (Key → Option Answer) → List Scope → ScopedName → ℕ → Type 0
+Reaches answers cursor name reach =
+    MatchBool name.is_global (reach ≡ 0)
+    ((first : Entity) → FirstHas answers cursor (folded name.first) first
+    → (s : Scope) → Contains (take reach cursor) s
+    ↔ Introduces answers cursor (folded name.first) first s)

@@ -21,7 +21,7 @@ pub struct Scope {
 }
 
 /// What an environment answers.
-#[derive(Clone, PartialEq, Eq, Drop)]
+#[derive(Clone, PartialEq, Eq)]
 pub enum Answer {
     /// These scopes are open, the innermost first and the global one last.
     Open(Shared<Seq<Scope>>),
@@ -44,6 +44,16 @@ impl Scope {
             kind: Kind::Module,
             body: 0,
         })
+    }
+}
+
+impl Drop for Answer {
+    fn drop(self) {
+        match self {
+            Answer::Open(_scopes) => {}
+            Answer::Known(_entity) => {}
+            Answer::Used | Answer::Count(_) => {}
+        }
     }
 }
 

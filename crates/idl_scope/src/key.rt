@@ -10,7 +10,7 @@ use idl_lex::Spelling;
 use std::alloc::{AllocError, Global};
 
 /// What is asked of an environment.
-#[derive(Clone, PartialEq, Eq, PartialOrd, Ord, Drop)]
+#[derive(Clone, PartialEq, Eq, PartialOrd, Ord)]
 pub enum Key {
     /// The open scopes.
     Cursor,
@@ -22,6 +22,17 @@ pub enum Key {
     Opened(Path),
     /// How many nameless scopes were opened.
     Nameless,
+}
+
+impl Drop for Key {
+    fn drop(self) {
+        match self {
+            Key::Cursor | Key::Nameless => {}
+            Key::Declared(_name, _path) => {}
+            Key::Introduced(_name, _path, _body) => {}
+            Key::Opened(_path) => {}
+        }
+    }
 }
 
 impl Datum for Key {

@@ -3,14 +3,14 @@
 //! Each function does nothing: it carries its laws as clauses. They hold of any facts, also of such as
 //! no declarations add; only, a walk over bases must be allowed as many turns as the facts name bases.
 
-ghost use Rattle.std.specs.Prelude.{◌≡◌, ◌≢◌, ◌↔◌, ◌∷◌, ◌++◌, [], false, true, ℕ, List, Ok, Option, Result, Some, AllPairs, Contains, take};
+ghost use Rattle.std.specs.Prelude.{◌≡◌, ◌≢◌, ◌↔◌, ◌∷◌, ◌++◌, [], ℕ, List, Ok, Option, Result, Some, AllPairs, Contains};
 ghost use Rattle.idl_lex.specs.Keywords.{folded};
 ghost use Rattle.idl_memo.specs.Query.{Agree, asked, outcome};
 ghost use Rattle.idl_tree.specs.declared.name.ScopedName.{ScopedName};
 ghost use Rattle.idl_scope.specs.Bases.{HasTurnsFor};
 ghost use Rattle.idl_scope.specs.Facts.{UnitFacts, World, after, after_all, answers, over};
 ghost use Rattle.idl_scope.specs.Lookup.{Lookup, denoted, has, under};
-ghost use Rattle.idl_scope.specs.Meaning.{Denotes, Has, Introduces, StandInModules, entity_found, own_at, seen};
+ghost use Rattle.idl_scope.specs.Meaning.{Denotes, Has, Reaches, entity_found, own_at, seen};
 ghost use Rattle.idl_scope.specs.Outside.{AgreeOutside, AreApart, WorldsAgreeOutside, looked_at_by};
 ghost use Rattle.idl_scope.specs.Path.{name_of, scope_of};
 ghost use Rattle.idl_scope.specs.declared.addition.Addition.{Addition};
@@ -57,30 +57,14 @@ pub fn denotation()
         → Denotes answers cursor name r → Denotes answers cursor name s → r ≡ s }
 {}
 
-/// The use of a name introduces its first part into the scopes that the rules tell: as many, the
+/// The use of a name introduces its first part into the scopes that the rules tell, and into no others: as many, the
 /// innermost first, as its reach says.
-///
-/// That they are no more asks that scopes with bases stand in modules, as interfaces do.
 pub fn introduction()
-    ensures all { (facts : List UnitFacts) (own : List Addition) (turns : ℕ)
+    ensures { (facts : List UnitFacts) (own : List Addition) (turns : ℕ)
         → HasTurnsFor facts own turns
         → (cursor : List Scope) (name : ScopedName) (found : Found)
         → outcome (denoted turns cursor name) (seen own facts) ≡ Ok found
-        → name.is_global ≡ false
-        → (s : Scope) → Introduces (seen own facts) cursor (folded name.first) s
-        → Contains (take found.reach cursor) s }
-    ensures only { (facts : List UnitFacts) (own : List Addition) (turns : ℕ)
-        → HasTurnsFor facts own turns
-        → (cursor : List Scope) (name : ScopedName) (found : Found)
-        → outcome (denoted turns cursor name) (seen own facts) ≡ Ok found
-        → name.is_global ≡ false → StandInModules (seen own facts) cursor
-        → (s : Scope) → Contains (take found.reach cursor) s
-        → Introduces (seen own facts) cursor (folded name.first) s }
-    ensures global { (facts : List UnitFacts) (own : List Addition) (turns : ℕ)
-        → HasTurnsFor facts own turns
-        → (cursor : List Scope) (name : ScopedName) (found : Found)
-        → outcome (denoted turns cursor name) (seen own facts) ≡ Ok found
-        → name.is_global ≡ true → found.reach ≡ 0 }
+        → Reaches (seen own facts) cursor name found.reach }
 {}
 
 /// What a unit's earlier tokens add is seen as what a unit adds that changes no open scope. What is

@@ -1,6 +1,6 @@
 //! What a scope has under a name, over an environment and what a unit's earlier tokens add.
 
-ghost use Rattle.std.specs.Prelude.{◌≡◌, ◌++◌, IfOk, OnOk, Some, map, option_to_list};
+ghost use Rattle.std.specs.Prelude.{◌≡◌, ◌≤◌, ◌++◌, ℕ, IfOk, OnOk, Some, map, option_to_list};
 ghost use Rattle.std.specs.Option.{option_copied};
 ghost use Rattle.idl_memo.specs.Query.{noted, run};
 ghost use Rattle.idl_scope.specs.Facts.{answer_of, answers, entity_in, over};
@@ -24,7 +24,7 @@ use idl_lex::Spelling;
 use idl_memo::Log;
 use std::alloc::AllocError;
 
-/// At most so many bases are entered for a name: more than memory holds.
+/// A walk over bases makes no more turns than these: memory holds no longer queue.
 pub const TURNS: usize = usize::MAX;
 
 /// An environment, and over it what a unit's earlier tokens add.
@@ -103,21 +103,24 @@ impl<'a> View<'a> {
         bases: &[Path],
     ) -> Result<Vec<&'a Shared<Entity>>, AllocError>
         ensures { IfOk result (λ es.
+            (turns : ℕ) → TURNS ≤ turns →
             (map (λ e. e.now) es.items, log.new)
             ≡ run key_eq
-            (under self.entry.own.now.additions (reached TURNS name.now bases.now))
+            (under self.entry.own.now.additions (reached turns name.now bases.now))
             (answers self.entry.env.now) log.old) }
     {
         let mut queue = Table::new(self.env.alloc());
         join(&mut queue, bases)?;
         let mut found = Vec::new(self.env.alloc());
-        for turn in 0..TURNS {
+        let mut turn = 0;
+        'bases: while turn < queue.len() {
             let Some((base, ())) = queue.get_index(turn) else {
                 return Ok(found);
             };
             let (declared, more) = self.enter(log, name, base)?;
             keep(&mut found, declared)?;
             join(&mut queue, more)?;
+            turn += 1;
         }
         Ok(found)
     }
@@ -130,10 +133,11 @@ impl<'a> View<'a> {
         name: &Spelling,
     ) -> Result<Vec<&'a Shared<Entity>>, AllocError>
         ensures { IfOk result (λ es.
+            (turns : ℕ) → TURNS ≤ turns →
             (map (λ e. e.now) es.items, log.new)
             ≡ run key_eq
             (under self.entry.own.now.additions
-            (has TURNS place.entry.kind place.entry.path.now name.now))
+            (has turns place.entry.kind place.entry.path.now name.now))
             (answers self.entry.env.now) log.old) }
     {
         let own = self.own(log, place.path, name)?;
@@ -158,9 +162,10 @@ impl<'a> View<'a> {
         name: &Spelling,
     ) -> Result<Vec<&'a Shared<Entity>>, AllocError>
         ensures { IfOk result (λ es.
+            (turns : ℕ) → TURNS ≤ turns →
             (map (λ e. e.now) es.items, log.new)
             ≡ run key_eq
-            (under self.entry.own.now.additions (outward TURNS scopes.now name.now))
+            (under self.entry.own.now.additions (outward turns scopes.now name.now))
             (answers self.entry.env.now) log.old) }
     {
         for scope in scopes {

@@ -1,12 +1,11 @@
 //! What a scoped name denotes.
 
-ghost use Rattle.std.specs.Prelude.{◌≡◌, ◌≤◌, IfOk, if◌then◌else◌, length, map};
+ghost use Rattle.std.specs.Prelude.{◌≡◌, ◌≤◌, ℕ, IfOk, if◌then◌else◌, length, map};
 ghost use Rattle.idl_memo.specs.Query.{run};
-ghost use Rattle.idl_scope.specs.Bases.{HasTurnsFor};
-ghost use Rattle.idl_scope.specs.Facts.{answers, global_scope};
+ghost use Rattle.idl_scope.specs.Facts.{answers};
 ghost use Rattle.idl_scope.specs.Key.{key_eq};
 ghost use Rattle.idl_scope.specs.Lookup.{denoted, further, has, judged, named, outer_reach, part_of, placed, reach, searched, outward, under, IfSettled};
-ghost use Rattle.idl_scope.specs.Meaning.{Denotes, entity_found, seen};
+ghost use Rattle.idl_scope.specs.Meaning.{Denotes, Reaches, entity_found, seen};
 ghost use Rattle.idl_lex.specs.Keywords.{folded};
 ghost use Rattle.idl_scope.specs.declared.lookup.TheConstants.{TURNS};
 
@@ -34,23 +33,28 @@ pub struct Standpoint<'a> {
     pub cursor: &'a [Scope],
 }
 
-/// What a scoped name denotes. The keys asked are logged; after want of memory nothing is said of the log.
+/// What a scoped name denotes, and into which scopes its use introduces it. The keys asked are logged; after want of memory
+/// nothing is said of the log.
 ///
-/// A walk over bases makes at most `TURNS` turns, which are more than enough: one for each base that the facts name.
+/// The definition of a lookup bounds the turns of a walk over bases, and no bound from `TURNS` on, more than memory can queue,
+/// cuts a walk short: what is given and logged is the same under each.
 pub fn resolve(
     env: &Env,
     log: &mut Log<Env>,
     place: Standpoint<'_>,
     name: &ScopedName,
 ) -> Result<Found, NameFault>
-    ensures denotes { HasTurnsFor env.now place.entry.own.now.additions TURNS
-        → IfSettled result (λ r.
+    ensures denotes { IfSettled result (λ r.
         Denotes (seen place.entry.own.now.additions env.now) place.entry.cursor.now name.now
         (entity_found r)) }
+    ensures introduces { IfOk result (λ found.
+        Reaches (seen place.entry.own.now.additions env.now) place.entry.cursor.now name.now
+        found.reach) }
     ensures asked { IfSettled result (λ r.
+        (turns : ℕ) → TURNS ≤ turns →
         (r, log.new)
         ≡ run key_eq
-        (under place.entry.own.now.additions (denoted TURNS place.entry.cursor.now name.now))
+        (under place.entry.own.now.additions (denoted turns place.entry.cursor.now name.now))
         (answers env.now) log.old) }
 {
     let view = View {
@@ -69,9 +73,10 @@ impl<'a> View<'a> {
         name: &ScopedName,
     ) -> Result<Result<Found, NameFault>, AllocError>
         ensures { IfOk result (λ r.
+            (turns : ℕ) → TURNS ≤ turns →
             (r, log.new)
             ≡ run key_eq
-            (under self.entry.own.now.additions (denoted TURNS cursor.now name.now))
+            (under self.entry.own.now.additions (denoted turns cursor.now name.now))
             (answers self.entry.env.now) log.old) }
     {
         let first = match self.first_part(log, cursor, name)? {
@@ -96,10 +101,11 @@ impl<'a> View<'a> {
         name: &ScopedName,
     ) -> Result<Result<&'a Shared<Entity>, NameFault>, AllocError>
         ensures { IfOk result (λ r.
+            (turns : ℕ) → TURNS ≤ turns →
             (named r, log.new)
             ≡ run key_eq (under self.entry.own.now.additions
             (part_of 0 name.now.first
-            (outward TURNS (searched name.now.is_global cursor.now) (folded name.now.first))))
+            (outward turns (searched name.now.is_global cursor.now) (folded name.now.first))))
             (answers self.entry.env.now) log.old) }
     {
         let found = self.first_found(log, cursor, name)?;
@@ -114,9 +120,10 @@ impl<'a> View<'a> {
         name: &ScopedName,
     ) -> Result<Vec<&'a Shared<Entity>>, AllocError>
         ensures { IfOk result (λ es.
+            (turns : ℕ) → TURNS ≤ turns →
             (map (λ e. e.now) es.items, log.new)
             ≡ run key_eq (under self.entry.own.now.additions
-            (outward TURNS (searched name.now.is_global cursor.now) (folded name.now.first)))
+            (outward turns (searched name.now.is_global cursor.now) (folded name.now.first)))
             (answers self.entry.env.now) log.old) }
     {
         let folded = folded_name(self.env.alloc(), name.first.as_bytes())?;
@@ -136,9 +143,10 @@ impl<'a> View<'a> {
         name: &Text,
     ) -> Result<Result<&'a Shared<Entity>, NameFault>, AllocError>
         ensures { IfOk result (λ r.
+            (turns : ℕ) → TURNS ≤ turns →
             (named r, log.new)
             ≡ run key_eq (under self.entry.own.now.additions
-            (part_of part name.now (has TURNS before.now.kind before.now.path (folded name.now))))
+            (part_of part name.now (has turns before.now.kind before.now.path (folded name.now))))
             (answers self.entry.env.now) log.old) }
     {
         let folded = folded_name(self.env.alloc(), name.as_bytes())?;
@@ -158,9 +166,10 @@ impl<'a> View<'a> {
         names: &[Text],
     ) -> Result<Result<&'a Shared<Entity>, NameFault>, AllocError>
         ensures { IfOk result (λ r.
+            (turns : ℕ) → TURNS ≤ turns →
             (named r, log.new)
             ≡ run key_eq
-            (under self.entry.own.now.additions (further TURNS 0 first.now names.now))
+            (under self.entry.own.now.additions (further turns 0 first.now names.now))
             (answers self.entry.env.now) log.old) }
     {
         let mut entity = first;

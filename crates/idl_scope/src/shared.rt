@@ -1,6 +1,6 @@
 //! Values that are shared.
 
-ghost use Rattle.std.specs.Prelude.{◌≡◌, ◌↔◌, IfOk, IsTrue};
+ghost use Rattle.std.specs.Prelude.{◌≡◌, IfOk};
 
 use idl_base::Datum;
 use std::alloc::{AllocError, Global};

@@ -2,13 +2,12 @@ use Rattle.std.proofs.Common.{sym, ap, ◌∙◌, ◌+◌, drop, Ok, Err}
 use Rattle.idl_scope.specs.Facts.{answers}
 use Rattle.idl_lex.specs.Keywords.{folded}
 use Rattle.idl_scope.specs.Lookup.{further, has, is_scope, part_of}
-use Rattle.idl_scope.specs.declared.lookup.TheConstants.{TURNS}
 use Rattle.idl_scope.proofs.PlaceLemmas.{from_here}
 use Rattle.idl_scope.proofs.RunLemmas.{further_on, runs}
 use Rattle.idl_scope.proofs.lookup.View.further.Goals as goal
 
 pub returns-in-Err : goal.returns-in-Err
-returns-in-Err c =
+returns-in-Err c turns more =
     let own = c.args.self.own.now.additions in
     let bank = answers c.args.self.env.now in
     let names = c.args.names.now in
@@ -16,14 +15,14 @@ returns-in-Err c =
     let name = c.index-names-part.result in
     let here = from_here names part name c.loop-part-test.true c.index-names-part.is in
     let is_one = ap (λ e. is_scope e.kind) (sym c.get.ensures) ∙ sym c.is_scope.ensures ∙ c.if-not-is_scope.false in
-    let given = rw c.in-Err.is at c.in_ok-next.ensures in
-    let gives = given ∙ ap (λ e. runs own bank (part_of (part + 1) name (has TURNS e.kind e.path (folded name))) c.loop-part.log) c.get-in-loop-part.ensures in
-    sym (further_on own bank TURNS part c.loop-part.entity.now name (drop (part + 1) names) c.loop-part.log (Err c.in-Err.fault) _ is_one gives)
-    ∙ ap (λ rest. runs own bank (further TURNS part c.loop-part.entity.now rest) c.loop-part.log) (sym here)
-    ∙ c.loop-part.invariant
+    let given = rw c.in-Err.is at c.in_ok-next.ensures turns more in
+    let gives = given ∙ ap (λ e. runs own bank (part_of (part + 1) name (has turns e.kind e.path (folded name))) c.loop-part.log) c.get-in-loop-part.ensures in
+    sym (further_on own bank turns part c.loop-part.entity.now name (drop (part + 1) names) c.loop-part.log (Err c.in-Err.fault) _ is_one gives)
+    ∙ ap (λ rest. runs own bank (further turns part c.loop-part.entity.now rest) c.loop-part.log) (sym here)
+    ∙ c.loop-part.invariant turns more
 
 pub loop-part-preserved : goal.loop-part-preserved
-loop-part-preserved c =
+loop-part-preserved c turns more =
     let own = c.args.self.own.now.additions in
     let bank = answers c.args.self.env.now in
     let names = c.args.names.now in
@@ -31,8 +30,8 @@ loop-part-preserved c =
     let name = c.index-names-part.result in
     let here = from_here names part name c.loop-part-test.true c.index-names-part.is in
     let is_one = ap (λ e. is_scope e.kind) (sym c.get.ensures) ∙ sym c.is_scope.ensures ∙ c.if-not-is_scope.false in
-    let given = rw c.in-Ok.is at c.in_ok-next.ensures in
-    let gives = given ∙ ap (λ e. runs own bank (part_of (part + 1) name (has TURNS e.kind e.path (folded name))) c.loop-part.log) c.get-in-loop-part.ensures in
-    sym (further_on own bank TURNS part c.loop-part.entity.now name (drop (part + 1) names) c.loop-part.log (Ok c.in-Ok.next.now) _ is_one gives)
-    ∙ ap (λ rest. runs own bank (further TURNS part c.loop-part.entity.now rest) c.loop-part.log) (sym here)
-    ∙ c.loop-part.invariant
+    let given = rw c.in-Ok.is at c.in_ok-next.ensures turns more in
+    let gives = given ∙ ap (λ e. runs own bank (part_of (part + 1) name (has turns e.kind e.path (folded name))) c.loop-part.log) c.get-in-loop-part.ensures in
+    sym (further_on own bank turns part c.loop-part.entity.now name (drop (part + 1) names) c.loop-part.log (Ok c.in-Ok.next.now) _ is_one gives)
+    ∙ ap (λ rest. runs own bank (further turns part c.loop-part.entity.now rest) c.loop-part.log) (sym here)
+    ∙ c.loop-part.invariant turns more

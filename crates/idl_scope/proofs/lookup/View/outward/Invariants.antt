@@ -1,4 +1,4 @@
-use Rattle.std.proofs.Common.{◌≡◌, drop}
+use Rattle.std.proofs.Common.{◌≡◌, ℕ, ◌≤◌, drop}
 use Rattle.idl_scope.specs.Facts.{answers}
 use Rattle.idl_scope.specs.Lookup.{outward}
 use Rattle.idl_scope.specs.declared.lookup.TheConstants.{TURNS}
@@ -8,5 +8,6 @@ use Rattle.idl_scope.proofs.lookup.View.outward.Given as goal
 -- what is left, over the log so far, is the whole
 abbrev pub invariant-loop-scope : goal.invariant-loop-scope
 invariant-loop-scope l =
-    runs l.self.own.now.additions (answers l.self.env.now) (outward TURNS (drop l.scope-index l.scopes) l.name) l.log
-    ≡ runs l.self.own.now.additions (answers l.self.env.now) (outward TURNS l.scopes l.name) l.fn.log
+    (turns : ℕ) → TURNS ≤ turns →
+    runs l.self.own.now.additions (answers l.self.env.now) (outward turns (drop l.scope-index l.scopes) l.name) l.log
+    ≡ runs l.self.own.now.additions (answers l.self.env.now) (outward turns l.scopes l.name) l.fn.log

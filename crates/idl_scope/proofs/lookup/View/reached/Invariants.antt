@@ -1,4 +1,4 @@
-use Rattle.std.proofs.Common.{◌≡◌, ◌-◌, map}
+use Rattle.std.proofs.Common.{◌≡◌, ℕ, ◌-◌, ◌≤◌, map}
 use Rattle.std.specs.Map.{keys_of}
 use Rattle.idl_scope.specs.Facts.{answers}
 use Rattle.idl_scope.specs.Lookup.{reached, walk}
@@ -7,7 +7,12 @@ use Rattle.idl_scope.proofs.RunLemmas.{runs}
 use Rattle.idl_scope.proofs.lookup.View.reached.Given as goal
 
 -- the walk from here on, over the log so far, is the whole walk
-abbrev pub invariant-loop-turn : goal.invariant-loop-turn
-invariant-loop-turn l =
-    runs l.self.own.now.additions (answers l.self.env.now) (walk (TURNS - l.turn) l.name l.turn (keys_of l.queue) (map (λ e. e.now) l.found.items)) l.log
-    ≡ runs l.self.own.now.additions (answers l.self.env.now) (reached TURNS l.name l.bases) l.fn.log
+abbrev pub invariant-bases : goal.invariant-bases
+invariant-bases l =
+    (turns : ℕ) → TURNS ≤ turns →
+    runs l.self.own.now.additions (answers l.self.env.now) (walk (turns - l.turn) l.name l.turn (keys_of l.queue) (map (λ e. e.now) l.found.items)) l.log
+    ≡ runs l.self.own.now.additions (answers l.self.env.now) (reached turns l.name l.bases) l.fn.log
+
+-- the turns that are left
+abbrev pub decreases-bases : goal.decreases-bases
+decreases-bases l = TURNS - l.turn
