@@ -6,3 +6,4 @@ pub mod Placing
 pub mod Row
 pub mod Verdict
 pub mod AllFaults
+pub mod Held

@@ -1,6 +1,6 @@
 -- The row of a unit in the dump.
-use Rattle.std.specs.Prelude.{ℕ, ◌+◌, ◌-◌, ◌*◌, ◌/◌, ◌%◌, Bool, true, false, ◌&&◌, ◌||◌, List, [], ◌∷◌, ◌++◌, codes, drop, flat_map, length, nat_eq, nat_le, repeat, reverse, take, Option, None, Some, if◌then◌else◌}
-use Rattle.std.specs.List.{list_any}
+use Rattle.std.specs.Prelude.{ℕ, ◌+◌, ◌-◌, ◌*◌, ◌/◌, ◌%◌, Bool, true, false, ◌&&◌, ◌||◌, List, [], ◌∷◌, ◌++◌, codes, drop, flat_map, length, nat_eq, nat_le, reverse, take, Option, None, Some, if◌then◌else◌}
+use Rattle.std.specs.List.{list_any, repeat}
 use Rattle.std.specs.Str.{bytes_eq}
 use Rattle.idl_check.specs.declared.verdict.Row.{Row}
 use Rattle.idl_check.specs.declared.verdict.Row.TheVariants.{Spelled, Unknown}
@@ -23,7 +23,7 @@ abbrev pub character : ℕ → List ℕ
 character c =
     if nat_eq c 34 || nat_eq c 92 then 92 ∷ c ∷ []
     else if nat_le 32 c && nat_le c 126 then c ∷ []
-    else 92 ∷ 48 + c / 64 ∷ 48 + (c / 8) % 8 ∷ 48 + c % 8 ∷ []
+    else 92 ∷ (48 + c / 64) ∷ (48 + (c / 8) % 8) ∷ (48 + c % 8) ∷ []
 
 -- string literals as one
 abbrev pub text_word : Several (List ℕ) → List ℕ

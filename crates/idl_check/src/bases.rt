@@ -1,16 +1,36 @@
 //! The bases of an interface that were named so far.
 
+ghost use Rattle.std.specs.Prelude.{◌≡◌, [], IfOk, OnOk};
+ghost use Rattle.std.specs.List.{list_any};
+ghost use Rattle.idl_check.specs.Codes.{codes_in};
+ghost use Rattle.idl_check.specs.Using.{base_table, is_another, with_base};
+ghost use Rattle.idl_unit.specs.TokenRules.{first};
+
+use crate::codes::first_code;
 use idl_base::{Seq, Table};
 use idl_event::Code;
 use idl_lex::Spelling;
 use idl_scope::{Entity, Path, Stage, folded_name};
 use std::alloc::{AllocError, Global};
+use std::marker::Model;
 
 /// The paths of the bases that were named so far, and those of the operations and attributes that they bring, by the folded
 /// names.
 pub struct Bases {
     paths: Table<Path, ()>,
     operations: Table<Spelling, Path>,
+}
+
+impl Model for Bases {
+    ghost use Rattle.std.specs.Map.{keys_of};
+    ghost use Rattle.idl_check.specs.Using.{Bases as NamedBases};
+
+    ghost Value = { NamedBases };
+
+    ghost view = { λ bases. record {
+      paths = keys_of bases.paths;
+      operations = bases.operations;
+    } };
 }
 
 impl Drop for Bases {
@@ -24,31 +44,39 @@ impl Drop for Bases {
 
 impl Bases {
     /// None. It takes no memory.
-    pub fn new(alloc: Global) -> Bases {
+    pub fn new(alloc: Global) -> Bases
+        ensures { result ≡ record { paths = []; operations = [] } }
+    {
         Bases {
             paths: Table::new(alloc),
             operations: Table::new(alloc),
         }
     }
 
-    /// The faults of a base of an interface, which is local or not: a test and a code each.
-    pub fn faults(
+    /// The code of the least fault of a base of an interface, which is local or not.
+    pub fn code(
         &self,
         alloc: Global,
         is_local: bool,
         base: &Entity,
-    ) -> Result<[(bool, Code); 4], AllocError> {
+    ) -> Result<Option<Code>, AllocError>
+        ensures { IfOk result (λ code.
+            code ≡ first (codes_in (base_table is_local self.now base.now))) }
+    {
         let brings_another = self.brings_another(alloc, base)?;
-        Ok([
+        Ok(first_code(&[
             (base.stage != Stage::Complete, Code::IncompleteBase),
             (self.paths.contains(&base.path), Code::RepeatedBase),
             (brings_another, Code::InheritedTwice),
             (base.is_local && !is_local, Code::LocalBase),
-        ])
+        ]))
     }
 
     // Whether a base brings an operation or attribute that stands beside another one.
-    fn brings_another(&self, alloc: Global, base: &Entity) -> Result<bool, AllocError> {
+    fn brings_another(&self, alloc: Global, base: &Entity) -> Result<bool, AllocError>
+        ensures { IfOk result (λ b.
+            b ≡ list_any (is_another self.now.operations) base.now.operations) }
+    {
         for path in base.operations.as_slice() {
             if self.is_another(alloc, path)? {
                 return Ok(true);
@@ -58,7 +86,9 @@ impl Bases {
     }
 
     // Whether another operation or attribute was brought under the name of this one.
-    fn is_another(&self, alloc: Global, path: &Path) -> Result<bool, AllocError> {
+    fn is_another(&self, alloc: Global, path: &Path) -> Result<bool, AllocError>
+        ensures { IfOk result (λ b. b ≡ is_another self.now.operations path.now) }
+    {
         let name = folded_name(alloc, path.name())?;
         match self.operations.get(&name) {
             Some(other) => Ok(*other != *path),
@@ -67,21 +97,29 @@ impl Bases {
     }
 
     /// One base more.
-    pub fn add(&mut self, alloc: Global, base: &Entity) -> Result<(), AllocError> {
+    pub fn add(&mut self, alloc: Global, base: &Entity) -> Result<(), AllocError>
+        ensures { OnOk result (self.new ≡ with_base base.now self.old) }
+    {
         for path in base.operations.as_slice() {
             let name = folded_name(alloc, path.name())?;
             self.operations.insert(name, path.clone()?)?;
         }
-        self.paths.insert(base.path.clone()?, ())
+        if !self.paths.contains(&base.path) {
+            self.paths.push(base.path.clone()?, ())?;
+        }
+        Ok(())
     }
 
     /// Their paths, in order.
-    pub fn paths(&self, alloc: Global) -> Result<Seq<Path>, AllocError> {
+    pub fn paths(&self, alloc: Global) -> Result<Seq<Path>, AllocError>
+        ensures { IfOk result (λ paths. paths ≡ self.now.paths) }
+    {
         let mut paths = Vec::new(alloc);
         for index in 0..self.paths.len() {
-            if let Some((path, ())) = self.paths.get_index(index) {
-                paths.push(path.clone()?)?;
-            }
+            let Some((path, ())) = self.paths.get_index(index) else {
+                continue;
+            };
+            paths.push(path.clone()?)?;
         }
         Ok(Seq::from_vec(paths))
     }

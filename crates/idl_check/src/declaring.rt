@@ -1,7 +1,7 @@
 //! Declared names: what they are declared as, and what is wrong with that.
 
 ghost use Rattle.std.specs.Prelude.{◌≡◌, IfOk};
-ghost use Rattle.idl_check.specs.Declaring.{kind_of, is_local_in, stage_of, entity_of, finished, may_be_ahead, may_follow, differs, is_name_of_scope, declared_table, stays};
+ghost use Rattle.idl_check.specs.Declaring.{are_modules, come_ahead, declared_table, differs, entity_of, finished, is_local_in, is_name_of_scope, kind_of, may_be_ahead, may_follow, stage_of, stays};
 ghost use Rattle.idl_check.specs.Codes.{codes_in};
 ghost use Rattle.idl_unit.specs.TokenRules.{first};
 
@@ -114,18 +114,26 @@ fn may_be_ahead(kind: Kind) -> bool
 }
 
 // Whether one of them is declared ahead, and both may be.
-fn come_ahead(old: &Entity, new: &Entity) -> bool {
+fn come_ahead(old: &Entity, new: &Entity) -> bool
+    ensures { result ≡ come_ahead old.now new.now }
+{
     may_be_ahead(old.kind)
         && may_be_ahead(new.kind)
         && (old.stage == Stage::Ahead || new.stage == Stage::Ahead)
+}
+
+// Whether both are modules.
+fn are_modules(old: &Entity, new: &Entity) -> bool
+    ensures { result ≡ are_modules old.now new.now }
+{
+    old.kind == Kind::Module && new.kind == Kind::Module
 }
 
 // Whether a name that is there may be declared again as this.
 fn may_follow(old: &Entity, new: &Entity) -> bool
     ensures { result ≡ may_follow old.now new.now }
 {
-    let are_modules = old.kind == Kind::Module && new.kind == Kind::Module;
-    old.path.name() == new.path.name() && (are_modules || come_ahead(old, new))
+    old.path.name() == new.path.name() && (are_modules(old, new) || come_ahead(old, new))
 }
 
 // Whether it is then of another kind, or local as the other isn't.

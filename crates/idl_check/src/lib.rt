@@ -11,8 +11,10 @@ mod declaring;
 mod placing;
 mod row;
 mod standing;
+mod task;
 mod using;
 mod verdict;
 mod walk;
 
+pub use task::DeclarationTask;
 pub use verdict::{Row, Verdict};

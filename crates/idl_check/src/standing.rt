@@ -1,17 +1,19 @@
 //! What stands under a name where it is declared.
 
-ghost use Rattle.std.specs.Prelude.{◌≡◌, IfOk, is_some};
+ghost use Rattle.std.specs.Prelude.{◌≡◌, ◌≤◌, ℕ, IfOk, OnOk, is_some, map};
+ghost use Rattle.std.specs.Option.{option_copied};
 ghost use Rattle.std.specs.List.{list_any};
 ghost use Rattle.idl_check.specs.Declaring.{inherited, standing};
-ghost use Rattle.idl_memo.specs.Query.{noted, run};
+ghost use Rattle.idl_memo.specs.Query.{Done, and_then, noted, run};
 ghost use Rattle.idl_scope.specs.Facts.{answers, is_operation, over};
 ghost use Rattle.idl_scope.specs.Key.{key_eq};
-ghost use Rattle.idl_scope.specs.Lookup.{under};
+ghost use Rattle.idl_scope.specs.Lookup.{bases_of, under};
+ghost use Rattle.idl_scope.specs.declared.key.Key.TheVariants.{Introduced};
 ghost use Rattle.idl_scope.specs.declared.lookup.TheConstants.{TURNS};
 
 use idl_lex::Spelling;
 use idl_memo::Log;
-use idl_scope::{Entity, Env, Key, Scope, Shared, View};
+use idl_scope::{Entity, Env, Key, Path, Scope, Shared, View};
 use std::alloc::AllocError;
 
 /// What stands under a folded name in the scope in which it is declared.
@@ -41,9 +43,9 @@ pub fn standing_of(
     scope: &Scope,
     name: &Spelling,
 ) -> Result<Standing, AllocError>
-    ensures { IfOk result (λ found.
+    ensures { IfOk result (λ found. (turns : ℕ) → TURNS ≤ turns →
         (found, log.new)
-        ≡ run key_eq (under view.entry.own.now.additions (standing TURNS scope.now name.now))
+        ≡ run key_eq (under view.entry.own.now.additions (standing turns scope.now name.now))
         (answers view.entry.env.now) log.old) }
 {
     let key = Key::Declared(name.clone()?, scope.path.clone()?);
@@ -58,7 +60,9 @@ pub fn standing_of(
 }
 
 // The entity, if there is one.
-fn copied(entity: Option<&Shared<Entity>>) -> Result<Option<Shared<Entity>>, AllocError> {
+fn copied(entity: Option<&Shared<Entity>>) -> Result<Option<Shared<Entity>>, AllocError>
+    ensures { IfOk result (λ copy. copy ≡ option_copied entity.entry) }
+{
     match entity {
         Some(found) => Ok(Some(found.clone()?)),
         None => Ok(None),
@@ -71,7 +75,15 @@ fn is_used(
     log: &mut Log<Env>,
     scope: &Scope,
     name: &Spelling,
-) -> Result<bool, AllocError> {
+) -> Result<bool, AllocError>
+    ensures used { IfOk result (λ b.
+        let key = Introduced name.now scope.now.path scope.now.body in
+        b ≡ is_some (over view.entry.own.now.additions key (answers view.entry.env.now key))) }
+    ensures logged { OnOk result
+        (log.new
+        ≡ noted key_eq (answers view.entry.env.now) log.old
+        (Introduced name.now scope.now.path scope.now.body)) }
+{
     let key = Key::Introduced(name.clone()?, scope.path.clone()?, scope.body);
     let before = log.ask(&key, view.env)?;
     Ok(before.is_some() || view.own.get(&key).is_some())
@@ -83,21 +95,41 @@ fn is_inherited(
     log: &mut Log<Env>,
     scope: &Scope,
     name: &Spelling,
-) -> Result<bool, AllocError> {
+) -> Result<bool, AllocError>
+    ensures { IfOk result (λ b. (turns : ℕ) → TURNS ≤ turns →
+        (b, log.new)
+        ≡ run key_eq
+        (under view.entry.own.now.additions
+        (and_then (inherited turns scope.now name.now) (λ found. Done (list_any is_operation found))))
+        (answers view.entry.env.now) log.old) }
+{
     if !scope.kind.inherits() {
         return Ok(false);
     }
     let key = Key::of_entity(view.env.alloc(), &scope.path)?;
-    let found = match view.entity(log, &key)? {
-        Some(entity) if entity.get().stage.has_bases() => {
-            view.reached(log, name, entity.get().bases.as_slice())?
-        }
-        _ => view.reached(log, name, &[])?,
-    };
-    for entity in found.as_slice() {
+    let bases = bases_of(view.entity(log, &key)?);
+    let found = view.reached(log, name, bases)?;
+    Ok(has_operation(found.as_slice()))
+}
+
+// The bases of an entity that count.
+fn bases_of<'a>(entity: Option<&'a Shared<Entity>>) -> &'a [Path]
+    ensures { result.now ≡ bases_of (option_copied entity.entry) }
+{
+    match entity {
+        Some(shared) if shared.get().stage.has_bases() => shared.get().bases.as_slice(),
+        _ => &[],
+    }
+}
+
+// Whether one of them is an operation or attribute.
+fn has_operation(entities: &[&Shared<Entity>]) -> bool
+    ensures { result ≡ list_any is_operation (map (λ e. e.now) entities.now) }
+{
+    for entity in entities {
         if entity.get().is_operation() {
-            return Ok(true);
+            return true;
         }
     }
-    Ok(false)
+    false
 }

@@ -3,10 +3,10 @@
 ghost use Rattle.std.specs.Prelude.{◌≡◌, ◌≤◌, ◌+◌, ◌*◌, IfOk, OnOk, length};
 ghost use Rattle.idl_check.specs.Using.{part_at, last_at, name_code, is_type, has_value, suits, used_table, with_uses};
 ghost use Rattle.idl_check.specs.Codes.{codes_in};
+ghost use Rattle.idl_lex.specs.Keywords.{folded};
 ghost use Rattle.idl_unit.specs.TokenRules.{first};
 
 use crate::bases::Bases;
-use crate::codes::first_code;
 use idl_event::Code;
 use idl_scope::{
     Addition, Entity, Facts, Kind, NameCode, Scope, Stage, folded_name,
@@ -17,6 +17,7 @@ use std::alloc::{AllocError, Global};
 
 /// The number of the token that is a part of a name, where the name begins at this token.
 pub fn part_at(at: usize, name: &ScopedName, part: usize) -> usize
+    requires { part_at at name.now part ≤ 18446744073709551615 }
     ensures { result ≡ part_at at name.now part }
 {
     at + usize::from(name.is_global) + 2 * part
@@ -24,6 +25,7 @@ pub fn part_at(at: usize, name: &ScopedName, part: usize) -> usize
 
 /// The number of the token that is the last part of a name.
 pub fn last_at(at: usize, name: &ScopedName) -> usize
+    requires { last_at at name.now ≤ 18446744073709551615 }
     ensures { result ≡ last_at at name.now }
 {
     part_at(at, name, name.rest.len())
@@ -83,12 +85,15 @@ pub fn used_code(
     way: Use,
     bases: &Bases,
     entity: &Entity,
-) -> Result<Option<Code>, AllocError> {
+) -> Result<Option<Code>, AllocError>
+    ensures { IfOk result (λ code.
+        code ≡ first (codes_in (used_table way bases.now entity.now))) }
+{
     if !suits(way, entity) {
         return Ok(Some(Code::WrongKind));
     }
     match way {
-        Use::AsBase(is_local) => Ok(first_code(&bases.faults(alloc, is_local, entity)?)),
+        Use::AsBase(is_local) => bases.code(alloc, is_local, entity),
         _ => Ok(None),
     }
 }
@@ -99,7 +104,13 @@ pub fn introduce(
     own: &mut Facts,
     name: &ScopedName,
     scopes: &[Scope],
-) -> Result<(), AllocError> {
+) -> Result<(), AllocError>
+    ensures { OnOk result
+        (own.new
+        ≡ record own.old {
+          additions = with_uses (folded name.now.first) scopes.now own.old.additions;
+        }) }
+{
     if scopes.is_empty() {
         return Ok(());
     }

@@ -1,15 +1,31 @@
 //! The walk over the sites of a unit.
 
+ghost use Rattle.std.specs.Prelude.{◌≡◌, ◌≤◌, ◌+◌, ◌∷◌, [], ℕ, Code, IfOk, OnOk, Ok, Err, List, drop, map};
+ghost use Rattle.idl_check.specs.Declaring.{standing, with_declared, with_finished};
+ghost use Rattle.idl_check.specs.Held.{HasRoomFor, held, visited};
+ghost use Rattle.idl_check.specs.Walk.{declared_visit, first_fault, first_walk, is_over, noted_in, used_visit, walk, with_scope};
+ghost use Rattle.idl_lex.specs.Keywords.{folded};
+ghost use Rattle.idl_memo.specs.Query.{run};
+ghost use Rattle.idl_scope.specs.Facts.{answers};
+ghost use Rattle.idl_scope.specs.Key.{key_eq};
+ghost use Rattle.idl_scope.specs.Kind.{stage_eq};
+ghost use Rattle.idl_scope.specs.Lookup.{under};
+ghost use Rattle.idl_scope.specs.declared.fault.NameFault.TheVariants.{At};
+ghost use Rattle.idl_scope.specs.declared.lookup.TheConstants.{TURNS};
+ghost use Rattle.idl_site.specs.Item.{item_at, item_length, items_length};
+ghost use Rattle.idl_site.specs.Item.{Item as item};
+ghost use Rattle.idl_unit.specs.TokenRules.{fault_at, first};
+
 use crate::bases::Bases;
 use crate::declaring::{declared_code, entity_of, finished, kind_of, stays};
-use crate::standing::standing_of;
+use crate::standing::{Standing, standing_of};
 use crate::using::{introduce, last_at, name_code, part_at, used_code};
 use idl_base::Text;
 use idl_event::Code;
 use idl_memo::Log;
 use idl_scope::{
-    Addition, Entity, Env, Facts, Found, NameFault, Path, Scope, Shared, Stage, Standpoint, View,
-    folded_name, resolve, shared_name,
+    Addition, Entity, Env, Facts, Found, NameCode, NameFault, Path, Scope, Shared, Stage,
+    Standpoint, View, folded_name, resolve, shared_name,
 };
 use idl_site::{Declaration, Site, Use};
 use idl_tree::ScopedName;
@@ -18,22 +34,22 @@ use std::alloc::{AllocError, Global};
 
 /// How far a walk has come.
 pub struct Walker<'a> {
-    env: &'a Env,
+    pub env: &'a Env,
     /// The number of the next token.
-    at: usize,
+    pub at: usize,
     /// The scopes around it, the innermost first.
-    cursor: Vec<Scope>,
+    pub cursor: Vec<Scope>,
     /// What the tokens before it add.
-    own: Facts,
+    pub own: Facts,
     /// Those of the declared names that the unit's end finishes.
-    begun: Vec<Shared<Entity>>,
-    bases: Bases,
+    pub begun: Vec<Shared<Entity>>,
+    pub bases: Bases,
     /// The paths of what the used names denote, in order.
-    found: Vec<Path>,
+    pub found: Vec<Path>,
     /// The first fault.
-    fault: Option<Fault>,
+    pub fault: Option<Fault>,
     /// Whether the next token stands in an expression.
-    in_value: bool,
+    pub in_value: bool,
 }
 
 impl<'a> Drop for Walker<'a> {
@@ -54,7 +70,10 @@ impl<'a> Drop for Walker<'a> {
 
 impl<'a> Walker<'a> {
     /// Before the first site, in these scopes.
-    pub fn new(env: &'a Env, scopes: &[Scope]) -> Result<Walker<'a>, AllocError> {
+    pub fn new(env: &'a Env, scopes: &[Scope]) -> Result<Walker<'a>, AllocError>
+        ensures walk { IfOk result (λ w. held w ≡ first_walk scopes.now) }
+        ensures env { IfOk result (λ w. w.env ≡ env) }
+    {
         let alloc = env.alloc();
         let cursor = Vec::from_clones(alloc, scopes)?;
         Ok(Walker {
@@ -70,18 +89,15 @@ impl<'a> Walker<'a> {
         })
     }
 
-    /// The first fault.
-    pub fn fault(&self) -> Option<Fault> {
-        self.fault
-    }
-
-    /// The paths of what the used names denote, in order.
-    pub fn found(&self) -> &[Path] {
-        &self.found
-    }
-
     /// Walks over sites.
-    pub fn walk(&mut self, log: &mut Log<Env>, sites: &[Site<'_>]) -> Result<(), AllocError> {
+    pub fn walk(&mut self, log: &mut Log<Env>, sites: &[Site<'_>]) -> Result<(), AllocError>
+        requires { HasRoomFor (held self.old) (map item_at sites.now) }
+        ensures walked { OnOk result ((turns : ℕ) → TURNS ≤ turns →
+            (held self.new, log.new)
+            ≡ run key_eq (walk turns (map item_at sites.now) (held self.old))
+            (answers self.old.env.now) log.old) }
+        ensures env { OnOk result (self.new.env ≡ self.old.env) }
+    {
         for site in sites {
             if self.is_over() {
                 return Ok(());
@@ -92,16 +108,18 @@ impl<'a> Walker<'a> {
     }
 
     // Nothing more is asked after a fault, but to the end of an expression.
-    fn is_over(&self) -> bool {
+    fn is_over(&self) -> bool
+        ensures { result ≡ is_over (held self.now) }
+    {
         self.fault.is_some() && !self.in_value
     }
 
-    fn alloc(&self) -> Global {
-        self.env.alloc()
-    }
-
-    // Notes a fault at a token, unless one came before.
-    fn note(&mut self, index: usize, code: Option<Code>) {
+    // Notes the first of the faults of a token, unless one came before.
+    fn note(&mut self, index: usize, code: Option<Code>)
+        ensures { (codes : List Code) → code ≡ first codes
+            → self.new
+            ≡ record self.old { fault = first_fault self.old.fault (map (fault_at index) codes) } }
+    {
         if self.fault.is_some() {
             return;
         }
@@ -111,7 +129,16 @@ impl<'a> Walker<'a> {
     }
 
     // A site.
-    fn visit(&mut self, log: &mut Log<Env>, site: Site<'_>) -> Result<(), AllocError> {
+    #[tactic(auto, unfolding(crate::specs::Walk::visit))]
+    fn visit(&mut self, log: &mut Log<Env>, site: Site<'_>) -> Result<(), AllocError>
+        requires { HasRoomFor (held self.old) (item_at site ∷ []) }
+        ensures visited { OnOk result ((turns : ℕ) → TURNS ≤ turns →
+            (held self.new, log.new)
+            ≡ run key_eq (visited turns (item_at site) (held self.old))
+            (answers self.old.env.now) log.old) }
+        ensures at { OnOk result (self.new.at ≡ self.old.at + item_length (item_at site)) }
+        ensures env { OnOk result (self.new.env ≡ self.old.env) }
+    {
         match site {
             Site::Tokens(count) => self.at += count,
             Site::Joined(text) => self.at += 1 + text.rest.len(),
@@ -129,78 +156,131 @@ impl<'a> Walker<'a> {
     }
 
     // A declared name.
+    #[tactic(auto, unfolding(crate::specs::Walk::visit))]
     fn declare(
         &mut self,
         log: &mut Log<Env>,
         way: Declaration,
         name: &Text,
-    ) -> Result<(), AllocError> {
-        let alloc = self.alloc();
-        let Some(scope) = self.cursor.first() else {
+    ) -> Result<(), AllocError>
+        requires { HasRoomFor (held self.old) (item.Declared way name.now ∷ []) }
+        ensures visited { OnOk result ((turns : ℕ) → TURNS ≤ turns →
+            (held self.new, log.new)
+            ≡ run key_eq (visited turns (item.Declared way name.now) (held self.old))
+            (answers self.old.env.now) log.old) }
+        ensures at { OnOk result (self.new.at ≡ self.old.at + 1) }
+        ensures env { OnOk result (self.new.env ≡ self.old.env) }
+    {
+        let alloc = self.env.alloc();
+        let Some(innermost) = self.cursor.first() else {
             self.at += 1;
             return Ok(());
         };
-        let view = View {
-            env: self.env,
-            own: &self.own,
-        };
+        let scope = innermost.clone()?;
         let folded = folded_name(alloc, name.as_bytes())?;
-        let standing = standing_of(view, log, scope, &folded)?;
+        let standing = standing_of(self.view(), log, &scope, &folded)?;
         let spelled = shared_name(alloc, name.as_bytes())?;
         let entity = entity_of(alloc, way, &spelled, &scope.path)?;
-        let code = declared_code(alloc, scope, &standing, entity.get())?;
-        self.note(self.at, code);
-        self.at += 1;
-        self.add(&standing.there, entity)
+        self.declare_as(&scope, entity, &standing)
     }
 
-    // Adds what a declared name adds.
-    fn add(
+    // The environment under what the tokens so far add.
+    fn view(&self) -> View<'_>
+        ensures env { result.env ≡ self.entry.env }
+        ensures own { result.own.now ≡ self.entry.now.own }
+    {
+        View {
+            env: self.env,
+            own: &self.own,
+        }
+    }
+
+    // A declared name, by what stands under it in its scope.
+    fn declare_as(
         &mut self,
-        there: &Option<Shared<Entity>>,
+        scope: &Scope,
         entity: Shared<Entity>,
-    ) -> Result<(), AllocError> {
+        standing: &Standing,
+    ) -> Result<(), AllocError>
+        requires { self.old.at + 1 ≤ 18446744073709551615 }
+        ensures visit { OnOk result
+            (held self.new
+            ≡ noted_in (declared_visit (held self.old) scope.now entity standing.now) self.old.fault) }
+        ensures env { OnOk result (self.new.env ≡ self.old.env) }
+    {
+        let code = declared_code(self.env.alloc(), scope, standing, entity.get())?;
+        self.note(self.at, code);
+        self.at += 1;
         if entity.get().stage == Stage::Begun {
             self.begun.push(entity.clone()?)?;
         }
-        if stays(there, entity.get()) {
+        if stays(&standing.there, entity.get()) {
             return Ok(());
         }
         self.own.add(Addition::Declares(entity))
     }
 
     // A used name.
+    #[tactic(auto, unfolding(crate::specs::Walk::visit))]
     fn use_name(
         &mut self,
         log: &mut Log<Env>,
         way: Use,
         name: &ScopedName,
-    ) -> Result<(), AllocError> {
+    ) -> Result<(), AllocError>
+        requires { HasRoomFor (held self.old) (item.Used way name.now ∷ []) }
+        ensures visited { OnOk result ((turns : ℕ) → TURNS ≤ turns →
+            (held self.new, log.new)
+            ≡ run key_eq (visited turns (item.Used way name.now) (held self.old))
+            (answers self.old.env.now) log.old) }
+        ensures at { OnOk result
+            (self.new.at ≡ self.old.at + item_length (item.Used way name.now)) }
+        ensures env { OnOk result (self.new.env ≡ self.old.env) }
+    {
         let place = Standpoint {
             own: &self.own,
             cursor: self.cursor.as_slice(),
         };
         match resolve(self.env, log, place, name) {
-            Ok(found) => self.use_found(way, name, found),
+            Ok(found) => self.use_as(way, name, found),
             Err(NameFault::Memory) => Err(AllocError),
             Err(NameFault::At(code, part)) => {
-                self.note(part_at(self.at, name, part), Some(name_code(code)));
-                self.at = last_at(self.at, name) + 1;
+                self.use_nothing(name, code, part);
                 Ok(())
             }
         }
     }
 
+    // A used name that denotes nothing.
+    fn use_nothing(&mut self, name: &ScopedName, code: NameCode, part: usize)
+        requires room { last_at self.old.at name.now + 1 ≤ 18446744073709551615 }
+        requires part { part ≤ length name.now.rest }
+        ensures visit { (way : Use) →
+            held self.new
+            ≡ noted_in (used_visit (held self.old) way name.now (Err (At code part))) self.old.fault }
+        ensures env { self.new.env ≡ self.old.env }
+    {
+        self.note(part_at(self.at, name, part), Some(name_code(code)));
+        self.at = last_at(self.at, name) + 1;
+    }
+
     // A used name, by what it denotes.
-    fn use_found(&mut self, way: Use, name: &ScopedName, found: Found) -> Result<(), AllocError> {
-        let alloc = self.alloc();
+    fn use_as(&mut self, way: Use, name: &ScopedName, found: Found) -> Result<(), AllocError>
+        requires room { last_at self.old.at name.now + 1 ≤ 18446744073709551615 }
+        requires reach { found.reach ≤ length self.old.cursor.items }
+        ensures visit { OnOk result
+            (held self.new
+            ≡ noted_in (used_visit (held self.old) way name.now (Ok found)) self.old.fault) }
+        ensures env { OnOk result (self.new.env ≡ self.old.env) }
+    {
+        let alloc = self.env.alloc();
         let entity = found.entity.get();
         let code = used_code(alloc, way, &self.bases, entity)?;
         let last = last_at(self.at, name);
         self.note(last, code);
         self.at = last + 1;
-        let scopes = self.cursor.as_slice();
-        introduce(alloc, &mut self.own, name, &scopes[..found.reach])?;
+        let scopes = &self.cursor.as_slice()[..found.reach];
+        introduce(alloc, &mut self.own, name, scopes)?;
         if let Use::AsBase(_) = way {
             self.bases.add(alloc, entity)?;
         }
@@ -209,12 +289,18 @@ impl<'a> Walker<'a> {
     }
 
     // The scope of what is declared so begins.
-    fn begin_scope(&mut self, way: Declaration, name: &Text) -> Result<(), AllocError> {
-        let Some(scope) = self.cursor.first() else {
+    fn begin_scope(&mut self, way: Declaration, name: &Text) -> Result<(), AllocError>
+        ensures { OnOk result
+            (held self.new
+            ≡ record (held self.old) { cursor = with_scope way name.now self.old.cursor.items }) }
+        ensures env { OnOk result (self.new.env ≡ self.old.env) }
+    {
+        let alloc = self.env.alloc();
+        let Some(innermost) = self.cursor.first() else {
             return Ok(());
         };
-        let spelled = shared_name(self.alloc(), name.as_bytes())?;
-        let path = scope.path.child(self.alloc(), &spelled)?;
+        let spelled = shared_name(alloc, name.as_bytes())?;
+        let path = innermost.path.child(alloc, &spelled)?;
         let scope = Scope {
             path,
             kind: kind_of(way),
@@ -225,14 +311,20 @@ impl<'a> Walker<'a> {
     }
 
     // It ends.
-    fn end_scope(&mut self) {
+    fn end_scope(&mut self)
+        ensures cursor { self.new.cursor.items ≡ drop 1 self.old.cursor.items }
+        ensures rest { self.new ≡ record self.old { cursor = self.new.cursor } }
+    {
         if !self.cursor.is_empty() {
             self.cursor.remove(0);
         }
     }
 
     /// What a unit without fault adds, but for what it does to the open scopes.
-    pub fn into_facts(self) -> Result<Facts, AllocError> {
+    pub fn into_facts(self) -> Result<Facts, AllocError>
+        ensures { IfOk result (λ facts.
+            facts.additions ≡ with_finished self.bases.paths self.own.additions self.begun.items) }
+    {
         let alloc = self.env.alloc();
         let Walker {
             env: _env,
@@ -245,13 +337,30 @@ impl<'a> Walker<'a> {
             fault: _fault,
             in_value: _in_value,
         } = self;
-        if begun.as_slice().is_empty() {
-            return Ok(own);
-        }
-        let paths = bases.paths(alloc)?;
-        for entity in begun.as_slice() {
-            own.add(Addition::Declares(finished(alloc, &paths, entity.get())?))?;
-        }
+        finish(alloc, &mut own, &bases, begun.as_slice())?;
         Ok(own)
     }
+}
+
+// Puts in what has begun, as the unit's end finishes it.
+fn finish(
+    alloc: Global,
+    own: &mut Facts,
+    bases: &Bases,
+    begun: &[Shared<Entity>],
+) -> Result<(), AllocError>
+    ensures { OnOk result
+        (own.new
+        ≡ record own.old {
+          additions = with_finished bases.now.paths own.old.additions begun.now;
+        }) }
+{
+    if begun.is_empty() {
+        return Ok(());
+    }
+    let paths = bases.paths(alloc)?;
+    for entity in begun {
+        own.add(Addition::Declares(finished(alloc, &paths, entity.get())?))?;
+    }
+    Ok(())
 }
