@@ -1,2 +1,8 @@
 mod PartLemmas
 mod VisitLemmas
+pub mod FaultOrder
+pub mod PartLaws
+pub mod SiteLaws
+pub mod TableLaws
+pub mod VerdictLaws
+pub mod WalkLaws

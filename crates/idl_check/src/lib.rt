@@ -8,6 +8,7 @@
 mod bases;
 mod codes;
 mod declaring;
+mod laws;
 mod placing;
 mod row;
 mod standing;
@@ -16,5 +17,6 @@ mod using;
 mod verdict;
 mod walk;
 
+pub use laws::{acceptance, least, questions, refusal};
 pub use task::DeclarationTask;
 pub use verdict::{Row, Verdict};
