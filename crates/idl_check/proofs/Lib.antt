@@ -1,2 +1,4 @@
+mod NameLemmas
 mod PartLemmas
+mod StandingLemmas
 mod VisitLemmas
