@@ -1,6 +1,6 @@
 -- Sites, as contracts see them: the parts of a unit, with a count in place of the tokens that
 -- declare and use nothing.
-use Rattle.std.specs.Prelude.{◌≡◌, ◌++◌, ℕ, List, length, map}
+use Rattle.std.specs.Prelude.{◌≡◌, ◌++◌, ℕ, ◌+◌, List, [], ◌∷◌, length, map}
 use Rattle.idl_site.specs.Part.{Part, Parts}
 use Rattle.idl_site.specs.declared.site.Declaration.{Declaration}
 use Rattle.idl_site.specs.declared.site.Site.{Site}
@@ -50,6 +50,11 @@ item_length (Declared declaration name) = 1
 item_length (Used way name) = length (spell_name name)
 item_length (Joined text) = length (spell_text text)
 item_length other = 0
+
+-- how many tokens items are together
+abbrev pub items_length : List Item → ℕ
+items_length [] = 0
+items_length (item ∷ rest) = item_length item + items_length rest
 
 abbrev pub item_at : Site → Item
 item_at (site.Tokens n) = Tokens n

@@ -9,7 +9,7 @@ use Rattle.idl_site.specs.TypeParts.{constant_type_parts, declarator_parts, type
 use Rattle.idl_site.specs.declared.site.Declaration.TheVariants as declaration
 use Rattle.idl_site.specs.declared.site.Target.TheVariants as target
 use Rattle.idl_site.specs.declared.site.Use.TheVariants.{AsBase}
-use Rattle.idl_tree.specs.Interface.{spell_direction, spell_local, spell_oneway}
+use Rattle.idl_tree.specs.Interface.{spell_direction, spell_local}
 use Rattle.idl_tree.specs.Lexeme.{Word, Punctuation}
 use Rattle.idl_tree.specs.declared.attribute.Attribute.{Attribute}
 use Rattle.idl_tree.specs.declared.attribute.AttributeNames.{AttributeNames}
@@ -116,7 +116,12 @@ readonly_attribute_parts a =
 abbrev pub attribute_parts : Attribute → Parts
 attribute_parts a = keyword_part word.Attribute ∷ (type_parts a.kind ++ attribute_names_parts a.names)
 
--- before what a operation gives back: it is told of a oneway one
+-- ["oneway"]
+abbrev pub oneway_parts : Bool → Parts
+oneway_parts true = keyword_part word.Oneway ∷ []
+oneway_parts false = []
+
+-- before what an operation gives back, where it is a oneway one
 abbrev pub given_back : Bool → Parts
 given_back true = GivesBack ∷ []
 given_back false = []
@@ -151,8 +156,8 @@ context_parts texts =
 --     [ "context" "(" text/"," ")" ]; its scope begins with the parameters
 abbrev pub operation_parts : Operation → Parts
 operation_parts o =
-    Plain (spell_oneway o.is_oneway)
-    ∷ (result_parts o.is_oneway o.result
+    oneway_parts o.is_oneway
+    ++ (result_parts o.is_oneway o.result
     ++ Declares declaration.Operation o.name ∷ ScopeBegins declaration.Operation o.name
     ∷ punctuation mark.OpenParenthesis
     ∷ (if_some (listed (parameter_parts o.is_oneway)) o.parameters

@@ -1,12 +1,16 @@
 //! Expressions.
 
-ghost use Rattle.std.specs.Prelude.{◌≡◌, length, OnOk};
-ghost use Rattle.idl_site.specs.ExpressionParts.{and_parts, exclusive_or_parts, expression_parts, primary_parts, product_parts, shift_parts, sum_parts, unary_parts, value_parts};
+ghost use Rattle.std.specs.Prelude.{◌≡◌, ◌+◌, length, OnOk};
+ghost use Rattle.idl_site.specs.ExpressionParts.{and_parts, exclusive_or_parts, expression_parts, operator_parts, primary_parts, product_parts, shift_parts, sum_parts, unary_parts, value_parts};
 ghost use Rattle.idl_site.specs.Item.{Pushes};
 ghost use Rattle.idl_tree.specs.Expression.{spell_literal};
 
 use crate::site::{Site, Target, Use};
-use idl_tree::{And, ExclusiveOr, Expression, Literal, Primary, Product, Shift, Sum, Unary};
+use idl_base::Seq;
+use idl_tree::{
+    And, ExclusiveOr, Expression, Literal, Primary, Product, Several, Shift, Sum, Unary,
+    UnaryOperator,
+};
 use std::alloc::AllocError;
 
 /// A whole expression, and what it is for.
@@ -127,10 +131,23 @@ fn push_product<'a>(sites: &mut Vec<Site<'a>>, product: &'a Product) -> Result<(
 fn push_unary<'a>(sites: &mut Vec<Site<'a>>, unary: &'a Unary) -> Result<(), AllocError>
     ensures { OnOk result (Pushes sites.old.items sites.new.items (unary_parts unary.now)) }
 {
-    if unary.operator.is_some() {
-        sites.push(Site::Tokens(1))?;
+    push_operator(sites, unary.operator)?;
+    push_primary(sites, &unary.operand)?;
+    Ok(())
+}
+
+/// An operator before an operand, if there is one.
+fn push_operator<'a>(
+    sites: &mut Vec<Site<'a>>,
+    operator: Option<UnaryOperator>,
+) -> Result<(), AllocError>
+    ensures { OnOk result (Pushes sites.old.items sites.new.items (operator_parts operator)) }
+{
+    match operator {
+        Some(_operator) => sites.push(Site::Tokens(1))?,
+        None => {}
     }
-    push_primary(sites, &unary.operand)
+    Ok(())
 }
 
 /// An expression that is no operation.
@@ -156,8 +173,14 @@ fn literal_len(literal: &Literal) -> usize
     ensures { result ≡ length (spell_literal literal.now) }
 {
     match literal {
-        Literal::Text(pieces) => pieces.rest.as_slice().len() + 1,
-        Literal::WideText(pieces) => pieces.rest.as_slice().len() + 1,
+        Literal::Text(pieces) | Literal::WideText(pieces) => text_len(pieces),
         _ => 1,
     }
+}
+
+/// How many tokens string literals are.
+pub fn text_len(pieces: &Several<Seq<u16>>) -> usize
+    ensures { result ≡ length pieces.now.rest + 1 }
+{
+    pieces.rest.as_slice().len() + 1
 }

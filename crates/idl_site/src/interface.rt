@@ -1,9 +1,10 @@
 //! Interfaces, attributes, operations and declarations ahead.
 
 ghost use Rattle.std.specs.Prelude.{OnOk};
+ghost use Rattle.idl_lex.specs.declared.keyword.Keyword.TheVariants as word;
 ghost use Rattle.idl_site.specs.Item.{Pushes};
-ghost use Rattle.idl_site.specs.Part.{if_some, listed};
-ghost use Rattle.idl_site.specs.UnitParts.{attribute_parts, context_parts, direction_parts, exceptions_parts, forward_parts, given_back, interface_parts, operation_parts, parameter_parts, raises_parts, readonly_attribute_parts, result_parts};
+ghost use Rattle.idl_site.specs.Part.{if_some, listed, raised};
+ghost use Rattle.idl_site.specs.UnitParts.{attribute_parts, context_parts, direction_parts, exceptions_parts, forward_parts, given_back, interface_parts, oneway_parts, operation_parts, parameter_parts, raises_parts, readonly_attribute_parts, result_parts};
 
 use crate::data_type::push_type;
 use crate::listed::{push_declared, push_raised, push_used};
@@ -102,12 +103,23 @@ fn push_exceptions<'a>(
     match raises {
         AttributeRaises::Get(get, set) => {
             push_raised(sites, get)?;
-            match set {
-                Some(set) => push_raised(sites, set),
-                None => Ok(()),
-            }
+            push_raised_if(sites, set)
         }
         AttributeRaises::Set(set) => push_raised(sites, set),
+    }
+}
+
+/// What is raised, if that is said.
+fn push_raised_if<'a>(
+    sites: &mut Vec<Site<'a>>,
+    names: &'a Option<Several<ScopedName>>,
+) -> Result<(), AllocError>
+    ensures { OnOk result
+        (Pushes sites.old.items sites.new.items (if_some (raised word.Raises) names.now)) }
+{
+    match names {
+        Some(names) => push_raised(sites, names),
+        None => Ok(()),
     }
 }
 
@@ -120,7 +132,7 @@ pub fn push_operation<'a>(
         (Pushes sites.old.items sites.new.items (operation_parts operation.now)) }
 {
     let is_oneway = operation.is_oneway;
-    sites.push(Site::Tokens(usize::from(is_oneway)))?;
+    push_oneway(sites, is_oneway)?;
     push_result(sites, is_oneway, &operation.result)?;
     sites.push(Site::Declared(Declaration::Operation, &operation.name))?;
     sites.push(Site::ScopeBegins(Declaration::Operation, &operation.name))?;
@@ -133,7 +145,17 @@ pub fn push_operation<'a>(
     Ok(())
 }
 
-/// Before what an operation gives back.
+/// The keyword of a `oneway` operation.
+fn push_oneway<'a>(sites: &mut Vec<Site<'a>>, is_oneway: bool) -> Result<(), AllocError>
+    ensures { OnOk result (Pushes sites.old.items sites.new.items (oneway_parts is_oneway)) }
+{
+    if is_oneway {
+        sites.push(Site::Tokens(1))?;
+    }
+    Ok(())
+}
+
+/// Before what a `oneway` operation gives back.
 fn push_given_back<'a>(sites: &mut Vec<Site<'a>>, is_oneway: bool) -> Result<(), AllocError>
     ensures { OnOk result (Pushes sites.old.items sites.new.items (given_back is_oneway)) }
 {
@@ -164,7 +186,7 @@ fn push_result<'a>(
     }
 }
 
-/// The parameters, if there are any, with commas between.
+/// The parameters, if there are any.
 fn push_parameters<'a>(
     sites: &mut Vec<Site<'a>>,
     is_oneway: bool,
@@ -173,9 +195,21 @@ fn push_parameters<'a>(
     ensures { OnOk result (Pushes sites.old.items sites.new.items
         (if_some (listed (parameter_parts is_oneway)) parameters.now)) }
 {
-    let Some(parameters) = parameters else {
-        return Ok(());
-    };
+    match parameters {
+        Some(parameters) => push_several_parameters(sites, is_oneway, parameters),
+        None => Ok(()),
+    }
+}
+
+/// Parameters, with commas between.
+fn push_several_parameters<'a>(
+    sites: &mut Vec<Site<'a>>,
+    is_oneway: bool,
+    parameters: &'a Several<Parameter>,
+) -> Result<(), AllocError>
+    ensures { OnOk result (Pushes sites.old.items sites.new.items
+        (listed (parameter_parts is_oneway) parameters.now)) }
+{
     push_parameter(sites, is_oneway, &parameters.first)?;
     for parameter in parameters.rest.as_slice() {
         sites.push(Site::Tokens(1))?;

@@ -8,9 +8,11 @@ mod construction;
 mod data_type;
 mod expression;
 mod interface;
+mod laws;
 mod listed;
 mod site;
 mod unit;
 
+pub use laws::{counting, spelling};
 pub use site::{Declaration, Site, Target, Use};
 pub use unit::sites;

@@ -1,7 +1,7 @@
 //! Names and lists.
 
 ghost use Rattle.std.specs.Prelude.{OnOk};
-ghost use Rattle.idl_lex.specs.declared.keyword.Keyword.{Keyword};
+ghost use Rattle.idl_lex.specs.declared.keyword.Keyword.TheVariants as word;
 ghost use Rattle.idl_site.specs.Item.{Pushes};
 ghost use Rattle.idl_site.specs.Part.{declared, listed, raised, used};
 
@@ -43,13 +43,12 @@ pub fn push_used<'a>(
     Ok(())
 }
 
-/// A keyword, whichever it is, and exceptions in parentheses.
+/// A keyword, and exceptions in parentheses. Which keyword it is makes no difference.
 pub fn push_raised<'a>(
     sites: &mut Vec<Site<'a>>,
     names: &'a Several<ScopedName>,
 ) -> Result<(), AllocError>
-    ensures { OnOk result
-        ((keyword : Keyword) → Pushes sites.old.items sites.new.items (raised keyword names.now)) }
+    ensures { OnOk result (Pushes sites.old.items sites.new.items (raised word.Raises names.now)) }
 {
     sites.push(Site::Tokens(1))?;
     sites.push(Site::Tokens(1))?;

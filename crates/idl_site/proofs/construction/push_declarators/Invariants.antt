@@ -9,5 +9,5 @@ use Rattle.idl_site.proofs.construction.push_declarators.Given as goal
 abbrev pub invariant-loop-declarator : goal.invariant-loop-declarator
 invariant-loop-declarator l =
     Pushes l.fn.sites.items l.sites.items
-    (declarator_parts l.declaration l.declarators.first
-    ++ flat_map (λ x. punctuation Comma ∷ declarator_parts l.declaration x) (take l.declarator-index l.declarators.rest))
+    (declarator_parts l.fn.declaration l.declarators.first
+    ++ flat_map (λ x. punctuation Comma ∷ declarator_parts l.fn.declaration x) (take l.declarator-index l.declarators.rest))

@@ -9,5 +9,5 @@ use Rattle.idl_site.proofs.interface.push_several_parameters.Given as goal
 abbrev pub invariant-loop-parameter : goal.invariant-loop-parameter
 invariant-loop-parameter l =
     Pushes l.fn.sites.items l.sites.items
-    (parameter_parts l.parameters.first
-    ++ flat_map (λ x. punctuation Comma ∷ parameter_parts x) (take l.parameter-index l.parameters.rest))
+    (parameter_parts l.fn.is_oneway l.parameters.first
+    ++ flat_map (λ x. punctuation Comma ∷ parameter_parts l.fn.is_oneway x) (take l.parameter-index l.parameters.rest))
