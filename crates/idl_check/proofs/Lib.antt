@@ -1,4 +1,6 @@
+mod NameLemmas
 mod PartLemmas
+mod StandingLemmas
 mod VisitLemmas
 pub mod FaultOrder
 pub mod PartLaws

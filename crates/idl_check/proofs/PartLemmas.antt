@@ -29,7 +29,7 @@ placed-IsUpTo part last (Err code) h = h
 module _ (turns : ℕ) (bank : Key → Option Answer) where
   part_of-IsUpTo : (part last : ℕ) (name : List ℕ) (there : Lookup (List Entity)) → part ≤ last → IsUpTo last (outcome (part_of part name there) bank)
   part_of-IsUpTo part last name there h =
-      rw (← outcome-and_then there (λ found. Done (placed part (judged name found))) bank)
+      rw (outcome-and_then there (λ found. Done (placed part (judged name found))) bank)
       (placed-IsUpTo part last (judged name (outcome there bank)) h)
 
   -- the rest of a name, behind a part that denotes this or has a fault
@@ -45,7 +45,7 @@ module _ (turns : ℕ) (bank : Key → Option Answer) where
       → ((f : Entity) → IsUpTo last (outcome (further turns (part + 1) f names) bank)) → IsUpTo last (outcome next bank) → part ≤ last
       → (b : Bool) → IsUpTo last (outcome (cond b (and_then next (behind (part + 1) names)) (Done (Err (At NoScope part)))) bank)
   scoped-IsUpTo part last names next each up h true =
-      rw (← outcome-and_then next (behind (part + 1) names) bank) (behind-IsUpTo (part + 1) last names each (outcome next bank) up)
+      rw (outcome-and_then next (behind (part + 1) names) bank) (behind-IsUpTo (part + 1) last names each (outcome next bank) up)
   scoped-IsUpTo part last names next each up h false = h
 
   further-IsUpTo : (part last : ℕ) (e : Entity) (names : List (List ℕ)) → part + length names ≤ last → IsUpTo last (outcome (further turns part e names) bank)
@@ -67,7 +67,7 @@ module _ (turns : ℕ) (bank : Key → Option Answer) where
 
   from_first-IsUpTo : (cursor : List Scope) (name : ScopedName) (r : Result Entity NameFault) → IsUpTo 0 r → IsUpTo (length name.rest) (outcome (from_first cursor name r) bank)
   from_first-IsUpTo cursor name (Ok first) h =
-      rw (← outcome-and_then (further turns 0 first name.rest) (λ last. Done (found_as name cursor first last)) bank)
+      rw (outcome-and_then (further turns 0 first name.rest) (λ last. Done (found_as name cursor first last)) bank)
       (found_as-IsUpTo (length name.rest) name cursor first (outcome (further turns 0 first name.rest) bank) (further-IsUpTo 0 (length name.rest) first name.rest (omega arith)))
   from_first-IsUpTo cursor name (Err Memory) h = tt
   from_first-IsUpTo cursor name (Err (At code part)) h = omega arith
@@ -76,5 +76,5 @@ module _ (turns : ℕ) (bank : Key → Option Answer) where
   pub denoted-IsUpTo : (cursor : List Scope) (name : ScopedName) → IsUpTo (length name.rest) (outcome (denoted turns cursor name) bank)
   denoted-IsUpTo cursor name =
       let first = part_of 0 name.first (outward turns (searched name.is_global cursor) (folded name.first)) in
-      rw (← outcome-and_then first (from_first cursor name) bank)
+      rw (outcome-and_then first (from_first cursor name) bank)
       (from_first-IsUpTo cursor name (outcome first bank) (part_of-IsUpTo 0 0 name.first (outward turns (searched name.is_global cursor) (folded name.first)) (omega arith)))

@@ -64,4 +64,4 @@ is_value other = false
 unfoldable pub row_of : ℕ → List Token → List Item → List (List (List ℕ)) → Row
 row_of depth tokens sites found =
     if list_any is_value sites then Unknown
-    else Spelled (repeat (2 * depth) (32 ∷ []) ++ spaced (words tokens sites found))
+    else Spelled (repeat depth (codes "  ") ++ spaced (words tokens sites found))

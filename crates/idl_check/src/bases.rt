@@ -1,9 +1,11 @@
 //! The bases of an interface that were named so far.
 
-ghost use Rattle.std.specs.Prelude.{◌≡◌, [], IfOk, OnOk};
+ghost use Rattle.std.specs.Prelude.{◌≡◌, ◌∷◌, [], IfOk, OnOk, fold};
 ghost use Rattle.std.specs.List.{list_any};
+ghost use Rattle.std.specs.Map.{keys_of};
 ghost use Rattle.idl_check.specs.Codes.{codes_in};
-ghost use Rattle.idl_check.specs.Using.{base_table, is_another, with_base};
+ghost use Rattle.idl_check.specs.Using.{base_table, is_another, with_base, with_operation};
+ghost use Rattle.idl_scope.specs.Facts.{joined};
 ghost use Rattle.idl_unit.specs.TokenRules.{first};
 
 use crate::codes::first_code;
@@ -91,7 +93,7 @@ impl Bases {
     {
         let name = folded_name(alloc, path.name())?;
         match self.operations.get(&name) {
-            Some(other) => Ok(*other != *path),
+            Some(other) => Ok(*path != *other),
             None => Ok(false),
         }
     }
@@ -100,27 +102,55 @@ impl Bases {
     pub fn add(&mut self, alloc: Global, base: &Entity) -> Result<(), AllocError>
         ensures { OnOk result (self.new ≡ with_base base.now self.old) }
     {
-        for path in base.operations.as_slice() {
-            let name = folded_name(alloc, path.name())?;
-            self.operations.insert(name, path.clone()?)?;
-        }
-        if !self.paths.contains(&base.path) {
-            self.paths.push(base.path.clone()?, ())?;
-        }
-        Ok(())
+        add_operations(alloc, &mut self.operations, base.operations.as_slice())?;
+        add_path(&mut self.paths, &base.path)
     }
 
     /// Their paths, in order.
     pub fn paths(&self, alloc: Global) -> Result<Seq<Path>, AllocError>
         ensures { IfOk result (λ paths. paths ≡ self.now.paths) }
     {
-        let mut paths = Vec::new(alloc);
-        for index in 0..self.paths.len() {
-            let Some((path, ())) = self.paths.get_index(index) else {
-                continue;
-            };
-            paths.push(path.clone()?)?;
-        }
+        let paths = listed(alloc, &self.paths)?;
         Ok(Seq::from_vec(paths))
     }
+}
+
+// The paths of a table in order.
+fn listed(alloc: Global, table: &Table<Path, ()>) -> Result<Vec<Path>, AllocError>
+    ensures { IfOk result (λ paths. paths.items ≡ keys_of table.now) }
+{
+    let mut paths = Vec::new(alloc);
+    for index in 0..table.len() {
+        let Some((path, ())) = table.get_index(index) else {
+            continue;
+        };
+        paths.push(path.clone()?)?;
+    }
+    Ok(paths)
+}
+
+// The operations and attributes at these paths are brought too.
+fn add_operations(
+    alloc: Global,
+    operations: &mut Table<Spelling, Path>,
+    paths: &[Path],
+) -> Result<(), AllocError>
+    ensures { OnOk result (operations.new ≡ fold with_operation operations.old paths.now) }
+{
+    for path in paths {
+        let name = folded_name(alloc, path.name())?;
+        operations.insert(name, path.clone()?)?;
+    }
+    Ok(())
+}
+
+// A path more, unless it is there.
+fn add_path(paths: &mut Table<Path, ()>, path: &Path) -> Result<(), AllocError>
+    ensures { OnOk result (keys_of paths.new ≡ joined (keys_of paths.old) (path.now ∷ [])) }
+{
+    if paths.contains(path) {
+        return Ok(());
+    }
+    paths.push(path.clone()?, ())?;
+    Ok(())
 }

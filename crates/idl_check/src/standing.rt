@@ -49,7 +49,8 @@ pub fn standing_of(
         (answers view.entry.env.now) log.old) }
 {
     let key = Key::Declared(name.clone()?, scope.path.clone()?);
-    let there = copied(view.entity(log, &key)?)?;
+    let declared = view.entity(log, &key)?;
+    let there = copied(declared)?;
     let is_used = is_used(view, log, scope, name)?;
     let is_inherited = is_inherited(view, log, scope, name)?;
     Ok(Standing {
@@ -86,7 +87,10 @@ fn is_used(
 {
     let key = Key::Introduced(name.clone()?, scope.path.clone()?, scope.body);
     let before = log.ask(&key, view.env)?;
-    Ok(before.is_some() || view.own.get(&key).is_some())
+    match view.own.get(&key) {
+        Some(_addition) => Ok(true),
+        None => Ok(before.is_some()),
+    }
 }
 
 // Whether an operation or attribute is inherited under a folded name.
@@ -107,8 +111,8 @@ fn is_inherited(
         return Ok(false);
     }
     let key = Key::of_entity(view.env.alloc(), &scope.path)?;
-    let bases = bases_of(view.entity(log, &key)?);
-    let found = view.reached(log, name, bases)?;
+    let entity = view.entity(log, &key)?;
+    let found = view.reached(log, name, bases_of(entity))?;
     Ok(has_operation(found.as_slice()))
 }
 

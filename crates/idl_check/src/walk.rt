@@ -1,8 +1,9 @@
 //! The walk over the sites of a unit.
 
-ghost use Rattle.std.specs.Prelude.{◌≡◌, ◌≤◌, ◌+◌, ◌∷◌, [], ℕ, Code, IfOk, OnOk, Ok, Err, List, drop, map};
+ghost use Rattle.std.specs.Prelude.{◌≡◌, ◌≤◌, ◌+◌, ◌∷◌, [], ℕ, IfOk, OnOk, Ok, Err, List, drop, length, map};
 ghost use Rattle.idl_check.specs.Declaring.{standing, with_declared, with_finished};
 ghost use Rattle.idl_check.specs.Held.{HasRoomFor, held, visited};
+ghost use Rattle.idl_check.specs.Using.{last_at};
 ghost use Rattle.idl_check.specs.Walk.{declared_visit, first_fault, first_walk, is_over, noted_in, used_visit, walk, with_scope};
 ghost use Rattle.idl_lex.specs.Keywords.{folded};
 ghost use Rattle.idl_memo.specs.Query.{run};
@@ -15,6 +16,7 @@ ghost use Rattle.idl_scope.specs.declared.lookup.TheConstants.{TURNS};
 ghost use Rattle.idl_site.specs.Item.{item_at, item_length, items_length};
 ghost use Rattle.idl_site.specs.Item.{Item as item};
 ghost use Rattle.idl_unit.specs.TokenRules.{fault_at, first};
+ghost use Rattle.idl_site.specs.declared.site.Use.{Use};
 
 use crate::bases::Bases;
 use crate::declaring::{declared_code, entity_of, finished, kind_of, stays};
@@ -290,7 +292,7 @@ impl<'a> Walker<'a> {
 
     // The scope of what is declared so begins.
     fn begin_scope(&mut self, way: Declaration, name: &Text) -> Result<(), AllocError>
-        ensures { OnOk result
+        ensures walk { OnOk result
             (held self.new
             ≡ record (held self.old) { cursor = with_scope way name.now self.old.cursor.items }) }
         ensures env { OnOk result (self.new.env ≡ self.old.env) }

@@ -1,0 +1,26 @@
+-- How many tokens a name is, and the bounds of its parts.
+use Rattle.std.proofs.Common.{◌≡◌, ℕ, suc, ◌+◌, ◌*◌, ◌≤◌, Bool, true, false, cond, List, [], ◌∷◌, ◌++◌, length, flat_map, refl, sym, ap, ◌∙◌, arith}
+use Rattle.idl_check.specs.Using.{last_at, part_at}
+use Rattle.idl_lex.specs.declared.mark.Mark.TheVariants.{ColonColon}
+use Rattle.idl_tree.specs.Lexeme.{Lexemes, Punctuation, Identifier}
+use Rattle.idl_tree.specs.Name.{spell_leading, spell_name}
+use Rattle.idl_tree.specs.declared.name.ScopedName.{ScopedName}
+
+parts-length : (parts : List (List ℕ)) → length (flat_map (λ part. Punctuation ColonColon ∷ Identifier part ∷ []) parts) ≡ 2 * length parts
+parts-length [] = refl
+parts-length (part ∷ parts) = let rest = parts-length parts in omega (arith, rest)
+
+leading-length : (b : Bool) (tokens : Lexemes) → length (spell_leading b ++ tokens) ≡ cond b 1 0 + length tokens
+leading-length true tokens = refl
+leading-length false tokens = omega arith
+
+-- behind a name's last part
+pub behind_name : (at : ℕ) (name : ScopedName) → last_at at name + 1 ≡ at + length (spell_name name)
+behind_name at name =
+    let all = leading-length name.is_global (Identifier name.first ∷ flat_map (λ part. Punctuation ColonColon ∷ Identifier part ∷ []) name.rest) in
+    let rest = parts-length name.rest in
+    omega (arith, all, rest)
+
+-- no part stands behind the last
+pub part_at-last : (at : ℕ) (name : ScopedName) (part : ℕ) → part ≤ length name.rest → part_at at name part ≤ last_at at name
+part_at-last at name part h = omega arith

@@ -1,0 +1,62 @@
+-- Runs of what is asked of a name that is declared.
+use Rattle.std.proofs.Common.{◌≡◌, ℕ, Bool, true, false, cond, List, [], ◌∷◌, Option, None, Some, is_some, refl, sym, ap, ◌∙◌}
+use Rattle.std.specs.List.{list_any}
+use Rattle.idl_memo.specs.Query.{Ask, Done, and_then, noted}
+use Rattle.idl_check.specs.Declaring.{inherited, standing}
+use Rattle.idl_check.specs.declared.standing.Standing.{Standing}
+use Rattle.idl_scope.proofs.RunLemmas.{runs, runs-and_then, seen_at}
+use Rattle.idl_scope.specs.Facts.{entity_in, entity_key, is_operation}
+use Rattle.idl_scope.specs.Key.{key_eq}
+use Rattle.idl_scope.specs.Lookup.{Lookup, bases_of, inherits, reached}
+use Rattle.idl_scope.specs.declared.addition.Addition.{Addition}
+use Rattle.idl_scope.specs.declared.answer.Answer.{Answer}
+use Rattle.idl_scope.specs.declared.answer.Scope.{Scope}
+use Rattle.idl_scope.specs.declared.entity.Entity.{Entity}
+use Rattle.idl_scope.specs.declared.key.Key.{Key}
+use Rattle.idl_scope.specs.declared.key.Key.TheVariants.{Declared, Introduced}
+
+-- whether an operation or attribute is inherited
+abbrev pub counted : List Entity → Lookup Bool
+counted found = Done (list_any is_operation found)
+
+module _ (own : List Addition) (bank : Key → Option Answer) where
+  -- what is made of an outcome, by what is made of it first
+  made_of : {A B C : Type 0} (q : Lookup A) (f : A → B) (g : B → C) (log : List (Key × Option Answer)) (b : B) (after : List (Key × Option Answer))
+      → (b, after) ≡ runs own bank (and_then q (λ a. Done (f a))) log
+      → runs own bank (and_then q (λ a. Done (g (f a)))) log ≡ (g b, after)
+  made_of {A} {B} {C} q f g log b after h =
+      runs-and_then own bank q (λ a. Done (g (f a))) log (runs own bank q log).0 (runs own bank q log).1 refl
+      ∙ ap (λ (p : B × List (Key × Option Answer)). (g p.0, p.1))
+        (sym (h ∙ runs-and_then own bank q (λ a. Done (f a)) log (runs own bank q log).0 (runs own bank q log).1 refl))
+
+  -- a scope that inherits nothing
+  pub inherited_none : (turns : ℕ) (s : Scope) (n : List ℕ) (log : List (Key × Option Answer)) → inherits s.kind ≡ false
+      → runs own bank (and_then (inherited turns s n) counted) log ≡ (false, log)
+  inherited_none turns s n log h =
+      ap (λ b. runs own bank (and_then (cond b (Ask (entity_key s.path) (λ scope. reached turns n (bases_of (entity_in scope)))) (Done [])) counted) log) h
+
+  -- and one that has what its bases have
+  pub inherited_some : (turns : ℕ) (s : Scope) (n : List ℕ) (log : List (Key × Option Answer)) (found : List Entity) (after : List (Key × Option Answer)) → inherits s.kind ≡ true
+      → (found, after) ≡ runs own bank (reached turns n (bases_of (entity_in (seen_at own bank (entity_key s.path))))) (noted key_eq bank log (entity_key s.path))
+      → runs own bank (and_then (inherited turns s n) counted) log ≡ (list_any is_operation found, after)
+  inherited_some turns s n log found after h gives =
+      ap (λ b. runs own bank (and_then (cond b (Ask (entity_key s.path) (λ scope. reached turns n (bases_of (entity_in scope)))) (Done [])) counted) log) h
+      ∙ runs-and_then own bank (reached turns n (bases_of (entity_in (seen_at own bank (entity_key s.path))))) counted (noted key_eq bank log (entity_key s.path)) found after gives
+
+  -- all that stands under a name
+  pub standing_by : (turns : ℕ) (s : Scope) (n : List ℕ) (log : List (Key × Option Answer)) (b : Bool) (after : List (Key × Option Answer))
+      → (b, after) ≡ runs own bank (and_then (inherited turns s n) counted) (noted key_eq bank (noted key_eq bank log (Declared n s.path)) (Introduced n s.path s.body))
+      → runs own bank (standing turns s n) log
+      ≡ (record {
+        there = entity_in (seen_at own bank (Declared n s.path));
+        is_used = is_some (seen_at own bank (Introduced n s.path s.body));
+        is_inherited = b;
+      }, after)
+  standing_by turns s n log b after h =
+      made_of (inherited turns s n) (list_any is_operation)
+      (λ is_inherited. record {
+        there = entity_in (seen_at own bank (Declared n s.path));
+        is_used = is_some (seen_at own bank (Introduced n s.path s.body));
+        is_inherited = is_inherited;
+      })
+      (noted key_eq bank (noted key_eq bank log (Declared n s.path)) (Introduced n s.path s.body)) b after h

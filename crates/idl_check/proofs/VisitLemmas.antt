@@ -1,0 +1,56 @@
+-- Runs of a walk and of its sites.
+use Rattle.std.proofs.Common.{◌≡◌, ℕ, Bool, true, false, cond, List, [], ◌∷◌, Option, None, Some, refl, sym, ap, ◌∙◌}
+use Rattle.idl_memo.specs.Query.{Done, and_then, run}
+use Rattle.idl_memo.proofs.QueryLaws.{run-and_then, run-and_then_at}
+use Rattle.idl_check.specs.Held.{visited}
+use Rattle.idl_check.specs.Walk.{Walk, Visit, first_fault, is_over, noted_in, quiet, visit, walk}
+use Rattle.idl_scope.specs.Key.{key_eq}
+use Rattle.idl_scope.specs.Lookup.{Lookup}
+use Rattle.idl_scope.specs.declared.answer.Answer.{Answer}
+use Rattle.idl_scope.specs.declared.key.Key.{Key}
+use Rattle.idl_site.specs.Item.{Item}
+use Rattle.idl_unit.specs.declared.fault.Fault.{Fault}
+
+-- no fault more
+first_fault-none : (fault : Option Fault) → first_fault fault [] ≡ fault
+first_fault-none None = refl
+first_fault-none (Some f) = refl
+
+-- a site at which nothing is wrong
+pub noted_in-quiet : (w : Walk) (fault : Option Fault) → noted_in (quiet w) fault ≡ record w { fault = fault }
+noted_in-quiet w fault = λ i. record w { fault = first_fault-none fault i }
+
+module _ (bank : Key → Option Answer) where
+  -- a run over a bank
+  abbrev pub runs_over : {A : Type 0} → Lookup A → List (Key × Option Answer) → A × List (Key × Option Answer)
+  runs_over q log = run key_eq q bank log
+
+  -- a site by what it asks
+  pub visited_by : {X : Type 0} (q : Lookup X) (g : X → Visit) (fault : Option Fault) (log : List (Key × Option Answer)) (x : X) (after : List (Key × Option Answer))
+      → (x, after) ≡ runs_over q log
+      → runs_over (and_then (and_then q (λ x. Done (g x))) (λ v. Done (noted_in v fault))) log ≡ (noted_in (g x) fault, after)
+  visited_by q g fault log x after h =
+      run-and_then_at key_eq (and_then q (λ x. Done (g x))) (λ v. Done (noted_in v fault)) bank log (g x) after
+      (sym (run-and_then_at key_eq q (λ x. Done (g x)) bank log x after h))
+
+  -- a walk that is over
+  pub walk_over : (turns : ℕ) (sites : List Item) (w : Walk) (log : List (Key × Option Answer)) → is_over w ≡ true → runs_over (walk turns sites w) log ≡ (w, log)
+  unfolding walk
+  walk_over turns [] w log h = refl
+  walk_over turns (site ∷ sites) w log h = ap (λ b. runs_over (cond b (Done w) (and_then (visit turns site w) (λ v. walk turns sites (noted_in v w.fault)))) log) h
+
+  -- a walk with no site left
+  pub walk_end : (turns : ℕ) (w : Walk) (log : List (Key × Option Answer)) → runs_over (walk turns [] w) log ≡ (w, log)
+  unfolding walk
+  walk_end turns w log = refl
+
+  -- one site more
+  pub walk_on : (turns : ℕ) (site : Item) (sites : List Item) (w : Walk) (log : List (Key × Option Answer)) (next : Walk) (after : List (Key × Option Answer))
+      → is_over w ≡ false → (next, after) ≡ runs_over (visited turns site w) log
+      → runs_over (walk turns (site ∷ sites) w) log ≡ runs_over (walk turns sites next) after
+  unfolding walk
+  walk_on turns site sites w log next after h gives =
+      ap (λ b. runs_over (cond b (Done w) (and_then (visit turns site w) (λ v. walk turns sites (noted_in v w.fault)))) log) h
+      ∙ run-and_then key_eq (visit turns site w) (λ v. walk turns sites (noted_in v w.fault)) bank log
+      ∙ ap (λ (p : Walk × List (Key × Option Answer)). runs_over (walk turns sites p.0) p.1)
+        (sym (gives ∙ run-and_then key_eq (visit turns site w) (λ v. Done (noted_in v w.fault)) bank log))
