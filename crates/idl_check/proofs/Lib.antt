@@ -3,8 +3,10 @@ mod PartLemmas
 mod StandingLemmas
 mod VisitLemmas
 pub mod FaultOrder
-pub mod PartLaws
 pub mod SiteLaws
 pub mod TableLaws
 pub mod VerdictLaws
 pub mod WalkLaws
+pub mod NumberLaws
+pub mod StepLaws
+pub mod LeastFault
