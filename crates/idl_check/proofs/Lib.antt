@@ -1,4 +1,6 @@
+mod JudgeLemmas
 mod NameLemmas
 mod PartLemmas
 mod StandingLemmas
+mod TaskLemmas
 mod VisitLemmas

@@ -8,6 +8,8 @@
 mod bases;
 mod codes;
 mod declaring;
+mod judge;
+mod part;
 mod placing;
 mod row;
 mod standing;
