@@ -4,3 +4,9 @@ mod PartLemmas
 mod StandingLemmas
 mod TaskLemmas
 mod VisitLemmas
+pub mod FaultOrder
+pub mod PartLaws
+pub mod SiteLaws
+pub mod TableLaws
+pub mod VerdictLaws
+pub mod WalkLaws

@@ -9,6 +9,7 @@ mod bases;
 mod codes;
 mod declaring;
 mod judge;
+mod laws;
 mod part;
 mod placing;
 mod row;
@@ -18,5 +19,6 @@ mod using;
 mod verdict;
 mod walk;
 
+pub use laws::{acceptance, least, questions, refusal};
 pub use task::DeclarationTask;
 pub use verdict::{Row, Verdict};

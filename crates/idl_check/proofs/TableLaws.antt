@@ -1,0 +1,73 @@
+-- Tables whose codes ascend.
+use Rattle.std.proofs.Common.{ℕ, ◌≤◌, Bool, true, false, cond, List, [], ◌∷◌, arith}
+use Rattle.std.specs.Prelude.{⊤}
+use Rattle.idl_check.specs.Codes.{Table, codes_in, faults_by}
+use Rattle.idl_check.specs.Declaring.{declared_table}
+use Rattle.idl_check.specs.Using.{Bases, name_code, suited_table, suits, used_table}
+use Rattle.idl_check.specs.declared.standing.Standing.{Standing}
+use Rattle.idl_event.specs.Code.{number_of}
+use Rattle.idl_event.specs.declared.code.Code.{Code}
+use Rattle.idl_event.specs.declared.code.Code.TheVariants as code
+use Rattle.idl_scope.specs.declared.answer.Scope.{Scope}
+use Rattle.idl_scope.specs.declared.entity.Entity.{Entity}
+use Rattle.idl_scope.specs.declared.fault.NameCode.{NameCode}
+use Rattle.idl_scope.specs.declared.fault.NameCode.TheVariants.{Undeclared, Ambiguous, OtherSpelling, NoScope}
+use Rattle.idl_site.specs.declared.site.Use.{Use}
+use Rattle.idl_site.specs.declared.site.Use.TheVariants.{AsBase, AsType, AsElement, AsConstantType, AsDiscriminator, AsOperand, Raised}
+use Rattle.idl_unit.specs.TokenRules.{fault_at}
+use Rattle.idl_unit.specs.declared.fault.Fault.{Fault}
+use Rattle.idl_check.proofs.FaultOrder.{AreLed, Each, IsLed, each-if, each-map, led-codes}
+
+-- the codes ascend, from this number on
+abbrev pub Ascends : ℕ → Table → Type 0
+Ascends n [] = ⊤
+Ascends n (row ∷ rows) = (n ≤ number_of row.1) × Ascends (number_of row.1) rows
+
+codes-from : (m n : ℕ) (table : Table) → m ≤ n → Ascends n table → Each (λ c. m ≤ number_of c) (codes_in table)
+codes-from m n [] le up = tt
+codes-from m n (row ∷ rows) le up =
+    let here : m ≤ number_of row.1 = omega (arith, up.0) in
+    each-if (λ c. m ≤ number_of c) row.0 row.1 (codes_in rows) here (codes-from m (number_of row.1) rows here up.1)
+
+led-if : (b : Bool) (c : Code) (cs : List Code) → Each (λ d. number_of c ≤ number_of d) cs → AreLed cs → AreLed (cond b (c ∷ cs) cs)
+led-if true c cs each led = each
+led-if false c cs each led = led
+
+led-table : (n : ℕ) (table : Table) → Ascends n table → AreLed (codes_in table)
+led-table n [] up = tt
+led-table n (row ∷ rows) up =
+    led-if row.0 row.1 (codes_in rows) (codes-from (number_of row.1) (number_of row.1) rows (omega arith) up.1) (led-table (number_of row.1) rows up.1)
+
+-- the faults of a token by such a table
+pub led-by : (n : ℕ) (table : Table) → Ascends 22 table → IsLed (faults_by n table)
+led-by n table up = led-codes n (codes_in table) (led-table 22 table up)
+
+pub each-by : (n : ℕ) (table : Table) (P : Fault → Type 0) → ((c : Code) → 22 ≤ number_of c → P (fault_at n c)) → Ascends 22 table → Each P (faults_by n table)
+each-by n table P at up = each-map (fault_at n) (λ c. 22 ≤ number_of c) P at (codes_in table) (codes-from 22 22 table (omega arith) up)
+
+-- ---- the tables of names
+
+pub declared-up : (s : Scope) (standing : Standing) (e : Entity) → Ascends 22 (declared_table s standing e)
+declared-up s standing e = (omega arith, (omega arith, (omega arith, (omega arith, (omega arith, tt)))))
+
+suited-up : (way : Use) (bases : Bases) (e : Entity) → Ascends 22 (suited_table way bases e)
+suited-up (AsBase is_local) bases e = (omega arith, (omega arith, (omega arith, (omega arith, tt))))
+suited-up AsType bases e = tt
+suited-up AsElement bases e = tt
+suited-up AsConstantType bases e = tt
+suited-up AsDiscriminator bases e = tt
+suited-up AsOperand bases e = tt
+suited-up Raised bases e = tt
+
+up-if : (b : Bool) (table : Table) → Ascends 22 table → Ascends 22 (cond b table ((true, code.WrongKind) ∷ []))
+up-if true table up = up
+up-if false table up = (omega arith, tt)
+
+pub used-up : (way : Use) (bases : Bases) (e : Entity) → Ascends 22 (used_table way bases e)
+used-up way bases e = up-if (suits way e) (suited_table way bases e) (suited-up way bases e)
+
+pub name-number : (why : NameCode) → 22 ≤ number_of (name_code why)
+name-number Undeclared = omega arith
+name-number Ambiguous = omega arith
+name-number OtherSpelling = omega arith
+name-number NoScope = omega arith

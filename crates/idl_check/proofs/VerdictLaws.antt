@@ -1,0 +1,235 @@
+-- What comes of a unit: its least fault and what a faulty unit does, or what all its sites come to.
+use Rattle.std.proofs.Common.{◌≡◌, ◌∙◌, ℕ, suc, ◌<◌, Bool, true, false, cond, List, [], ◌∷◌, ◌++◌, length, Option, Some, None, Result, Ok, Err, refl, sym, ap, subst, arith, inl, inr}
+use Rattle.std.specs.Prelude.{◌≢◌, ◌⊎◌, fold}
+use Rattle.std.proofs.lemmas.List.{length-map}
+use Rattle.idl_check.specs.AllFaults.{further_faults, name_faults, or_else, site_faults, unit_faults}
+use Rattle.idl_check.specs.Placing.{faulty_step, is_misplaced, opened_kind, opening_faults, step_of}
+use Rattle.idl_check.specs.Sound.{IsSound, refused_keys}
+use Rattle.idl_check.specs.Verdict.{asking, by_names, by_tree, faulty, first_faults, first_part, judged, misplaced, refused, sound, tree_of, verdict, whole}
+use Rattle.idl_check.specs.Walk.{Walk, first_walk, walk}
+use Rattle.idl_check.specs.declared.verdict.Verdict.{Verdict}
+use Rattle.idl_event.specs.declared.code.Code.TheVariants.{NoTree, MisplacedUnit}
+use Rattle.idl_lex.specs.Keywords.{folded}
+use Rattle.idl_lex.specs.Tokens.{Token}
+use Rattle.idl_memo.specs.Query.{Done, Ask, and_then, asked, outcome}
+use Rattle.idl_memo.proofs.QueryLaws.{outcome-and_then}
+use Rattle.idl_scope.specs.Facts.{path_around, scopes_in}
+use Rattle.idl_scope.specs.Lookup.{Lookup, outward}
+use Rattle.idl_scope.specs.declared.addition.Step.{Step}
+use Rattle.idl_scope.specs.declared.addition.Step.TheVariants.{Stays, Opens, OpensNameless, Closes}
+use Rattle.idl_scope.specs.declared.answer.Answer.{Answer}
+use Rattle.idl_scope.specs.declared.answer.Scope.{Scope}
+use Rattle.idl_scope.specs.declared.entity.Entity.{Entity}
+use Rattle.idl_scope.specs.declared.key.Key.{Key}
+use Rattle.idl_scope.specs.declared.key.Key.TheVariants.{Cursor, Nameless}
+use Rattle.idl_scope.specs.declared.kind.Kind.{Kind}
+use Rattle.idl_site.specs.Item.{items}
+use Rattle.idl_site.specs.UnitParts.{unit_parts}
+use Rattle.idl_tree.specs.Lexeme.{Lexeme, lexeme_of, lexemes}
+use Rattle.idl_tree.specs.ReadUnit.{unit_at}
+use Rattle.idl_tree.specs.Unit.{spell}
+use Rattle.idl_tree.specs.declared.unit.Tree.{Tree}
+use Rattle.idl_tree.proofs.UnitAgain.{unit_again}
+use Rattle.idl_tree.proofs.UnitWhole.{unit_found}
+use Rattle.idl_unit.specs.Faults.{least_fault, lesser_fault}
+use Rattle.idl_unit.specs.TokenRules.{fault_at, first, token_faults}
+use Rattle.idl_unit.specs.declared.fault.Fault.{Fault}
+use Rattle.idl_unit.specs.declared.unit.UnitText.{UnitText}
+use Rattle.idl_unit.specs.declared.unit.UnitText.TheVariants as unit
+use Rattle.idl_check.proofs.FaultOrder.{Leads, each-weaker, leads-beside, least-led}
+use Rattle.idl_check.proofs.SiteLaws.{IsFrom, faults-from, faults-led}
+use Rattle.idl_check.proofs.WalkLaws.{none-append, none-first, walk-first, walk-sound}
+
+-- ---- the tree of tokens
+
+whole-Ok : (r : Result (Tree × List Lexeme) ℕ) (tree : Tree) → whole r ≡ Some tree → r ≡ Ok (tree, [])
+whole-Ok (Ok (t, [])) tree h = let same : t ≡ tree = cc in ap (λ x. Ok (x, [])) same
+whole-Ok (Ok (t, x ∷ xs)) tree h = cc
+whole-Ok (Err left) tree h = cc
+
+-- it is the one that they spell
+pub tree-spelled : (tokens : List Token) (tree : Tree) → tree_of tokens ≡ Some tree → lexemes tokens ≡ spell tree
+tree-spelled tokens tree h =
+    let below : length (lexemes tokens) < suc (length tokens) = omega (arith, length-map tokens lexeme_of) in
+    unit_found (suc (length tokens)) (lexemes tokens) tree below (whole-Ok (unit_at (suc (length tokens)) (lexemes tokens)) tree h)
+
+pub spelled-tree : (tokens : List Token) (tree : Tree) → lexemes tokens ≡ spell tree → tree_of tokens ≡ Some tree
+spelled-tree tokens tree h =
+    let below : length (spell tree) < suc (length tokens) = omega (arith, length-map tokens lexeme_of, ap length h) in
+    ap (λ ts. whole (unit_at (suc (length tokens)) ts)) h ∙ ap whole (unit_again tree (suc (length tokens)) below)
+
+module _ (turns : ℕ) (answers : Key → Option Answer) (tokens : List Token) where
+  -- ---- a refused unit
+
+  -- by what it opens
+  abbrev refused_by : Fault → Option Kind → Lookup Verdict
+  refused_by fault o =
+      elim o [
+        | None ↦ Done (faulty fault (faulty_step tokens))
+        | Some kind ↦ Ask Nameless (λ count. Done (faulty fault (faulty_step tokens)))
+      ]
+
+  is-refused : (fault : Fault) (o : Option Kind) → outcome (refused_by fault o) answers ≡ faulty fault (faulty_step tokens)
+  is-refused fault None = refl
+  is-refused fault (Some kind) = refl
+
+  refused-is : (fault : Fault) → outcome (refused tokens fault) answers ≡ faulty fault (faulty_step tokens)
+  refused-is fault = is-refused fault (opened_kind tokens)
+
+  asks-refused : (fault : Fault) (o : Option Kind) → asked (refused_by fault o) answers ≡ elim o [ None ↦ [] | Some kind ↦ Nameless ∷ [] ]
+  asks-refused fault None = refl
+  asks-refused fault (Some kind) = refl
+
+  refused-asks : (fault : Fault) → asked (refused tokens fault) answers ≡ refused_keys tokens
+  refused-asks fault = asks-refused fault (opened_kind tokens)
+
+  -- ---- a unit with a tree
+
+  asking-is : (step : Step) (v : Verdict) → outcome (asking step v) answers ≡ v
+  asking-is Stays v = refl
+  asking-is (Opens path kind) v = refl
+  asking-is (OpensNameless kind) v = refl
+  asking-is Closes v = refl
+
+  -- by the fault of a walk
+  abbrev judged_by : List Scope → Tree → Walk → Option Fault → Lookup Verdict
+  judged_by scopes tree w o =
+      elim o [
+        | Some fault ↦ refused tokens fault
+        | None ↦ asking (step_of tree (path_around scopes)) (sound tokens scopes tree w)
+      ]
+
+  judged-some : (scopes : List Scope) (tree : Tree) (w : Walk) (f : Fault) (o : Option Fault) → o ≡ Some f → outcome (judged_by scopes tree w o) answers ≡ faulty f (faulty_step tokens)
+  judged-some scopes tree w f None h = cc
+  judged-some scopes tree w f (Some g) h = let same : g ≡ f = cc in refused-is g ∙ ap (λ x. faulty x (faulty_step tokens)) same
+
+  judged-none : (scopes : List Scope) (tree : Tree) (w : Walk) (o : Option Fault) → o ≡ None → outcome (judged_by scopes tree w o) answers ≡ sound tokens scopes tree w
+  judged-none scopes tree w None h = asking-is (step_of tree (path_around scopes)) (sound tokens scopes tree w)
+  judged-none scopes tree w (Some g) h = cc
+
+  -- what comes of the unit, of which these are the faults: the least of them, or what all its sites come to
+  abbrev pub Comes : List Fault → List Scope → Verdict → Type 0
+  Comes faults scopes v =
+      ((f : Fault) × (v ≡ faulty f (faulty_step tokens)) × (least_fault faults ≡ Some f))
+      ⊎ (IsSound turns answers scopes tokens v × (faults ≡ []))
+
+  module _ (scopes : List Scope) (rules : token_faults tokens ≡ []) (opening : opening_faults tokens scopes ≡ []) where
+    module _ (tree : Tree) (spelled : lexemes tokens ≡ spell tree) where
+      walked-comes : is_misplaced tree scopes ≡ false → (w : Walk) → w ≡ outcome (walk turns (items (unit_parts tree)) (first_walk scopes)) answers → (o : Option Fault) → w.fault ≡ o
+          → Comes (site_faults turns answers (items (unit_parts tree)) (first_walk scopes)) scopes (outcome (judged tokens scopes tree w) answers)
+      walked-comes stands w is (Some f) h =
+          let fs = site_faults turns answers (items (unit_parts tree)) (first_walk scopes) in
+          let at_first : w.fault ≡ first fs = ap (λ (u : Walk). u.fault) is ∙ walk-first turns answers (items (unit_parts tree)) (first_walk scopes) in
+          inl (f, judged-some scopes tree w f w.fault h, least-led fs (faults-led turns answers (items (unit_parts tree)) (first_walk scopes)) ∙ sym at_first ∙ h)
+      walked-comes stands w is None h =
+          let fs = site_faults turns answers (items (unit_parts tree)) (first_walk scopes) in
+          let at_first : w.fault ≡ first fs = ap (λ (u : Walk). u.fault) is ∙ walk-first turns answers (items (unit_parts tree)) (first_walk scopes) in
+          let empty : fs ≡ [] = none-first None fs (sym at_first ∙ h) in
+          inr (
+            record {
+              tree = tree;
+              rules = rules;
+              opening = opening;
+              spelled = spelled;
+              placed = stands;
+              named = empty;
+              is = judged-none scopes tree w w.fault h ∙ ap (sound tokens scopes tree) (is ∙ walk-sound turns answers (items (unit_parts tree)) (first_walk scopes) refl empty);
+            },
+            empty,
+          )
+
+      -- by whether it is misplaced
+      named-comes : (b : Bool) → is_misplaced tree scopes ≡ b
+          → Comes (cond b (fault_at 0 MisplacedUnit ∷ []) [] ++ site_faults turns answers (items (unit_parts tree)) (first_walk scopes)) scopes
+          (outcome (cond b (misplaced turns tokens scopes tree) (and_then (walk turns (items (unit_parts tree)) (first_walk scopes)) (λ w. judged tokens scopes tree w))) answers)
+      named-comes true stands =
+          let f = fault_at 0 MisplacedUnit in
+          let fs = site_faults turns answers (items (unit_parts tree)) (first_walk scopes) in
+          let before : Lookup (List Entity) = elim (first_part (items (unit_parts tree))) [ None ↦ Done [] | Some name ↦ outward turns scopes (folded name) ] in
+          inl (
+            f,
+            outcome-and_then before (λ found. refused tokens f) answers ∙ refused-is f,
+            least-led (f ∷ fs) (each-weaker (IsFrom 0) (Leads f) (λ g h. leads-beside f g h.0 h.1) fs (faults-from turns answers (items (unit_parts tree)) (first_walk scopes))),
+          )
+      named-comes false stands =
+          let query = walk turns (items (unit_parts tree)) (first_walk scopes) in
+          let w = outcome query answers in
+          subst (Comes (site_faults turns answers (items (unit_parts tree)) (first_walk scopes)) scopes)
+          (sym (outcome-and_then query (λ w. judged tokens scopes tree w) answers))
+          (walked-comes stands w refl w.fault refl)
+
+    -- by its tree
+    tree-comes : (o : Option Tree) → tree_of tokens ≡ o
+        → Comes (elim o [ None ↦ fault_at 0 NoTree ∷ [] | Some tree ↦ name_faults turns answers scopes tree ]) scopes
+        (outcome (elim o [ None ↦ refused tokens (fault_at 0 NoTree) | Some tree ↦ by_names turns tokens scopes tree ]) answers)
+    tree-comes None h = inl (fault_at 0 NoTree, refused-is (fault_at 0 NoTree), refl)
+    tree-comes (Some tree) h = named-comes tree (tree-spelled tokens tree h) (is_misplaced tree scopes) refl
+
+  -- by the faults of the first step
+  first-comes : (scopes : List Scope) (fs : List Fault) → first_faults tokens scopes ≡ fs
+      → Comes (or_else turns answers fs (further_faults turns answers tokens scopes)) scopes
+      (outcome (elim (least_fault fs) [ Some fault ↦ refused tokens fault | None ↦ by_tree turns tokens scopes ]) answers)
+  first-comes scopes [] h =
+      let none = none-append (token_faults tokens) (opening_faults tokens scopes) h in
+      tree-comes scopes none.0 none.1 (tree_of tokens) refl
+  first-comes scopes (f ∷ fs) h = inl (fold lesser_fault f fs, refused-is (fold lesser_fault f fs), refl)
+
+  pub verdict-comes : Comes (unit_faults turns answers (unit.Tokens tokens)) (scopes_in (answers Cursor)) (outcome (verdict turns (unit.Tokens tokens)) answers)
+  unfolding verdict
+  verdict-comes = first-comes (scopes_in (answers Cursor)) (first_faults tokens (scopes_in (answers Cursor))) refl
+
+  -- ---- what follows
+
+  least-comes : (faults : List Fault) (scopes : List Scope) (v : Verdict) → Comes faults scopes v → v.fault ≡ least_fault faults
+  least-comes faults scopes v (inl c) = ap (λ (x : Verdict). x.fault) c.1 ∙ sym c.2
+  least-comes faults scopes v (inr c) = ap (λ (x : Verdict). x.fault) c.0.is ∙ sym (ap least_fault c.1)
+
+  refused-comes : (faults : List Fault) (scopes : List Scope) (v : Verdict) → Comes faults scopes v → (f : Fault) → v.fault ≡ Some f → v ≡ faulty f (faulty_step tokens)
+  refused-comes faults scopes v (inl c) f h =
+      let told : v.fault ≡ Some c.0 = ap (λ (x : Verdict). x.fault) c.1 in
+      let same : c.0 ≡ f = cc in
+      c.1 ∙ ap (λ g. faulty g (faulty_step tokens)) same
+  refused-comes faults scopes v (inr c) f h = let told : v.fault ≡ None = ap (λ (x : Verdict). x.fault) c.0.is in cc
+
+  sound-comes : (faults : List Fault) (scopes : List Scope) (v : Verdict) → Comes faults scopes v → v.fault ≡ None → IsSound turns answers scopes tokens v
+  sound-comes faults scopes v (inl c) h = let told : v.fault ≡ Some c.0 = ap (λ (x : Verdict). x.fault) c.1 in cc
+  sound-comes faults scopes v (inr c) h = c.0
+
+  -- a faulty unit
+  pub faulty-is : (f : Fault) → (outcome (verdict turns (unit.Tokens tokens)) answers).fault ≡ Some f → outcome (verdict turns (unit.Tokens tokens)) answers ≡ faulty f (faulty_step tokens)
+  faulty-is = refused-comes (unit_faults turns answers (unit.Tokens tokens)) (scopes_in (answers Cursor)) (outcome (verdict turns (unit.Tokens tokens)) answers) verdict-comes
+
+  -- and one without fault
+  pub sound-is : (outcome (verdict turns (unit.Tokens tokens)) answers).fault ≡ None → IsSound turns answers (scopes_in (answers Cursor)) tokens (outcome (verdict turns (unit.Tokens tokens)) answers)
+  sound-is = sound-comes (unit_faults turns answers (unit.Tokens tokens)) (scopes_in (answers Cursor)) (outcome (verdict turns (unit.Tokens tokens)) answers) verdict-comes
+
+  pub least-tokens : (outcome (verdict turns (unit.Tokens tokens)) answers).fault ≡ least_fault (unit_faults turns answers (unit.Tokens tokens))
+  least-tokens = least-comes (unit_faults turns answers (unit.Tokens tokens)) (scopes_in (answers Cursor)) (outcome (verdict turns (unit.Tokens tokens)) answers) verdict-comes
+
+  -- ---- what a unit asks that the first two steps refuse
+
+  tree-asks : (scopes : List Scope) (o : Option Tree) → o ≡ None → asked (elim o [ None ↦ refused tokens (fault_at 0 NoTree) | Some tree ↦ by_names turns tokens scopes tree ]) answers ≡ refused_keys tokens
+  tree-asks scopes None h = refused-asks (fault_at 0 NoTree)
+  tree-asks scopes (Some tree) h = cc
+
+  first-asks : (scopes : List Scope) (fs : List Fault) → (fs ≡ [] → tree_of tokens ≡ None)
+      → asked (elim (least_fault fs) [ Some fault ↦ refused tokens fault | None ↦ by_tree turns tokens scopes ]) answers ≡ refused_keys tokens
+  first-asks scopes [] h = tree-asks scopes (tree_of tokens) (h refl)
+  first-asks scopes (f ∷ fs) h = refused-asks (fold lesser_fault f fs)
+
+  pub verdict-asks : (first_faults tokens (scopes_in (answers Cursor)) ≡ [] → tree_of tokens ≡ None) → asked (verdict turns (unit.Tokens tokens)) answers ≡ Cursor ∷ refused_keys tokens
+  unfolding verdict
+  verdict-asks h = ap (λ ks. Cursor ∷ ks) (first-asks (scopes_in (answers Cursor)) (first_faults tokens (scopes_in (answers Cursor))) h)
+
+-- tokens that no tree spells
+no-tree : (tokens : List Token) → ((tree : Tree) → lexemes tokens ≢ spell tree) → (o : Option Tree) → tree_of tokens ≡ o → o ≡ None
+no-tree tokens none None h = refl
+no-tree tokens none (Some tree) h = absurd (none tree (tree-spelled tokens tree h))
+
+pub none-spelled : (tokens : List Token) → ((tree : Tree) → lexemes tokens ≢ spell tree) → tree_of tokens ≡ None
+none-spelled tokens none = no-tree tokens none (tree_of tokens) refl
+
+pub least-is : (turns : ℕ) (text : UnitText) (answers : Key → Option Answer) → (outcome (verdict turns text) answers).fault ≡ least_fault (unit_faults turns answers text)
+unfolding verdict
+least-is turns (unit.Tokens tokens) answers = least-tokens turns answers tokens
+least-is turns (unit.Pragma tokens inside) answers = refl

@@ -1,0 +1,8 @@
+use Rattle.idl_check.proofs.VerdictLaws.{sound-is, spelled-tree, tree-spelled}
+use Rattle.idl_check.proofs.laws.acceptance.Goals as goal
+
+pub returns-clause-sound : goal.returns-clause-sound
+returns-clause-sound c = λ turns tokens answers. sound-is turns answers tokens
+
+pub returns-clause-tree : goal.returns-clause-tree
+returns-clause-tree c = λ tokens tree. (tree-spelled tokens tree, spelled-tree tokens tree)

@@ -1,0 +1,44 @@
+-- What holds of a unit without fault.
+use Rattle.std.specs.Prelude.{◌≡◌, ℕ, false, List, [], ◌∷◌, Option, None, Some}
+use Rattle.idl_check.specs.AllFaults.{site_faults}
+use Rattle.idl_check.specs.Placing.{is_misplaced, opened_kind, opening_faults}
+use Rattle.idl_check.specs.Verdict.{sound}
+use Rattle.idl_check.specs.Walk.{Walk, first_walk, visit}
+use Rattle.idl_check.specs.declared.verdict.Verdict.{Verdict}
+use Rattle.idl_lex.specs.Tokens.{Token}
+use Rattle.idl_memo.specs.Query.{outcome}
+use Rattle.idl_scope.specs.declared.answer.Answer.{Answer}
+use Rattle.idl_scope.specs.declared.answer.Scope.{Scope}
+use Rattle.idl_scope.specs.declared.key.Key.{Key}
+use Rattle.idl_scope.specs.declared.key.Key.TheVariants.{Nameless}
+use Rattle.idl_site.specs.Item.{Item, items}
+use Rattle.idl_site.specs.UnitParts.{unit_parts}
+use Rattle.idl_tree.specs.Lexeme.{lexemes}
+use Rattle.idl_tree.specs.Unit.{spell}
+use Rattle.idl_tree.specs.declared.unit.Tree.{Tree}
+use Rattle.idl_unit.specs.TokenRules.{token_faults}
+
+module _ (turns : ℕ) (answers : Key → Option Answer) where
+  -- a walk after all of these sites
+  abbrev pub walked : List Item → Walk → Walk
+  walked [] w = w
+  walked (site ∷ sites) w = walked sites (outcome (visit turns site w) answers).after
+
+-- what a faulty unit of these tokens asks beside the open scopes
+abbrev pub refused_keys : List Token → List Key
+refused_keys tokens = elim (opened_kind tokens) [ None ↦ [] | Some kind ↦ Nameless ∷ [] ]
+
+-- In these scopes no rule of tokens refuses the tokens. They are the spelling of a tree, which stands
+-- where it may, and at none of whose sites is a fault; and what all these sites come to is the verdict.
+pub record IsSound (turns : ℕ) (answers : Key → Option Answer) (scopes : List Scope)
+    (tokens : List Token) (verdict : Verdict) : Type 0 where
+  pub tree : Tree
+  pub rules : token_faults tokens ≡ []
+  pub opening : opening_faults tokens scopes ≡ []
+  pub spelled : lexemes tokens ≡ spell tree
+  pub placed : is_misplaced tree scopes ≡ false
+  pub named : site_faults turns answers (items (unit_parts tree)) (first_walk scopes) ≡ []
+  pub is :
+      verdict
+      ≡ sound tokens scopes tree
+      (walked turns answers (items (unit_parts tree)) (first_walk scopes))
