@@ -86,56 +86,6 @@ fn copied(entity: Option<&Shared<Entity>>) -> Result<Option<Shared<Entity>>, All
     }
 }
 
-// Whether a use has introduced it there.
-    pub is_used: bool,
-    /// Whether an operation or attribute is inherited under it.
-    pub is_inherited: bool,
-}
-
-impl Drop for Standing {
-    fn drop(self) {
-        let Standing {
-            there: _there,
-            is_used: _is_used,
-            is_inherited: _is_inherited,
-        } = self;
-    }
-}
-
-/// What stands under a folded name in a scope.
-pub fn standing_of(
-    view: View<'_>,
-    log: &mut Log<Env>,
-    scope: &Scope,
-    name: &Spelling,
-) -> Result<Standing, AllocError>
-    ensures { IfOk result (λ found. (turns : ℕ) → TURNS ≤ turns →
-        (found, log.new)
-        ≡ run key_eq (under view.entry.own.now.additions (standing turns scope.now name.now))
-        (answers view.entry.env.now) log.old) }
-{
-    let key = Key::Declared(name.clone()?, scope.path.clone()?);
-    let declared = view.entity(log, &key)?;
-    let there = copied(declared)?;
-    let is_used = is_used(view, log, scope, name)?;
-    let is_inherited = is_inherited(view, log, scope, name)?;
-    Ok(Standing {
-        there,
-        is_used,
-        is_inherited,
-    })
-}
-
-// The entity, if there is one.
-fn copied(entity: Option<&Shared<Entity>>) -> Result<Option<Shared<Entity>>, AllocError>
-    ensures { IfOk result (λ copy. copy ≡ option_copied entity.entry) }
-{
-    match entity {
-        Some(found) => Ok(Some(found.clone()?)),
-        None => Ok(None),
-    }
-}
-
 // Whether a use has introduced a folded name into a body.
 fn is_used(
     view: View<'_>,
