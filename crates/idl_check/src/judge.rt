@@ -59,8 +59,8 @@ impl<'a> Judge<'a> {
         requires { text.now ≡ unit.Tokens self.tokens.now }
         ensures { IfOk result (λ v. (turns : ℕ) → TURNS ≤ turns →
             (v, log.new)
-            ≡ run key_eq (token_verdict turns self.tokens.now self.scopes.now)
-            (answers self.env.now) log.old) }
+            ≡ run key_eq (token_verdict turns self.entry.tokens.now self.entry.scopes.now)
+            (answers self.entry.env.now) log.old) }
     {
         match parse(self.env.alloc(), text) {
             Ok(tree) => self.with_tree(log, &tree),
@@ -73,7 +73,7 @@ impl<'a> Judge<'a> {
     // The least fault of the first step, where this is that of the tokens.
     fn with_opening(self, fault: Fault) -> Fault
         ensures { (faults : List UnitFault) → least_fault faults ≡ Some fault
-            → least_fault (faults ++ opening_faults self.tokens.now self.scopes.now) ≡ Some result }
+            → least_fault (faults ++ opening_faults self.entry.tokens.now self.entry.scopes.now) ≡ Some result }
     {
         match opening_fault(self.tokens, self.scopes) {
             Some(other) => lesser(fault, other),
@@ -87,8 +87,8 @@ impl<'a> Judge<'a> {
         requires none { tree_of self.tokens.now ≡ None }
         ensures { IfOk result (λ v. (turns : ℕ) → TURNS ≤ turns →
             (v, log.new)
-            ≡ run key_eq (token_verdict turns self.tokens.now self.scopes.now)
-            (answers self.env.now) log.old) }
+            ≡ run key_eq (token_verdict turns self.entry.tokens.now self.entry.scopes.now)
+            (answers self.entry.env.now) log.old) }
     {
         match opening_fault(self.tokens, self.scopes) {
             Some(fault) => self.refused(log, fault),
@@ -102,8 +102,8 @@ impl<'a> Judge<'a> {
         requires tree { IsTreeOf (unit.Tokens self.tokens.now) tree.now }
         ensures { IfOk result (λ v. (turns : ℕ) → TURNS ≤ turns →
             (v, log.new)
-            ≡ run key_eq (token_verdict turns self.tokens.now self.scopes.now)
-            (answers self.env.now) log.old) }
+            ≡ run key_eq (token_verdict turns self.entry.tokens.now self.entry.scopes.now)
+            (answers self.entry.env.now) log.old) }
     {
         if let Some(fault) = opening_fault(self.tokens, self.scopes) {
             return self.refused(log, fault);
@@ -118,7 +118,7 @@ impl<'a> Judge<'a> {
     fn refused(self, log: &mut Log<Env>, fault: Fault) -> Result<Verdict, AllocError>
         ensures { IfOk result (λ v.
             (v, log.new)
-            ≡ run key_eq (refused self.tokens.now fault) (answers self.env.now) log.old) }
+            ≡ run key_eq (refused self.entry.tokens.now fault) (answers self.entry.env.now) log.old) }
     {
         if opened_kind(self.tokens).is_some() {
             log.ask(&Key::Nameless, self.env)?;
@@ -132,8 +132,8 @@ impl<'a> Judge<'a> {
         requires { lexemes self.tokens.now ≡ spell tree.now }
         ensures { IfOk result (λ v. (turns : ℕ) → TURNS ≤ turns →
             (v, log.new)
-            ≡ run key_eq (by_names turns self.tokens.now self.scopes.now tree.now)
-            (answers self.env.now) log.old) }
+            ≡ run key_eq (by_names turns self.entry.tokens.now self.entry.scopes.now tree.now)
+            (answers self.entry.env.now) log.old) }
     {
         // They do nothing: they carry the laws of sites.
         spelling();
@@ -159,8 +159,8 @@ impl<'a> Judge<'a> {
         ensures { IfOk result (λ v. (turns : ℕ) → TURNS ≤ turns →
             (tree : UnitsTree) → map item_at sites.now ≡ items (unit_parts tree) →
             (v, log.new)
-            ≡ run key_eq (misplaced turns self.tokens.now self.scopes.now tree)
-            (answers self.env.now) log.old) }
+            ≡ run key_eq (misplaced turns self.entry.tokens.now self.entry.scopes.now tree)
+            (answers self.entry.env.now) log.old) }
     {
         if let Some(name) = first_part(sites) {
             self.ask_outward(log, name)?;
@@ -173,7 +173,7 @@ impl<'a> Judge<'a> {
     fn ask_outward(self, log: &mut Log<Env>, name: &[u8]) -> Result<(), AllocError>
         ensures { OnOk result ((turns : ℕ) → TURNS ≤ turns →
             log.new
-            ≡ (run key_eq (outward turns self.scopes.now (folded name.now)) (answers self.env.now)
+            ≡ (run key_eq (outward turns self.entry.scopes.now (folded name.now)) (answers self.entry.env.now)
             log.old).1) }
     {
         let own = Facts::new(self.env.alloc());
@@ -198,9 +198,9 @@ impl<'a> Judge<'a> {
         ensures { IfOk result (λ v.
             (v, log.new)
             ≡ run key_eq
-            (asking (step_of unit.tree.now (path_around self.scopes.now))
-            (sound self.tokens.now self.scopes.now unit.tree.now (held walker)))
-            (answers self.env.now) log.old) }
+            (asking (step_of unit.entry.tree.now (path_around self.entry.scopes.now))
+            (sound self.entry.tokens.now self.entry.scopes.now unit.entry.tree.now (held walker.entry)))
+            (answers self.entry.env.now) log.old) }
     {
         let alloc = self.env.alloc();
         let rest = Rest {
@@ -224,7 +224,7 @@ impl<'a> Judge<'a> {
     // Of a scope that is opened it is asked how often it was before.
     fn ask_step(self, log: &mut Log<Env>, step: &Step) -> Result<(), AllocError>
         ensures { OnOk result ((v : UnitVerdict) →
-            (v, log.new) ≡ run key_eq (asking step.now v) (answers self.env.now) log.old) }
+            (v, log.new) ≡ run key_eq (asking step.now v) (answers self.entry.env.now) log.old) }
     {
         match step {
             Step::Opens(path, _kind) => {

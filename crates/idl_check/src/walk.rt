@@ -76,7 +76,7 @@ impl<'a> Walker<'a> {
     /// Before the first site, in these scopes.
     pub fn new(env: &'a Env, scopes: &[Scope]) -> Result<Walker<'a>, AllocError>
         ensures walk { IfOk result (λ w. held w ≡ first_walk scopes.now) }
-        ensures env { IfOk result (λ w. w.env ≡ env) }
+        ensures env { IfOk result (λ w. w.env.now ≡ env.now) }
     {
         let alloc = env.alloc();
         let cursor = Vec::from_clones(alloc, scopes)?;
@@ -100,7 +100,7 @@ impl<'a> Walker<'a> {
             (held self.new, log.new)
             ≡ run key_eq (walk turns (map item_at sites.now) (held self.old))
             (answers self.old.env.now) log.old) }
-        ensures env { OnOk result (self.new.env ≡ self.old.env) }
+        ensures env { OnOk result (self.new.env.now ≡ self.old.env.now) }
     {
         for site in sites {
             if self.is_over() {
@@ -138,10 +138,10 @@ impl<'a> Walker<'a> {
         requires { HasRoomFor (held self.old) (item_at site ∷ []) }
         ensures visited { OnOk result ((turns : ℕ) → TURNS ≤ turns →
             (held self.new, log.new)
-            ≡ run key_eq (visited turns (item_at site) (held self.old))
+            ≡ run key_eq (visited turns (item_at site.entry) (held self.old))
             (answers self.old.env.now) log.old) }
-        ensures at { OnOk result (self.new.at ≡ self.old.at + item_length (item_at site)) }
-        ensures env { OnOk result (self.new.env ≡ self.old.env) }
+        ensures at { OnOk result (self.new.at ≡ self.old.at + item_length (item_at site.entry)) }
+        ensures env { OnOk result (self.new.env.now ≡ self.old.env.now) }
     {
         match site {
             Site::Declared(way, name) => self.declare(log, way, name),
@@ -195,7 +195,7 @@ impl<'a> Walker<'a> {
             ≡ run key_eq (visited turns (item.Declared way name.now) (held self.old))
             (answers self.old.env.now) log.old) }
         ensures at { OnOk result (self.new.at ≡ self.old.at + 1) }
-        ensures env { OnOk result (self.new.env ≡ self.old.env) }
+        ensures env { OnOk result (self.new.env.now ≡ self.old.env.now) }
     {
         let alloc = self.env.alloc();
         let Some(innermost) = self.cursor.first() else {
@@ -213,8 +213,8 @@ impl<'a> Walker<'a> {
 
     // The environment under what the tokens so far add.
     fn view(&self) -> View<'_>
-        ensures env { result.env ≡ self.entry.env }
-        ensures own { result.own.now ≡ self.entry.now.own }
+        ensures env { result.env.now ≡ self.now.env.now }
+        ensures own { result.own.now ≡ self.now.own }
     {
         View {
             env: self.env,
@@ -233,7 +233,7 @@ impl<'a> Walker<'a> {
         ensures visit { OnOk result
             (held self.new
             ≡ noted_in (declared_visit (held self.old) scope.now entity standing.now) self.old.fault) }
-        ensures env { OnOk result (self.new.env ≡ self.old.env) }
+        ensures env { OnOk result (self.new.env.now ≡ self.old.env.now) }
     {
         let code = declared_code(self.env.alloc(), scope, standing, entity.get())?;
         self.note(self.at, code);
@@ -258,7 +258,7 @@ impl<'a> Walker<'a> {
             (answers self.old.env.now) log.old) }
         ensures at { OnOk result
             (self.new.at ≡ self.old.at + item_length (item.Used way name.now)) }
-        ensures env { OnOk result (self.new.env ≡ self.old.env) }
+        ensures env { OnOk result (self.new.env.now ≡ self.old.env.now) }
     {
         let place = Standpoint {
             own: &self.own,
@@ -284,7 +284,7 @@ impl<'a> Walker<'a> {
         ensures visit { (way : Use) →
             held self.new
             ≡ noted_in (used_visit (held self.old) way name.now (Err (At code part))) self.old.fault }
-        ensures env { self.new.env ≡ self.old.env }
+        ensures env { self.new.env.now ≡ self.old.env.now }
     {
         self.note(part_at(self.at, name, part), Some(name_code(code)));
         self.at = last_at(self.at, name) + 1;
@@ -296,7 +296,7 @@ impl<'a> Walker<'a> {
         ensures visit { OnOk result
             (held self.new
             ≡ noted_in (used_visit (held self.old) way name.now (Ok found)) self.old.fault) }
-        ensures env { OnOk result (self.new.env ≡ self.old.env) }
+        ensures env { OnOk result (self.new.env.now ≡ self.old.env.now) }
     {
         let alloc = self.env.alloc();
         let entity = found.entity.get();
@@ -316,7 +316,7 @@ impl<'a> Walker<'a> {
         ensures walk { OnOk result
             (held self.new
             ≡ record (held self.old) { cursor = with_scope way name.now self.old.cursor.items }) }
-        ensures env { OnOk result (self.new.env ≡ self.old.env) }
+        ensures env { OnOk result (self.new.env.now ≡ self.old.env.now) }
     {
         let alloc = self.env.alloc();
         let Some(innermost) = self.cursor.first() else {
@@ -336,7 +336,7 @@ impl<'a> Walker<'a> {
     // It ends.
     fn end_scope(&mut self) -> Result<(), AllocError>
         ensures walk { held self.new ≡ record (held self.old) { cursor = drop 1 self.old.cursor.items } }
-        ensures env { self.new.env ≡ self.old.env }
+        ensures env { self.new.env.now ≡ self.old.env.now }
     {
         leave(&mut self.cursor);
         Ok(())
@@ -347,7 +347,7 @@ impl<'a> Walker<'a> {
         ensures { IfOk result (λ facts.
             facts
             ≡ record {
-              additions = with_finished self.bases.paths self.own.additions self.begun.items;
+              additions = with_finished self.entry.bases.paths self.entry.own.additions self.entry.begun.items;
               step = step;
             }) }
     {
