@@ -1,6 +1,8 @@
+mod JudgeLemmas
 mod NameLemmas
 mod PartLemmas
 mod StandingLemmas
+mod TaskLemmas
 mod VisitLemmas
 pub mod FaultOrder
 pub mod SiteLaws

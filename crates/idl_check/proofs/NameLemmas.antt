@@ -2,9 +2,11 @@
 use Rattle.std.proofs.Common.{◌≡◌, ℕ, suc, ◌+◌, ◌*◌, ◌≤◌, Bool, true, false, cond, List, [], ◌∷◌, ◌++◌, length, flat_map, refl, sym, ap, ◌∙◌, arith}
 use Rattle.idl_check.specs.Using.{last_at, part_at}
 use Rattle.idl_lex.specs.declared.mark.Mark.TheVariants.{ColonColon}
-use Rattle.idl_tree.specs.Lexeme.{Lexemes, Punctuation, Identifier}
+use Rattle.idl_tree.specs.Interface.{spell_text}
+use Rattle.idl_tree.specs.Lexeme.{Lexemes, Punctuation, Identifier, Text}
 use Rattle.idl_tree.specs.Name.{spell_leading, spell_name}
 use Rattle.idl_tree.specs.declared.name.ScopedName.{ScopedName}
+use Rattle.idl_tree.specs.declared.several.Several.{Several}
 
 parts-length : (parts : List (List ℕ)) → length (flat_map (λ part. Punctuation ColonColon ∷ Identifier part ∷ []) parts) ≡ 2 * length parts
 parts-length [] = refl
@@ -24,3 +26,11 @@ behind_name at name =
 -- no part stands behind the last
 pub part_at-last : (at : ℕ) (name : ScopedName) (part : ℕ) → part ≤ length name.rest → part_at at name part ≤ last_at at name
 part_at-last at name part h = omega arith
+
+singles-length : (pieces : List (List ℕ)) → length (flat_map (λ piece. Text piece ∷ []) pieces) ≡ length pieces
+singles-length [] = refl
+singles-length (piece ∷ pieces) = ap suc (singles-length pieces)
+
+-- how many tokens joined literals are
+pub text-length : (text : Several (List ℕ)) → length (spell_text text) ≡ 1 + length text.rest
+text-length text = let rest = singles-length text.rest in omega (arith, rest)

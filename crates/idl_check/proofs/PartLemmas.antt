@@ -1,9 +1,9 @@
 -- The faults of names stand at their parts.
-use Rattle.std.proofs.Common.{◌≡◌, ℕ, suc, ◌+◌, ◌≤◌, Bool, true, false, cond, List, [], ◌∷◌, Result, Ok, Err, length, refl, sym, ap, ◌∙◌, arith}
+use Rattle.std.proofs.Common.{◌≡◌, ℕ, suc, ◌+◌, ◌≤◌, Bool, true, false, cond, List, [], ◌∷◌, Result, Ok, Err, length, refl, subst, sym, ap, ◌∙◌, arith}
 use Rattle.idl_lex.specs.Keywords.{folded}
-use Rattle.idl_memo.specs.Query.{Query, Done, Ask, Tell, and_then, outcome}
+use Rattle.idl_memo.specs.Query.{Query, Done, Ask, Tell, and_then, outcome, run}
 use Rattle.idl_memo.proofs.QueryLaws.{outcome-and_then}
-use Rattle.idl_scope.specs.Lookup.{Lookup, by_result, denoted, found_as, further, has, is_scope, judged, outward, part_of, placed, searched}
+use Rattle.idl_scope.specs.Lookup.{Lookup, by_result, denoted, found_as, further, has, is_scope, judged, outward, part_of, placed, searched, under}
 use Rattle.idl_scope.specs.declared.answer.Answer.{Answer}
 use Rattle.idl_scope.specs.declared.answer.Scope.{Scope}
 use Rattle.idl_scope.specs.declared.entity.Entity.{Entity}
@@ -15,6 +15,10 @@ use Rattle.idl_scope.specs.declared.found.Found.{Found}
 use Rattle.idl_scope.specs.declared.key.Key.{Key}
 use Rattle.idl_tree.specs.declared.name.ScopedName.{ScopedName}
 use Rattle.std.specs.Prelude.{Option}
+use Rattle.idl_scope.specs.Facts.{over}
+use Rattle.idl_scope.specs.Key.{key_eq}
+use Rattle.idl_scope.specs.declared.addition.Addition.{Addition}
+use Rattle.idl_scope.proofs.FactsLaws.{outcome-under}
 
 -- a fault stands at no later part than this one, and is no want of memory
 abbrev pub IsUpTo : {A : Type 0} → ℕ → Result A NameFault → Type 0
@@ -78,3 +82,10 @@ module _ (turns : ℕ) (bank : Key → Option Answer) where
       let first = part_of 0 name.first (outward turns (searched name.is_global cursor) (folded name.first)) in
       rw (outcome-and_then first (from_first cursor name) bank)
       (from_first-IsUpTo cursor name (outcome first bank) (part_of-IsUpTo 0 0 name.first (outward turns (searched name.is_global cursor) (folded name.first)) (omega arith)))
+
+-- the part of a name's fault, as a run of its lookup tells it
+pub part-within : (own : List Addition) (bank : Key → Option Answer) (turns : ℕ) (cursor : List Scope) (name : ScopedName) (log after : List (Key × Option Answer)) (code : NameCode) (part : ℕ)
+    → (Err (At code part), after) ≡ run key_eq (under own (denoted turns cursor name)) bank log → part ≤ length name.rest
+part-within own bank turns cursor name log after code part h =
+    let same = ap (λ (p : Result Found NameFault × List (Key × Option Answer)). p.0) h ∙ outcome-under own bank (denoted turns cursor name) in
+    subst (IsUpTo (length name.rest)) (sym same) (denoted-IsUpTo turns (λ k. over own k (bank k)) cursor name)

@@ -1,5 +1,6 @@
 -- Runs of a walk and of its sites.
-use Rattle.std.proofs.Common.{◌≡◌, ℕ, Bool, true, false, cond, List, [], ◌∷◌, Option, None, Some, refl, sym, ap, ◌∙◌}
+use Rattle.std.proofs.Common.{◌≡◌, ℕ, Bool, true, false, cond, List, [], ◌∷◌, Option, None, Some, is_some, map, refl, sym, ap, ◌∙◌}
+use Rattle.std.specs.Option.{option_map}
 use Rattle.idl_memo.specs.Query.{Done, and_then, run}
 use Rattle.idl_memo.proofs.QueryLaws.{run-and_then, run-and_then_at}
 use Rattle.idl_check.specs.Held.{visited}
@@ -9,6 +10,8 @@ use Rattle.idl_scope.specs.Lookup.{Lookup}
 use Rattle.idl_scope.specs.declared.answer.Answer.{Answer}
 use Rattle.idl_scope.specs.declared.key.Key.{Key}
 use Rattle.idl_site.specs.Item.{Item}
+use Rattle.idl_event.specs.declared.code.Code.{Code}
+use Rattle.idl_unit.specs.TokenRules.{fault_at, first}
 use Rattle.idl_unit.specs.declared.fault.Fault.{Fault}
 
 -- no fault more
@@ -19,6 +22,22 @@ first_fault-none (Some f) = refl
 -- a site at which nothing is wrong
 pub noted_in-quiet : (w : Walk) (fault : Option Fault) → noted_in (quiet w) fault ≡ record w { fault = fault }
 noted_in-quiet w fault = λ i. record w { fault = first_fault-none fault i }
+
+-- the first fault of a token is that of its first code
+first-map : (n : ℕ) (codes : List Code) → first (map (fault_at n) codes) ≡ option_map (fault_at n) (first codes)
+first-map n [] = refl
+first-map n (c ∷ codes) = refl
+
+-- after a fault others don't count
+pub first_fault-after : (fault : Option Fault) (faults : List Fault) → is_some fault ≡ true → first_fault fault faults ≡ fault
+first_fault-after None faults h = cc
+first_fault-after (Some f) faults h = refl
+
+-- and else the first code does
+pub first_fault-by : (fault : Option Fault) (n : ℕ) (codes : List Code) (code : Option Code) → is_some fault ≡ false → code ≡ first codes
+    → first_fault fault (map (fault_at n) codes) ≡ option_map (fault_at n) code
+first_fault-by None n codes code h is = first-map n codes ∙ ap (option_map (fault_at n)) (sym is)
+first_fault-by (Some f) n codes code h is = cc
 
 module _ (bank : Key → Option Answer) where
   -- a run over a bank
@@ -32,6 +51,12 @@ module _ (bank : Key → Option Answer) where
   visited_by q g fault log x after h =
       run-and_then_at key_eq (and_then q (λ x. Done (g x))) (λ v. Done (noted_in v fault)) bank log (g x) after
       (sym (run-and_then_at key_eq q (λ x. Done (g x)) bank log x after h))
+
+  -- a site at which nothing is asked
+  pub visited_quiet : (turns : ℕ) (site : Item) (w next : Walk) (log : List (Key × Option Answer)) → visit turns site w ≡ Done (quiet next)
+      → runs_over (visited turns site w) log ≡ (record next { fault = w.fault }, log)
+  visited_quiet turns site w next log h =
+      ap (λ q. runs_over (and_then q (λ v. Done (noted_in v w.fault))) log) h ∙ ap (λ x. (x, log)) (noted_in-quiet next w.fault)
 
   -- a walk that is over
   pub walk_over : (turns : ℕ) (sites : List Item) (w : Walk) (log : List (Key × Option Answer)) → is_over w ≡ true → runs_over (walk turns sites w) log ≡ (w, log)

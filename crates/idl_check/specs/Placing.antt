@@ -1,9 +1,8 @@
 -- Where a unit may stand, and what it does to the open scopes.
-use Rattle.std.specs.Prelude.{ℕ, ◌-◌, ◌≤◌, Bool, true, false, ◌&&◌, ◌||◌, List, [], ◌∷◌, length, nat_le, not, Option, None, Some, if◌then◌else◌}
+use Rattle.std.specs.Prelude.{ℕ, ◌+◌, ◌-◌, Bool, true, false, List, [], ◌∷◌, length, nat_eq, nat_le, not, Option, None, Some, if◌then◌else◌}
 use Rattle.idl_check.specs.Codes.{faults_by}
 use Rattle.idl_event.specs.declared.code.Code.TheVariants.{NestedTooDeep}
 use Rattle.idl_lex.specs.Tokens.{Token}
-use Rattle.idl_scope.specs.Facts.{path_around}
 use Rattle.idl_scope.specs.Kind.{kind_eq}
 use Rattle.idl_scope.specs.declared.addition.Step.{Step}
 use Rattle.idl_scope.specs.declared.addition.Step.TheVariants.{Stays, Opens, OpensNameless, Closes}
@@ -13,7 +12,7 @@ use Rattle.idl_scope.specs.declared.kind.Kind.TheVariants as kind
 use Rattle.idl_tree.specs.declared.interface.Forward.TheVariants as forward
 use Rattle.idl_tree.specs.declared.unit.Tree.{Tree}
 use Rattle.idl_tree.specs.declared.unit.Tree.TheVariants as tree
-use Rattle.idl_unit.specs.Ending.{begins, ends_in, opens, role, rule_of}
+use Rattle.idl_unit.specs.Ending.{begins, opens, role, rule_of}
 use Rattle.idl_unit.specs.declared.fault.Fault.{Fault}
 use Rattle.idl_unit.specs.declared.role.Role.{Role}
 use Rattle.idl_unit.specs.declared.role.Role.TheVariants.{Module}
@@ -24,18 +23,26 @@ abbrev pub is_module : Role → Bool
 is_module Module = true
 is_module role = false
 
--- the kind of the scope that a heading opens: what its keyword says, where it ends in `{`
-abbrev pub heading_kind : List Token → Option Kind
-heading_kind tokens =
-    if ends_in opens tokens
-    then Some (if begins is_module tokens then kind.Module else kind.Interface) else None
+-- the number of the first `{`, where that of the first token is n
+abbrev pub brace_from : ℕ → List Token → Option ℕ
+brace_from n [] = None
+brace_from n (t ∷ ts) = if opens (role t) then Some n else brace_from (n + 1) ts
 
-abbrev pub opened_by : Rule → List Token → Option Kind
-opened_by Heading tokens = heading_kind tokens
-opened_by other tokens = None
+-- an opening is a heading with `{`
+abbrev pub brace_by : Rule → List Token → Option ℕ
+brace_by Heading tokens = brace_from 0 tokens
+brace_by other tokens = None
+
+abbrev pub opening_brace : List Token → Option ℕ
+opening_brace tokens = brace_by (rule_of tokens) tokens
+
+-- the kind of the scope that it opens: what its keyword says
+abbrev pub heading_kind : List Token → Kind
+heading_kind tokens = if begins is_module tokens then kind.Module else kind.Interface
 
 abbrev pub opened_kind : List Token → Option Kind
-opened_kind tokens = opened_by (rule_of tokens) tokens
+opened_kind tokens =
+    elim (opening_brace tokens) [ None ↦ None | Some n ↦ Some (heading_kind tokens) ]
 
 abbrev pub is_closing_by : Rule → Bool
 is_closing_by Closing = true
@@ -63,9 +70,9 @@ depth scopes = length scopes - 1
 -- an opening where 64 scopes are open, at its `{`
 abbrev pub opening_faults : List Token → List Scope → List Fault
 opening_faults tokens scopes =
-    elim (opened_kind tokens) [
+    elim (opening_brace tokens) [
       | None ↦ []
-      | Some kind ↦ faults_by (length tokens - 1) ((nat_le 64 (depth scopes), NestedTooDeep) ∷ [])
+      | Some n ↦ faults_by n ((nat_le 64 (depth scopes), NestedTooDeep) ∷ [])
     ]
 
 -- in a scope that is an interface or not, a unit stands that may not stand there
@@ -84,5 +91,5 @@ is_interface (s ∷ scopes) = kind_eq s.kind kind.Interface
 
 -- a unit that the innermost of these scopes doesn't hold; the global scope holds no closing
 abbrev pub is_misplaced : Tree → List Scope → Bool
-is_misplaced tree.Closing scopes = nat_le (depth scopes) 0
+is_misplaced tree.Closing scopes = nat_eq (depth scopes) 0
 is_misplaced other scopes = is_misplaced_in (is_interface scopes) other

@@ -8,7 +8,9 @@
 mod bases;
 mod codes;
 mod declaring;
+mod judge;
 mod laws;
+mod part;
 mod placing;
 mod row;
 mod standing;

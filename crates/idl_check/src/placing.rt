@@ -1,57 +1,111 @@
 //! Where a unit may stand, and what it does to the open scopes.
 
-ghost use Rattle.std.specs.Prelude.{◌≡◌, IfOk};
-ghost use Rattle.idl_check.specs.Placing.{opened_kind, is_misplaced};
+ghost use Rattle.std.specs.Prelude.{◌≡◌, ◌∷◌, IfOk, if◌then◌else◌, option_to_list};
+ghost use Rattle.idl_check.specs.Placing.{brace_from, depth, faulty_step, heading_kind, is_closing_by, is_interface, is_misplaced, is_module, opened_kind, opening_brace, opening_faults, step_of};
+ghost use Rattle.idl_scope.specs.declared.addition.Step.TheVariants as steps;
+ghost use Rattle.idl_unit.specs.Ending.{begins, opens};
 
 use idl_event::Code;
-use idl_lex::{Keyword, Kind as TokenKind, Mark, Token};
+use idl_lex::Token;
 use idl_scope::{Kind, Path, Scope, Step, shared_name};
 use idl_tree::{Forward, Tree};
-use idl_unit::{Fault, Rule, rule_of};
+use idl_unit::{Fault, Role, Rule, role_of, rule_of};
 use std::alloc::{AllocError, Global};
 
 /// So many scopes may be open beside the global one.
 const MAX_OPEN: usize = 64;
 
-/// The kind of the scope that these tokens open, if they are an opening.
-pub fn opened_kind(tokens: &[Token]) -> Option<Kind>
-    ensures { result ≡ opened_kind tokens.now }
+/// The number of the `{` of an opening, if the unit is one.
+pub fn opening_brace(tokens: &[Token]) -> Option<usize>
+    ensures { result ≡ opening_brace tokens.now }
 {
     match rule_of(tokens) {
-        Rule::Heading if ends_in_brace(tokens) => Some(heading_kind(tokens)),
-        _ => None,
+        Rule::Heading => first_brace(tokens),
+        Rule::Closing | Rule::Declaration => None,
     }
 }
 
-// Whether the last token is `{`.
-fn ends_in_brace(tokens: &[Token]) -> bool {
+// The number of the first `{`.
+fn first_brace(tokens: &[Token]) -> Option<usize>
+    ensures { result ≡ brace_from 0 tokens.now }
+{
+    for (index, token) in tokens.iter().enumerate() {
+        if opens(role_of(token)) {
+            return Some(index);
+        }
+    }
+    None
+}
+
+fn opens(role: Role) -> bool
+    ensures { result ≡ opens role }
+{
+    match role {
+        Role::OpenBrace => true,
+        _ => false,
+    }
+}
+
+// The kind of the scope that a heading opens.
+fn heading_kind(tokens: &[Token]) -> Kind
+    ensures { result ≡ heading_kind tokens.now }
+{
+    if begins_module(tokens) { Kind::Module } else { Kind::Interface }
+}
+
+// Whether `module` comes first.
+fn begins_module(tokens: &[Token]) -> bool
+    ensures { result ≡ begins is_module tokens.now }
+{
     match tokens {
-        [.., last] => last.kind() == TokenKind::Punctuation(Mark::OpenBrace),
+        [first, ..] => is_module(role_of(first)),
         [] => false,
     }
 }
 
-// The kind that the first keyword of a heading says.
-fn heading_kind(tokens: &[Token]) -> Kind {
-    match tokens {
-        [first, ..] if first.kind() == TokenKind::Accepted(Keyword::Module) => Kind::Module,
-        _ => Kind::Interface,
+fn is_module(role: Role) -> bool
+    ensures { result ≡ is_module role }
+{
+    match role {
+        Role::Module => true,
+        _ => false,
+    }
+}
+
+/// The kind of the scope that a unit opens, if it is an opening.
+pub fn opened_kind(tokens: &[Token]) -> Option<Kind>
+    ensures { result ≡ opened_kind tokens.now }
+{
+    match opening_brace(tokens) {
+        Some(_) => Some(heading_kind(tokens)),
+        None => None,
     }
 }
 
 /// What a faulty unit does to the open scopes.
-pub fn faulty_step(tokens: &[Token]) -> Step {
-    if let Some(kind) = opened_kind(tokens) {
-        return Step::OpensNameless(kind);
+pub fn faulty_step(tokens: &[Token]) -> Step
+    ensures { result ≡ faulty_step tokens.now }
+{
+    match opened_kind(tokens) {
+        Some(kind) => Step::OpensNameless(kind),
+        None => unopened_step(rule_of(tokens)),
     }
-    match rule_of(tokens) {
+}
+
+// What a faulty unit does that opens nothing.
+fn unopened_step(rule: Rule) -> Step
+    ensures { result ≡ (if is_closing_by rule then steps.Closes else steps.Stays) }
+{
+    match rule {
         Rule::Closing => Step::Closes,
-        _ => Step::Stays,
+        Rule::Heading | Rule::Declaration => Step::Stays,
     }
 }
 
 /// What a unit without fault does to the open scopes, in the scope at a path.
-pub fn step_of(alloc: Global, tree: &Tree, scope: &Path) -> Result<Step, AllocError> {
+pub fn step_of(alloc: Global, tree: &Tree, scope: &Path) -> Result<Step, AllocError>
+    ensures { IfOk result (λ step. step ≡ step_of tree.now scope.now) }
+{
     match tree {
         Tree::Closing => Ok(Step::Closes),
         Tree::Module(name) => opening(alloc, name.as_bytes(), scope, Kind::Module),
@@ -63,27 +117,33 @@ pub fn step_of(alloc: Global, tree: &Tree, scope: &Path) -> Result<Step, AllocEr
 }
 
 // A scope is opened.
-fn opening(alloc: Global, name: &[u8], scope: &Path, kind: Kind) -> Result<Step, AllocError> {
+fn opening(alloc: Global, name: &[u8], scope: &Path, kind: Kind) -> Result<Step, AllocError>
+    ensures { IfOk result (λ step. step ≡ steps.Opens (name.now ∷ scope.now) kind) }
+{
     let spelled = shared_name(alloc, name)?;
     let path = scope.child(alloc, &spelled)?;
     Ok(Step::Opens(path, kind))
 }
 
 /// How many of these scopes are open beside the global one.
-pub fn depth(scopes: &[Scope]) -> usize {
+pub fn depth(scopes: &[Scope]) -> usize
+    ensures { result ≡ depth scopes.now }
+{
     scopes.len().saturating_sub(1)
 }
 
 /// The fault of an opening where too many scopes are open.
-pub fn opening_fault(tokens: &[Token], scopes: &[Scope]) -> Option<Fault> {
-    if depth(scopes) < MAX_OPEN {
-        return None;
+pub fn opening_fault(tokens: &[Token], scopes: &[Scope]) -> Option<Fault>
+    ensures { option_to_list result ≡ opening_faults tokens.now scopes.now }
+{
+    let index = opening_brace(tokens)?;
+    if depth(scopes) >= MAX_OPEN {
+        return Some(Fault {
+            index,
+            code: Code::NestedTooDeep,
+        });
     }
-    opened_kind(tokens)?;
-    Some(Fault {
-        index: tokens.len().saturating_sub(1),
-        code: Code::NestedTooDeep,
-    })
+    None
 }
 
 /// Whether the innermost of these scopes doesn't hold the unit.
@@ -92,18 +152,19 @@ pub fn is_misplaced(tree: &Tree, scopes: &[Scope]) -> bool
 {
     match tree {
         Tree::Closing => depth(scopes) == 0,
-        Tree::Module(_) | Tree::Interface(_) | Tree::Forward(Forward::Interface(_, _)) => {
-            is_interface(scopes)
-        }
-        Tree::ReadonlyAttribute(_) | Tree::Attribute(_) | Tree::Operation(_) => {
-            !is_interface(scopes)
-        }
+        Tree::Module(_) | Tree::Interface(_) => is_interface(scopes),
+        Tree::Forward(Forward::Interface(_, _)) => is_interface(scopes),
+        Tree::ReadonlyAttribute(_) => !is_interface(scopes),
+        Tree::Attribute(_) => !is_interface(scopes),
+        Tree::Operation(_) => !is_interface(scopes),
         _ => false,
     }
 }
 
 // Whether the innermost scope is an interface.
-fn is_interface(scopes: &[Scope]) -> bool {
+fn is_interface(scopes: &[Scope]) -> bool
+    ensures { result ≡ is_interface scopes.now }
+{
     match scopes {
         [innermost, ..] => innermost.kind == Kind::Interface,
         [] => false,

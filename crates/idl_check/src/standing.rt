@@ -5,10 +5,10 @@ ghost use Rattle.std.specs.Option.{option_copied};
 ghost use Rattle.std.specs.List.{list_any};
 ghost use Rattle.idl_check.specs.Declaring.{inherited, standing};
 ghost use Rattle.idl_memo.specs.Query.{Done, and_then, noted, run};
-ghost use Rattle.idl_scope.specs.Facts.{answers, is_operation, over};
+ghost use Rattle.idl_scope.specs.Facts.{answers, entity_in, is_operation, over};
 ghost use Rattle.idl_scope.specs.Key.{key_eq};
 ghost use Rattle.idl_scope.specs.Lookup.{bases_of, under};
-ghost use Rattle.idl_scope.specs.declared.key.Key.TheVariants.{Introduced};
+ghost use Rattle.idl_scope.specs.declared.key.Key.TheVariants.{Declared, Introduced};
 ghost use Rattle.idl_scope.specs.declared.lookup.TheConstants.{TURNS};
 
 use idl_lex::Spelling;
@@ -48,9 +48,7 @@ pub fn standing_of(
         ≡ run key_eq (under view.entry.own.now.additions (standing turns scope.now name.now))
         (answers view.entry.env.now) log.old) }
 {
-    let key = Key::Declared(name.clone()?, scope.path.clone()?);
-    let declared = view.entity(log, &key)?;
-    let there = copied(declared)?;
+    let there = there(view, log, scope, name)?;
     let is_used = is_used(view, log, scope, name)?;
     let is_inherited = is_inherited(view, log, scope, name)?;
     Ok(Standing {
@@ -58,6 +56,24 @@ pub fn standing_of(
         is_used,
         is_inherited,
     })
+}
+
+// What a folded name is declared as already.
+fn there(
+    view: View<'_>,
+    log: &mut Log<Env>,
+    scope: &Scope,
+    name: &Spelling,
+) -> Result<Option<Shared<Entity>>, AllocError>
+    ensures there { IfOk result (λ e.
+        let key = Declared name.now scope.now.path in
+        e ≡ entity_in (over view.entry.own.now.additions key (answers view.entry.env.now key))) }
+    ensures logged { OnOk result
+        (log.new
+        ≡ noted key_eq (answers view.entry.env.now) log.old (Declared name.now scope.now.path)) }
+{
+    let key = Key::Declared(name.clone()?, scope.path.clone()?);
+    copied(view.entity(log, &key)?)
 }
 
 // The entity, if there is one.

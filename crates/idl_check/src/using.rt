@@ -4,6 +4,7 @@ ghost use Rattle.std.specs.Prelude.{◌≡◌, ◌≤◌, ◌+◌, ◌*◌, IfOk
 ghost use Rattle.idl_check.specs.Using.{part_at, last_at, name_code, is_type, has_value, suits, used_table, with_uses};
 ghost use Rattle.idl_check.specs.Codes.{codes_in};
 ghost use Rattle.idl_lex.specs.Keywords.{folded};
+ghost use Rattle.idl_tree.specs.Name.{spell_name};
 ghost use Rattle.idl_unit.specs.TokenRules.{first};
 
 use crate::bases::Bases;
@@ -29,6 +30,14 @@ pub fn last_at(at: usize, name: &ScopedName) -> usize
     ensures { result ≡ last_at at name.now }
 {
     part_at(at, name, name.rest.len())
+}
+
+/// How many tokens a name is.
+pub fn name_length(name: &ScopedName) -> usize
+    requires { length (spell_name name.now) ≤ 18446744073709551615 }
+    ensures { result ≡ length (spell_name name.now) }
+{
+    usize::from(name.is_global) + 1 + 2 * name.rest.len()
 }
 
 /// The code of what a name denotes nothing for.

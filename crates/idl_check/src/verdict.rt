@@ -1,8 +1,11 @@
 //! What comes of a unit.
 
+ghost use Rattle.std.specs.Prelude.{◌≡◌, [], IfOk, None};
+
 use idl_base::Text;
-use idl_scope::{Facts, Shared};
+use idl_scope::{Facts, Shared, Step};
 use idl_unit::Fault;
+use std::alloc::{AllocError, Global};
 
 /// The row of a unit in the dump.
 pub enum Row {
@@ -39,4 +42,24 @@ impl Drop for Verdict {
             row: _row,
         } = self;
     }
+}
+
+/// A verdict that adds no name.
+pub fn adding(alloc: Global, fault: Option<Fault>, step: Step) -> Result<Verdict, AllocError>
+    ensures { IfOk result (λ verdict.
+        verdict
+        ≡ record {
+          fault = fault;
+          writes = record { additions = []; step = step };
+          row = None;
+        }) }
+{
+    let mut facts = Facts::new(alloc);
+    facts.then(step);
+    let writes = Shared::new(alloc, facts)?;
+    Ok(Verdict {
+        fault,
+        writes,
+        row: None,
+    })
 }

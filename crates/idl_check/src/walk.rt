@@ -1,9 +1,9 @@
 //! The walk over the sites of a unit.
 
-ghost use Rattle.std.specs.Prelude.{◌≡◌, ◌≤◌, ◌+◌, ◌∷◌, [], ℕ, IfOk, OnOk, Ok, Err, List, drop, length, map};
+ghost use Rattle.std.specs.Prelude.{◌≡◌, ◌≤◌, ◌+◌, ◌∷◌, ◌++◌, [], ℕ, IfOk, OnOk, Ok, Err, List, drop, length, map, take, if◌then◌else◌, true, false};
 ghost use Rattle.idl_check.specs.Declaring.{standing, with_declared, with_finished};
 ghost use Rattle.idl_check.specs.Held.{HasRoomFor, held, visited};
-ghost use Rattle.idl_check.specs.Using.{last_at};
+ghost use Rattle.idl_check.specs.Using.{bases_after, last_at};
 ghost use Rattle.idl_check.specs.Walk.{declared_visit, first_fault, first_walk, is_over, noted_in, used_visit, walk, with_scope};
 ghost use Rattle.idl_lex.specs.Keywords.{folded};
 ghost use Rattle.idl_memo.specs.Query.{run};
@@ -11,6 +11,7 @@ ghost use Rattle.idl_scope.specs.Facts.{answers};
 ghost use Rattle.idl_scope.specs.Key.{key_eq};
 ghost use Rattle.idl_scope.specs.Kind.{stage_eq};
 ghost use Rattle.idl_scope.specs.Lookup.{under};
+ghost use Rattle.idl_scope.specs.declared.kind.Stage.TheVariants.{Begun};
 ghost use Rattle.idl_scope.specs.declared.fault.NameFault.TheVariants.{At};
 ghost use Rattle.idl_scope.specs.declared.lookup.TheConstants.{TURNS};
 ghost use Rattle.idl_site.specs.Item.{item_at, item_length, items_length};
@@ -20,6 +21,7 @@ ghost use Rattle.idl_site.specs.declared.site.Use.{Use};
 
 use crate::bases::Bases;
 use crate::declaring::{declared_code, entity_of, finished, kind_of, stays};
+use crate::part::front;
 use crate::standing::{Standing, standing_of};
 use crate::using::{introduce, last_at, name_code, part_at, used_code};
 use idl_base::Text;
@@ -27,7 +29,7 @@ use idl_event::Code;
 use idl_memo::Log;
 use idl_scope::{
     Addition, Entity, Env, Facts, Found, NameCode, NameFault, Path, Scope, Shared, Stage,
-    Standpoint, View, folded_name, resolve, shared_name,
+    Standpoint, Step, View, folded_name, resolve, shared_name,
 };
 use idl_site::{Declaration, Site, Use};
 use idl_tree::ScopedName;
@@ -74,7 +76,7 @@ impl<'a> Walker<'a> {
     /// Before the first site, in these scopes.
     pub fn new(env: &'a Env, scopes: &[Scope]) -> Result<Walker<'a>, AllocError>
         ensures walk { IfOk result (λ w. held w ≡ first_walk scopes.now) }
-        ensures env { IfOk result (λ w. w.env ≡ env) }
+        ensures env { IfOk result (λ w. w.env.now ≡ env.now) }
     {
         let alloc = env.alloc();
         let cursor = Vec::from_clones(alloc, scopes)?;
@@ -98,7 +100,7 @@ impl<'a> Walker<'a> {
             (held self.new, log.new)
             ≡ run key_eq (walk turns (map item_at sites.now) (held self.old))
             (answers self.old.env.now) log.old) }
-        ensures env { OnOk result (self.new.env ≡ self.old.env) }
+        ensures env { OnOk result (self.new.env.now ≡ self.old.env.now) }
     {
         for site in sites {
             if self.is_over() {
@@ -136,24 +138,46 @@ impl<'a> Walker<'a> {
         requires { HasRoomFor (held self.old) (item_at site ∷ []) }
         ensures visited { OnOk result ((turns : ℕ) → TURNS ≤ turns →
             (held self.new, log.new)
-            ≡ run key_eq (visited turns (item_at site) (held self.old))
+            ≡ run key_eq (visited turns (item_at site.entry) (held self.old))
             (answers self.old.env.now) log.old) }
-        ensures at { OnOk result (self.new.at ≡ self.old.at + item_length (item_at site)) }
-        ensures env { OnOk result (self.new.env ≡ self.old.env) }
+        ensures at { OnOk result (self.new.at ≡ self.old.at + item_length (item_at site.entry)) }
+        ensures env { OnOk result (self.new.env.now ≡ self.old.env.now) }
     {
         match site {
-            Site::Tokens(count) => self.at += count,
-            Site::Joined(text) => self.at += 1 + text.rest.len(),
-            Site::Declared(way, name) => return self.declare(log, way, name),
-            Site::Used(way, name) => return self.use_name(log, way, name),
-            Site::ScopeBegins(way, name) => return self.begin_scope(way, name),
+            Site::Declared(way, name) => self.declare(log, way, name),
+            Site::Used(way, name) => self.use_name(log, way, name),
+            Site::ScopeBegins(way, name) => self.begin_scope(way, name),
+            Site::Tokens(count) => self.pass(count),
+            Site::Joined(text) => self.pass(1 + text.rest.len()),
             Site::ScopeEnds => self.end_scope(),
-            Site::ValueBegins => self.in_value = true,
-            Site::ValueEnds(_target, _expression) => self.in_value = false,
-            Site::Switches(_discrete) => {}
-            Site::Default => {}
-            Site::GivesBack => {}
+            Site::ValueBegins => self.enter_value(),
+            Site::ValueEnds(_target, _expression) => self.leave_value(),
+            Site::Switches(_) | Site::Default | Site::GivesBack => Ok(()),
         }
+    }
+
+    // So many tokens.
+    fn pass(&mut self, count: usize) -> Result<(), AllocError>
+        requires { self.old.at + count ≤ 18446744073709551615 }
+        ensures { self.new ≡ record self.old { at = self.old.at + count } }
+    {
+        self.at += count;
+        Ok(())
+    }
+
+    // An expression begins.
+    fn enter_value(&mut self) -> Result<(), AllocError>
+        ensures { self.new ≡ record self.old { in_value = true } }
+    {
+        self.in_value = true;
+        Ok(())
+    }
+
+    // It ends.
+    fn leave_value(&mut self) -> Result<(), AllocError>
+        ensures { self.new ≡ record self.old { in_value = false } }
+    {
+        self.in_value = false;
         Ok(())
     }
 
@@ -171,7 +195,7 @@ impl<'a> Walker<'a> {
             ≡ run key_eq (visited turns (item.Declared way name.now) (held self.old))
             (answers self.old.env.now) log.old) }
         ensures at { OnOk result (self.new.at ≡ self.old.at + 1) }
-        ensures env { OnOk result (self.new.env ≡ self.old.env) }
+        ensures env { OnOk result (self.new.env.now ≡ self.old.env.now) }
     {
         let alloc = self.env.alloc();
         let Some(innermost) = self.cursor.first() else {
@@ -183,13 +207,14 @@ impl<'a> Walker<'a> {
         let standing = standing_of(self.view(), log, &scope, &folded)?;
         let spelled = shared_name(alloc, name.as_bytes())?;
         let entity = entity_of(alloc, way, &spelled, &scope.path)?;
-        self.declare_as(&scope, entity, &standing)
+        self.declare_as(&scope, entity, &standing)?;
+        Ok(())
     }
 
     // The environment under what the tokens so far add.
     fn view(&self) -> View<'_>
-        ensures env { result.env ≡ self.entry.env }
-        ensures own { result.own.now ≡ self.entry.now.own }
+        ensures env { result.env.now ≡ self.now.env.now }
+        ensures own { result.own.now ≡ self.now.own }
     {
         View {
             env: self.env,
@@ -208,18 +233,14 @@ impl<'a> Walker<'a> {
         ensures visit { OnOk result
             (held self.new
             ≡ noted_in (declared_visit (held self.old) scope.now entity standing.now) self.old.fault) }
-        ensures env { OnOk result (self.new.env ≡ self.old.env) }
+        ensures env { OnOk result (self.new.env.now ≡ self.old.env.now) }
     {
         let code = declared_code(self.env.alloc(), scope, standing, entity.get())?;
         self.note(self.at, code);
         self.at += 1;
-        if entity.get().stage == Stage::Begun {
-            self.begun.push(entity.clone()?)?;
-        }
-        if stays(&standing.there, entity.get()) {
-            return Ok(());
-        }
-        self.own.add(Addition::Declares(entity))
+        keep_begun(&mut self.begun, &entity)?;
+        add_declared(&mut self.own, &standing.there, entity)?;
+        Ok(())
     }
 
     // A used name.
@@ -237,14 +258,17 @@ impl<'a> Walker<'a> {
             (answers self.old.env.now) log.old) }
         ensures at { OnOk result
             (self.new.at ≡ self.old.at + item_length (item.Used way name.now)) }
-        ensures env { OnOk result (self.new.env ≡ self.old.env) }
+        ensures env { OnOk result (self.new.env.now ≡ self.old.env.now) }
     {
         let place = Standpoint {
             own: &self.own,
             cursor: self.cursor.as_slice(),
         };
         match resolve(self.env, log, place, name) {
-            Ok(found) => self.use_as(way, name, found),
+            Ok(found) => {
+                self.use_as(way, name, found)?;
+                Ok(())
+            }
             Err(NameFault::Memory) => Err(AllocError),
             Err(NameFault::At(code, part)) => {
                 self.use_nothing(name, code, part);
@@ -260,7 +284,7 @@ impl<'a> Walker<'a> {
         ensures visit { (way : Use) →
             held self.new
             ≡ noted_in (used_visit (held self.old) way name.now (Err (At code part))) self.old.fault }
-        ensures env { self.new.env ≡ self.old.env }
+        ensures env { self.new.env.now ≡ self.old.env.now }
     {
         self.note(part_at(self.at, name, part), Some(name_code(code)));
         self.at = last_at(self.at, name) + 1;
@@ -269,11 +293,10 @@ impl<'a> Walker<'a> {
     // A used name, by what it denotes.
     fn use_as(&mut self, way: Use, name: &ScopedName, found: Found) -> Result<(), AllocError>
         requires room { last_at self.old.at name.now + 1 ≤ 18446744073709551615 }
-        requires reach { found.reach ≤ length self.old.cursor.items }
         ensures visit { OnOk result
             (held self.new
             ≡ noted_in (used_visit (held self.old) way name.now (Ok found)) self.old.fault) }
-        ensures env { OnOk result (self.new.env ≡ self.old.env) }
+        ensures env { OnOk result (self.new.env.now ≡ self.old.env.now) }
     {
         let alloc = self.env.alloc();
         let entity = found.entity.get();
@@ -281,11 +304,9 @@ impl<'a> Walker<'a> {
         let last = last_at(self.at, name);
         self.note(last, code);
         self.at = last + 1;
-        let scopes = &self.cursor.as_slice()[..found.reach];
+        let scopes = front(self.cursor.as_slice(), found.reach);
         introduce(alloc, &mut self.own, name, scopes)?;
-        if let Use::AsBase(_) = way {
-            self.bases.add(alloc, entity)?;
-        }
+        add_base(alloc, &mut self.bases, way, entity)?;
         self.found.push(entity.path.clone()?)?;
         Ok(())
     }
@@ -295,7 +316,7 @@ impl<'a> Walker<'a> {
         ensures walk { OnOk result
             (held self.new
             ≡ record (held self.old) { cursor = with_scope way name.now self.old.cursor.items }) }
-        ensures env { OnOk result (self.new.env ≡ self.old.env) }
+        ensures env { OnOk result (self.new.env.now ≡ self.old.env.now) }
     {
         let alloc = self.env.alloc();
         let Some(innermost) = self.cursor.first() else {
@@ -313,19 +334,22 @@ impl<'a> Walker<'a> {
     }
 
     // It ends.
-    fn end_scope(&mut self)
-        ensures cursor { self.new.cursor.items ≡ drop 1 self.old.cursor.items }
-        ensures rest { self.new ≡ record self.old { cursor = self.new.cursor } }
+    fn end_scope(&mut self) -> Result<(), AllocError>
+        ensures walk { held self.new ≡ record (held self.old) { cursor = drop 1 self.old.cursor.items } }
+        ensures env { self.new.env.now ≡ self.old.env.now }
     {
-        if !self.cursor.is_empty() {
-            self.cursor.remove(0);
-        }
+        leave(&mut self.cursor);
+        Ok(())
     }
 
-    /// What a unit without fault adds, but for what it does to the open scopes.
-    pub fn into_facts(self) -> Result<Facts, AllocError>
+    /// What a unit without fault adds, where it does this to the open scopes.
+    pub fn into_facts(self, step: Step) -> Result<Facts, AllocError>
         ensures { IfOk result (λ facts.
-            facts.additions ≡ with_finished self.bases.paths self.own.additions self.begun.items) }
+            facts
+            ≡ record {
+              additions = with_finished self.entry.bases.paths self.entry.own.additions self.entry.begun.items;
+              step = step;
+            }) }
     {
         let alloc = self.env.alloc();
         let Walker {
@@ -340,7 +364,64 @@ impl<'a> Walker<'a> {
             in_value: _in_value,
         } = self;
         finish(alloc, &mut own, &bases, begun.as_slice())?;
+        own.then(step);
         Ok(own)
+    }
+}
+
+// All but the innermost.
+fn leave(scopes: &mut Vec<Scope>)
+    ensures { scopes.new.items ≡ drop 1 scopes.old.items }
+{
+    if !scopes.is_empty() {
+        scopes.remove(0);
+    }
+}
+
+// Those that have begun, with one more if it has.
+fn keep_begun(
+    begun: &mut Vec<Shared<Entity>>,
+    entity: &Shared<Entity>,
+) -> Result<(), AllocError>
+    ensures { OnOk result
+        (begun.new.items
+        ≡ begun.old.items ++ (if stage_eq entity.now.stage Begun then entity.now ∷ [] else [])) }
+{
+    if entity.get().stage != Stage::Begun {
+        return Ok(());
+    }
+    begun.push(entity.clone()?)?;
+    Ok(())
+}
+
+// Puts in what a declared name adds.
+fn add_declared(
+    own: &mut Facts,
+    there: &Option<Shared<Entity>>,
+    entity: Shared<Entity>,
+) -> Result<(), AllocError>
+    ensures { OnOk result
+        (own.new
+        ≡ record own.old { additions = with_declared there.now entity own.old.additions }) }
+{
+    if stays(there, entity.get()) {
+        return Ok(());
+    }
+    own.add(Addition::Declares(entity))
+}
+
+// The bases after a name that is used so and denotes this.
+fn add_base(
+    alloc: Global,
+    bases: &mut Bases,
+    way: Use,
+    entity: &Entity,
+) -> Result<(), AllocError>
+    ensures { OnOk result (bases.new ≡ bases_after way entity.now bases.old) }
+{
+    match way {
+        Use::AsBase(_) => bases.add(alloc, entity),
+        _ => Ok(()),
     }
 }
 

@@ -19,7 +19,7 @@ pub use cut::split;
 pub use ending::first_unit;
 pub use fault::Fault;
 pub use laws::{nothing_lost, one_cut};
-pub use role::{Role, Rule, rule_of};
+pub use role::{Role, Rule, role_of, rule_of};
 pub use run::Run;
 pub use token_rules::token_fault;
 pub use unit::{Site, Unit, UnitText, Units};

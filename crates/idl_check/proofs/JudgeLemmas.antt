@@ -1,0 +1,112 @@
+-- The three steps of a verdict, run.
+use Rattle.std.proofs.Common.{◌≡◌, ℕ, Bool, true, false, cond, List, [], ◌∷◌, ◌++◌, Option, None, Some, is_some, refl, sym, ap, ◌∙◌}
+use Rattle.idl_memo.specs.Query.{Ask, Done, and_then, noted, run}
+use Rattle.idl_memo.proofs.QueryLaws.{run-and_then_at}
+use Rattle.idl_check.proofs.VisitLemmas.{runs_over}
+use Rattle.idl_check.specs.Placing.{faulty_step, is_misplaced, opened_kind, opening_faults, step_of}
+use Rattle.idl_check.specs.Verdict.{asking, by_names, by_tree, faulty, first_faults, first_part, judged, misplaced, refused, sound, token_verdict, tree_of}
+use Rattle.idl_check.specs.Walk.{Walk, first_walk, walk}
+use Rattle.idl_check.specs.declared.verdict.Verdict.{Verdict}
+use Rattle.idl_event.specs.declared.code.Code.TheVariants.{NoTree, MisplacedUnit}
+use Rattle.idl_lex.specs.Keywords.{folded}
+use Rattle.idl_lex.specs.Tokens.{Token}
+use Rattle.idl_scope.specs.Facts.{path_around}
+use Rattle.idl_scope.specs.Key.{key_eq}
+use Rattle.idl_scope.specs.Lookup.{Lookup, outward}
+use Rattle.idl_scope.specs.declared.addition.Step.{Step}
+use Rattle.idl_scope.specs.declared.addition.Step.TheVariants.{Stays, Opens, OpensNameless, Closes}
+use Rattle.idl_scope.specs.declared.answer.Answer.{Answer}
+use Rattle.idl_scope.specs.declared.answer.Scope.{Scope}
+use Rattle.idl_scope.specs.declared.entity.Entity.{Entity}
+use Rattle.idl_scope.specs.declared.key.Key.{Key}
+use Rattle.idl_scope.specs.declared.key.Key.TheVariants.{Nameless, Opened}
+use Rattle.idl_scope.specs.declared.kind.Kind.{Kind}
+use Rattle.idl_site.specs.Item.{items}
+use Rattle.idl_site.specs.UnitParts.{unit_parts}
+use Rattle.idl_tree.specs.declared.unit.Tree.{Tree}
+use Rattle.idl_unit.specs.Faults.{least_fault}
+use Rattle.idl_unit.specs.TokenRules.{fault_at, token_faults}
+use Rattle.idl_unit.specs.declared.fault.Fault.{Fault}
+
+module _ (bank : Key → Option Answer) (tokens : List Token) where
+  -- a faulty unit, by what it would open
+  abbrev refused_by : Fault → Option Kind → Lookup Verdict
+  refused_by fault o =
+      elim o [
+        | None ↦ Done (faulty fault (faulty_step tokens))
+        | Some kind ↦ Ask Nameless (λ count. Done (faulty fault (faulty_step tokens)))
+      ]
+
+  by_none : (fault : Fault) (o : Option Kind) (log : List (Key × Option Answer)) → is_some o ≡ false → runs_over bank (refused_by fault o) log ≡ (faulty fault (faulty_step tokens), log)
+  by_none fault None log h = refl
+  by_none fault (Some kind) log h = cc
+
+  by_some : (fault : Fault) (o : Option Kind) (log : List (Key × Option Answer)) → is_some o ≡ true
+      → runs_over bank (refused_by fault o) log ≡ (faulty fault (faulty_step tokens), noted key_eq bank log Nameless)
+  by_some fault None log h = cc
+  by_some fault (Some kind) log h = refl
+
+  pub refused_plain : (fault : Fault) (log : List (Key × Option Answer)) → is_some (opened_kind tokens) ≡ false
+      → runs_over bank (refused tokens fault) log ≡ (faulty fault (faulty_step tokens), log)
+  refused_plain fault log h = by_none fault (opened_kind tokens) log h
+
+  pub refused_opening : (fault : Fault) (log : List (Key × Option Answer)) → is_some (opened_kind tokens) ≡ true
+      → runs_over bank (refused tokens fault) log ≡ (faulty fault (faulty_step tokens), noted key_eq bank log Nameless)
+  refused_opening fault log h = by_some fault (opened_kind tokens) log h
+
+-- the steps
+pub first_step : (turns : ℕ) (tokens : List Token) (scopes : List Scope) (fault : Fault) → least_fault (first_faults tokens scopes) ≡ Some fault
+    → token_verdict turns tokens scopes ≡ refused tokens fault
+first_step turns tokens scopes fault h = ap (λ o. elim o [ Some fault ↦ refused tokens fault | None ↦ by_tree turns tokens scopes ]) h
+
+pub second_step : (turns : ℕ) (tokens : List Token) (scopes : List Scope) → least_fault (first_faults tokens scopes) ≡ None
+    → tree_of tokens ≡ None → token_verdict turns tokens scopes ≡ refused tokens (fault_at 0 NoTree)
+second_step turns tokens scopes h none =
+    ap (λ o. elim o [ Some fault ↦ refused tokens fault | None ↦ by_tree turns tokens scopes ]) h
+    ∙ ap (λ o. elim o [ None ↦ refused tokens (fault_at 0 NoTree) | Some tree ↦ by_names turns tokens scopes tree ]) none
+
+pub third_step : (turns : ℕ) (tokens : List Token) (scopes : List Scope) (tree : Tree) → least_fault (first_faults tokens scopes) ≡ None
+    → tree_of tokens ≡ Some tree → token_verdict turns tokens scopes ≡ by_names turns tokens scopes tree
+third_step turns tokens scopes tree h some =
+    ap (λ o. elim o [ Some fault ↦ refused tokens fault | None ↦ by_tree turns tokens scopes ]) h
+    ∙ ap (λ o. elim o [ None ↦ refused tokens (fault_at 0 NoTree) | Some tree ↦ by_names turns tokens scopes tree ]) some
+
+-- a unit that stands where it may not
+pub is_misplaced_by : (turns : ℕ) (tokens : List Token) (scopes : List Scope) (tree : Tree) → is_misplaced tree scopes ≡ true
+    → by_names turns tokens scopes tree ≡ misplaced turns tokens scopes tree
+is_misplaced_by turns tokens scopes tree h =
+    ap (λ b. cond b (misplaced turns tokens scopes tree) (and_then (walk turns (items (unit_parts tree)) (first_walk scopes)) (λ w. judged tokens scopes tree w))) h
+
+module _ (bank : Key → Option Answer) (turns : ℕ) (tokens : List Token) (scopes : List Scope) (tree : Tree) where
+  -- what its first token asks
+  abbrev first_asks : Option (List ℕ) → Lookup (List Entity)
+  first_asks o = elim o [ None ↦ Done [] | Some name ↦ outward turns scopes (folded name) ]
+
+  pub misplaced_plain : (log : List (Key × Option Answer)) → first_part (items (unit_parts tree)) ≡ None
+      → runs_over bank (misplaced turns tokens scopes tree) log ≡ runs_over bank (refused tokens (fault_at 0 MisplacedUnit)) log
+  misplaced_plain log h =
+      ap (λ o. runs_over bank (and_then (first_asks o) (λ found. refused tokens (fault_at 0 MisplacedUnit))) log) h
+
+  pub misplaced_asking : (log : List (Key × Option Answer)) (name : List ℕ) (after : List (Key × Option Answer)) → first_part (items (unit_parts tree)) ≡ Some name
+      → after ≡ (runs_over bank (outward turns scopes (folded name)) log).1
+      → runs_over bank (misplaced turns tokens scopes tree) log ≡ runs_over bank (refused tokens (fault_at 0 MisplacedUnit)) after
+  misplaced_asking log name after h asks =
+      ap (λ o. runs_over bank (and_then (first_asks o) (λ found. refused tokens (fault_at 0 MisplacedUnit))) log) h
+      ∙ run-and_then_at key_eq (outward turns scopes (folded name)) (λ found. refused tokens (fault_at 0 MisplacedUnit)) bank log
+        (runs_over bank (outward turns scopes (folded name)) log).0 after (λ i. ((runs_over bank (outward turns scopes (folded name)) log).0, asks i))
+
+  -- a walk that comes to this
+  pub judged_by : (log : List (Key × Option Answer)) (w : Walk) (after : List (Key × Option Answer)) → is_misplaced tree scopes ≡ false
+      → (w, after) ≡ runs_over bank (walk turns (items (unit_parts tree)) (first_walk scopes)) log
+      → runs_over bank (by_names turns tokens scopes tree) log ≡ runs_over bank (judged tokens scopes tree w) after
+  judged_by log w after h gives =
+      ap (λ b. runs_over bank (cond b (misplaced turns tokens scopes tree) (and_then (walk turns (items (unit_parts tree)) (first_walk scopes)) (λ w. judged tokens scopes tree w))) log) h
+      ∙ run-and_then_at key_eq (walk turns (items (unit_parts tree)) (first_walk scopes)) (λ w. judged tokens scopes tree w) bank log w after gives
+
+  pub judged_faulty : (w : Walk) (fault : Fault) → w.fault ≡ Some fault → judged tokens scopes tree w ≡ refused tokens fault
+  judged_faulty w fault h =
+      ap (λ o. elim o [ Some fault ↦ refused tokens fault | None ↦ asking (step_of tree (path_around scopes)) (sound tokens scopes tree w) ]) h
+
+  pub judged_sound : (w : Walk) → w.fault ≡ None → judged tokens scopes tree w ≡ asking (step_of tree (path_around scopes)) (sound tokens scopes tree w)
+  judged_sound w h =
+      ap (λ o. elim o [ Some fault ↦ refused tokens fault | None ↦ asking (step_of tree (path_around scopes)) (sound tokens scopes tree w) ]) h

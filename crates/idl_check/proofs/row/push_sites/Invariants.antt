@@ -1,0 +1,13 @@
+use Rattle.std.proofs.Common.{◌≡◌, ◌≤◌, ◌++◌, drop, map}
+use Rattle.idl_check.specs.Row.{unit_text}
+use Rattle.idl_site.specs.Item.{item_at, items_length}
+use Rattle.idl_check.proofs.row.push_sites.Given as goal
+
+-- those so far and those of the rest are all
+abbrev pub invariant-loop-site : goal.invariant-loop-site
+invariant-loop-site l = record {
+  text :
+      l.text.items ++ unit_text l.rest.tokens (map item_at (drop l.site-index l.sites)) l.rest.found
+      ≡ l.fn.text.items ++ unit_text l.unit.tokens (map item_at l.sites) l.unit.found;
+  room : items_length (map item_at (drop l.site-index l.sites)) ≤ 18446744073709551615;
+}

@@ -1,0 +1,292 @@
+//! The verdict of a unit of tokens.
+
+ghost use Rattle.std.specs.Prelude.{◌≡◌, ◌≤◌, ◌++◌, [], ℕ, IfOk, List, None, OnOk, Some, map};
+ghost use Rattle.idl_check.specs.Held.{held};
+ghost use Rattle.idl_check.specs.Placing.{opening_faults, step_of};
+ghost use Rattle.idl_check.specs.Verdict.{asking, by_names, first_part, judged, misplaced, refused, row_depth, sound, token_verdict, tree_of};
+ghost use Rattle.idl_memo.specs.Query.{run};
+ghost use Rattle.idl_scope.specs.Facts.{answers, path_around};
+ghost use Rattle.idl_scope.specs.Key.{key_eq};
+ghost use Rattle.idl_scope.specs.declared.lookup.TheConstants.{TURNS};
+ghost use Rattle.idl_site.specs.Item.{item_at, items, items_length};
+ghost use Rattle.idl_site.specs.UnitParts.{unit_parts};
+ghost use Rattle.idl_syntax.specs.Parse.{IsTreeOf};
+ghost use Rattle.idl_tree.specs.Lexeme.{lexemes};
+ghost use Rattle.idl_tree.specs.Unit.{spell};
+ghost use Rattle.idl_tree.specs.declared.unit.Tree.{Tree as UnitsTree};
+ghost use Rattle.idl_check.specs.declared.verdict.Verdict.{Verdict as UnitVerdict};
+ghost use Rattle.idl_lex.specs.Keywords.{folded};
+ghost use Rattle.idl_scope.specs.Lookup.{outward};
+ghost use Rattle.std.specs.Option.{option_map};
+ghost use Rattle.idl_unit.specs.Faults.{least_fault, lesser_fault};
+ghost use Rattle.idl_unit.specs.TokenRules.{fault_at, token_faults};
+ghost use Rattle.idl_unit.specs.declared.fault.Fault.{Fault as UnitFault};
+ghost use Rattle.idl_unit.specs.declared.unit.UnitText.TheVariants as unit;
+ghost use Rattle.idl_event.specs.declared.code.Code.TheVariants.{MisplacedUnit, NoTree};
+
+use crate::placing::{depth, faulty_step, is_misplaced, opened_kind, opening_fault, step_of};
+use crate::row::{Rest, row_of};
+use crate::verdict::{Verdict, adding};
+use crate::walk::Walker;
+use idl_event::Code;
+use idl_lex::Token;
+use idl_memo::Log;
+use idl_scope::{Env, Facts, Key, Path, Scope, Shared, Step, View, folded_name};
+use idl_site::{Site, counting, sites, spelling};
+use idl_syntax::{SyntaxFault, UnitTree, parse};
+use idl_tree::{Tree, reading};
+use idl_unit::{Fault, UnitText};
+use std::alloc::{AllocError, Global};
+
+/// A unit of tokens, in the scopes that are open around it.
+#[derive(Clone, Copy)]
+pub struct Judge<'a> {
+    pub env: &'a Env,
+    pub tokens: &'a [Token],
+    pub scopes: &'a [Scope],
+}
+
+// The tree of a unit, and the sites of that tree.
+#[derive(Clone, Copy)]
+struct Spelled<'t> {
+    tree: &'t Tree,
+    sites: &'t [Site<'t>],
+}
+
+impl<'a> Judge<'a> {
+    /// The verdict of the unit, whose text this is.
+    pub fn verdict(self, log: &mut Log<Env>, text: &UnitText) -> Result<Verdict, AllocError>
+        requires { text.now ≡ unit.Tokens self.tokens.now }
+        ensures { IfOk result (λ v. (turns : ℕ) → TURNS ≤ turns →
+            (v, log.new)
+            ≡ run key_eq (token_verdict turns self.entry.tokens.now self.entry.scopes.now)
+            (answers self.entry.env.now) log.old) }
+    {
+        match parse(self.env.alloc(), text) {
+            Ok(tree) => self.with_tree(log, &tree),
+            Err(SyntaxFault::Rule(fault)) => self.refused(log, self.with_opening(fault)),
+            Err(SyntaxFault::NoTree(_place)) => self.without_tree(log),
+            Err(SyntaxFault::Memory) => Err(AllocError),
+        }
+    }
+
+    // The least fault of the first step, where this is that of the tokens.
+    fn with_opening(self, fault: Fault) -> Fault
+        ensures { (faults : List UnitFault) → least_fault faults ≡ Some fault
+            → least_fault (faults ++ opening_faults self.entry.tokens.now self.entry.scopes.now) ≡ Some result }
+    {
+        match opening_fault(self.tokens, self.scopes) {
+            Some(other) => lesser(fault, other),
+            None => fault,
+        }
+    }
+
+    // The verdict of a unit that has no tree, though no rule of tokens refuses it.
+    fn without_tree(self, log: &mut Log<Env>) -> Result<Verdict, AllocError>
+        requires rules { least_fault (token_faults self.tokens.now) ≡ None }
+        requires none { tree_of self.tokens.now ≡ None }
+        ensures { IfOk result (λ v. (turns : ℕ) → TURNS ≤ turns →
+            (v, log.new)
+            ≡ run key_eq (token_verdict turns self.entry.tokens.now self.entry.scopes.now)
+            (answers self.entry.env.now) log.old) }
+    {
+        match opening_fault(self.tokens, self.scopes) {
+            Some(fault) => self.refused(log, fault),
+            None => self.refused(log, at_first(Code::NoTree)),
+        }
+    }
+
+    // The verdict of a unit that has a tree, and that no rule of tokens refuses.
+    fn with_tree(self, log: &mut Log<Env>, tree: &UnitTree) -> Result<Verdict, AllocError>
+        requires rules { least_fault (token_faults self.tokens.now) ≡ None }
+        requires tree { IsTreeOf (unit.Tokens self.tokens.now) tree.now }
+        ensures { IfOk result (λ v. (turns : ℕ) → TURNS ≤ turns →
+            (v, log.new)
+            ≡ run key_eq (token_verdict turns self.entry.tokens.now self.entry.scopes.now)
+            (answers self.entry.env.now) log.old) }
+    {
+        if let Some(fault) = opening_fault(self.tokens, self.scopes) {
+            return self.refused(log, fault);
+        }
+        match tree {
+            UnitTree::Tokens(tree) => self.by_names(log, tree),
+            UnitTree::Pragma(_pragma) => Err(AllocError),
+        }
+    }
+
+    // The verdict of a faulty unit.
+    fn refused(self, log: &mut Log<Env>, fault: Fault) -> Result<Verdict, AllocError>
+        ensures { IfOk result (λ v.
+            (v, log.new)
+            ≡ run key_eq (refused self.entry.tokens.now fault) (answers self.entry.env.now) log.old) }
+    {
+        if opened_kind(self.tokens).is_some() {
+            log.ask(&Key::Nameless, self.env)?;
+            return adding(self.env.alloc(), Some(fault), faulty_step(self.tokens));
+        }
+        adding(self.env.alloc(), Some(fault), faulty_step(self.tokens))
+    }
+
+    // The verdict of a unit that has this tree.
+    fn by_names(self, log: &mut Log<Env>, tree: &Tree) -> Result<Verdict, AllocError>
+        requires { lexemes self.tokens.now ≡ spell tree.now }
+        ensures { IfOk result (λ v. (turns : ℕ) → TURNS ≤ turns →
+            (v, log.new)
+            ≡ run key_eq (by_names turns self.entry.tokens.now self.entry.scopes.now tree.now)
+            (answers self.entry.env.now) log.old) }
+    {
+        // They do nothing: they carry the laws of sites.
+        spelling();
+        counting();
+        let sites = sites(self.env.alloc(), tree)?;
+        if is_misplaced(tree, self.scopes) {
+            return self.misplaced(log, sites.as_slice());
+        }
+        let mut walker = Walker::new(self.env, self.scopes)?;
+        walker.walk(log, sites.as_slice())?;
+        let unit = Spelled {
+            tree,
+            sites: sites.as_slice(),
+        };
+        match walker.fault {
+            Some(fault) => self.refused(log, fault),
+            None => self.sound(log, unit, walker),
+        }
+    }
+
+    // The verdict of a unit that its scope doesn't hold.
+    fn misplaced(self, log: &mut Log<Env>, sites: &[Site<'_>]) -> Result<Verdict, AllocError>
+        ensures { IfOk result (λ v. (turns : ℕ) → TURNS ≤ turns →
+            (tree : UnitsTree) → map item_at sites.now ≡ items (unit_parts tree) →
+            (v, log.new)
+            ≡ run key_eq (misplaced turns self.entry.tokens.now self.entry.scopes.now tree)
+            (answers self.entry.env.now) log.old) }
+    {
+        if let Some(name) = first_part(sites) {
+            self.ask_outward(log, name)?;
+            return self.refused(log, at_first(Code::MisplacedUnit));
+        }
+        self.refused(log, at_first(Code::MisplacedUnit))
+    }
+
+    // Asks what the first part of a name asks.
+    fn ask_outward(self, log: &mut Log<Env>, name: &[u8]) -> Result<(), AllocError>
+        ensures { OnOk result ((turns : ℕ) → TURNS ≤ turns →
+            log.new
+            ≡ (run key_eq (outward turns self.entry.scopes.now (folded name.now)) (answers self.entry.env.now)
+            log.old).1) }
+    {
+        let own = Facts::new(self.env.alloc());
+        let view = View {
+            env: self.env,
+            own: &own,
+        };
+        let folded = folded_name(self.env.alloc(), name)?;
+        view.outward(log, self.scopes, &folded)?;
+        Ok(())
+    }
+
+    // The verdict of a unit without fault, over which a walk has come so far.
+    fn sound(
+        self,
+        log: &mut Log<Env>,
+        unit: Spelled<'_>,
+        walker: Walker<'_>,
+    ) -> Result<Verdict, AllocError>
+        requires sites { map item_at unit.sites.now ≡ items (unit_parts unit.tree.now) }
+        requires room { items_length (map item_at unit.sites.now) ≤ 18446744073709551615 }
+        ensures { IfOk result (λ v.
+            (v, log.new)
+            ≡ run key_eq
+            (asking (step_of unit.entry.tree.now (path_around self.entry.scopes.now))
+            (sound self.entry.tokens.now self.entry.scopes.now unit.entry.tree.now (held walker.entry)))
+            (answers self.entry.env.now) log.old) }
+    {
+        let alloc = self.env.alloc();
+        let rest = Rest {
+            tokens: self.tokens,
+            found: walker.found.as_slice(),
+        };
+        let row = row_of(alloc, row_depth(unit.tree, self.scopes), unit.sites, rest)?;
+        let row = Shared::new(alloc, row)?;
+        let around = path_around(alloc, self.scopes)?;
+        let step = step_of(alloc, unit.tree, &around)?;
+        self.ask_step(log, &step)?;
+        let facts = walker.into_facts(step)?;
+        let writes = Shared::new(alloc, facts)?;
+        Ok(Verdict {
+            fault: None,
+            writes,
+            row: Some(row),
+        })
+    }
+
+    // Of a scope that is opened it is asked how often it was before.
+    fn ask_step(self, log: &mut Log<Env>, step: &Step) -> Result<(), AllocError>
+        ensures { OnOk result ((v : UnitVerdict) →
+            (v, log.new) ≡ run key_eq (asking step.now v) (answers self.entry.env.now) log.old) }
+    {
+        match step {
+            Step::Opens(path, _kind) => {
+                let key = Key::Opened(path.clone()?);
+                log.ask(&key, self.env)?;
+                Ok(())
+            }
+            Step::Stays | Step::OpensNameless(_) | Step::Closes => Ok(()),
+        }
+    }
+}
+
+// The path of the innermost of these scopes.
+fn path_around(alloc: Global, scopes: &[Scope]) -> Result<Path, AllocError>
+    ensures { IfOk result (λ path. path ≡ path_around scopes.now) }
+{
+    match scopes {
+        [innermost, ..] => innermost.path.clone(),
+        [] => Path::global(alloc),
+    }
+}
+
+// How many scopes are open around a unit.
+fn row_depth(tree: &Tree, scopes: &[Scope]) -> usize
+    ensures { result ≡ row_depth tree.now scopes.now }
+{
+    match tree {
+        Tree::Closing => depth(scopes).saturating_sub(1),
+        _ => depth(scopes),
+    }
+}
+
+// A fault at the first token.
+fn at_first(code: Code) -> Fault
+    ensures { result ≡ fault_at 0 code }
+{
+    Fault { index: 0, code }
+}
+
+// The lesser of two faults: by the token, and at one token by the code.
+fn lesser(fault: Fault, other: Fault) -> Fault
+    ensures { result ≡ lesser_fault fault other }
+{
+    if other.index < fault.index
+        || (other.index == fault.index && other.code.number() < fault.code.number())
+    {
+        other
+    } else {
+        fault
+    }
+}
+
+// The part of a name with which the sites begin, if they do.
+fn first_part<'a>(sites: &[Site<'a>]) -> Option<&'a [u8]>
+    ensures { option_map (λ name. name.now) result ≡ first_part (map item_at sites.now) }
+{
+    for site in sites {
+        match site {
+            Site::Tokens(0) => {}
+            Site::Used(_, name) if !name.is_global => return Some(name.first.as_bytes()),
+            _ => return None,
+        }
+    }
+    None
+}
