@@ -13,7 +13,7 @@ parts-length [] = refl
 parts-length (part ∷ parts) = let rest = parts-length parts in omega (arith, rest)
 
 leading-length : (b : Bool) (tokens : Lexemes) → length (spell_leading b ++ tokens) ≡ cond b 1 0 + length tokens
-leading-length true tokens = refl
+leading-length true tokens = omega arith
 leading-length false tokens = omega arith
 
 -- behind a name's last part

@@ -1,11 +1,11 @@
 -- A fault that is told stands at a token of its unit.
-use Rattle.std.proofs.Common.{◌≡◌, ◌∙◌, ◌+◌, ◌-◌, ◌<◌, ℕ, Bool, cond, List, [], ◌∷◌, ◌++◌, length, map, Option, None, Some, refl, sym, ap, arith}
+use Rattle.std.proofs.Common.{◌≡◌, ◌∙◌, ◌+◌, ◌<◌, ℕ, Bool, true, false, cond, List, [], ◌∷◌, ◌++◌, length, map, Option, None, Some, refl, sym, ap, arith}
 use Rattle.std.proofs.lemmas.List.{length-map}
 use Rattle.std.proofs.lemmas.List.Elements.{All-append, All-cons, All-nil, All-weaker}
 use Rattle.std.specs.Prelude.{◌≢◌, All, nat_le}
 use Rattle.idl_check.specs.AllFaults.{further_faults, name_faults, or_else, site_faults, unit_faults}
 use Rattle.idl_check.specs.Codes.{codes_in, faults_by}
-use Rattle.idl_check.specs.Placing.{depth, is_misplaced, opened_kind, opening_faults}
+use Rattle.idl_check.specs.Placing.{brace_by, brace_from, depth, is_misplaced, opening_brace, opening_faults}
 use Rattle.idl_check.specs.Verdict.{first_faults, tree_of, verdict}
 use Rattle.idl_check.specs.Walk.{first_walk}
 use Rattle.idl_event.specs.declared.code.Code.TheVariants.{MisplacedUnit, NestedTooDeep, NoTree}
@@ -18,15 +18,17 @@ use Rattle.idl_scope.specs.declared.answer.Answer.{Answer}
 use Rattle.idl_scope.specs.declared.answer.Scope.{Scope}
 use Rattle.idl_scope.specs.declared.key.Key.{Key}
 use Rattle.idl_scope.specs.declared.key.Key.TheVariants.{Cursor}
-use Rattle.idl_scope.specs.declared.kind.Kind.{Kind}
 use Rattle.idl_site.specs.Item.{items, items_length}
 use Rattle.idl_site.specs.UnitParts.{unit_parts}
 use Rattle.idl_site.proofs.UnitSpelling.{counted, unit_spells}
 use Rattle.idl_tree.specs.Lexeme.{lexeme_of, lexemes}
 use Rattle.idl_tree.specs.Unit.{spell}
 use Rattle.idl_tree.specs.declared.unit.Tree.{Tree}
+use Rattle.idl_unit.specs.Ending.{opens, role, rule_of}
 use Rattle.idl_unit.specs.TokenRules.{fault_at, faults_after, token_codes, token_faults}
 use Rattle.idl_unit.specs.declared.fault.Fault.{Fault}
+use Rattle.idl_unit.specs.declared.role.Rule.{Rule}
+use Rattle.idl_unit.specs.declared.role.Rule.TheVariants.{Closing, Heading, Declaration}
 use Rattle.idl_unit.specs.declared.unit.UnitText.TheVariants as unit
 use Rattle.idl_check.proofs.FaultOrder.{all-at, least-in}
 use Rattle.idl_check.proofs.SiteLaws.{faults-till}
@@ -41,6 +43,21 @@ after-inside before (kind ∷ kinds) =
     (all-at (λ f. f.index < n) (length before) (λ c. omega arith) (token_codes before kind))
     (All-weaker (λ f. f.index < length (kind ∷ before) + length kinds) (λ f. f.index < n) (λ f h. omega (arith, h)) (faults_after (kind ∷ before) kinds) (after-inside (kind ∷ before) kinds))
 
+-- the brace of an opening is one of its tokens
+brace-if : (b : Bool) (n m bound : ℕ) (o : Option ℕ) → n < bound → (o ≡ Some m → m < bound) → cond b (Some n) o ≡ Some m → m < bound
+brace-if true n m bound o lt more h = let same : n ≡ m = cc in omega arith
+brace-if false n m bound o lt more h = more h
+
+brace-from : (n : ℕ) (tokens : List Token) (m : ℕ) → brace_from n tokens ≡ Some m → m < n + length tokens
+brace-from n [] m h = cc
+brace-from n (t ∷ ts) m h =
+    brace-if (opens (role t)) n m (n + length (t ∷ ts)) (brace_from (n + 1) ts) (omega arith) (λ g. omega (arith, brace-from (n + 1) ts m g)) h
+
+brace-within : (rule : Rule) (tokens : List Token) (m : ℕ) → brace_by rule tokens ≡ Some m → m < length tokens
+brace-within Heading tokens m h = omega (arith, brace-from 0 tokens m h)
+brace-within Closing tokens m h = cc
+brace-within Declaration tokens m h = cc
+
 module _ (turns : ℕ) (answers : Key → Option Answer) (tokens : List Token) (some : 0 < length tokens) where
   abbrev Inside : Fault → Type 0
   Inside f = f.index < length tokens
@@ -49,12 +66,12 @@ module _ (turns : ℕ) (answers : Key → Option Answer) (tokens : List Token) (
   rules-inside =
       All-weaker (λ f. f.index < 0 + length (map kind_of tokens)) Inside (λ f h. omega (arith, h, length-map tokens kind_of)) (token_faults tokens) (after-inside [] (map kind_of tokens))
 
-  opening-by : (scopes : List Scope) (o : Option Kind) → All Inside (elim o [ | None ↦ [] | Some kind ↦ faults_by (length tokens - 1) ((nat_le 64 (depth scopes), NestedTooDeep) ∷ []) ])
-  opening-by scopes None = All-nil Inside
-  opening-by scopes (Some kind) = all-at Inside (length tokens - 1) (λ c. omega (arith, some)) (codes_in ((nat_le 64 (depth scopes), NestedTooDeep) ∷ []))
+  opening-by : (scopes : List Scope) (o : Option ℕ) → ((n : ℕ) → o ≡ Some n → n < length tokens) → All Inside (elim o [ None ↦ [] | Some n ↦ faults_by n ((nat_le 64 (depth scopes), NestedTooDeep) ∷ []) ])
+  opening-by scopes None within = All-nil Inside
+  opening-by scopes (Some n) within = all-at Inside n (λ c. within n refl) (codes_in ((nat_le 64 (depth scopes), NestedTooDeep) ∷ []))
 
   first-inside : (scopes : List Scope) → All Inside (first_faults tokens scopes)
-  first-inside scopes = All-append Inside (token_faults tokens) (opening_faults tokens scopes) rules-inside (opening-by scopes (opened_kind tokens))
+  first-inside scopes = All-append Inside (token_faults tokens) (opening_faults tokens scopes) rules-inside (opening-by scopes (opening_brace tokens) (brace-within (rule_of tokens) tokens))
 
   -- those of the sites: the sites have as many tokens as the unit
   sites-inside : (scopes : List Scope) (tree : Tree) → lexemes tokens ≡ spell tree → All Inside (site_faults turns answers (items (unit_parts tree)) (first_walk scopes))

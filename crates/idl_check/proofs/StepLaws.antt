@@ -1,6 +1,7 @@
 -- A faulty unit does to the open scopes what it would do without fault, but for the name.
-use Rattle.std.proofs.Common.{◌≡◌, ◌∙◌, ℕ, Bool, true, false, cond, List, [], ◌∷◌, ◌++◌, map, Option, None, Some, refl, sym, ap, append_assoc}
-use Rattle.idl_check.specs.Placing.{faulty_step, is_closing_by, is_module, opened_by, step_of}
+use Rattle.std.proofs.Common.{◌≡◌, ◌∙◌, ◌+◌, ℕ, Bool, true, false, cond, List, [], ◌∷◌, ◌++◌, map, Option, None, Some, refl, sym, ap, append_assoc}
+use Rattle.idl_check.specs.Placing.{brace_by, brace_from, faulty_step, heading_kind, is_closing_by, is_module, step_of}
+use Rattle.std.specs.Prelude.{is_some}
 use Rattle.idl_check.specs.Judging.{without_name}
 use Rattle.idl_lex.specs.Kind.{kind_of, name_of}
 use Rattle.idl_lex.specs.Literal.{literal_value}
@@ -28,7 +29,7 @@ use Rattle.idl_tree.specs.declared.unit.Tree.{Tree}
 use Rattle.idl_tree.specs.declared.unit.Tree.TheVariants as tree
 use Rattle.idl_tree.proofs.ConstructionAgain.{construction_is_again}
 use Rattle.idl_tree.proofs.TypeAgain.{is_type_start, type_is_again}
-use Rattle.idl_unit.specs.Ending.{begins, ends_in, is_interface, opens, role, role_of, rule_by, rule_of}
+use Rattle.idl_unit.specs.Ending.{begins, is_interface, opens, role, role_of, rule_by, rule_of}
 use Rattle.idl_unit.specs.declared.role.Role.{Role}
 use Rattle.idl_unit.specs.declared.role.Role.TheVariants as roles
 use Rattle.idl_unit.specs.declared.role.Rule.{Rule}
@@ -81,10 +82,9 @@ abbrev begins_so : (Role → Bool) → List Role → Bool
 begins_so p [] = false
 begins_so p (r ∷ rs) = p r
 
-abbrev ends_so : (Role → Bool) → List Role → Bool
-ends_so p [] = false
-ends_so p (r ∷ []) = p r
-ends_so p (r ∷ s ∷ rs) = ends_so p (s ∷ rs)
+abbrev braced_so : List Role → Bool
+braced_so [] = false
+braced_so (r ∷ rs) = cond (opens r) true (braced_so rs)
 
 abbrev rule_from : Role → List Role → Rule
 rule_from roles.CloseBrace rest = Closing
@@ -97,24 +97,27 @@ abbrev rule_so : List Role → Rule
 rule_so [] = Declaration
 rule_so (r ∷ rs) = rule_from r rs
 
--- by the rule, whether `{` is last, and whether `module` is first
+-- by the rule, whether there is a `{`, and whether `module` is first
 abbrev step_by : Rule → Bool → Bool → Step
 step_by Heading true is_first = OpensNameless (cond is_first Module Interface)
 step_by Heading false is_first = Stays
-step_by Closing is_last is_first = Closes
-step_by Declaration is_last is_first = Stays
+step_by Closing has_brace is_first = Closes
+step_by Declaration has_brace is_first = Stays
 
 abbrev step_so : List Role → Step
-step_so rs = step_by (rule_so rs) (ends_so opens rs) (begins_so is_module rs)
+step_so rs = step_by (rule_so rs) (braced_so rs) (begins_so is_module rs)
 
 begins-same : (p : Role → Bool) (tokens : List Token) → begins p tokens ≡ begins_so p (roles_of tokens)
 begins-same p [] = refl
 begins-same p (t ∷ ts) = refl
 
-ends-same : (p : Role → Bool) (tokens : List Token) → ends_in p tokens ≡ ends_so p (roles_of tokens)
-ends-same p [] = refl
-ends-same p (t ∷ []) = refl
-ends-same p (t ∷ u ∷ ts) = ends-same p (u ∷ ts)
+brace-if : (b c : Bool) (n : ℕ) (o : Option ℕ) → is_some o ≡ c → is_some (cond b (Some n) o) ≡ cond b true c
+brace-if true c n o h = refl
+brace-if false c n o h = h
+
+braced-same : (n : ℕ) (tokens : List Token) → is_some (brace_from n tokens) ≡ braced_so (roles_of tokens)
+braced-same n [] = refl
+braced-same n (t ∷ ts) = brace-if (opens (role t)) (braced_so (roles_of ts)) n (brace_from (n + 1) ts) (braced-same (n + 1) ts)
 
 rule-from-same : (r : Role) (ts : List Token) → rule_by r ts ≡ rule_from r (roles_of ts)
 rule-from-same roles.OpenBrace ts = refl
@@ -131,23 +134,26 @@ rule-same (t ∷ ts) = rule-from-same (role t) ts
 
 -- what is done where this is opened, or else by the rule
 abbrev done_by : Rule → Option Kind → Step
-done_by rule o = elim o [ | Some kind ↦ OpensNameless kind | None ↦ cond (is_closing_by rule) Closes Stays ]
+done_by rule o = elim o [ Some kind ↦ OpensNameless kind | None ↦ cond (is_closing_by rule) Closes Stays ]
 
-heading-step : (is_last is_first : Bool) → done_by Heading (cond is_last (Some (cond is_first Module Interface)) None) ≡ step_by Heading is_last is_first
-heading-step true is_first = refl
-heading-step false is_first = refl
+abbrev opened_at : Kind → Option ℕ → Option Kind
+opened_at kind o = elim o [ None ↦ None | Some n ↦ Some kind ]
 
-rule-step : (rule : Rule) (tokens : List Token) → done_by rule (opened_by rule tokens) ≡ step_by rule (ends_in opens tokens) (begins is_module tokens)
-rule-step Heading tokens = heading-step (ends_in opens tokens) (begins is_module tokens)
+heading-step : (brace : Option ℕ) (is_first : Bool) → done_by Heading (opened_at (cond is_first Module Interface) brace) ≡ step_by Heading (is_some brace) is_first
+heading-step None is_first = refl
+heading-step (Some n) is_first = refl
+
+rule-step : (rule : Rule) (tokens : List Token) → done_by rule (opened_at (heading_kind tokens) (brace_by rule tokens)) ≡ step_by rule (is_some (brace_from 0 tokens)) (begins is_module tokens)
+rule-step Heading tokens = heading-step (brace_from 0 tokens) (begins is_module tokens)
 rule-step Closing tokens = refl
 rule-step Declaration tokens = refl
 
 step-same : (tokens : List Token) → faulty_step tokens ≡ step_so (roles_of tokens)
 step-same tokens =
     rule-step (rule_of tokens) tokens
-    ∙ ap (λ r. step_by r (ends_in opens tokens) (begins is_module tokens)) (rule-same tokens)
-    ∙ ap (λ b. step_by (rule_so (roles_of tokens)) b (begins is_module tokens)) (ends-same opens tokens)
-    ∙ ap (λ b. step_by (rule_so (roles_of tokens)) (ends_so opens (roles_of tokens)) b) (begins-same is_module tokens)
+    ∙ ap (λ r. step_by r (is_some (brace_from 0 tokens)) (begins is_module tokens)) (rule-same tokens)
+    ∙ ap (λ b. step_by (rule_so (roles_of tokens)) b (begins is_module tokens)) (braced-same 0 tokens)
+    ∙ ap (λ b. step_by (rule_so (roles_of tokens)) (braced_so (roles_of tokens)) b) (begins-same is_module tokens)
 
 -- ---- the steps of trees
 
@@ -178,17 +184,20 @@ other-stays : (xs : Lexemes) → first_role (first xs) ≡ roles.Other → step_
 other-stays [] h = refl
 other-stays (x ∷ xs) h = ap (λ r. step_so (r ∷ roles_in xs)) h
 
-ends-push : (p : Role → Bool) (front : Lexemes) (x : Lexeme) → ends_so p (roles_in (front ++ x ∷ [])) ≡ p (lexeme_role x)
-ends-push p [] x = refl
-ends-push p (y ∷ []) x = refl
-ends-push p (y ∷ z ∷ front) x = ends-push p (z ∷ front) x
+one-brace : (b c : Bool) → c ≡ true → cond b true c ≡ true
+one-brace true c h = refl
+one-brace false c h = h
+
+last-brace : (front : Lexemes) → braced_so (roles_in (front ++ Punctuation mark.OpenBrace ∷ [])) ≡ true
+last-brace [] = refl
+last-brace (x ∷ front) = one-brace (opens (lexeme_role x)) (braced_so (roles_in (front ++ Punctuation mark.OpenBrace ∷ []))) (last-brace front)
 
 interface-step : (is_local : Bool) (name : List ℕ) (bases : Lexemes)
     → step_so (roles_in (spell_local is_local ++ (Word word.Interface ∷ Identifier name ∷ (bases ++ Punctuation mark.OpenBrace ∷ [])))) ≡ OpensNameless Interface
 interface-step true name bases =
-    ap (λ b. step_by Heading b false) (ends-push opens (Word word.Local ∷ Word word.Interface ∷ Identifier name ∷ bases) (Punctuation mark.OpenBrace))
+    ap (λ b. step_by Heading b false) (last-brace (Word word.Local ∷ Word word.Interface ∷ Identifier name ∷ bases))
 interface-step false name bases =
-    ap (λ b. step_by Heading b false) (ends-push opens (Word word.Interface ∷ Identifier name ∷ bases) (Punctuation mark.OpenBrace))
+    ap (λ b. step_by Heading b false) (last-brace (Word word.Interface ∷ Identifier name ∷ bases))
 
 abbrev end : Lexemes
 end = Punctuation mark.Semicolon ∷ []
