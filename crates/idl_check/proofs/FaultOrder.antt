@@ -1,5 +1,5 @@
 -- Faults of which none is less than the first: the first is the least.
-use Rattle.std.proofs.Common.{◌≡◌, ◌∙◌, ◌<◌, ◌≤◌, ℕ, cond, List, [], ◌∷◌, ◌++◌, map, Option, None, Some, refl, ap, subst, arith}
+use Rattle.std.proofs.Common.{◌≡◌, ◌∙◌, ◌<◌, ◌≤◌, ℕ, List, [], ◌∷◌, ◌++◌, map, Some, refl, ap, subst, arith}
 use Rattle.std.proofs.lemmas.Bool.{and_left, and_right, cond-false, cond_both, le-ltb, ne_eqb, or_from}
 use Rattle.std.proofs.lemmas.List.Elements.{All-append, All-cons, All-head, All-map, All-nil, All-tail, All-weaker}
 use Rattle.std.specs.Prelude.{All, fold, nat_eq, nat_lt, ◌&&◌, ◌||◌, ⊤}

@@ -1,7 +1,7 @@
 -- The least fault of a list is one of it, and not after any of it.
-use Rattle.std.proofs.Common.{◌≡◌, ◌∙◌, ◌<◌, ◌≤◌, ℕ, Bool, true, false, cond, List, [], ◌∷◌, Option, None, Some, refl, subst, arith, inl, inr}
+use Rattle.std.proofs.Common.{◌≡◌, ◌∙◌, ◌<◌, ◌≤◌, Bool, true, false, List, [], ◌∷◌, None, Some, refl, subst, arith, inl, inr}
 use Rattle.std.proofs.lemmas.Bool.{and_cases, and_parts, cases_lt, cond_both, eqb-false, eqb-true, ltb-false, ltb-true, or_cases, or_parts}
-use Rattle.std.proofs.lemmas.List.Elements.{All-contains, All-contains_itself, All-cons, All-head, All-nil, All-tail}
+use Rattle.std.proofs.lemmas.List.Elements.{All-contains, All-contains_itself, All-cons, All-nil}
 use Rattle.std.specs.Prelude.{◌&&◌, ◌||◌, ◌⊎◌, All, Contains, fold, nat_eq, nat_lt}
 use Rattle.idl_check.specs.Judging.{IsNotAfter}
 use Rattle.idl_event.specs.Code.{number_of}

@@ -27,7 +27,7 @@ module _ (own : List Addition) (bank : Key → Option Answer) where
   made_of {A} {B} {C} q f g log b after h =
       runs-and_then own bank q (λ a. Done (g (f a))) log (runs own bank q log).0 (runs own bank q log).1 refl
       ∙ ap (λ (p : B × List (Key × Option Answer)). (g p.0, p.1))
-      (sym (h ∙ runs-and_then own bank q (λ a. Done (f a)) log (runs own bank q log).0 (runs own bank q log).1 refl))
+        (sym (h ∙ runs-and_then own bank q (λ a. Done (f a)) log (runs own bank q log).0 (runs own bank q log).1 refl))
 
   -- a scope that inherits nothing
   pub inherited_none : (turns : ℕ) (s : Scope) (n : List ℕ) (log : List (Key × Option Answer)) → inherits s.kind ≡ false
@@ -47,14 +47,11 @@ module _ (own : List Addition) (bank : Key → Option Answer) where
   pub standing_by : (turns : ℕ) (s : Scope) (n : List ℕ) (log : List (Key × Option Answer)) (b : Bool) (after : List (Key × Option Answer))
       → (b, after) ≡ runs own bank (and_then (inherited turns s n) counted) (noted key_eq bank (noted key_eq bank log (Declared n s.path)) (Introduced n s.path s.body))
       → runs own bank (standing turns s n) log
-      ≡ (
-        record {
-          there = entity_in (seen_at own bank (Declared n s.path));
-          is_used = is_some (seen_at own bank (Introduced n s.path s.body));
-          is_inherited = b;
-        },
-        after,
-      )
+      ≡ (record {
+        there = entity_in (seen_at own bank (Declared n s.path));
+        is_used = is_some (seen_at own bank (Introduced n s.path s.body));
+        is_inherited = b;
+      }, after)
   standing_by turns s n log b after h =
       made_of (inherited turns s n) (list_any is_operation)
       (λ is_inherited. record {

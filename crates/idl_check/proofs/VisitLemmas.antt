@@ -78,4 +78,4 @@ module _ (bank : Key → Option Answer) where
       ap (λ b. runs_over (cond b (Done w) (and_then (visit turns site w) (λ v. walk turns sites (noted_in v w.fault)))) log) h
       ∙ run-and_then key_eq (visit turns site w) (λ v. walk turns sites (noted_in v w.fault)) bank log
       ∙ ap (λ (p : Walk × List (Key × Option Answer)). runs_over (walk turns sites p.0) p.1)
-      (sym (gives ∙ run-and_then key_eq (visit turns site w) (λ v. Done (noted_in v w.fault)) bank log))
+        (sym (gives ∙ run-and_then key_eq (visit turns site w) (λ v. Done (noted_in v w.fault)) bank log))

@@ -1,5 +1,5 @@
 -- What the laws of verdicts speak of.
-use Rattle.std.specs.Prelude.{◌≡◌, ◌<◌, ◌≤◌, ◌⊎◌, ℕ, Bool, false, List, [], ◌∷◌, Option, None, Some}
+use Rattle.std.specs.Prelude.{◌≡◌, ◌<◌, ◌≤◌, ◌⊎◌, ℕ, false, List, [], ◌∷◌, Option, None, Some}
 use Rattle.idl_check.specs.AllFaults.{site_faults}
 use Rattle.idl_check.specs.Placing.{is_misplaced, opened_kind, opening_faults}
 use Rattle.idl_check.specs.Verdict.{sound}
