@@ -93,7 +93,7 @@ module _ (bank : Key → Option Answer) (turns : ℕ) (tokens : List Token) (sco
   misplaced_asking log name after h asks =
       ap (λ o. runs_over bank (and_then (first_asks o) (λ found. refused tokens (fault_at 0 MisplacedUnit))) log) h
       ∙ run-and_then_at key_eq (outward turns scopes (folded name)) (λ found. refused tokens (fault_at 0 MisplacedUnit)) bank log
-      (runs_over bank (outward turns scopes (folded name)) log).0 after (λ i. ((runs_over bank (outward turns scopes (folded name)) log).0, asks i))
+        (runs_over bank (outward turns scopes (folded name)) log).0 after (λ i. ((runs_over bank (outward turns scopes (folded name)) log).0, asks i))
 
   -- a walk that comes to this
   pub judged_by : (log : List (Key × Option Answer)) (w : Walk) (after : List (Key × Option Answer)) → is_misplaced tree scopes ≡ false

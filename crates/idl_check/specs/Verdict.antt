@@ -86,7 +86,7 @@ abbrev pub misplaced : ℕ → List Token → List Scope → Tree → Lookup Ver
 misplaced turns tokens scopes tree =
     and_then
     (elim (first_part (items (unit_parts tree)))
-    [ None ↦ Done [] | Some name ↦ outward turns scopes (folded name) ])
+      [ None ↦ Done [] | Some name ↦ outward turns scopes (folded name) ])
     (λ found. refused tokens (fault_at 0 MisplacedUnit))
 
 -- the third step
