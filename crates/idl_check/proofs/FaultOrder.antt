@@ -1,34 +1,13 @@
 -- Faults of which none is less than the first: the first is the least.
-use Rattle.std.proofs.Common.{◌≡◌, ◌∙◌, ℕ, ◌<◌, ◌≤◌, Bool, true, false, cond, List, [], ◌∷◌, ◌++◌, map, Some, refl, ap, arith}
-use Rattle.std.specs.Prelude.{fold, nat_eq, ⊤}
-use Rattle.std.proofs.lemmas.Bool.{or_from, and_left, and_right, le-ltb, ne_eqb, cond-false}
+use Rattle.std.proofs.Common.{◌≡◌, ◌∙◌, ◌<◌, ◌≤◌, ℕ, cond, List, [], ◌∷◌, ◌++◌, map, Option, None, Some, refl, ap, subst, arith}
+use Rattle.std.proofs.lemmas.Bool.{and_left, and_right, cond-false, cond_both, le-ltb, ne_eqb, or_from}
+use Rattle.std.proofs.lemmas.List.Elements.{All-append, All-cons, All-head, All-map, All-nil, All-tail, All-weaker}
+use Rattle.std.specs.Prelude.{All, fold, nat_eq, nat_lt, ◌&&◌, ◌||◌, ⊤}
 use Rattle.idl_event.specs.Code.{number_of}
 use Rattle.idl_event.specs.declared.code.Code.{Code}
 use Rattle.idl_unit.specs.Faults.{least_fault, lesser_fault}
 use Rattle.idl_unit.specs.TokenRules.{fault_at, first}
 use Rattle.idl_unit.specs.declared.fault.Fault.{Fault}
-
--- ---- what holds of each
-
-abbrev pub Each : {X : Type 0} → (X → Type 0) → List X → Type 0
-Each P [] = ⊤
-Each P (x ∷ xs) = P x × Each P xs
-
-pub each-append : {X : Type 0} (P : X → Type 0) (xs ys : List X) → Each P xs → Each P ys → Each P (xs ++ ys)
-each-append P [] ys p q = q
-each-append P (x ∷ xs) ys p q = (p.0, each-append P xs ys p.1 q)
-
-pub each-weaker : {X : Type 0} (P Q : X → Type 0) → ((x : X) → P x → Q x) → (xs : List X) → Each P xs → Each Q xs
-each-weaker P Q f [] p = tt
-each-weaker P Q f (x ∷ xs) p = (f x p.0, each-weaker P Q f xs p.1)
-
-pub each-map : {X Y : Type 0} (g : X → Y) (P : X → Type 0) (Q : Y → Type 0) → ((x : X) → P x → Q (g x)) → (xs : List X) → Each P xs → Each Q (map g xs)
-each-map g P Q f [] p = tt
-each-map g P Q f (x ∷ xs) p = (f x p.0, each-map g P Q f xs p.1)
-
-pub each-if : {X : Type 0} (P : X → Type 0) (b : Bool) (x : X) (xs : List X) → P x → Each P xs → Each P (cond b (x ∷ xs) xs)
-each-if P true x xs p q = (p, q)
-each-if P false x xs p q = q
 
 -- ---- the lesser of two
 
@@ -47,29 +26,50 @@ leads-beside f g le codes = cond-false _ g f (or_from _ _ (le-ltb g.index f.inde
 -- none is less than the first
 abbrev pub IsLed : List Fault → Type 0
 IsLed [] = ⊤
-IsLed (f ∷ fs) = Each (Leads f) fs
+IsLed (f ∷ fs) = All (Leads f) fs
 
-fold-led : (f : Fault) (fs : List Fault) → Each (Leads f) fs → fold lesser_fault f fs ≡ f
+fold-led : (f : Fault) (fs : List Fault) → All (Leads f) fs → fold lesser_fault f fs ≡ f
 fold-led f [] led = refl
-fold-led f (g ∷ fs) led = ap (λ x. fold lesser_fault x fs) led.0 ∙ fold-led f fs led.1
+fold-led f (g ∷ fs) led = ap (λ x. fold lesser_fault x fs) (All-head (Leads f) g fs led) ∙ fold-led f fs (All-tail (Leads f) g fs led)
 
 pub least-led : (fs : List Fault) → IsLed fs → least_fault fs ≡ first fs
 least-led [] led = refl
 least-led (f ∷ fs) led = ap Some (fold-led f fs led)
 
 -- those of tokens before one, and those from it on
-pub led-append : (n : ℕ) (fs gs : List Fault) → IsLed fs → Each (λ f. f.index < n) fs → IsLed gs → Each (λ g. n ≤ g.index) gs → IsLed (fs ++ gs)
+pub led-append : (n : ℕ) (fs gs : List Fault) → IsLed fs → All (λ f. f.index < n) fs → IsLed gs → All (λ g. n ≤ g.index) gs → IsLed (fs ++ gs)
 led-append n [] gs led below more from = more
 led-append n (f ∷ fs) gs led below more from =
-    let lt : f.index < n = below.0 in
-    each-append (Leads f) fs gs led (each-weaker (λ g. n ≤ g.index) (Leads f) (λ g le. leads-later f g (omega arith)) gs from)
+    let lt : f.index < n = All-head (λ f. f.index < n) f fs below in
+    All-append (Leads f) fs gs led (All-weaker (λ g. n ≤ g.index) (Leads f) (λ g le. leads-later f g (omega arith)) gs from)
 
 -- codes of which the first has the least number, at one token
 abbrev pub AreLed : List Code → Type 0
 AreLed [] = ⊤
-AreLed (c ∷ cs) = Each (λ d. number_of c ≤ number_of d) cs
+AreLed (c ∷ cs) = All (λ d. number_of c ≤ number_of d) cs
 
 pub led-codes : (n : ℕ) (cs : List Code) → AreLed cs → IsLed (map (fault_at n) cs)
 led-codes n [] led = tt
 led-codes n (c ∷ cs) led =
-    each-map (fault_at n) (λ d. number_of c ≤ number_of d) (Leads (fault_at n c)) (λ d le. leads-beside (fault_at n c) (fault_at n d) (omega arith) le) cs led
+    All-map (Leads (fault_at n c)) (fault_at n) cs
+    (All-weaker (λ d. number_of c ≤ number_of d) (λ d. Leads (fault_at n c) (fault_at n d)) (λ d le. leads-beside (fault_at n c) (fault_at n d) (omega arith) le) cs led)
+
+-- ---- what holds of each holds of the least
+
+fold-in : (P : Fault → Type 0) (f : Fault) (fs : List Fault) → P f → All P fs → P (fold lesser_fault f fs)
+fold-in P f [] here more = here
+fold-in P f (g ∷ fs) here more =
+    fold-in P (lesser_fault f g) fs
+    (cond_both (nat_lt g.index f.index || (nat_eq g.index f.index && nat_lt (number_of g.code) (number_of f.code))) g f P (λ h. All-head P g fs more) (λ h. here))
+    (All-tail P g fs more)
+
+pub least-in : (P : Fault → Type 0) (fs : List Fault) (f : Fault) → All P fs → least_fault fs ≡ Some f → P f
+least-in P [] f all h = cc
+least-in P (g ∷ fs) f all h =
+    let same : fold lesser_fault g fs ≡ f = cc in
+    subst P same (fold-in P g fs (All-head P g fs all) (All-tail P g fs all))
+
+-- those of one token
+pub all-at : (P : Fault → Type 0) (n : ℕ) → ((c : Code) → P (fault_at n c)) → (cs : List Code) → All P (map (fault_at n) cs)
+all-at P n here [] = All-nil P
+all-at P n here (c ∷ cs) = All-cons P (fault_at n c) (map (fault_at n) cs) (here c) (all-at P n here cs)

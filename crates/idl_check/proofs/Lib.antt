@@ -6,8 +6,10 @@ mod StandingLemmas
 mod TaskLemmas
 mod VisitLemmas
 pub mod FaultOrder
-pub mod PartLaws
 pub mod SiteLaws
 pub mod TableLaws
 pub mod VerdictLaws
 pub mod WalkLaws
+pub mod NumberLaws
+pub mod StepLaws
+pub mod LeastFault

@@ -20,10 +20,10 @@ use Rattle.idl_scope.specs.Key.{key_eq}
 use Rattle.idl_scope.specs.declared.addition.Addition.{Addition}
 use Rattle.idl_scope.proofs.FactsLaws.{outcome-under}
 
--- a fault stands at no later part than this one
+-- a fault stands at no later part than this one, and is no want of memory
 abbrev pub IsUpTo : {A : Type 0} → ℕ → Result A NameFault → Type 0
 IsUpTo last (Ok a) = Unit {0}
-IsUpTo last (Err Memory) = Unit {0}
+IsUpTo last (Err Memory) = ⊥
 IsUpTo last (Err (At code part)) = part ≤ last
 
 placed-IsUpTo : (part last : ℕ) (r : Result Entity NameCode) → part ≤ last → IsUpTo last (placed part r)
@@ -61,7 +61,7 @@ module _ (turns : ℕ) (bank : Key → Option Answer) where
 
   found_as-IsUpTo : (last : ℕ) (name : ScopedName) (cursor : List Scope) (first : Entity) (r : Result Entity NameFault) → IsUpTo last r → IsUpTo last (found_as name cursor first r)
   found_as-IsUpTo last name cursor first (Ok e) h = tt
-  found_as-IsUpTo last name cursor first (Err Memory) h = tt
+  found_as-IsUpTo last name cursor first (Err Memory) h = h
   found_as-IsUpTo last name cursor first (Err (At code part)) h = h
 
   -- what a name comes to from its first part
@@ -73,7 +73,7 @@ module _ (turns : ℕ) (bank : Key → Option Answer) where
   from_first-IsUpTo cursor name (Ok first) h =
       rw (outcome-and_then (further turns 0 first name.rest) (λ last. Done (found_as name cursor first last)) bank)
       (found_as-IsUpTo (length name.rest) name cursor first (outcome (further turns 0 first name.rest) bank) (further-IsUpTo 0 (length name.rest) first name.rest (omega arith)))
-  from_first-IsUpTo cursor name (Err Memory) h = tt
+  from_first-IsUpTo cursor name (Err Memory) h = h
   from_first-IsUpTo cursor name (Err (At code part)) h = omega arith
 
   -- a name's fault stands at one of its parts

@@ -1,6 +1,7 @@
 -- Tables whose codes ascend.
 use Rattle.std.proofs.Common.{ℕ, ◌≤◌, Bool, true, false, cond, List, [], ◌∷◌, arith}
-use Rattle.std.specs.Prelude.{⊤}
+use Rattle.std.proofs.lemmas.List.Elements.{All-cons, All-map, All-nil, All-weaker}
+use Rattle.std.specs.Prelude.{All, ⊤}
 use Rattle.idl_check.specs.Codes.{Table, codes_in, faults_by}
 use Rattle.idl_check.specs.Declaring.{declared_table}
 use Rattle.idl_check.specs.Using.{Bases, name_code, suited_table, suits, used_table}
@@ -16,20 +17,24 @@ use Rattle.idl_site.specs.declared.site.Use.{Use}
 use Rattle.idl_site.specs.declared.site.Use.TheVariants.{AsBase, AsType, AsElement, AsConstantType, AsDiscriminator, AsOperand, Raised}
 use Rattle.idl_unit.specs.TokenRules.{fault_at}
 use Rattle.idl_unit.specs.declared.fault.Fault.{Fault}
-use Rattle.idl_check.proofs.FaultOrder.{AreLed, Each, IsLed, each-if, each-map, led-codes}
+use Rattle.idl_check.proofs.FaultOrder.{AreLed, IsLed, led-codes}
 
 -- the codes ascend, from this number on
 abbrev pub Ascends : ℕ → Table → Type 0
 Ascends n [] = ⊤
 Ascends n (row ∷ rows) = (n ≤ number_of row.1) × Ascends (number_of row.1) rows
 
-codes-from : (m n : ℕ) (table : Table) → m ≤ n → Ascends n table → Each (λ c. m ≤ number_of c) (codes_in table)
-codes-from m n [] le up = tt
+pub all-if : {X : Type 0} (P : X → Type 0) (b : Bool) (x : X) (xs : List X) → P x → All P xs → All P (cond b (x ∷ xs) xs)
+all-if P true x xs here more = All-cons P x xs here more
+all-if P false x xs here more = more
+
+codes-from : (m n : ℕ) (table : Table) → m ≤ n → Ascends n table → All (λ c. m ≤ number_of c) (codes_in table)
+codes-from m n [] le up = All-nil (λ c. m ≤ number_of c)
 codes-from m n (row ∷ rows) le up =
     let here : m ≤ number_of row.1 = omega (arith, up.0) in
-    each-if (λ c. m ≤ number_of c) row.0 row.1 (codes_in rows) here (codes-from m (number_of row.1) rows here up.1)
+    all-if (λ c. m ≤ number_of c) row.0 row.1 (codes_in rows) here (codes-from m (number_of row.1) rows here up.1)
 
-led-if : (b : Bool) (c : Code) (cs : List Code) → Each (λ d. number_of c ≤ number_of d) cs → AreLed cs → AreLed (cond b (c ∷ cs) cs)
+led-if : (b : Bool) (c : Code) (cs : List Code) → All (λ d. number_of c ≤ number_of d) cs → AreLed cs → AreLed (cond b (c ∷ cs) cs)
 led-if true c cs each led = each
 led-if false c cs each led = led
 
@@ -42,8 +47,10 @@ led-table n (row ∷ rows) up =
 pub led-by : (n : ℕ) (table : Table) → Ascends 22 table → IsLed (faults_by n table)
 led-by n table up = led-codes n (codes_in table) (led-table 22 table up)
 
-pub each-by : (n : ℕ) (table : Table) (P : Fault → Type 0) → ((c : Code) → 22 ≤ number_of c → P (fault_at n c)) → Ascends 22 table → Each P (faults_by n table)
-each-by n table P at up = each-map (fault_at n) (λ c. 22 ≤ number_of c) P at (codes_in table) (codes-from 22 22 table (omega arith) up)
+pub all-by : (n : ℕ) (table : Table) (P : Fault → Type 0) → ((c : Code) → 22 ≤ number_of c → P (fault_at n c)) → Ascends 22 table → All P (faults_by n table)
+all-by n table P at up =
+    All-map P (fault_at n) (codes_in table)
+    (All-weaker (λ c. 22 ≤ number_of c) (λ c. P (fault_at n c)) at (codes_in table) (codes-from 22 22 table (omega arith) up))
 
 -- ---- the tables of names
 

@@ -1,10 +1,11 @@
 -- What comes of a unit: its least fault and what a faulty unit does, or what all its sites come to.
 use Rattle.std.proofs.Common.{◌≡◌, ◌∙◌, ℕ, suc, ◌<◌, Bool, true, false, cond, List, [], ◌∷◌, ◌++◌, length, Option, Some, None, Result, Ok, Err, refl, sym, ap, subst, arith, inl, inr}
+use Rattle.std.proofs.lemmas.List.Elements.{All-weaker}
 use Rattle.std.specs.Prelude.{◌≢◌, ◌⊎◌, fold}
 use Rattle.std.proofs.lemmas.List.{length-map}
 use Rattle.idl_check.specs.AllFaults.{further_faults, name_faults, or_else, site_faults, unit_faults}
 use Rattle.idl_check.specs.Placing.{faulty_step, is_misplaced, opened_kind, opening_faults, step_of}
-use Rattle.idl_check.specs.Sound.{IsSound, refused_keys}
+use Rattle.idl_check.specs.Judging.{IsSound, refused_keys}
 use Rattle.idl_check.specs.Verdict.{asking, by_names, by_tree, faulty, first_faults, first_part, judged, misplaced, refused, sound, tree_of, verdict, whole}
 use Rattle.idl_check.specs.Walk.{Walk, first_walk, walk}
 use Rattle.idl_check.specs.declared.verdict.Verdict.{Verdict}
@@ -36,7 +37,7 @@ use Rattle.idl_unit.specs.TokenRules.{fault_at, first, token_faults}
 use Rattle.idl_unit.specs.declared.fault.Fault.{Fault}
 use Rattle.idl_unit.specs.declared.unit.UnitText.{UnitText}
 use Rattle.idl_unit.specs.declared.unit.UnitText.TheVariants as unit
-use Rattle.idl_check.proofs.FaultOrder.{Leads, each-weaker, leads-beside, least-led}
+use Rattle.idl_check.proofs.FaultOrder.{Leads, leads-beside, least-led}
 use Rattle.idl_check.proofs.SiteLaws.{IsFrom, faults-from, faults-led}
 use Rattle.idl_check.proofs.WalkLaws.{none-append, none-first, walk-first, walk-sound}
 
@@ -149,7 +150,7 @@ module _ (turns : ℕ) (answers : Key → Option Answer) (tokens : List Token) w
           inl (
             f,
             outcome-and_then before (λ found. refused tokens f) answers ∙ refused-is f,
-            least-led (f ∷ fs) (each-weaker (IsFrom 0) (Leads f) (λ g h. leads-beside f g h.0 h.1) fs (faults-from turns answers (items (unit_parts tree)) (first_walk scopes))),
+            least-led (f ∷ fs) (All-weaker (IsFrom 0) (Leads f) (λ g h. leads-beside f g h.0 h.1) fs (faults-from turns answers (items (unit_parts tree)) (first_walk scopes))),
           )
       named-comes false stands =
           let query = walk turns (items (unit_parts tree)) (first_walk scopes) in

@@ -2,7 +2,7 @@
 use Rattle.std.proofs.Common.{◌≡◌, ◌∙◌, ℕ, Bool, true, false, cond, List, [], ◌∷◌, ◌++◌, Option, Some, None, refl, sym, ap}
 use Rattle.std.specs.Prelude.{◌&&◌, is_some, not}
 use Rattle.idl_check.specs.AllFaults.{site_faults}
-use Rattle.idl_check.specs.Sound.{walked}
+use Rattle.idl_check.specs.Judging.{walked}
 use Rattle.idl_check.specs.Walk.{Walk, first_fault, is_over, noted_in, visit, walk}
 use Rattle.idl_memo.specs.Query.{Done, and_then, outcome}
 use Rattle.idl_memo.proofs.QueryLaws.{outcome-and_then}
@@ -71,7 +71,7 @@ module _ (turns : ℕ) (answers : Key → Option Answer) where
   on-sound true site sites w is none h more = cc
   on-sound false site sites w is none h more =
       let v = visited turns answers site w in
-      let p : IsPlaced w v = visit-placed turns answers site w in
+      let p : IsPlaced site w v = visit-placed turns answers site w in
       let parts = none-append v.faults (site_faults turns answers sites v.after) h in
       let kept : v.after.fault ≡ None = p.keeps ∙ none in
       let same : first_fault w.fault v.faults ≡ v.after.fault = ap (first_fault w.fault) parts.0 ∙ sym (first-nil w.fault) ∙ none ∙ sym kept in

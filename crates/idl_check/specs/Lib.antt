@@ -7,4 +7,4 @@ pub mod Row
 pub mod Verdict
 pub mod AllFaults
 pub mod Held
-pub mod Sound
+pub mod Judging

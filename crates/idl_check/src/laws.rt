@@ -2,17 +2,19 @@
 //!
 //! Each function does nothing: it carries its laws as clauses. They hold over any answers, and for any number of turns.
 
-ghost use Rattle.std.specs.Prelude.{◌≡◌, ◌≢◌, ◌↔◌, Bool, ℕ, List, [], ◌∷◌, None, Option, Some};
+ghost use Rattle.std.specs.Prelude.{◌≡◌, ◌≢◌, ◌↔◌, ◌+◌, ◌<◌, ◌≤◌, Bool, ℕ, List, [], ◌∷◌, All, Contains, length, None, Option, Some};
 ghost use Rattle.idl_check.specs.AllFaults.{unit_faults};
-ghost use Rattle.idl_check.specs.Placing.{faulty_step};
-ghost use Rattle.idl_check.specs.Sound.{IsSound, refused_keys};
+ghost use Rattle.idl_check.specs.Placing.{faulty_step, step_of};
+ghost use Rattle.idl_check.specs.Judging.{IsNotAfter, IsSound, refused_keys, walked, without_name};
 ghost use Rattle.idl_check.specs.Verdict.{faulty, first_faults, pragma_verdict, tree_of, verdict};
+ghost use Rattle.idl_check.specs.Walk.{Walk, visit};
 ghost use Rattle.idl_lex.specs.Tokens.{Token};
 ghost use Rattle.idl_memo.specs.Query.{asked, outcome};
 ghost use Rattle.idl_scope.specs.Facts.{scopes_in};
 ghost use Rattle.idl_scope.specs.declared.answer.Answer.{Answer};
 ghost use Rattle.idl_scope.specs.declared.key.Key.{Key};
 ghost use Rattle.idl_scope.specs.declared.key.Key.TheVariants.{Cursor};
+ghost use Rattle.idl_site.specs.Item.{Item, item_length, items_length};
 ghost use Rattle.idl_syntax.specs.Parse.{pragma_faults};
 ghost use Rattle.idl_tree.specs.Lexeme.{lexemes};
 ghost use Rattle.idl_tree.specs.Unit.{spell};
@@ -22,22 +24,36 @@ ghost use Rattle.idl_unit.specs.declared.fault.Fault.{Fault};
 ghost use Rattle.idl_unit.specs.declared.unit.UnitText.{UnitText};
 ghost use Rattle.idl_unit.specs.declared.unit.UnitText.TheVariants as unit;
 
-/// The fault that is told is the least of all that hold in the first step that has one: by the token, and then by the code. Those
-/// at sites to which the walk never comes count too.
+/// The fault that is told is the least of all that hold in the first step that has one, also of those at sites to which the walk
+/// never comes: it is one of them, at no later token than any other, and with no greater code than another there. Where none is
+/// told, none holds.
 pub fn least()
-    ensures { (turns : ℕ) (text : UnitText) (answers : Key → Option Answer)
+    ensures is { (turns : ℕ) (text : UnitText) (answers : Key → Option Answer)
         → (outcome (verdict turns text) answers).fault
         ≡ least_fault (unit_faults turns answers text) }
+    ensures among { (turns : ℕ) (text : UnitText) (answers : Key → Option Answer) (fault : Fault)
+        → (outcome (verdict turns text) answers).fault ≡ Some fault
+        → Contains (unit_faults turns answers text) fault }
+    ensures before { (turns : ℕ) (text : UnitText) (answers : Key → Option Answer) (fault : Fault)
+        → (outcome (verdict turns text) answers).fault ≡ Some fault
+        → (other : Fault) → Contains (unit_faults turns answers text) other
+        → IsNotAfter fault other }
+    ensures none { (turns : ℕ) (text : UnitText) (answers : Key → Option Answer)
+        → (outcome (verdict turns text) answers).fault ≡ None
+        → unit_faults turns answers text ≡ [] }
 {}
 
-/// A faulty unit of tokens adds nothing but its step, which its tokens tell alone: an opening opens a nameless scope, a closing
-/// closes, and any other changes no open scope. It has no row. A pragma adds nothing in any case.
+/// A faulty unit of tokens adds nothing but its step, which its tokens alone tell: an opening opens a nameless scope, a closing
+/// closes, and any other changes no open scope. That is what it would do without fault, but for the name. It has no row. A pragma
+/// adds nothing in any case.
 pub fn refusal()
     ensures tokens { (turns : ℕ) (tokens : List Token) (answers : Key → Option Answer)
         (fault : Fault)
         → (outcome (verdict turns (unit.Tokens tokens)) answers).fault ≡ Some fault
         → outcome (verdict turns (unit.Tokens tokens)) answers
         ≡ faulty fault (faulty_step tokens) }
+    ensures step { (tokens : List Token) (tree : Tree) (scope : List (List ℕ))
+        → lexemes tokens ≡ spell tree → faulty_step tokens ≡ without_name (step_of tree scope) }
     ensures pragma { (turns : ℕ) (tokens : List Token) (inside : Bool)
         (answers : Key → Option Answer)
         → outcome (verdict turns (unit.Pragma tokens inside)) answers
@@ -53,6 +69,21 @@ pub fn acceptance()
         (outcome (verdict turns (unit.Tokens tokens)) answers) }
     ensures tree { (tokens : List Token) (tree : Tree)
         → (tree_of tokens ≡ Some tree) ↔ (lexemes tokens ≡ spell tree) }
+{}
+
+/// At a site a walk has come to the number of its first token, whatever is wrong before, and the faults there stand at the tokens of
+/// the site. So a fault that is told stands at a token of its unit.
+pub fn numbering()
+    ensures walk { (turns : ℕ) (answers : Key → Option Answer) (front : List Item) (w : Walk)
+        → (walked turns answers front w).at ≡ w.at + items_length front }
+    ensures site { (turns : ℕ) (answers : Key → Option Answer) (site : Item) (w : Walk)
+        → All (λ f. (w.at ≤ f.index) × (f.index < w.at + item_length site))
+        (outcome (visit turns site w) answers).faults }
+    ensures told { (turns : ℕ) (tokens : List Token) (answers : Key → Option Answer)
+        (fault : Fault)
+        → tokens ≢ []
+        → (outcome (verdict turns (unit.Tokens tokens)) answers).fault ≡ Some fault
+        → fault.index < length tokens }
 {}
 
 /// A unit that the rules of tokens refuse, or that no tree spells, asks for the open scopes, and as an opening for the nameless

@@ -1,12 +1,15 @@
--- What holds of a unit without fault.
-use Rattle.std.specs.Prelude.{◌≡◌, ℕ, false, List, [], ◌∷◌, Option, None, Some}
+-- What the laws of verdicts speak of.
+use Rattle.std.specs.Prelude.{◌≡◌, ◌<◌, ◌≤◌, ◌⊎◌, ℕ, Bool, false, List, [], ◌∷◌, Option, None, Some}
 use Rattle.idl_check.specs.AllFaults.{site_faults}
 use Rattle.idl_check.specs.Placing.{is_misplaced, opened_kind, opening_faults}
 use Rattle.idl_check.specs.Verdict.{sound}
 use Rattle.idl_check.specs.Walk.{Walk, first_walk, visit}
 use Rattle.idl_check.specs.declared.verdict.Verdict.{Verdict}
+use Rattle.idl_event.specs.Code.{number_of}
 use Rattle.idl_lex.specs.Tokens.{Token}
 use Rattle.idl_memo.specs.Query.{outcome}
+use Rattle.idl_scope.specs.declared.addition.Step.{Step}
+use Rattle.idl_scope.specs.declared.addition.Step.TheVariants.{Opens, OpensNameless}
 use Rattle.idl_scope.specs.declared.answer.Answer.{Answer}
 use Rattle.idl_scope.specs.declared.answer.Scope.{Scope}
 use Rattle.idl_scope.specs.declared.key.Key.{Key}
@@ -17,16 +20,27 @@ use Rattle.idl_tree.specs.Lexeme.{lexemes}
 use Rattle.idl_tree.specs.Unit.{spell}
 use Rattle.idl_tree.specs.declared.unit.Tree.{Tree}
 use Rattle.idl_unit.specs.TokenRules.{token_faults}
+use Rattle.idl_unit.specs.declared.fault.Fault.{Fault}
+
+-- a fault at an earlier token than another, or at the same with no greater code
+abbrev pub IsNotAfter : Fault → Fault → Type 0
+IsNotAfter f g =
+    (f.index < g.index) ⊎ ((f.index ≡ g.index) × (number_of f.code ≤ number_of g.code))
+
+-- what a faulty unit of these tokens asks beside the open scopes
+abbrev pub refused_keys : List Token → List Key
+refused_keys tokens = elim (opened_kind tokens) [ None ↦ [] | Some kind ↦ Nameless ∷ [] ]
+
+-- a step that opens a nameless scope where it opens a named one
+abbrev pub without_name : Step → Step
+without_name (Opens path kind) = OpensNameless kind
+without_name other = other
 
 module _ (turns : ℕ) (answers : Key → Option Answer) where
   -- a walk after all of these sites
   abbrev pub walked : List Item → Walk → Walk
   walked [] w = w
   walked (site ∷ sites) w = walked sites (outcome (visit turns site w) answers).after
-
--- what a faulty unit of these tokens asks beside the open scopes
-abbrev pub refused_keys : List Token → List Key
-refused_keys tokens = elim (opened_kind tokens) [ None ↦ [] | Some kind ↦ Nameless ∷ [] ]
 
 -- In these scopes no rule of tokens refuses the tokens. They are the spelling of a tree, which stands
 -- where it may, and at none of whose sites is a fault; and what all these sites come to is the verdict.

@@ -1,0 +1,12 @@
+use Rattle.idl_check.proofs.NumberLaws.{told-within}
+use Rattle.idl_check.proofs.SiteLaws.{faults-within, walked-at}
+use Rattle.idl_check.proofs.laws.numbering.Goals as goal
+
+pub returns-clause-walk : goal.returns-clause-walk
+returns-clause-walk c = walked-at
+
+pub returns-clause-site : goal.returns-clause-site
+returns-clause-site c = faults-within
+
+pub returns-clause-told : goal.returns-clause-told
+returns-clause-told c = told-within
