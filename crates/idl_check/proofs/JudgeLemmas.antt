@@ -1,6 +1,6 @@
 -- The three steps of a verdict, run.
 use Rattle.std.proofs.Common.{◌≡◌, ℕ, Bool, true, false, cond, List, [], ◌∷◌, ◌++◌, Option, None, Some, is_some, refl, sym, ap, ◌∙◌}
-use Rattle.idl_memo.specs.Query.{Ask, Done, and_then, noted, run}
+use Rattle.idl_memo.specs.Query.{Ask, Done, Tell, and_then, noted, run}
 use Rattle.idl_memo.proofs.QueryLaws.{run-and_then_at}
 use Rattle.idl_check.proofs.VisitLemmas.{runs_over}
 use Rattle.idl_check.specs.Placing.{faulty_step, is_misplaced, opened_kind, opening_faults, step_of}
@@ -12,7 +12,7 @@ use Rattle.idl_lex.specs.Keywords.{folded}
 use Rattle.idl_lex.specs.Tokens.{Token}
 use Rattle.idl_scope.specs.Facts.{path_around}
 use Rattle.idl_scope.specs.Key.{key_eq}
-use Rattle.idl_scope.specs.Lookup.{Lookup, outward}
+use Rattle.idl_scope.specs.Lookup.{Lookup, outward, under}
 use Rattle.idl_scope.specs.declared.addition.Step.{Step}
 use Rattle.idl_scope.specs.declared.addition.Step.TheVariants.{Stays, Opens, OpensNameless, Closes}
 use Rattle.idl_scope.specs.declared.answer.Answer.{Answer}
@@ -27,6 +27,12 @@ use Rattle.idl_tree.specs.declared.unit.Tree.{Tree}
 use Rattle.idl_unit.specs.Faults.{least_fault}
 use Rattle.idl_unit.specs.TokenRules.{fault_at, token_faults}
 use Rattle.idl_unit.specs.declared.fault.Fault.{Fault}
+
+-- a lookup under no additions
+pub under-none : {A : Type 0} (q : Lookup A) → under [] q ≡ q
+under-none (Done a) = refl
+under-none (Ask k next) = λ i. Ask k (λ v. under-none (next v) i)
+under-none (Tell x q) = ap (Tell x) (under-none q)
 
 module _ (bank : Key → Option Answer) (tokens : List Token) where
   -- a faulty unit, by what it would open

@@ -1,6 +1,7 @@
 mod JudgeLemmas
 mod NameLemmas
 mod PartLemmas
+mod RowLemmas
 mod StandingLemmas
 mod TaskLemmas
 mod VisitLemmas

@@ -62,6 +62,8 @@ impl<'a> Judge<'a> {
             ≡ run key_eq (token_verdict turns self.entry.tokens.now self.entry.scopes.now)
             (answers self.entry.env.now) log.old) }
     {
+        // It does nothing: it carries the laws of what is read.
+        reading();
         match parse(self.env.alloc(), text) {
             Ok(tree) => self.with_tree(log, &tree),
             Err(SyntaxFault::Rule(fault)) => self.refused(log, self.with_opening(fault)),
@@ -105,6 +107,8 @@ impl<'a> Judge<'a> {
             ≡ run key_eq (token_verdict turns self.entry.tokens.now self.entry.scopes.now)
             (answers self.entry.env.now) log.old) }
     {
+        // It does nothing: it carries the laws of what is read.
+        reading();
         if let Some(fault) = opening_fault(self.tokens, self.scopes) {
             return self.refused(log, fault);
         }

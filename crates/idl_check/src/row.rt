@@ -36,7 +36,7 @@ pub fn row_of(
 ) -> Result<Row, AllocError>
     requires { items_length (map item_at sites.now) ≤ 18446744073709551615 }
     ensures { IfOk result (λ row.
-        row ≡ row_of depth unit.tokens.now (map item_at sites.now) unit.found.now) }
+        row ≡ row_of depth unit.entry.tokens.now (map item_at sites.now) unit.entry.found.now) }
 {
     if holds_value(sites) {
         return Ok(Row::Unknown);
@@ -62,7 +62,7 @@ fn holds_value(sites: &[Site<'_>]) -> bool
 }
 
 fn is_value(site: Site<'_>) -> bool
-    ensures { result ≡ is_value (item_at site) }
+    ensures { result ≡ is_value (item_at site.entry) }
 {
     match site {
         Site::ValueBegins => true,
@@ -85,7 +85,8 @@ fn push_sites(text: &mut Vec<u8>, sites: &[Site<'_>], unit: Rest<'_>) -> Result<
     requires { items_length (map item_at sites.now) ≤ 18446744073709551615 }
     ensures { OnOk result
         (text.new.items
-        ≡ text.old.items ++ unit_text unit.tokens.now (map item_at sites.now) unit.found.now) }
+        ≡ text.old.items
+        ++ unit_text unit.entry.tokens.now (map item_at sites.now) unit.entry.found.now) }
 {
     let mut rest = unit;
     for site in sites {
@@ -103,7 +104,8 @@ fn push_site<'a>(
     requires { item_length (item_at site) ≤ 18446744073709551615 }
     ensures { IfOk result (λ left. (sites : List SiteItem) →
         text.new.items ++ unit_text left.tokens.now sites left.found.now
-        ≡ text.old.items ++ unit_text rest.tokens.now (item_at site ∷ sites) rest.found.now) }
+        ≡ text.old.items
+        ++ unit_text rest.entry.tokens.now (item_at site.entry ∷ sites) rest.entry.found.now) }
 {
     match site {
         Site::Tokens(count) => {
@@ -126,8 +128,8 @@ fn push_site<'a>(
 impl<'a> Rest<'a> {
     // What is left behind so many tokens.
     fn behind(self, count: usize) -> Rest<'a>
-        ensures tokens { result.tokens.now ≡ drop count self.tokens.now }
-        ensures found { result.found.now ≡ self.found.now }
+        ensures tokens { result.tokens.now ≡ drop count self.entry.tokens.now }
+        ensures found { result.found.now ≡ self.entry.found.now }
     {
         Rest {
             tokens: behind(self.tokens, count),
@@ -145,7 +147,8 @@ fn push_used<'a>(
     requires { length (spell_name name.now) ≤ 18446744073709551615 }
     ensures { IfOk result (λ left. (way : Use) (sites : List SiteItem) →
         text.new.items ++ unit_text left.tokens.now sites left.found.now
-        ≡ text.old.items ++ unit_text rest.tokens.now (item.Used way name.now ∷ sites) rest.found.now) }
+        ≡ text.old.items
+        ++ unit_text rest.entry.tokens.now (item.Used way name.now ∷ sites) rest.entry.found.now) }
 {
     let tokens = behind(rest.tokens, name_length(name));
     let [path, found @ ..] = rest.found else {

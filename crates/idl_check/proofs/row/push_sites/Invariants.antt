@@ -7,7 +7,8 @@ use Rattle.idl_check.proofs.row.push_sites.Given as goal
 abbrev pub invariant-loop-site : goal.invariant-loop-site
 invariant-loop-site l = record {
   text :
-      l.text.items ++ unit_text l.rest.tokens (map item_at (drop l.site-index l.sites)) l.rest.found
-      ≡ l.fn.text.items ++ unit_text l.unit.tokens (map item_at l.sites) l.unit.found;
+      l.text.items
+      ++ unit_text l.rest.tokens.now (map item_at (drop l.site-index l.sites)) l.rest.found.now
+      ≡ l.fn.text.items ++ unit_text l.unit.tokens.now (map item_at l.sites) l.unit.found.now;
   room : items_length (map item_at (drop l.site-index l.sites)) ≤ 18446744073709551615;
 }
