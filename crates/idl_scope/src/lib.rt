@@ -32,7 +32,7 @@ pub use found::Found;
 pub use key::Key;
 pub use kind::{Kind, Stage};
 pub use laws::{adding, denotation, found_in_a_scope, introduction, own_facts, own_path, reliance};
-pub use lookup::TURNS;
+pub use lookup::{Place, TURNS, View};
 pub use name::{folded_name, shared_name};
 pub use naming::{Standpoint, resolve};
 pub use path::Path;

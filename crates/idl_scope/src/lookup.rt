@@ -42,8 +42,12 @@ pub struct Place<'a> {
 }
 
 impl<'a> View<'a> {
-    // What is declared at a key.
-    fn entity(self, log: &mut Log<Env>, key: &Key) -> Result<Option<&'a Shared<Entity>>, AllocError>
+    /// What is declared at a key.
+    pub fn entity(
+        self,
+        log: &mut Log<Env>,
+        key: &Key,
+    ) -> Result<Option<&'a Shared<Entity>>, AllocError>
         ensures entity { IfOk result (λ e.
             option_copied e
             ≡ entity_in
@@ -95,8 +99,8 @@ impl<'a> View<'a> {
         Ok((None, bases_of(self.entity(log, &key)?)))
     }
 
-    // What is reached under a name through bases.
-    fn reached(
+    /// What is reached under a name through bases.
+    pub fn reached(
         self,
         log: &mut Log<Env>,
         name: &Spelling,
