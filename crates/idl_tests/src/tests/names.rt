@@ -1,37 +1,32 @@
 //! Which bytes are names of files and of directories, and where operands lead.
 
+use super::support::in_full;
 use idl_source::{Directory, Name, join};
 use std::test::Fail;
 
+// A name is visible segments between single slashes, and a directory is a name or a place to begin.
 #[test]
-fn names_are_visible_segments_between_single_slashes(rt: HostRuntime) {
-    for bytes in "a.idl|a/b.idl|/a|../a|../../x/y|...|.a|a..|!~".split('|') {
-        assert!(rt; Name::new(bytes.as_bytes()).is_some(), "{bytes}");
+fn names_and_directories_are_these(rt: HostRuntime) -> Result<(), Fail> {
+    for (is_name, is_directory, texts) in &[
+        (
+            true,
+            true,
+            "a.idl|a/b.idl|a/b|/a|../a|../../x/y|...|.a|a..|!~|`255×n`",
+        ),
+        (false, true, ".|/|..|../.."),
+        (
+            false,
+            false,
+            "|//a|/..|/../a|a//b|a/|a/.|./a|a/../b|../a/..|a b|a\x7f|a\n|é|./.|../|a/..|`256×n`",
+        ),
+    ] {
+        for text in in_full(rt.alloc(), texts)?.as_str().split('|') {
+            assert_eq!(rt; Name::new(text.as_bytes()).is_some(), *is_name, "{text}");
+            let directory = Directory::new(text.as_bytes());
+            assert_eq!(rt; directory.is_some(), *is_directory, "{text}");
+        }
     }
-    for bytes in "|.|..|../..|/|//a|/..|/../a|a//b|a/|a/.|./a|a/../b|../a/..|a b|a\x7f|a\n|é".split(
-        '|',
-    ) {
-        assert!(rt; Name::new(bytes.as_bytes()).is_none(), "{bytes}");
-    }
-}
-
-#[test]
-fn a_directory_is_a_name_or_a_place_to_begin(rt: HostRuntime) {
-    for bytes in ".|/|..|../..|a/b|/a|../a".split('|') {
-        assert!(rt; Directory::new(bytes.as_bytes()).is_some(), "{bytes}");
-    }
-    for bytes in "|./.|../|/..|a/|a/..|a b".split('|') {
-        assert!(rt; Directory::new(bytes.as_bytes()).is_none(), "{bytes}");
-    }
-}
-
-#[test]
-fn names_have_255_bytes_at_most(rt: HostRuntime) {
-    let long = [b'n'; 256];
-    assert!(rt; Name::new(&long[..255]).is_some());
-    assert!(rt; Name::new(&long).is_none());
-    assert!(rt; Directory::new(&long[..255]).is_some());
-    assert!(rt; Directory::new(&long).is_none());
+    Ok(())
 }
 
 #[test]
@@ -49,10 +44,6 @@ fn the_directory_of_a_file_ends_before_its_last_slash(rt: HostRuntime) -> Result
         assert_eq!(rt; name.directory().as_bytes(), want.as_bytes());
     }
     Ok(())
-}
-
-fn directory_of(bytes: &[u8]) -> Result<Directory, Fail> {
-    Ok(Directory::new(bytes).ok_or("no directory")?)
 }
 
 // No name is wanted of what leads above `/`, and of what is no name.
@@ -80,23 +71,18 @@ fn operands_are_joined_in_normal_form(rt: HostRuntime) -> Result<(), Fail> {
         ("/", "//", ""),
         (".", "a b", ""),
         (".", "a\x7f/../b", "b"),
+        (".", "`255×n`", "`255×n`"),
+        (".", "`256×n`", ""),
+        ("/", "`254×n`", "/`254×n`"),
+        ("/", "`255×n`", ""),
     ] {
-        match join(&directory_of(directory.as_bytes())?, spelled.as_bytes()) {
+        let directory = Directory::new(directory.as_bytes()).ok_or("no directory")?;
+        let spelled = in_full(rt.alloc(), spelled)?;
+        let want = in_full(rt.alloc(), want)?;
+        match join(&directory, spelled.as_bytes()) {
             Some(name) => assert_eq!(rt; name.as_bytes(), want.as_bytes(), "{spelled}"),
-            None => assert!(rt; want.is_empty(), "{directory} and {spelled}"),
+            None => assert!(rt; want.is_empty(), "{spelled}"),
         }
     }
-    Ok(())
-}
-
-#[test]
-fn a_joined_name_has_255_bytes_at_most(rt: HostRuntime) -> Result<(), Fail> {
-    let long = [b'n'; 256];
-    let here = directory_of(b".")?;
-    assert!(rt; join(&here, &long[..255]).is_some());
-    assert!(rt; join(&here, &long).is_none());
-    let root = directory_of(b"/")?;
-    assert!(rt; join(&root, &long[..254]).is_some());
-    assert!(rt; join(&root, &long[..255]).is_none());
     Ok(())
 }
