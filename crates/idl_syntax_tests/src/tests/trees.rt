@@ -1,9 +1,9 @@
 //! Every production of the grammar, what is long or deep, and the faults of units.
 
-use super::units::has_units;
+use super::units::have_units;
 use std::test::Fail;
 
-static PRODUCTIONS: [&str; 17] = [
+static UNITS: [&str; 43] = [
     "}; => closing",
     "module M { => module",
     "interface I { interface I : A { interface I : ::A, B { => interface",
@@ -25,9 +25,6 @@ static PRODUCTIONS: [&str; 17] = [
      A f() raises (B, C) context (\"a\", \"b\"); => operation",
     "oneway void f(out A a); => oneway operation",
     "const A B = C; const string<8> K = ::A; => name / global name",
-];
-
-static TYPES: [&str; 4] = [
     "typedef float T; typedef double T; typedef long double T; typedef any T; typedef Object T; typedef string T; \
      typedef string<8> T; typedef wstring T; typedef wstring<8> T; typedef _long T; typedef A::B::C T; typedef ::A::B T; \
      typedef sequence<A> T; typedef sequence<A, 8> T; typedef sequence<sequence<A> > T; \
@@ -41,10 +38,7 @@ static TYPES: [&str; 4] = [
      union U switch (unsigned long) { default: A a; }; union U switch (unsigned long long) { default: A a; }; \
      union U switch (char) { default: A a; }; union U switch (wchar) { default: A a; }; \
      union U switch (boolean) { default: A a; }; union U switch (octet) { default: A a; }; => union",
-];
-
-// With the operator that is applied last.
-static EXPRESSIONS: [&str; 22] = [
+    // The operator that is applied last, and operands.
     "const A K = 1 ^ 2 | 3 ^ 4 | 5; => |",
     "const A K = 1 & 2 ^ 3 & 4; => ^",
     "const A K = 1 << 2 & 3 >> 4; => &",
@@ -86,7 +80,7 @@ static LONG: [&str; 13] = [
     "struct S {`10000×A a;\n` => E20 at its end",
 ];
 
-static TOKENS: [&str; 16] = [
+static FAULTS: [&str; 45] = [
     "typedef long $; => E01 2",
     "typedef long X ?; => E01 3",
     "typedef long _1; => E01 2",
@@ -104,10 +98,7 @@ static TOKENS: [&str; 16] = [
     "typedef long Boolean; => E36 2",
     // The first of several faults, before a tree that isn't there.
     "typedef Boolean 08; => E36 1",
-];
-
-// With the first token through which the unit is no beginning of a tree.
-static TREES: [&str; 13] = [
+    // With the first token through which the unit is no beginning of a tree.
     "typedef long X Y; => E20 3",
     "typedef long X => E20 at its end",
     "struct S { long a short b; }; => E20 5",
@@ -121,9 +112,6 @@ static TREES: [&str; 13] = [
     "struct S { }; => E20 3",
     "void f() context (L\"a\"); => E20 6",
     "} typedef A X; => E20 at its end / typedef",
-];
-
-static PRAGMAS: [&str; 13] = [
     "#pragma prefix \"P\" => prefix 1",
     "#pragma ID ::A::_b \"x\" => ID global name of parts 1",
     "#pragma ID Boolean \"\" => ID name 0",
@@ -137,9 +125,6 @@ static PRAGMAS: [&str; 13] = [
     "#pragma ID A:: \"x\" => E26 0",
     "#pragma version A 65536.0 => E26 0",
     "#pragma version A 1.2.3 => E26 0",
-];
-
-static FILES: [&str; 3] = [
     "valuetype V { };\nconst double D = 1.5;\nconst long K = 1.5;\nstruct P { double x; }; \
      => E21 0 / E21 1 / E06 4 / struct",
     "module M { => module",
@@ -148,25 +133,16 @@ static FILES: [&str; 3] = [
 ];
 
 #[test]
-fn productions_are_these(rt: HostRuntime) -> Result<(), Fail> {
-    for row in PRODUCTIONS.iter().chain(&TYPES).chain(&EXPRESSIONS) {
-        has_units(&rt, row)?;
-    }
-    Ok(())
+fn units_are_of_these_productions(rt: HostRuntime) -> Result<(), Fail> {
+    have_units(&rt, &UNITS)
 }
 
 #[test]
 fn units_are_long_and_nest_64_levels(rt: HostRuntime) -> Result<(), Fail> {
-    for row in &LONG {
-        has_units(&rt, row)?;
-    }
-    Ok(())
+    have_units(&rt, &LONG)
 }
 
 #[test]
 fn units_have_these_faults(rt: HostRuntime) -> Result<(), Fail> {
-    for row in TOKENS.iter().chain(&TREES).chain(&PRAGMAS).chain(&FILES) {
-        has_units(&rt, row)?;
-    }
-    Ok(())
+    have_units(&rt, &FAULTS)
 }

@@ -10,14 +10,15 @@ use std::alloc::{AllocError, AllocGlobal, Global};
 use std::process::Abort;
 use std::test::Fail;
 
-/// The units of a text are those behind its ` => `, with ` / ` between and once where some side by side are the same: the
-/// word of a tree, a pragma, or a fault with the number of its token, from 0. In a row `` `3×a` `` stands for `aaa`.
-pub fn has_units(rt: &(impl Abort + AllocGlobal), row: &str) -> Result<(), Fail> {
-    let alloc = rt.alloc();
-    let row = in_full(alloc, row)?;
-    let (text, want) = row.as_str().split_once(" => ").ok_or("no arrow")?;
-    let said = said_of(alloc, &expansion_of(alloc, text)?)?;
-    assert_eq!(rt; said.as_str().trim_end_matches(" / "), want, "{text}");
+/// In each row the units of a text are those behind ` => `, with ` / ` between and once where some side by side are the
+/// same: the word of a tree, a pragma, or a fault with the number of its token, from 0. `` `3×a` `` stands for `aaa`.
+pub fn have_units(rt: &(impl Abort + AllocGlobal), rows: &[&str]) -> Result<(), Fail> {
+    for row in rows {
+        let row = in_full(rt.alloc(), row)?;
+        let (text, want) = row.as_str().split_once(" => ").ok_or("no arrow")?;
+        let said = said_of(rt.alloc(), &expansion_of(rt.alloc(), text)?)?;
+        assert_eq!(rt; said.as_str().trim_end_matches(" / "), want, "{text}");
+    }
     Ok(())
 }
 
