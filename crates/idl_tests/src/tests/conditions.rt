@@ -1,6 +1,6 @@
 //! Conditions of the preprocessor, with the values that another one gives.
 
-use super::support::{has_rows, in_full};
+use super::support::{have_rows, in_full};
 use idl_condition::{Symbol, evaluate};
 use std::alloc::{AllocError, AllocGlobal, Global};
 use std::process::Abort;
@@ -37,23 +37,20 @@ static OURS: [&str; 4] = [
 
 #[test]
 fn conditions_have_these_values(rt: HostRuntime) -> Result<(), Fail> {
-    for rows in &LIKE_C {
-        have_values(&rt, rows)?;
-    }
-    for rows in &OURS {
-        have_values(&rt, rows)?;
-    }
-    Ok(())
+    have_values(&rt, &LIKE_C)?;
+    have_values(&rt, &OURS)
 }
 
-fn have_values(rt: &(impl Abort + AllocGlobal), rows: &str) -> Result<(), Fail> {
-    for row in in_full(rt.alloc(), rows)?.as_str().split(';') {
-        let (text, want) = row.split_once(" = ").unwrap_or((row, ""));
-        assert_eq!(rt;
-            value_of(rt.alloc(), text)?,
-            want.parse::<i64>().ok(),
-            "{row}"
-        );
+fn have_values(rt: &(impl Abort + AllocGlobal), rows: &[&str]) -> Result<(), Fail> {
+    for rows in rows {
+        for row in in_full(rt.alloc(), rows)?.as_str().split(';') {
+            let (text, want) = row.split_once(" = ").unwrap_or((row, ""));
+            assert_eq!(rt;
+                value_of(rt.alloc(), text)?,
+                want.parse::<i64>().ok(),
+                "{row}"
+            );
+        }
     }
     Ok(())
 }
@@ -71,32 +68,32 @@ fn value_of(alloc: Global, text: &str) -> Result<Option<i64>, AllocError> {
 const DEFINITIONS: &str =
     "#define X\n#define Y 2\n#define P 1 + 1\n#define O (\n#define C )\n#define S S + 1\n#define D defined\n#define _1";
 
-// Whether a condition $C holds behind these definitions, or is faulty, is what GCC's preprocessor (cpp 12.2) says:
+// Conditions that hold behind these definitions, that don't, and that are faulty.
+//
+// Which ones a condition $C is among is what GCC's preprocessor (cpp 12.2) says:
 //     (cat definitions; printf '#if %s\ntaken\n#else\nskipped\n#endif\n' "$C") | cpp -P -pedantic-errors
 // A macro that gives `defined`, and a `defined` with no name behind it, C leaves open or refuses: those rows are ours.
+const HOLDING: &str =
+    "defined X;defined(X);defined _1;!defined Z && defined Y;defined X + defined(Y) == 2;defined X X;defined P && P * P == 3;\
+     O 1 C;S == 1;1 || 1/0;-7 / 2 == -3;7 - 2 - 1 == 4;defined + 1";
+
+const NOT_HOLDING: &str = "defined ( Z );defined long;defined defined;Z;long;0 && 1/0;defined;D X";
+
+const FAULTY: &str = "Y / Z;;X;defined(;defined(X;defined(X Y);defined O X C;defined X Y";
+
 #[test]
 fn conditions_hold_or_not(rt: HostRuntime) -> Result<(), Fail> {
-    for (rows, conditions) in &[
-        (
-            "\n=a:10: E16 error taken",
-            "defined X;defined(X);defined _1;!defined Z && defined Y;defined X + defined(Y) == 2;defined X X;\
-             defined P && P * P == 3;O 1 C;S == 1;1 || 1/0;-7 / 2 == -3;7 - 2 - 1 == 4;defined + 1",
-        ),
-        (
-            "",
-            "defined ( Z );defined long;defined defined;Z;long;0 && 1/0;defined;D X",
-        ),
-        (
-            "\n=a:9: E18 if",
-            "Y / Z;;X;defined(;defined(X;defined(X Y);defined O X C;defined X Y",
-        ),
-    ] {
-        for condition in conditions.split(';') {
-            let text = format!(in rt.alloc();
-                "{DEFINITIONS}\n#if {condition}\n#error taken\n#endif{rows}"
-            )?;
-            has_rows(&rt, text.as_str())?;
-        }
+    have_row(&rt, HOLDING, "\n=a:10: E16 error taken")?;
+    have_row(&rt, NOT_HOLDING, "")?;
+    have_row(&rt, FAULTY, "\n=a:9: E18 if")
+}
+
+fn have_row(rt: &(impl Abort + AllocGlobal), conditions: &str, row: &str) -> Result<(), Fail> {
+    for condition in conditions.split(';') {
+        let text = format!(in rt.alloc();
+            "{DEFINITIONS}\n#if {condition}\n#error taken\n#endif{row}"
+        )?;
+        have_rows(rt, &[text.as_str()])?;
     }
     Ok(())
 }

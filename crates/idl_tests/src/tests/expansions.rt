@@ -10,14 +10,9 @@ use std::alloc::{AllocError, Global};
 use std::test::Fail;
 
 // Files and macros.
+#[derive(Drop)]
 struct Answers {
     entries: Table<Key, Answer>,
-}
-
-impl Drop for Answers {
-    fn drop(self) {
-        let Answers { entries: _entries } = self;
-    }
 }
 
 impl Bank for Answers {

@@ -1,111 +1,96 @@
 //! The kinds of spellings, and the values of literals.
 
-use idl_lex::{
-    Defect, Keyword, Kind, Mark, PreprocessorMark, decode, integer_value, is_like_keyword, kind_of,
-};
+use idl_lex::{Kind, decode, integer_value, is_like_keyword, kind_of};
+use std::alloc::AllocGlobal;
+use std::process::Abort;
 use std::test::Fail;
 
-// Spellings of a kind, parted by blanks; one keyword or mark stands for all.
-static KINDS: [(Kind, &str); 24] = [
-    (
-        Kind::Accepted(Keyword::Any),
-        "any attribute boolean case char const context default double enum exception FALSE float getraises in inout \
-         interface local long module native Object octet oneway out raises readonly sequence setraises short string \
-         struct switch TRUE typedef union unsigned void wchar wstring",
-    ),
-    (
-        Kind::Refused,
-        "abstract component consumes custom emits eventtype factory finder fixed home import multiple primarykey \
-         private provides public publishes supports truncatable typeid typeprefix uses ValueBase valuetype",
-    ),
-    (Kind::Miscased, "Boolean TYPEDEF false Valuebase"),
-    (Kind::Identifier, "Foo i L interfaces x_2"),
-    (Kind::Escaped, "_interface _Foo"),
-    (Kind::Bad(Defect::NothingEscaped), "_ _1 __a"),
-    (
-        Kind::Bad(Defect::IntegerTooLarge),
-        "18446744073709551616 0x10000000000000000",
-    ),
-    (
-        Kind::Bad(Defect::MalformedInteger),
-        "08 0x 0xg 12u 1_ 99999999999999999999z",
-    ),
-    (Kind::Bad(Defect::FloatingLiteral), ".5 1.5 1e+3 1D 0x1."),
-    (
-        Kind::Punctuation(Mark::Comma),
-        "; , { } ( ) :: : < > = [ ] + - * / % ~ | ^ & << >>",
-    ),
-    (
-        Kind::Preprocessing(PreprocessorMark::Hash),
-        "# ## ! ? . && || == != <= >=",
-    ),
-    (Kind::HeaderName, "<a/b> <>"),
-    (Kind::Bad(Defect::UnclosedComment), "/*"),
+// How kinds are shown, or begin to be, each with spellings of it.
+static KINDS: [&str; 22] = [
+    "Miscased Boolean TYPEDEF false Valuebase",
+    "Identifier Foo i L interfaces x_2",
+    "Escaped _interface _Foo",
+    "Bad(NothingEscaped) _ _1 __a",
+    "Bad(IntegerTooLarge) 18446744073709551616 0x10000000000000000",
+    "Bad(MalformedInteger) 08 0x 0xg 12u 1_ 99999999999999999999z",
+    "Bad(FloatingLiteral) .5 1.5 1e+3 1D 0x1.",
+    "HeaderName <a/b> <>",
+    "Bad(UnclosedComment) /*",
     // The last one is empty.
-    (Kind::Bad(Defect::UnknownByte), "$ @ \\ "),
-    (Kind::Character, "'a' '\\0'"),
-    (Kind::WideCharacter, "L'a' L'\\u0041'"),
-    (Kind::String, "\"\" \"'\""),
-    (Kind::WideString, "L\"a\""),
-    (Kind::Bad(Defect::UnclosedLiteral), "'a L' \"a\\\""),
-    (
-        Kind::Bad(Defect::NotOneCharacter),
-        "'' 'ab' '\\qa' '\\xg' '\\u0041'",
-    ),
-    (Kind::Bad(Defect::BadEscape), "'\\q' '\\400' L'\\400'"),
-    (Kind::Bad(Defect::BadEscape), "\"\\u0041\" \"\\0\" \"a\0\""),
-    (Kind::Integer, "0 00 12 0755 0xfF 0X1e"),
-    (
-        Kind::Integer,
-        "18446744073709551615 01777777777777777777777",
-    ),
+    "Bad(UnknownByte) $ @ \\ ",
+    "Character 'a' '\\0'",
+    "WideCharacter L'a' L'\\u0041'",
+    "String \"\" \"'\"",
+    "WideString L\"a\"",
+    "Bad(UnclosedLiteral) 'a L' \"a\\\"",
+    "Bad(NotOneCharacter) '' 'ab' '\\qa' '\\xg' '\\u0041'",
+    "Bad(BadEscape) '\\q' '\\400' L'\\400' \"\\u0041\" \"\\0\" \"a\0\"",
+    "Refused abstract component consumes custom emits eventtype factory finder fixed home import multiple primarykey \
+     private provides public publishes supports truncatable typeid typeprefix uses ValueBase valuetype",
+    "Punctuation( ; , { } ( ) :: : < > = [ ] + - * / % ~ | ^ & << >>",
+    "Preprocessing( # ## ! ? . && || == != <= >=",
+    "Accepted( any typedef TRUE",
+    "Integer 0 00 12 0755 0xfF 0X1e 18446744073709551615 01777777777777777777777",
 ];
 
 #[test]
-fn spellings_have_these_kinds(rt: HostRuntime) {
-    for (want, spellings) in &KINDS {
+fn spellings_have_these_kinds(rt: HostRuntime) -> Result<(), Fail> {
+    for row in &KINDS {
+        let (kind, spellings) = row.split_once(' ').ok_or("no kind")?;
         for spelling in spellings.split(' ') {
-            let bytes = spelling.as_bytes();
-            let kind = kind_of(bytes);
-            assert_eq!(rt; one_of_all(kind), *want, "{spelling}");
-            let is_word = matches!(kind, Kind::Accepted(_) | Kind::Refused | Kind::Miscased);
-            assert_eq!(rt; is_like_keyword(bytes), is_word, "{spelling}");
-            assert_eq!(rt;
-                integer_value(bytes).is_some(),
-                kind == Kind::Integer,
-                "{spelling}"
-            );
+            has_kind(&rt, spelling, kind)?;
         }
     }
+    Ok(())
 }
 
-fn one_of_all(kind: Kind) -> Kind {
-    match kind {
-        Kind::Accepted(_keyword) => Kind::Accepted(Keyword::Any),
-        Kind::Punctuation(_mark) => Kind::Punctuation(Mark::Comma),
-        Kind::Preprocessing(_mark) => Kind::Preprocessing(PreprocessorMark::Hash),
-        other => other,
+fn has_kind(rt: &(impl Abort + AllocGlobal), spelling: &str, want: &str) -> Result<(), Fail> {
+    let bytes = spelling.as_bytes();
+    let kind = kind_of(bytes);
+    let shown = format!(in rt.alloc(); "{kind:?}")?;
+    assert!(rt; shown.as_str().starts_with(want), "{spelling} is {shown}");
+    let is_word = matches!(kind, Kind::Accepted(_) | Kind::Refused | Kind::Miscased);
+    assert_eq!(rt; is_like_keyword(bytes), is_word, "{spelling}");
+    assert_eq!(rt;
+        integer_value(bytes).is_some(),
+        kind == Kind::Integer,
+        "{spelling}"
+    );
+    Ok(())
+}
+
+const KEYWORDS: &str =
+    "any attribute boolean case char const context default double enum exception FALSE float getraises in inout interface \
+     local long module native Object octet oneway out raises readonly sequence setraises short string struct switch TRUE \
+     typedef union unsigned void wchar wstring";
+
+// Each is named as it is spelled, but for the case of letters.
+#[test]
+fn the_language_has_these_keywords(rt: HostRuntime) -> Result<(), Fail> {
+    for word in KEYWORDS.split(' ') {
+        let shown = format!(in rt.alloc(); "{:?}", kind_of(word.as_bytes()))?;
+        let want = format!(in rt.alloc(); "Accepted({word})")?;
+        assert!(rt;
+            shown.as_str().eq_ignore_ascii_case(want.as_str()),
+            "{word} is {shown}"
+        );
     }
+    Ok(())
 }
 
 #[test]
-fn integers_have_these_values(rt: HostRuntime) {
-    for (spelling, value) in &[
-        ("0", 0),
-        ("00", 0),
-        ("12", 12),
-        ("0755", 493),
-        ("0xfF", 255),
-        ("0X1e", 30),
-        ("18446744073709551615", u64::MAX),
-        ("01777777777777777777777", u64::MAX),
-    ] {
+fn integers_have_these_values(rt: HostRuntime) -> Result<(), Fail> {
+    let rows = "0=0 00=0 12=12 0755=493 0xfF=255 0X1e=30 18446744073709551615=18446744073709551615 \
+         01777777777777777777777=18446744073709551615";
+    for row in rows.split(' ') {
+        let (spelling, want) = row.split_once('=').ok_or("no value")?;
         assert_eq!(rt;
             integer_value(spelling.as_bytes()),
-            Some(*value),
-            "{spelling}"
+            want.parse::<u64>().ok(),
+            "{row}"
         );
     }
+    Ok(())
 }
 
 static VALUES: [(&str, Option<&[u16]>); 14] = [

@@ -1,6 +1,6 @@
 //! Worked replies to commands.
 
-use super::support::{answers, has_replies};
+use super::support::{answers, have_replies};
 use idl_session::Session;
 use std::test::Fail;
 
@@ -50,10 +50,7 @@ static SCRIPTS: [&str; 14] = [
 
 #[test]
 fn scripts_have_these_replies(rt: HostRuntime) -> Result<(), Fail> {
-    for text in &SCRIPTS {
-        has_replies(&rt, text)?;
-    }
-    Ok(())
+    have_replies(&rt, &SCRIPTS)
 }
 
 // A malformed command takes no further line, so that the line after it is a command.

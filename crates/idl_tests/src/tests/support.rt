@@ -55,15 +55,8 @@ fn push_numbered(text: &mut String, n: usize, piece: &str) -> Result<(), AllocEr
     Ok(())
 }
 
-/// Lines to hand in, and behind them those that must come out.
-#[derive(Drop)]
-struct Example {
-    given: String,
-    wanted: String,
-}
-
-// Each line ends with a newline. Those that are wanted have `=` before them.
-fn example_of(alloc: Global, text: &str) -> Result<Example, AllocError> {
+// The lines that have no `=` before them, and the others without it. Each ends with a newline.
+fn parted(alloc: Global, text: &str) -> Result<(String, String), AllocError> {
     let mut given = String::new(alloc);
     let mut wanted = String::new(alloc);
     for line in in_full(alloc, text)?.as_str().split('\n') {
@@ -72,7 +65,7 @@ fn example_of(alloc: Global, text: &str) -> Result<Example, AllocError> {
             None => push_line(&mut given, line)?,
         }
     }
-    Ok(Example { given, wanted })
+    Ok((given, wanted))
 }
 
 fn push_line(text: &mut String, line: &str) -> Result<(), AllocError> {
@@ -110,22 +103,28 @@ pub fn answers(
     Ok(())
 }
 
-/// A new session has these replies, the lines with `=` before them, to the other lines.
-pub fn has_replies(rt: &(impl Abort + AllocGlobal), text: &str) -> Result<(), Fail> {
-    let example = example_of(rt.alloc(), text)?;
-    let mut session = Session::new(rt.alloc());
-    let script = example.given.as_str();
-    answers(rt, &mut session, script, example.wanted.as_bytes())
+/// A new session for each text has these replies, its lines with `=` before them, to the other lines.
+pub fn have_replies(rt: &(impl Abort + AllocGlobal), texts: &[&str]) -> Result<(), Fail> {
+    for text in texts {
+        let (script, want) = parted(rt.alloc(), text)?;
+        let mut session = Session::new(rt.alloc());
+        answers(rt, &mut session, script.as_str(), want.as_bytes())?;
+    }
+    Ok(())
 }
 
-/// A root `a` of the lines without `=` has these rows: diagnostics, which begin with its name, or else its dump.
-pub fn has_rows(rt: &(impl Abort + AllocGlobal), text: &str) -> Result<(), Fail> {
+/// For each text a root `a` of the lines without `=` has the other lines as its rows: diagnostics, which begin with its
+/// name, or else its dump.
+pub fn have_rows(rt: &(impl Abort + AllocGlobal), texts: &[&str]) -> Result<(), Fail> {
     let alloc = rt.alloc();
-    let example = example_of(alloc, text)?;
-    let script = script_of(alloc, example.given.as_str())?;
-    let want = lists_of(alloc, example.wanted.as_str())?;
-    let mut session = Session::new(alloc);
-    answers(rt, &mut session, script.as_str(), want.as_bytes())
+    for text in texts {
+        let (lines, rows) = parted(alloc, text)?;
+        let script = script_of(alloc, lines.as_str())?;
+        let want = lists_of(alloc, rows.as_str())?;
+        let mut session = Session::new(alloc);
+        answers(rt, &mut session, script.as_str(), want.as_bytes())?;
+    }
+    Ok(())
 }
 
 fn script_of(alloc: Global, text: &str) -> Result<String, AllocError> {
