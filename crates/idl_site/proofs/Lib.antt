@@ -1,0 +1,10 @@
+pub mod PushLemmas
+pub mod LengthLemmas
+pub mod ExpressionEquations
+pub mod ConstructionEquations
+pub mod PartSpelling
+pub mod ExpressionSpelling
+pub mod TypeSpelling
+pub mod ConstructionSpelling
+pub mod InterfaceSpelling
+pub mod UnitSpelling

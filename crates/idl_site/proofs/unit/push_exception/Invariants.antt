@@ -1,0 +1,15 @@
+use Rattle.std.proofs.Common.{◌∷◌, take}
+use Rattle.std.specs.List.{flat_map}
+use Rattle.idl_lex.specs.declared.keyword.Keyword.TheVariants as word
+use Rattle.idl_lex.specs.declared.mark.Mark.TheVariants.{OpenBrace}
+use Rattle.idl_site.specs.ConstructionParts.{member_parts}
+use Rattle.idl_site.specs.Item.{Pushes}
+use Rattle.idl_site.specs.Part.{Declares, ScopeBegins, keyword_part, punctuation}
+use Rattle.idl_site.specs.declared.site.Declaration.TheVariants.{Exception}
+use Rattle.idl_site.proofs.unit.push_exception.Given as goal
+
+abbrev pub invariant-loop-member : goal.invariant-loop-member
+invariant-loop-member l =
+    Pushes l.fn.sites.items l.sites.items
+    (keyword_part word.Exception ∷ Declares Exception l.exception.name ∷ punctuation OpenBrace ∷ ScopeBegins Exception l.exception.name
+    ∷ flat_map member_parts (take l.member-index l.exception.members))

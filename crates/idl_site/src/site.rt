@@ -1,0 +1,86 @@
+//! Sites.
+
+use idl_base::{Seq, Text};
+use idl_tree::{DiscreteType, Expression, ScopedName, Several};
+
+/// What a name is declared as.
+#[derive(Clone, Copy)]
+pub enum Declaration {
+    Module,
+    /// An interface that is opened, and whether it is local.
+    Interface(bool),
+    /// An interface that is declared ahead, and whether it is local.
+    InterfaceAhead(bool),
+    Structure,
+    StructureAhead,
+    Union,
+    UnionAhead,
+    Exception,
+    Enumeration,
+    Enumerator,
+    /// A name for a type.
+    Alias,
+    Native,
+    Constant,
+    Attribute,
+    Operation,
+    Parameter,
+    Member,
+}
+
+/// What a name is used as.
+#[derive(Clone, Copy)]
+pub enum Use {
+    /// A base of an interface, and whether that interface is local.
+    AsBase(bool),
+    /// The type of what is declared.
+    AsType,
+    /// The type of a sequence's elements.
+    AsElement,
+    /// The type of a constant.
+    AsConstantType,
+    /// The type of a union's discriminator.
+    AsDiscriminator,
+    /// An operand of an expression.
+    AsOperand,
+    /// An exception that is raised.
+    Raised,
+}
+
+/// What an expression is for.
+#[derive(Clone, Copy)]
+pub enum Target {
+    /// The bound of a string or a sequence, or the length of an array.
+    Bound,
+    /// The value of a constant.
+    Constant,
+    /// The label of a case.
+    Label,
+}
+
+/// A part of a unit: tokens, or what begins or ends between two of them. What it names is lent by the unit's tree.
+#[derive(Clone, Copy)]
+pub enum Site<'a> {
+    /// So many tokens that declare and use nothing.
+    Tokens(usize),
+    /// A name that is declared.
+    Declared(Declaration, &'a Text),
+    /// A name that is used.
+    Used(Use, &'a ScopedName),
+    /// String literals that are joined.
+    Joined(&'a Several<Seq<u16>>),
+    /// An expression begins.
+    ValueBegins,
+    /// That expression ends: what it is for, and its tree.
+    ValueEnds(Target, &'a Expression),
+    /// The scope of what is declared so, by this name, begins.
+    ScopeBegins(Declaration, &'a Text),
+    /// That scope ends.
+    ScopeEnds,
+    /// The discriminator of a union is this type, whose keywords follow.
+    Switches(DiscreteType),
+    /// The label `default` follows.
+    Default,
+    /// What a `oneway` operation gives back follows: its result, an `out` or `inout`, or its `raises`.
+    GivesBack,
+}
