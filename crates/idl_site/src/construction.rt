@@ -129,8 +129,7 @@ fn push_case<'a>(sites: &mut Vec<Site<'a>>, case: &'a Case) -> Result<(), AllocE
 
 /// The labels of a case.
 fn push_labels<'a>(sites: &mut Vec<Site<'a>>, labels: &'a Several<Label>) -> Result<(), AllocError>
-    ensures { OnOk result
-        (Pushes sites.old.items sites.new.items (all_parts label_parts labels.now)) }
+    ensures { OnOk result (Pushes sites.old.items sites.new.items (all_parts label_parts labels.now)) }
 {
     push_label(sites, &labels.first)?;
     for label in labels.rest.as_slice() {

@@ -179,7 +179,7 @@ fn literal_len(literal: &Literal) -> usize
 }
 
 /// How many tokens string literals are.
-fn text_len(pieces: &Several<Seq<u16>>) -> usize
+pub fn text_len(pieces: &Several<Seq<u16>>) -> usize
     ensures { result ≡ length pieces.now.rest + 1 }
 {
     pieces.rest.as_slice().len() + 1

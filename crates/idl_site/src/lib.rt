@@ -1,8 +1,7 @@
-//! The sites of a unit: its parts in the order of its tokens, that is the names that it declares and uses, where expressions
-//! and scopes begin and end, and how many tokens stand between.
+//! The sites of a unit: the names that it declares and uses, and its expressions, in the order of its tokens.
 //!
-//! What a unit declares, which names it may use where, and how its row in the dump reads is said by going over this list.
-//! Nothing here knows what a name denotes.
+//! What a unit declares, which names it may use where, and how its row in the dump reads is said by
+//! going over this list. Nothing here knows what a name denotes.
 #![tactic(auto)]
 
 mod construction;
