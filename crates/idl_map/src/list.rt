@@ -10,8 +10,8 @@ use std::rc::Rc;
 
 /// Items in order. To every contract it is the list of them.
 ///
-/// A copy is a pointer. To put an item last, and to take the last one off, copies no other, whether the list is shared
-/// or not.
+/// A copy is a pointer, and so is the list before the last item. To put an item last copies no other, whether the list
+/// is shared or not.
 pub struct SharedList<T> {
     last: Option<Rc<Node<T>>>,
 }

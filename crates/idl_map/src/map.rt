@@ -13,9 +13,9 @@ use std::rc::Rc;
 
 /// Entries in the order of their keys. To every contract it is the list of them.
 ///
-/// A look-up compares the key with logarithmically many others, whatever the keys are. A copy is a pointer. To insert
-/// into a map that shares nothing changes it in place; where parts are shared, those on the way to the key are copied,
-/// logarithmically many entries.
+/// A look-up compares the key with logarithmically many others, whatever the keys are. A copy is a pointer. A map that
+/// shares nothing changes in place; where parts are shared, the entries on the way to a new one are copied,
+/// logarithmically many.
 pub struct Map<K: Datum + Ord, V: Datum> {
     root: Option<Rc<Tree<K, V>>>,
 }

@@ -1,6 +1,6 @@
 //! The nodes of a map: a search tree whose parts its copies share.
 //!
-//! The sides of a node differ by one in height, so that no way down is long. Contracts see its entries alone.
+//! The sides of a node differ by at most one in height, so that no way down is long. Contracts see its entries alone.
 
 ghost use Rattle.std.specs.Prelude.{◌≡◌, ◌∷◌, [], OnOk, OnErr};
 ghost use Rattle.std.specs.Map.{lookup};
@@ -128,7 +128,7 @@ fn balance<K: Datum + Ord, V: Datum>(tree: &mut Tree<K, V>)
     measure(tree);
 }
 
-// Raises the right side of a node that is to be raised to the right, if it is the higher one.
+// Makes a left side that is to be raised no higher on its right than on its left.
 fn lean_left<K: Datum + Ord, V: Datum>(side: &mut Option<Rc<Tree<K, V>>>)
     ensures { entries_of side.new ≡ entries_of side.old }
 {
@@ -142,6 +142,7 @@ fn lean_left<K: Datum + Ord, V: Datum>(side: &mut Option<Rc<Tree<K, V>>>)
     }
 }
 
+// Makes a right side that is to be raised no higher on its left than on its right.
 fn lean_right<K: Datum + Ord, V: Datum>(side: &mut Option<Rc<Tree<K, V>>>)
     ensures { entries_of side.new ≡ entries_of side.old }
 {
@@ -155,7 +156,7 @@ fn lean_right<K: Datum + Ord, V: Datum>(side: &mut Option<Rc<Tree<K, V>>>)
     }
 }
 
-// Makes the left child the root, and the root its right child. A child that is shared stays where it is.
+// Makes the left child the root, and the root its right child. A child that others have too stays where it is.
 fn raise_left<K: Datum + Ord, V: Datum>(tree: &mut Tree<K, V>)
     ensures { tree.new ≡ tree.old }
 {
@@ -175,6 +176,7 @@ fn raise_left<K: Datum + Ord, V: Datum>(tree: &mut Tree<K, V>)
     tree.right = Some(shared);
 }
 
+// Makes the right child the root, and the root its left child. A child that others have too stays where it is.
 fn raise_right<K: Datum + Ord, V: Datum>(tree: &mut Tree<K, V>)
     ensures { tree.new ≡ tree.old }
 {
@@ -202,7 +204,7 @@ fn measure<K: Datum + Ord, V: Datum>(tree: &mut Tree<K, V>)
     tree.height = below.saturating_add(1);
 }
 
-// How many levels there are.
+// How many levels a side has.
 fn height<K: Datum + Ord, V: Datum>(side: &Option<Rc<Tree<K, V>>>) -> u32 {
     match side {
         None => 0,

@@ -16,11 +16,12 @@ use std::marker::Model;
 
 /// The facts that units added so far, and the answers over them. To every contract it is the list of these facts.
 ///
-/// A copy costs three pointers. To add to an environment copies nothing that it has, where it shares nothing; else the
-/// entries on the way to each key that changes, logarithmically many of all that it has.
+/// A copy costs three pointers. What is added to an environment that shares nothing changes it in place; where its parts
+/// are shared, the entries on the way to each key that changes are copied, logarithmically many.
 pub struct Env {
     alloc: Global,
     facts: SharedList<Shared<Facts>>,
+    // How many facts there are, since no count among the answers is larger.
     count: usize,
     state: State,
 }
