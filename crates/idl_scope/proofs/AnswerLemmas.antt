@@ -9,34 +9,6 @@ use Rattle.idl_scope.specs.declared.addition.Addition.{Addition}
 use Rattle.idl_scope.specs.declared.answer.Answer.{Answer}
 use Rattle.idl_scope.specs.declared.key.Key.{Key}
 
-module _ {V : Type 0} (q : Key) (v : V) (k : Key) where
-  shut : (o : Option V) (w : V) (d : Bool) → cond d (Some v) o ≡ cond d (Some v) (cond d (Some w) o)
-  shut o w true = refl
-  shut o w false = refl
-
-  crossed : (o : Option V) (e : Key × V) → key_eq q e.0 ≡ false → (there here : Bool) → key_eq k e.0 ≡ there → key_eq k q ≡ here
-      → cond there (Some e.1) (cond here (Some v) o) ≡ cond here (Some v) (cond there (Some e.1) o)
-  crossed o e other true true t h = let wrong : false ≡ true = sym other ∙ ap (λ x. key_eq x e.0) (sym (same_key k q h)) ∙ t in cc
-  crossed o e other true false t h = refl
-  crossed o e other false true t h = refl
-  crossed o e other false false t h = refl
-
-  put_before : (e : Key × V) (entries : List (Key × V)) → lookup (key_eq k) (insert_entry key_eq entries q v) ≡ cond (key_eq k q) (Some v) (lookup (key_eq k) entries)
-      → (b : Bool) → key_eq q e.0 ≡ b → lookup (key_eq k) (insert_entry key_eq (e ∷ entries) q v) ≡ cond (key_eq k q) (Some v) (lookup (key_eq k) (e ∷ entries))
-  put_before e entries rest true t =
-      ap (λ b. lookup (key_eq k) (cond b ((e.0, v) ∷ entries) (e ∷ insert_entry key_eq entries q v))) t
-      ∙ shut (lookup (key_eq k) entries) e.1 (key_eq k e.0)
-      ∙ ap (λ x. cond (key_eq k x) (Some v) (cond (key_eq k e.0) (Some e.1) (lookup (key_eq k) entries))) (sym (same_key q e.0 t))
-  put_before e entries rest false t =
-      ap (λ b. lookup (key_eq k) (cond b ((e.0, v) ∷ entries) (e ∷ insert_entry key_eq entries q v))) t
-      ∙ ap (λ o. cond (key_eq k e.0) (Some e.1) o) rest
-      ∙ crossed (lookup (key_eq k) entries) e t (key_eq k e.0) (key_eq k q) refl refl
-
--- what is there after a put
-pub lookup-insert_entry : {V : Type 0} (entries : List (Key × V)) (q : Key) (v : V) (k : Key) → lookup (key_eq k) (insert_entry key_eq entries q v) ≡ cond (key_eq k q) (Some v) (lookup (key_eq k) entries)
-lookup-insert_entry [] q v k = refl
-lookup-insert_entry (e ∷ entries) q v k = put_before q v k e entries (lookup-insert_entry entries q v k) (key_eq q e.0) refl
-
 -- the addition at a key, as it is kept
 pub lookup-addition_at : (entries : List (Key × Addition)) (k : Key) → HaveOwnKeys entries → lookup (key_eq k) entries ≡ addition_at (map (λ e. e.1) entries) k
 lookup-addition_at [] k h = refl

@@ -1,14 +1,12 @@
 -- What answers that are kept come to.
-use Rattle.std.proofs.Common.{◌≡◌, ℕ, ◌<◌, Bool, true, false, cond, List, [], ◌∷◌, ◌++◌, Option, Some, None, drop, refl, ap, ◌∙◌, arith}
+use Rattle.std.proofs.Common.{◌≡◌, ℕ, ◌<◌, Bool, true, false, cond, List, [], ◌∷◌, ◌++◌, Option, Some, None, drop, reverse, refl, ap, ◌∙◌, arith}
 use Rattle.std.specs.Map.{lookup}
 use Rattle.std.proofs.lemmas.Option.{same_Some}
-use Rattle.idl_base.specs.Table.{insert_entry}
-use Rattle.idl_scope.specs.Facts.{World, addition_at, after_closing, after_opening, answer_of, closed, closing, count_in, entity_in, entity_key, is_operation, operations_among, over, scopes_in, with_answer}
+use Rattle.std.proofs.lemmas.List.{append-nil, reverse-append}
+use Rattle.idl_scope.specs.Facts.{World, addition_at, after_closing, after_opening, answer_of, closed, closing, count_in, entity_in, entity_key, is_operation, more_inside, operations_among, over, scopes_in, with_answer}
 use Rattle.idl_scope.specs.Held.{closable, held}
 use Rattle.idl_scope.specs.Key.{key_eq}
 use Rattle.idl_scope.specs.Lookup.{inherits}
-use Rattle.std.specs.List.{insert}
-use Rattle.idl_scope.proofs.AnswerLemmas.{lookup-insert_entry}
 use Rattle.idl_scope.specs.declared.addition.Addition.{Addition}
 use Rattle.idl_scope.specs.declared.addition.Addition.TheVariants.{Declares, Uses}
 use Rattle.idl_scope.specs.declared.answer.Answer.{Answer}
@@ -22,24 +20,27 @@ use Rattle.idl_scope.specs.declared.key.Key.TheVariants.{Cursor, Opened}
 abbrev pub kept : List (Key × Answer) → Key → Option Answer
 kept entries k = lookup (key_eq k) entries
 
--- with one put in
-pub kept-put : (entries : List (Key × Answer)) (q : Key) (a : Answer) → kept (insert_entry key_eq entries q a) ≡ with_answer q a (kept entries)
-kept-put entries q a = λ i k. lookup-insert_entry entries q a k i
-
 -- worlds are one where their answers are and what is inside is
 pub world_is : (answers other : Key → Option Answer) (inside within : List (List (List (List ℕ)))) → answers ≡ other → inside ≡ within → ◌≡◌ {A = World} (record { answers = answers; inside = inside }) (record { answers = other; inside = within })
 world_is answers other inside within h g = λ i. record { answers = h i; inside = g i }
 
+-- scopes that are open, the innermost first, with one more, and which is the innermost of them
+pub reverse-push : {A : Type 0} (outer : List A) (own : A) → reverse (outer ++ own ∷ []) ≡ own ∷ reverse outer
+reverse-push outer own = reverse-append outer (own ∷ [])
+
+-- no more
+pub more_inside-nothing : (inside : List (List (List (List ℕ)))) → more_inside inside [] ≡ inside
+more_inside-nothing [] = refl
+more_inside-nothing (own ∷ outer) = ap (λ l. l ∷ outer) (append-nil own)
+
 -- a body more
-pub held-opening : (entries : List (Key × Answer)) (inside within : List (List (List (List ℕ)))) (s : Scope) (opened : Answer)
-    → opened ≡ Open (s ∷ scopes_in (kept entries Cursor)) → within ≡ [] ∷ inside
-    → held (insert_entry key_eq (insert_entry key_eq entries (Opened s.path) (Count s.body)) Cursor opened) within ≡ after_opening (held entries inside) s
-held-opening entries inside within s opened is_open is_within =
+pub held-opening : (entries after : List (Key × Answer)) (inside within : List (List (List (List ℕ)))) (s : Scope) (opened : Answer)
+    → opened ≡ Open (s ∷ scopes_in (kept entries Cursor)) → kept after ≡ with_answer Cursor opened (with_answer (Opened s.path) (Count s.body) (kept entries)) → within ≡ inside ++ [] ∷ []
+    → held after within ≡ after_opening (held entries inside) s
+held-opening entries after inside within s opened is_open put is_within =
     world_is _ _ _ _
-    (kept-put (insert_entry key_eq entries (Opened s.path) (Count s.body)) Cursor opened
-    ∙ ap (with_answer Cursor opened) (kept-put entries (Opened s.path) (Count s.body))
-    ∙ ap (λ a. with_answer Cursor a (with_answer (Opened s.path) (Count s.body) (kept entries))) is_open)
-    is_within
+    (put ∙ ap (λ a. with_answer Cursor a (with_answer (Opened s.path) (Count s.body) (kept entries))) is_open)
+    (ap reverse is_within ∙ reverse-push inside [])
 
 -- operations and attributes among additions of which this is the first
 pub operations_among-cons : (a : Addition) (additions : List Addition) → operations_among (a ∷ additions) ≡ operations_among (a ∷ []) ++ operations_among additions
@@ -49,11 +50,6 @@ operations_among-cons (Declares e) additions = by (is_operation e)
     by true = refl
     by false = refl
 operations_among-cons (Uses n path body) additions = refl
-
--- an item put in first
-pub insert-first : {A : Type 0} (xs : List A) (x : A) → insert xs 0 x ≡ x ∷ xs
-insert-first [] x = refl
-insert-first (y ∷ ys) x = refl
 
 -- additions count nothing
 pub count-over : (additions : List Addition) (k : Key) (before : Option Answer) (n : ℕ) → count_in before < n → count_in (over additions k before) < n

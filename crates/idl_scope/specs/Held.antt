@@ -1,5 +1,5 @@
 -- How facts are kept, and what they come to: each addition at its key, and each answer at its key.
-use Rattle.std.specs.Prelude.{◌≡◌, ℕ, List, [], ◌∷◌, Option, None, Some}
+use Rattle.std.specs.Prelude.{◌≡◌, ℕ, List, [], ◌∷◌, Option, None, Some, reverse}
 use Rattle.std.specs.Map.{lookup}
 use Rattle.idl_scope.specs.Facts.{key_of, World}
 use Rattle.idl_scope.specs.Key.{key_eq}
@@ -13,9 +13,10 @@ abbrev pub HaveOwnKeys : List (Key × Addition) → Type 0
 HaveOwnKeys [] = Unit {0}
 HaveOwnKeys (e ∷ entries) = (e.0 ≡ key_of e.1) × HaveOwnKeys entries
 
--- what these answers, with the operations and attributes so far of open scopes, hold
+-- what these answers, with the operations and attributes so far of open scopes, the innermost last,
+-- hold
 abbrev pub held : List (Key × Answer) → List (List (List (List ℕ))) → World
-held entries inside = record { answers = λ k. lookup (key_eq k) entries; inside = inside }
+held entries inside = record { answers = λ k. lookup (key_eq k) entries; inside = reverse inside }
 
 -- the innermost of these open scopes, and those outward of it, where it is not the last
 abbrev pub closable : List Scope → Option (Scope × List Scope)

@@ -9,27 +9,34 @@ use crate::facts::Facts;
 use crate::key::Key;
 use crate::shared::Shared;
 use crate::state::State;
+use idl_map::SharedList;
 use idl_memo::Bank;
 use std::alloc::{AllocError, Global};
 use std::marker::Model;
 
 /// The facts that units added so far, and the answers over them. To every contract it is the list of these facts.
+///
+/// A copy costs three pointers. What is added to an environment that shares nothing changes it in place; where its parts
+/// are shared, the entries on the way to each key that changes are copied, logarithmically many.
 pub struct Env {
     alloc: Global,
-    facts: Vec<Shared<Facts>>,
+    facts: SharedList<Shared<Facts>>,
+    // How many facts there are, since no count among the answers is larger.
+    count: usize,
     state: State,
 }
 
 impl Model for Env {
-    ghost use Rattle.std.specs.Prelude.{◌≡◌, List};
+    ghost use Rattle.std.specs.Prelude.{◌≡◌, List, length};
     ghost use Rattle.idl_scope.specs.Facts.{UnitFacts, world};
     ghost use Rattle.idl_scope.specs.Held.{held};
 
     ghost Value = { List UnitFacts };
 
-    ghost view = { λ env. env.facts.items };
+    ghost view = { λ env. env.facts };
 
-    ghost invariant = { λ env. held env.state.answers env.state.inside.items ≡ world env.facts.items };
+    ghost invariant = { λ env.
+        (env.count ≡ length env.facts) × (held env.state.answers env.state.inside ≡ world env.facts) };
 }
 
 impl Drop for Env {
@@ -37,6 +44,7 @@ impl Drop for Env {
         let Env {
             alloc: _alloc,
             facts: _facts,
+            count: _count,
             state: _state,
         } = self;
     }
@@ -50,7 +58,8 @@ impl Env {
         let state = State::new(alloc)?;
         Ok(Env {
             alloc,
-            facts: Vec::new(alloc),
+            facts: SharedList::new(),
+            count: 0,
             state,
         })
     }
@@ -67,13 +76,33 @@ impl Env {
         let Env {
             alloc,
             facts: mut before,
+            count,
             mut state,
         } = self;
+        let Some(count) = count.checked_add(1) else {
+            return Err(AllocError);
+        };
         state.add(alloc, facts.get())?;
-        before.push(facts.clone()?)?;
+        before.push(alloc, facts.clone()?)?;
         Ok(Env {
             alloc,
             facts: before,
+            count,
+            state,
+        })
+    }
+}
+
+impl Clone for Env {
+    ghost is_clone = { λ env copy. copy ≡ env };
+
+    fn clone(&self) -> Result<Env, AllocError> {
+        let facts = self.facts.clone()?;
+        let state = self.state.clone()?;
+        Ok(Env {
+            alloc: self.alloc,
+            facts,
+            count: self.count,
             state,
         })
     }

@@ -43,7 +43,11 @@ pub struct Place<'a> {
 
 impl<'a> View<'a> {
     /// What is declared at a key.
-    pub fn entity(self, log: &mut Log<Env>, key: &Key) -> Result<Option<&'a Shared<Entity>>, AllocError>
+    pub fn entity(
+        self,
+        log: &mut Log<Env>,
+        key: &Key,
+    ) -> Result<Option<&'a Shared<Entity>>, AllocError>
         ensures entity { IfOk result (λ e.
             option_copied e
             ≡ entity_in

@@ -1,6 +1,6 @@
 //! What the facts so far come to.
 
-ghost use Rattle.std.specs.Prelude.{◌≡◌, ◌<◌, ◌∷◌, ◌++◌, [], IfOk, OnOk, drop, map, option_to_list};
+ghost use Rattle.std.specs.Prelude.{◌≡◌, ◌<◌, ◌∷◌, ◌++◌, [], IfOk, OnOk, drop, map, option_to_list, reverse};
 ghost use Rattle.std.specs.Option.{option_map};
 ghost use Rattle.idl_scope.specs.Facts.{after, after_closing, after_nameless, after_opening, after_step, closed, closing, entity_key, first_world, inherited, innermost, joined, more_inside, nameless, next_body, operations_among, operations_of, path_around, with_additions, with_answer, count_in, entity_in, scopes_in, over};
 ghost use Rattle.idl_scope.specs.Held.{closable, held};
@@ -25,14 +25,15 @@ use crate::queue::join;
 use crate::shared::Shared;
 use idl_base::{Seq, Table};
 use idl_lex::Spelling;
+use idl_map::{Map, SharedList};
 use itoa::Buffer;
 use std::alloc::{AllocError, Global};
 
 /// The answers at their keys, and beside them the paths of the operations and attributes so far of each open scope, the
-/// innermost first.
+/// innermost last. Its copies share both.
 pub struct State {
-    pub answers: Table<Key, Answer>,
-    pub inside: Vec<Seq<Path>>,
+    pub answers: Map<Key, Answer>,
+    pub inside: SharedList<SharedList<Path>>,
 }
 
 impl Drop for State {
@@ -44,16 +45,26 @@ impl Drop for State {
     }
 }
 
+impl Clone for State {
+    ghost is_clone = { λ state copy. copy ≡ state };
+
+    fn clone(&self) -> Result<State, AllocError> {
+        let answers = self.answers.clone()?;
+        let inside = self.inside.clone()?;
+        Ok(State { answers, inside })
+    }
+}
+
 impl State {
     /// The global scope is open, and nothing is declared.
     pub fn new(alloc: Global) -> Result<State, AllocError>
-        ensures { IfOk result (λ state. held state.answers state.inside.items ≡ first_world) }
+        ensures { IfOk result (λ state. held state.answers state.inside ≡ first_world) }
     {
         let scopes = opened(alloc, Scope::global(alloc)?, &[])?;
-        let mut answers = Table::new(alloc);
-        answers.insert(Key::Cursor, scopes)?;
-        let mut inside = Vec::new(alloc);
-        inside.push(Seq::new(alloc))?;
+        let mut answers = Map::new();
+        answers.insert(alloc, Key::Cursor, scopes)?;
+        let mut inside = SharedList::new();
+        inside.push(alloc, SharedList::new())?;
         Ok(State { answers, inside })
     }
 
@@ -61,8 +72,8 @@ impl State {
     pub fn add(&mut self, alloc: Global, facts: &Facts) -> Result<(), AllocError>
         requires { (key : Key) → count_in (lookup (key_eq key) self.old.answers) < 18446744073709551615 }
         ensures { OnOk result
-            (held self.new.answers self.new.inside.items
-            ≡ after (held self.old.answers self.old.inside.items) facts.now) }
+            (held self.new.answers self.new.inside
+            ≡ after (held self.old.answers self.old.inside) facts.now) }
     {
         self.add_all(alloc, facts)?;
         self.take(alloc, facts.step())
@@ -72,8 +83,8 @@ impl State {
     fn take(&mut self, alloc: Global, step: &Step) -> Result<(), AllocError>
         requires { (key : Key) → count_in (lookup (key_eq key) self.old.answers) < 18446744073709551615 }
         ensures { OnOk result
-            (held self.new.answers self.new.inside.items
-            ≡ after_step (held self.old.answers self.old.inside.items) step.now) }
+            (held self.new.answers self.new.inside
+            ≡ after_step (held self.old.answers self.old.inside) step.now) }
     {
         match step {
             Step::Stays => Ok(()),
@@ -86,27 +97,31 @@ impl State {
     // What it comes to with the additions.
     fn add_all(&mut self, alloc: Global, facts: &Facts) -> Result<(), AllocError>
         ensures { OnOk result
-            (held self.new.answers self.new.inside.items
-            ≡ with_additions facts.now.additions (held self.old.answers self.old.inside.items)) }
+            (held self.new.answers self.new.inside
+            ≡ with_additions facts.now.additions (held self.old.answers self.old.inside)) }
     {
         put_all(alloc, &mut self.answers, facts)?;
-        add_inside(&mut self.inside, operations_among(alloc, facts)?)
+        add_inside(
+            alloc,
+            &mut self.inside,
+            operations_among(alloc, facts)?.as_slice(),
+        )
     }
 
     // What it comes to with one more body of a scope.
     fn open(&mut self, alloc: Global, path: &Path, kind: Kind) -> Result<(), AllocError>
         requires { count_in (lookup (key_eq (Opened path.now)) self.old.answers) < 18446744073709551615 }
         ensures { OnOk result
-            (held self.new.answers self.new.inside.items
-            ≡ after_step (held self.old.answers self.old.inside.items) (Opens path.now kind)) }
+            (held self.new.answers self.new.inside
+            ≡ after_step (held self.old.answers self.old.inside) (Opens path.now kind)) }
     {
         let scope = self.next_body(path, kind)?;
         let body = scope.body;
         let key = Key::Opened(scope.path.clone()?);
         let scopes = opened(alloc, scope, scopes_in(self.answers.get(&Key::Cursor)))?;
-        self.answers.insert(key, Answer::Count(body))?;
-        self.answers.insert(Key::Cursor, scopes)?;
-        self.inside.insert(0, Seq::new(alloc))?;
+        self.answers.insert(alloc, key, Answer::Count(body))?;
+        self.answers.insert(alloc, Key::Cursor, scopes)?;
+        self.inside.push(alloc, SharedList::new())?;
         Ok(())
     }
 
@@ -118,7 +133,7 @@ impl State {
             ≡ record {
               path = path.now;
               kind = kind;
-              body = next_body (held self.now.answers self.now.inside.items) path.now;
+              body = next_body (held self.now.answers self.now.inside) path.now;
             }) }
     {
         let key = Key::Opened(path.clone()?);
@@ -131,22 +146,22 @@ impl State {
     fn open_nameless(&mut self, alloc: Global, kind: Kind) -> Result<(), AllocError>
         requires { (key : Key) → count_in (lookup (key_eq key) self.old.answers) < 18446744073709551615 }
         ensures { OnOk result
-            (held self.new.answers self.new.inside.items
-            ≡ after_step (held self.old.answers self.old.inside.items) (OpensNameless kind)) }
+            (held self.new.answers self.new.inside
+            ≡ after_step (held self.old.answers self.old.inside) (OpensNameless kind)) }
     {
         let number = count_in(self.answers.get(&Key::Nameless));
         let name = nameless_name(alloc, number)?;
         let path = child_of_first(alloc, scopes_in(self.answers.get(&Key::Cursor)), &name)?;
         self.answers
-            .insert(Key::Nameless, Answer::Count(number + 1))?;
+            .insert(alloc, Key::Nameless, Answer::Count(number + 1))?;
         self.open(alloc, &path, kind)
     }
 
     // What it comes to with the innermost scope closed, if it isn't the global one.
     fn close(&mut self, alloc: Global) -> Result<(), AllocError>
         ensures { OnOk result
-            (held self.new.answers self.new.inside.items
-            ≡ after_step (held self.old.answers self.old.inside.items) Closes) }
+            (held self.new.answers self.new.inside
+            ≡ after_step (held self.old.answers self.old.inside) Closes) }
     {
         let Some((scope, outer)) = closable(scopes_in(self.answers.get(&Key::Cursor))) else {
             return Ok(());
@@ -154,15 +169,14 @@ impl State {
         let scopes = open_scopes(alloc, outer)?;
         let closing = self.closing(alloc, scope)?;
         put_closing(alloc, &mut self.answers, &closing)?;
-        self.answers.insert(Key::Cursor, scopes)?;
-        leave(&mut self.inside);
-        Ok(())
+        self.answers.insert(alloc, Key::Cursor, scopes)?;
+        leave(&mut self.inside)
     }
 
     // The interface that is closed with this scope, if it is of one.
     fn closing(&self, alloc: Global, scope: &Scope) -> Result<Option<Shared<Entity>>, AllocError>
         ensures { IfOk result (λ entity.
-            closing (held self.now.answers self.now.inside.items) scope.now
+            closing (held self.now.answers self.now.inside) scope.now
             ≡ map Declares (option_to_list entity)) }
     {
         if !scope.kind.inherits() {
@@ -183,12 +197,11 @@ impl State {
         ensures { IfOk result (λ paths.
             paths.items
             ≡ inherited (λ k. lookup (key_eq k) self.now.answers) [] interface.now.bases
-            ++ innermost self.now.inside.items) }
+            ++ innermost (reverse self.now.inside)) }
     {
         let mut paths = inherited(alloc, &self.answers, interface.bases.as_slice())?;
-        if let Some(own) = self.inside.first() {
-            append(&mut paths, own.as_slice())?;
-        }
+        let own = innermost(alloc, &self.inside)?;
+        append(&mut paths, own.as_slice())?;
         Ok(paths)
     }
 }
@@ -206,7 +219,7 @@ fn closable(scopes: &[Scope]) -> Option<(&Scope, &[Scope])>
 // The answers with that of an interface that closes, if one does.
 fn put_closing(
     alloc: Global,
-    answers: &mut Table<Key, Answer>,
+    answers: &mut Map<Key, Answer>,
     closing: &Option<Shared<Entity>>,
 ) -> Result<(), AllocError>
     ensures { OnOk result
@@ -219,17 +232,28 @@ fn put_closing(
     };
     let key = Key::of_entity(alloc, &entity.get().path)?;
     let entity = entity.clone()?;
-    answers.insert(key, Answer::Known(entity))?;
+    answers.insert(alloc, key, Answer::Known(entity))?;
     Ok(())
 }
 
-// All but the innermost.
-fn leave(inside: &mut Vec<Seq<Path>>)
-    ensures { inside.new.items ≡ drop 1 inside.old.items }
+// The innermost ones.
+fn innermost(alloc: Global, inside: &SharedList<SharedList<Path>>) -> Result<Vec<Path>, AllocError>
+    ensures { IfOk result (λ paths. paths.items ≡ innermost (reverse inside.now)) }
 {
-    if !inside.is_empty() {
-        inside.remove(0);
+    match inside.split_last()? {
+        Some((_outer, own)) => own.to_vec(alloc),
+        None => Ok(Vec::new(alloc)),
     }
+}
+
+// All but the innermost.
+fn leave(inside: &mut SharedList<SharedList<Path>>) -> Result<(), AllocError>
+    ensures { OnOk result (reverse inside.new ≡ drop 1 (reverse inside.old)) }
+{
+    if let Some((outer, _own)) = inside.split_last()? {
+        *inside = outer;
+    }
+    Ok(())
 }
 
 // An interface as it is once it is closed, with these operations and attributes.
@@ -252,7 +276,7 @@ fn closed(interface: &Entity, operations: Vec<Path>) -> Result<Entity, AllocErro
 // The operations and attributes of the bases in their order, none twice.
 fn inherited(
     alloc: Global,
-    answers: &Table<Key, Answer>,
+    answers: &Map<Key, Answer>,
     bases: &[Path],
 ) -> Result<Vec<Path>, AllocError>
     ensures { IfOk result (λ paths.
@@ -268,7 +292,7 @@ fn inherited(
 // The operations and attributes of the closed interface at a path.
 fn operations_at<'a>(
     alloc: Global,
-    answers: &'a Table<Key, Answer>,
+    answers: &'a Map<Key, Answer>,
     path: &Path,
 ) -> Result<&'a [Path], AllocError>
     ensures { IfOk result (λ paths.
@@ -306,7 +330,7 @@ fn append(paths: &mut Vec<Path>, others: &[Path]) -> Result<(), AllocError>
 }
 
 // The answers with those of the additions.
-fn put_all(alloc: Global, answers: &mut Table<Key, Answer>, facts: &Facts) -> Result<(), AllocError>
+fn put_all(alloc: Global, answers: &mut Map<Key, Answer>, facts: &Facts) -> Result<(), AllocError>
     ensures { OnOk result
         ((k : Key)
         → lookup (key_eq k) answers.new ≡ over facts.now.additions k (lookup (key_eq k) answers.old)) }
@@ -316,7 +340,7 @@ fn put_all(alloc: Global, answers: &mut Table<Key, Answer>, facts: &Facts) -> Re
         let Some(addition) = facts.addition(count - 1 - back) else {
             continue;
         };
-        answers.insert(addition.key(alloc)?, addition.answer()?)?;
+        answers.insert(alloc, addition.key(alloc)?, addition.answer()?)?;
     }
     Ok(())
 }
@@ -351,15 +375,33 @@ fn keep_operation(paths: &mut Vec<Path>, addition: &Addition) -> Result<(), Allo
 }
 
 // The innermost ones with more.
-fn add_inside(inside: &mut Vec<Seq<Path>>, paths: Vec<Path>) -> Result<(), AllocError>
-    ensures { OnOk result (inside.new.items ≡ more_inside inside.old.items paths.items) }
+fn add_inside(
+    alloc: Global,
+    inside: &mut SharedList<SharedList<Path>>,
+    paths: &[Path],
+) -> Result<(), AllocError>
+    ensures { OnOk result (reverse inside.new ≡ more_inside (reverse inside.old) paths.now) }
 {
-    if inside.is_empty() {
+    if paths.is_empty() {
         return Ok(());
     }
-    let mut own = inside.remove(0).into_vec();
-    append(&mut own, paths.as_slice())?;
-    inside.insert(0, Seq::from_vec(own))?;
+    let Some((mut outer, own)) = inside.split_last()? else {
+        return Ok(());
+    };
+    let mut own = own.clone()?;
+    put_last(alloc, &mut own, paths)?;
+    outer.push(alloc, own)?;
+    *inside = outer;
+    Ok(())
+}
+
+// Puts copies of the paths last.
+fn put_last(alloc: Global, own: &mut SharedList<Path>, paths: &[Path]) -> Result<(), AllocError>
+    ensures { OnOk result (own.new ≡ own.old ++ paths.now) }
+{
+    for path in paths {
+        own.push(alloc, path.clone()?)?;
+    }
     Ok(())
 }
 

@@ -1,6 +1,5 @@
 //! Attributes.
 
-ghost use Rattle.std.specs.Prelude.{◌≡◌, ◌<◌, ◌≤◌, length, IfOk};
 ghost use Rattle.idl_tree.specs.ReadInterface.{attribute_by, attribute_names_at, attribute_with, getraises_at, readonly_attribute_with, readonly_names_at, readonly_rest};
 ghost use Rattle.idl_tree.specs.ReadType.{type_at};
 ghost use Rattle.idl_tree.specs.Reading.{first};

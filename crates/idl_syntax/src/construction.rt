@@ -1,6 +1,6 @@
 //! Structs, unions and enums.
 
-ghost use Rattle.std.specs.Prelude.{◌≡◌, ◌<◌, ◌≤◌, length, IfOk};
+ghost use Rattle.std.specs.Prelude.{◌≡◌};
 ghost use Rattle.idl_tree.specs.Lexeme.{lexemes};
 ghost use Rattle.idl_tree.specs.ReadConstruction.{all_with, begins_construction, begins_label, case_with, cases_with, construction_at, construction_with, discriminator_at, enumeration_at, goes_on, label_with, member_type_with, member_with, structure_rest_with, structure_with, union_rest_with, union_with};
 ghost use Rattle.idl_tree.specs.ReadExpression.{expression_at};

@@ -1,6 +1,6 @@
 //! Types.
 
-ghost use Rattle.std.specs.Prelude.{◌≡◌, ◌<◌, ◌≤◌, length, IfOk};
+ghost use Rattle.std.specs.Prelude.{◌≡◌};
 ghost use Rattle.idl_tree.specs.Lexeme.{lexemes};
 ghost use Rattle.idl_tree.specs.ReadExpression.{expression_at};
 ghost use Rattle.idl_tree.specs.ReadType.{basic_at, bound_with, discrete_at, limit_with, long_at, long_size_at, plain_with, sequence_with, signed_at, signed_type, size_at, string_with, string_word_of, type_at, unsigned_at};

@@ -1,6 +1,5 @@
 //! Declared names.
 
-ghost use Rattle.std.specs.Prelude.{◌≡◌, ◌<◌, ◌≤◌, length, IfOk};
 ghost use Rattle.idl_lex.specs.declared.mark.Mark.TheVariants.{Comma, OpenBracket};
 ghost use Rattle.idl_tree.specs.ReadConstruction.{listed_with};
 ghost use Rattle.idl_tree.specs.ReadExpression.{behind_with, expression_at};

@@ -1,6 +1,6 @@
 //! Expressions: a function for each rank of operators, and one for the operands behind its first.
 
-ghost use Rattle.std.specs.Prelude.{◌≡◌, ◌<◌, ◌≤◌, length, IfOk};
+ghost use Rattle.std.specs.Prelude.{◌≡◌};
 ghost use Rattle.idl_lex.specs.declared.mark.Mark.TheVariants as mark;
 ghost use Rattle.idl_tree.specs.Lexeme.{lexemes};
 ghost use Rattle.idl_tree.specs.ReadExpression.{and_with, behind_with, exclusive_or_with, expression_at, or_with, parentheses_with, primary_with, product_operator_of, product_with, shift_operator_of, shift_with, sum_operator_of, sum_with, unary_with};

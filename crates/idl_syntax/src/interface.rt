@@ -1,6 +1,5 @@
 //! Closings, and openings of modules and interfaces.
 
-ghost use Rattle.std.specs.Prelude.{◌≡◌, ◌<◌, ◌≤◌, length, IfOk};
 ghost use Rattle.idl_tree.specs.ReadUnit.{bases_at, closing_at, interface_at, interface_rest, module_at};
 ghost use Rattle.idl_syntax.specs.Gives.{Advances, Reads, Remains};
 

@@ -1,6 +1,6 @@
 //! Literals.
 
-ghost use Rattle.std.specs.Prelude.{◌≡◌, ◌<◌, ◌≤◌, length, is_some, Some, IfOk};
+ghost use Rattle.std.specs.Prelude.{◌≡◌, is_some, Some, IfOk};
 ghost use Rattle.std.specs.Option.{option_map};
 ghost use Rattle.idl_lex.specs.Literal.{literal_value};
 ghost use Rattle.idl_tree.specs.Lexeme.{lexeme_of, lexemes, one_character, only_one};

@@ -1,6 +1,5 @@
 //! Scoped names, and lists of names.
 
-ghost use Rattle.std.specs.Prelude.{◌≡◌, ◌<◌, ◌≤◌, length, IfOk};
 ghost use Rattle.idl_lex.specs.declared.mark.Mark.TheVariants.{Comma};
 ghost use Rattle.idl_tree.specs.ReadConstruction.{listed_with};
 ghost use Rattle.idl_tree.specs.ReadExpression.{behind_with};

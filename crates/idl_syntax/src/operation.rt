@@ -1,6 +1,6 @@
 //! Operations.
 
-ghost use Rattle.std.specs.Prelude.{◌≡◌, ◌<◌, ◌≤◌, length, IfOk};
+ghost use Rattle.std.specs.Prelude.{◌≡◌};
 ghost use Rattle.idl_lex.specs.declared.mark.Mark.TheVariants.{Comma};
 ghost use Rattle.idl_tree.specs.Lexeme.{lexemes};
 ghost use Rattle.idl_tree.specs.ReadConstruction.{listed_with};

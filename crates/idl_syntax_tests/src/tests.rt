@@ -1,7 +1,5 @@
 //! The tests, by subject.
 
-mod deep;
-mod faults;
-mod productions;
-mod support;
+mod trees;
+mod units;
 mod words;

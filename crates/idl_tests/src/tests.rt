@@ -2,17 +2,15 @@
 
 mod conditions;
 mod data;
-mod deep;
-mod directives;
-mod jumps;
+mod devices;
+mod expansions;
+mod files;
 mod kinds;
 mod limits;
-mod literals;
-mod macros;
 mod memory;
 mod messages;
 mod names;
+mod rows;
 mod scripts;
 mod support;
 mod tokens;
-mod typedefs;

@@ -1,6 +1,6 @@
 //! The first unit of tokens.
 
-ghost use Rattle.std.specs.Prelude.{◌≡◌, ◌<◌, ◌≤◌, ◌∷◌, ◌++◌, length, take, drop};
+ghost use Rattle.std.specs.Prelude.{◌≡◌, ◌<◌, ◌≤◌, ◌∷◌, length, take, drop};
 ghost use Rattle.idl_unit.specs.Ending.{begins, is_semicolon, rule_of, token_units};
 ghost use Rattle.idl_unit.specs.declared.role.Rule.TheVariants as rule;
 

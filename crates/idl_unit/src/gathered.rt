@@ -1,6 +1,6 @@
 //! The text of a root, and beside it where its tokens stand.
 
-ghost use Rattle.std.specs.Prelude.{◌≡◌, length, IfOk};
+ghost use Rattle.std.specs.Prelude.{◌≡◌, IfOk};
 ghost use Rattle.std.specs.List.{enumerate_from};
 ghost use Rattle.idl_unit.specs.Units.{sites_in, tokens_in};
 

@@ -1,7 +1,6 @@
 //! What a token is for the cut into units.
 
-ghost use Rattle.std.specs.Prelude.{◌≡◌, length, ◌<◌};
-ghost use Rattle.idl_lex.specs.Kind.{kind_of};
+ghost use Rattle.std.specs.Prelude.{◌≡◌};
 ghost use Rattle.idl_unit.specs.Ending.{begins, is_interface, role, rule_of};
 
 use idl_lex::{Keyword, Kind, Mark, Token};

@@ -1,6 +1,6 @@
 //! Units.
 
-ghost use Rattle.std.specs.Prelude.{◌≡◌, refl};
+ghost use Rattle.std.specs.Prelude.{◌≡◌};
 ghost use Rattle.std.proofs.Common.{ap};
 ghost use Rattle.idl_unit.specs.declared.unit.UnitText.TheVariants.{Tokens, Pragma};
 

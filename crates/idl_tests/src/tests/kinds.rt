@@ -1,186 +1,124 @@
-//! The kinds of words, numbers and marks.
+//! The kinds of spellings, and the values of literals.
 
-use idl_lex::{
-    Defect, Keyword, Kind, Mark, PreprocessorMark, integer_value, is_like_keyword, kind_of,
-};
+use idl_lex::{Kind, decode, integer_value, is_like_keyword, kind_of};
+use std::alloc::AllocGlobal;
+use std::process::Abort;
+use std::test::Fail;
+
+// How kinds are shown, or begin to be, each with spellings of it.
+static KINDS: [&str; 22] = [
+    "Miscased Boolean TYPEDEF false Valuebase",
+    "Identifier Foo i L interfaces x_2",
+    "Escaped _interface _Foo",
+    "Bad(NothingEscaped) _ _1 __a",
+    "Bad(IntegerTooLarge) 18446744073709551616 0x10000000000000000",
+    "Bad(MalformedInteger) 08 0x 0xg 12u 1_ 99999999999999999999z",
+    "Bad(FloatingLiteral) .5 1.5 1e+3 1D 0x1.",
+    "HeaderName <a/b> <>",
+    "Bad(UnclosedComment) /*",
+    // The last one is empty.
+    "Bad(UnknownByte) $ @ \\ ",
+    "Character 'a' '\\0'",
+    "WideCharacter L'a' L'\\u0041'",
+    "String \"\" \"'\"",
+    "WideString L\"a\"",
+    "Bad(UnclosedLiteral) 'a L' \"a\\\"",
+    "Bad(NotOneCharacter) '' 'ab' '\\qa' '\\xg' '\\u0041'",
+    "Bad(BadEscape) '\\q' '\\400' L'\\400' \"\\u0041\" \"\\0\" \"a\0\"",
+    "Refused abstract component consumes custom emits eventtype factory finder fixed home import multiple primarykey \
+     private provides public publishes supports truncatable typeid typeprefix uses ValueBase valuetype",
+    "Punctuation( ; , { } ( ) :: : < > = [ ] + - * / % ~ | ^ & << >>",
+    "Preprocessing( # ## ! ? . && || == != <= >=",
+    "Accepted( any typedef TRUE",
+    "Integer 0 00 12 0755 0xfF 0X1e 18446744073709551615 01777777777777777777777",
+];
 
 #[test]
-fn the_language_has_these_keywords(rt: HostRuntime) {
-    for (word, keyword) in &[
-        ("any", Keyword::Any),
-        ("attribute", Keyword::Attribute),
-        ("boolean", Keyword::Boolean),
-        ("case", Keyword::Case),
-        ("char", Keyword::Char),
-        ("const", Keyword::Const),
-        ("context", Keyword::Context),
-        ("default", Keyword::Default),
-        ("double", Keyword::Double),
-        ("enum", Keyword::Enum),
-        ("exception", Keyword::Exception),
-        ("FALSE", Keyword::False),
-        ("float", Keyword::Float),
-        ("getraises", Keyword::Getraises),
-        ("in", Keyword::In),
-        ("inout", Keyword::Inout),
-        ("interface", Keyword::Interface),
-        ("local", Keyword::Local),
-        ("long", Keyword::Long),
-        ("module", Keyword::Module),
-        ("native", Keyword::Native),
-        ("Object", Keyword::Object),
-        ("octet", Keyword::Octet),
-        ("oneway", Keyword::Oneway),
-        ("out", Keyword::Out),
-        ("raises", Keyword::Raises),
-        ("readonly", Keyword::Readonly),
-        ("sequence", Keyword::Sequence),
-        ("setraises", Keyword::Setraises),
-        ("short", Keyword::Short),
-        ("string", Keyword::String),
-        ("struct", Keyword::Struct),
-        ("switch", Keyword::Switch),
-        ("TRUE", Keyword::True),
-        ("typedef", Keyword::Typedef),
-        ("union", Keyword::Union),
-        ("unsigned", Keyword::Unsigned),
-        ("void", Keyword::Void),
-        ("wchar", Keyword::Wchar),
-        ("wstring", Keyword::Wstring),
-    ] {
-        assert_eq!(rt;
-            kind_of(word.as_bytes()),
-            Kind::Accepted(*keyword),
-            "{word}"
+fn spellings_have_these_kinds(rt: HostRuntime) -> Result<(), Fail> {
+    for row in &KINDS {
+        let (kind, spellings) = row.split_once(' ').ok_or("no kind")?;
+        for spelling in spellings.split(' ') {
+            has_kind(&rt, spelling, kind)?;
+        }
+    }
+    Ok(())
+}
+
+fn has_kind(rt: &(impl Abort + AllocGlobal), spelling: &str, want: &str) -> Result<(), Fail> {
+    let bytes = spelling.as_bytes();
+    let kind = kind_of(bytes);
+    let shown = format!(in rt.alloc(); "{kind:?}")?;
+    assert!(rt; shown.as_str().starts_with(want), "{spelling} is {shown}");
+    let is_word = matches!(kind, Kind::Accepted(_) | Kind::Refused | Kind::Miscased);
+    assert_eq!(rt; is_like_keyword(bytes), is_word, "{spelling}");
+    assert_eq!(rt;
+        integer_value(bytes).is_some(),
+        kind == Kind::Integer,
+        "{spelling}"
+    );
+    Ok(())
+}
+
+const KEYWORDS: &str =
+    "any attribute boolean case char const context default double enum exception FALSE float getraises in inout interface \
+     local long module native Object octet oneway out raises readonly sequence setraises short string struct switch TRUE \
+     typedef union unsigned void wchar wstring";
+
+// Each is named as it is spelled, but for the case of letters.
+#[test]
+fn the_language_has_these_keywords(rt: HostRuntime) -> Result<(), Fail> {
+    for word in KEYWORDS.split(' ') {
+        let shown = format!(in rt.alloc(); "{:?}", kind_of(word.as_bytes()))?;
+        let want = format!(in rt.alloc(); "Accepted({word})")?;
+        assert!(rt;
+            shown.as_str().eq_ignore_ascii_case(want.as_str()),
+            "{word} is {shown}"
         );
     }
+    Ok(())
 }
 
 #[test]
-fn the_profile_refuses_these_keywords(rt: HostRuntime) {
-    let words =
-        "abstract component consumes custom emits eventtype factory finder fixed home import multiple primarykey private provides public publishes supports truncatable typeid typeprefix uses ValueBase valuetype";
-    for word in words.split(' ') {
-        assert_eq!(rt; kind_of(word.as_bytes()), Kind::Refused, "{word}");
-    }
-}
-
-#[test]
-fn words_have_these_kinds(rt: HostRuntime) {
-    for (spelling, kind, like) in &[
-        ("Boolean", Kind::Miscased, true),
-        ("TYPEDEF", Kind::Miscased, true),
-        ("false", Kind::Miscased, true),
-        ("Valuebase", Kind::Miscased, true),
-        ("Foo", Kind::Identifier, false),
-        ("i", Kind::Identifier, false),
-        ("L", Kind::Identifier, false),
-        ("interfaces", Kind::Identifier, false),
-        ("x_2", Kind::Identifier, false),
-        ("_interface", Kind::Escaped, false),
-        ("_Foo", Kind::Escaped, false),
-        ("_", Kind::Bad(Defect::NothingEscaped), false),
-        ("_1", Kind::Bad(Defect::NothingEscaped), false),
-        ("__a", Kind::Bad(Defect::NothingEscaped), false),
-    ] {
-        assert_eq!(rt; kind_of(spelling.as_bytes()), *kind, "{spelling}");
-        assert_eq!(rt; is_like_keyword(spelling.as_bytes()), *like, "{spelling}");
-    }
-}
-
-#[test]
-fn integers_have_these_values(rt: HostRuntime) {
-    for (spelling, value) in &[
-        ("0", 0u64),
-        ("00", 0),
-        ("12", 12),
-        ("0755", 493),
-        ("0xfF", 255),
-        ("0X1e", 30),
-        ("18446744073709551615", 18446744073709551615),
-        ("01777777777777777777777", 18446744073709551615),
-    ] {
-        assert_eq!(rt; kind_of(spelling.as_bytes()), Kind::Integer, "{spelling}");
+fn integers_have_these_values(rt: HostRuntime) -> Result<(), Fail> {
+    let rows = "0=0 00=0 12=12 0755=493 0xfF=255 0X1e=30 18446744073709551615=18446744073709551615 \
+         01777777777777777777777=18446744073709551615";
+    for row in rows.split(' ') {
+        let (spelling, want) = row.split_once('=').ok_or("no value")?;
         assert_eq!(rt;
             integer_value(spelling.as_bytes()),
-            Some(*value),
-            "{spelling}"
+            want.parse::<u64>().ok(),
+            "{row}"
         );
     }
+    Ok(())
 }
 
-#[test]
-fn other_numbers_have_these_defects(rt: HostRuntime) {
-    for (spelling, defect) in &[
-        ("18446744073709551616", Defect::IntegerTooLarge),
-        ("0x10000000000000000", Defect::IntegerTooLarge),
-        ("08", Defect::MalformedInteger),
-        ("0x", Defect::MalformedInteger),
-        ("0xg", Defect::MalformedInteger),
-        ("12u", Defect::MalformedInteger),
-        ("1_", Defect::MalformedInteger),
-        ("99999999999999999999z", Defect::MalformedInteger),
-        (".5", Defect::FloatingLiteral),
-        ("1.5", Defect::FloatingLiteral),
-        ("1e+3", Defect::FloatingLiteral),
-        ("1D", Defect::FloatingLiteral),
-        ("0x1.", Defect::FloatingLiteral),
-    ] {
-        assert_eq!(rt;
-            kind_of(spelling.as_bytes()),
-            Kind::Bad(*defect),
-            "{spelling}"
-        );
-        assert_eq!(rt; integer_value(spelling.as_bytes()), None, "{spelling}");
-    }
-}
+static VALUES: [(&str, Option<&[u16]>); 14] = [
+    ("'a'", Some(&[97])),
+    ("\"\"", Some(&[])),
+    ("'\\0'", Some(&[0])),
+    (
+        "\"\\n\\t\\v\\b\\r\\f\\a\"",
+        Some(&[10, 9, 11, 8, 13, 12, 7]),
+    ),
+    ("\"\\\\\\?\\'\\\"\"", Some(&[92, 63, 39, 34])),
+    ("\"\\1018\\377\"", Some(&[65, 56, 255])),
+    ("\"\\x41a\\xfg\"", Some(&[65, 97, 15, 103])),
+    ("L\"\\u263a\\u41g\"", Some(&[9786, 65, 103])),
+    ("L\"\\u12345\"", Some(&[4660, 53])),
+    ("\"\\q\"", None),
+    ("\"\\400\"", None),
+    ("\"a", None),
+    ("a", None),
+    ("", None),
+];
 
 #[test]
-fn marks_have_these_kinds(rt: HostRuntime) {
-    for (spelling, kind) in &[
-        (";", Kind::Punctuation(Mark::Semicolon)),
-        (",", Kind::Punctuation(Mark::Comma)),
-        ("{", Kind::Punctuation(Mark::OpenBrace)),
-        ("}", Kind::Punctuation(Mark::CloseBrace)),
-        ("(", Kind::Punctuation(Mark::OpenParenthesis)),
-        (")", Kind::Punctuation(Mark::CloseParenthesis)),
-        ("::", Kind::Punctuation(Mark::ColonColon)),
-        (":", Kind::Punctuation(Mark::Colon)),
-        ("<", Kind::Punctuation(Mark::Less)),
-        (">", Kind::Punctuation(Mark::Greater)),
-        ("=", Kind::Punctuation(Mark::Equals)),
-        ("[", Kind::Punctuation(Mark::OpenBracket)),
-        ("]", Kind::Punctuation(Mark::CloseBracket)),
-        ("+", Kind::Punctuation(Mark::Plus)),
-        ("-", Kind::Punctuation(Mark::Minus)),
-        ("*", Kind::Punctuation(Mark::Star)),
-        ("/", Kind::Punctuation(Mark::Slash)),
-        ("%", Kind::Punctuation(Mark::Percent)),
-        ("~", Kind::Punctuation(Mark::Tilde)),
-        ("|", Kind::Punctuation(Mark::Bar)),
-        ("^", Kind::Punctuation(Mark::Caret)),
-        ("&", Kind::Punctuation(Mark::Ampersand)),
-        ("<<", Kind::Punctuation(Mark::ShiftLeft)),
-        (">>", Kind::Punctuation(Mark::ShiftRight)),
-        ("#", Kind::Preprocessing(PreprocessorMark::Hash)),
-        ("##", Kind::Preprocessing(PreprocessorMark::HashHash)),
-        ("!", Kind::Preprocessing(PreprocessorMark::Exclamation)),
-        ("?", Kind::Preprocessing(PreprocessorMark::Question)),
-        (".", Kind::Preprocessing(PreprocessorMark::Dot)),
-        ("&&", Kind::Preprocessing(PreprocessorMark::AndAnd)),
-        ("||", Kind::Preprocessing(PreprocessorMark::OrOr)),
-        ("==", Kind::Preprocessing(PreprocessorMark::EqualsEquals)),
-        ("!=", Kind::Preprocessing(PreprocessorMark::NotEquals)),
-        ("<=", Kind::Preprocessing(PreprocessorMark::LessEquals)),
-        (">=", Kind::Preprocessing(PreprocessorMark::GreaterEquals)),
-        ("<a b>", Kind::HeaderName),
-        ("<>", Kind::HeaderName),
-        ("/*", Kind::Bad(Defect::UnclosedComment)),
-        ("$", Kind::Bad(Defect::UnknownByte)),
-        ("@", Kind::Bad(Defect::UnknownByte)),
-        ("\\", Kind::Bad(Defect::UnknownByte)),
-        ("", Kind::Bad(Defect::UnknownByte)),
-    ] {
-        assert_eq!(rt; kind_of(spelling.as_bytes()), *kind, "{spelling}");
+fn literals_have_these_values(rt: HostRuntime) -> Result<(), Fail> {
+    for (spelling, want) in &VALUES {
+        let value = decode(rt.alloc(), spelling.as_bytes())?;
+        let value = value.as_ref().map(|value| value.as_slice());
+        assert_eq!(rt; value, *want, "{spelling}");
     }
+    Ok(())
 }

@@ -1,94 +1,93 @@
-//! The limits of commands, of a project and of a root.
+//! What is long or deep: the limits of commands, of a project and of a root, and what goes past none.
 
-use super::support::{has_replies, has_rows, repeated, tower};
-use std::alloc::{AllocError, Global};
+use super::support::{have_replies, have_rows};
 use std::test::Fail;
 
-#[test]
-fn lines_words_and_bytes_are_bounded(rt: HostRuntime) -> Result<(), Fail> {
-    for (head, piece, count, tail, want) in &[
-        ("put a.idl 200000\n", "\n", 200_000, "", "ok\n"),
-        ("put a.idl 200001\n", "\n", 200_001, "", "refused 5\n"),
-        ("put a//b 200001\n", "\n", 200_001, "", "refused 2\n"),
-        (
-            "splice a.idl 1 0 200001\n",
-            "\n",
-            200_001,
-            "",
-            "refused 3\n",
-        ),
-        ("put a.idl 1\n", "x", 4096, "\n", "ok\n"),
-        ("put a.idl 1\n", "x", 4097, "\n", "refused 5\n"),
-        ("put a.idl 2\n", "x", 4097, "\n", "refused 10\n"),
-        ("define X ", "x", 4096, "\n", "ok\n"),
-        ("define X ", "x", 4097, "\n", "refused 5\n"),
-        ("define 1x ", "x", 4097, "\n", "refused 5\n"),
-        ("search", " d", 256, "\n", "ok\n"),
-        ("search", " d", 257, "\n", "refused 5\n"),
-        ("search", " d", 257, " a//b\n", "refused 2\n"),
-        // A command of that length is one line, and too long for a name.
-        ("root ", "x", 8187, "\n", "refused 2\n"),
-        ("root ", "x", 8188, "\nroot a.idl\n", "refused 1\nok\n"),
-    ] {
-        let script = repeated(rt.alloc(), head, piece, *count, tail)?;
-        has_replies(&rt, script.as_str(), want)?;
-    }
-    Ok(())
-}
+static LINES: [&str; 4] = [
+    "put a.idl 200000`200000×\n`\n=ok",
+    "put a.idl 200001`200001×\n`\n=refused 5",
+    "put a//b 200001`200001×\n`\n=refused 2",
+    "splice a.idl 1 0 200001`200001×\n`\n=refused 3",
+];
+
+static COMMANDS: [&str; 16] = [
+    "put a.idl 1\n`4096×x`\n=ok",
+    "put a.idl 1\n`4097×x`\n=refused 5",
+    "put a.idl 2\n`4097×x`\n=refused 10",
+    "define X `4096×x`\n=ok",
+    "define X `4097×x`\n=refused 5",
+    "define 1x `4097×x`\n=refused 5",
+    "search`256× d`\n=ok",
+    "search`257× d`\n=refused 5",
+    "search`257× d` a//b\n=refused 2",
+    // A command of that length is one line, and too long for a name.
+    "root `8187×x`\n=refused 2",
+    "root `8188×x`\n=refused 1\nroot a.idl\n=ok",
+    // What is there already goes past no limit.
+    "`4096×put f@ 0\n=ok\n`put f0 0\n=refused 5\nput f1 0\n=ok",
+    "`256×root f@\n=ok\n`root f0\n=refused 5\nroot f1\n=refused 8",
+    "`4096×define f@ x\n=ok\n`define f0 x\n=refused 5\ndefine f1 x\n=ok",
+    // Files are entered to a depth of 64.
+    "put f0.idl 1\n`62×#include \"f@.idl\"\n=ok\nput f@.idl 1\n`#include \"f63.idl\"\n=ok\nput f63.idl 0\n=ok\nroot f0.idl\n\
+     =ok\ndiagnostics f0.idl\n=rows 0\nput f64.idl 0\n=ok\nput f63.idl 1\n#include \"f64.idl\"\n=ok\ndiagnostics f0.idl\n\
+     =rows 1\n=f63.idl:1: E19",
+    // A file of many lines behind a guard costs a look-up each time but the first.
+    "put g.idl 50000\n#ifndef G\n#define G`49997×\n;`\n#endif\n=ok\nput f.idl 10000`10000×\n#include \"g.idl\"`\n=ok\n\
+     root f.idl\n=ok\nabsent f.idl\n=rows 0",
+];
+
+static REPLACEMENTS: [&str; 2] = [
+    // Thirty macros, each replaced by two of the next, make more than a million replacements, and nineteen make less.
+    "#define M0`29× M@ M@\n#define M@`\nM0\n=a:31: E19",
+    "#define M0`18× M@ M@\n#define M@`\nM0",
+];
+
+static TURNS: [&str; 2] = [
+    // A million tokens are those of a condition.
+    "#define M0`5× M@ M@ M@ M@ M@ M@ M@ M@ M@ M@\n#define M@` 1 1 1 1 1 1 1 1 1 1\n#if M0\n#endif\n;\n\
+     =a:7: E18 if\n=a:9: E19",
+    // Six turns are directives, and the others replacements; the last directive is one more than a million.
+    "#define M0`5× M@ M@ M@ M@ M@ M@ M@ M@ M@ M@\n#define M@`\n\
+     `8×M0 ``9×M1 ``9×M2 ``9×M3 ``9×M4 ``10×M5 `\n#\n=a:8: E19",
+];
+
+static GROUPS: [&str; 2] = [
+    "`90000×#if 1\n`typedef long X;`90000×\n#endif`\n=typedef long X;",
+    "`90000×#if 1\n`typedef long X;`89999×\n#endif`\n#else\n=a:1: E13 if",
+];
+
+// A chain of macros, each of which is replaced by the next, and parentheses in one another.
+static DEPTHS: [&str; 2] = [
+    "#define M0`99999× M@\n#define M@` X\ntypedef long M0;\n=typedef long X;",
+    "#if \\`10000×\n((((((((((\\`\n1\\`10000×\n))))))))))\\`\n\n#error taken\n#endif\n=a:20004: E16 error taken",
+];
 
 #[test]
-fn files_roots_and_macros_are_bounded(rt: HostRuntime) -> Result<(), Fail> {
-    for (word, rest, count, last) in &[
-        ("put", " 0", 4096, "refused 5\nok\n"),
-        ("root", "", 256, "refused 5\nrefused 8\n"),
-        ("define", " x", 4096, "refused 5\nok\n"),
-    ] {
-        let script = numbered(rt.alloc(), word, rest, *count)?;
-        let want = repeated(rt.alloc(), "", "ok\n", *count, last)?;
-        has_replies(&rt, script.as_str(), want.as_str())?;
-    }
-    Ok(())
+fn the_lines_of_a_file_are_bounded(rt: HostRuntime) -> Result<(), Fail> {
+    have_replies(&rt, &LINES)
 }
 
-// Commands about so many names and one more, and then about the first, which goes past no limit.
-fn numbered(alloc: Global, word: &str, rest: &str, count: usize) -> Result<String, AllocError> {
-    let mut text = String::new(alloc);
-    for i in 0..=count {
-        text.push_str(format!(in alloc; "{word} f{i}{rest}\n")?.as_str())?;
-    }
-    text.push_str(format!(in alloc; "{word} f0{rest}\n")?.as_str())?;
-    Ok(text)
+#[test]
+fn commands_and_projects_are_bounded(rt: HostRuntime) -> Result<(), Fail> {
+    have_replies(&rt, &COMMANDS)
 }
 
-// Nineteen macros, each replaced by two of the next, make half a million replacements, and twenty more than a million.
 #[test]
 fn the_replacements_of_a_root_are_bounded(rt: HostRuntime) -> Result<(), Fail> {
-    for (height, last, want) in &[
-        (20, "#define M20\nM1", "rows 1\na.idl:21: E19\nrows 0\n"),
-        (19, "#define M19\nM1", "rows 0\nrows 0\n"),
-    ] {
-        let mut text = tower(rt.alloc(), *height, 2)?;
-        text.push_str(last)?;
-        has_rows(&rt, text.as_str(), want)?;
-    }
-    Ok(())
+    have_rows(&rt, &REPLACEMENTS)
 }
 
-// A million of them are those of a condition.
 #[test]
-fn the_tokens_of_a_root_are_bounded(rt: HostRuntime) -> Result<(), Fail> {
-    let mut text = tower(rt.alloc(), 6, 10)?;
-    text.push_str("#define M6 1 1 1 1 1 1 1 1 1 1\n#if M1\n#endif\n;")?;
-    let want = "rows 2\na.idl:7: E18 if\na.idl:9: E19\nrows 0\n";
-    has_rows(&rt, text.as_str(), want)
+fn the_tokens_and_turns_of_a_root_are_bounded(rt: HostRuntime) -> Result<(), Fail> {
+    have_rows(&rt, &TURNS)
 }
 
-// Six are directives, and the others replacements; the last directive is one more than a million.
 #[test]
-fn the_turns_of_a_root_are_bounded(rt: HostRuntime) -> Result<(), Fail> {
-    let mut text = tower(rt.alloc(), 6, 10)?;
-    text.push_str("#define M6\nM1 M1 M1 M1 M1 M1 M1 M1 M2 M2 M2 M2 M2 M2 M2 M2 M2 ")?;
-    text.push_str("M3 M3 M3 M3 M3 M3 M3 M3 M3 M4 M4 M4 M4 M4 M4 M4 M4 M4 ")?;
-    text.push_str("M5 M5 M5 M5 M5 M5 M5 M5 M5 M6 M6 M6 M6 M6 M6 M6 M6 M6 M6\n#")?;
-    has_rows(&rt, text.as_str(), "rows 1\na.idl:8: E19\nrows 0\n")
+fn groups_stand_in_one_another_to_any_depth(rt: HostRuntime) -> Result<(), Fail> {
+    have_rows(&rt, &GROUPS)
+}
+
+#[test]
+fn replacements_and_parentheses_do_so_too(rt: HostRuntime) -> Result<(), Fail> {
+    have_rows(&rt, &DEPTHS)
 }

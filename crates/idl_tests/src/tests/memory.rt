@@ -32,37 +32,21 @@ static EDITS: [&str; 16] = [
 #[test]
 fn an_edit_that_was_refused_memory_is_accepted_later(rt: HostRuntime) -> Result<(), Fail> {
     let mut session = Session::new(rt.alloc());
-    are_made(&rt, &mut session)
-}
-
-fn are_made(rt: &(impl Abort + AllocGlobal), session: &mut Session) -> Result<(), Fail> {
     for edit in &EDITS {
-        is_made(rt, session, edit)?;
+        is_made(&rt, &mut session, edit)?;
     }
     let want = "rows 1\na.idl:1: E10 <b.idl>\nrows 0\nrows 0\nrefused 7\nrefused 7\nrefused 7\n";
-    answers(rt, session, QUERIES, want.as_bytes())
+    answers(&rt, &mut session, QUERIES, want.as_bytes())
 }
 
 // The edit is accepted, or refused memory; then it changed nothing, and is accepted when it is asked again.
 fn is_made(rt: &(impl Abort + AllocGlobal), session: &mut Session, edit: &str) -> Result<(), Fail> {
     let before = replies(rt.alloc(), session, QUERIES)?;
-    if is_accepted(rt, session, edit)? {
-        return Ok(());
-    }
-    answers(rt, session, QUERIES, before.as_bytes())?;
-    answers(rt, session, edit, b"ok\n")
-}
-
-// Whether the edit is accepted, or else refused memory.
-fn is_accepted(
-    rt: &(impl Abort + AllocGlobal),
-    session: &mut Session,
-    edit: &str,
-) -> Result<bool, Fail> {
     let reply = replies(rt.alloc(), session, edit)?;
     if reply.as_bytes() == b"ok\n".as_slice() {
-        return Ok(true);
+        return Ok(());
     }
     assert_eq!(rt; reply.as_bytes(), b"refused 9\n".as_slice(), "{edit}");
-    Ok(false)
+    answers(rt, session, QUERIES, before.as_bytes())?;
+    answers(rt, session, edit, b"ok\n")
 }

@@ -5,33 +5,26 @@ use idl_source::Refusal;
 use std::test::Fail;
 
 #[test]
-fn refusals_have_words(rt: HostRuntime) -> Result<(), Fail> {
-    for (refusal, words) in &[
-        (Refusal::Malformed, "malformed command"),
-        (Refusal::BadName, "name not allowed"),
-        (Refusal::NoSuchFile, "no such file"),
-        (Refusal::OutsideFile, "lines outside the file"),
-        (Refusal::OverLimit, "over a limit"),
-        (Refusal::BadMacro, "macro not allowed"),
-        (Refusal::NoSuchRoot, "no such root"),
-        (Refusal::RootThere, "root already there"),
-        (Refusal::NoMemory, "no memory"),
-        (Refusal::Unfinished, "input ended inside a command"),
+fn refusals_and_stops_have_words(rt: HostRuntime) -> Result<(), Fail> {
+    let mut said = String::new(rt.alloc());
+    for refusal in &[
+        Refusal::Malformed,
+        Refusal::BadName,
+        Refusal::NoSuchFile,
+        Refusal::OutsideFile,
+        Refusal::OverLimit,
+        Refusal::BadMacro,
+        Refusal::NoSuchRoot,
+        Refusal::RootThere,
+        Refusal::NoMemory,
+        Refusal::Unfinished,
     ] {
-        let shown = format!(in rt.alloc(); "{refusal}")?;
-        assert_eq!(rt; shown.as_str(), *words);
+        write!(said, "{refusal};")?;
     }
-    Ok(())
-}
-
-#[test]
-fn stops_have_words(rt: HostRuntime) -> Result<(), Fail> {
-    for (stop, words) in &[
-        (Stop::ReadFailed, "read failed"),
-        (Stop::WriteFailed, "write failed"),
-    ] {
-        let shown = format!(in rt.alloc(); "{stop}")?;
-        assert_eq!(rt; shown.as_str(), *words);
-    }
+    write!(said, "{};{}", Stop::ReadFailed, Stop::WriteFailed)?;
+    let want =
+        "malformed command;name not allowed;no such file;lines outside the file;over a limit;macro not allowed;\
+         no such root;root already there;no memory;input ended inside a command;read failed;write failed";
+    assert_eq!(rt; said.as_str(), want);
     Ok(())
 }

@@ -1,4 +1,4 @@
-//! What the tests share: files, long texts, and the replies of a session.
+//! What the tests share: texts with repeated pieces, scripts with their replies, files with their rows.
 
 ghost use Rattle.std.specs.Prelude.{◌≡◌, IfOk};
 
@@ -23,34 +23,54 @@ pub fn file_of(alloc: Global, text: &str) -> Result<File, AllocError> {
     File::new(alloc, lines)
 }
 
-/// So many equal pieces between a head and a tail.
-pub fn repeated(
-    alloc: Global,
-    head: &str,
-    piece: &str,
-    count: usize,
-    tail: &str,
-) -> Result<String, AllocError> {
-    let mut text = String::new(alloc);
-    text.push_str(head)?;
-    for _ in 0..count {
-        text.push_str(piece)?;
+/// The text, in which `` `3×a@;` `` stands for `a1;a2;a3;`.
+pub fn in_full(alloc: Global, text: &str) -> Result<String, AllocError> {
+    let mut full = String::new(alloc);
+    for part in text.split('`') {
+        match part.split_once('×') {
+            Some((count, piece)) => push_times(&mut full, count.parse().unwrap_or(0), piece)?,
+            None => full.push_str(part)?,
+        }
     }
-    text.push_str(tail)?;
-    Ok(text)
+    Ok(full)
 }
 
-/// The definitions of macros `M1` and so on, a line each: a body is the next macro so many times.
-pub fn tower(alloc: Global, height: usize, times: usize) -> Result<String, AllocError> {
-    let mut text = String::new(alloc);
-    for n in 1..height {
-        write!(text, "#define M{n}")?;
-        for _ in 0..times {
-            write!(text, " M{}", n + 1)?;
+fn push_times(text: &mut String, count: usize, piece: &str) -> Result<(), AllocError> {
+    for n in 1..=count {
+        match piece.contains('@') {
+            false => text.push_str(piece)?,
+            true => push_numbered(text, n, piece)?,
         }
-        text.push('\n')?;
     }
-    Ok(text)
+    Ok(())
+}
+
+fn push_numbered(text: &mut String, n: usize, piece: &str) -> Result<(), AllocError> {
+    for (i, part) in piece.split('@').enumerate() {
+        if i > 0 {
+            write!(text, "{n}")?;
+        }
+        text.push_str(part)?;
+    }
+    Ok(())
+}
+
+// The lines that have no `=` before them, and the others without it. Each ends with a newline.
+fn parted(alloc: Global, text: &str) -> Result<(String, String), AllocError> {
+    let mut given = String::new(alloc);
+    let mut wanted = String::new(alloc);
+    for line in in_full(alloc, text)?.as_str().split('\n') {
+        match line.strip_prefix('=') {
+            Some(line) => push_line(&mut wanted, line)?,
+            None => push_line(&mut given, line)?,
+        }
+    }
+    Ok((given, wanted))
+}
+
+fn push_line(text: &mut String, line: &str) -> Result<(), AllocError> {
+    text.push_str(line)?;
+    text.push('\n')
 }
 
 /// The replies of a session to a script.
@@ -83,19 +103,41 @@ pub fn answers(
     Ok(())
 }
 
-/// A new session has these replies to a script.
-pub fn has_replies(rt: &(impl Abort + AllocGlobal), script: &str, want: &str) -> Result<(), Fail> {
-    let mut session = Session::new(rt.alloc());
-    answers(rt, &mut session, script, want.as_bytes())
+/// A new session for each text has these replies, its lines with `=` before them, to the other lines.
+pub fn have_replies(rt: &(impl Abort + AllocGlobal), texts: &[&str]) -> Result<(), Fail> {
+    for text in texts {
+        let (script, want) = parted(rt.alloc(), text)?;
+        let mut session = Session::new(rt.alloc());
+        answers(rt, &mut session, script.as_str(), want.as_bytes())?;
+    }
+    Ok(())
 }
 
-/// A root of these lines has these diagnostics and this dump, each list with its heading.
-pub fn has_rows(rt: &(impl Abort + AllocGlobal), text: &str, want: &str) -> Result<(), Fail> {
+/// For each text a root `a` of the lines without `=` has the other lines as its rows: diagnostics, which begin with its
+/// name, or else its dump.
+pub fn have_rows(rt: &(impl Abort + AllocGlobal), texts: &[&str]) -> Result<(), Fail> {
     let alloc = rt.alloc();
-    let count = text.split('\n').count();
-    let script = format!(in alloc;
-        "put a.idl {count}\n{text}\nroot a.idl\ndiagnostics a.idl\ndump a.idl\n"
-    )?;
-    let want = format!(in alloc; "ok\nok\n{want}")?;
-    has_replies(rt, script.as_str(), want.as_str())
+    for text in texts {
+        let (lines, rows) = parted(alloc, text)?;
+        let script = script_of(alloc, lines.as_str())?;
+        let want = lists_of(alloc, rows.as_str())?;
+        let mut session = Session::new(alloc);
+        answers(rt, &mut session, script.as_str(), want.as_bytes())?;
+    }
+    Ok(())
+}
+
+fn script_of(alloc: Global, text: &str) -> Result<String, AllocError> {
+    let count = text.lines().count();
+    format!(in alloc; "put a {count}\n{text}root a\ndiagnostics a\ndump a\n")
+}
+
+// The replies to that script.
+fn lists_of(alloc: Global, rows: &str) -> Result<String, AllocError> {
+    let count = rows.lines().count();
+    if rows.starts_with("a:") {
+        format!(in alloc; "ok\nok\nrows {count}\n{rows}rows 0\n")
+    } else {
+        format!(in alloc; "ok\nok\nrows 0\nrows {count}\n{rows}")
+    }
 }

@@ -2,7 +2,7 @@ use Rattle.std.proofs.Common.{◌≡◌, sym, ap, ◌∙◌, suc, ◌+◌, ◌-�
 use Rattle.std.specs.Map.{lookup}
 use Rattle.idl_scope.specs.Facts.{answer_of, key_of, over}
 use Rattle.idl_scope.specs.Key.{key_eq}
-use Rattle.idl_scope.proofs.AnswerLemmas.{lookup-insert_entry, over-cons}
+use Rattle.idl_scope.proofs.AnswerLemmas.{over-cons}
 use Rattle.idl_scope.proofs.PlaceLemmas.{drop-at}
 use Rattle.idl_scope.proofs.state.put_all.Goals as goal
 
@@ -21,8 +21,7 @@ loop-back-preserved c =
       count = c.loop-back.invariant.count;
       within = omega arith;
       answers = λ k.
-          ap (lookup (key_eq k)) c.in_ok-insert.ensures.entries
-          ∙ lookup-insert_entry old _ _ k
+          c.in_ok-insert.ensures.each_key k
           ∙ (λ i. cond (key_eq k (c.in_ok-key.ensures i)) (Some (c.in_ok-answer.ensures i)) (lookup (key_eq k) old))
           ∙ ap (λ o. cond (key_eq k (key_of one)) (Some (answer_of one)) o) (c.loop-back.invariant.answers k)
           ∙ sym (over-cons one (drop (count - back) additions) k (lookup (key_eq k) first))

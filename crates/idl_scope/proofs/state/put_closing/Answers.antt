@@ -5,7 +5,7 @@ use Rattle.idl_scope.specs.Facts.{entity_key, over}
 use Rattle.idl_scope.specs.Key.{key_eq}
 use Rattle.idl_scope.specs.declared.addition.Addition.TheVariants.{Declares}
 use Rattle.idl_scope.specs.declared.answer.Answer.TheVariants.{Known}
-use Rattle.idl_scope.proofs.AnswerLemmas.{lookup-insert_entry, over-cons}
+use Rattle.idl_scope.proofs.AnswerLemmas.{over-cons}
 use Rattle.idl_scope.proofs.state.put_closing.Goals as goal
 
 pub returns : goal.returns
@@ -13,8 +13,7 @@ returns c = λ k.
     let e = c.in-Some.entity in
     let old = c.args.answers.now in
     let key = c.in_ok-key.ensures ∙ ap (λ x. entity_key x.path) c.get.ensures in
-    ap (lookup (key_eq k)) c.in_ok-insert.ensures.entries
-    ∙ lookup-insert_entry old _ _ k
+    c.in_ok-insert.ensures.each_key k
     ∙ (λ i. cond (key_eq k (key i)) (Some (Known (c.in_ok-entity.ensures.cases i))) (lookup (key_eq k) old))
     ∙ sym (over-cons (Declares e) [] k (lookup (key_eq k) old))
     ∙ ap (λ o. over (map Declares (option_to_list o)) k (lookup (key_eq k) old)) (sym c.in-Some.is)

@@ -1,0 +1,138 @@
+//! A list whose copies share their items.
+
+ghost use Rattle.std.specs.Prelude.{◌≡◌, ◌<◌, ◌↔◌, ◌++◌, ◌∷◌, [], IfOk, IfSome, IsNone, OnOk, OnErr, length};
+ghost use Rattle.idl_map.specs.Items.{items_of};
+
+use idl_base::Datum;
+use std::alloc::{AllocError, Global};
+use std::marker::Model;
+use std::rc::Rc;
+
+/// Items in order. To every contract it is the list of them.
+///
+/// A copy is a pointer, and so is the list before the last item. To put an item last copies no other, whether the list
+/// is shared or not.
+pub struct SharedList<T> {
+    last: Option<Rc<Node<T>>>,
+}
+
+impl<T> Model for SharedList<T> {
+    ghost use Rattle.std.specs.Prelude.{List};
+    ghost use Rattle.idl_map.specs.Items.{items_of};
+
+    ghost Value = { List T };
+
+    ghost view = { λ list. items_of list.last };
+}
+
+impl<T: Drop> Drop for SharedList<T> {
+    fn drop(self) {
+        let SharedList { last: _last } = self;
+    }
+}
+
+// An item, and the node of the one before it.
+struct Node<T> {
+    before: Option<Rc<Node<T>>>,
+    item: T,
+}
+
+impl<T> Model for Node<T> {
+    ghost use Rattle.std.specs.Prelude.{List, ◌++◌, ◌∷◌, [], length};
+    ghost use Rattle.idl_map.specs.Items.{items_of};
+
+    ghost Value = { List T };
+
+    ghost view = { λ node. items_of node.before ++ node.item ∷ [] };
+
+    ghost size = { length };
+
+    ghost use Rattle.std.proofs.Common.{arith, length-append};
+
+    ghost size_decreases = { λ a h. Prim.grind (arith, length-append) };
+}
+
+// A loop, so that a long list is dropped in little stack.
+impl<T: Drop> Drop for Node<T> {
+    fn drop(self) {
+        let mut link = self.into_before();
+        while let Some(shared) = link {
+            link = match Rc::into_inner(shared) {
+                Some(node) => node.into_before(),
+                None => None,
+            };
+        }
+    }
+}
+
+impl<T: Drop> Node<T> {
+    // Those before its item, which is dropped.
+    fn into_before(self) -> Option<Rc<Node<T>>>
+        ensures { length (items_of result) < length self }
+    {
+        let Node {
+            before,
+            item: _item,
+        } = self;
+        before
+    }
+}
+
+impl<T: Drop> SharedList<T> {
+    /// The list without items. It takes no memory.
+    pub fn new() -> SharedList<T>
+        ensures { result ≡ [] }
+    {
+        SharedList { last: None }
+    }
+
+    /// Puts an item last. Want of memory leaves the list as it was.
+    pub fn push(&mut self, alloc: Global, item: T) -> Result<(), AllocError>
+        ensures items { OnOk result (self.new ≡ self.old ++ item ∷ []) }
+        ensures err { OnErr result (self.new ≡ self.old) }
+    {
+        let before = self.last.clone()?;
+        let node = Rc::new(alloc, Node { before, item })?;
+        self.last = Some(node);
+        Ok(())
+    }
+
+    /// The list before the last item, and that item; nothing where there is none.
+    pub fn split_last(&self) -> Result<Option<(SharedList<T>, &T)>, AllocError>
+        ensures some { IfOk result (λ o. IfSome o (λ p. self.now ≡ p.0 ++ p.1.now ∷ [])) }
+        ensures none { IfOk result (λ o. IsNone o ↔ (self.now ≡ [])) }
+    {
+        let Some(node) = &self.last else {
+            return Ok(None);
+        };
+        let node: &Node<T> = node;
+        let last = node.before.clone()?;
+        Ok(Some((SharedList { last }, &node.item)))
+    }
+}
+
+impl<T: Datum> SharedList<T> {
+    /// Copies of the items in order.
+    pub fn to_vec(&self, alloc: Global) -> Result<Vec<T>, AllocError>
+        ensures { IfOk result (λ items. items.items ≡ self.now) }
+    {
+        let mut items = Vec::new(alloc);
+        let mut link = &self.last;
+        while let Some(shared) = link {
+            let node: &Node<T> = shared;
+            items.push(node.item.clone()?)?;
+            link = &node.before;
+        }
+        items.reverse();
+        Ok(items)
+    }
+}
+
+impl<T: Drop> Clone for SharedList<T> {
+    ghost is_clone = { λ list copy. copy ≡ list };
+
+    fn clone(&self) -> Result<SharedList<T>, AllocError> {
+        let last = self.last.clone()?;
+        Ok(SharedList { last })
+    }
+}
