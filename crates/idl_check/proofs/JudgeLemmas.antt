@@ -1,5 +1,8 @@
 -- The three steps of a verdict, run.
 use Rattle.std.proofs.Common.{◌≡◌, ℕ, Bool, true, false, cond, List, [], ◌∷◌, ◌++◌, Option, None, Some, is_some, refl, sym, ap, ◌∙◌}
+use Rattle.std.proofs.lemmas.Option.{same_Some}
+use Rattle.std.specs.Prelude.{fold}
+use Rattle.idl_check.proofs.LeastFault.{least-none}
 use Rattle.idl_memo.specs.Query.{Ask, Done, Tell, and_then, noted, run}
 use Rattle.idl_memo.proofs.QueryLaws.{run-and_then_at}
 use Rattle.idl_check.proofs.VisitLemmas.{runs_over}
@@ -24,7 +27,7 @@ use Rattle.idl_scope.specs.declared.kind.Kind.{Kind}
 use Rattle.idl_site.specs.Item.{items}
 use Rattle.idl_site.specs.UnitParts.{unit_parts}
 use Rattle.idl_tree.specs.declared.unit.Tree.{Tree}
-use Rattle.idl_unit.specs.Faults.{least_fault}
+use Rattle.idl_unit.specs.Faults.{least_fault, lesser_fault}
 use Rattle.idl_unit.specs.TokenRules.{fault_at, token_faults}
 use Rattle.idl_unit.specs.declared.fault.Fault.{Fault}
 
@@ -59,6 +62,20 @@ module _ (bank : Key → Option Answer) (tokens : List Token) where
   pub refused_opening : (fault : Fault) (log : List (Key × Option Answer)) → is_some (opened_kind tokens) ≡ true
       → runs_over bank (refused tokens fault) log ≡ (faulty fault (faulty_step tokens), noted key_eq bank log Nameless)
   refused_opening fault log h = by_some fault (opened_kind tokens) log h
+
+-- the least of faults, with one more
+fold-more : (f g : Fault) (faults : List Fault) → fold lesser_fault f (faults ++ g ∷ []) ≡ lesser_fault (fold lesser_fault f faults) g
+fold-more f g [] = refl
+fold-more f g (h ∷ faults) = fold-more (lesser_fault f h) g faults
+
+pub least_fault-more : (faults : List Fault) (f g : Fault) → least_fault faults ≡ Some f → least_fault (faults ++ g ∷ []) ≡ Some (lesser_fault f g)
+least_fault-more [] f g h = cc
+least_fault-more (x ∷ faults) f g h = ap Some (fold-more x g faults ∙ ap (λ y. lesser_fault y g) (same_Some (fold lesser_fault x faults) f h))
+
+-- the faults of the first step, where the rules of tokens find none
+pub first_faults-opening : (tokens : List Token) (scopes : List Scope) (faults : List Fault) → least_fault (token_faults tokens) ≡ None → faults ≡ opening_faults tokens scopes
+    → first_faults tokens scopes ≡ faults
+first_faults-opening tokens scopes faults h is = λ i. least-none (token_faults tokens) h i ++ sym is i
 
 -- the steps
 pub first_step : (turns : ℕ) (tokens : List Token) (scopes : List Scope) (fault : Fault) → least_fault (first_faults tokens scopes) ≡ Some fault

@@ -34,7 +34,7 @@ use idl_memo::Log;
 use idl_scope::{Env, Facts, Key, Path, Scope, Shared, Step, View, folded_name};
 use idl_site::{Site, counting, sites, spelling};
 use idl_syntax::{SyntaxFault, UnitTree, parse};
-use idl_tree::{Tree, reading};
+use idl_tree::Tree;
 use idl_unit::{Fault, UnitText};
 use std::alloc::{AllocError, Global};
 
@@ -62,8 +62,6 @@ impl<'a> Judge<'a> {
             ≡ run key_eq (token_verdict turns self.entry.tokens.now self.entry.scopes.now)
             (answers self.entry.env.now) log.old) }
     {
-        // It does nothing: it carries the laws of what is read.
-        reading();
         match parse(self.env.alloc(), text) {
             Ok(tree) => self.with_tree(log, &tree),
             Err(SyntaxFault::Rule(fault)) => self.refused(log, self.with_opening(fault)),
@@ -107,8 +105,6 @@ impl<'a> Judge<'a> {
             ≡ run key_eq (token_verdict turns self.entry.tokens.now self.entry.scopes.now)
             (answers self.entry.env.now) log.old) }
     {
-        // It does nothing: it carries the laws of what is read.
-        reading();
         if let Some(fault) = opening_fault(self.tokens, self.scopes) {
             return self.refused(log, fault);
         }
@@ -212,7 +208,6 @@ impl<'a> Judge<'a> {
             found: walker.found.as_slice(),
         };
         let row = row_of(alloc, row_depth(unit.tree, self.scopes), unit.sites, rest)?;
-        let row = Shared::new(alloc, row)?;
         let around = path_around(alloc, self.scopes)?;
         let step = step_of(alloc, unit.tree, &around)?;
         self.ask_step(log, &step)?;
@@ -285,12 +280,8 @@ fn lesser(fault: Fault, other: Fault) -> Fault
 fn first_part<'a>(sites: &[Site<'a>]) -> Option<&'a [u8]>
     ensures { option_map (λ name. name.now) result ≡ first_part (map item_at sites.now) }
 {
-    for site in sites {
-        match site {
-            Site::Tokens(0) => {}
-            Site::Used(_, name) if !name.is_global => return Some(name.first.as_bytes()),
-            _ => return None,
-        }
+    match sites.first()? {
+        Site::Used(_, name) if !name.is_global => Some(name.first.as_bytes()),
+        _ => None,
     }
-    None
 }
