@@ -37,7 +37,7 @@ pub fn name_length(name: &ScopedName) -> usize
     requires { length (spell_name name.now) ≤ 18446744073709551615 }
     ensures { result ≡ length (spell_name name.now) }
 {
-    usize::from(name.is_global) + 1 + 2 * name.rest.len()
+    last_at(0, name) + 1
 }
 
 /// The code of what a name denotes nothing for.
