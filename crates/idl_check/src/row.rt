@@ -97,11 +97,7 @@ fn push_sites(text: &mut Vec<u8>, sites: &[Site<'_>], unit: Rest<'_>) -> Result<
 }
 
 // The words of a site, and what is left behind it.
-fn push_site<'a>(
-    text: &mut Vec<u8>,
-    site: Site<'_>,
-    rest: Rest<'a>,
-) -> Result<Rest<'a>, AllocError>
+fn push_site<'a>(text: &mut Vec<u8>, site: Site<'_>, rest: Rest<'a>) -> Result<Rest<'a>, AllocError>
     requires { item_length (item_at site) ≤ 18446744073709551615 }
     ensures { IfOk result (λ left. (sites : List SiteItem) →
         text.new.items ++ unit_text left.tokens.now sites left.found.now

@@ -9,9 +9,7 @@ ghost use Rattle.idl_unit.specs.TokenRules.{first};
 
 use crate::bases::Bases;
 use idl_event::Code;
-use idl_scope::{
-    Addition, Entity, Facts, Kind, NameCode, Scope, Stage, folded_name,
-};
+use idl_scope::{Addition, Entity, Facts, Kind, NameCode, Scope, Stage, folded_name};
 use idl_site::Use;
 use idl_tree::ScopedName;
 use std::alloc::{AllocError, Global};

@@ -1,4 +1,4 @@
-use Rattle.std.proofs.Common.{◌≡◌, ◌≤◌, ◌+◌, ◌∷◌, ◌++◌, drop, length, append_assoc, ap, sym, ◌∙◌, arith}
+use Rattle.std.proofs.Common.{◌+◌, ◌∷◌, ◌++◌, drop, length, append_assoc, ap, sym, ◌∙◌, arith}
 use Rattle.idl_check.proofs.NameLemmas.{text-length}
 use Rattle.idl_check.specs.Row.{spaced, text_word, unit_text}
 use Rattle.idl_site.specs.Item.{item_at, item_length}
