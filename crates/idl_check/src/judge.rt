@@ -32,7 +32,7 @@ use idl_event::Code;
 use idl_lex::Token;
 use idl_memo::Log;
 use idl_scope::{Env, Facts, Key, Path, Scope, Shared, Step, View, folded_name};
-use idl_site::{Site, counting, sites, spelling};
+use idl_site::{Site, sites};
 use idl_syntax::{SyntaxFault, UnitTree, parse};
 use idl_tree::Tree;
 use idl_unit::{Fault, UnitText};
@@ -135,9 +135,8 @@ impl<'a> Judge<'a> {
             ≡ run key_eq (by_names turns self.entry.tokens.now self.entry.scopes.now tree.now)
             (answers self.entry.env.now) log.old) }
     {
-        // They do nothing: they carry the laws of sites.
-        spelling();
-        counting();
+        // A word counts the tokens, and so the tokens of the sites.
+        let _count = self.tokens.len();
         let sites = sites(self.env.alloc(), tree)?;
         if is_misplaced(tree, self.scopes) {
             return self.misplaced(log, sites.as_slice());
