@@ -1,5 +1,5 @@
 -- Commands in order, the replies to them, and where a failure leaves both.
-use Rattle.std.proofs.Common.{◌≡◌, ◌∷◌, ◌++◌, ◌∙◌, ◌<◌, ◌≤◌, Bool, true, false, cond, eqb, ℕ, List, [], Option, Some, None, IfSome, length, take, drop, sym, ap, refl, arith, subst, inl, inr, append_assoc, zero, suc}
+use Rattle.std.proofs.Common.{◌≡◌, ◌∷◌, ◌++◌, ◌∙◌, ◌<◌, ◌≤◌, true, false, cond, eqb, ℕ, List, [], Option, Some, None, IfSome, length, take, drop, sym, ap, refl, arith, subst, inl, inr, append_assoc, zero, suc}
 use Rattle.std.specs.List.{filter}
 use Rattle.std.specs.Option.{option_map}
 use Rattle.std.proofs.lemmas.Bool.{cases_lt}
@@ -14,7 +14,7 @@ use Rattle.idl_session.specs.Requests.{Request, lines_taken, request_kept, reque
 use Rattle.idl_session.specs.Requests as request
 use Rattle.idl_session.specs.Serving.{Standing, Serves, SendsReply, IsCut, Served, TakesCommands, commands_left, moment_of, to_come}
 use Rattle.idl_session.specs.Stopping.{Moment, IsLeft}
-use Rattle.idl_session.specs.Streams.{Fed, Stream, TakesLine, TakesLines, TakesWhole, FailsWithin, IsTakenBy, IsAtEnd, IsOver, onto, unread}
+use Rattle.idl_session.specs.Streams.{Stream, TakesLine, TakesLines, FailsWithin, IsTakenBy, IsOver, onto, unread}
 use Rattle.idl_session.specs.declared.stop.Stop.{Stop}
 use Rattle.idl_session.specs.declared.stop.Stop.TheVariants.{ReadFailed, WriteFailed}
 use Rattle.idl_session.proofs.ReplyLemmas.{append-none}

@@ -1,5 +1,5 @@
 -- What one request does.
-use Rattle.std.proofs.Common.{◌≡◌, ◌<◌, ◌∙◌, ℕ, List, [], Result, Ok, Err, arith, subst, sym}
+use Rattle.std.proofs.Common.{◌≡◌, ◌<◌, ℕ, List, [], Result, Ok, Err, arith, subst, sym}
 use Rattle.std.specs.Result.{IfErr}
 use Rattle.idl_source.specs.Device.{WritesPart}
 use Rattle.idl_session.specs.Answers.{Answers}

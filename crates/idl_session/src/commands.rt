@@ -31,7 +31,9 @@ use idl_workspace::Session;
 /// All else is a malformed command, and so is a line of more than [`MAX_COMMAND`](crate::MAX_COMMAND) bytes. The lines that a `put` or a `splice`
 /// announces are taken where it is refused, too.
 ///
-/// Each reply has gone out whole before the next line is read. Memory is taken by edits alone, and not by `unroot`.
+/// Each reply has gone out whole before the next command is served, and before anything more is read. The first failure of
+/// a device ends the run, and neither device is called after that: see [`Stop`]. Nothing is read once the source has told
+/// its end. Memory is taken by edits alone, and not by `unroot`.
 pub fn run<S: Source, K: Sink>(
     session: &mut Session,
     source: &mut S,

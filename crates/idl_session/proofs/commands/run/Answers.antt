@@ -1,4 +1,4 @@
-use Rattle.std.proofs.Common.{◌≡◌, ◌∙◌, [], false, List, ℕ, Option, IfErr, IfSome, rules, refl, subst, sym}
+use Rattle.std.proofs.Common.{◌≡◌, ◌∙◌, IfErr, IfSome, rules, refl, subst, sym}
 use Rattle.std.proofs.lemmas.Result.{IfErr-weaker}
 use Rattle.idl_session.specs.Serving.{Standing, Served, moment_of}
 use Rattle.idl_session.specs.Stopping.{Moment, IsLeft}

@@ -1,5 +1,4 @@
 use Rattle.std.proofs.Common.{◌∙◌, arith}
-use Rattle.std.proofs.lemmas.Result.{on_err_weaker}
 use Rattle.idl_session.proofs.ReplyLemmas.{on_err}
 use Rattle.idl_session.proofs.StreamLemmas.{reading-more, reading-newline, reading-end, reading-fails}
 use Rattle.idl_session.proofs.line_buffer.read_line.Goals as goal
