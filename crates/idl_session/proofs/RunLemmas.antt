@@ -236,7 +236,7 @@ left_read (Some input) before s mid new bytes done taken none same still =
       front.1 ∙ ap (λ (cs : List Command). cs ++ front.0) (sym commands),
       same ∙ done.written,
       subst (λ (t : State). Replies s (complete_commands (d.bytes ++ bytes)) done.output t) (sym still)
-      (subst (λ (cs : List Command). Replies s cs done.output mid.state) (sym commands) done.replies),
+          (subst (λ (cs : List Command). Replies s cs done.output mid.state) (sym commands) done.replies),
     )
 
 -- a read failed in a command line
@@ -262,7 +262,7 @@ left-cut WriteFailed (Some input) before s mid next new held done took same stil
     let c = command_of (request_kept held) serves.lines in
     let old = start (Some input) before s in
     let front = some_front (commands_of input) (done.commands ++ c ∷ []) (commands_left new)
-        (taken-more (commands_left old) (commands_left mid) (commands_left new) done.commands c done.taken (next_command mid next new held cut.0 took serves)) in (
+    (taken-more (commands_left old) (commands_left mid) (commands_left new) done.commands c done.taken (next_command mid next new held cut.0 took serves)) in (
       done.commands,
       c,
       front.0,
