@@ -60,7 +60,7 @@ commands-lines None = refl
 commands-lines (Some bytes) = refl
 
 -- a request with the lines that it announced is a command that has them
-whole_command : (r : Request) (lines : List (List ℕ)) → length lines ≡ lines_taken r → has_its_lines (command_of r lines) ≡ true
+pub whole_command : (r : Request) (lines : List (List ℕ)) → length lines ≡ lines_taken r → has_its_lines (command_of r lines) ≡ true
 whole_command request.Malformed lines same = refl
 whole_command (request.Place edit count) lines same =
     let e : eqb (length lines) count ≡ true = grind (arith, nat_tests) in
@@ -87,14 +87,16 @@ complete_command line lines bytes rest cut same =
     ∙ ap (λ t. cond t (c ∷ complete_commands rest) (complete_commands rest)) (whole_command (request_of line) lines same)
 
 -- a line and some of the lines that its request takes are none
-no_command : (line : List ℕ) (bytes : List ℕ) (lines : List (List ℕ)) → whole_lines bytes ≡ line ∷ lines → length lines < lines_taken (request_of line) → complete_commands bytes ≡ []
-no_command line bytes lines cut less =
+pub short_of_lines : (line : List ℕ) (lines : List (List ℕ)) → length lines < lines_taken (request_of line) → filter has_its_lines (commands_after 0 (line ∷ lines)) ≡ []
+short_of_lines line lines less =
     let n = lines_taken (request_of line) in
     let c = command_of (request_of line) (take n lines) in
-    ap (λ (ls : List (List ℕ)). filter has_its_lines (commands_after 0 ls)) cut
-    ∙ ap (λ t. cond t (c ∷ filter has_its_lines (commands_after n lines)) (filter has_its_lines (commands_after n lines)))
+    ap (λ t. cond t (c ∷ filter has_its_lines (commands_after n lines)) (filter has_its_lines (commands_after n lines)))
     (ap (λ (ls : List (List ℕ)). has_its_lines (command_of (request_of line) ls)) (take_all n lines (omega (arith, less))) ∙ short_command (request_of line) lines less)
     ∙ ap (filter has_its_lines) (commands_after-drop n lines ∙ ap (commands_after 0) (drop_all n lines (omega (arith, less))))
+
+no_command : (line : List ℕ) (bytes : List ℕ) (lines : List (List ℕ)) → whole_lines bytes ≡ line ∷ lines → length lines < lines_taken (request_of line) → complete_commands bytes ≡ []
+no_command line bytes lines cut less = ap (λ (ls : List (List ℕ)). filter has_its_lines (commands_after 0 ls)) cut ∙ short_of_lines line lines less
 
 none : (lines : List (List ℕ)) → length lines < 1 → lines ≡ []
 none [] less = refl

@@ -9,6 +9,7 @@ mod commands;
 mod edit;
 mod feed;
 mod heading;
+mod laws;
 mod line_buffer;
 mod reply;
 mod rows;
@@ -16,6 +17,7 @@ mod serve;
 mod stop;
 
 pub use commands::run;
+pub use laws::complete_commands;
 pub use idl_source::{
     BufferSink, Line, Name, ReadFailed, Refusal, Sink, SliceSource, Source, WriteFailed,
 };

@@ -151,28 +151,22 @@ fn have_stops(rt: &(impl Abort + AllocGlobal), commands: &str) -> Result<(), Fai
     leaves(rt, script, (script.len(), NEVER, true), want)
 }
 
-#[test]
-fn short_scripts_stop_where_a_device_fails(rt: HostRuntime) -> Result<(), Fail> {
-    have_stops(&rt, "put a.idl 3\ntypedef long X;\ntypedef short X;\n=refused 10")?;
-    have_stops(
-        &rt,
-        "put a.idl 2\ntypedef long X;\ntypedef short X;\n=ok|root a.idl\n=ok|diagnostics a.idl\n=rows 1\n=a.idl:2: E33 X",
-    )?;
-    have_stops(
-        &rt,
-        "put a.idl 2\ntypedef long X;\ntypedef short X;\n=ok|root a.idl\n=ok|diagnostics a.idl\n=rows 1\n\
-         =a.idl:2: E33 X|dump a.idl\n=rows 0|splice a.idl 2 1 0\n=ok|dump a.idl\n=rows 1\n=typedef long X;",
-    )
-}
+static SCRIPTS: [&str; 4] = [
+    "put a.idl 2\ntypedef long X;\ntypedef short X;\n=ok|root a.idl\n=ok|diagnostics a.idl\n=rows 1\n=a.idl:2: E33 X",
+    "put a.idl 2\ntypedef long X;\ntypedef short X;\n=ok|root a.idl\n=ok|diagnostics a.idl\n=rows 1\n\
+     =a.idl:2: E33 X|dump a.idl\n=rows 0|splice a.idl 2 1 0\n=ok|dump a.idl\n=rows 1\n=typedef long X;",
+    "put a.idl 3\ntypedef long X;\ntypedef short X;\n=refused 10",
+    "put a.idl 4\n#include \"b.idl\"\n#ifdef Q\ntypedef long X;\n#endif\n=ok|root a.idl\n=ok|search d\n=ok|\
+     absent a.idl\n=rows 2\n=b.idl\n=d/b.idl|put d/b.idl 1\ntypedef long X;\n=ok|dump a.idl\n=rows 1\n\
+     =typedef long X;|define Q 1\n=ok|diagnostics a.idl\n=rows 1\n=a.idl:3: E33 X|splice a.idl 1 1 1\n\n=ok|\
+     undef Q\n=ok|dump a.idl\n=rows 0|remove d/b.idl\n=ok|root a.idl\n=refused 8|unroot a.idl\n=ok|dump a.idl\n\
+     =refused 7|\n=refused 1|put a//b 1\nroot c.idl\n=refused 2|define R\n=ok",
+];
 
 #[test]
-fn all_commands_stop_where_a_device_fails(rt: HostRuntime) -> Result<(), Fail> {
-    have_stops(
-        &rt,
-        "put a.idl 4\n#include \"b.idl\"\n#ifdef Q\ntypedef long X;\n#endif\n=ok|root a.idl\n=ok|search d\n=ok|\
-         absent a.idl\n=rows 2\n=b.idl\n=d/b.idl|put d/b.idl 1\ntypedef long X;\n=ok|dump a.idl\n=rows 1\n\
-         =typedef long X;|define Q 1\n=ok|diagnostics a.idl\n=rows 1\n=a.idl:3: E33 X|splice a.idl 1 1 1\n\n=ok|\
-         undef Q\n=ok|dump a.idl\n=rows 0|remove d/b.idl\n=ok|root a.idl\n=refused 8|unroot a.idl\n=ok|dump a.idl\n\
-         =refused 7|\n=refused 1|put a//b 1\nroot c.idl\n=refused 2|define R\n=ok",
-    )
+fn runs_stop_where_a_device_fails(rt: HostRuntime) -> Result<(), Fail> {
+    for script in &SCRIPTS {
+        have_stops(&rt, script)?;
+    }
+    Ok(())
 }
