@@ -39,6 +39,6 @@ abbrev pub has_its_lines : Command → Bool
 has_its_lines Unfinished = false
 has_its_lines command = true
 
--- the complete commands of a text that may go on: those of its whole lines that have all their lines
+-- the complete commands of a text that may go on: those of its whole lines that have their lines
 abbrev pub complete_commands : List ℕ → List Command
 complete_commands bytes = filter has_its_lines (commands_after 0 (whole_lines bytes))

@@ -74,8 +74,12 @@ impl Sink for Writes {
 
 const NEVER: usize = usize::MAX;
 
-const ASKED: &str = "diagnostics a.idl\nroot a.idl\ndiagnostics a.idl\ndump a.idl\nabsent a.idl\nroot d/b.idl\n\
-                     dump d/b.idl\nroot c.idl\n";
+const READ: Option<Stop> = Some(Stop::ReadFailed);
+
+const WRITE: Option<Stop> = Some(Stop::WriteFailed);
+
+const ASKED: &str =
+    "dump a.idl\nroot a.idl\ndiagnostics a.idl\ndump a.idl\nabsent a.idl\nroot d/b.idl\ndump d/b.idl\nroot c.idl\n";
 
 // Where a read or a write fails after so many, and devices are slow or not, a run of a script stops so, has written
 // these bytes, and leaves what a run of these commands does.
@@ -98,9 +102,10 @@ fn leaves(
         left: writes,
         failures: 0,
     };
-    assert_eq!(rt; run(&mut session, &mut source, &mut sink).err(), stop, "{script}");
-    assert_eq!(rt; source.failures, u64::from(stop == Some(Stop::ReadFailed)));
-    assert_eq!(rt; sink.failures, u64::from(stop == Some(Stop::WriteFailed)));
+    let found = run(&mut session, &mut source, &mut sink).err();
+    assert_eq!(rt; found, stop, "{script}");
+    assert_eq!(rt; source.failures, u64::from(stop == READ));
+    assert_eq!(rt; sink.failures, u64::from(stop == WRITE));
     assert_eq!(rt; sink.bytes.as_slice(), out, "{script}");
     let mut other = Session::new(rt.alloc());
     let _replies = replies(rt.alloc(), &mut other, done)?;
@@ -128,25 +133,25 @@ fn have_stops(rt: &(impl Abort + AllocGlobal), commands: &str) -> Result<(), Fai
     let (script, replies) = (script.as_str(), replies.as_bytes());
     leaves(rt, script, (NEVER, NEVER, true), (None, replies, script))?;
     leaves(rt, script, (NEVER, NEVER, false), (None, replies, script))?;
-    leaves(rt, script, (0, NEVER, false), (Some(Stop::ReadFailed), b"", ""))?;
+    leaves(rt, script, (0, NEVER, false), (READ, b"", ""))?;
     let (mut done, mut gone) = first(alloc, commands, 0)?;
     for i in 0..commands.split('|').count() {
         let (next, more) = first(alloc, commands, i.saturating_add(1))?;
         for k in done.len()..next.len() {
-            let want = (Some(Stop::ReadFailed), gone.as_bytes(), done.as_str());
+            let want = (READ, gone.as_bytes(), done.as_str());
             leaves(rt, script, (k, NEVER, true), want)?;
         }
         for k in gone.len()..more.len() {
             let out = replies.get(..k).ok_or("short")?;
-            leaves(rt, script, (NEVER, k, true), (Some(Stop::WriteFailed), out, next.as_str()))?;
+            leaves(rt, script, (NEVER, k, true), (WRITE, out, next.as_str()))?;
         }
-        let want = (Some(Stop::WriteFailed), gone.as_bytes(), next.as_str());
+        let want = (WRITE, gone.as_bytes(), next.as_str());
         leaves(rt, script, (NEVER, i, false), want)?;
         if !more.as_str().ends_with("refused 10\n") {
             (done, gone) = (next, more);
         }
     }
-    let want = (Some(Stop::ReadFailed), gone.as_bytes(), done.as_str());
+    let want = (READ, gone.as_bytes(), done.as_str());
     leaves(rt, script, (1, NEVER, false), want)?;
     leaves(rt, script, (script.len(), NEVER, true), want)
 }

@@ -105,7 +105,9 @@ fn literals_have_these_values(rt: HostRuntime) -> Result<(), Fail> {
         let (spelling, want) = row.split_once('=').unwrap_or((row, "none"));
         let mut shown = String::new(rt.alloc());
         match decode(rt.alloc(), spelling.as_bytes())? {
-            Some(value) => for unit in value.as_slice() { write!(shown, "{unit},")?; },
+            Some(value) => for unit in value.as_slice() {
+                write!(shown, "{unit},")?;
+            },
             None => shown.push_str("none")?,
         }
         assert_eq!(rt; shown.as_str(), want, "{spelling}");

@@ -64,12 +64,8 @@ static MALFORMED: &str =
 #[test]
 fn malformed_commands_are_refused(rt: HostRuntime) -> Result<(), Fail> {
     let want = "refused 1\n".repeat(rt.alloc(), MALFORMED.split('\n').count())?;
-    answers(
-        &rt,
-        &mut Session::new(rt.alloc()),
-        MALFORMED,
-        want.as_bytes(),
-    )
+    let mut session = Session::new(rt.alloc());
+    answers(&rt, &mut session, MALFORMED, want.as_bytes())
 }
 
 #[test]
