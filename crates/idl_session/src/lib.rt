@@ -17,13 +17,13 @@ mod serve;
 mod stop;
 
 pub use commands::run;
-pub use laws::complete_commands;
 pub use idl_source::{
     BufferSink, Line, Name, ReadFailed, Refusal, Sink, SliceSource, Source, WriteFailed,
 };
 pub use idl_workspace::{
     MAX_BODY, MAX_DIRECTORIES, MAX_MACROS, MAX_ROOTS, Row, Session, Span, Work,
 };
+pub use laws::complete_commands;
 pub use stop::Stop;
 
 /// Bytes that a command line has at most.
