@@ -1,11 +1,11 @@
 -- Lines that are gathered.
-use Rattle.std.proofs.Common.{◌≡◌, ◌+◌, ◌∷◌, ◌++◌, ◌∙◌, Bool, true, false, cond, leb, ℕ, List, [], Option, Some, None, length, ap, refl, arith, length-append}
-use Rattle.idl_source.specs.Device.{prepend}
-use Rattle.idl_session.proofs.StreamLemmas.{prepend-none, prepend-prepend}
+use Rattle.std.proofs.Common.{◌≡◌, ◌<◌, ◌+◌, ◌∷◌, ◌++◌, ◌∙◌, Bool, true, false, cond, leb, ℕ, List, [], Option, Some, None, length, ap, refl, arith, subst, sym, length-append}
+use Rattle.idl_session.proofs.StreamLemmas.{lines-none, lines-more, lines-end}
 use Rattle.idl_session.specs.declared.announced.Announced.{Announced}
 use Rattle.idl_session.specs.Lines.{line_within}
-use Rattle.idl_session.specs.Streams.{TakesLine}
-use Rattle.idl_session.specs.Announced.{IsGathered, IsGathering}
+use Rattle.idl_session.specs.Streams.{Stream, IsOver, TakesLine}
+use Rattle.idl_session.specs.Announced.{IsGathered, IsGathering, IsAnnounced, TakesAnnounced}
+use Rattle.idl_session.specs.declared.announced.Announced.TheVariants as announced
 
 kept_some : (t : Bool) (line next : List ℕ) → Some line ≡ cond t (Some next) None → line ≡ next
 kept_some true line next e = cc
@@ -15,16 +15,44 @@ kept_some false line next e = absurd (cc)
 pub line_within-some : (n : ℕ) (line next : List ℕ) → Some line ≡ line_within n next → line ≡ next
 line_within-some n line next e = kept_some (leb (length next) n) line next e
 
-pub gathering-none : (count : ℕ) (left : Option (List (List ℕ))) (announced : Announced) → IsGathered count [] announced → IsGathering count 0 left left announced
-gathering-none count left announced is = record { lines = []; taken = prepend-none left; many = refl; is = is }
+pub gathering-none : (count : ℕ) (left : Stream) (gathered : Announced) → IsGathered count [] gathered → IsGathering count 0 left left gathered
+gathering-none count left gathered is = record { lines = []; taken = lines-none left; many = refl; is = is }
 
-pub gathering-more : (count i : ℕ) (old mid new : Option (List (List ℕ))) (held o : Option (List ℕ)) (announced after : Announced)
-    → IsGathering count i old mid announced → TakesLine 4096 mid new held → o ≡ held
-    → ((k : ℕ) (lines : List (List ℕ)) (next : List ℕ) → o ≡ line_within 4096 next → IsGathered k lines announced → IsGathered k (lines ++ next ∷ []) after)
+pub gathering-more : (count i : ℕ) (old mid new : Stream) (held o : Option (List ℕ)) (gathered after : Announced)
+    → IsGathering count i old mid gathered → TakesLine 4096 mid new held → o ≡ held
+    → ((k : ℕ) (lines : List (List ℕ)) (next : List ℕ) → o ≡ line_within 4096 next → IsGathered k lines gathered → IsGathered k (lines ++ next ∷ []) after)
     → IsGathering count (i + 1) old new after
-gathering-more count i old mid new held o announced after g took same more = record {
+gathering-more count i old mid new held o gathered after g took same more = record {
   lines = g.lines ++ took.0 ∷ [];
-  taken = g.taken ∙ ap (prepend g.lines) took.1.0 ∙ prepend-prepend new g.lines (took.0 ∷ []);
+  taken = lines-more old mid new g.lines (took.0 ∷ []) g.taken took.1;
   many = omega (arith, length-append g.lines (took.0 ∷ []), g.many);
-  is = more count g.lines took.0 (same ∙ took.1.1) g.is;
+  is = more count g.lines took.0 (same ∙ took.2) g.is;
+}
+
+-- the input ended before the last line
+pub announced-end : (count i : ℕ) (old mid new : Stream) (gathered : Announced) → IsGathering count i old mid gathered → i < count → new ≡ record mid { ended = true } → IsOver mid.bytes
+    → TakesAnnounced count old new announced.Unfinished
+announced-end count i old mid new gathered g less same over = record {
+  lines = g.lines;
+  taken = lines-end old mid new g.lines g.taken same;
+  enough = (
+    omega (arith, g.many, less),
+    λ _. (ap (λ (s : Stream). s.ended) same, subst (λ (s : Stream). IsOver s.bytes) (sym same) over),
+  );
+  is = omega (arith, g.many, less);
+}
+
+announced_is : (count : ℕ) (lines : List (List ℕ)) (gathered : Announced) → IsGathered count lines gathered → length lines ≡ count → IsAnnounced count lines gathered
+announced_is count lines (announced.Whole whole) is many = (is, many)
+announced_is count lines announced.Unfinished is many = absurd is
+announced_is count lines announced.OverLimit is many = (is, many)
+announced_is count lines announced.NoMemory is many = many
+
+-- all lines were taken
+pub announced-all : (count i : ℕ) (old new : Stream) (gathered : Announced) → IsGathering count i old new gathered → i ≡ count → TakesAnnounced count old new gathered
+announced-all count i old new gathered g all = record {
+  lines = g.lines;
+  taken = g.taken;
+  enough = (omega (arith, g.many, all), λ less. absurd (omega (arith, g.many, all, less)));
+  is = announced_is count g.lines gathered g.is (g.many ∙ all);
 }

@@ -1,4 +1,5 @@
 pub mod AnnouncedLemmas
+pub mod CompleteLemmas
 pub mod HeadingLemmas
 pub mod ReplyLemmas
 pub mod RunLemmas

@@ -14,7 +14,7 @@ pub on_err : {T E P : Type 0} (r : Result T E) → P → OnErr r P
 on_err (Ok value) p = tt
 on_err (Err error) p = p
 
-append-none : (w : Option (List ℕ)) → w ≡ append w []
+pub append-none : (w : Option (List ℕ)) → w ≡ append w []
 append-none None = refl
 append-none (Some xs) = ap Some (sym (append-nil xs))
 

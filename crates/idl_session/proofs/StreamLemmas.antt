@@ -1,13 +1,13 @@
 -- Lines that come byte by byte.
-use Rattle.std.proofs.Common.{◌≡◌, ◌∷◌, ◌++◌, ◌∙◌, ◌&&◌, Bool, true, false, cond, not, eqb, ltb, leb, ℕ, List, [], Option, Some, None, length, sym, ap, refl, arith, subst, length-append, append_assoc}
+use Rattle.std.proofs.Common.{◌≡◌, ◌∷◌, ◌++◌, ◌∙◌, ◌&&◌, Bool, true, false, cond, not, eqb, ltb, leb, ℕ, ◌+◌, ◌≤◌, List, [], Option, Some, None, length, sym, ap, refl, arith, subst, length-append, append_assoc}
 use Rattle.std.specs.Bool.{MatchBool}
 use Rattle.std.specs.Option.{option_map}
 use Rattle.std.specs.List.{list_all, onto_first}
 use Rattle.std.proofs.lemmas.Bool.Decides.{nat_tests}
 use Rattle.std.proofs.lemmas.List.{append-nil}
 use Rattle.idl_source.specs.Device.{prepend}
-use Rattle.idl_session.specs.Lines.{lines_of, line_within, line_with}
-use Rattle.idl_session.specs.Streams.{TakesLine, IsOver}
+use Rattle.idl_session.specs.Lines.{lines_of, onto_next, whole_lines, line_within, line_with}
+use Rattle.idl_session.specs.Streams.{Stream, onto, unread, IsOver, TakesWhole, TakesLines, TakesLine, FailsWithin}
 use Rattle.idl_session.specs.Reading.{IsReading}
 
 -- two pieces that are to come, one after the other, are one
@@ -28,6 +28,17 @@ pub prepend-none : {X : Type 0} (o : Option (List X)) → o ≡ prepend [] o
 prepend-none None = refl
 prepend-none (Some xs) = refl
 
+pub onto-onto : (stream : Stream) (xs ys : List ℕ) → onto xs (onto ys stream) ≡ onto (xs ++ ys) stream
+onto-onto stream xs ys = λ i. record { bytes = prepend-prepend stream.bytes xs ys i; ended = stream.ended }
+
+pub onto-none : (stream : Stream) → stream ≡ onto [] stream
+onto-none stream = λ i. record { bytes = prepend-none stream.bytes i; ended = stream.ended }
+
+-- the end has come or not
+pub clash : (b : Bool) → b ≡ true → b ≡ false → ⊥
+clash true p q = absurd (cc)
+clash false p q = absurd (cc)
+
 -- a line that ends in a newline
 pub lines_of-newline : (part rest : List ℕ) → list_all (λ b. not (eqb b 10)) part ≡ true → lines_of (part ++ 10 ∷ rest) ≡ part ∷ lines_of rest
 lines_of-newline [] rest e = refl
@@ -45,6 +56,22 @@ lines_of-last b (x ∷ part) e =
     let both = first_so (not (eqb b 10)) (list_all (λ y. not (eqb y 10)) (x ∷ part)) e in
     ap (λ t. cond t ([] ∷ lines_of (x ∷ part)) (onto_first b (lines_of (x ∷ part)))) (not_so (eqb b 10) both.0)
     ∙ ap (onto_first b) (lines_of-last x part both.1)
+
+-- a newline ends the first line
+whole_lines-newline : (part rest : List ℕ) → list_all (λ b. not (eqb b 10)) part ≡ true → whole_lines (part ++ 10 ∷ rest) ≡ part ∷ whole_lines rest
+whole_lines-newline [] rest e = refl
+whole_lines-newline (b ∷ part) rest e =
+    let both = first_so (not (eqb b 10)) (list_all (λ x. not (eqb x 10)) part) e in
+    ap (λ t. cond t ([] ∷ whole_lines (part ++ 10 ∷ rest)) (onto_next b (whole_lines (part ++ 10 ∷ rest)))) (not_so (eqb b 10) both.0)
+    ∙ ap (onto_next b) (whole_lines-newline part rest both.1)
+
+-- no line is whole without a newline
+whole_lines-part : (part : List ℕ) → list_all (λ b. not (eqb b 10)) part ≡ true → whole_lines part ≡ []
+whole_lines-part [] e = refl
+whole_lines-part (b ∷ part) e =
+    let both = first_so (not (eqb b 10)) (list_all (λ x. not (eqb x 10)) part) e in
+    ap (λ t. cond t ([] ∷ whole_lines part) (onto_next b (whole_lines part))) (not_so (eqb b 10) both.0)
+    ∙ ap (onto_next b) (whole_lines-part part both.1)
 
 kept_by_bound : (n : ℕ) (part : List ℕ) (b : ℕ) (t : Bool) → leb (length part) n ≡ t → line_with n (cond t (Some part) None) b ≡ line_within n (part ++ b ∷ [])
 kept_by_bound n part b true h =
@@ -73,11 +100,11 @@ some_pushed part b = grind (arith, nat_tests, length-append part (b ∷ []))
 not_none : (b : ℕ) (part : List ℕ) → ltb 0 (length (b ∷ part)) ≡ false → ⊥
 not_none b part e = grind (arith, nat_tests)
 
-pub reading-more : (n : ℕ) (old mid new held held' : Option (List ℕ)) (any : Bool) (b : ℕ) → IsReading n old mid held any → mid ≡ prepend (b ∷ []) new → (b ≡ 10 → ⊥) → held' ≡ line_with n held b → IsReading n old new held' true
+pub reading-more : (n : ℕ) (old mid new : Stream) (held held' : Option (List ℕ)) (any : Bool) (b : ℕ) → IsReading n old mid held any → mid ≡ onto (b ∷ []) new → (b ≡ 10 → ⊥) → held' ≡ line_with n held b → IsReading n old new held' true
 reading-more n old mid new held held' any b r taken other is = record {
   part = r.part ++ b ∷ [];
   one_line = all-push r.part b r.one_line other;
-  taken = r.taken ∙ ap (prepend r.part) taken ∙ prepend-prepend new r.part (b ∷ []);
+  taken = r.taken ∙ ap (onto r.part) taken ∙ onto-onto new r.part (b ∷ []);
   keeps = is ∙ ap (λ h. line_with n h b) r.keeps ∙ line_with-line_within n r.part b;
   has_byte = some_pushed r.part b;
 }
@@ -87,10 +114,19 @@ newline_taken : (part : List ℕ) (new : Option (List ℕ)) → list_all (λ b. 
 newline_taken part None e = refl
 newline_taken part (Some rest) e = ap Some (lines_of-newline part rest e)
 
-pub reading-newline : (n : ℕ) (old mid new : Option (List ℕ)) (held : Option (List ℕ)) (any : Bool) → IsReading n old mid held any → mid ≡ prepend (10 ∷ []) new
-    → TakesLine n (option_map lines_of old) (option_map lines_of new) held
-reading-newline n old mid new held any r taken =
-    (r.part, (ap (option_map lines_of) (r.taken ∙ ap (prepend r.part) taken) ∙ newline_taken r.part new r.one_line, r.keeps))
+pub reading-newline : (n : ℕ) (old mid new : Stream) (held : Option (List ℕ)) (any : Bool) → IsReading n old mid held any → mid ≡ onto (10 ∷ []) new → TakesLine n old new held
+reading-newline n old mid new held any r taken = (
+  r.part,
+  record {
+    taken = ap (λ (s : Stream). option_map lines_of s.bytes) (r.taken ∙ ap (onto r.part) taken) ∙ newline_taken r.part new.bytes r.one_line;
+    whole = λ _. record {
+      bytes = r.part ++ 10 ∷ [];
+      taken = r.taken ∙ ap (onto r.part) taken ∙ onto-onto new r.part (10 ∷ []);
+      cut = λ rest. ap whole_lines (append_assoc r.part (10 ∷ []) rest) ∙ whole_lines-newline r.part rest r.one_line;
+    };
+  },
+  r.keeps,
+)
 
 last_taken : (part : List ℕ) (mid : Option (List ℕ)) → list_all (λ b. not (eqb b 10)) part ≡ true → IsOver mid → ltb 0 (length part) ≡ true
     → option_map lines_of (prepend part mid) ≡ prepend (part ∷ []) (option_map lines_of mid)
@@ -100,16 +136,71 @@ last_taken (b ∷ part) (Some rest) e over some =
     let Goal : List ℕ → Type 0 = λ r. option_map lines_of (prepend (b ∷ part) (Some r)) ≡ prepend ((b ∷ part) ∷ []) (option_map lines_of (Some r)) in
     subst Goal (sym over) (ap Some (ap lines_of (append-nil (b ∷ part)) ∙ lines_of-last b part e))
 
-none_over : (part : List ℕ) (mid : Option (List ℕ)) → IsOver mid → ltb 0 (length part) ≡ false
-    → IsOver (option_map lines_of (prepend part mid)) × (option_map lines_of mid ≡ option_map lines_of (prepend part mid))
-none_over part None over none = (tt, refl)
-none_over [] (Some rest) over none = (ap lines_of over, refl)
-none_over (b ∷ part) (Some rest) over none = absurd (not_none b part none)
+none_read : (old mid new : Stream) (part : List ℕ) → old ≡ onto part mid → new ≡ record mid { ended = true } → IsOver mid.bytes → ltb 0 (length part) ≡ false
+    → (new ≡ record old { ended = true }) × IsOver old.bytes
+none_read old mid new [] taken same over none =
+    let still : old ≡ mid = taken ∙ sym (onto-none mid) in
+    (same ∙ ap (λ (s : Stream). record s { ended = true }) (sym still), subst (λ (s : Stream). IsOver s.bytes) (sym still) over)
+none_read old mid new (b ∷ part) taken same over none = absurd (not_none b part none)
 
-pub reading-end : (n : ℕ) (old mid new : Option (List ℕ)) (held : Option (List ℕ)) (any : Bool) → IsReading n old mid held any → new ≡ mid → IsOver mid
-    → MatchBool any (TakesLine n (option_map lines_of old) (option_map lines_of new) held) (IsOver (option_map lines_of old) × (option_map lines_of new ≡ option_map lines_of old))
-reading-end n old mid new held true r same over =
-    (r.part, (ap (option_map lines_of) r.taken ∙ last_taken r.part mid r.one_line over (sym r.has_byte) ∙ ap (λ m. prepend (r.part ∷ []) (option_map lines_of m)) (sym same), r.keeps))
-reading-end n old mid new held false r same over =
-    let both = none_over r.part mid over (sym r.has_byte) in
-    (subst (λ o. IsOver (option_map lines_of o)) (sym r.taken) both.0, ap (option_map lines_of) same ∙ both.1 ∙ ap (option_map lines_of) (sym r.taken))
+pub reading-end : (n : ℕ) (old mid new : Stream) (held : Option (List ℕ)) (any : Bool) → IsReading n old mid held any → new ≡ record mid { ended = true } → IsOver mid.bytes
+    → MatchBool any (TakesLine n old new held) ((new ≡ record old { ended = true }) × IsOver old.bytes)
+reading-end n old mid new held true r same over = (
+  r.part,
+  record {
+    taken = ap (λ (s : Stream). option_map lines_of s.bytes) r.taken ∙ last_taken r.part mid.bytes r.one_line over (sym r.has_byte)
+        ∙ ap (λ (s : Stream). prepend (r.part ∷ []) (option_map lines_of s.bytes)) (sym same);
+    whole = λ going. absurd (clash new.ended (ap (λ (s : Stream). s.ended) same) going);
+  },
+  r.keeps,
+)
+reading-end n old mid new held false r same over = none_read old mid new r.part r.taken same over (sym r.has_byte)
+
+-- a read failed in the line
+pub reading-fails : (n : ℕ) (old mid : Stream) (rest held : Option (List ℕ)) (any : Bool) → IsReading n old mid held any → mid ≡ unread rest → FailsWithin 1 old rest
+reading-fails n old mid rest held any r left = record {
+  bytes = r.part;
+  taken = r.taken ∙ ap (onto r.part) left;
+  few = omega (arith, ap length (whole_lines-part r.part r.one_line));
+}
+
+-- no line was taken
+pub lines-none : (stream : Stream) → TakesLines stream stream []
+lines-none stream = record {
+  taken = prepend-none (option_map lines_of stream.bytes);
+  whole = λ _. record { bytes = []; taken = onto-none stream; cut = λ rest. refl };
+}
+
+whole-more : (old mid new : Stream) (xs ys : List (List ℕ)) → TakesWhole old mid xs → TakesWhole mid new ys → TakesWhole old new (xs ++ ys)
+whole-more old mid new xs ys s t = record {
+  bytes = s.bytes ++ t.bytes;
+  taken = s.taken ∙ ap (onto s.bytes) t.taken ∙ onto-onto new s.bytes t.bytes;
+  cut = λ rest.
+      ap whole_lines (append_assoc s.bytes t.bytes rest) ∙ s.cut (t.bytes ++ rest) ∙ ap (λ (ls : List (List ℕ)). xs ++ ls) (t.cut rest) ∙ sym (append_assoc xs ys (whole_lines rest));
+}
+
+-- further lines were taken
+pub lines-more : (old mid new : Stream) (xs ys : List (List ℕ)) → TakesLines old mid xs → TakesLines mid new ys → TakesLines old new (xs ++ ys)
+lines-more old mid new xs ys s t = record {
+  taken = s.taken ∙ ap (prepend xs) t.taken ∙ prepend-prepend (option_map lines_of new.bytes) xs ys;
+  whole = λ going.
+      let last = t.whole going in
+      whole-more old mid new xs ys (s.whole (ap (λ (s : Stream). s.ended) last.taken ∙ going)) last;
+}
+
+-- the end came
+pub lines-end : (old mid new : Stream) (xs : List (List ℕ)) → TakesLines old mid xs → new ≡ record mid { ended = true } → TakesLines old new xs
+lines-end old mid new xs s same = record {
+  taken = s.taken ∙ ap (λ (s : Stream). prepend xs (option_map lines_of s.bytes)) (sym same);
+  whole = λ going. absurd (clash new.ended (ap (λ (s : Stream). s.ended) same) going);
+}
+
+-- a read failed after these lines
+pub fails-later : (old mid : Stream) (rest : Option (List ℕ)) (xs : List (List ℕ)) (k n : ℕ) → TakesLines old mid xs → FailsWithin k mid rest → length xs + k ≤ n → FailsWithin n old rest
+fails-later old mid rest xs k n s f within =
+    let w = s.whole (ap (λ (s : Stream). s.ended) f.taken) in
+    record {
+      bytes = w.bytes ++ f.bytes;
+      taken = w.taken ∙ ap (onto w.bytes) f.taken ∙ onto-onto (unread rest) w.bytes f.bytes;
+      few = omega (arith, ap length (w.cut f.bytes), length-append xs (whole_lines f.bytes), f.few, within);
+    }

@@ -1,11 +1,10 @@
 -- The lines that a command announces, as they are gathered.
-use Rattle.std.specs.Prelude.{◌≡◌, ℕ, ◌<◌, Bool, true, ◌||◌, List, nat_lt, length, Option}
+use Rattle.std.specs.Prelude.{◌≡◌, ℕ, ◌<◌, Bool, true, ◌||◌, List, nat_lt, length}
 use Rattle.std.specs.List.{list_any}
-use Rattle.idl_source.specs.Device.{prepend}
 use Rattle.idl_source.specs.Limits.{longest_line, most_lines}
 use Rattle.idl_session.specs.declared.announced.Announced.{Announced}
 use Rattle.idl_session.specs.declared.announced.Announced.TheVariants as announced
-use Rattle.idl_session.specs.Streams.{IsTakenBy}
+use Rattle.idl_session.specs.Streams.{Stream, IsTakenBy, TakesLines}
 
 -- these lines, of so many that are announced, go past a limit
 abbrev pub are_over : ℕ → List (List ℕ) → Bool
@@ -20,10 +19,10 @@ IsGathered count lines announced.OverLimit = are_over count lines ≡ true
 IsGathered count lines announced.NoMemory = Unit {0}
 
 -- so many of the announced lines were taken
-pub record IsGathering (count taken_count : ℕ) (old new : Option (List (List ℕ)))
-    (announced : Announced) : Type 0 where
+pub record IsGathering (count taken_count : ℕ) (old new : Stream) (announced : Announced)
+    : Type 0 where
   pub lines : List (List ℕ)
-  pub taken : old ≡ prepend lines new
+  pub taken : TakesLines old new lines
   pub many : length lines ≡ taken_count
   pub is : IsGathered count lines announced
 
@@ -34,9 +33,8 @@ IsAnnounced count lines announced.Unfinished = length lines < count
 IsAnnounced count lines announced.OverLimit = (are_over count lines ≡ true) × (length lines ≡ count)
 IsAnnounced count lines announced.NoMemory = length lines ≡ count
 
-pub record TakesAnnounced (count : ℕ) (old new : Option (List (List ℕ))) (announced : Announced)
-    : Type 0 where
+pub record TakesAnnounced (count : ℕ) (old new : Stream) (announced : Announced) : Type 0 where
   pub lines : List (List ℕ)
-  pub taken : old ≡ prepend lines new
+  pub taken : TakesLines old new lines
   pub enough : IsTakenBy count lines new
   pub is : IsAnnounced count lines announced

@@ -1,7 +1,8 @@
 -- The commands that lines make.
-use Rattle.std.specs.Prelude.{ℕ, List, [], ◌∷◌, length, nat_eq, take, zero, suc, if◌then◌else◌}
+use Rattle.std.specs.Prelude.{ℕ, Bool, true, false, List, [], ◌∷◌, length, nat_eq, take, zero, suc, if◌then◌else◌}
+use Rattle.std.specs.List.{filter}
 use Rattle.idl_workspace.specs.Edits.{Edit}
-use Rattle.idl_session.specs.Lines.{lines_of}
+use Rattle.idl_session.specs.Lines.{lines_of, whole_lines}
 use Rattle.idl_session.specs.Requests.{Request, request_of, lines_taken}
 use Rattle.idl_session.specs.Requests as request
 use Rattle.idl_session.specs.declared.heading.Question.{Question}
@@ -32,3 +33,12 @@ commands_after zero (line ∷ lines) =
 -- the commands that a text makes
 abbrev pub commands_of : List ℕ → List Command
 commands_of bytes = commands_after 0 (lines_of bytes)
+
+-- whether a command has all the lines that it announced
+abbrev pub has_its_lines : Command → Bool
+has_its_lines Unfinished = false
+has_its_lines command = true
+
+-- the complete commands of a text that may go on: those of its whole lines that have their lines
+abbrev pub complete_commands : List ℕ → List Command
+complete_commands bytes = filter has_its_lines (commands_after 0 (whole_lines bytes))

@@ -9,4 +9,5 @@ pub mod Replies
 pub mod Requests
 pub mod Rows
 pub mod Serving
+pub mod Stopping
 pub mod Streams

@@ -1,14 +1,14 @@
 -- A line that is being read.
 use Rattle.std.specs.Prelude.{◌≡◌, ℕ, Bool, true, not, List, nat_eq, nat_lt, length, Option}
 use Rattle.std.specs.List.{list_all}
-use Rattle.idl_source.specs.Device.{prepend}
 use Rattle.idl_session.specs.Lines.{line_within}
+use Rattle.idl_session.specs.Streams.{Stream, onto}
 
 -- a part of a line was taken: what is kept of it, and whether it has a byte
-pub record IsReading (n : ℕ) (old new : Option (List ℕ)) (held : Option (List ℕ)) (any : Bool)
+pub record IsReading (n : ℕ) (old new : Stream) (held : Option (List ℕ)) (any : Bool)
     : Type 0 where
   pub part : List ℕ
   pub one_line : list_all (λ b. not (nat_eq b 10)) part ≡ true
-  pub taken : old ≡ prepend part new
+  pub taken : old ≡ onto part new
   pub keeps : held ≡ line_within n part
   pub has_byte : any ≡ nat_lt 0 (length part)

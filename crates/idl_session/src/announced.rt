@@ -5,7 +5,7 @@ ghost use Rattle.std.specs.Option.{option_copied};
 ghost use Rattle.idl_source.specs.Limits.{longest_line};
 ghost use Rattle.idl_source.specs.Line.{IsLine};
 ghost use Rattle.idl_session.specs.Lines.{line_within};
-ghost use Rattle.idl_session.specs.Streams.{lines_left, fuel};
+ghost use Rattle.idl_session.specs.Streams.{stream_of, fuel, FailsWithin};
 ghost use Rattle.idl_session.specs.Announced.{IsGathered, TakesAnnounced};
 
 use crate::feed::Feed;
@@ -36,13 +36,15 @@ pub fn read_announced<S: Source>(
     requires counts { S.failures source.old < 2 ^ 64 - 1 }
 
     ensures taken { IfOk result (TakesAnnounced count
-        (lines_left (S.remaining source.old) feed.old)
-        (lines_left (S.remaining source.new) feed.new)) }
+        (stream_of (S.remaining source.old) feed.old)
+        (stream_of (S.remaining source.new) feed.new)) }
     ensures nearer { OnOk result
         (fuel (S.reads_left source.new) feed.new ≤ fuel (S.reads_left source.old) feed.old) }
     ensures ok { OnOk result (S.failures source.new ≡ S.failures source.old) }
 
     ensures err { OnErr result (S.failures source.new ≡ S.failures source.old + 1) }
+    ensures fails { let old = stream_of (S.remaining source.old) feed.old in
+        OnErr result (FailsWithin count old (S.remaining source.new)) }
 {
     let mut line = LineBuffer::<MAX_LINE>::new();
     let mut announced = first_announced(alloc, count);

@@ -2,8 +2,7 @@
 
 ghost use Rattle.std.specs.Prelude.{◌≡◌, ◌<◌, ◌-◌, ◌^◌, ◌++◌, ℕ, List, Some, IfErr, IfSome, OnOk};
 ghost use Rattle.idl_session.specs.Answers.{IsReply};
-ghost use Rattle.idl_session.specs.Commands.{commands_of};
-ghost use Rattle.idl_session.specs.Serving.{IsCounted, IsBeginning};
+ghost use Rattle.idl_session.specs.Stopping.{IsCounted, IsLeft};
 
 use crate::line_buffer::read_line;
 use crate::serve::{Input, serve};
@@ -32,7 +31,9 @@ use idl_workspace::Session;
 /// All else is a malformed command, and so is a line of more than [`MAX_COMMAND`](crate::MAX_COMMAND) bytes. The lines that a `put` or a `splice`
 /// announces are taken where it is refused, too.
 ///
-/// Each reply has gone out whole before the next line is read. Memory is taken by edits alone, and not by `unroot`.
+/// Each reply has gone out whole before the next command is served, and before anything more is read. The first failure of
+/// a device ends the run, and neither device is called after that: see [`Stop`]. Nothing is read once the source has told
+/// its end. Memory is taken by edits alone, and not by `unroot`.
 pub fn run<S: Source, K: Sink>(
     session: &mut Session,
     source: &mut S,
@@ -48,15 +49,28 @@ pub fn run<S: Source, K: Sink>(
         (output : List ℕ) × (K.written sink.new ≡ Some (before ++ output))
         × IsReply session.old input output session.new))) }
 
-    // A device failed in this call.
+    ensures ok { OnOk result
+        ((S.failures source.new ≡ S.failures source.old)
+        × (K.failures sink.new ≡ K.failures sink.old)) }
+
+    // One device failed once, and neither was called after that.
     ensures stops { IfErr result (λ stop. IsCounted stop
         (record { reads = S.failures source.old; writes = K.failures sink.old })
         (record { reads = S.failures source.new; writes = K.failures sink.new })) }
-    // What went out is a beginning of replies to the first commands, and the session is in the state that they tell of.
-    ensures begun { IfErr result (λ stop. IfSome (S.remaining source.old) (λ input.
-        IsBeginning stop (commands_of input)
-        (record { written = K.written sink.old; state = session.old })
-        (record { written = K.written sink.new; state = session.new }))) }
+    // After a failed read, what was read whole is done and answered. After a failed write, what was done is answered
+    // but for a part of the last reply.
+    ensures left { IfErr result (λ stop. IfSome (S.remaining source.old) (λ input.
+        IsLeft stop input
+        (record {
+          left = S.remaining source.old;
+          written = K.written sink.old;
+          state = session.old;
+        })
+        (record {
+          left = S.remaining source.new;
+          written = K.written sink.new;
+          state = session.new;
+        }))) }
 {
     let mut input = Input::new();
     'commands: loop {

@@ -1,26 +1,30 @@
 //! The bytes of a source, one by one: they are read in large pieces.
 
-ghost use Rattle.std.specs.Prelude.{◌≡◌, ◌≤◌, ◌<◌, ◌+◌, ◌-◌, ◌^◌, [], ◌∷◌, IfOk, OnOk, OnErr, MatchOption, IfSome, length};
-ghost use Rattle.idl_source.specs.Device.{prepend};
-ghost use Rattle.idl_session.specs.Streams.{bytes_left, IsOver, fuel};
+ghost use Rattle.std.specs.Prelude.{◌≡◌, ◌≤◌, ◌<◌, ◌+◌, ◌-◌, ◌^◌, [], ◌∷◌, true, false, IfOk, OnOk, OnErr, MatchBool, MatchOption, length};
+ghost use Rattle.idl_session.specs.Streams.{stream_of, onto, unread, IsOver, fuel};
 
 use idl_source::{ReadFailed, Source};
 use std::marker::Model;
 
-/// Bytes that were read and not yet taken.
+/// Bytes that were read and not yet taken. Once the source has told its end, nothing more is read.
 #[derive(Drop)]
 pub struct Feed {
     bytes: [u8; 4096],
     start: usize,
     end: usize,
+    ended: bool,
 }
 
 impl Model for Feed {
-    ghost use Rattle.std.specs.Prelude.{List, ℕ, take, drop, ◌≤◌};
+    ghost use Rattle.std.specs.Prelude.{take, drop, ◌≤◌};
+    ghost use Rattle.idl_session.specs.Streams.{Fed};
 
-    ghost Value = { List ℕ };
+    ghost Value = { Fed };
 
-    ghost view = { λ feed. drop feed.start (take feed.end feed.bytes) };
+    ghost view = { λ feed. record {
+      bytes = drop feed.start (take feed.end feed.bytes);
+      ended = feed.ended;
+    } };
 
     ghost invariant = { λ feed. (feed.start ≤ feed.end) × (feed.end ≤ 4096) };
 }
@@ -28,12 +32,13 @@ impl Model for Feed {
 impl Feed {
     /// Nothing was read.
     pub fn new() -> Feed
-        ensures { result ≡ [] }
+        ensures { result ≡ record { bytes = []; ended = false } }
     {
         Feed {
             bytes: [0; 4096],
             start: 0,
             end: 0,
+            ended: false,
         }
     }
 
@@ -41,12 +46,11 @@ impl Feed {
     pub fn next<S: Source>(&mut self, source: &mut S) -> Result<Option<u8>, ReadFailed>
         requires counts { S.failures source.old < 2 ^ 64 - 1 }
 
-        ensures byte { IfOk result (λ b. MatchOption b
-            ((bytes_left (S.remaining source.new) self.new
-            ≡ bytes_left (S.remaining source.old) self.old)
-            × IsOver (bytes_left (S.remaining source.old) self.old))
-            (λ b. bytes_left (S.remaining source.old) self.old
-            ≡ prepend (b ∷ []) (bytes_left (S.remaining source.new) self.new))) }
+        ensures byte { let old = stream_of (S.remaining source.old) self.old in
+            let new = stream_of (S.remaining source.new) self.new in
+            IfOk result (λ b. MatchOption b
+            ((new ≡ record old { ended = true }) × IsOver old.bytes)
+            (λ b. old ≡ onto (b ∷ []) new)) }
         ensures nearer { IfOk result (λ b. MatchOption b
             (fuel (S.reads_left source.new) self.new ≤ fuel (S.reads_left source.old) self.old)
             (λ _. fuel (S.reads_left source.new) self.new
@@ -54,41 +58,49 @@ impl Feed {
         ensures ok { OnOk result (S.failures source.new ≡ S.failures source.old) }
 
         ensures err { OnErr result (S.failures source.new ≡ S.failures source.old + 1) }
+        ensures none { OnErr result
+            (stream_of (S.remaining source.old) self.old ≡ unread (S.remaining source.new)) }
     {
         if let Some(b) = self.pop() {
             return Ok(Some(b));
         }
-        self.fill(source)?;
+        if !self.ended {
+            self.fill(source)?;
+        }
         Ok(self.pop())
     }
 
-    // Reads once, where nothing is left.
+    // Reads once, where nothing is left and the end has not come.
     fn fill<S: Source>(&mut self, source: &mut S) -> Result<(), ReadFailed>
-        requires empty { self.old ≡ [] }
+        requires empty { self.old.bytes ≡ [] }
+        requires more { self.old.ended ≡ false }
         requires counts { S.failures source.old < 2 ^ 64 - 1 }
 
-        ensures given { OnOk result
-            (S.remaining source.old ≡ prepend self.new (S.remaining source.new)) }
-        ensures end { OnOk result
-            (self.new ≡ [] → IfSome (S.remaining source.old) (λ bytes. bytes ≡ [])) }
-        ensures nearer { OnOk result (0 < length self.new
-            → fuel (S.reads_left source.new) self.new < fuel (S.reads_left source.old) []) }
+        ensures given { let new = stream_of (S.remaining source.new) self.new in
+            OnOk result (new ≡ record (unread (S.remaining source.old)) { ended = self.new.ended }) }
+        ensures end { OnOk result (MatchBool self.new.ended
+            ((self.new.bytes ≡ []) × IsOver (S.remaining source.old))
+            (0 < length self.new.bytes)) }
+        ensures nearer { OnOk result (0 < length self.new.bytes
+            → fuel (S.reads_left source.new) self.new < fuel (S.reads_left source.old) self.old) }
         ensures at_end { OnOk result (S.reads_left source.new ≤ S.reads_left source.old) }
         ensures ok { OnOk result (S.failures source.new ≡ S.failures source.old) }
 
         ensures err { OnErr result (S.failures source.new ≡ S.failures source.old + 1) }
+        ensures kept { OnErr result (S.remaining source.new ≡ S.remaining source.old) }
     {
         self.start = 0;
         self.end = 0;
         self.end = source.read(&mut self.bytes)?;
+        self.ended = self.end == 0;
         Ok(())
     }
 
     // Takes the first of the bytes that were read.
     fn pop(&mut self) -> Option<u8>
         ensures { MatchOption result
-            ((self.old ≡ []) × (self.new ≡ []))
-            (λ b. self.old ≡ b ∷ self.new) }
+            ((self.old.bytes ≡ []) × (self.new ≡ self.old))
+            (λ b. self.old ≡ record self.new { bytes = b ∷ self.new.bytes }) }
     {
         if self.start == self.end {
             return None;

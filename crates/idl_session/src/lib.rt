@@ -9,6 +9,7 @@ mod commands;
 mod edit;
 mod feed;
 mod heading;
+mod laws;
 mod line_buffer;
 mod reply;
 mod rows;
@@ -22,6 +23,7 @@ pub use idl_source::{
 pub use idl_workspace::{
     MAX_BODY, MAX_DIRECTORIES, MAX_MACROS, MAX_ROOTS, Row, Session, Span, Work,
 };
+pub use laws::complete_commands;
 pub use stop::Stop;
 
 /// Bytes that a command line has at most.

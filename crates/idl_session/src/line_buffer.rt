@@ -1,10 +1,10 @@
 //! A line of bounded length, and how one is taken from a feed.
 
-ghost use Rattle.std.specs.Prelude.{◌≡◌, ◌≢◌, ◌≤◌, ◌<◌, ◌+◌, ◌-◌, ◌^◌, [], Some, IfOk, IfSome, OnOk, OnErr, MatchBool};
+ghost use Rattle.std.specs.Prelude.{◌≡◌, ◌≢◌, ◌≤◌, ◌<◌, ◌+◌, ◌-◌, ◌^◌, [], true, Some, IfOk, IfSome, OnOk, OnErr, MatchBool};
 ghost use Rattle.std.specs.Option.{option_copied};
 ghost use Rattle.idl_source.specs.Line.{IsLine, newline};
 ghost use Rattle.idl_session.specs.Lines.{line_with};
-ghost use Rattle.idl_session.specs.Streams.{lines_left, IsOver, fuel, TakesLine};
+ghost use Rattle.idl_session.specs.Streams.{stream_of, IsOver, fuel, TakesLine, FailsWithin};
 
 use crate::feed::Feed;
 use arrayvec::ArrayVec;
@@ -75,19 +75,19 @@ pub fn read_line<S: Source, const N: usize>(
 ) -> Result<bool, ReadFailed>
     requires counts { S.failures source.old < 2 ^ 64 - 1 }
 
-    ensures line { IfOk result (λ more. MatchBool more
-        (TakesLine N
-        (lines_left (S.remaining source.old) feed.old)
-        (lines_left (S.remaining source.new) feed.new) line.new)
-        (IsOver (lines_left (S.remaining source.old) feed.old)
-        × (lines_left (S.remaining source.new) feed.new
-        ≡ lines_left (S.remaining source.old) feed.old))) }
+    ensures line { let old = stream_of (S.remaining source.old) feed.old in
+        let new = stream_of (S.remaining source.new) feed.new in
+        IfOk result (λ more. MatchBool more
+        (TakesLine N old new line.new)
+        ((new ≡ record old { ended = true }) × IsOver old.bytes)) }
     ensures nearer { IfOk result (λ more. MatchBool more
         (fuel (S.reads_left source.new) feed.new < fuel (S.reads_left source.old) feed.old)
         (fuel (S.reads_left source.new) feed.new ≤ fuel (S.reads_left source.old) feed.old)) }
     ensures ok { OnOk result (S.failures source.new ≡ S.failures source.old) }
 
     ensures err { OnErr result (S.failures source.new ≡ S.failures source.old + 1) }
+    ensures fails { let old = stream_of (S.remaining source.old) feed.old in
+        OnErr result (FailsWithin 1 old (S.remaining source.new)) }
 {
     line.clear();
     let mut any = false;

@@ -1,14 +1,15 @@
 //! One command: what its heading asks for is done, and the reply goes out.
 
-ghost use Rattle.std.specs.Prelude.{◌≡◌, ◌≤◌, ◌<◌, ◌+◌, ◌-◌, ◌^◌, [], IfErr, OnOk, OnErr};
+ghost use Rattle.std.specs.Prelude.{◌≡◌, ◌≤◌, ◌<◌, ◌+◌, ◌-◌, ◌^◌, [], false, IfErr, OnOk, OnErr};
 ghost use Rattle.std.specs.Option.{option_map};
 ghost use Rattle.idl_source.specs.Device.{append, WritesPart};
 ghost use Rattle.idl_session.specs.Headings.{request_by, HasLines};
 ghost use Rattle.idl_session.specs.Replies.{edit_reply, query_reply};
 ghost use Rattle.idl_session.specs.Requests.{request_kept};
 ghost use Rattle.idl_session.specs.Rows.{rows_of};
-ghost use Rattle.idl_session.specs.Serving.{SendsReply, IsCut, IsCounted};
-ghost use Rattle.idl_session.specs.Streams.{lines_left, fuel};
+ghost use Rattle.idl_session.specs.Serving.{SendsReply, IsCut};
+ghost use Rattle.idl_session.specs.Stopping.{IsCounted};
+ghost use Rattle.idl_session.specs.Streams.{fuel};
 
 use crate::MAX_COMMAND;
 use crate::announced::read_announced;
@@ -32,7 +33,7 @@ pub struct Input {
 impl Input {
     /// Nothing was read.
     pub fn new() -> Input
-        ensures { result.feed ≡ [] }
+        ensures { result.feed ≡ record { bytes = []; ended = false } }
     {
         Input {
             line: LineBuffer::new(),
@@ -56,12 +57,14 @@ pub fn serve<S: Source, K: Sink>(
 
     ensures served { OnOk result (SendsReply (request_kept input.old.line)
         (record {
-          lines = lines_left (S.remaining source.old) input.old.feed;
+          left = S.remaining source.old;
+          fed = input.old.feed;
           written = K.written sink.old;
           state = session.old;
         })
         (record {
-          lines = lines_left (S.remaining source.new) input.new.feed;
+          left = S.remaining source.new;
+          fed = input.new.feed;
           written = K.written sink.new;
           state = session.new;
         })) }
@@ -72,12 +75,14 @@ pub fn serve<S: Source, K: Sink>(
 
     ensures cut { IfErr result (λ stop. IsCut stop (request_kept input.old.line)
         (record {
-          lines = lines_left (S.remaining source.old) input.old.feed;
+          left = S.remaining source.old;
+          fed = input.old.feed;
           written = K.written sink.old;
           state = session.old;
         })
         (record {
-          lines = lines_left (S.remaining source.new) input.new.feed;
+          left = S.remaining source.new;
+          fed = input.new.feed;
           written = K.written sink.new;
           state = session.new;
         })) }

@@ -9,10 +9,10 @@ use thiserror::Error;
 /// Why a run stops before its input ends: a device failed in it.
 #[derive(Clone, Copy, Debug, Error, PartialEq, Eq)]
 pub enum Stop {
-    /// A read failed. The edits before the command that was being read stand.
+    /// A read failed. The commands that were wholly read have been served, and the unfinished one has had no effect.
     #[error("read failed")]
     ReadFailed,
-    /// A write failed. The edits that were accepted stand, also where their replies didn't go out.
+    /// A write failed. The command whose reply it was of has been served, and none after it.
     #[error("write failed")]
     WriteFailed,
 }

@@ -11,13 +11,15 @@ use std::process::Abort;
 use std::test::Fail;
 
 /// In each row the units of a text are those behind ` => `, with ` / ` between and once where some side by side are the
-/// same: the word of a tree, a pragma, or a fault with the number of its token, from 0. `` `3×a` `` stands for `aaa`.
+/// same: the word of a tree, a pragma, or a fault with the number of its token, from 0. `` `3×a` `` stands for `aaa`, and
+/// ` ¶ ` stands between texts.
 pub fn have_units(rt: &(impl Abort + AllocGlobal), rows: &[&str]) -> Result<(), Fail> {
-    for row in rows {
-        let row = in_full(rt.alloc(), row)?;
-        let (text, want) = row.as_str().split_once(" => ").ok_or("no arrow")?;
-        let said = said_of(rt.alloc(), &expansion_of(rt.alloc(), text)?)?;
-        assert_eq!(rt; said.as_str().trim_end_matches(" / "), want, "{text}");
+    for rows in rows {
+        for row in in_full(rt.alloc(), rows)?.as_str().split(" ¶ ") {
+            let (text, want) = row.split_once(" => ").ok_or("no arrow")?;
+            let said = said_of(rt.alloc(), &expansion_of(rt.alloc(), text)?)?;
+            assert_eq!(rt; said.as_str().trim_end_matches(" / "), want, "{text}");
+        }
     }
     Ok(())
 }

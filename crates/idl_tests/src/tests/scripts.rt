@@ -31,7 +31,7 @@ static SCRIPTS: [&str; 14] = [
      =typedef long X;\ndump a.idl\n=refused 7\nunroot a.idl\n=refused 7\nroot a.idl\n=ok\ndiagnostics a.idl\n\
      =rows 1\n=a.idl:0: E10 a.idl\nunroot a//b\n=refused 2",
     // Names that are not allowed, and files that aren't there.
-    "remove a//b\n=refused 2\nremove a.idl\n=refused 3\nsplice a//b 1 0 0\n=refused 2\ndiagnostics a//b\n\
+    "remove a//b\n=refused 2\nremove a.idl\n=refused 3\nsplice a.idl 0 0 0\n=refused 3\nsplice a//b 1 0 0\n=refused 2\ndiagnostics a//b\n\
      =refused 2\ndump a//b\n=refused 2\nabsent a//b\n=refused 2\nabsent a.idl\n=refused 7\nroot a//b\n=refused 2",
     // Announced lines are no commands, also where the edit is refused.
     "put a//b 1\nroot z.idl\n=refused 2\nsplice y.idl 1 0 2\nroot z.idl\nfrob\n=refused 3\nroot z.idl\n=ok\n\
@@ -56,20 +56,16 @@ fn scripts_have_these_replies(rt: HostRuntime) -> Result<(), Fail> {
 // A malformed command takes no further line, so that the line after it is a command.
 static MALFORMED: &str =
     " \nfrob\nroot\nroot \n root a.idl\nroot  a.idl\nroot a.idl \nroot a.idl b.idl\nroot a.idl\r\nroot\ta.idl\n\
-     root \u{e9}.idl\nROOT a.idl\nput a.idl\nput a.idl 1 \nput a.idl 01\nput a.idl +1\nput a.idl 1000000000\n\
+     root \u{e9}.idl\nROOT a.idl\nput a.idl\nput a.idl 1 \nput  a.idl 0\nput a.idl 01\nput a.idl +1\nput a.idl 1000000000\n\
      put a.idl 1 1\nsplice a.idl 1 0\nsplice a.idl 1 0 x\nsplice a.idl 01 0 0\nsplice a.idl 1 0 0 0\nremove\nundef\n\
      undef X Y\ndefine\ndefine \ndefine  X\ndefine \u{e9}\nsearch \nsearch  d\nsearch d \nabsent\n\
-     unroot a.idl b.idl\nlisting a.idl\nwork";
+     unroot a.idl b.idl\nlisting a.idl\nwork\r\n\nwork";
 
 #[test]
 fn malformed_commands_are_refused(rt: HostRuntime) -> Result<(), Fail> {
     let want = "refused 1\n".repeat(rt.alloc(), MALFORMED.split('\n').count())?;
-    answers(
-        &rt,
-        &mut Session::new(rt.alloc()),
-        MALFORMED,
-        want.as_bytes(),
-    )
+    let mut session = Session::new(rt.alloc());
+    answers(&rt, &mut session, MALFORMED, want.as_bytes())
 }
 
 #[test]

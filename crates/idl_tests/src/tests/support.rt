@@ -55,8 +55,8 @@ fn push_numbered(text: &mut String, n: usize, piece: &str) -> Result<(), AllocEr
     Ok(())
 }
 
-// The lines that have no `=` before them, and the others without it. Each ends with a newline.
-fn parted(alloc: Global, text: &str) -> Result<(String, String), AllocError> {
+/// The lines that have no `=` before them, and the others without it. Each ends with a newline.
+pub fn parted(alloc: Global, text: &str) -> Result<(String, String), AllocError> {
     let mut given = String::new(alloc);
     let mut wanted = String::new(alloc);
     for line in in_full(alloc, text)?.as_str().split('\n') {

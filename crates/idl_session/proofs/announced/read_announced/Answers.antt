@@ -1,5 +1,7 @@
 use Rattle.std.proofs.Common.{◌∙◌, refl, arith}
 use Rattle.idl_session.proofs.AnnouncedLemmas.{gathering-none, gathering-more}
+use Rattle.idl_session.proofs.ReplyLemmas.{on_err}
+use Rattle.idl_session.proofs.StreamLemmas.{fails-later}
 use Rattle.idl_session.proofs.announced.read_announced.Goals as goal
 
 pub loop-i-init : goal.loop-i-init
@@ -18,3 +20,8 @@ loop-i-preserved g c =
       nearer = omega (arith, nearer);
       failures = c.in_ok-read_line.ensures.ok ∙ c.loop-i.invariant.failures;
     }
+
+pub returns-in_err-read_line-clause-fails : goal.returns-in_err-read_line-clause-fails
+returns-in_err-read_line-clause-fails g c =
+    let gathering = c.loop-i.invariant.gathering in
+    on_err c.from_residual.result (fails-later _ _ _ gathering.lines 1 c.args.count gathering.taken c.in_err-read_line.ensures.fails (omega (arith, gathering.many)))

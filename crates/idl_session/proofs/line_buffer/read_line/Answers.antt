@@ -1,6 +1,10 @@
 use Rattle.std.proofs.Common.{◌∙◌, arith}
-use Rattle.idl_session.proofs.StreamLemmas.{reading-more, reading-newline, reading-end}
+use Rattle.idl_session.proofs.ReplyLemmas.{on_err}
+use Rattle.idl_session.proofs.StreamLemmas.{reading-more, reading-newline, reading-end, reading-fails}
 use Rattle.idl_session.proofs.line_buffer.read_line.Goals as goal
+
+pub returns-in_err-next-clause-fails : goal.returns-in_err-next-clause-fails
+returns-in_err-next-clause-fails g c = on_err c.from_residual.result (reading-fails g.row.N _ _ _ c.bytes.line c.bytes.any c.bytes.invariant.reading c.in_err-next.ensures.none)
 
 pub returns-in-None-clause-line : goal.returns-in-None-clause-line
 returns-in-None-clause-line g c =
