@@ -4,7 +4,7 @@ use Rattle.std.proofs.Common.{◌≡◌, Bool, true, false, ◌↔◌, List, [],
 use Rattle.idl_memo.specs.Query.{Query, asked, run, Agree, HoldsIn}
 use Rattle.idl_memo.specs.Kept.{Kept, HoldsOver}
 use Rattle.idl_memo.specs.Fresh.{is_alike}
-use Rattle.idl_memo.specs.Renewal.{IsTold, keys_compared}
+use Rattle.idl_memo.specs.Renewal.{IsTold}
 use Rattle.idl_memo.proofs.FreshTasks.{is_alike-means}
 use Rattle.idl_memo.proofs.QueryLaws.{IsLogOf-run, Agree-from_log, run-agree}
 

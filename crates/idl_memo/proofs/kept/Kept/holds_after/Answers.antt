@@ -18,7 +18,7 @@ returns-then-holds-clause-told g c = λ query old new cause over.
     let log = ap (λ (k : Kept g.row.B-Key.Denot (Option g.row.B-Answer.Denot) g.row.T.Denot g.row.O.Denot). k.log) c.self.view_is in
     let before = HoldsIn-over key_eq key_itself key_same query old kept over in
     let tells : IsTrue c.holds_after-holds.result ↔ HoldsIn new kept.log =
-        subst (λ (l : List (g.row.B-Key.Denot × Option g.row.B-Answer.Denot)). HoldsIn old l → (IsTrue c.holds_after-holds.result ↔ HoldsIn new l)) log (c.holds_after-holds.ensures old new cause) before in
+    subst (λ (l : List (g.row.B-Key.Denot × Option g.row.B-Answer.Denot)). HoldsIn old l → (IsTrue c.holds_after-holds.result ↔ HoldsIn new l)) log (c.holds_after-holds.ensures old new cause) before in
     IsTold-holds key_eq key_itself key_same query old new kept over
     g.T.PartialEq.eq g.met.T.Eq.laws.refl g.met.T.Eq.laws.symm g.met.T.Datum.same
     (option_eq answer_eq) (option_eq-itself answer_eq g.met.B.Answer.Eq.laws.refl) (same_option answer_eq g.met.B.Answer.Datum.same)
@@ -34,7 +34,7 @@ returns-else-holds-clause-told g c = λ query old new cause over.
     let log = ap (λ (k : Kept g.row.B-Key.Denot (Option g.row.B-Answer.Denot) g.row.T.Denot g.row.O.Denot). k.log) c.self.view_is in
     let before = HoldsIn-over key_eq key_itself key_same query old kept over in
     let tells : IsTrue c.holds_after-holds.result ↔ HoldsIn new kept.log =
-        subst (λ (l : List (g.row.B-Key.Denot × Option g.row.B-Answer.Denot)). HoldsIn old l → (IsTrue c.holds_after-holds.result ↔ HoldsIn new l)) log (c.holds_after-holds.ensures old new cause) before in
+    subst (λ (l : List (g.row.B-Key.Denot × Option g.row.B-Answer.Denot)). HoldsIn old l → (IsTrue c.holds_after-holds.result ↔ HoldsIn new l)) log (c.holds_after-holds.ensures old new cause) before in
     IsTold-holds key_eq key_itself key_same query old new kept over
     g.T.PartialEq.eq g.met.T.Eq.laws.refl g.met.T.Eq.laws.symm g.met.T.Datum.same
     (option_eq answer_eq) (option_eq-itself answer_eq g.met.B.Answer.Eq.laws.refl) (same_option answer_eq g.met.B.Answer.Datum.same)
