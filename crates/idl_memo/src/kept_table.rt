@@ -18,7 +18,6 @@ use std::rc::Rc;
 /// Kept results, found by the digest of their text and then by the text. To every contract they are a list.
 ///
 /// The table holds pointers: no text is copied for it. Only `add` takes memory.
-#[derive(Drop)]
 pub struct KeptTable<B: Bank, T: Datum + Hash, O> {
     buckets: BTreeMap<u64, Vec<Rc<Kept<B, T, O>>>>,
 }
@@ -35,6 +34,12 @@ impl<B: Bank, T: Datum + Hash, O> Model for KeptTable<B, T, O> {
     ghost view = { λ table. results_of table.buckets.entries };
 
     ghost invariant = { λ table. IsBucketed T.hash_input table.buckets };
+}
+
+impl<B: Bank, T: Datum + Hash, O: Drop> Drop for KeptTable<B, T, O> {
+    fn drop(self) {
+        let KeptTable { buckets: _buckets } = self;
+    }
 }
 
 impl<B: Bank, T: Datum + Hash, O: Drop> KeptTable<B, T, O> {

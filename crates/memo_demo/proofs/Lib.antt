@@ -1,2 +1,3 @@
+pub mod Passing
 pub mod References
 pub mod Steps

@@ -1,3 +1,4 @@
 pub mod Library
 pub mod Page
+pub mod Passes
 pub mod Trail

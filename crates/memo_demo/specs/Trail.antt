@@ -1,7 +1,7 @@
 -- Trails through a library, each page of which refers to a next one on its shelf.
 use Rattle.std.specs.Prelude.{◌≡◌, ℕ, zero, suc, ◌-◌, true, ◌&&◌, List, [], Option, None, Some, codes, if◌then◌else◌, nat_eq, nat_le, length}
 use Rattle.idl_base.specs.Exact.{both, same_number}
-use Rattle.idl_memo.specs.Query.{Query, Done, Ask, Tell, and_then, limited, gathered_after}
+use Rattle.idl_memo.specs.Query.{Query, Done, Ask, Tell, outcome, and_then, limited, gathered_after}
 use Rattle.memo_demo.specs.declared.page.Page.{Page}
 use Rattle.memo_demo.specs.declared.trail.Start.{Start}
 use Rattle.memo_demo.specs.Page.{page_eq, same_page, copied_page}
@@ -54,3 +54,7 @@ pub copied_start : (start copy : Start)
 copied_start start copy h =
     let page = copied_page start.page copy.page h.0 in
     λ i. record { page = page i; steps = h.1.0 i; room = h.1.1 i }
+
+-- the titles to which a start leads through a library
+abbrev pub titles_from : (Page → Option (List ℕ)) → Start → List (List ℕ)
+titles_from bank start = outcome (trail_from start) bank
