@@ -40,7 +40,7 @@ module _ {X : Type 0} where
 module _ {K V T O : Type 0} where
   -- not both: none is alike, and one is
   pub not_both : (text : T) (bank : K → V) (kept : List (Rc (Kept K V T O) Global)) → NoneAlike text bank kept → SomeAlike text bank kept → ⊥
-  not_both text bank kept no some = subst (λ (k : Rc (Kept K V T O) Global). ¬ IsAlike text bank k.value) some.3 (no some.0 some.1 some.2) some.4
+  not_both text bank kept nothing some = subst (λ (k : Rc (Kept K V T O) Global). ¬ IsAlike text bank k.value) some.3 (nothing some.0 some.1 some.2) some.4
 
   -- one that is alike is such a one
   pub SomeAlike-contains : (text : T) (bank : K → V) (kept : List (Rc (Kept K V T O) Global)) (item : Rc (Kept K V T O) Global) → Contains kept item → IsAlike text bank item.value → SomeAlike text bank kept

@@ -7,9 +7,11 @@
 mod library;
 mod page;
 mod passes;
+mod renewal;
 mod trail;
 
 pub use library::{Library, Reference};
 pub use page::Page;
 pub use passes::{follow, pass, walked_again};
+pub use renewal::renewed;
 pub use trail::{Start, Trail};
