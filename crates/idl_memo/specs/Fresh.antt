@@ -6,8 +6,8 @@ use Rattle.idl_memo.specs.Query.{Query, asked, run}
 
 module _ {K V X T O : Type 0} (text_eq : T → T → Bool) (answer_eq : V → V → Bool)
     (query : T → Query K V X O) where
-  -- whether a task that ran over an old bank is alike at a place of a new one: it has the text of the
-  -- task there, and each key that it asked has there the answer that it had
+  -- whether a task that ran over an old bank is alike at a place of a new one: it has the text of
+  -- the task there, and each key that it asked has there the answer that it had
   abbrev pub is_alike : (K → V) → (K → V) → T → T → Bool
   is_alike old new here task =
       text_eq here task && list_all (λ k. answer_eq (new k) (old k)) (asked (query task) old)

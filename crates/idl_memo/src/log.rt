@@ -88,7 +88,7 @@ impl<B: Bank> Log<B> {
     }
 
     // Whether a log that holds in a bank holds too in one that differs from it in nothing but this cause: one look-up tells.
-    pub(crate) fn holds_after(&self, cause: Option<&B::Key>) -> bool
+    pub(crate) fn outlasts(&self, cause: Option<&B::Key>) -> bool
         ensures { (old new : B.Key → Option B.Answer) → IsCause old new (option_copied cause.entry)
             → HoldsIn old self.now → (IsTrue result ↔ HoldsIn new self.now) }
     {

@@ -45,8 +45,8 @@ pub record HoldsAll {K V T O : Type 0} (bank : K → V) (old : List (Rc (Kept K 
 
 -- a pass over these texts: the table is sound after it, so many of them were fresh and counted, and
 -- each has a kept result that is alike
-pub record IsPass {K V X T O : Type 0} (eq : K → K → Bool) (query : T → Query K V X O) (bank : K → V)
-    (texts : List T) (old new : List (Rc (Kept K V T O) Global)) (before after : ℕ) : Type 0 where
+pub record IsPass {K V X T O : Type 0} (eq : K → K → Bool) (query : T → Query K V X O)
+    (bank : K → V) (texts : List T) (old new : List (Rc (Kept K V T O) Global)) (before after : ℕ) : Type 0 where
   pub sound : AreSound eq query new
   pub fresh : (n : ℕ) × CountsFresh bank old texts n × (after ≡ before + n)
   pub held : HoldsAll bank old texts new
