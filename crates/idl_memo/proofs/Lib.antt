@@ -1,3 +1,9 @@
+pub mod Bucketed
+pub mod Causes
+pub mod FreshTasks
+pub mod Holding
+pub mod Lookup
 pub mod Noting
 pub mod ProgressLaws
 pub mod QueryLaws
+pub mod Telling

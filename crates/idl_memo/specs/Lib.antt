@@ -1,2 +1,9 @@
+pub mod Buckets
+pub mod Cause
+pub mod Fresh
+pub mod Kept
+pub mod Meter
+pub mod Obtained
 pub mod Progress
 pub mod Query
+pub mod Renewal

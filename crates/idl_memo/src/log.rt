@@ -1,10 +1,12 @@
 //! What a task asked of a bank, and what it was answered.
 
-ghost use Rattle.std.specs.Prelude.{◌≡◌, ◌↔◌, [], IfOk, OnOk, OnErr, IsTrue, length, slice_get};
-ghost use Rattle.std.specs.Option.{option_copied, option_map};
-ghost use Rattle.idl_memo.specs.Query.{noted};
+ghost use Rattle.std.specs.Prelude.{◌≡◌, ◌↔◌, ◌+◌, ◌≤◌, [], All, IfOk, OnOk, OnErr, IsTrue, Option, length, slice_get};
+ghost use Rattle.std.specs.Option.{option_copied, option_map, option_to_list};
+ghost use Rattle.idl_memo.specs.Cause.{IsCause};
+ghost use Rattle.idl_memo.specs.Meter.{ComparesOnly, compared_after};
+ghost use Rattle.idl_memo.specs.Query.{HoldsIn, is_logged, noted};
 
-use crate::Bank;
+use crate::{Bank, Meter};
 use idl_base::{Datum, Table};
 use std::alloc::{AllocError, Global};
 use std::marker::Model;
@@ -77,6 +79,63 @@ impl<B: Bank> Log<B> {
         self.entries.push(key.clone()?, copy)?;
         Ok(answer)
     }
+
+    /// Whether a key was asked, with an answer or without. It takes no memory.
+    pub fn contains(&self, key: &B::Key) -> bool
+        ensures { result ≡ is_logged B.Key.eq self.now key.now }
+    {
+        self.entries.contains(key)
+    }
+
+    // Whether a log that holds in a bank holds too in one that differs from it in nothing but this cause: one look-up tells.
+    pub(crate) fn outlasts(&self, cause: Option<&B::Key>) -> bool
+        ensures { (old new : B.Key → Option B.Answer) → IsCause old new (option_copied cause.entry)
+            → HoldsIn old self.now → (IsTrue result ↔ HoldsIn new self.now) }
+    {
+        match cause {
+            Some(key) => !self.contains(key),
+            None => true,
+        }
+    }
+
+    // Whether each key has its answer in the bank.
+    pub(crate) fn holds_in(&self, bank: &B, meter: &mut Meter) -> bool
+        ensures holds { IsTrue result ↔ HoldsIn (B.at bank.now) self.now }
+        ensures counts { ComparesOnly meter.old meter.new }
+        ensures most { meter.new.compared ≤ meter.old.compared + length self.now }
+        ensures grows { meter.old.compared ≤ meter.new.compared }
+        ensures least { IsTrue result
+            → compared_after meter.old.compared (length self.now) ≤ meter.new.compared }
+    {
+        for index in 0..self.len() {
+            if !self.holds_at(index, bank) {
+                meter.compare(index + 1);
+                return false;
+            }
+        }
+        meter.compare(self.len());
+        true
+    }
+
+    // Whether the key at a place has its answer in the bank; past the last there is none that hasn't.
+    fn holds_at(&self, index: usize, bank: &B) -> bool
+        ensures { IsTrue result
+            ↔ All (λ e. e.1 ≡ B.at bank.now e.0) (option_to_list (slice_get self.now index)) }
+    {
+        match self.get(index) {
+            Some((key, logged)) => is_same(bank.answer(key), logged),
+            None => true,
+        }
+    }
+
+    // The log as one of another bank of such keys and answers.
+    pub(crate) fn settled<C: Bank<Key = B::Key, Answer = B::Answer>>(self) -> Log<C>
+        ensures { result ≡ self }
+    {
+        Log {
+            entries: self.entries,
+        }
+    }
 }
 
 // A copy of what is there.
@@ -86,5 +145,16 @@ fn copied<A: Datum>(answer: Option<&A>) -> Result<Option<A>, AllocError>
     match answer {
         Some(found) => Ok(Some(found.clone()?)),
         None => Ok(None),
+    }
+}
+
+// Whether the two are one answer, or both none.
+pub(crate) fn is_same<A: Datum>(found: Option<&A>, other: Option<&A>) -> bool
+    ensures { IsTrue result ↔ (option_copied other.entry ≡ option_copied found.entry) }
+{
+    match (found, other) {
+        (Some(found), Some(other)) => *found == *other,
+        (None, None) => true,
+        _ => false,
     }
 }

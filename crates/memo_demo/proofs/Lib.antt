@@ -1,2 +1,4 @@
+pub mod Passing
 pub mod References
+pub mod Renewing
 pub mod Steps

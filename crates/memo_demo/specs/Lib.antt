@@ -1,3 +1,5 @@
 pub mod Library
 pub mod Page
+pub mod Passes
+pub mod Renewal
 pub mod Trail

@@ -1,6 +1,6 @@
 //! A task: the trail from a page, as far as there is room for its titles.
 
-use crate::{Library, Page};
+use crate::Page;
 use idl_base::{Datum, Seq, Text};
 use idl_memo::{Bank, Log, Task, TaskKind};
 use std::alloc::{AllocError, Global};
@@ -27,7 +27,7 @@ pub struct Trail {
     pub start: Start,
 }
 
-impl Task<Library> for Trail {
+impl<B: Bank<Key = Page, Answer = Text>> Task<B> for Trail {
     ghost use Rattle.idl_memo.specs.declared.task.TaskKind.TheVariants.{Check};
     ghost use Rattle.memo_demo.specs.Trail.{trail_from};
 
@@ -50,8 +50,8 @@ impl Task<Library> for Trail {
     fn run(
         &self,
         alloc: Global,
-        bank: &Library,
-        log: &mut Log<Library>,
+        bank: &B,
+        log: &mut Log<B>,
     ) -> Result<Seq<Text>, AllocError> {
         let mut titles = Vec::new(alloc);
         let mut page = self.start.page.clone()?;
