@@ -1,0 +1,4 @@
+pub mod BitLemmas
+pub mod SizeLemmas
+pub mod TermEquations
+pub mod WalkLemmas
