@@ -1,12 +1,12 @@
 -- How many tokens a term is.
-use Rattle.std.proofs.Common.{◌≡◌, ◌∙◌, ℕ, ◌+◌, ◌*◌, List, [], ◌∷◌, ◌++◌, Option, None, Some, length, map, flat_map, refl, sym, ap, subst, arith, true, false}
+use Rattle.std.proofs.Common.{◌≡◌, ◌∙◌, ℕ, ◌+◌, ◌*◌, ◌≤◌, List, [], ◌∷◌, ◌++◌, Option, None, Some, length, map, flat_map, refl, sym, ap, subst, arith, true, false}
 use Rattle.std.proofs.lemmas.List.{length-append, length-map}
 use Rattle.std.proofs.lemmas.List.Concat.{flat_map_single}
 use Rattle.idl_lex.specs.declared.mark.Mark.TheVariants as mark
 use Rattle.idl_tree.proofs.Many.{many_spell}
 use Rattle.idl_tree.proofs.SpellLemmas.{spell_and-made, spell_exclusive_or-made, spell_expression-made, spell_primary-literal, spell_primary-name, spell_primary-parentheses, spell_product-made, spell_shift-made, spell_sum-made, spell_unary-made}
 use Rattle.idl_tree.specs.Expression.{product_mark, shift_mark, spell_and, spell_exclusive_or, spell_expression, spell_literal, spell_primary, spell_product, spell_shift, spell_sum, spell_unary, spell_unary_operator, sum_mark}
-use Rattle.idl_tree.specs.Lexeme.{Lexeme, Lexemes, Punctuation, Identifier}
+use Rattle.idl_tree.specs.Lexeme.{Lexeme, Lexemes, Punctuation, Identifier, Text, WideText}
 use Rattle.idl_tree.specs.Several.{spell_all}
 use Rattle.idl_tree.specs.declared.several.Several.{Several}
 use Rattle.idl_tree.specs.Name.{spell_leading, spell_name}
@@ -29,6 +29,7 @@ use Rattle.idl_tree.specs.declared.expression.Unary.{Unary, roll-Unary}
 use Rattle.idl_tree.specs.declared.expression.UnaryOperator.{UnaryOperator}
 use Rattle.idl_tree.specs.declared.expression.UnaryOperator.TheVariants as unary
 use Rattle.idl_tree.specs.declared.literal.Literal.{Literal}
+use Rattle.idl_tree.specs.declared.literal.Literal.TheVariants as literal
 use Rattle.idl_tree.specs.declared.name.ScopedName.{ScopedName}
 use Rattle.idl_value.specs.Term.{Term, Named, Literally, Parenthesised, Signed, Chain, Links, End, Link, links, before_last, leading, signed, shift_operator, sum_operator, product_operator, expression_term, exclusive_or_term, and_term, shift_term, sum_term, product_term, unary_term, primary_term}
 use Rattle.idl_value.specs.declared.operator.Operator.{Operator}
@@ -64,6 +65,16 @@ pub length-spell_all : {X : Type 0} (f : X → Lexeme) (xs : Several X) → leng
 length-spell_all f xs =
     let e = ap length (flat_map_single f xs.rest) ∙ length-map xs.rest f in
     omega (arith, e)
+
+-- a literal is one token or more
+pub literal-length : (l : Literal) → 1 ≤ length (spell_literal l)
+literal-length (literal.Integer n) = omega arith
+literal-length (literal.Character c) = omega arith
+literal-length (literal.WideCharacter c) = omega arith
+literal-length (literal.Text pieces) = let h = length-spell_all Text pieces in omega (arith, h)
+literal-length (literal.WideText pieces) = let h = length-spell_all WideText pieces in omega (arith, h)
+literal-length literal.True = omega arith
+literal-length literal.False = omega arith
 
 -- the claims by which the induction goes
 

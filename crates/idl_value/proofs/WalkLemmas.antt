@@ -1,18 +1,24 @@
 -- A walk from the left comes to the first fault, and to the value.
-use Rattle.std.proofs.Common.{◌≡◌, ◌∙◌, ℕ, ◌+◌, ◌-◌, ◌^◌, ◌<◌, ◌≤◌, suc, List, [], ◌∷◌, Option, None, Some, Result, Ok, Err, length, drop, get_or, add-one, min, refl, sym, ap, arith}
+use Rattle.std.proofs.Common.{◌≡◌, ◌∙◌, ℕ, ◌+◌, ◌-◌, ◌^◌, ◌<◌, ◌≤◌, suc, List, [], ◌∷◌, Option, None, Some, Result, Ok, Err, length, drop, get_or, add-one, min, zero, pos, negsuc, true, false, if◌then◌else◌, refl, sym, ap, arith}
 use Rattle.std.proofs.Math.Seq.{drop-cons}
 use Rattle.std.proofs.lemmas.List.{drop_all}
-use Rattle.idl_tree.specs.Expression.{spell_literal}
+use Rattle.idl_tree.specs.Expression.{spell_expression, spell_literal}
+use Rattle.idl_tree.specs.declared.expression.Expression.{Expression}
 use Rattle.idl_tree.specs.declared.expression.UnaryOperator.{UnaryOperator}
-use Rattle.idl_value.specs.Evaluation.{Evaluation, Faulty, Operands, Read, Valued, admitted, at_token, behind, first_of, literal_value, named, operand_at, operated, read_links, read_operator, read_parenthesis, read_sign, read_term, signed_at}
-use Rattle.idl_value.specs.Term.{Term, Named, Literally, Parenthesised, Signed, Chain, Links, End, Link, links}
-use Rattle.idl_value.specs.Walk.{Walked, ahead, further, named_outcome, operated_outcome, outcome_at, signed_outcome, walk_links, walk_operator, walk_parenthesis, walk_sign, walk_term}
+use Rattle.idl_value.specs.Evaluation.{Evaluation, Faulty, Operands, Read, Valued, admitted, at_token, behind, bound_of, fault, first_of, in_target, is_held, positive, start, value_of, literal_value, named, operand_at, operated, read_links, read_operator, read_parenthesis, read_sign, read_term, signed_at}
+use Rattle.idl_value.specs.Term.{Term, Named, Literally, Parenthesised, Signed, Chain, Links, End, Link, links, expression_term}
+use Rattle.idl_value.specs.Walk.{Walked, ahead, further, held_outcome, named_outcome, positive_outcome, operated_outcome, outcome_at, signed_outcome, walk_links, walk_operator, walk_parenthesis, walk_sign, walk_term}
 use Rattle.idl_value.specs.declared.operator.Operator.{Operator}
+use Rattle.idl_value.specs.declared.integer.IntegerKind.TheVariants.{UnsignedLong}
 use Rattle.idl_value.specs.declared.outcome.Code.{Code}
+use Rattle.idl_value.specs.declared.outcome.Code.TheVariants.{NotPositive, OutOfRange}
+use Rattle.idl_value.specs.declared.outcome.Outcome.TheVariants as outcome
 use Rattle.idl_value.specs.declared.target.Target.{Target}
+use Rattle.idl_value.specs.declared.target.Target.TheVariants as target
 use Rattle.idl_value.specs.declared.value.Value.{Value}
+use Rattle.idl_value.specs.declared.value.Value.TheVariants as value
 use Rattle.idl_value.specs.declared.walk.Place.{Place}
-use Rattle.idl_value.proofs.SizeLemmas.{size, links_size}
+use Rattle.idl_value.proofs.SizeLemmas.{size, links_size, expression_term-size}
 
 from_here : {X : Type 0} (xs : List X) (i : ℕ) (x : X) → i < length xs → x ≡ get_or xs i x → drop i xs ≡ x ∷ drop (i + 1) xs
 from_here xs i x h e = rw add-one (drop-cons xs i x h ∙ ap (λ y. y ∷ drop (suc i) xs) (sym e))
@@ -62,6 +68,9 @@ Below n = n < 2 ^ 64
 
 ahead-below : (n more : ℕ) → Below (n + more) → ahead n more ≡ n + more
 ahead-below n more h = omega arith
+
+pub ahead_none : (n : ℕ) → n ≤ 18446744073709551615 → ahead n 0 ≡ n
+ahead_none n h = omega arith
 
 further-below : (p : Place) (a b : ℕ) → Below (p.token + a) → Below (p.name + b) → further p a b ≡ behind p a b
 further-below p a b h g = λ i. record { token = ahead-below p.token a h i; name = ahead-below p.name b g i }
@@ -157,3 +166,36 @@ mutual
       ap (walk_operator t op (first_read left)) inner ∙ (λ i. record { outcome = o i; place = right.place }) in
       ap (λ w. walk_links t os w ls) both
       ∙ walk-links t os (read_operator t op left right) ls (read-name t os (behind p 1 0) e (omega (arith, n))) (omega (arith, h, k))
+
+held-first : (t : Target) (a : Evaluation) → held_outcome t (first_of a) ≡ first_of (in_target t a)
+held-first t (Valued v) =
+    elim (is_held t v) as (λ b. (if b then outcome.Value v else outcome.Fault (fault 0 OutOfRange)) ≡ first_of (if b then Valued v else Faulty (fault 0 OutOfRange ∷ []))) [ true ↦ refl | false ↦ refl ]
+held-first t (Faulty []) = refl
+held-first t (Faulty (f ∷ fs)) = refl
+
+positive-first : (a : Evaluation) → positive_outcome (first_of a) ≡ first_of (positive a)
+positive-first (Valued (value.Integer (pos zero))) = refl
+positive-first (Valued (value.Integer (pos (suc n)))) = refl
+positive-first (Valued (value.Integer (negsuc n))) = refl
+positive-first (Valued (value.Boolean b)) = refl
+positive-first (Valued (value.Character c)) = refl
+positive-first (Valued (value.WideCharacter c)) = refl
+positive-first (Valued (value.Text s)) = refl
+positive-first (Valued (value.WideText s)) = refl
+positive-first (Valued (value.Enumerator p n)) = refl
+positive-first (Faulty []) = refl
+positive-first (Faulty (f ∷ fs)) = refl
+
+-- what is told of a whole expression
+pub walk-value : (t : Target) (os : Operands) (e : Expression) → length (spell_expression e) < 2 ^ 64
+    → held_outcome t (walk_term t os start (expression_term e)).outcome ≡ first_of (value_of t os e)
+unfolding value_of
+walk-value t os e h =
+    let x = expression_term e in
+    let s = expression_term-size e in
+    ap (λ w. held_outcome t w.outcome) (walk-read t os start x (omega arith) (omega (arith, h, s)))
+    ∙ held-first t (read_term t os start x).evaluation
+
+pub walk-bound : (os : Operands) (e : Expression) → positive_outcome (first_of (value_of (target.Integer UnsignedLong) os e)) ≡ first_of (bound_of os e)
+unfolding bound_of
+walk-bound os e = positive-first (value_of (target.Integer UnsignedLong) os e)

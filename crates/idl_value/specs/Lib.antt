@@ -3,6 +3,7 @@ pub mod Evaluation
 pub mod Exact
 pub mod Integer
 pub mod Operate
+pub mod Order
 pub mod SameInteger
 pub mod Spelled
 pub mod Target

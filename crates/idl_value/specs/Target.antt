@@ -1,9 +1,10 @@
 -- The types of which there are constants.
-use Rattle.std.specs.Prelude.{ℕ, List, Bool, true, false}
+use Rattle.std.specs.Prelude.{ℕ, ℤ, pos, List, Bool, true, false, Option, None, Some}
 use Rattle.idl_tree.specs.declared.data_type.DiscreteType.{DiscreteType}
 use Rattle.idl_tree.specs.declared.data_type.DiscreteType.TheVariants as discrete
 use Rattle.idl_tree.specs.declared.data_type.IntegerSize.{IntegerSize}
 use Rattle.idl_tree.specs.declared.data_type.IntegerSize.TheVariants as size
+use Rattle.idl_value.specs.Integer.{power, width}
 use Rattle.idl_value.specs.declared.integer.IntegerKind.{IntegerKind}
 use Rattle.idl_value.specs.declared.integer.IntegerKind.TheVariants.{Octet, Short, UnsignedShort, Long, UnsignedLong, LongLong, UnsignedLongLong}
 use Rattle.idl_value.specs.declared.target.Target.{Target}
@@ -46,3 +47,13 @@ discriminates (target.Enumeration path) = true
 discriminates target.WideCharacter = false
 discriminates (target.Text bound) = false
 discriminates (target.WideText bound) = false
+
+-- how many values the type has, where its enum has so many enumerators
+abbrev pub value_count : Target → ℕ → Option ℤ
+value_count (target.Integer kind) enumerators = Some (power (width kind))
+value_count target.Boolean enumerators = Some (pos 2)
+value_count target.Character enumerators = Some (pos 256)
+value_count target.WideCharacter enumerators = Some (pos 65536)
+value_count (target.Text bound) enumerators = None
+value_count (target.WideText bound) enumerators = None
+value_count (target.Enumeration path) enumerators = Some (pos enumerators)

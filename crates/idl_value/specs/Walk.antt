@@ -1,6 +1,6 @@
 -- Words for the walk over an expression: of its faults the first, and numbers of tokens that stop at
 -- the greatest that there is.
-use Rattle.std.specs.Prelude.{ℕ, ℤ, Bool, true, if◌then◌else◌, ◌+◌, ◌*◌, ◌^◌, ◌-◌, length, min, List, [], ◌∷◌, Option, None, Some, Result, Ok, Err}
+use Rattle.std.specs.Prelude.{ℕ, zero, ℤ, pos, Bool, true, if◌then◌else◌, ◌+◌, ◌*◌, ◌^◌, ◌-◌, length, min, List, [], ◌∷◌, Option, None, Some, Result, Ok, Err}
 use Rattle.idl_tree.specs.Expression.{spell_literal}
 use Rattle.idl_tree.specs.declared.expression.UnaryOperator.{UnaryOperator}
 use Rattle.idl_value.specs.Evaluation.{Operands, admitted, combined, fault, is_held, literal_value, number_in, operand_at, signed_value}
@@ -8,7 +8,7 @@ use Rattle.idl_value.specs.Operate.{in_parts, operate, operate_sign}
 use Rattle.idl_value.specs.Term.{Term, Named, Literally, Parenthesised, Signed, Chain, Links, End, Link}
 use Rattle.idl_value.specs.declared.operator.Operator.{Operator}
 use Rattle.idl_value.specs.declared.outcome.Code.{Code}
-use Rattle.idl_value.specs.declared.outcome.Code.TheVariants.{OutOfRange}
+use Rattle.idl_value.specs.declared.outcome.Code.TheVariants.{NotPositive, OutOfRange}
 use Rattle.idl_value.specs.declared.outcome.Fault.{Fault}
 use Rattle.idl_value.specs.declared.outcome.Outcome.{Outcome}
 use Rattle.idl_value.specs.declared.outcome.Outcome.TheVariants as outcome
@@ -118,3 +118,7 @@ is_held_outcome target other = true
 abbrev pub held_outcome : Target → Outcome → Outcome
 held_outcome target other =
     if is_held_outcome target other then other else outcome.Fault (fault 0 OutOfRange)
+
+abbrev pub positive_outcome : Outcome → Outcome
+positive_outcome (outcome.Value (value.Integer (pos zero))) = outcome.Fault (fault 0 NotPositive)
+positive_outcome other = other

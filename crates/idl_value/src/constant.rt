@@ -3,7 +3,7 @@
 ghost use Rattle.std.specs.Prelude.{◌≡◌, ◌<◌, ◌^◌, ◌∷◌, [], IfOk, length};
 ghost use Rattle.idl_tree.specs.Expression.{spell_expression};
 ghost use Rattle.idl_value.specs.Evaluation.{Faulty, bound_of, fault, first_of, joined, literal_value, value_of};
-ghost use Rattle.idl_value.specs.Walk.{ahead, held_outcome, is_held_outcome, seen};
+ghost use Rattle.idl_value.specs.Walk.{ahead, held_outcome, is_held_outcome, positive_outcome, seen};
 
 use crate::integer::IntegerKind;
 use crate::outcome::{Code, Fault, Outcome};
@@ -45,10 +45,17 @@ pub fn evaluate_bound(
 {
     let target = Target::Integer(IntegerKind::UnsignedLong);
     let outcome = evaluate(alloc, &target, operands, expression)?;
+    Ok(positive(outcome))
+}
+
+// What is told of a bound with this value.
+fn positive(outcome: Outcome) -> Outcome
+    ensures { result ≡ positive_outcome outcome }
+{
     if let Outcome::Value(Value::Integer(0)) = &outcome {
-        return Ok(first_token(Code::NotPositive));
+        return first_token(Code::NotPositive);
     }
-    Ok(outcome)
+    outcome
 }
 
 // A fault of the whole expression.
@@ -95,11 +102,18 @@ fn is_held(target: &Target, part: Part<'_>) -> bool
 fn joined_length(pieces: &Several<Seq<u16>>) -> usize
     ensures { result ≡ ahead 0 (length (joined pieces.now)) }
 {
-    let mut length = pieces.first.len();
+    let mut length = with_piece(0, &pieces.first);
     for piece in pieces.rest.as_slice() {
-        length = length.saturating_add(piece.len());
+        length = with_piece(length, piece);
     }
     length
+}
+
+// So many characters, and those of a piece.
+fn with_piece(count: usize, piece: &Seq<u16>) -> usize
+    ensures { result ≡ ahead count (length piece.now) }
+{
+    count.saturating_add(piece.len())
 }
 
 // What is told of a part.

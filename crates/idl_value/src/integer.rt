@@ -2,7 +2,7 @@
 
 ghost use Rattle.std.specs.Prelude.{◌≡◌};
 ghost use Rattle.std.specs.Cmp.{on_equiv, on_per, partial_equiv_from_equiv, nat_eq_equiv};
-ghost use Rattle.idl_value.specs.Integer.{greatest, holds, holds_part, is_signed, least, width};
+ghost use Rattle.idl_value.specs.Integer.{greatest, holds, holds_part, is_signed, least, power, width};
 ghost use Rattle.idl_value.specs.SameInteger.{integer_number, integer_eq, same_integer_kind};
 
 use idl_base::Datum;
@@ -44,6 +44,18 @@ impl IntegerKind {
             IntegerKind::Short | IntegerKind::UnsignedShort => 16,
             IntegerKind::Long | IntegerKind::UnsignedLong => 32,
             IntegerKind::LongLong | IntegerKind::UnsignedLongLong => 64,
+        }
+    }
+
+    /// How many values the type has.
+    pub fn value_count(self) -> i128
+        ensures { result ≡ power (width self) }
+    {
+        match self {
+            IntegerKind::Octet => 256,
+            IntegerKind::Short | IntegerKind::UnsignedShort => 65536,
+            IntegerKind::Long | IntegerKind::UnsignedLong => 4294967296,
+            IntegerKind::LongLong | IntegerKind::UnsignedLongLong => 18446744073709551616,
         }
     }
 

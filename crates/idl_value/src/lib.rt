@@ -6,6 +6,7 @@
 
 mod constant;
 mod integer;
+mod laws;
 mod operator;
 mod outcome;
 mod part;
@@ -17,6 +18,7 @@ mod whole;
 
 pub use constant::{evaluate, evaluate_bound, literal_value};
 pub use integer::IntegerKind;
+pub use laws::ascending;
 pub use operator::Operator;
 pub use outcome::{Code, Fault, Outcome};
 pub use spelling::{push_name, push_value};

@@ -117,7 +117,10 @@ impl<'a> Part<'a> {
             (_, Part::Told) => right,
             _ => {
                 let numbers = (self.number(), right.number());
-                whole_part(mark.token, combined_numbers(target.kind(), mark.operator, numbers))
+                whole_part(
+                    mark.token,
+                    combined_numbers(target.kind(), mark.operator, numbers),
+                )
             }
         }
     }

@@ -2,7 +2,7 @@
 
 ghost use Rattle.std.specs.Prelude.{◌≡◌};
 ghost use Rattle.idl_value.specs.Evaluation.{kind_in};
-ghost use Rattle.idl_value.specs.Target.{discriminates, integer_of, target_of};
+ghost use Rattle.idl_value.specs.Target.{discriminates, integer_of, target_of, value_count};
 
 use crate::integer::IntegerKind;
 use idl_base::{Datum, Seq};
@@ -86,13 +86,28 @@ impl Target {
         }
     }
 
+    /// How many values it has, where its enum has so many enumerators; `None` of strings, which have no end.
+    pub fn value_count(&self, enumerators: u64) -> Option<i128>
+        ensures { result ≡ value_count self.now enumerators }
+    {
+        match self {
+            Target::Integer(kind) => Some(kind.value_count()),
+            Target::Boolean => Some(2),
+            Target::Character => Some(256),
+            Target::WideCharacter => Some(65536),
+            Target::Text(_) | Target::WideText(_) => None,
+            Target::Enumeration(_) => Some(i128::from(enumerators)),
+        }
+    }
+
     /// Whether a union may have a discriminator of this type.
     pub fn discriminates(&self) -> bool
         ensures { result ≡ discriminates self.now }
     {
         match self {
             Target::Integer(IntegerKind::Octet) => false,
-            Target::Integer(_) | Target::Boolean | Target::Character | Target::Enumeration(_) => true,
+            Target::Integer(_) | Target::Boolean | Target::Character | Target::Enumeration(_) =>
+                true,
             Target::WideCharacter | Target::Text(_) | Target::WideText(_) => false,
         }
     }

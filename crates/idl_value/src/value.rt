@@ -3,8 +3,9 @@
 use idl_base::{Datum, Seq};
 use idl_lex::Spelling;
 
-/// The value of a constant, of a label or of an expression, with its kind.
-#[derive(Clone, PartialEq, Eq)]
+/// The value of a constant, of a label or of an expression, with its kind. Two labels of one union are the same where their values
+/// are equal; the order has no meaning, and lets values be looked up.
+#[derive(Clone, PartialEq, Eq, PartialOrd, Ord)]
 pub enum Value {
     Integer(i128),
     Boolean(bool),

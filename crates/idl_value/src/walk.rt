@@ -160,7 +160,10 @@ impl<'a> Scene<'a> {
         match unary.operator {
             None => self.primary(place, &unary.operand),
             Some(sign) => {
-                let Step { part, place: behind } = self.primary(place.further(1, 0), &unary.operand);
+                let Step {
+                    part,
+                    place: behind,
+                } = self.primary(place.further(1, 0), &unary.operand);
                 Step {
                     part: part.with_sign(self.target, place.token, sign),
                     place: behind,
@@ -181,7 +184,10 @@ impl<'a> Scene<'a> {
             Primary::Name(name) => self.named(place, name),
             Primary::Literal(literal) => self.literal(place, literal),
             Primary::Parentheses(inner) => {
-                let Step { part, place: behind } = self.expression(place.further(1, 0), inner.get());
+                let Step {
+                    part,
+                    place: behind,
+                } = self.expression(place.further(1, 0), inner.get());
                 Step {
                     part,
                     place: behind.further(1, 0),
