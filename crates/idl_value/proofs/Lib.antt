@@ -1,0 +1,5 @@
+pub mod BitLemmas
+pub mod OrderLemmas
+pub mod SizeLemmas
+pub mod TermEquations
+pub mod WalkLemmas

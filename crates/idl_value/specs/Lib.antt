@@ -1,0 +1,11 @@
+pub mod Bits
+pub mod Evaluation
+pub mod Exact
+pub mod Integer
+pub mod Operate
+pub mod Order
+pub mod SameInteger
+pub mod Spelled
+pub mod Target
+pub mod Term
+pub mod Walk

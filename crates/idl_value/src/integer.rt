@@ -1,0 +1,145 @@
+//! The integer types.
+
+ghost use Rattle.std.specs.Prelude.{◌≡◌};
+ghost use Rattle.std.specs.Cmp.{on_equiv, on_per, partial_equiv_from_equiv, nat_eq_equiv};
+ghost use Rattle.idl_value.specs.Integer.{greatest, holds, holds_part, is_signed, least, power, width};
+ghost use Rattle.idl_value.specs.SameInteger.{integer_number, integer_eq, same_integer_kind};
+
+use idl_base::Datum;
+
+/// A type whose values are whole numbers.
+#[derive(Clone, Copy)]
+pub enum IntegerKind {
+    Octet,
+    Short,
+    UnsignedShort,
+    Long,
+    UnsignedLong,
+    LongLong,
+    UnsignedLongLong,
+}
+
+impl IntegerKind {
+    // A number for each.
+    fn number(self) -> u8
+        ensures { result ≡ integer_number self }
+    {
+        match self {
+            IntegerKind::Octet => 0,
+            IntegerKind::Short => 1,
+            IntegerKind::UnsignedShort => 2,
+            IntegerKind::Long => 3,
+            IntegerKind::UnsignedLong => 4,
+            IntegerKind::LongLong => 5,
+            IntegerKind::UnsignedLongLong => 6,
+        }
+    }
+
+    /// How many bits a value of the type has.
+    pub fn width(self) -> u32
+        ensures { result ≡ width self }
+    {
+        match self {
+            IntegerKind::Octet => 8,
+            IntegerKind::Short | IntegerKind::UnsignedShort => 16,
+            IntegerKind::Long | IntegerKind::UnsignedLong => 32,
+            IntegerKind::LongLong | IntegerKind::UnsignedLongLong => 64,
+        }
+    }
+
+    /// How many values the type has.
+    pub fn value_count(self) -> i128
+        ensures { result ≡ power (width self) }
+    {
+        match self {
+            IntegerKind::Octet => 256,
+            IntegerKind::Short | IntegerKind::UnsignedShort => 65536,
+            IntegerKind::Long | IntegerKind::UnsignedLong => 4294967296,
+            IntegerKind::LongLong | IntegerKind::UnsignedLongLong => 18446744073709551616,
+        }
+    }
+
+    /// Whether the type has negative values.
+    pub fn is_signed(self) -> bool
+        ensures { result ≡ is_signed self }
+    {
+        match self {
+            IntegerKind::Short | IntegerKind::Long | IntegerKind::LongLong => true,
+            IntegerKind::Octet
+            | IntegerKind::UnsignedShort
+            | IntegerKind::UnsignedLong
+            | IntegerKind::UnsignedLongLong => false,
+        }
+    }
+
+    /// The least value of the type.
+    pub fn least(self) -> i128
+        ensures { result ≡ least self }
+    {
+        match self {
+            IntegerKind::Short => i16::MIN as i128,
+            IntegerKind::Long => i32::MIN as i128,
+            IntegerKind::LongLong => i64::MIN as i128,
+            IntegerKind::Octet
+            | IntegerKind::UnsignedShort
+            | IntegerKind::UnsignedLong
+            | IntegerKind::UnsignedLongLong => 0,
+        }
+    }
+
+    /// The greatest value of the type.
+    pub fn greatest(self) -> i128
+        ensures { result ≡ greatest self }
+    {
+        match self {
+            IntegerKind::Octet => u8::MAX as i128,
+            IntegerKind::Short => i16::MAX as i128,
+            IntegerKind::UnsignedShort => u16::MAX as i128,
+            IntegerKind::Long => i32::MAX as i128,
+            IntegerKind::UnsignedLong => u32::MAX as i128,
+            IntegerKind::LongLong => i64::MAX as i128,
+            IntegerKind::UnsignedLongLong => u64::MAX as i128,
+        }
+    }
+
+    /// Whether it is a value of the type.
+    pub fn holds(self, value: i128) -> bool
+        ensures { result ≡ holds self value }
+    {
+        self.least() <= value && value <= self.greatest()
+    }
+
+    /// Whether a part of a value of the type may have this value.
+    pub fn holds_part(self, value: i128) -> bool
+        ensures { result ≡ holds_part self value }
+    {
+        match self {
+            IntegerKind::LongLong | IntegerKind::UnsignedLongLong => {
+                i64::MIN as i128 <= value && value <= u64::MAX as i128
+            }
+            _ => i32::MIN as i128 <= value && value <= u32::MAX as i128,
+        }
+    }
+}
+
+impl PartialEq for IntegerKind {
+    ghost eq = { integer_eq };
+
+    ghost laws = { on_per integer_number (partial_equiv_from_equiv nat_eq_equiv) };
+
+    fn eq(&self, other: &IntegerKind) -> bool
+        ensures { result ≡ integer_eq self.now other.now }
+    {
+        self.number() == other.number()
+    }
+}
+
+impl Eq for IntegerKind {
+    ghost laws = { on_equiv integer_number nat_eq_equiv };
+}
+
+impl Datum for IntegerKind {
+    ghost same = { same_integer_kind };
+
+    ghost copy = { λ x y h. h };
+}

@@ -1,0 +1,26 @@
+//! The values of constant expressions.
+//!
+//! A whole number has no size here but by conditions, and what a name denotes is handed in: nothing here knows scopes,
+//! declarations or places.
+#![tactic(auto)]
+
+mod constant;
+mod integer;
+mod laws;
+mod operator;
+mod outcome;
+mod part;
+mod spelling;
+mod target;
+mod value;
+mod walk;
+mod whole;
+
+pub use constant::{evaluate, evaluate_bound, literal_value};
+pub use integer::IntegerKind;
+pub use laws::ascending;
+pub use operator::Operator;
+pub use outcome::{Code, Fault, Outcome};
+pub use spelling::{push_name, push_value};
+pub use target::Target;
+pub use value::Value;

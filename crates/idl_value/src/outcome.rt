@@ -1,0 +1,42 @@
+//! What an expression comes to.
+
+use crate::value::Value;
+
+/// Why a part of an expression has no value.
+#[derive(Clone, Copy)]
+pub enum Code {
+    /// An operand or a value of another kind than the target.
+    WrongKind,
+    OutOfRange,
+    DivisionByZero,
+    BadShift,
+    /// A bound that is 0.
+    NotPositive,
+}
+
+/// A fault in an expression.
+#[derive(Clone, Copy)]
+pub struct Fault {
+    /// The number of the token at which it is decided, among the expression's own, from 0 on.
+    pub token: usize,
+    pub code: Code,
+}
+
+/// What an expression comes to.
+pub enum Outcome {
+    Value(Value),
+    /// It has no value, and this fault is the first.
+    Fault(Fault),
+    /// It has no value, and all its faults are those of names.
+    Told,
+}
+
+impl Drop for Outcome {
+    fn drop(self) {
+        match self {
+            Outcome::Value(_value) => {}
+            Outcome::Fault(_fault) => {}
+            Outcome::Told => {}
+        }
+    }
+}

@@ -1,0 +1,300 @@
+//! The walk over an expression, from the left.
+
+ghost use Rattle.std.specs.Prelude.{◌≡◌, ◌+◌, length};
+ghost use Rattle.std.specs.Option.{option_copied};
+ghost use Rattle.idl_tree.specs.Expression.{spell_literal};
+ghost use Rattle.idl_value.specs.Evaluation.{operand_at};
+ghost use Rattle.idl_value.specs.Term.{Literally, Named, and_term, before_last, exclusive_or_term, expression_term, primary_term, product_operator, product_term, shift_operator, shift_term, sum_operator, sum_term, unary_term};
+ghost use Rattle.idl_value.specs.Walk.{ahead, further, stepped, walk_operator, walk_term};
+
+use crate::operator::Operator;
+use crate::part::{Part, Sited, literal_part, named_part};
+use crate::target::Target;
+use crate::value::Value;
+use idl_base::Seq;
+use idl_tree::{
+    And, ExclusiveOr, Expression, Literal, Primary, Product, ProductOperator, ScopedName, Several,
+    Shift, ShiftOperator, Sum, SumOperator, Unary,
+};
+
+/// How many tokens of an expression stand before a part of it, and how many names.
+#[derive(Clone, Copy)]
+pub struct Place {
+    pub token: usize,
+    pub name: usize,
+}
+
+/// What a part comes to, and the place behind it.
+#[derive(Clone, Copy)]
+pub struct Step<'a> {
+    pub part: Part<'a>,
+    pub place: Place,
+}
+
+/// What the expression is for, and the values of its names.
+#[derive(Clone, Copy)]
+pub struct Scene<'a> {
+    pub target: &'a Target,
+    pub operands: &'a [Option<Value>],
+}
+
+impl Place {
+    /// So many tokens and names further.
+    fn further(self, tokens: usize, names: usize) -> Place
+        ensures { result ≡ further self tokens names }
+    {
+        Place {
+            token: self.token.saturating_add(tokens),
+            name: self.name.saturating_add(names),
+        }
+    }
+}
+
+impl<'a> Scene<'a> {
+    /// Operands with `|` between them.
+    #[cycle(expression)]
+    #[tactic(auto, unfolding(crate::specs::Term::expression_term))]
+    pub fn expression(self, place: Place, expression: &'a Expression) -> Step<'a>
+        ensures { stepped result
+            ≡ walk_term self.entry.target.now self.entry.operands.now place
+            (expression_term expression.now) }
+    {
+        let Expression { first, rest } = expression;
+        let mut left = self.exclusive_or(place, first);
+        for operand in rest.as_slice() {
+            let right = self.exclusive_or(left.place.further(1, 0), operand);
+            left = self.operated(Operator::Or, left, right);
+        }
+        left
+    }
+
+    /// Operands with `^` between them.
+    #[cycle(expression)]
+    #[tactic(auto, unfolding(crate::specs::Term::exclusive_or_term))]
+    fn exclusive_or(self, place: Place, exclusive_or: &'a ExclusiveOr) -> Step<'a>
+        ensures { stepped result
+            ≡ walk_term self.entry.target.now self.entry.operands.now place
+            (exclusive_or_term exclusive_or.now) }
+    {
+        let ExclusiveOr { first, rest } = exclusive_or;
+        let mut left = self.and(place, first);
+        for operand in rest.as_slice() {
+            let right = self.and(left.place.further(1, 0), operand);
+            left = self.operated(Operator::ExclusiveOr, left, right);
+        }
+        left
+    }
+
+    /// Operands with `&` between them.
+    #[cycle(expression)]
+    #[tactic(auto, unfolding(crate::specs::Term::and_term))]
+    fn and(self, place: Place, and: &'a And) -> Step<'a>
+        ensures { stepped result
+            ≡ walk_term self.entry.target.now self.entry.operands.now place (and_term and.now) }
+    {
+        let And { first, rest } = and;
+        let mut left = self.shift(place, first);
+        for operand in rest.as_slice() {
+            let right = self.shift(left.place.further(1, 0), operand);
+            left = self.operated(Operator::And, left, right);
+        }
+        left
+    }
+
+    /// An operand, and shifts of it.
+    #[cycle(expression)]
+    #[tactic(auto, unfolding(crate::specs::Term::shift_term))]
+    fn shift(self, place: Place, shift: &'a Shift) -> Step<'a>
+        ensures { stepped result
+            ≡ walk_term self.entry.target.now self.entry.operands.now place (shift_term shift.now) }
+    {
+        let Shift { first, rest } = shift;
+        let mut left = self.sum(place, first);
+        for (operator, operand) in rest.as_slice() {
+            let right = self.sum(left.place.further(1, 0), operand);
+            left = self.operated(shift_operator(*operator), left, right);
+        }
+        left
+    }
+
+    /// An operand, and what is added or taken away.
+    #[cycle(expression)]
+    #[tactic(auto, unfolding(crate::specs::Term::sum_term))]
+    fn sum(self, place: Place, sum: &'a Sum) -> Step<'a>
+        ensures { stepped result
+            ≡ walk_term self.entry.target.now self.entry.operands.now place (sum_term sum.now) }
+    {
+        let Sum { first, rest } = sum;
+        let mut left = self.product(place, first);
+        for (operator, operand) in rest.as_slice() {
+            let right = self.product(left.place.further(1, 0), operand);
+            left = self.operated(sum_operator(*operator), left, right);
+        }
+        left
+    }
+
+    /// An operand, and factors and divisors.
+    #[cycle(expression)]
+    #[tactic(auto, unfolding(crate::specs::Term::product_term))]
+    fn product(self, place: Place, product: &'a Product) -> Step<'a>
+        ensures { stepped result
+            ≡ walk_term self.entry.target.now self.entry.operands.now place
+            (product_term product.now) }
+    {
+        let Product { first, rest } = product;
+        let mut left = self.unary(place, first);
+        for (operator, operand) in rest.as_slice() {
+            let right = self.unary(left.place.further(1, 0), operand);
+            left = self.operated(product_operator(*operator), left, right);
+        }
+        left
+    }
+
+    /// An operand, with at most one operator before it.
+    #[cycle(expression)]
+    #[tactic(auto, unfolding(crate::specs::Term::unary_term))]
+    fn unary(self, place: Place, unary: &'a Unary) -> Step<'a>
+        ensures { stepped result
+            ≡ walk_term self.entry.target.now self.entry.operands.now place (unary_term unary.now) }
+    {
+        match unary.operator {
+            None => self.primary(place, &unary.operand),
+            Some(sign) => {
+                let Step {
+                    part,
+                    place: behind,
+                } = self.primary(place.further(1, 0), &unary.operand);
+                Step {
+                    part: part.with_sign(self.target, place.token, sign),
+                    place: behind,
+                }
+            }
+        }
+    }
+
+    /// An expression that is no operation.
+    #[cycle(expression)]
+    #[tactic(auto, unfolding(crate::specs::Term::primary_term))]
+    fn primary(self, place: Place, primary: &'a Primary) -> Step<'a>
+        ensures { stepped result
+            ≡ walk_term self.entry.target.now self.entry.operands.now place
+            (primary_term primary.now) }
+    {
+        match primary {
+            Primary::Name(name) => self.named(place, name),
+            Primary::Literal(literal) => self.literal(place, literal),
+            Primary::Parentheses(inner) => {
+                let Step {
+                    part,
+                    place: behind,
+                } = self.expression(place.further(1, 0), inner.get());
+                Step {
+                    part,
+                    place: behind.further(1, 0),
+                }
+            }
+        }
+    }
+
+    // A name.
+    fn named(self, place: Place, name: &ScopedName) -> Step<'a>
+        ensures { stepped result
+            ≡ walk_term self.entry.target.now self.entry.operands.now place
+            (Named (before_last name.now)) }
+    {
+        let last = place.further(before_last(name), 0);
+        Step {
+            part: named_part(self.target, last.token, self.operand(place.name)),
+            place: last.further(1, 1),
+        }
+    }
+
+    // The operand of a name by its number.
+    fn operand(self, number: usize) -> Option<&'a Value>
+        ensures { option_copied result ≡ operand_at self.entry.operands.now number }
+    {
+        match self.operands.get(number) {
+            Some(Some(value)) => Some(value),
+            _ => None,
+        }
+    }
+
+    // A literal.
+    fn literal(self, place: Place, literal: &'a Literal) -> Step<'a>
+        ensures { stepped result
+            ≡ walk_term self.entry.target.now self.entry.operands.now place
+            (Literally literal.now) }
+    {
+        Step {
+            part: literal_part(self.target, place.token, literal),
+            place: place.further(literal_length(literal), 0),
+        }
+    }
+
+    // Two operands, and the operator between them.
+    fn operated(self, operator: Operator, left: Step<'a>, right: Step<'a>) -> Step<'a>
+        ensures { stepped result
+            ≡ walk_operator self.entry.target.now operator (stepped left.entry) (stepped right.entry) }
+    {
+        let mark = Sited {
+            operator,
+            token: left.place.token,
+        };
+        Step {
+            part: left.part.combined(self.target, mark, right.part),
+            place: right.place,
+        }
+    }
+}
+
+// How many tokens of a name stand before its last part.
+fn before_last(name: &ScopedName) -> usize
+    ensures { result ≡ ahead 0 (before_last name.now) }
+{
+    usize::from(name.is_global).saturating_add(name.rest.len().saturating_mul(2))
+}
+
+// How many tokens a literal is.
+fn literal_length(literal: &Literal) -> usize
+    ensures { result ≡ ahead 0 (length (spell_literal literal.now)) }
+{
+    match literal {
+        Literal::Text(pieces) | Literal::WideText(pieces) => text_length(pieces),
+        _ => 1,
+    }
+}
+
+// How many tokens string literals are.
+fn text_length(pieces: &Several<Seq<u16>>) -> usize
+    ensures { result ≡ ahead 0 (length pieces.now.rest + 1) }
+{
+    pieces.rest.len().saturating_add(1)
+}
+
+fn shift_operator(operator: ShiftOperator) -> Operator
+    ensures { result ≡ shift_operator operator }
+{
+    match operator {
+        ShiftOperator::Left => Operator::ShiftLeft,
+        ShiftOperator::Right => Operator::ShiftRight,
+    }
+}
+
+fn sum_operator(operator: SumOperator) -> Operator
+    ensures { result ≡ sum_operator operator }
+{
+    match operator {
+        SumOperator::Plus => Operator::Add,
+        SumOperator::Minus => Operator::Subtract,
+    }
+}
+
+fn product_operator(operator: ProductOperator) -> Operator
+    ensures { result ≡ product_operator operator }
+{
+    match operator {
+        ProductOperator::Times => Operator::Multiply,
+        ProductOperator::Divided => Operator::Divide,
+        ProductOperator::Remainder => Operator::Remainder,
+    }
+}
