@@ -212,7 +212,6 @@ impl<'a> Judge<'a> {
             found: walker.found.as_slice(),
         };
         let row = row_of(alloc, row_depth(unit.tree, self.scopes), unit.sites, rest)?;
-        let row = Shared::new(alloc, row)?;
         let around = path_around(alloc, self.scopes)?;
         let step = step_of(alloc, unit.tree, &around)?;
         self.ask_step(log, &step)?;

@@ -14,7 +14,7 @@ use crate::using::name_length;
 use crate::verdict::Row;
 use idl_base::{Seq, Text};
 use idl_lex::{Spelling, Token, is_like_keyword};
-use idl_scope::Path;
+use idl_scope::{Path, Shared};
 use idl_site::Site;
 use idl_tree::{ScopedName, Several};
 use std::alloc::{AllocError, Global};
@@ -46,7 +46,8 @@ pub fn row_of(
     let mut row = Vec::new(alloc);
     push_blanks(&mut row, depth)?;
     row.extend_from_slice(behind(text.as_slice(), 1))?;
-    Ok(Row::Spelled(Text::from_vec(row)))
+    let row = Shared::new(alloc, Text::from_vec(row))?;
+    Ok(Row::Spelled(row))
 }
 
 // Whether one of the sites is an expression.

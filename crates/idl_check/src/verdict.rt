@@ -9,8 +9,8 @@ use std::alloc::{AllocError, Global};
 
 /// The row of a unit in the dump.
 pub enum Row {
-    /// Its bytes.
-    Spelled(Text),
+    /// Its bytes, which are shared.
+    Spelled(Shared<Text>),
     /// It holds an expression, whose value isn't known.
     Unknown,
 }
@@ -31,7 +31,7 @@ pub struct Verdict {
     /// What it adds: names only where there is no fault.
     pub writes: Shared<Facts>,
     /// Its row, which a faulty unit and a pragma have not.
-    pub row: Option<Shared<Row>>,
+    pub row: Option<Row>,
 }
 
 impl Drop for Verdict {
