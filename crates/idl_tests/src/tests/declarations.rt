@@ -3,7 +3,7 @@
 use super::support::have_rows;
 use std::test::Fail;
 
-static ROWS: [&str; 21] = [
+static ROWS: [&str; 26] = [
     // Units, and the scopes that hold them.
     "module M { interface I { oneway void f(in long x); }; };\n=module M {\n=  interface I {\n\
      =    oneway void f ( in long x );\n=  };\n=};",
@@ -46,6 +46,16 @@ static ROWS: [&str; 21] = [
     // A faulty opening opens a scope without a name, and what stands in it is judged there.
     "interface A : B {\ntypedef long T;\ntypedef T U;\nvoid f();\n};\ntypedef A::T V;\ntypedef long A;\n=a:1: E30 B\n\
      =a:6: E30 A",
+    // Nesting, and what isn't closed.
+    "const long K = `64×(`1`64×)`;\nconst long L = `65×(`1`65×)`;\nconst long M = `64×-(`1`64×)`;\nconst long N = --1;\n\
+     =a:2: E24 (\n=a:4: E20 const",
+    "`65×module M@ {\n``64×};\n`};\n=a:65: E24 {",
+    "struct S { long a;\n=a:1: E20 struct",
+    "const long K = 18446744073709551616;\nconst string S = \"abc;\n=a:1: E07 18446744073709551616\n=a:2: E02 \"abc;",
+    // A diamond of bases, of which each is asked once.
+    "interface A0 { typedef long T; };\n#define B A0\n`40×interface L@ : B { };\ninterface R@ : B { };\n\
+     interface A@ : L@, R@ { };\n#undef B\n#define B A@\n`interface Z : A40 { attribute T x; };\ntypedef T U;\n\
+     =a:204: E30 T",
     // A root that holds an expression has no dump as yet.
     "typedef long X;\nconst long K = 1;",
 ];
