@@ -1,13 +1,14 @@
 //! The compilation of a root.
 
 ghost use Rattle.std.specs.Prelude.{◌≡◌, IfOk};
-ghost use Rattle.idl_workspace.specs.Compile.{compile_over};
+ghost use Rattle.std.specs.Option.{option_copied};
+ghost use Rattle.idl_workspace.specs.Compile.{compile_over, end_of, line_count};
 
 use idl_base::Seq;
-use idl_event::{Answer, Key};
+use idl_event::{Answer, FileName, Key, Place};
 use idl_memo::{Bank, Log, Task};
 use idl_prep::{RootTask, absent};
-use idl_small::Compiled;
+use idl_root::Compiled;
 use idl_source::Name;
 use std::alloc::{AllocError, Global};
 
@@ -38,10 +39,34 @@ pub fn compile<B: Bank<Key = Key, Answer = Answer>>(
     let mut log = Log::new(alloc);
     let task = RootTask::new(root.copied());
     let expansion = task.run(alloc, bank, &mut log)?;
-    let rows = idl_small::compile(alloc, expansion.as_slice())?;
+    let end = end_of(alloc, bank, root)?;
+    let rows = idl_root::compile(alloc, &end, &expansion)?;
     let names = absent(alloc, &log)?;
     Ok(CompiledRoot {
         rows,
         absent: Seq::from_vec(names),
     })
+}
+
+// The end of a root: its number of lines.
+fn end_of<B: Bank<Key = Key, Answer = Answer>>(
+    alloc: Global,
+    bank: &B,
+    root: &Name,
+) -> Result<Place, AllocError>
+    ensures { IfOk result (λ place. place ≡ end_of (B.at bank.now) root.now) }
+{
+    let file = FileName::new(alloc, root)?;
+    let line = line_count(bank.answer(&Key::File(file.clone()?)));
+    Ok(Place { file, line })
+}
+
+// The number of lines of an answered file.
+fn line_count(answer: Option<&Answer>) -> u32
+    ensures { result ≡ line_count (option_copied answer.entry) }
+{
+    match answer {
+        Some(Answer::File(text)) => text.file().line_count() as u32,
+        _ => 0,
+    }
 }

@@ -3,7 +3,7 @@
 use super::support::have_rows;
 use std::test::Fail;
 
-static ROWS: [&str; 35] = [
+static ROWS: [&str; 36] = [
     "",
     "typedef unsigned long long _boolean;\n=typedef unsigned long long _boolean;",
     "typedef long _x; typedef\nObject _any\t;\n=typedef long x;\n=typedef Object _any;",
@@ -29,7 +29,7 @@ static ROWS: [&str; 35] = [
     "typedef valuetype X;\n=a:1: E21 valuetype",
     "typedef long Boolean $;\n=a:1: E36 Boolean",
     "typedef long Boolean;\ntypedef long foo;\ntypedef long Foo;\n=a:1: E36 Boolean\n=a:3: E33 Foo",
-    "typedef FOO X;\ntypedef long X;\n=a:1: E20 typedef",
+    "typedef FOO X;\ntypedef long X;\n=a:1: E30 FOO",
     // The first branch whose condition holds is taken, and no condition after it is evaluated.
     "#if 0\n#error a\n#elif 1\n#error b\n#elif 1/0\n#error c\n#else\n#error d\n#endif\n=a:4: E16 error b",
     "#if 1\n#elif (\n#error a\n#elif\n#endif\n#if 0\n#if 1\n#elif 1/0\n#endif\n#elif 0\n#else\n#error b\n#endif\n\
@@ -52,8 +52,10 @@ static ROWS: [&str; 35] = [
      */ #error  a\t\"b  c\" // d\n=a:11: E16 error a \"b  c\"",
     // Pragmas.
     "#pragma prefix \"P\"\ntypedef long X;\n#pragma ID X \"IDL:x:1.0\"\n#pragma version X 1.1\n#pragma\n\
-     #pragma hdrstop\n#pragma Prefix 1\n#define once\n#pragma once\n#pragma prefix\n#pragma ID 1\n#if 0\n\
-     #pragma version\n#endif\ntypedef short Y;\n=typedef long X;\n=typedef short Y;",
+     #pragma hdrstop\n#pragma Prefix 1\n#define once\n#pragma once\n#if 0\n#pragma version\n#endif\ntypedef short Y;\n\
+     =typedef long X;\n=typedef short Y;",
+    "typedef\n#pragma version X 1.1\nlong X;\n#pragma prefix\n#pragma ID 1\n#pragma version X 65536.0\n=a:2: E25 pragma\n\
+     =a:4: E26 pragma\n=a:5: E26 pragma\n=a:6: E26 pragma",
 ];
 
 #[test]

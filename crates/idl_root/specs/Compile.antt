@@ -1,0 +1,78 @@
+-- What compiling a root gives, from the events that it expands to.
+use Rattle.std.specs.Prelude.{ℕ, Bool, true, false, ◌||◌, List, [], ◌∷◌, ◌++◌, flat_map, length, map, nat_lt, Option, None, Some, if◌then◌else◌}
+use Rattle.std.specs.List.{enumerate_from, list_any}
+use Rattle.std.specs.Option.{option_map}
+use Rattle.idl_check.specs.declared.verdict.Row.{Row}
+use Rattle.idl_check.specs.declared.verdict.Row.TheVariants.{Spelled, Unknown}
+use Rattle.idl_event.specs.Code.{is_error}
+use Rattle.idl_event.specs.Diagnostic.{diagnostic_row}
+use Rattle.idl_event.specs.declared.code.Code.TheVariants.{OpenScope}
+use Rattle.idl_event.specs.declared.event.Event.{Event}
+use Rattle.idl_event.specs.declared.place.Place.{Place}
+use Rattle.idl_root.specs.Findings.{event_finding, in_order, unit_finding}
+use Rattle.idl_root.specs.Judged.{Judged, facts_of, judged_units}
+use Rattle.idl_root.specs.declared.compiled.Compiled.{Compiled}
+use Rattle.idl_root.specs.declared.finding.Finding.{Finding}
+use Rattle.idl_scope.specs.Facts.{UnitFacts, answers, scopes_in}
+use Rattle.idl_scope.specs.declared.key.Key.TheVariants.{Cursor}
+use Rattle.idl_unit.specs.Units.{units_of}
+
+-- what comes of a root: the facts that its units add, what is found, and the rows of the dump, if
+-- all are known
+pub record Outcome : Type 0 where
+  pub facts : List UnitFacts
+  pub found : List Finding
+  pub rows : Option (List (List ℕ))
+
+-- the row of a unit, if it has one, before those of the units behind it, if all are known
+abbrev pub with_row : Option Row → Option (List (List ℕ)) → Option (List (List ℕ))
+with_row None rows = rows
+with_row (Some (Spelled row)) rows = option_map (λ more. row ∷ more) rows
+with_row (Some Unknown) rows = None
+
+abbrev pub known_rows : List Judged → Option (List (List ℕ))
+known_rows [] = Some []
+known_rows (j ∷ judged) = with_row j.verdict.row (known_rows judged)
+
+-- what is found in the events, and then what is found in the units
+abbrev pub findings : List Event → List Judged → List Finding
+findings events judged =
+    flat_map event_finding (enumerate_from 0 events) ++ flat_map unit_finding judged
+
+-- what comes of these events
+abbrev pub outcome_of : List Event → Outcome
+outcome_of events =
+    let judged = judged_units (units_of events) in
+    record { facts = facts_of judged; found = findings events judged; rows = known_rows judged }
+
+-- a scope beside the global one is open
+abbrev pub is_open : List UnitFacts → Bool
+is_open facts = nat_lt 1 (length (scopes_in (answers facts Cursor)))
+
+-- the row of a scope that is open at the end, which is this place
+abbrev pub open_row : Place → Bool → List (List ℕ)
+open_row end true = diagnostic_row end OpenScope None ∷ []
+open_row end false = []
+
+-- one of them is an error
+abbrev pub has_error : List Finding → Bool
+has_error found = list_any (λ f. is_error f.code) found
+
+-- the rows of a dump, beside an error none
+abbrev pub dump_beside : Bool → Option (List (List ℕ)) → List (List ℕ)
+dump_beside false (Some rows) = rows
+dump_beside is_faulty rows = []
+
+-- the rows of a root, whose end is this place: those of what is found, in the order of the events
+-- that they name, and then that of an open scope
+abbrev pub told : Place → Outcome → Compiled
+told end o =
+    let open = is_open o.facts in
+    record {
+      diagnostics = map (λ f. f.row) (in_order o.found) ++ open_row end open;
+      dump = dump_beside (open || has_error o.found) o.rows;
+    }
+
+-- the diagnostics and the dump of a root that expands to these events, and whose end is this place
+unfoldable pub compile : Place → List Event → Compiled
+compile end events = told end (outcome_of events)

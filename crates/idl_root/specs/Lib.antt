@@ -1,0 +1,4 @@
+pub mod Judged
+pub mod Findings
+pub mod Compile
+pub mod Held

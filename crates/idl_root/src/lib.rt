@@ -1,0 +1,11 @@
+//! The compilation of a root: its units are judged in order, each over what those before it added, and what is found is told
+//! in the order of the events that it names.
+//!
+//! Nothing here knows how a root is expanded, what a unit asks, or what became of other roots.
+#![tactic(auto)]
+
+mod compiled;
+mod finding;
+mod judging;
+
+pub use compiled::{Compiled, Row, compile};
