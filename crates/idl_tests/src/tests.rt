@@ -2,7 +2,6 @@
 
 mod conditions;
 mod data;
-mod declarations;
 mod devices;
 mod expansions;
 mod files;

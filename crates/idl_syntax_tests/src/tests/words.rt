@@ -1,8 +1,8 @@
-//! Units in words: the production of a tree, and of a constant what its value is; what a pragma is; a fault.
+//! Units in words: what the value of a constant is, and what a pragma is.
 
 use idl_tree::{
-    Construction, Expression, Forward, Literal, Pragma, Primary, ProductOperator, ScopedName,
-    Shift, ShiftOperator, Sum, SumOperator, Tree, Unary, UnaryOperator,
+    Expression, Literal, Pragma, Primary, ProductOperator, ScopedName, Shift, ShiftOperator, Sum,
+    SumOperator, Tree, Unary, UnaryOperator,
 };
 use std::alloc::AllocError;
 
@@ -17,28 +17,11 @@ pub fn say_pragma(said: &mut String, pragma: &Pragma) -> Result<(), AllocError> 
     }
 }
 
-/// The production of a tree; of a constant what its value is.
+/// Of a constant what its value is, and else a word for any tree.
 pub fn tree_word(tree: &Tree) -> &'static str {
     match tree {
-        Tree::Closing => "closing",
-        Tree::Module(_name) => "module",
-        Tree::Interface(interface) if interface.is_local => "local interface",
-        Tree::Interface(_interface) => "interface",
-        Tree::Forward(Forward::Interface(false, _name)) => "forward interface",
-        Tree::Forward(Forward::Interface(true, _name)) => "forward local interface",
-        Tree::Forward(Forward::Structure(_name)) => "forward struct",
-        Tree::Forward(Forward::Union(_name)) => "forward union",
-        Tree::Typedef(_typedef) => "typedef",
-        Tree::Construction(Construction::Structure(_structure)) => "struct",
-        Tree::Construction(Construction::Union(_union)) => "union",
-        Tree::Construction(Construction::Enumeration(_enumeration)) => "enum",
-        Tree::Native(_name) => "native",
         Tree::Constant(constant) => expression_word(&constant.value),
-        Tree::Exception(_exception) => "exception",
-        Tree::ReadonlyAttribute(_attribute) => "readonly attribute",
-        Tree::Attribute(_attribute) => "attribute",
-        Tree::Operation(operation) if operation.is_oneway => "oneway operation",
-        Tree::Operation(_operation) => "operation",
+        _ => "tree",
     }
 }
 

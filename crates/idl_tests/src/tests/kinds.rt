@@ -78,26 +78,12 @@ fn the_language_has_these_keywords(rt: HostRuntime) -> Result<(), Fail> {
     Ok(())
 }
 
-#[test]
-fn integers_have_these_values(rt: HostRuntime) -> Result<(), Fail> {
-    let rows = "0=0 00=0 12=12 0755=493 0xfF=255 0X1e=30 18446744073709551615=18446744073709551615 \
-         01777777777777777777777=18446744073709551615";
-    for row in rows.split(' ') {
-        let (spelling, want) = row.split_once('=').ok_or("no value")?;
-        assert_eq!(rt;
-            integer_value(spelling.as_bytes()),
-            want.parse::<u64>().ok(),
-            "{row}"
-        );
-    }
-    Ok(())
-}
-
-// Each with the numbers of its characters, or with none where it is no literal; the last one is empty.
+// Each with the number that it is or those of its characters, or with none where it is no literal; the last one is empty.
 const VALUES: &str =
     "'a'=97, \"\"= '\\0'=0, \"\\n\\t\\v\\b\\r\\f\\a\"=10,9,11,8,13,12,7, \"\\\\\\?\\'\\\"\"=92,63,39,34, \
      \"\\1018\\377\"=65,56,255, \"\\x41a\\xfg\"=65,97,15,103, L\"\\u263a\\u41g\"=9786,65,103, L\"\\u12345\"=4660,53, \
-     \"\\q\" \"\\400\" \"a a ";
+     0=0, 00=0, 12=12, 0755=493, 0xfF=255, 0X1e=30, 18446744073709551615=18446744073709551615, \
+     01777777777777777777777=18446744073709551615, \"\\q\" \"\\400\" \"a a ";
 
 #[test]
 fn literals_have_these_values(rt: HostRuntime) -> Result<(), Fail> {
@@ -108,7 +94,10 @@ fn literals_have_these_values(rt: HostRuntime) -> Result<(), Fail> {
             Some(value) => for unit in value.as_slice() {
                 write!(shown, "{unit},")?;
             },
-            None => shown.push_str("none")?,
+            None => match integer_value(spelling.as_bytes()) {
+                Some(value) => write!(shown, "{value},")?,
+                None => shown.push_str("none")?,
+            },
         }
         assert_eq!(rt; shown.as_str(), want, "{spelling}");
     }
