@@ -14,3 +14,6 @@ mod rows;
 mod scripts;
 mod support;
 mod tokens;
+mod trees;
+mod units;
+mod words;

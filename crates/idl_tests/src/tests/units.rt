@@ -1,9 +1,10 @@
 //! The units of a text, and what is said of each.
 
+use super::support::{file_of, in_full};
 use super::words::{say_pragma, tree_word};
 use idl_event::{Event, Expansion, FileName, FileTokens, LexedFile, Place};
 use idl_lex::PlacedToken;
-use idl_source::{File, Line, Name};
+use idl_source::Name;
 use idl_syntax::{SyntaxFault, UnitTree, parse};
 use idl_unit::{Unit, UnitText, split};
 use std::alloc::{AllocError, AllocGlobal, Global};
@@ -22,20 +23,6 @@ pub fn have_units(rt: &(impl Abort + AllocGlobal), rows: &[&str]) -> Result<(), 
         }
     }
     Ok(())
-}
-
-fn in_full(alloc: Global, text: &str) -> Result<String, AllocError> {
-    let mut full = String::new(alloc);
-    for part in text.split('`') {
-        match part.split_once('×') {
-            Some((count, piece)) => {
-                let pieces = piece.repeat(alloc, count.parse().unwrap_or(0))?;
-                full.push_str(pieces.as_str())?;
-            }
-            None => full.push_str(part)?,
-        }
-    }
-    Ok(full)
 }
 
 fn said_of(alloc: Global, expansion: &Expansion) -> Result<String, AllocError> {
@@ -84,15 +71,6 @@ fn expansion_of(alloc: Global, text: &str) -> Result<Expansion, Fail> {
         push_line(&mut events, &place, lexed.tokens())?;
     }
     Ok(Expansion::from_vec(events))
-}
-
-// The file of one line.
-fn file_of(alloc: Global, line: &str) -> Result<File, AllocError> {
-    let mut lines = Vec::new(alloc);
-    if let Some(line) = Line::new(alloc, line.as_bytes())? {
-        lines.push(line)?;
-    }
-    File::new(alloc, lines)
 }
 
 fn push_line(

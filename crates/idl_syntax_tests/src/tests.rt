@@ -1,5 +1,0 @@
-//! The tests, by subject.
-
-mod trees;
-mod units;
-mod words;
