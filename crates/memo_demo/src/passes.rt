@@ -72,11 +72,7 @@ pub fn pass(
 }
 
 /// How many trails a second pass over the same library walks: none.
-pub fn walked_again(
-    alloc: Global,
-    trails: &[Trail],
-    library: &Library,
-) -> Result<u64, AllocError>
+pub fn walked_again(alloc: Global, trails: &[Trail], library: &Library) -> Result<u64, AllocError>
     requires { length trails.now < most_compared }
     ensures { IfOk result (λ walked. walked ≡ 0) }
 {

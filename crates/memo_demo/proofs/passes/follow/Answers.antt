@@ -1,9 +1,8 @@
 -- What came of the trail holds over this library, and what was put in is sound over it.
-use Rattle.std.proofs.Common.{◌≡◌, ◌+◌, ◌⊎◌, inr, ⊎_elim, ap, arith}
+use Rattle.std.proofs.Common.{◌≡◌, inr, ⊎_elim, ap, arith}
 use Rattle.idl_memo.specs.declared.meter.Meter.{Meter}
 use Rattle.memo_demo.specs.Library.{next_title}
 use Rattle.memo_demo.specs.Page.{page_eq}
-use Rattle.memo_demo.specs.Passes.{WasKept, WasFresh}
 use Rattle.memo_demo.specs.Trail.{trail_from}
 use Rattle.memo_demo.proofs.Passing.{IsAlike-over, sound_after}
 use Rattle.memo_demo.proofs.passes.follow.Goals as goal

@@ -27,7 +27,7 @@ loop-trail-preserved c =
     let i = c.loop-trail.trail-index in
     let trail : Trail = c.trail-item.result in
     let taken : take (i + 1) trails ≡ take i trails ++ trail ∷ [] =
-        take_more trails i trail c.loop-trail-test.true ∙ ap (λ (t : Trail). take i trails ++ t ∷ []) (sym c.trail-item.is) in
+    take_more trails i trail c.loop-trail-test.true ∙ ap (λ (t : Trail). take i trails ++ t ∷ []) (sym c.trail-item.is) in
     let text : Trail → Start = λ t. t.start in
     let titles : Trail → List (List ℕ) = λ t. titles_from bank t.start in
     let out : Rc (Kept Page (Option (List ℕ)) Start (List (List ℕ))) Global → List (List ℕ) = λ k. k.value.out in
