@@ -5,9 +5,9 @@ use Rattle.std.proofs.lemmas.List.{drop_all}
 use Rattle.idl_tree.specs.Expression.{spell_expression, spell_literal}
 use Rattle.idl_tree.specs.declared.expression.Expression.{Expression}
 use Rattle.idl_tree.specs.declared.expression.UnaryOperator.{UnaryOperator}
-use Rattle.idl_value.specs.Evaluation.{Evaluation, Faulty, Operands, Read, Valued, admitted, at_token, behind, bound_of, fault, first_of, in_target, is_held, positive, start, value_of, literal_value, named, operand_at, operated, read_links, read_operator, read_parenthesis, read_sign, read_term, signed_at}
+use Rattle.idl_value.specs.Evaluation.{Evaluation, Faulty, Operands, Read, Valued, admitted, ahead, at_token, behind, bound_of, fault, first_of, in_target, is_held, positive, start, value_of, literal_value, named, operand_at, operated, read_links, read_operator, read_parenthesis, read_sign, read_term, signed_at}
 use Rattle.idl_value.specs.Term.{Term, Named, Literally, Parenthesised, Signed, Chain, Links, End, Link, links, expression_term}
-use Rattle.idl_value.specs.Walk.{Walked, ahead, further, held_outcome, named_outcome, positive_outcome, operated_outcome, outcome_at, signed_outcome, walk_links, walk_operator, walk_parenthesis, walk_sign, walk_term}
+use Rattle.idl_value.specs.Walk.{Walked, held_outcome, named_outcome, positive_outcome, operated_outcome, outcome_at, signed_outcome, walk_links, walk_operator, walk_parenthesis, walk_sign, walk_term}
 use Rattle.idl_value.specs.declared.operator.Operator.{Operator}
 use Rattle.idl_value.specs.declared.integer.IntegerKind.TheVariants.{UnsignedLong}
 use Rattle.idl_value.specs.declared.outcome.Code.{Code}
@@ -18,7 +18,6 @@ use Rattle.idl_value.specs.declared.target.Target.TheVariants as target
 use Rattle.idl_value.specs.declared.value.Value.{Value}
 use Rattle.idl_value.specs.declared.value.Value.TheVariants as value
 use Rattle.idl_value.specs.declared.walk.Place.{Place}
-use Rattle.idl_value.proofs.SizeLemmas.{size, links_size, expression_term-size}
 
 from_here : {X : Type 0} (xs : List X) (i : ℕ) (x : X) → i < length xs → x ≡ get_or xs i x → drop i xs ≡ x ∷ drop (i + 1) xs
 from_here xs i x h e = rw add-one (drop-cons xs i x h ∙ ap (λ y. y ∷ drop (suc i) xs) (sym e))
@@ -26,7 +25,7 @@ from_here xs i x h e = rw add-one (drop-cons xs i x h ∙ ap (λ y. y ∷ drop (
 -- the next operand of a rank
 pub walk-turn : {X : Type 0} (op : X → Operator) (term : X → Term) (xs : List X) (i : ℕ) (x : X) (t : Target) (os : Operands) (left : Walked)
     → i < length xs → x ≡ get_or xs i x
-    → walk_links t os (walk_operator t (op x) left (walk_term t os (further left.place 1 0) (term x))) (links op term (drop (i + 1) xs))
+    → walk_links t os (walk_operator t (op x) left (walk_term t os (behind left.place 1 0) (term x))) (links op term (drop (i + 1) xs))
     ≡ walk_links t os left (links op term (drop i xs))
 walk-turn op term xs i x t os left h e = sym (ap (λ ys. walk_links t os left (links op term ys)) (from_here xs i x h e))
 
@@ -62,110 +61,34 @@ operated-first t token o (Faulty []) (Faulty []) = refl
 operated-first t token o (Faulty []) (Faulty (g ∷ gs)) = refl
 operated-first t token o (Faulty (f ∷ fs)) (Faulty gs) = refl
 
--- the numbers that there are
-abbrev Below : ℕ → Type 0
-Below n = n < 2 ^ 64
+-- a walk comes to the first fault
+mutual
+  pub walk-read : (t : Target) (os : Operands) (p : Place) (e : Term) → walk_term t os p e ≡ first_read (read_term t os p e)
+  walk-read t os p (Named before) =
+      let o = named-first t (ahead p.token before) (operand_at os p.name) in
+      λ i. record { outcome = o i; place = behind (behind p before 0) 1 1 }
+  walk-read t os p (Literally l) =
+      let o = outcome-first p.token (admitted t (literal_value l)) in
+      λ i. record { outcome = o i; place = behind p (length (spell_literal l)) 0 }
+  walk-read t os p (Parenthesised e) = ap walk_parenthesis (walk-read t os (behind p 1 0) e)
+  walk-read t os p (Signed s e) =
+      let r = read_term t os (behind p 1 0) e in
+      let o = signed-first t p.token s r.evaluation in
+      ap (walk_sign t p.token s) (walk-read t os (behind p 1 0) e) ∙ (λ i. record { outcome = o i; place = r.place })
+  walk-read t os p (Chain e ls) =
+      ap (λ left. walk_links t os left ls) (walk-read t os p e) ∙ walk-links t os (read_term t os p e) ls
 
-ahead-below : (n more : ℕ) → Below (n + more) → ahead n more ≡ n + more
-ahead-below n more h = omega arith
+  walk-links : (t : Target) (os : Operands) (left : Read) (ls : Links) → walk_links t os (first_read left) ls ≡ first_read (read_links t os left ls)
+  walk-links t os left End = refl
+  walk-links t os left (Link op e ls) =
+      let right = read_term t os (behind left.place 1 0) e in
+      let o = operated-first t left.place.token op left.evaluation right.evaluation in
+      let both : walk_operator t op (first_read left) (walk_term t os (behind left.place 1 0) e) ≡ first_read (read_operator t op left right) =
+      ap (walk_operator t op (first_read left)) (walk-read t os (behind left.place 1 0) e) ∙ (λ i. record { outcome = o i; place = right.place }) in
+      ap (λ w. walk_links t os w ls) both ∙ walk-links t os (read_operator t op left right) ls
 
 pub ahead_none : (n : ℕ) → n ≤ 18446744073709551615 → ahead n 0 ≡ n
 ahead_none n h = omega arith
-
-further-below : (p : Place) (a b : ℕ) → Below (p.token + a) → Below (p.name + b) → further p a b ≡ behind p a b
-further-below p a b h g = λ i. record { token = ahead-below p.token a h i; name = ahead-below p.name b g i }
-
-twice : (p : Place) (a : ℕ) → behind (behind p a 0) 1 1 ≡ behind p (a + 1) 1
-twice p a =
-    let e : p.token + a + 1 ≡ p.token + (a + 1) = omega arith in
-    let f : p.name + 0 + 1 ≡ p.name + 1 = omega arith in
-    λ i. record { token = e i; name = f i }
-
--- a term has its tokens, and no more names than tokens
-mutual
-  pub read-token : (t : Target) (os : Operands) (p : Place) (e : Term) → (read_term t os p e).place.token ≡ p.token + size e
-  read-token t os p (Named before) = refl
-  read-token t os p (Literally l) = refl
-  read-token t os p (Parenthesised e) = let h = read-token t os (behind p 1 0) e in omega (arith, h)
-  read-token t os p (Signed s e) = let h = read-token t os (behind p 1 0) e in omega (arith, h)
-  read-token t os p (Chain e ls) =
-      let h = read-token t os p e in
-      let g = links-token t os (read_term t os p e) ls in
-      omega (arith, h, g)
-
-  pub links-token : (t : Target) (os : Operands) (left : Read) (ls : Links) → (read_links t os left ls).place.token ≡ left.place.token + links_size ls
-  links-token t os left End = omega arith
-  links-token t os left (Link o e ls) =
-      let h = read-token t os (behind left.place 1 0) e in
-      let g = links-token t os (read_operator t o left (read_term t os (behind left.place 1 0) e)) ls in
-      omega (arith, h, g)
-
-mutual
-  read-name : (t : Target) (os : Operands) (p : Place) (e : Term) → p.name ≤ p.token → (read_term t os p e).place.name ≤ (read_term t os p e).place.token
-  read-name t os p (Named before) h = omega (arith, h)
-  read-name t os p (Literally l) h = omega (arith, h)
-  read-name t os p (Parenthesised e) h = let g = read-name t os (behind p 1 0) e (omega (arith, h)) in omega (arith, g)
-  read-name t os p (Signed s e) h = read-name t os (behind p 1 0) e (omega (arith, h))
-  read-name t os p (Chain e ls) h = links-name t os (read_term t os p e) ls (read-name t os p e h)
-
-  links-name : (t : Target) (os : Operands) (left : Read) (ls : Links) → left.place.name ≤ left.place.token
-      → (read_links t os left ls).place.name ≤ (read_links t os left ls).place.token
-  links-name t os left End h = h
-  links-name t os left (Link o e ls) h =
-      links-name t os (read_operator t o left (read_term t os (behind left.place 1 0) e)) ls
-      (read-name t os (behind left.place 1 0) e (omega (arith, h)))
-
--- where the tokens can be numbered, the walk comes to the first fault
-mutual
-  pub walk-read : (t : Target) (os : Operands) (p : Place) (e : Term) → p.name ≤ p.token → Below (p.token + size e)
-      → walk_term t os p e ≡ first_read (read_term t os p e)
-  walk-read t os p (Named before) n h =
-      let a : ahead p.token before ≡ p.token + before = ahead-below p.token before (omega (arith, h)) in
-      let b : further (further p before 0) 1 1 ≡ behind p (before + 1) 1 =
-      ap (λ q. further q 1 1) (further-below p before 0 (omega (arith, h)) (omega (arith, n, h)))
-      ∙ further-below (behind p before 0) 1 1 (omega (arith, h)) (omega (arith, n, h))
-      ∙ twice p before in
-      let o : named_outcome t (ahead p.token before) (operand_at os p.name) ≡ first_of (named t (p.token + before) (operand_at os p.name)) =
-      ap (λ k. named_outcome t k (operand_at os p.name)) a ∙ named-first t (p.token + before) (operand_at os p.name) in
-      λ i. record { outcome = o i; place = b i }
-  walk-read t os p (Literally l) n h =
-      let o = outcome-first p.token (admitted t (literal_value l)) in
-      let b = further-below p (length (spell_literal l)) 0 h (omega (arith, n, h)) in
-      λ i. record { outcome = o i; place = b i }
-  walk-read t os p (Parenthesised e) n h =
-      let k = read-token t os (behind p 1 0) e in
-      let m = read-name t os (behind p 1 0) e (omega (arith, n)) in
-      let inner : walk_term t os (further p 1 0) e ≡ first_read (read_term t os (behind p 1 0) e) =
-      ap (λ q. walk_term t os q e) (further-below p 1 0 (omega (arith, h)) (omega (arith, n, h)))
-      ∙ walk-read t os (behind p 1 0) e (omega (arith, n)) (omega (arith, h)) in
-      let b = further-below (read_term t os (behind p 1 0) e).place 1 0 (omega (arith, h, k)) (omega (arith, h, k, m)) in
-      ap walk_parenthesis inner ∙ (λ i. record { outcome = first_of (read_term t os (behind p 1 0) e).evaluation; place = b i })
-  walk-read t os p (Signed s e) n h =
-      let inner : walk_term t os (further p 1 0) e ≡ first_read (read_term t os (behind p 1 0) e) =
-      ap (λ q. walk_term t os q e) (further-below p 1 0 (omega (arith, h)) (omega (arith, n, h)))
-      ∙ walk-read t os (behind p 1 0) e (omega (arith, n)) (omega (arith, h)) in
-      let o = signed-first t p.token s (read_term t os (behind p 1 0) e).evaluation in
-      ap (walk_sign t p.token s) inner ∙ (λ i. record { outcome = o i; place = (read_term t os (behind p 1 0) e).place })
-  walk-read t os p (Chain e ls) n h =
-      let k = read-token t os p e in
-      ap (λ left. walk_links t os left ls) (walk-read t os p e n (omega (arith, h)))
-      ∙ walk-links t os (read_term t os p e) ls (read-name t os p e n) (omega (arith, h, k))
-
-  walk-links : (t : Target) (os : Operands) (left : Read) (ls : Links) → left.place.name ≤ left.place.token → Below (left.place.token + links_size ls)
-      → walk_links t os (first_read left) ls ≡ first_read (read_links t os left ls)
-  walk-links t os left End n h = refl
-  walk-links t os left (Link op e ls) n h =
-      let p = left.place in
-      let right = read_term t os (behind p 1 0) e in
-      let k = read-token t os (behind p 1 0) e in
-      let inner : walk_term t os (further p 1 0) e ≡ first_read right =
-      ap (λ q. walk_term t os q e) (further-below p 1 0 (omega (arith, h)) (omega (arith, n, h)))
-      ∙ walk-read t os (behind p 1 0) e (omega (arith, n)) (omega (arith, h)) in
-      let o = operated-first t p.token op left.evaluation right.evaluation in
-      let both : walk_operator t op (first_read left) (walk_term t os (further p 1 0) e) ≡ first_read (read_operator t op left right) =
-      ap (walk_operator t op (first_read left)) inner ∙ (λ i. record { outcome = o i; place = right.place }) in
-      ap (λ w. walk_links t os w ls) both
-      ∙ walk-links t os (read_operator t op left right) ls (read-name t os (behind p 1 0) e (omega (arith, n))) (omega (arith, h, k))
 
 held-first : (t : Target) (a : Evaluation) → held_outcome t (first_of a) ≡ first_of (in_target t a)
 held-first t (Valued v) =
@@ -187,14 +110,11 @@ positive-first (Faulty []) = refl
 positive-first (Faulty (f ∷ fs)) = refl
 
 -- what is told of a whole expression
-pub walk-value : (t : Target) (os : Operands) (e : Expression) → length (spell_expression e) < 2 ^ 64
-    → held_outcome t (walk_term t os start (expression_term e)).outcome ≡ first_of (value_of t os e)
+pub walk-value : (t : Target) (os : Operands) (e : Expression) → held_outcome t (walk_term t os start (expression_term e)).outcome ≡ first_of (value_of t os e)
 unfolding value_of
-walk-value t os e h =
-    let x = expression_term e in
-    let s = expression_term-size e in
-    ap (λ w. held_outcome t w.outcome) (walk-read t os start x (omega arith) (omega (arith, h, s)))
-    ∙ held-first t (read_term t os start x).evaluation
+walk-value t os e =
+    ap (λ w. held_outcome t w.outcome) (walk-read t os start (expression_term e))
+    ∙ held-first t (read_term t os start (expression_term e)).evaluation
 
 pub walk-bound : (os : Operands) (e : Expression) → positive_outcome (first_of (value_of (target.Integer UnsignedLong) os e)) ≡ first_of (bound_of os e)
 unfolding bound_of

@@ -1,5 +1,5 @@
 -- What an expression comes to: its value for a target, or its faults in the order of tokens.
-use Rattle.std.specs.Prelude.{ℕ, ◌+◌, ℤ, pos, zero, Bool, true, false, cond, get_or, length, nat_le, List, [], ◌∷◌, ◌++◌, flat_map, Option, None, Some, Result, Ok, Err, if◌then◌else◌}
+use Rattle.std.specs.Prelude.{ℕ, ◌+◌, ◌-◌, ◌^◌, ℤ, pos, zero, Bool, true, false, cond, get_or, length, min, nat_le, List, [], ◌∷◌, ◌++◌, flat_map, Option, None, Some, Result, Ok, Err, if◌then◌else◌}
 use Rattle.idl_tree.specs.Expression.{spell_literal}
 use Rattle.idl_tree.specs.declared.expression.Expression.{Expression}
 use Rattle.idl_tree.specs.declared.expression.UnaryOperator.{UnaryOperator}
@@ -117,10 +117,14 @@ pub record Read : Type 0 where
   pub evaluation : Evaluation
   pub place : Place
 
+-- Numbers of tokens and names are below 2^64: what would have a greater one has the last of them.
+abbrev pub ahead : ℕ → ℕ → ℕ
+ahead n more = min (n + more) (2 ^ 64 - 1)
+
 -- so many tokens and names further
 abbrev pub behind : Place → ℕ → ℕ → Place
 behind place tokens names =
-    record { token = place.token + tokens; name = place.name + names }
+    record { token = ahead place.token tokens; name = ahead place.name names }
 
 -- the operand of a name by its number; none of a name that has none
 abbrev pub operand_at : Operands → ℕ → Option Value
@@ -148,8 +152,8 @@ read_operator target operator left right = record {
 abbrev mutual
   pub read_term : Target → Operands → Place → Term → Read
   read_term target operands place (Named before) = record {
-    evaluation = named target (place.token + before) (operand_at operands place.name);
-    place = behind place (before + 1) 1;
+    evaluation = named target (ahead place.token before) (operand_at operands place.name);
+    place = behind (behind place before 0) 1 1;
   }
   read_term target operands place (Literally l) = record {
     evaluation = at_token place.token (admitted target (literal_value l));

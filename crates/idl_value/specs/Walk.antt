@@ -1,9 +1,8 @@
--- Words for the walk over an expression: of its faults the first, and numbers of tokens that stop at
--- the greatest that there is.
+-- Words for the walk over an expression, which keeps of its faults the first.
 use Rattle.std.specs.Prelude.{ℕ, zero, ℤ, pos, Bool, true, if◌then◌else◌, ◌+◌, ◌*◌, ◌^◌, ◌-◌, length, min, List, [], ◌∷◌, Option, None, Some, Result, Ok, Err}
 use Rattle.idl_tree.specs.Expression.{spell_literal}
 use Rattle.idl_tree.specs.declared.expression.UnaryOperator.{UnaryOperator}
-use Rattle.idl_value.specs.Evaluation.{Operands, admitted, combined, fault, is_held, literal_value, number_in, operand_at, signed_value}
+use Rattle.idl_value.specs.Evaluation.{Operands, admitted, ahead, behind, combined, fault, is_held, literal_value, number_in, operand_at, signed_value}
 use Rattle.idl_value.specs.Operate.{in_parts, operate, operate_sign}
 use Rattle.idl_value.specs.Term.{Term, Named, Literally, Parenthesised, Signed, Chain, Links, End, Link}
 use Rattle.idl_value.specs.declared.operator.Operator.{Operator}
@@ -62,14 +61,6 @@ abbrev pub signed_outcome : Target → ℕ → UnaryOperator → Outcome → Out
 signed_outcome target token sign (outcome.Value a) = outcome_at token (signed_value target sign a)
 signed_outcome target token sign other = other
 
--- numbers of tokens and names are below 2^64
-abbrev pub ahead : ℕ → ℕ → ℕ
-ahead n more = min (n + more) (2 ^ 64 - 1)
-
-abbrev pub further : Place → ℕ → ℕ → Place
-further place tokens names =
-    record { token = ahead place.token tokens; name = ahead place.name names }
-
 abbrev pub walk_sign : Target → ℕ → UnaryOperator → Walked → Walked
 walk_sign target token sign operand = record {
   outcome = signed_outcome target token sign operand.outcome;
@@ -77,7 +68,7 @@ walk_sign target token sign operand = record {
 }
 
 abbrev pub walk_parenthesis : Walked → Walked
-walk_parenthesis inner = record { outcome = inner.outcome; place = further inner.place 1 0 }
+walk_parenthesis inner = record { outcome = inner.outcome; place = behind inner.place 1 0 }
 
 abbrev pub walk_operator : Target → Operator → Walked → Walked → Walked
 walk_operator target operator left right = record {
@@ -90,16 +81,16 @@ abbrev mutual
   walk_term target operands place (Named before) = record {
     outcome =
         named_outcome target (ahead place.token before) (operand_at operands place.name);
-    place = further (further place before 0) 1 1;
+    place = behind (behind place before 0) 1 1;
   }
   walk_term target operands place (Literally l) = record {
     outcome = outcome_at place.token (admitted target (literal_value l));
-    place = further place (length (spell_literal l)) 0;
+    place = behind place (length (spell_literal l)) 0;
   }
   walk_term target operands place (Parenthesised inner) =
-      walk_parenthesis (walk_term target operands (further place 1 0) inner)
+      walk_parenthesis (walk_term target operands (behind place 1 0) inner)
   walk_term target operands place (Signed sign operand) =
-      walk_sign target place.token sign (walk_term target operands (further place 1 0) operand)
+      walk_sign target place.token sign (walk_term target operands (behind place 1 0) operand)
   walk_term target operands place (Chain first rest) =
       walk_links target operands (walk_term target operands place first) rest
 
@@ -108,7 +99,7 @@ abbrev mutual
   walk_links target operands left (Link operator term rest) =
       walk_links target operands
       (walk_operator target operator left
-      (walk_term target operands (further left.place 1 0) term)) rest
+      (walk_term target operands (behind left.place 1 0) term)) rest
 
 -- the same of the whole expression
 abbrev pub is_held_outcome : Target → Outcome → Bool

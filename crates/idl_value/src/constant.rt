@@ -1,9 +1,8 @@
 //! The values of expressions.
 
-ghost use Rattle.std.specs.Prelude.{◌≡◌, ◌<◌, ◌^◌, ◌∷◌, [], IfOk, length};
-ghost use Rattle.idl_tree.specs.Expression.{spell_expression};
-ghost use Rattle.idl_value.specs.Evaluation.{Faulty, bound_of, fault, first_of, joined, literal_value, value_of};
-ghost use Rattle.idl_value.specs.Walk.{ahead, held_outcome, is_held_outcome, positive_outcome, seen};
+ghost use Rattle.std.specs.Prelude.{◌≡◌, ◌∷◌, [], IfOk, length};
+ghost use Rattle.idl_value.specs.Evaluation.{Faulty, ahead, bound_of, fault, first_of, joined, literal_value, value_of};
+ghost use Rattle.idl_value.specs.Walk.{held_outcome, is_held_outcome, positive_outcome, seen};
 
 use crate::integer::IntegerKind;
 use crate::outcome::{Code, Fault, Outcome};
@@ -23,7 +22,6 @@ pub fn evaluate(
     operands: &[Option<Value>],
     expression: &Expression,
 ) -> Result<Outcome, AllocError>
-    requires room { length (spell_expression expression.now) < 2 ^ 64 }
     ensures value { IfOk result (λ outcome.
         outcome ≡ first_of (value_of target.now operands.now expression.now)) }
 {
@@ -39,7 +37,6 @@ pub fn evaluate_bound(
     operands: &[Option<Value>],
     expression: &Expression,
 ) -> Result<Outcome, AllocError>
-    requires room { length (spell_expression expression.now) < 2 ^ 64 }
     ensures value { IfOk result (λ outcome.
         outcome ≡ first_of (bound_of operands.now expression.now)) }
 {

@@ -1,17 +1,27 @@
 //! Laws of values.
 //!
-//! Each function does nothing: it carries its laws as clauses.
+//! Each function does nothing: it carries its laws as clauses. No expression that memory holds has 2^64 tokens.
 
-ghost use Rattle.std.specs.Prelude.{length};
+ghost use Rattle.std.specs.Prelude.{◌≡◌, ◌<◌, ◌^◌, length};
 ghost use Rattle.idl_tree.specs.Expression.{spell_expression};
 ghost use Rattle.idl_tree.specs.declared.expression.Expression.{Expression};
-ghost use Rattle.idl_value.specs.Evaluation.{Operands, faults_of, value_of};
+ghost use Rattle.idl_value.specs.Evaluation.{Operands, faults_of, read_term, start, value_of};
 ghost use Rattle.idl_value.specs.Order.{IsAscending};
+ghost use Rattle.idl_value.specs.Term.{expression_term};
 ghost use Rattle.idl_value.specs.declared.target.Target.{Target};
 
 /// The faults of an expression stand at tokens of its own, each at a later one than the fault before it. So the first is the
 /// least, and no two are decided at one token.
 pub fn ascending()
-    ensures { (target : Target) (operands : Operands) (e : Expression) →
-        IsAscending 0 (faults_of (value_of target operands e)) (length (spell_expression e)) }
+    ensures { (target : Target) (operands : Operands) (e : Expression)
+        → length (spell_expression e) < 2 ^ 64
+        → IsAscending 0 (faults_of (value_of target operands e)) (length (spell_expression e)) }
+{}
+
+/// As many tokens are counted as the expression is spelled with.
+pub fn counting()
+    ensures { (target : Target) (operands : Operands) (e : Expression)
+        → length (spell_expression e) < 2 ^ 64
+        → (read_term target operands start (expression_term e)).place.token
+        ≡ length (spell_expression e) }
 {}

@@ -3,9 +3,9 @@
 ghost use Rattle.std.specs.Prelude.{◌≡◌, ◌+◌, length};
 ghost use Rattle.std.specs.Option.{option_copied};
 ghost use Rattle.idl_tree.specs.Expression.{spell_literal};
-ghost use Rattle.idl_value.specs.Evaluation.{operand_at};
+ghost use Rattle.idl_value.specs.Evaluation.{ahead, behind, operand_at};
 ghost use Rattle.idl_value.specs.Term.{Literally, Named, and_term, before_last, exclusive_or_term, expression_term, primary_term, product_operator, product_term, shift_operator, shift_term, sum_operator, sum_term, unary_term};
-ghost use Rattle.idl_value.specs.Walk.{ahead, further, stepped, walk_operator, walk_term};
+ghost use Rattle.idl_value.specs.Walk.{stepped, walk_operator, walk_term};
 
 use crate::operator::Operator;
 use crate::part::{Part, Sited, literal_part, named_part};
@@ -41,7 +41,7 @@ pub struct Scene<'a> {
 impl Place {
     /// So many tokens and names further.
     fn further(self, tokens: usize, names: usize) -> Place
-        ensures { result ≡ further self tokens names }
+        ensures { result ≡ behind self tokens names }
     {
         Place {
             token: self.token.saturating_add(tokens),

@@ -1,6 +1,6 @@
 use Rattle.std.proofs.Common.{◌≡◌, ◌∙◌, [], ap, arith, drop, flat_map, length, sym}
 use Rattle.std.proofs.lemmas.List.{drop_all}
-use Rattle.idl_value.specs.Walk.{ahead}
+use Rattle.idl_value.specs.Evaluation.{ahead}
 use Rattle.idl_value.proofs.WalkLemmas.{ahead_none}
 use Rattle.idl_value.proofs.constant.joined_length.Goals as goal
 

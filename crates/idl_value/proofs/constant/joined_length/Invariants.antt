@@ -1,6 +1,5 @@
 use Rattle.std.proofs.Common.{◌≡◌, ◌≤◌, drop, flat_map, length}
-use Rattle.idl_value.specs.Evaluation.{joined}
-use Rattle.idl_value.specs.Walk.{ahead}
+use Rattle.idl_value.specs.Evaluation.{ahead, joined}
 use Rattle.idl_value.proofs.constant.joined_length.Given as goal
 
 -- those so far and those of the rest are all

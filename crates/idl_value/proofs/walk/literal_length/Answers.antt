@@ -1,6 +1,6 @@
 use Rattle.std.proofs.Common.{◌≡◌, inl, inr, sym, ap, ◌∙◌}
 use Rattle.idl_tree.specs.Lexeme.{Text, WideText}
-use Rattle.idl_value.specs.Walk.{ahead}
+use Rattle.idl_value.specs.Evaluation.{ahead}
 use Rattle.idl_value.proofs.SizeLemmas.{length-spell_all}
 use Rattle.idl_value.proofs.walk.literal_length.Goals as goal
 

@@ -6,8 +6,9 @@ use Rattle.idl_tree.specs.declared.expression.Product.{out-Product}
 use Rattle.idl_tree.specs.declared.expression.Shift.{out-Shift}
 use Rattle.idl_tree.specs.declared.expression.Sum.{out-Sum}
 use Rattle.idl_tree.specs.declared.expression.Unary.{out-Unary}
+use Rattle.idl_value.specs.Evaluation.{behind}
 use Rattle.idl_value.specs.Term.{links, shift_operator, sum_operator, product_operator, expression_term, exclusive_or_term, and_term, shift_term, sum_term, product_term, unary_term, primary_term}
-use Rattle.idl_value.specs.Walk.{further, seen, walk_links, walk_parenthesis, walk_sign, walk_term}
+use Rattle.idl_value.specs.Walk.{seen, walk_links, walk_parenthesis, walk_sign, walk_term}
 use Rattle.idl_value.specs.declared.operator.Operator.TheVariants as operator
 use Rattle.idl_value.proofs.TermEquations.{expression_term-out, exclusive_or_term-out, and_term-out, shift_term-out, sum_term-out, product_term-out, unary_term-out, primary_term-parentheses}
 use Rattle.idl_value.proofs.walk.Scene.+expression.Goals as goal
@@ -60,4 +61,4 @@ primary-returns-in-Parentheses t c =
     ∙ ap walk_parenthesis
     (c.expression.ensures
     ∙ ap (λ p. walk_term c.args.self.target.now c.args.self.operands.now p (expression_term c.get.result.now)) c.further.ensures
-    ∙ ap (λ e. walk_term c.args.self.target.now c.args.self.operands.now (further c.args.place 1 0) (expression_term e)) c.get.ensures))
+    ∙ ap (λ e. walk_term c.args.self.target.now c.args.self.operands.now (behind c.args.place 1 0) (expression_term e)) c.get.ensures))
