@@ -43,10 +43,8 @@ pub fn compile(alloc: Global, end: &Place, expansion: &Expansion) -> Result<Comp
 {
     let units = split(alloc, expansion)?;
     let findings = event_findings(alloc, expansion)?;
-    let mut judging = Judging::new(alloc, findings)?;
-    for unit in units.as_slice() {
-        judging = judging.with(alloc, unit)?;
-    }
+    let first = Judging::new(alloc, findings)?;
+    let judging = first.with_all(alloc, units.as_slice())?;
     told(alloc, end, judging)
 }
 

@@ -1,0 +1,2 @@
+mod JudgingLemmas
+mod OrderLemmas
