@@ -2,6 +2,7 @@
 
 mod conditions;
 mod data;
+mod declarations;
 mod devices;
 mod expansions;
 mod files;

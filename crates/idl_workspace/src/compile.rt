@@ -1,13 +1,14 @@
 //! The compilation of a root.
 
 ghost use Rattle.std.specs.Prelude.{◌≡◌, IfOk};
-ghost use Rattle.idl_workspace.specs.Compile.{compile_over};
+ghost use Rattle.std.specs.Option.{option_copied};
+ghost use Rattle.idl_workspace.specs.Compile.{compile_over, end_of, line_count};
 
 use idl_base::Seq;
-use idl_event::{Answer, Key};
-use idl_memo::{Bank, Log, Task};
+use idl_event::{Answer, FileName, Key, Place, RootBank};
+use idl_memo::{Log, Task};
 use idl_prep::{RootTask, absent};
-use idl_small::Compiled;
+use idl_root::Compiled;
 use idl_source::Name;
 use std::alloc::{AllocError, Global};
 
@@ -28,7 +29,7 @@ impl Drop for CompiledRoot {
 
 /// Compiles a root from scratch over a bank, in which its own file may be absent.
 #[tactic(auto, unfolding(crate::specs::Compile::compile_over))]
-pub fn compile<B: Bank<Key = Key, Answer = Answer>>(
+pub fn compile<B: RootBank>(
     alloc: Global,
     bank: &B,
     root: &Name,
@@ -38,10 +39,30 @@ pub fn compile<B: Bank<Key = Key, Answer = Answer>>(
     let mut log = Log::new(alloc);
     let task = RootTask::new(root.copied());
     let expansion = task.run(alloc, bank, &mut log)?;
-    let rows = idl_small::compile(alloc, expansion.as_slice())?;
+    let end = end_of(alloc, bank, root)?;
+    let rows = idl_root::compile(alloc, &end, &expansion)?;
     let names = absent(alloc, &log)?;
     Ok(CompiledRoot {
         rows,
         absent: Seq::from_vec(names),
     })
+}
+
+// The end of a root: its number of lines.
+fn end_of<B: RootBank>(alloc: Global, bank: &B, root: &Name) -> Result<Place, AllocError>
+    ensures { IfOk result (λ place. place ≡ end_of (B.at bank.now) root.now) }
+{
+    let file = FileName::new(alloc, root)?;
+    let line = line_count(bank.answer(&Key::File(file.clone()?)));
+    Ok(Place { file, line })
+}
+
+// The number of lines of an answered file.
+fn line_count(answer: Option<&Answer>) -> u32
+    ensures { result ≡ line_count (option_copied answer) }
+{
+    match answer {
+        Some(Answer::File(text)) => text.file().line_count() as u32,
+        _ => 0,
+    }
 }

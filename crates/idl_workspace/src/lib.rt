@@ -15,13 +15,10 @@ mod word;
 mod work;
 
 pub use bank::answers_come_from_inputs;
-use idl_base::Text;
+pub use idl_root::Row;
 pub use idl_source::Span;
 pub use limits::{
     MAX_BODY, MAX_DIRECTORIES, MAX_MACROS, MAX_ROOTS, edits_keep_form, edits_keep_limits,
 };
 pub use session::Session;
 pub use work::Work;
-
-/// A row of diagnostics or of a dump: a line of text without its newline.
-pub type Row = Text;

@@ -15,8 +15,9 @@ static EDITS: [&str; 16] = [
     "root b.idl\n",
     "define T long\n",
     "search d .\n",
-    "put b.idl 2\ntypedef long Y;\ntypedef char Z;\n",
-    "splice b.idl 2 1 1\ntypedef T Z;\n",
+    "put b.idl 6\nmodule M {\nstruct S;\ninterface I { void f(in T x); };\ninterface J : I { };\n};\n\
+     typedef M::J Z;\n",
+    "splice b.idl 4 1 1\ninterface J : I, K { S g(); };\n",
     "define T short\n",
     "define U T T\n",
     "put d/b.idl 4\n#if defined T && T2\n#error x\n#endif\n#define T2 1\n",

@@ -29,7 +29,7 @@ static ROWS: [&str; 35] = [
     "typedef valuetype X;\n=a:1: E21 valuetype",
     "typedef long Boolean $;\n=a:1: E36 Boolean",
     "typedef long Boolean;\ntypedef long foo;\ntypedef long Foo;\n=a:1: E36 Boolean\n=a:3: E33 Foo",
-    "typedef FOO X;\ntypedef long X;\n=a:1: E20 typedef",
+    "typedef FOO X;\ntypedef long X;\n=a:1: E30 FOO",
     // The first branch whose condition holds is taken, and no condition after it is evaluated.
     "#if 0\n#error a\n#elif 1\n#error b\n#elif 1/0\n#error c\n#else\n#error d\n#endif\n=a:4: E16 error b",
     "#if 1\n#elif (\n#error a\n#elif\n#endif\n#if 0\n#if 1\n#elif 1/0\n#endif\n#elif 0\n#else\n#error b\n#endif\n\

@@ -1,0 +1,66 @@
+//! The rows of declarations: units in their scopes, and the names that they declare and use.
+
+use super::support::have_rows;
+use std::test::Fail;
+
+static ROWS: [&str; 26] = [
+    // Units, and the scopes that hold them.
+    "module M { interface I { oneway void f(in long x); }; };\n=module M {\n=  interface I {\n\
+     =    oneway void f ( in long x );\n=  };\n=};",
+    "};\nvoid f();\ninterface I { module M { interface J; struct S; }; };\n=a:1: E22 }\n=a:2: E22 void\n=a:3: E22 module",
+    "module M {\n\n=a:2: E23",
+    "module M { typedef long X };\n=a:1: E20 typedef",
+    "valuetype V { };\nconst double D = 1.5;\nconst long K = 1.5;\nstruct P { double x; };\n=a:1: E21 valuetype\n\
+     =a:2: E21 double\n=a:3: E06 1.5",
+    "`64×module M@ {\n``64×};\n`\nmodule N {`64×module M@ {``65×};`\n=a:130: E24 {",
+    // Names of other scopes, and what their use introduces.
+    "typedef long ArgType;\nconst long I = 10;\ntypedef short Y;\ninterface A {\nstruct S {\nstruct T {\nArgType x[I];\n\
+     long y;\n} m;\n};\ntypedef string ArgType;\nenum I { I1, I2 };\ntypedef short Y;\n};\n=a:11: E35 ArgType\n\
+     =a:12: E35 I",
+    "typedef long ArgType;\nmodule M {\nstruct S { ArgType x; };\ntypedef string ArgType;\nstruct T { ArgType y; };\n};\n\
+     =typedef long ArgType;\n=module M {\n=  struct S { ::ArgType x; };\n=  typedef string ArgType;\n\
+     =  struct T { ::M::ArgType y; };\n=};",
+    "typedef long T;\nmodule M { typedef T U; };\nmodule M { typedef short T; };\n=typedef long T;\n=module M {\n\
+     =  typedef ::T U;\n=};\n=module M {\n=  typedef short T;\n=};",
+    "typedef long T;\nmodule M { typedef T U; typedef short T; };\n=a:2: E35 T",
+    "typedef long Boolean;\ntypedef long foo;\ntypedef long Foo;\ntypedef FOO bar;\n=a:1: E36 Boolean\n=a:3: E33 Foo\n\
+     =a:4: E32 FOO",
+    "typedef long _interface;\ntypedef _interface x;\n=typedef long _interface;\n=typedef ::_interface x;",
+    "module M { typedef long T; struct m { long x; }; };\ntypedef U A;\ntypedef M::U B;\ntypedef M C;\ntypedef M::T::T D;\n\
+     typedef M::t E;\nconst long K = K;\n=a:1: E34 m\n=a:2: E30 U\n=a:3: E30 U\n=a:4: E37 M\n=a:5: E38 T\n=a:6: E32 t\n\
+     =a:7: E37 K",
+    // Bases.
+    "interface A { void f(); };\ninterface B : A { };\ninterface C : A { };\ninterface D : B, C { };\n\
+     interface E { typedef long T; };\ninterface F { typedef short T; };\ninterface G : E, F { };\n\
+     interface H : E, F { typedef T U; };\n=a:8: E31 T",
+    "interface A { void f(); };\ninterface H : A { void F(); };\n=a:2: E42 F",
+    "interface A { void f(); };\ninterface B : A { };\ninterface C : A { };\ninterface D : B, C { };\n=interface A {\n\
+     =  void f ( );\n=};\n=interface B : ::A {\n=};\n=interface C : ::A {\n=};\n=interface D : ::B, ::C {\n=};",
+    "interface A;\ninterface B : A { };\n=a:2: E40 A",
+    "interface A { void f(); };\ninterface B { void f(); };\nlocal interface L { };\ninterface C : A, A { };\n\
+     interface D : A, B { };\ninterface E : L { };\nlocal interface F : L, A { };\ninterface G : G { };\n=a:4: E41 A\n\
+     =a:5: E42 B\n=a:6: E43 L\n=a:8: E40 G",
+    // What is declared ahead.
+    "struct S;\nstruct S;\nstruct S { long x; };\nstruct S;\ninterface I;\nlocal interface I;\nunion S;\n=a:6: E39 I\n\
+     =a:7: E39 S",
+    // A faulty opening opens a scope without a name, and what stands in it is judged there.
+    "interface A : B {\ntypedef long T;\ntypedef T U;\nvoid f();\n};\ntypedef A::T V;\ntypedef long A;\n=a:1: E30 B\n\
+     =a:6: E30 A",
+    // Nesting, and what isn't closed.
+    "const long K = `64×(`1`64×)`;\nconst long L = `65×(`1`65×)`;\nconst long M = `64×-(`1`64×)`;\nconst long N = --1;\n\
+     =a:2: E24 (\n=a:4: E20 const",
+    "`65×module M@ {\n``64×};\n`};\n=a:65: E24 {",
+    "struct S { long a;\n=a:1: E20 struct",
+    "const long K = 18446744073709551616;\nconst string S = \"abc;\n=a:1: E07 18446744073709551616\n=a:2: E02 \"abc;",
+    // A diamond of bases, of which each is asked once.
+    "interface A0 { typedef long T; };\n#define B A0\n`40×interface L@ : B { };\ninterface R@ : B { };\n\
+     interface A@ : L@, R@ { };\n#undef B\n#define B A@\n`interface Z : A40 { attribute T x; };\ntypedef T U;\n\
+     =a:204: E30 T",
+    // A root that holds an expression has no dump as yet.
+    "typedef long X;\nconst long K = 1;",
+];
+
+#[test]
+fn declarations_have_these_rows(rt: HostRuntime) -> Result<(), Fail> {
+    have_rows(&rt, &ROWS)
+}
