@@ -45,7 +45,7 @@ pub fn compile(alloc: Global, end: &Place, expansion: &Expansion) -> Result<Comp
     let findings = event_findings(alloc, expansion)?;
     let first = Judging::new(alloc, findings)?;
     let judging = first.with_all(alloc, units.as_slice())?;
-    told(alloc, end, judging)
+    Ok(told(alloc, end, judging)?)
 }
 
 // The rows of a root whose units are all judged.

@@ -2,7 +2,7 @@
 
 ghost use Rattle.std.specs.Prelude.{◌≡◌, ◌++◌, IfOk, OnOk, Some, flat_map, map, slice_get};
 ghost use Rattle.std.specs.List.{enumerate_from};
-ghost use Rattle.std.specs.Option.{option_map, option_to_list};
+ghost use Rattle.std.specs.Option.{option_copied, option_to_list};
 ghost use Rattle.idl_root.specs.Compile.{has_error};
 ghost use Rattle.idl_root.specs.Findings.{event_finding, fault_finding, finding_at, in_order, tokens_of};
 
@@ -95,14 +95,14 @@ impl<'a> Spelled<'a> {
 
     // Where the token with this number stands.
     fn site(self, index: usize) -> Option<&'a Site>
-        ensures { option_map (λ site. site.now) result ≡ slice_get self.entry.sites.now index }
+        ensures { option_copied result ≡ slice_get self.entry.sites.now index }
     {
         self.sites.get(index)
     }
 
     // The bytes of the token with this number.
     fn token(self, index: usize) -> Option<&'a [u8]>
-        ensures { option_map (λ token. token.now) result
+        ensures { option_copied result
             ≡ slice_get (tokens_of self.entry.text.now) index }
     {
         match self.text {
@@ -122,7 +122,7 @@ fn finding_at(
     token: Option<&[u8]>,
 ) -> Result<Option<Finding>, AllocError>
     ensures { IfOk result (λ found. option_to_list found
-        ≡ finding_at code (option_map (λ site. site.now) site) (option_map (λ token. token.now) token)) }
+        ≡ finding_at code (option_copied site.entry) (option_copied token.entry)) }
 {
     let Some(site) = site else {
         return Ok(None);
@@ -154,7 +154,7 @@ pub fn rows_in_order(
     ensures { IfOk result (λ rows. rows.items ≡ map (λ f. f.row) (in_order findings.items)) }
 {
     findings.sort_by_key(|finding| finding.event)?;
-    rows_of(alloc, &findings)
+    Ok(rows_of(alloc, &findings)?)
 }
 
 // Their rows, which they share.
