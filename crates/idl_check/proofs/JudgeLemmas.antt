@@ -1,5 +1,9 @@
 -- The three steps of a verdict, run.
-use Rattle.std.proofs.Common.{◌≡◌, ℕ, Bool, true, false, cond, List, [], ◌∷◌, ◌++◌, Option, None, Some, is_some, refl, sym, ap, ◌∙◌}
+use Rattle.std.proofs.Common.{◌≡◌, ℕ, Bool, true, false, cond, List, [], ◌∷◌, ◌++◌, Option, None, Some, is_some, refl, sym, ap, ◌∙◌, arith}
+use Rattle.std.proofs.lemmas.Option.{same_Some}
+use Rattle.std.proofs.lemmas.List.{length-map}
+use Rattle.std.specs.Prelude.{◌≢◌, fold, length}
+use Rattle.idl_check.proofs.LeastFault.{least-none}
 use Rattle.idl_memo.specs.Query.{Ask, Done, Tell, and_then, noted, run}
 use Rattle.idl_memo.proofs.QueryLaws.{run-and_then_at}
 use Rattle.idl_check.proofs.VisitLemmas.{runs_over}
@@ -21,10 +25,14 @@ use Rattle.idl_scope.specs.declared.entity.Entity.{Entity}
 use Rattle.idl_scope.specs.declared.key.Key.{Key}
 use Rattle.idl_scope.specs.declared.key.Key.TheVariants.{Nameless, Opened}
 use Rattle.idl_scope.specs.declared.kind.Kind.{Kind}
-use Rattle.idl_site.specs.Item.{items}
+use Rattle.idl_site.specs.Item.{items, items_length}
 use Rattle.idl_site.specs.UnitParts.{unit_parts}
+use Rattle.idl_site.proofs.UnitSpelling.{counted, unit_spells}
+use Rattle.idl_syntax.specs.Parse.{StopsAt}
+use Rattle.idl_tree.specs.Lexeme.{lexeme_of, lexemes}
+use Rattle.idl_tree.specs.Unit.{spell}
 use Rattle.idl_tree.specs.declared.unit.Tree.{Tree}
-use Rattle.idl_unit.specs.Faults.{least_fault}
+use Rattle.idl_unit.specs.Faults.{least_fault, lesser_fault}
 use Rattle.idl_unit.specs.TokenRules.{fault_at, token_faults}
 use Rattle.idl_unit.specs.declared.fault.Fault.{Fault}
 
@@ -59,6 +67,33 @@ module _ (bank : Key → Option Answer) (tokens : List Token) where
   pub refused_opening : (fault : Fault) (log : List (Key × Option Answer)) → is_some (opened_kind tokens) ≡ true
       → runs_over bank (refused tokens fault) log ≡ (faulty fault (faulty_step tokens), noted key_eq bank log Nameless)
   refused_opening fault log h = by_some fault (opened_kind tokens) log h
+
+-- the least of faults, with one more
+fold-more : (f g : Fault) (faults : List Fault) → fold lesser_fault f (faults ++ g ∷ []) ≡ lesser_fault (fold lesser_fault f faults) g
+fold-more f g [] = refl
+fold-more f g (h ∷ faults) = fold-more (lesser_fault f h) g faults
+
+pub least_fault-more : (faults : List Fault) (f g : Fault) → least_fault faults ≡ Some f → least_fault (faults ++ g ∷ []) ≡ Some (lesser_fault f g)
+least_fault-more [] f g h = cc
+least_fault-more (x ∷ faults) f g h = ap Some (fold-more x g faults ∙ ap (λ y. lesser_fault y g) (same_Some (fold lesser_fault x faults) f h))
+
+-- the faults of the first step, where the rules of tokens find none
+pub first_faults-opening : (tokens : List Token) (scopes : List Scope) (faults : List Fault) → least_fault (token_faults tokens) ≡ None → faults ≡ opening_faults tokens scopes
+    → first_faults tokens scopes ≡ faults
+first_faults-opening tokens scopes faults h is = λ i. least-none (token_faults tokens) h i ++ sym is i
+
+-- no tree spells tokens that stop somewhere
+pub stops-none : (tokens : List Token) (place : Option ℕ) → StopsAt tokens place → (tree : Tree) → lexemes tokens ≢ spell tree
+stops-none tokens None h = λ tree is. h.none tree (sym is)
+stops-none tokens (Some n) h = λ tree is. h.1.none tree (sym is)
+
+-- the sites of a unit are as many tokens as it has
+pub sites-length : (tokens : List Token) (tree : Tree) → lexemes tokens ≡ spell tree → items_length (items (unit_parts tree)) ≡ length tokens
+sites-length tokens tree h =
+    let parts = counted (unit_parts tree) in
+    let spelled = ap length (unit_spells tree) in
+    let all = ap length h in
+    omega (arith, parts, spelled, all, length-map tokens lexeme_of)
 
 -- the steps
 pub first_step : (turns : ℕ) (tokens : List Token) (scopes : List Scope) (fault : Fault) → least_fault (first_faults tokens scopes) ≡ Some fault

@@ -3,7 +3,6 @@ mod NameLemmas
 mod PartLemmas
 mod RowLemmas
 mod StandingLemmas
-mod TaskLemmas
 mod VisitLemmas
 pub mod FaultOrder
 pub mod SiteLaws

@@ -1,5 +1,5 @@
 -- How many tokens a name is, and the bounds of its parts.
-use Rattle.std.proofs.Common.{◌≡◌, ℕ, suc, ◌+◌, ◌*◌, ◌≤◌, Bool, true, false, cond, List, [], ◌∷◌, ◌++◌, length, flat_map, refl, sym, ap, ◌∙◌, arith}
+use Rattle.std.proofs.Common.{◌≡◌, ℕ, suc, ◌+◌, ◌*◌, ◌≤◌, Bool, true, false, cond, List, [], ◌∷◌, ◌++◌, length, flat_map, refl, ap, arith}
 use Rattle.idl_check.specs.Using.{last_at, part_at}
 use Rattle.idl_lex.specs.declared.mark.Mark.TheVariants.{ColonColon}
 use Rattle.idl_tree.specs.Interface.{spell_text}

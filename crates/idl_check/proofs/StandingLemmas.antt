@@ -1,9 +1,8 @@
 -- Runs of what is asked of a name that is declared.
-use Rattle.std.proofs.Common.{◌≡◌, ℕ, Bool, true, false, cond, List, [], ◌∷◌, Option, None, Some, is_some, refl, sym, ap, ◌∙◌}
+use Rattle.std.proofs.Common.{◌≡◌, ℕ, Bool, true, false, cond, List, [], Option, is_some, refl, sym, ap, ◌∙◌}
 use Rattle.std.specs.List.{list_any}
 use Rattle.idl_memo.specs.Query.{Ask, Done, and_then, noted}
 use Rattle.idl_check.specs.Declaring.{inherited, standing}
-use Rattle.idl_check.specs.declared.standing.Standing.{Standing}
 use Rattle.idl_scope.proofs.RunLemmas.{runs, runs-and_then, seen_at}
 use Rattle.idl_scope.specs.Facts.{entity_in, entity_key, is_operation}
 use Rattle.idl_scope.specs.Key.{key_eq}
@@ -27,7 +26,7 @@ module _ (own : List Addition) (bank : Key → Option Answer) where
   made_of {A} {B} {C} q f g log b after h =
       runs-and_then own bank q (λ a. Done (g (f a))) log (runs own bank q log).0 (runs own bank q log).1 refl
       ∙ ap (λ (p : B × List (Key × Option Answer)). (g p.0, p.1))
-        (sym (h ∙ runs-and_then own bank q (λ a. Done (f a)) log (runs own bank q log).0 (runs own bank q log).1 refl))
+      (sym (h ∙ runs-and_then own bank q (λ a. Done (f a)) log (runs own bank q log).0 (runs own bank q log).1 refl))
 
   -- a scope that inherits nothing
   pub inherited_none : (turns : ℕ) (s : Scope) (n : List ℕ) (log : List (Key × Option Answer)) → inherits s.kind ≡ false
@@ -47,11 +46,14 @@ module _ (own : List Addition) (bank : Key → Option Answer) where
   pub standing_by : (turns : ℕ) (s : Scope) (n : List ℕ) (log : List (Key × Option Answer)) (b : Bool) (after : List (Key × Option Answer))
       → (b, after) ≡ runs own bank (and_then (inherited turns s n) counted) (noted key_eq bank (noted key_eq bank log (Declared n s.path)) (Introduced n s.path s.body))
       → runs own bank (standing turns s n) log
-      ≡ (record {
-        there = entity_in (seen_at own bank (Declared n s.path));
-        is_used = is_some (seen_at own bank (Introduced n s.path s.body));
-        is_inherited = b;
-      }, after)
+      ≡ (
+        record {
+          there = entity_in (seen_at own bank (Declared n s.path));
+          is_used = is_some (seen_at own bank (Introduced n s.path s.body));
+          is_inherited = b;
+        },
+        after,
+      )
   standing_by turns s n log b after h =
       made_of (inherited turns s n) (list_any is_operation)
       (λ is_inherited. record {

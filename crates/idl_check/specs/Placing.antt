@@ -17,7 +17,7 @@ use Rattle.idl_unit.specs.declared.fault.Fault.{Fault}
 use Rattle.idl_unit.specs.declared.role.Role.{Role}
 use Rattle.idl_unit.specs.declared.role.Role.TheVariants.{Module}
 use Rattle.idl_unit.specs.declared.role.Rule.{Rule}
-use Rattle.idl_unit.specs.declared.role.Rule.TheVariants.{Closing, Heading, Declaration}
+use Rattle.idl_unit.specs.declared.role.Rule.TheVariants.{Closing, Heading}
 
 abbrev pub is_module : Role → Bool
 is_module Module = true

@@ -1,6 +1,6 @@
 -- The verdict of a unit: its fault, what it adds, and its row in the dump.
 -- A fault is found in three steps: the rules of tokens, the tree, and the rules over tree and names.
-use Rattle.std.specs.Prelude.{ℕ, zero, suc, ◌-◌, Bool, List, [], ◌∷◌, ◌++◌, length, Option, None, Some, Result, Ok, Err, if◌then◌else◌}
+use Rattle.std.specs.Prelude.{ℕ, suc, ◌-◌, Bool, List, [], ◌∷◌, ◌++◌, length, Option, None, Some, Result, Ok, Err, if◌then◌else◌}
 use Rattle.idl_check.specs.Declaring.{with_finished}
 use Rattle.idl_check.specs.Placing.{depth, faulty_step, is_misplaced, opened_kind, opening_faults, step_of}
 use Rattle.idl_check.specs.Row.{row_of}
@@ -77,7 +77,6 @@ judged tokens scopes tree w =
 
 -- the part of a name with which the sites begin, if they do
 abbrev pub first_part : List Item → Option (List ℕ)
-first_part (item.Tokens zero ∷ sites) = first_part sites
 first_part (item.Used way name ∷ sites) = if name.is_global then None else Some name.first
 first_part others = None
 

@@ -1,11 +1,12 @@
 //! The bases of an interface that were named so far.
 
-ghost use Rattle.std.specs.Prelude.{◌≡◌, ◌∷◌, [], IfOk, OnOk, fold};
+ghost use Rattle.std.specs.Prelude.{◌≡◌, ◌&&◌, ◌∷◌, [], IfOk, OnOk, fold, not};
 ghost use Rattle.std.specs.List.{list_any};
 ghost use Rattle.std.specs.Map.{keys_of};
 ghost use Rattle.idl_check.specs.Codes.{codes_in};
 ghost use Rattle.idl_check.specs.Using.{base_table, is_another, with_base, with_operation};
 ghost use Rattle.idl_scope.specs.Facts.{joined};
+ghost use Rattle.idl_scope.specs.Path.{path_eq};
 ghost use Rattle.idl_unit.specs.TokenRules.{first};
 
 use crate::codes::first_code;
@@ -16,8 +17,8 @@ use idl_scope::{Entity, Path, Stage, folded_name};
 use std::alloc::{AllocError, Global};
 use std::marker::Model;
 
-/// The paths of the bases that were named so far, and those of the operations and attributes that they bring, by the folded
-/// names.
+/// The paths of the bases that were named so far, and those of the operations and attributes that they bring, by
+/// the folded names.
 pub struct Bases {
     paths: Table<Path, ()>,
     operations: Table<Spelling, Path>,
@@ -68,9 +69,9 @@ impl Bases {
         let brings_another = self.brings_another(alloc, base)?;
         Ok(first_code(&[
             (base.stage != Stage::Complete, Code::IncompleteBase),
-            (self.paths.contains(&base.path), Code::RepeatedBase),
+            (contains(&self.paths, &base.path), Code::RepeatedBase),
             (brings_another, Code::InheritedTwice),
-            (base.is_local && !is_local, Code::LocalBase),
+            (is_local_for(is_local, base), Code::LocalBase),
         ]))
     }
 
@@ -113,6 +114,20 @@ impl Bases {
         let paths = listed(alloc, &self.paths)?;
         Ok(Seq::from_vec(paths))
     }
+}
+
+// Whether a path is in a table.
+fn contains(paths: &Table<Path, ()>, path: &Path) -> bool
+    ensures { result ≡ list_any (path_eq path.now) (keys_of paths.now) }
+{
+    paths.contains(path)
+}
+
+// Whether a base is local, and the interface isn't.
+fn is_local_for(is_local: bool, base: &Entity) -> bool
+    ensures { result ≡ (base.now.is_local && not is_local) }
+{
+    base.is_local && !is_local
 }
 
 // The paths of a table in order.

@@ -93,13 +93,21 @@ pub fn finished(
 {
     let is_interface = begun.kind == Kind::Interface;
     let path = begun.path.clone()?;
-    let bases = if is_interface { bases.clone()? } else { begun.bases.clone()? };
+    let bases = if is_interface {
+        bases.clone()?
+    } else {
+        begun.bases.clone()?
+    };
     let operations = begun.operations.clone()?;
     let entity = Entity {
         path,
         kind: begun.kind,
         is_local: begun.is_local,
-        stage: if is_interface { Stage::Open } else { Stage::Complete },
+        stage: if is_interface {
+            Stage::Open
+        } else {
+            Stage::Complete
+        },
         bases,
         operations,
     };

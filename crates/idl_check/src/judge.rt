@@ -32,9 +32,9 @@ use idl_event::Code;
 use idl_lex::Token;
 use idl_memo::Log;
 use idl_scope::{Env, Facts, Key, Path, Scope, Shared, Step, View, folded_name};
-use idl_site::{Site, counting, sites, spelling};
+use idl_site::{Site, sites};
 use idl_syntax::{SyntaxFault, UnitTree, parse};
-use idl_tree::{Tree, reading};
+use idl_tree::Tree;
 use idl_unit::{Fault, UnitText};
 use std::alloc::{AllocError, Global};
 
@@ -62,8 +62,6 @@ impl<'a> Judge<'a> {
             ≡ run key_eq (token_verdict turns self.entry.tokens.now self.entry.scopes.now)
             (answers self.entry.env.now) log.old) }
     {
-        // It does nothing: it carries the laws of what is read.
-        reading();
         match parse(self.env.alloc(), text) {
             Ok(tree) => self.with_tree(log, &tree),
             Err(SyntaxFault::Rule(fault)) => self.refused(log, self.with_opening(fault)),
@@ -107,8 +105,6 @@ impl<'a> Judge<'a> {
             ≡ run key_eq (token_verdict turns self.entry.tokens.now self.entry.scopes.now)
             (answers self.entry.env.now) log.old) }
     {
-        // It does nothing: it carries the laws of what is read.
-        reading();
         if let Some(fault) = opening_fault(self.tokens, self.scopes) {
             return self.refused(log, fault);
         }
@@ -139,9 +135,8 @@ impl<'a> Judge<'a> {
             ≡ run key_eq (by_names turns self.entry.tokens.now self.entry.scopes.now tree.now)
             (answers self.entry.env.now) log.old) }
     {
-        // They do nothing: they carry the laws of sites.
-        spelling();
-        counting();
+        // A word counts the tokens, and so the tokens of the sites.
+        let _count = self.tokens.len();
         let sites = sites(self.env.alloc(), tree)?;
         if is_misplaced(tree, self.scopes) {
             return self.misplaced(log, sites.as_slice());
@@ -284,12 +279,8 @@ fn lesser(fault: Fault, other: Fault) -> Fault
 fn first_part<'a>(sites: &[Site<'a>]) -> Option<&'a [u8]>
     ensures { option_map (λ name. name.now) result ≡ first_part (map item_at sites.now) }
 {
-    for site in sites {
-        match site {
-            Site::Tokens(0) => {}
-            Site::Used(_, name) if !name.is_global => return Some(name.first.as_bytes()),
-            _ => return None,
-        }
+    match sites.first()? {
+        Site::Used(_, name) if !name.is_global => Some(name.first.as_bytes()),
+        _ => None,
     }
-    None
 }

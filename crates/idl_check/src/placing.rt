@@ -50,7 +50,11 @@ fn opens(role: Role) -> bool
 fn heading_kind(tokens: &[Token]) -> Kind
     ensures { result ≡ heading_kind tokens.now }
 {
-    if begins_module(tokens) { Kind::Module } else { Kind::Interface }
+    if begins_module(tokens) {
+        Kind::Module
+    } else {
+        Kind::Interface
+    }
 }
 
 // Whether `module` comes first.

@@ -46,8 +46,8 @@ pub fn row_of(
     let mut row = Vec::new(alloc);
     push_blanks(&mut row, depth)?;
     row.extend_from_slice(behind(text.as_slice(), 1))?;
-    let row = Shared::new(alloc, Text::from_vec(row))?;
-    Ok(Row::Spelled(row))
+    let spelled = Shared::new(alloc, Text::from_vec(row))?;
+    Ok(Row::Spelled(spelled))
 }
 
 // Whether one of the sites is an expression.
@@ -97,11 +97,7 @@ fn push_sites(text: &mut Vec<u8>, sites: &[Site<'_>], unit: Rest<'_>) -> Result<
 }
 
 // The words of a site, and what is left behind it.
-fn push_site<'a>(
-    text: &mut Vec<u8>,
-    site: Site<'_>,
-    rest: Rest<'a>,
-) -> Result<Rest<'a>, AllocError>
+fn push_site<'a>(text: &mut Vec<u8>, site: Site<'_>, rest: Rest<'a>) -> Result<Rest<'a>, AllocError>
     requires { item_length (item_at site) ≤ 18446744073709551615 }
     ensures { IfOk result (λ left. (sites : List SiteItem) →
         text.new.items ++ unit_text left.tokens.now sites left.found.now

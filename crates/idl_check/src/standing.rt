@@ -120,7 +120,8 @@ fn is_inherited(
         (b, log.new)
         ≡ run key_eq
         (under view.entry.own.now.additions
-        (and_then (inherited turns scope.now name.now) (λ found. Done (list_any is_operation found))))
+        (and_then (inherited turns scope.now name.now)
+        (λ found. Done (list_any is_operation found))))
         (answers view.entry.env.now) log.old) }
 {
     if !scope.kind.inherits() {

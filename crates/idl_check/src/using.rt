@@ -9,9 +9,7 @@ ghost use Rattle.idl_unit.specs.TokenRules.{first};
 
 use crate::bases::Bases;
 use idl_event::Code;
-use idl_scope::{
-    Addition, Entity, Facts, Kind, NameCode, Scope, Stage, folded_name,
-};
+use idl_scope::{Addition, Entity, Facts, Kind, NameCode, Scope, Stage, folded_name};
 use idl_site::Use;
 use idl_tree::ScopedName;
 use std::alloc::{AllocError, Global};
@@ -37,7 +35,7 @@ pub fn name_length(name: &ScopedName) -> usize
     requires { length (spell_name name.now) ≤ 18446744073709551615 }
     ensures { result ≡ length (spell_name name.now) }
 {
-    usize::from(name.is_global) + 1 + 2 * name.rest.len()
+    last_at(0, name) + 1
 }
 
 /// The code of what a name denotes nothing for.

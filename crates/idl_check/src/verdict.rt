@@ -9,7 +9,7 @@ use std::alloc::{AllocError, Global};
 
 /// The row of a unit in the dump.
 pub enum Row {
-    /// Its bytes, which are shared.
+    /// Its bytes.
     Spelled(Shared<Text>),
     /// It holds an expression, whose value isn't known.
     Unknown,

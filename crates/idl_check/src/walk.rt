@@ -24,7 +24,7 @@ use crate::declaring::{declared_code, entity_of, finished, kind_of, stays};
 use crate::part::front;
 use crate::standing::{Standing, standing_of};
 use crate::using::{introduce, last_at, name_code, part_at, used_code};
-use idl_base::Text;
+use idl_base::{Seq, Text};
 use idl_event::Code;
 use idl_memo::Log;
 use idl_scope::{
@@ -442,8 +442,22 @@ fn finish(
         return Ok(());
     }
     let paths = bases.paths(alloc)?;
+    add_finished(alloc, own, &paths, begun)
+}
+
+// Puts in what has begun, with these bases.
+fn add_finished(
+    alloc: Global,
+    own: &mut Facts,
+    bases: &Seq<Path>,
+    begun: &[Shared<Entity>],
+) -> Result<(), AllocError>
+    ensures { OnOk result
+        (own.new
+        ≡ record own.old { additions = with_finished bases.now own.old.additions begun.now }) }
+{
     for entity in begun {
-        own.add(Addition::Declares(finished(alloc, &paths, entity.get())?))?;
+        own.add(Addition::Declares(finished(alloc, bases, entity.get())?))?;
     }
     Ok(())
 }

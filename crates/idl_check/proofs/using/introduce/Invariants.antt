@@ -1,5 +1,4 @@
-use Rattle.std.proofs.Common.{◌≡◌, drop, map}
-use Rattle.std.specs.Prelude.{fold}
+use Rattle.std.proofs.Common.{◌≡◌, drop}
 use Rattle.idl_check.specs.Using.{with_uses}
 use Rattle.idl_lex.specs.Keywords.{folded}
 use Rattle.idl_check.proofs.using.introduce.Given as goal

@@ -13,6 +13,6 @@ invariant-loop-site l = record {
   rest : (turns : ℕ) → TURNS ≤ turns
       → runs_over (answers l.fn.self.env.now) (walk turns (map item_at (drop l.site-index l.sites)) (held l.self)) l.log
       ≡ runs_over (answers l.fn.self.env.now) (walk turns (map item_at l.sites) (held l.fn.self)) l.fn.log;
-  env : l.self.env ≡ l.fn.self.env;
+  env : l.self.env.now ≡ l.fn.self.env.now;
   room : HasRoomFor (held l.self) (map item_at (drop l.site-index l.sites));
 }

@@ -1,11 +1,10 @@
 use Rattle.std.proofs.Common.{◌≡◌, drop}
 use Rattle.idl_check.specs.Declaring.{with_finished}
-use Rattle.idl_check.proofs.walk.finish.Given as goal
+use Rattle.idl_check.proofs.walk.add_finished.Given as goal
 
 -- the rest, put behind those so far, comes to all of them
 abbrev pub invariant-loop-entity : goal.invariant-loop-entity
 invariant-loop-entity l = record {
-  rest : with_finished l.paths l.own.additions (drop l.entity-index l.begun) ≡ with_finished l.bases.paths l.fn.own.additions l.begun;
-  paths : l.paths ≡ l.bases.paths;
+  rest : with_finished l.bases l.own.additions (drop l.entity-index l.begun) ≡ with_finished l.bases l.fn.own.additions l.begun;
   step : l.own.step ≡ l.fn.own.step;
 }

@@ -1,0 +1,29 @@
+use Rattle.std.proofs.Common.{◌∷◌, [], sym, ap, ◌∙◌}
+use Rattle.std.proofs.lemmas.Result.{IfOk-weaker}
+use Rattle.idl_check.proofs.JudgeLemmas.{first_faults-opening, first_step, second_step}
+use Rattle.idl_check.proofs.VisitLemmas.{runs_over}
+use Rattle.idl_check.specs.Verdict.{refused}
+use Rattle.idl_scope.specs.Facts.{answers}
+use Rattle.idl_unit.specs.Faults.{least_fault}
+use Rattle.idl_check.proofs.judge.Judge.without_tree.Goals as goal
+
+pub returns-in-Some : goal.returns-in-Some
+returns-in-Some c =
+    let bank = answers c.args.self.env.now in
+    let tokens = c.args.self.tokens.now in
+    let scopes = c.args.self.scopes.now in
+    let fault = c.in-Some.fault in
+    let told = ap least_fault (first_faults-opening tokens scopes (fault ∷ []) c.requires.rules c.in-Some.ensures) in
+    IfOk-weaker c.refused.result _ _ (λ v given turns more. given ∙ ap (λ q. runs_over bank q c.args.log.now) (sym (first_step turns tokens scopes fault told))) c.refused.ensures
+
+pub returns-in-None : goal.returns-in-None
+returns-in-None c =
+    let bank = answers c.args.self.env.now in
+    let tokens = c.args.self.tokens.now in
+    let scopes = c.args.self.scopes.now in
+    let told = ap least_fault (first_faults-opening tokens scopes [] c.requires.rules c.in-None.ensures) in
+    IfOk-weaker c.refused-in-None.result _ _
+    (λ v given turns more.
+    given ∙ ap (λ f. runs_over bank (refused tokens f) c.args.log.now) c.at_first.ensures
+    ∙ ap (λ q. runs_over bank q c.args.log.now) (sym (second_step turns tokens scopes told c.requires.none)))
+    c.refused-in-None.ensures
