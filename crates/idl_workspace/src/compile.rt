@@ -5,8 +5,8 @@ ghost use Rattle.std.specs.Option.{option_copied};
 ghost use Rattle.idl_workspace.specs.Compile.{compile_over, end_of, line_count};
 
 use idl_base::Seq;
-use idl_event::{Answer, FileName, Key, Place, RootBank};
-use idl_memo::{Log, Task};
+use idl_event::{Answer, FileName, Key, Place};
+use idl_memo::{Bank, Log, Task};
 use idl_prep::{RootTask, absent};
 use idl_root::Compiled;
 use idl_source::Name;
@@ -29,7 +29,7 @@ impl Drop for CompiledRoot {
 
 /// Compiles a root from scratch over a bank, in which its own file may be absent.
 #[tactic(auto, unfolding(crate::specs::Compile::compile_over))]
-pub fn compile<B: RootBank>(
+pub fn compile<B: Bank<Key = Key, Answer = Answer>>(
     alloc: Global,
     bank: &B,
     root: &Name,
@@ -49,7 +49,11 @@ pub fn compile<B: RootBank>(
 }
 
 // The end of a root: its number of lines.
-fn end_of<B: RootBank>(alloc: Global, bank: &B, root: &Name) -> Result<Place, AllocError>
+fn end_of<B: Bank<Key = Key, Answer = Answer>>(
+    alloc: Global,
+    bank: &B,
+    root: &Name,
+) -> Result<Place, AllocError>
     ensures { IfOk result (λ place. place ≡ end_of (B.at bank.now) root.now) }
 {
     let file = FileName::new(alloc, root)?;
@@ -59,7 +63,7 @@ fn end_of<B: RootBank>(alloc: Global, bank: &B, root: &Name) -> Result<Place, Al
 
 // The number of lines of an answered file.
 fn line_count(answer: Option<&Answer>) -> u32
-    ensures { result ≡ line_count (option_copied answer) }
+    ensures { result ≡ line_count (option_copied answer.entry) }
 {
     match answer {
         Some(Answer::File(text)) => text.file().line_count() as u32,

@@ -69,7 +69,7 @@ static FILES: [&str; 17] = [
      #include \"l\"\n=ok\nroot l\n=ok\ndiagnostics l\n=rows 1\n=l:2: E19",
     // A unit may go on over files, and a fault of the preprocessor stands where it comes.
     "put a 3\ntypedef long\n#include \"b\"\n;\n=ok\nput b 2\n#pragma prefix \"P\"\n_any\n=ok\nroot a\n=ok\n\
-     diagnostics a\n=rows 0\ndump a\n=rows 1\n=typedef long _any;\nput a 6\n#if\n#endif\ntypedef long\n\
+     diagnostics a\n=rows 1\n=b:1: E25 pragma\nput a 6\n#if\n#endif\ntypedef long\n\
      #include \"c\"\n#include \"b\"\n#endif\n=ok\nput b 1\nANY\n=ok\ndiagnostics a\n=rows 4\n=a:1: E18 if\n\
      =a:4: E10 \"c\"\n=b:1: E36 ANY\n=a:6: E12 endif\ndump a\n=rows 0",
     // A skipped branch tells the faults of its groups from left to right, those of one that isn't closed behind those in

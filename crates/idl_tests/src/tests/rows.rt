@@ -3,7 +3,7 @@
 use super::support::have_rows;
 use std::test::Fail;
 
-static ROWS: [&str; 35] = [
+static ROWS: [&str; 36] = [
     "",
     "typedef unsigned long long _boolean;\n=typedef unsigned long long _boolean;",
     "typedef long _x; typedef\nObject _any\t;\n=typedef long x;\n=typedef Object _any;",
@@ -52,8 +52,10 @@ static ROWS: [&str; 35] = [
      */ #error  a\t\"b  c\" // d\n=a:11: E16 error a \"b  c\"",
     // Pragmas.
     "#pragma prefix \"P\"\ntypedef long X;\n#pragma ID X \"IDL:x:1.0\"\n#pragma version X 1.1\n#pragma\n\
-     #pragma hdrstop\n#pragma Prefix 1\n#define once\n#pragma once\n#pragma prefix\n#pragma ID 1\n#if 0\n\
-     #pragma version\n#endif\ntypedef short Y;\n=typedef long X;\n=typedef short Y;",
+     #pragma hdrstop\n#pragma Prefix 1\n#define once\n#pragma once\n#if 0\n#pragma version\n#endif\ntypedef short Y;\n\
+     =typedef long X;\n=typedef short Y;",
+    "typedef\n#pragma version X 1.1\nlong X;\n#pragma prefix\n#pragma ID 1\n#pragma version X 65536.0\n=a:2: E25 pragma\n\
+     =a:4: E26 pragma\n=a:5: E26 pragma\n=a:6: E26 pragma",
 ];
 
 #[test]
