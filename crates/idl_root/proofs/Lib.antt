@@ -1,2 +1,3 @@
 mod JudgingLemmas
 mod OrderLemmas
+mod ToldLemmas

@@ -1,13 +1,13 @@
 -- Findings in the order of their events: a stable sort gives them, since two lists in order are one where each event has the
 -- same findings in both.
-use Rattle.std.proofs.Common.{◌≡◌, ℕ, suc, ◌<◌, ◌≤◌, Bool, true, false, cond, not, ◌&&◌, List, [], ◌∷◌, length, get_or, drop, filter, ◌==◌, Less, Equal, Greater, nat_cmp, is_lt, nat_eq, nat_lt, nat_le, refl, sym, ap, ◌∙◌, arith, tests}
+use Rattle.std.proofs.Common.{◌≡◌, ℕ, zero, suc, ◌<◌, ◌≤◌, Bool, true, false, cond, not, ◌&&◌, List, [], ◌∷◌, length, get_or, drop, filter, ◌==◌, Less, Equal, Greater, nat_cmp, is_lt, nat_eq, nat_lt, nat_le, refl, sym, ap, ◌∙◌, arith, tests}
 use Rattle.std.specs.List.Sorted.{IsNonDecreasingBy, IsStableByKey}
 use Rattle.idl_event.specs.declared.code.Code.TheVariants.{OpenScope}
 use Rattle.idl_root.specs.Findings.{among, in_order}
 use Rattle.idl_root.specs.declared.finding.Finding.{Finding}
 
 -- those of an event
-abbrev at : ℕ → List Finding → List Finding
+abbrev pub at : ℕ → List Finding → List Finding
 at n found = filter (λ f. nat_eq n f.event) found
 
 -- none names an event before this one
@@ -124,7 +124,7 @@ ordered-among f (g ∷ found) h = by (nat_le f.event g.event) refl (ordered-amon
         let le : g.event ≤ f.event = grind (arith, tests, e) in
         (from-among g.event f found le h.0, next)
 
-at-in_order : (n : ℕ) (found : List Finding) → at n (in_order found) ≡ at n found
+pub at-in_order : (n : ℕ) (found : List Finding) → at n (in_order found) ≡ at n found
 at-in_order n [] = refl
 at-in_order n (f ∷ found) =
     at-among n f (in_order found) ∙ ap (λ l. cond (nat_eq n f.event) (f ∷ l) l) (at-in_order n found)
@@ -140,6 +140,21 @@ less a b = by (nat_lt a b) (a == b)
     by true q = refl
     by false true = refl
     by false false = refl
+
+at_least-from : (n : ℕ) (found : List Finding) (k : ℕ) (d : Finding) → AreFrom n found → k < length found → n ≤ (get_or found k d).event
+at_least-from n [] k d h lt = absurd (omega arith)
+at_least-from n (f ∷ found) zero d h lt = h.0
+at_least-from n (f ∷ found) (suc k) d h lt = at_least-from n found k d h.1 (omega arith)
+
+rises-ordered : (found : List Finding) → AreOrdered found → IsNonDecreasingBy (λ f. f.event) found
+rises-ordered [] h i j d le lt = absurd (omega arith)
+rises-ordered (f ∷ found) h zero zero d le lt = omega arith
+rises-ordered (f ∷ found) h zero (suc j) d le lt = at_least-from f.event found j d h.0 (omega arith)
+rises-ordered (f ∷ found) h (suc i) zero d le lt = absurd (omega arith)
+rises-ordered (f ∷ found) h (suc i) (suc j) d le lt = rises-ordered found h.1 i j d (omega arith) (omega arith)
+
+pub in_order-rises : (found : List Finding) → IsNonDecreasingBy (λ f. f.event) (in_order found)
+in_order-rises found = rises-ordered (in_order found) (ordered-in_order found)
 
 -- numbers that tie are one
 tied : (a b : ℕ) → not (is_lt (nat_cmp a b)) && not (is_lt (nat_cmp b a)) ≡ nat_eq a b

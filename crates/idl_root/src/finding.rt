@@ -114,7 +114,7 @@ impl<'a> Spelled<'a> {
     }
 }
 
-// What is told at a token.
+// What is told where a token stands.
 fn finding_at(
     alloc: Global,
     code: Code,
@@ -127,10 +127,7 @@ fn finding_at(
     let Some(site) = site else {
         return Ok(None);
     };
-    let Some(token) = token else {
-        return Ok(None);
-    };
-    let row = diagnostic_row(alloc, &site.place, code, Some(token))?;
+    let row = diagnostic_row(alloc, &site.place, code, token)?;
     let row = Shared::new(alloc, row)?;
     Ok(Some(Finding {
         event: site.event,
