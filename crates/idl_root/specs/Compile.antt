@@ -1,5 +1,5 @@
 -- What compiling a root gives, from the events that it expands to.
-use Rattle.std.specs.Prelude.{ℕ, Bool, true, false, ◌||◌, List, [], ◌∷◌, ◌++◌, flat_map, length, map, nat_lt, Option, None, Some, if◌then◌else◌}
+use Rattle.std.specs.Prelude.{ℕ, Bool, true, false, ◌||◌, List, [], ◌∷◌, ◌++◌, flat_map, length, map, nat_lt, Option, None, Some}
 use Rattle.std.specs.List.{enumerate_from, list_any}
 use Rattle.std.specs.Option.{option_map}
 use Rattle.idl_check.specs.declared.verdict.Row.{Row}
@@ -67,10 +67,10 @@ dump_beside is_faulty rows = []
 -- that they name, and then that of an open scope
 abbrev pub told : Place → Outcome → Compiled
 told end o =
-    let open = is_open o.facts in
+    let is_open_at_end = is_open o.facts in
     record {
-      diagnostics = map (λ f. f.row) (in_order o.found) ++ open_row end open;
-      dump = dump_beside (open || has_error o.found) o.rows;
+      diagnostics = map (λ f. f.row) (in_order o.found) ++ open_row end is_open_at_end;
+      dump = dump_beside (is_open_at_end || has_error o.found) o.rows;
     }
 
 -- the diagnostics and the dump of a root that expands to these events, and whose end is this place

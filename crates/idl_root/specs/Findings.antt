@@ -1,5 +1,5 @@
 -- What is found in a root, and the order in which it is told.
-use Rattle.std.specs.Prelude.{ℕ, List, [], ◌∷◌, nat_le, slice_get, Option, None, Some, if◌then◌else◌}
+use Rattle.std.specs.Prelude.{List, [], ◌∷◌, nat_le, slice_get, Option, None, Some, if◌then◌else◌}
 use Rattle.idl_event.specs.Diagnostic.{diagnostic_row}
 use Rattle.idl_event.specs.declared.code.Code.{Code}
 use Rattle.idl_event.specs.declared.event.Event.TheVariants as event
@@ -17,11 +17,11 @@ abbrev pub tokens_of : UnitText → List Token
 tokens_of (Tokens tokens) = tokens
 tokens_of (Pragma tokens inside) = tokens
 
--- what is told at a token: its row shows the token
+-- what is told where a token stands: its row shows the token
 abbrev pub finding_at : Code → Option Site → Option Token → List Finding
-finding_at code (Some site) (Some token) =
-    record { event = site.event; code = code; row = diagnostic_row site.place code (Some token) } ∷ []
-finding_at code site token = []
+finding_at code None token = []
+finding_at code (Some site) token =
+    record { event = site.event; code = code; row = diagnostic_row site.place code token } ∷ []
 
 -- what is found in a unit: its fault, at the token with that number
 abbrev pub fault_finding : UnitText → List Site → Option Fault → List Finding

@@ -2,3 +2,4 @@ pub mod Judged
 pub mod Findings
 pub mod Compile
 pub mod Held
+pub mod Told

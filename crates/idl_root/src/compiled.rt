@@ -43,11 +43,9 @@ pub fn compile(alloc: Global, end: &Place, expansion: &Expansion) -> Result<Comp
 {
     let units = split(alloc, expansion)?;
     let findings = event_findings(alloc, expansion)?;
-    let mut judging = Judging::new(alloc, findings)?;
-    for unit in units.as_slice() {
-        judging = judging.with(alloc, unit)?;
-    }
-    told(alloc, end, judging)
+    let first = Judging::new(alloc, findings)?;
+    let judging = first.with_all(alloc, units.as_slice())?;
+    Ok(told(alloc, end, judging)?)
 }
 
 // The rows of a root whose units are all judged.

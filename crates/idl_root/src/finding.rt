@@ -1,10 +1,10 @@
 //! What is found in a root.
 
-ghost use Rattle.std.specs.Prelude.{◌≡◌, ◌++◌, IfOk, OnOk, flat_map, map, slice_get};
+ghost use Rattle.std.specs.Prelude.{◌≡◌, ◌++◌, IfOk, OnOk, Some, flat_map, map, slice_get};
 ghost use Rattle.std.specs.List.{enumerate_from};
-ghost use Rattle.std.specs.Option.{option_map};
+ghost use Rattle.std.specs.Option.{option_copied, option_to_list};
 ghost use Rattle.idl_root.specs.Compile.{has_error};
-ghost use Rattle.idl_root.specs.Findings.{event_finding, fault_finding, in_order, tokens_of};
+ghost use Rattle.idl_root.specs.Findings.{event_finding, fault_finding, finding_at, in_order, tokens_of};
 
 use idl_base::Text;
 use idl_event::{Code, Event, Expansion, Place, diagnostic_row};
@@ -75,25 +75,34 @@ pub fn push_fault(
     let Some(fault) = fault else {
         return Ok(());
     };
-    let Some(site) = unit.sites.get(fault.index) else {
-        return Ok(());
-    };
-    let Some(token) = unit.token(fault.index) else {
-        return Ok(());
-    };
-    let row = diagnostic_row(alloc, &site.place, fault.code, Some(token))?;
-    findings.push(Finding {
-        event: site.event,
-        code: fault.code,
-        row: Shared::new(alloc, row)?,
-    })?;
+    let found = unit.finding(alloc, fault)?;
+    if let Some(finding) = found {
+        findings.push(finding)?;
+    }
     Ok(())
 }
 
 impl<'a> Spelled<'a> {
+    // What is told of this fault of the unit.
+    fn finding(self, alloc: Global, fault: Fault) -> Result<Option<Finding>, AllocError>
+        ensures { IfOk result (λ found. option_to_list found
+            ≡ fault_finding self.entry.text.now self.entry.sites.now (Some fault)) }
+    {
+        let site = self.site(fault.index);
+        let token = self.token(fault.index);
+        finding_at(alloc, fault.code, site, token)
+    }
+
+    // Where the token with this number stands.
+    fn site(self, index: usize) -> Option<&'a Site>
+        ensures { option_copied result ≡ slice_get self.entry.sites.now index }
+    {
+        self.sites.get(index)
+    }
+
     // The bytes of the token with this number.
     fn token(self, index: usize) -> Option<&'a [u8]>
-        ensures { option_map (λ token. token.now) result
+        ensures { option_copied result
             ≡ slice_get (tokens_of self.entry.text.now) index }
     {
         match self.text {
@@ -103,6 +112,28 @@ impl<'a> Spelled<'a> {
             }
         }
     }
+}
+
+// What is told where a token stands.
+fn finding_at(
+    alloc: Global,
+    code: Code,
+    site: Option<&Site>,
+    token: Option<&[u8]>,
+) -> Result<Option<Finding>, AllocError>
+    ensures { IfOk result (λ found. option_to_list found
+        ≡ finding_at code (option_copied site.entry) (option_copied token.entry)) }
+{
+    let Some(site) = site else {
+        return Ok(None);
+    };
+    let row = diagnostic_row(alloc, &site.place, code, token)?;
+    let row = Shared::new(alloc, row)?;
+    Ok(Some(Finding {
+        event: site.event,
+        code,
+        row,
+    }))
 }
 
 /// Whether one of them is an error.
@@ -120,14 +151,16 @@ pub fn rows_in_order(
     ensures { IfOk result (λ rows. rows.items ≡ map (λ f. f.row) (in_order findings.items)) }
 {
     findings.sort_by_key(|finding| finding.event)?;
+    Ok(rows_of(alloc, &findings)?)
+}
+
+// Their rows, which they share.
+fn rows_of(alloc: Global, findings: &[Finding]) -> Result<Vec<Shared<Text>>, AllocError>
+    ensures { IfOk result (λ rows. rows.items ≡ map (λ f. f.row) findings.now) }
+{
     let mut rows = Vec::new(alloc);
     for finding in findings {
-        let Finding {
-            event: _event,
-            code: _code,
-            row,
-        } = finding;
-        rows.push(row)?;
+        rows.push(finding.row.clone()?)?;
     }
     Ok(rows)
 }

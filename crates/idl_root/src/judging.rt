@@ -5,7 +5,7 @@ ghost use Rattle.std.specs.Option.{option_map};
 ghost use Rattle.idl_check.specs.declared.verdict.Verdict.{Verdict as UnitVerdict};
 ghost use Rattle.idl_root.specs.Compile.{is_open, with_row};
 ghost use Rattle.idl_root.specs.Held.{held, rows_before, to_come, with_judged};
-ghost use Rattle.idl_root.specs.Judged.{verdict_over};
+ghost use Rattle.idl_root.specs.Judged.{judged_over, verdict_over};
 ghost use Rattle.idl_unit.specs.declared.unit.Unit.{Unit as RootUnit};
 
 use crate::compiled::Row;
@@ -48,20 +48,46 @@ impl Judging {
         })
     }
 
-    /// After one unit more.
-    pub fn with(self, alloc: Global, unit: &Unit) -> Result<Judging, AllocError>
+    /// After these units.
+    pub fn with_all(self, alloc: Global, units: &[Unit]) -> Result<Judging, AllocError>
+        ensures { IfOk result (λ judging. held judging ≡ to_come (held self) units.now) }
+    {
+        let mut judging = self;
+        for unit in units {
+            judging = judging.with(alloc, unit)?;
+        }
+        Ok(judging)
+    }
+
+    // After one unit more.
+    #[tactic(auto, unfolding(crate::specs::Judged::judged_after))]
+    fn with(self, alloc: Global, unit: &Unit) -> Result<Judging, AllocError>
         ensures { IfOk result (λ judging. (units : List RootUnit)
             → to_come (held judging) units ≡ to_come (held self) (unit.now ∷ units)) }
     {
-        let Unit::Spelled(text, sites) = unit else {
-            return Ok(self);
-        };
-        let verdict = verdict_over(alloc, &self.env, text)?;
-        let unit = Spelled {
-            text,
-            sites: sites.as_slice(),
-        };
-        self.with_verdict(alloc, unit, &verdict)
+        match unit {
+            Unit::Spelled(text, sites) => {
+                let unit = Spelled {
+                    text,
+                    sites: sites.as_slice(),
+                };
+                Ok(self.with_spelled(alloc, unit)?)
+            }
+            Unit::Entered(_file) => Ok(self),
+            Unit::Left(_file) => Ok(self),
+            Unit::End => Ok(self),
+        }
+    }
+
+    // After a unit with tokens.
+    fn with_spelled(self, alloc: Global, unit: Spelled<'_>) -> Result<Judging, AllocError>
+        ensures { IfOk result (λ judging.
+            held judging
+            ≡ with_judged (held self)
+            (judged_over self.env unit.entry.text.now unit.entry.sites.now ∷ [])) }
+    {
+        let verdict = verdict_over(alloc, &self.env, unit.text)?;
+        Ok(self.with_verdict(alloc, unit, &verdict)?)
     }
 
     // After a unit with this verdict.

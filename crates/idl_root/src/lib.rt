@@ -7,5 +7,7 @@
 mod compiled;
 mod finding;
 mod judging;
+mod laws;
 
 pub use compiled::{Compiled, Row, compile};
+pub use laws::{ordering, telling};

@@ -1,0 +1,3 @@
+mod JudgingLemmas
+mod OrderLemmas
+mod ToldLemmas

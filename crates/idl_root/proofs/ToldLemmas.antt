@@ -1,0 +1,123 @@
+-- The faults of a root's units are all told: each token of a unit stands somewhere.
+use Rattle.std.proofs.Common.{◌≡◌, ◌≢◌, ℕ, zero, suc, ◌<◌, Bool, true, false, List, [], ◌∷◌, ◌++◌, length, Option, None, Some, slice_get, is_some, if◌then◌else◌, flat_map, refl, sym, ap, ◌∙◌, arith}
+use Rattle.std.specs.List.{AllByRecursion, enumerate_from}
+use Rattle.idl_check.specs.Verdict.{verdict}
+use Rattle.idl_check.specs.declared.verdict.Verdict.{Verdict}
+use Rattle.idl_event.specs.declared.code.Code.TheVariants.{MalformedPragma, PragmaInside}
+use Rattle.idl_event.specs.declared.event.Event.{Event}
+use Rattle.idl_event.specs.declared.event.Event.TheVariants as event
+use Rattle.idl_lex.specs.Tokens.{Token}
+use Rattle.idl_memo.specs.Query.{outcome}
+use Rattle.idl_root.specs.Findings.{fault_finding, finding_at, tokens_of}
+use Rattle.idl_root.specs.Judged.{judged_after, judged_over, verdict_over}
+use Rattle.idl_root.specs.Told.{IsTold}
+use Rattle.idl_scope.specs.Facts.{UnitFacts, answers}
+use Rattle.idl_scope.specs.declared.answer.Answer.{Answer}
+use Rattle.idl_scope.specs.declared.key.Key.{Key}
+use Rattle.idl_scope.specs.declared.lookup.TheConstants.{TURNS}
+use Rattle.idl_syntax.specs.Parse.{pragma_faults}
+use Rattle.idl_tree.specs.Pragma.{pragma_of}
+use Rattle.idl_unit.specs.Cut.{parts}
+use Rattle.idl_unit.specs.TokenRules.{fault_at}
+use Rattle.idl_unit.specs.Faults.{least_fault}
+use Rattle.idl_unit.specs.Units.{Numbered, sites_in, spelled, stretch_ends, stretch_units, tokens_in, unit_in, units_of}
+use Rattle.idl_unit.specs.declared.fault.Fault.{Fault}
+use Rattle.idl_unit.specs.declared.unit.Site.{Site}
+use Rattle.idl_unit.specs.declared.unit.Unit.{Unit as RootUnit}
+use Rattle.idl_unit.specs.declared.unit.Unit.TheVariants.{Spelled, Entered, Left, End}
+use Rattle.idl_unit.specs.declared.unit.UnitText.{UnitText}
+use Rattle.idl_unit.specs.declared.unit.UnitText.TheVariants.{Tokens, Pragma}
+
+abbrev index_in : Option Fault → ℕ
+index_in None = 0
+index_in (Some fault) = fault.index
+
+-- the fault of a pragma stands at its first token
+pub pragma-first : (tokens : List Token) (inside : Bool) (fault : Fault) → least_fault (pragma_faults tokens inside) ≡ Some fault → fault.index ≡ 0
+pragma-first tokens inside fault = by inside (is_some (pragma_of tokens))
+  where
+    by : (a b : Bool) → least_fault ((if a then fault_at 0 PragmaInside ∷ [] else []) ++ (if b then [] else fault_at 0 MalformedPragma ∷ [])) ≡ Some fault → fault.index ≡ 0
+    by true true h = ap index_in (sym h)
+    by true false h = ap index_in (sym h)
+    by false true h = ap index_in (sym h)
+    by false false h = ap index_in (sym h)
+
+-- each token has a site, and the word of a pragma has one
+abbrev AreSited : UnitText → List Site → Type 0
+AreSited (Tokens tokens) sites = (tokens ≢ []) × (length tokens ≡ length sites)
+AreSited (Pragma tokens inside) sites = 1 ≡ length sites
+
+abbrev IsSited : RootUnit → Type 0
+IsSited (Spelled text sites) = AreSited text sites
+IsSited (Entered file) = Unit {0}
+IsSited (Left file) = Unit {0}
+IsSited End = Unit {0}
+
+sites-len : (events : List Numbered) → length (tokens_in events) ≡ length (sites_in events)
+sites-len [] = refl
+sites-len ((n, event.Emitted place token) ∷ events) = ap suc (sites-len events)
+sites-len ((n, event.Entered file) ∷ events) = sites-len events
+sites-len ((n, event.Left file) ∷ events) = sites-len events
+sites-len ((n, event.Pragma place tokens) ∷ events) = sites-len events
+sites-len ((n, event.Fault place code text) ∷ events) = sites-len events
+
+spelled-sited : (tokens : List Token) (sites : List Site) → length tokens ≡ length sites → AllByRecursion IsSited (spelled tokens sites)
+spelled-sited [] sites e = tt
+spelled-sited (t ∷ ts) sites e = ((λ h. absurd (cc), e), tt)
+
+others-sited : (inside : Bool) (events : List Numbered) → AllByRecursion IsSited (flat_map (unit_in inside) events)
+others-sited inside [] = tt
+others-sited inside ((n, event.Emitted place token) ∷ events) = others-sited inside events
+others-sited inside ((n, event.Entered file) ∷ events) = (tt, others-sited inside events)
+others-sited inside ((n, event.Left file) ∷ events) = (tt, others-sited inside events)
+others-sited inside ((n, event.Pragma place tokens) ∷ events) = (refl, others-sited inside events)
+others-sited inside ((n, event.Fault place code text) ∷ events) = others-sited inside events
+
+append-sited : (a b : List RootUnit) → AllByRecursion IsSited a → AllByRecursion IsSited b → AllByRecursion IsSited (a ++ b)
+append-sited [] b p q = q
+append-sited (u ∷ a) b p q = (p.0, append-sited a b p.1 q)
+
+stretches-sited : (stretches : List (List Numbered)) → AllByRecursion IsSited (flat_map stretch_units stretches)
+stretches-sited [] = tt
+stretches-sited (stretch ∷ stretches) =
+    append-sited (stretch_units stretch) (flat_map stretch_units stretches)
+    (append-sited (spelled (tokens_in stretch) (sites_in stretch)) _ (spelled-sited (tokens_in stretch) (sites_in stretch) (sites-len stretch)) (others-sited _ stretch))
+    (stretches-sited stretches)
+
+units-sited : (events : List Event) → AllByRecursion IsSited (units_of events)
+unfolding units_of
+units-sited events = append-sited _ (End ∷ []) (stretches-sited (parts stretch_ends (enumerate_from 0 events))) (tt, tt)
+
+site-there : (sites : List Site) (i : ℕ) → i < length sites → (site : Site) × (slice_get sites i ≡ Some site)
+site-there [] i lt = absurd (omega arith)
+site-there (s ∷ sites) zero lt = (s, refl)
+site-there (s ∷ sites) (suc i) lt = site-there sites i (omega arith)
+
+told-at : (text : UnitText) (sites : List Site) (v : Verdict) → ((fault : Fault) → v.fault ≡ Some fault → fault.index < length sites)
+    → IsTold (record { text = text; sites = sites; verdict = v })
+told-at text sites v within fault is =
+    let there = site-there sites fault.index (within fault is) in
+    let token = slice_get (tokens_of text) fault.index in
+    (_, (ap (fault_finding text sites) is ∙ ap (λ s. finding_at fault.code s token) there.1, refl))
+
+module _
+    (numbered : (turns : ℕ) (tokens : List Token) (answers : Key → Option Answer) (fault : Fault) → tokens ≢ []
+        → (outcome (verdict turns (Tokens tokens)) answers).fault ≡ Some fault → fault.index < length tokens)
+    (pragmas : (turns : ℕ) (tokens : List Token) (inside : Bool) (answers : Key → Option Answer) (fault : Fault)
+        → (outcome (verdict turns (Pragma tokens inside)) answers).fault ≡ Some fault → fault.index ≡ 0)
+  where
+  within : (facts : List UnitFacts) (text : UnitText) (sites : List Site) → AreSited text sites → (fault : Fault) → (verdict_over facts text).fault ≡ Some fault → fault.index < length sites
+  within facts (Tokens tokens) sites are fault is = omega (arith, are.1, numbered TURNS tokens (answers facts) fault are.0 is)
+  within facts (Pragma tokens inside) sites are fault is = omega (arith, are, pragmas TURNS tokens inside (answers facts) fault is)
+
+  judged-told : (facts : List UnitFacts) (units : List RootUnit) → AllByRecursion IsSited units → AllByRecursion IsTold (judged_after facts units)
+  unfolding judged_after
+  judged-told facts [] are = tt
+  judged-told facts (Spelled text sites ∷ units) are =
+      (told-at text sites (verdict_over facts text) (within facts text sites are.0), judged-told (facts ++ (verdict_over facts text).writes ∷ []) units are.1)
+  judged-told facts (Entered file ∷ units) are = judged-told facts units are.1
+  judged-told facts (Left file ∷ units) are = judged-told facts units are.1
+  judged-told facts (End ∷ units) are = judged-told facts units are.1
+
+  pub units-told : (events : List Event) → AllByRecursion IsTold (judged_after [] (units_of events))
+  units-told events = judged-told [] (units_of events) (units-sited events)
