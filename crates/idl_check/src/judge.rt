@@ -137,8 +137,6 @@ impl<'a> Judge<'a> {
             ≡ run key_eq (by_names turns self.entry.tokens.now self.entry.scopes.now tree.now)
             (answers self.entry.env.now) log.old) }
     {
-        // A word counts the tokens, and so the tokens of the sites.
-        let _count = self.tokens.len();
         let sites = sites(self.env.alloc(), tree)?;
         if is_misplaced(tree, self.scopes) {
             return self.misplaced(log, sites.as_slice());
