@@ -78,28 +78,47 @@ fn the_language_has_these_keywords(rt: HostRuntime) -> Result<(), Fail> {
     Ok(())
 }
 
-// Each with the number that it is or those of its characters, or with none where it is no literal; the last one is empty.
-const VALUES: &str =
-    "'a'=97, \"\"= '\\0'=0, \"\\n\\t\\v\\b\\r\\f\\a\"=10,9,11,8,13,12,7, \"\\\\\\?\\'\\\"\"=92,63,39,34, \
-     \"\\1018\\377\"=65,56,255, \"\\x41a\\xfg\"=65,97,15,103, L\"\\u263a\\u41g\"=9786,65,103, L\"\\u12345\"=4660,53, \
-     0=0, 00=0, 12=12, 0755=493, 0xfF=255, 0X1e=30, 18446744073709551615=18446744073709551615, \
-     01777777777777777777777=18446744073709551615, \"\\q\" \"\\400\" \"a a ";
+#[test]
+fn integers_have_these_values(rt: HostRuntime) -> Result<(), Fail> {
+    let rows = "0=0 00=0 12=12 0755=493 0xfF=255 0X1e=30 18446744073709551615=18446744073709551615 \
+         01777777777777777777777=18446744073709551615";
+    for row in rows.split(' ') {
+        let (spelling, want) = row.split_once('=').ok_or("no value")?;
+        assert_eq!(rt;
+            integer_value(spelling.as_bytes()),
+            want.parse::<u64>().ok(),
+            "{row}"
+        );
+    }
+    Ok(())
+}
+
+static VALUES: [(&str, Option<&[u16]>); 14] = [
+    ("'a'", Some(&[97])),
+    ("\"\"", Some(&[])),
+    ("'\\0'", Some(&[0])),
+    (
+        "\"\\n\\t\\v\\b\\r\\f\\a\"",
+        Some(&[10, 9, 11, 8, 13, 12, 7]),
+    ),
+    ("\"\\\\\\?\\'\\\"\"", Some(&[92, 63, 39, 34])),
+    ("\"\\1018\\377\"", Some(&[65, 56, 255])),
+    ("\"\\x41a\\xfg\"", Some(&[65, 97, 15, 103])),
+    ("L\"\\u263a\\u41g\"", Some(&[9786, 65, 103])),
+    ("L\"\\u12345\"", Some(&[4660, 53])),
+    ("\"\\q\"", None),
+    ("\"\\400\"", None),
+    ("\"a", None),
+    ("a", None),
+    ("", None),
+];
 
 #[test]
 fn literals_have_these_values(rt: HostRuntime) -> Result<(), Fail> {
-    for row in VALUES.split(' ') {
-        let (spelling, want) = row.split_once('=').unwrap_or((row, "none"));
-        let mut shown = String::new(rt.alloc());
-        match decode(rt.alloc(), spelling.as_bytes())? {
-            Some(value) => for unit in value.as_slice() {
-                write!(shown, "{unit},")?;
-            },
-            None => match integer_value(spelling.as_bytes()) {
-                Some(value) => write!(shown, "{value},")?,
-                None => shown.push_str("none")?,
-            },
-        }
-        assert_eq!(rt; shown.as_str(), want, "{spelling}");
+    for (spelling, want) in &VALUES {
+        let value = decode(rt.alloc(), spelling.as_bytes())?;
+        let value = value.as_ref().map(|value| value.as_slice());
+        assert_eq!(rt; value, *want, "{spelling}");
     }
     Ok(())
 }
