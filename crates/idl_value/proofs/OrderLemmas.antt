@@ -1,5 +1,5 @@
 -- The faults of an expression are in the order of their tokens.
-use Rattle.std.proofs.Common.{◌≡◌, ℕ, ◌+◌, ◌-◌, ◌^◌, ◌<◌, ◌≤◌, min, List, [], ◌∷◌, ◌++◌, Option, None, Some, Result, Ok, Err, length, true, false, if◌then◌else◌, arith, subst, sym, inl}
+use Rattle.std.proofs.Common.{◌≡◌, ℕ, ◌+◌, ◌^◌, ◌<◌, ◌≤◌, List, [], ◌∷◌, ◌++◌, Option, None, Some, Result, Ok, Err, length, true, false, if◌then◌else◌, arith, subst}
 use Rattle.idl_tree.specs.Expression.{spell_expression, spell_literal}
 use Rattle.idl_tree.specs.declared.expression.Expression.{Expression}
 use Rattle.idl_tree.specs.declared.expression.UnaryOperator.{UnaryOperator}

@@ -1,17 +1,17 @@
 -- A walk from the left comes to the first fault, and to the value.
-use Rattle.std.proofs.Common.{◌≡◌, ◌∙◌, ℕ, ◌+◌, ◌-◌, ◌^◌, ◌<◌, ◌≤◌, suc, List, [], ◌∷◌, Option, None, Some, Result, Ok, Err, length, drop, get_or, add-one, min, zero, pos, negsuc, true, false, if◌then◌else◌, refl, sym, ap, arith}
+use Rattle.std.proofs.Common.{◌≡◌, ◌∙◌, ℕ, ◌+◌, ◌<◌, ◌≤◌, suc, List, [], ◌∷◌, Option, None, Some, Result, Ok, Err, length, drop, get_or, add-one, zero, pos, negsuc, true, false, if◌then◌else◌, refl, sym, ap, arith}
 use Rattle.std.proofs.Math.Seq.{drop-cons}
 use Rattle.std.proofs.lemmas.List.{drop_all}
-use Rattle.idl_tree.specs.Expression.{spell_expression, spell_literal}
+use Rattle.idl_tree.specs.Expression.{spell_literal}
 use Rattle.idl_tree.specs.declared.expression.Expression.{Expression}
 use Rattle.idl_tree.specs.declared.expression.UnaryOperator.{UnaryOperator}
-use Rattle.idl_value.specs.Evaluation.{Evaluation, Faulty, Operands, Read, Valued, admitted, ahead, at_token, behind, bound_of, fault, first_of, in_target, is_held, positive, start, value_of, literal_value, named, operand_at, operated, read_links, read_operator, read_parenthesis, read_sign, read_term, signed_at}
+use Rattle.idl_value.specs.Evaluation.{Evaluation, Faulty, Operands, Read, Valued, admitted, ahead, at_token, behind, bound_of, fault, first_of, in_target, is_held, positive, start, value_of, literal_value, named, operand_at, operated, read_links, read_operator, read_term, signed_at}
 use Rattle.idl_value.specs.Term.{Term, Named, Literally, Parenthesised, Signed, Chain, Links, End, Link, links, expression_term}
 use Rattle.idl_value.specs.Walk.{Walked, held_outcome, named_outcome, positive_outcome, operated_outcome, outcome_at, signed_outcome, walk_links, walk_operator, walk_parenthesis, walk_sign, walk_term}
 use Rattle.idl_value.specs.declared.operator.Operator.{Operator}
 use Rattle.idl_value.specs.declared.integer.IntegerKind.TheVariants.{UnsignedLong}
 use Rattle.idl_value.specs.declared.outcome.Code.{Code}
-use Rattle.idl_value.specs.declared.outcome.Code.TheVariants.{NotPositive, OutOfRange}
+use Rattle.idl_value.specs.declared.outcome.Code.TheVariants.{OutOfRange}
 use Rattle.idl_value.specs.declared.outcome.Outcome.TheVariants as outcome
 use Rattle.idl_value.specs.declared.target.Target.{Target}
 use Rattle.idl_value.specs.declared.target.Target.TheVariants as target

@@ -1,5 +1,5 @@
 -- The integer types, their ranges, and the range of every part of a value.
-use Rattle.std.specs.Prelude.{ℕ, ◌-◌, ◌^◌, ℤ, pos, Bool, true, false, cond, int_le, nat_eq, ◌&&◌, neg_ℤ}
+use Rattle.std.specs.Prelude.{ℕ, ◌-◌, ◌^◌, ℤ, pos, Bool, true, false, int_le, ◌&&◌, neg_ℤ}
 use Rattle.idl_value.specs.declared.integer.IntegerKind.{IntegerKind}
 use Rattle.idl_value.specs.declared.integer.IntegerKind.TheVariants.{Octet, Short, UnsignedShort, Long, UnsignedLong, LongLong, UnsignedLongLong}
 

@@ -1,5 +1,5 @@
 -- The types of which there are constants.
-use Rattle.std.specs.Prelude.{ℕ, ℤ, pos, List, Bool, true, false, Option, None, Some}
+use Rattle.std.specs.Prelude.{ℕ, ℤ, pos, Bool, true, false, Option, None, Some}
 use Rattle.idl_tree.specs.declared.data_type.DiscreteType.{DiscreteType}
 use Rattle.idl_tree.specs.declared.data_type.DiscreteType.TheVariants as discrete
 use Rattle.idl_tree.specs.declared.data_type.IntegerSize.{IntegerSize}

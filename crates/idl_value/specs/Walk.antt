@@ -1,14 +1,12 @@
 -- Words for the walk over an expression, which keeps of its faults the first.
-use Rattle.std.specs.Prelude.{ℕ, zero, ℤ, pos, Bool, true, if◌then◌else◌, ◌+◌, ◌*◌, ◌^◌, ◌-◌, length, min, List, [], ◌∷◌, Option, None, Some, Result, Ok, Err}
+use Rattle.std.specs.Prelude.{ℕ, zero, ℤ, pos, Bool, true, if◌then◌else◌, length, Option, None, Some, Result, Ok, Err}
 use Rattle.idl_tree.specs.Expression.{spell_literal}
 use Rattle.idl_tree.specs.declared.expression.UnaryOperator.{UnaryOperator}
 use Rattle.idl_value.specs.Evaluation.{Operands, admitted, ahead, behind, combined, fault, is_held, literal_value, number_in, operand_at, signed_value}
-use Rattle.idl_value.specs.Operate.{in_parts, operate, operate_sign}
 use Rattle.idl_value.specs.Term.{Term, Named, Literally, Parenthesised, Signed, Chain, Links, End, Link}
 use Rattle.idl_value.specs.declared.operator.Operator.{Operator}
 use Rattle.idl_value.specs.declared.outcome.Code.{Code}
 use Rattle.idl_value.specs.declared.outcome.Code.TheVariants.{NotPositive, OutOfRange}
-use Rattle.idl_value.specs.declared.outcome.Fault.{Fault}
 use Rattle.idl_value.specs.declared.outcome.Outcome.{Outcome}
 use Rattle.idl_value.specs.declared.outcome.Outcome.TheVariants as outcome
 use Rattle.idl_value.specs.declared.part.Part.{Part}

@@ -35,18 +35,6 @@ impl IntegerKind {
         }
     }
 
-    /// How many bits a value of the type has.
-    pub fn width(self) -> u32
-        ensures { result ≡ width self }
-    {
-        match self {
-            IntegerKind::Octet => 8,
-            IntegerKind::Short | IntegerKind::UnsignedShort => 16,
-            IntegerKind::Long | IntegerKind::UnsignedLong => 32,
-            IntegerKind::LongLong | IntegerKind::UnsignedLongLong => 64,
-        }
-    }
-
     /// How many values the type has.
     pub fn value_count(self) -> i128
         ensures { result ≡ power (width self) }

@@ -1,4 +1,4 @@
-use Rattle.std.proofs.Common.{◌≡◌, ◌∙◌, ap}
+use Rattle.std.proofs.Common.{◌∙◌, ap}
 use Rattle.idl_value.specs.Walk.{positive_outcome}
 use Rattle.idl_value.proofs.WalkLemmas.{walk-bound}
 use Rattle.idl_value.proofs.constant.evaluate_bound.Goals as goal

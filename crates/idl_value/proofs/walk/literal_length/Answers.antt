@@ -1,4 +1,4 @@
-use Rattle.std.proofs.Common.{◌≡◌, inl, inr, sym, ap, ◌∙◌}
+use Rattle.std.proofs.Common.{inl, inr, sym, ap, ◌∙◌}
 use Rattle.idl_tree.specs.Lexeme.{Text, WideText}
 use Rattle.idl_value.specs.Evaluation.{ahead}
 use Rattle.idl_value.proofs.SizeLemmas.{length-spell_all}

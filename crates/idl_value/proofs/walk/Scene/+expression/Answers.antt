@@ -1,4 +1,4 @@
-use Rattle.std.proofs.Common.{◌≡◌, ◌∙◌, ap, sym}
+use Rattle.std.proofs.Common.{◌∙◌, ap}
 use Rattle.idl_tree.specs.declared.expression.And.{out-And}
 use Rattle.idl_tree.specs.declared.expression.ExclusiveOr.{out-ExclusiveOr}
 use Rattle.idl_tree.specs.declared.expression.Expression.{out-Expression}
