@@ -79,7 +79,8 @@ finished bases e =
 
 -- additions with those that finish what has begun
 abbrev pub with_finished : List (List (List ℕ)) → List Addition → List Entity → List Addition
-with_finished bases own begun = fold with_addition own (map (λ e. Declares (finished bases e)) begun)
+with_finished bases own begun =
+    fold with_addition own (map (λ e. Declares (finished bases e)) begun)
 
 -- what is inherited under a folded name in a scope, which its bases may have
 abbrev pub inherited : ℕ → Scope → List ℕ → Lookup (List Entity)
@@ -143,7 +144,8 @@ declared_table s standing e =
     ∷ (is_there standing.there (λ old. may_follow old e && differs old e), OtherForward)
     ∷ (standing.is_inherited, InheritedTwice) ∷ []
 
--- what is there already stays as it is where a module is opened again, or where it is declared ahead
+-- what is there already stays as it is where a module is opened again, or where it is declared
+-- ahead
 abbrev pub stays : Option Entity → Entity → Bool
 stays there e = is_there there (λ old. may_follow old e && (kind_eq e.kind Module || is_ahead e))
 

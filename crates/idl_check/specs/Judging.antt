@@ -43,8 +43,8 @@ module _ (turns : ℕ) (answers : Key → Option Answer) where
   walked (site ∷ sites) w = walked sites (outcome (visit turns site w) answers).after
 
 -- In these scopes no rule of tokens refuses the tokens. They are the spelling of a tree, which
--- stands where it may, and at none of whose sites is a fault; and what all these sites come to is the
--- verdict.
+-- stands where it may, and at none of whose sites is a fault; and what all these sites come to is
+-- the verdict.
 pub record IsSound (turns : ℕ) (answers : Key → Option Answer) (scopes : List Scope)
     (tokens : List Token) (verdict : Verdict) : Type 0 where
   pub tree : Tree

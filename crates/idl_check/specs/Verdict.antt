@@ -1,5 +1,5 @@
--- The verdict of a unit: its fault, what it adds, and its row in the dump.
--- A fault is found in three steps: the rules of tokens, the tree, and the rules over tree and names.
+-- The verdict of a unit: its fault, what it adds, and its row in the dump. A fault is found in
+-- three steps: the rules of tokens, the tree, and the rules over tree and names.
 use Rattle.std.specs.Prelude.{ℕ, suc, ◌-◌, Bool, List, [], ◌∷◌, ◌++◌, length, Option, None, Some, Result, Ok, Err, if◌then◌else◌}
 use Rattle.idl_check.specs.Declaring.{with_finished}
 use Rattle.idl_check.specs.Placing.{depth, faulty_step, is_misplaced, opened_kind, opening_faults, step_of}

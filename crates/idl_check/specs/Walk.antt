@@ -1,5 +1,5 @@
--- The walk over the sites of a unit, in the order of its tokens: what is asked at each, what is wrong
--- there, and what it adds.
+-- The walk over the sites of a unit, in the order of its tokens: what is asked at each, what is
+-- wrong there, and what it adds.
 use Rattle.std.specs.Prelude.{ℕ, ◌+◌, Bool, true, false, ◌&&◌, List, [], ◌∷◌, ◌++◌, drop, is_some, not, take, Option, None, Some, Result, Ok, Err, if◌then◌else◌}
 use Rattle.idl_check.specs.Codes.{faults_by}
 use Rattle.idl_check.specs.Declaring.{declared_table, entity_of, is_ahead, kind_of, standing, with_declared}

@@ -17,8 +17,8 @@ use idl_scope::{Entity, Path, Stage, folded_name};
 use std::alloc::{AllocError, Global};
 use std::marker::Model;
 
-/// The paths of the bases that were named so far, and those of the operations and attributes that they bring, by
-/// the folded names.
+/// The paths of the bases that were named so far, and those of the operations and attributes that
+/// they bring, by the folded names.
 pub struct Bases {
     paths: Table<Path, ()>,
     operations: Table<Spelling, Path>,

@@ -73,7 +73,8 @@ impl<'a> Judge<'a> {
     // The least fault of the first step, where this is that of the tokens.
     fn with_opening(self, fault: Fault) -> Fault
         ensures { (faults : List UnitFault) → least_fault faults ≡ Some fault
-            → least_fault (faults ++ opening_faults self.entry.tokens.now self.entry.scopes.now) ≡ Some result }
+            → least_fault (faults ++ opening_faults self.entry.tokens.now self.entry.scopes.now)
+            ≡ Some result }
     {
         match opening_fault(self.tokens, self.scopes) {
             Some(other) => lesser(fault, other),
@@ -118,7 +119,8 @@ impl<'a> Judge<'a> {
     fn refused(self, log: &mut Log<Env>, fault: Fault) -> Result<Verdict, AllocError>
         ensures { IfOk result (λ v.
             (v, log.new)
-            ≡ run key_eq (refused self.entry.tokens.now fault) (answers self.entry.env.now) log.old) }
+            ≡ run key_eq (refused self.entry.tokens.now fault)
+            (answers self.entry.env.now) log.old) }
     {
         if opened_kind(self.tokens).is_some() {
             log.ask(&Key::Nameless, self.env)?;
@@ -135,8 +137,6 @@ impl<'a> Judge<'a> {
             ≡ run key_eq (by_names turns self.entry.tokens.now self.entry.scopes.now tree.now)
             (answers self.entry.env.now) log.old) }
     {
-        // A word counts the tokens, and so the tokens of the sites.
-        let _count = self.tokens.len();
         let sites = sites(self.env.alloc(), tree)?;
         if is_misplaced(tree, self.scopes) {
             return self.misplaced(log, sites.as_slice());
@@ -172,8 +172,8 @@ impl<'a> Judge<'a> {
     fn ask_outward(self, log: &mut Log<Env>, name: &[u8]) -> Result<(), AllocError>
         ensures { OnOk result ((turns : ℕ) → TURNS ≤ turns →
             log.new
-            ≡ (run key_eq (outward turns self.entry.scopes.now (folded name.now)) (answers self.entry.env.now)
-            log.old).1) }
+            ≡ (run key_eq (outward turns self.entry.scopes.now (folded name.now))
+            (answers self.entry.env.now) log.old).1) }
     {
         let own = Facts::new(self.env.alloc());
         let view = View {
@@ -198,7 +198,8 @@ impl<'a> Judge<'a> {
             (v, log.new)
             ≡ run key_eq
             (asking (step_of unit.entry.tree.now (path_around self.entry.scopes.now))
-            (sound self.entry.tokens.now self.entry.scopes.now unit.entry.tree.now (held walker.entry)))
+            (sound self.entry.tokens.now self.entry.scopes.now unit.entry.tree.now
+            (held walker.entry)))
             (answers self.entry.env.now) log.old) }
     {
         let alloc = self.env.alloc();

@@ -1,6 +1,7 @@
 //! The laws of verdicts.
 //!
-//! Each function does nothing: it carries its laws as clauses. They hold over any answers, and for any number of turns.
+//! Each function does nothing: it carries its laws as clauses. They hold over any answers, and for
+//! any number of turns.
 
 ghost use Rattle.std.specs.Prelude.{◌≡◌, ◌≢◌, ◌↔◌, ◌+◌, ◌<◌, ◌≤◌, Bool, ℕ, List, [], ◌∷◌, All, Contains, length, None, Option, Some};
 ghost use Rattle.idl_check.specs.AllFaults.{unit_faults};
@@ -24,9 +25,9 @@ ghost use Rattle.idl_unit.specs.declared.fault.Fault.{Fault};
 ghost use Rattle.idl_unit.specs.declared.unit.UnitText.{UnitText};
 ghost use Rattle.idl_unit.specs.declared.unit.UnitText.TheVariants as unit;
 
-/// The fault that is told is the least of all that hold in the first step that has one, also of those at sites to which the walk
-/// never comes: it is one of them, at no later token than any other, and with no greater code than another there. Where none is
-/// told, none holds.
+/// The fault that is told is the least of all that hold in the first step that has one, also of
+/// those at sites to which the walk never comes: it is one of them, at no later token than any
+/// other, and with no greater code than another there. Where none is told, none holds.
 pub fn least()
     ensures is { (turns : ℕ) (text : UnitText) (answers : Key → Option Answer)
         → (outcome (verdict turns text) answers).fault
@@ -43,9 +44,9 @@ pub fn least()
         → unit_faults turns answers text ≡ [] }
 {}
 
-/// A faulty unit of tokens adds nothing but its step, which its tokens alone tell: an opening opens a nameless scope, a closing
-/// closes, and any other changes no open scope. That is what it would do without fault, but for the name. It has no row. A pragma
-/// adds nothing in any case.
+/// A faulty unit of tokens adds nothing but its step, which its tokens alone tell: an opening opens
+/// a nameless scope, a closing closes, and any other changes no open scope. That is what it would
+/// do without fault, but for the name. It has no row. A pragma adds nothing in any case.
 pub fn refusal()
     ensures tokens { (turns : ℕ) (tokens : List Token) (answers : Key → Option Answer)
         (fault : Fault)
@@ -60,8 +61,9 @@ pub fn refusal()
         ≡ pragma_verdict (least_fault (pragma_faults tokens inside)) }
 {}
 
-/// Where a unit of tokens has no fault, no rule of tokens refuses it, and it is the spelling of a tree, which stands where it may.
-/// At none of its sites is a fault, and what it adds is what all of these come to.
+/// Where a unit of tokens has no fault, no rule of tokens refuses it, and it is the spelling of a
+/// tree, which stands where it may. At none of its sites is a fault, and what it adds is what all
+/// of these come to.
 pub fn acceptance()
     ensures sound { (turns : ℕ) (tokens : List Token) (answers : Key → Option Answer)
         → (outcome (verdict turns (unit.Tokens tokens)) answers).fault ≡ None
@@ -71,8 +73,9 @@ pub fn acceptance()
         → (tree_of tokens ≡ Some tree) ↔ (lexemes tokens ≡ spell tree) }
 {}
 
-/// At a site a walk has come to the number of its first token, whatever is wrong before, and the faults there stand at the tokens of
-/// the site. So a fault that is told stands at a token of its unit.
+/// At a site a walk has come to the number of its first token, whatever is wrong before, and the
+/// faults there stand at the tokens of the site. So a fault that is told stands at a token of its
+/// unit.
 pub fn numbering()
     ensures walk { (turns : ℕ) (answers : Key → Option Answer) (front : List Item) (w : Walk)
         → (walked turns answers front w).at ≡ w.at + items_length front }
@@ -86,8 +89,8 @@ pub fn numbering()
         → fault.index < length tokens }
 {}
 
-/// A unit that the rules of tokens refuse, or that no tree spells, asks for the open scopes, and as an opening for the nameless
-/// ones; nothing else.
+/// A unit that the rules of tokens refuse, or that no tree spells, asks for the open scopes, and as
+/// an opening for the nameless ones; nothing else.
 pub fn questions()
     ensures rules { (turns : ℕ) (tokens : List Token) (answers : Key → Option Answer)
         → first_faults tokens (scopes_in (answers Cursor)) ≢ []

@@ -1,8 +1,9 @@
-//! Declarations: the verdict of each unit of a root, which is its least fault, or what it adds to the facts, and its row in the
-//! dump.
+//! Declarations: the verdict of each unit of a root, which is its least fault, or what it adds to
+//! the facts, and its row in the dump.
 //!
-//! A unit is walked over in the order of its tokens, each name is looked up by questions, and each site has a table of what may
-//! be wrong there. Nothing here knows places, or the values of expressions.
+//! A unit is walked over in the order of its tokens, each name is looked up by questions, and each
+//! site has a table of what may be wrong there. Nothing here knows places, or the values of
+//! expressions.
 #![tactic(auto)]
 
 mod bases;

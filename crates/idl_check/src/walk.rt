@@ -232,7 +232,8 @@ impl<'a> Walker<'a> {
         requires { self.old.at + 1 ≤ 18446744073709551615 }
         ensures visit { OnOk result
             (held self.new
-            ≡ noted_in (declared_visit (held self.old) scope.now entity standing.now) self.old.fault) }
+            ≡ noted_in (declared_visit (held self.old) scope.now entity standing.now)
+            self.old.fault) }
         ensures env { OnOk result (self.new.env.now ≡ self.old.env.now) }
     {
         let code = declared_code(self.env.alloc(), scope, standing, entity.get())?;
@@ -283,7 +284,8 @@ impl<'a> Walker<'a> {
         requires part { part ≤ length name.now.rest }
         ensures visit { (way : Use) →
             held self.new
-            ≡ noted_in (used_visit (held self.old) way name.now (Err (At code part))) self.old.fault }
+            ≡ noted_in (used_visit (held self.old) way name.now (Err (At code part)))
+            self.old.fault }
         ensures env { self.new.env.now ≡ self.old.env.now }
     {
         self.note(part_at(self.at, name, part), Some(name_code(code)));
@@ -335,7 +337,8 @@ impl<'a> Walker<'a> {
 
     // It ends.
     fn end_scope(&mut self) -> Result<(), AllocError>
-        ensures walk { held self.new ≡ record (held self.old) { cursor = drop 1 self.old.cursor.items } }
+        ensures walk { held self.new
+            ≡ record (held self.old) { cursor = drop 1 self.old.cursor.items } }
         ensures env { self.new.env.now ≡ self.old.env.now }
     {
         leave(&mut self.cursor);
@@ -347,7 +350,9 @@ impl<'a> Walker<'a> {
         ensures { IfOk result (λ facts.
             facts
             ≡ record {
-              additions = with_finished self.entry.bases.paths self.entry.own.additions self.entry.begun.items;
+              additions =
+                  with_finished self.entry.bases.paths self.entry.own.additions
+                  self.entry.begun.items;
               step = step;
             }) }
     {

@@ -25,13 +25,13 @@ walk-requires c =
     let sites = ap (map item_at) c.as_slice-2.ensures.value ∙ c.in_ok-sites.ensures in
     let all = ap items_length sites ∙ sites-length c.args.self.tokens.now c.args.tree.now c.requires in
     let at = ap (λ w. w.at) c.in_ok-walker.ensures.walk in
-    omega (arith, all, at, c.len-_count.ensures, c.len-_count.type_inv)
+    omega (arith, all, at)
 
 pub sound-requires : goal.sound-requires
 sound-requires c =
     let sites = ap (map item_at) c.as_slice-3.ensures.value ∙ c.in_ok-sites.ensures in
     let all = ap items_length sites ∙ sites-length c.args.self.tokens.now c.args.tree.now c.requires in
-    record { sites = sites; room = omega (arith, all, c.len-_count.ensures, c.len-_count.type_inv) }
+    record { sites = sites; room = omega (arith, all) }
 
 pub returns-in-Some : goal.returns-in-Some
 returns-in-Some c =

@@ -26,7 +26,7 @@ returns-in-Tokens c =
     let scopes = c.args.self.scopes.now in
     let tree = c.in-Tokens.tree in
     let spelled = rw c.in-Tokens.is at c.requires.tree in
-    let told = ap least_fault (first_faults-opening tokens scopes [] c.requires.rules c.in-None.ensures) in
+    let told = ap least_fault (first_faults-opening tokens scopes [] c.requires.rules (rw c.in_default.is at c.opening_fault.ensures)) in
     IfOk-weaker c.by_names.result _ _
     (λ v given turns more. given turns more ∙ ap (λ q. runs_over bank q c.args.log.now) (sym (third_step turns tokens scopes tree told (spelled-tree tokens tree spelled))))
     c.by_names.ensures
