@@ -1,10 +1,10 @@
 -- The three steps of a verdict, run.
-use Rattle.std.proofs.Common.{◌≡◌, ℕ, Bool, true, false, cond, List, [], ◌∷◌, ◌++◌, Option, None, Some, is_some, refl, sym, ap, ◌∙◌, arith}
+use Rattle.std.proofs.Common.{◌≡◌, ℕ, true, false, cond, List, [], ◌∷◌, ◌++◌, Option, None, Some, is_some, refl, sym, ap, ◌∙◌, arith}
 use Rattle.std.proofs.lemmas.Option.{same_Some}
 use Rattle.std.proofs.lemmas.List.{length-map}
 use Rattle.std.specs.Prelude.{◌≢◌, fold, length}
 use Rattle.idl_check.proofs.LeastFault.{least-none}
-use Rattle.idl_memo.specs.Query.{Ask, Done, Tell, and_then, noted, run}
+use Rattle.idl_memo.specs.Query.{Ask, Done, Tell, and_then, noted}
 use Rattle.idl_memo.proofs.QueryLaws.{run-and_then_at}
 use Rattle.idl_check.proofs.VisitLemmas.{runs_over}
 use Rattle.idl_check.specs.Placing.{faulty_step, is_misplaced, opened_kind, opening_faults, step_of}
@@ -17,13 +17,11 @@ use Rattle.idl_lex.specs.Tokens.{Token}
 use Rattle.idl_scope.specs.Facts.{path_around}
 use Rattle.idl_scope.specs.Key.{key_eq}
 use Rattle.idl_scope.specs.Lookup.{Lookup, outward, under}
-use Rattle.idl_scope.specs.declared.addition.Step.{Step}
-use Rattle.idl_scope.specs.declared.addition.Step.TheVariants.{Stays, Opens, OpensNameless, Closes}
 use Rattle.idl_scope.specs.declared.answer.Answer.{Answer}
 use Rattle.idl_scope.specs.declared.answer.Scope.{Scope}
 use Rattle.idl_scope.specs.declared.entity.Entity.{Entity}
 use Rattle.idl_scope.specs.declared.key.Key.{Key}
-use Rattle.idl_scope.specs.declared.key.Key.TheVariants.{Nameless, Opened}
+use Rattle.idl_scope.specs.declared.key.Key.TheVariants.{Nameless}
 use Rattle.idl_scope.specs.declared.kind.Kind.{Kind}
 use Rattle.idl_site.specs.Item.{items, items_length}
 use Rattle.idl_site.specs.UnitParts.{unit_parts}
@@ -134,7 +132,7 @@ module _ (bank : Key → Option Answer) (turns : ℕ) (tokens : List Token) (sco
   misplaced_asking log name after h asks =
       ap (λ o. runs_over bank (and_then (first_asks o) (λ found. refused tokens (fault_at 0 MisplacedUnit))) log) h
       ∙ run-and_then_at key_eq (outward turns scopes (folded name)) (λ found. refused tokens (fault_at 0 MisplacedUnit)) bank log
-        (runs_over bank (outward turns scopes (folded name)) log).0 after (λ i. ((runs_over bank (outward turns scopes (folded name)) log).0, asks i))
+      (runs_over bank (outward turns scopes (folded name)) log).0 after (λ i. ((runs_over bank (outward turns scopes (folded name)) log).0, asks i))
 
   -- a walk that comes to this
   pub judged_by : (log : List (Key × Option Answer)) (w : Walk) (after : List (Key × Option Answer)) → is_misplaced tree scopes ≡ false

@@ -1,7 +1,7 @@
 -- The faults of names stand at their parts.
-use Rattle.std.proofs.Common.{◌≡◌, ℕ, suc, ◌+◌, ◌≤◌, Bool, true, false, cond, List, [], ◌∷◌, Result, Ok, Err, length, refl, subst, sym, ap, ◌∙◌, arith}
+use Rattle.std.proofs.Common.{◌≡◌, ℕ, ◌+◌, ◌≤◌, Bool, true, false, cond, List, [], ◌∷◌, Result, Ok, Err, length, subst, sym, ap, ◌∙◌, arith}
 use Rattle.idl_lex.specs.Keywords.{folded}
-use Rattle.idl_memo.specs.Query.{Query, Done, Ask, Tell, and_then, outcome, run}
+use Rattle.idl_memo.specs.Query.{Done, and_then, outcome, run}
 use Rattle.idl_memo.proofs.QueryLaws.{outcome-and_then}
 use Rattle.idl_scope.specs.Lookup.{Lookup, by_result, denoted, found_as, further, has, is_scope, judged, outward, part_of, placed, searched, under}
 use Rattle.idl_scope.specs.declared.answer.Answer.{Answer}

@@ -1,5 +1,5 @@
 -- Runs of a walk and of its sites.
-use Rattle.std.proofs.Common.{◌≡◌, ℕ, Bool, true, false, cond, List, [], ◌∷◌, Option, None, Some, Result, Ok, Err, is_some, map, refl, sym, ap, ◌∙◌}
+use Rattle.std.proofs.Common.{◌≡◌, ℕ, true, false, cond, List, [], ◌∷◌, Option, None, Some, Result, Ok, Err, is_some, map, refl, sym, ap, ◌∙◌}
 use Rattle.std.specs.Option.{option_map}
 use Rattle.std.specs.Prelude.{◌+◌, OnOk, length, slice_get}
 use Rattle.idl_memo.specs.Query.{Done, and_then, run}
@@ -141,4 +141,4 @@ module _ (bank : Key → Option Answer) where
       ap (λ b. runs_over (cond b (Done w) (and_then (visit turns site w) (λ v. walk turns sites (noted_in v w.fault)))) log) h
       ∙ run-and_then key_eq (visit turns site w) (λ v. walk turns sites (noted_in v w.fault)) bank log
       ∙ ap (λ (p : Walk × List (Key × Option Answer)). runs_over (walk turns sites p.0) p.1)
-        (sym (gives ∙ run-and_then key_eq (visit turns site w) (λ v. Done (noted_in v w.fault)) bank log))
+      (sym (gives ∙ run-and_then key_eq (visit turns site w) (λ v. Done (noted_in v w.fault)) bank log))

@@ -1,6 +1,6 @@
 -- The verdict of a unit: its fault, what it adds, and its row in the dump. A fault is found in
 -- three steps: the rules of tokens, the tree, and the rules over tree and names.
-use Rattle.std.specs.Prelude.{ℕ, suc, ◌-◌, Bool, List, [], ◌∷◌, ◌++◌, length, Option, None, Some, Result, Ok, Err, if◌then◌else◌}
+use Rattle.std.specs.Prelude.{ℕ, suc, ◌-◌, List, [], ◌∷◌, ◌++◌, length, Option, None, Some, Result, Ok, if◌then◌else◌}
 use Rattle.idl_check.specs.Declaring.{with_finished}
 use Rattle.idl_check.specs.Placing.{depth, faulty_step, is_misplaced, opened_kind, opening_faults, step_of}
 use Rattle.idl_check.specs.Row.{row_of}
@@ -10,12 +10,11 @@ use Rattle.idl_event.specs.declared.code.Code.TheVariants.{NoTree, MisplacedUnit
 use Rattle.idl_lex.specs.Keywords.{folded}
 use Rattle.idl_lex.specs.Tokens.{Token}
 use Rattle.idl_memo.specs.Query.{Done, Ask, and_then}
-use Rattle.idl_scope.specs.Facts.{UnitFacts, path_around, scopes_in}
+use Rattle.idl_scope.specs.Facts.{path_around, scopes_in}
 use Rattle.idl_scope.specs.Lookup.{Lookup, outward}
 use Rattle.idl_scope.specs.declared.addition.Step.{Step}
-use Rattle.idl_scope.specs.declared.addition.Step.TheVariants.{Stays, Opens, OpensNameless, Closes}
+use Rattle.idl_scope.specs.declared.addition.Step.TheVariants.{Stays, Opens}
 use Rattle.idl_scope.specs.declared.answer.Scope.{Scope}
-use Rattle.idl_scope.specs.declared.entity.Entity.{Entity}
 use Rattle.idl_scope.specs.declared.key.Key.TheVariants.{Cursor, Opened, Nameless}
 use Rattle.idl_site.specs.Item.{Item, items, Item as item}
 use Rattle.idl_site.specs.UnitParts.{unit_parts}
@@ -85,7 +84,7 @@ abbrev pub misplaced : ℕ → List Token → List Scope → Tree → Lookup Ver
 misplaced turns tokens scopes tree =
     and_then
     (elim (first_part (items (unit_parts tree)))
-      [ None ↦ Done [] | Some name ↦ outward turns scopes (folded name) ])
+    [ None ↦ Done [] | Some name ↦ outward turns scopes (folded name) ])
     (λ found. refused tokens (fault_at 0 MisplacedUnit))
 
 -- the third step

@@ -2,7 +2,7 @@
 -- wrong there, and what it adds.
 use Rattle.std.specs.Prelude.{ℕ, ◌+◌, Bool, true, false, ◌&&◌, List, [], ◌∷◌, ◌++◌, drop, is_some, not, take, Option, None, Some, Result, Ok, Err, if◌then◌else◌}
 use Rattle.idl_check.specs.Codes.{faults_by}
-use Rattle.idl_check.specs.Declaring.{declared_table, entity_of, is_ahead, kind_of, standing, with_declared}
+use Rattle.idl_check.specs.Declaring.{declared_table, entity_of, kind_of, standing, with_declared}
 use Rattle.idl_check.specs.Using.{Bases, bases_after, last_at, name_code, part_at, used_table, with_uses}
 use Rattle.idl_check.specs.declared.standing.Standing.{Standing}
 use Rattle.idl_lex.specs.Keywords.{folded}

@@ -46,12 +46,7 @@ impl Task<Env> for DeclarationTask {
         &self.text
     }
 
-    fn run(
-        &self,
-        _alloc: Global,
-        bank: &Env,
-        log: &mut Log<Env>,
-    ) -> Result<Verdict, AllocError> {
+    fn run(&self, _alloc: Global, bank: &Env, log: &mut Log<Env>) -> Result<Verdict, AllocError> {
         verdict_of(bank, log, &self.text)
     }
 }

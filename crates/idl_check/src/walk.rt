@@ -384,10 +384,7 @@ fn leave(scopes: &mut Vec<Scope>)
 }
 
 // Those that have begun, with one more if it has.
-fn keep_begun(
-    begun: &mut Vec<Shared<Entity>>,
-    entity: &Shared<Entity>,
-) -> Result<(), AllocError>
+fn keep_begun(begun: &mut Vec<Shared<Entity>>, entity: &Shared<Entity>) -> Result<(), AllocError>
     ensures { OnOk result
         (begun.new.items
         ≡ begun.old.items ++ (if stage_eq entity.now.stage Begun then entity.now ∷ [] else [])) }
@@ -416,12 +413,7 @@ fn add_declared(
 }
 
 // The bases after a name that is used so and denotes this.
-fn add_base(
-    alloc: Global,
-    bases: &mut Bases,
-    way: Use,
-    entity: &Entity,
-) -> Result<(), AllocError>
+fn add_base(alloc: Global, bases: &mut Bases, way: Use, entity: &Entity) -> Result<(), AllocError>
     ensures { OnOk result (bases.new ≡ bases_after way entity.now bases.old) }
 {
     match way {

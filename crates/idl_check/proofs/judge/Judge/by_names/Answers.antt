@@ -46,7 +46,7 @@ returns-in-Some c =
     IfOk-weaker c.refused.result _ _
     (λ v given turns more.
     let gives = c.in_ok-walk.ensures.walked turns more
-        ∙ (λ i. runs_over (answers (c.in_ok-walker.ensures.env i)) (walk turns (sites i) (c.in_ok-walker.ensures.walk i)) c.args.log.now) in
+    ∙ (λ i. runs_over (answers (c.in_ok-walker.ensures.env i)) (walk turns (sites i) (c.in_ok-walker.ensures.walk i)) c.args.log.now) in
     given ∙ ap (λ q. runs_over bank q after) (sym (judged_faulty bank turns tokens scopes tree w c.in-Some.fault c.in-Some.is))
     ∙ sym (judged_by bank turns tokens scopes tree c.args.log.now w after placed gives))
     c.refused.ensures
@@ -64,7 +64,7 @@ returns c =
     IfOk-weaker c.sound.result _ _
     (λ v given turns more.
     let gives = c.in_ok-walk.ensures.walked turns more
-        ∙ (λ i. runs_over (answers (c.in_ok-walker.ensures.env i)) (walk turns (sites i) (c.in_ok-walker.ensures.walk i)) c.args.log.now) in
+    ∙ (λ i. runs_over (answers (c.in_ok-walker.ensures.env i)) (walk turns (sites i) (c.in_ok-walker.ensures.walk i)) c.args.log.now) in
     given ∙ ap (λ q. runs_over bank q after) (sym (judged_sound bank turns tokens scopes tree w c.in-None.is))
     ∙ sym (judged_by bank turns tokens scopes tree c.args.log.now w after placed gives))
     c.sound.ensures

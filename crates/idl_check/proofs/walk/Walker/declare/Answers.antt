@@ -27,7 +27,7 @@ returns-clause-visited c = λ turns more.
     let entity = c.in_ok-entity.ensures ∙ (λ i. entity_of way (spelled i) (scope i).path) in
     let innermost : first w.cursor ≡ Some s = first-at w.cursor ∙ ap (λ scopes. slice_get scopes 0) (sym c.deref.ensures.value) ∙ sym c.in-Some.ensures.value in
     let gives = c.in_ok-standing.ensures turns more
-        ∙ (λ i. runs_over (answers (c.view.ensures.env i)) (under (c.view.ensures.own i).additions (standing turns (scope i) (named i))) log) in
+    ∙ (λ i. runs_over (answers (c.view.ensures.env i)) (under (c.view.ensures.own i).additions (standing turns (scope i) (named i))) log) in
     (λ i. (c.in_ok-declare_as.ensures.visit i, after))
     ∙ (λ i. (noted_in (declared_visit w (scope i) (entity i) there) w.fault, after))
     ∙ sym (declared_in bank turns way name w log s there after innermost gives)

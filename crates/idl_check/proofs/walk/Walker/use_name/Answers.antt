@@ -1,4 +1,4 @@
-use Rattle.std.proofs.Common.{◌≡◌, ℕ, ◌+◌, ◌≤◌, Ok, Err, length, subst, sym, ap, ◌∙◌, arith}
+use Rattle.std.proofs.Common.{ℕ, ◌≤◌, Ok, Err, length, subst, sym, ap, ◌∙◌, arith}
 use Rattle.idl_check.proofs.NameLemmas.{behind_name}
 use Rattle.idl_check.proofs.PartLemmas.{part-within}
 use Rattle.idl_check.proofs.VisitLemmas.{runs_over, used_by}
@@ -25,8 +25,8 @@ use_nothing-requires-clause-part c =
     let asked = rw c.in-Err-At.field-0-is at c.in-Err-At.ensures.asked in
     let name = c.args.name.now in
     let within =
-        part-within c.args.self.now.own.additions (answers c.args.self.now.env.now) TURNS c.as_slice.result.now name c.args.log.now c.resolve.new.log
-        c.in-Err-At.code c.in-Err-At.part (asked TURNS (omega arith)) in
+    part-within c.args.self.now.own.additions (answers c.args.self.now.env.now) TURNS c.as_slice.result.now name c.args.log.now c.resolve.new.log
+    c.in-Err-At.code c.in-Err-At.part (asked TURNS (omega arith)) in
     subst (λ (part : ℕ). part ≤ length name.rest) (sym c.in-Err-At.part-is) within
 
 pub returns-in_ok-use_as-in-Ok-clause-visited : goal.returns-in_ok-use_as-in-Ok-clause-visited

@@ -1,4 +1,4 @@
-use Rattle.std.proofs.Common.{◌≡◌, ◌+◌, sym, ap, ◌∙◌, arith}
+use Rattle.std.proofs.Common.{◌+◌, sym, ap, ◌∙◌, arith}
 use Rattle.idl_check.proofs.NameLemmas.{text-length}
 use Rattle.idl_check.proofs.VisitLemmas.{OnOk-always, visited_joined}
 use Rattle.idl_check.specs.Held.{held}

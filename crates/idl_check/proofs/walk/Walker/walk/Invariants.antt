@@ -1,4 +1,4 @@
-use Rattle.std.proofs.Common.{◌≡◌, ◌≤◌, ◌+◌, ℕ, drop, map}
+use Rattle.std.proofs.Common.{◌≡◌, ◌≤◌, ℕ, drop, map}
 use Rattle.idl_check.specs.Held.{HasRoomFor, held}
 use Rattle.idl_check.specs.Walk.{walk}
 use Rattle.idl_check.proofs.VisitLemmas.{runs_over}
