@@ -102,22 +102,22 @@ told-at text sites v within fault is =
 
 module _
     (numbered : (turns : ℕ) (tokens : List Token) (answers : Key → Option Answer) (fault : Fault) → tokens ≢ []
-        → (outcome (verdict turns (Tokens tokens)) answers).fault ≡ Some fault → fault.index < length tokens)
+    → (outcome (verdict turns (Tokens tokens)) answers).fault ≡ Some fault → fault.index < length tokens)
     (pragmas : (turns : ℕ) (tokens : List Token) (inside : Bool) (answers : Key → Option Answer) (fault : Fault)
-        → (outcome (verdict turns (Pragma tokens inside)) answers).fault ≡ Some fault → fault.index ≡ 0)
+    → (outcome (verdict turns (Pragma tokens inside)) answers).fault ≡ Some fault → fault.index ≡ 0)
   where
-  within : (facts : List UnitFacts) (text : UnitText) (sites : List Site) → AreSited text sites → (fault : Fault) → (verdict_over facts text).fault ≡ Some fault → fault.index < length sites
-  within facts (Tokens tokens) sites are fault is = omega (arith, are.1, numbered TURNS tokens (answers facts) fault are.0 is)
-  within facts (Pragma tokens inside) sites are fault is = omega (arith, are, pragmas TURNS tokens inside (answers facts) fault is)
+    within : (facts : List UnitFacts) (text : UnitText) (sites : List Site) → AreSited text sites → (fault : Fault) → (verdict_over facts text).fault ≡ Some fault → fault.index < length sites
+    within facts (Tokens tokens) sites are fault is = omega (arith, are.1, numbered TURNS tokens (answers facts) fault are.0 is)
+    within facts (Pragma tokens inside) sites are fault is = omega (arith, are, pragmas TURNS tokens inside (answers facts) fault is)
 
-  judged-told : (facts : List UnitFacts) (units : List RootUnit) → AllByRecursion IsSited units → AllByRecursion IsTold (judged_after facts units)
-  unfolding judged_after
-  judged-told facts [] are = tt
-  judged-told facts (Spelled text sites ∷ units) are =
-      (told-at text sites (verdict_over facts text) (within facts text sites are.0), judged-told (facts ++ (verdict_over facts text).writes ∷ []) units are.1)
-  judged-told facts (Entered file ∷ units) are = judged-told facts units are.1
-  judged-told facts (Left file ∷ units) are = judged-told facts units are.1
-  judged-told facts (End ∷ units) are = judged-told facts units are.1
+    judged-told : (facts : List UnitFacts) (units : List RootUnit) → AllByRecursion IsSited units → AllByRecursion IsTold (judged_after facts units)
+    unfolding judged_after
+    judged-told facts [] are = tt
+    judged-told facts (Spelled text sites ∷ units) are =
+        (told-at text sites (verdict_over facts text) (within facts text sites are.0), judged-told (facts ++ (verdict_over facts text).writes ∷ []) units are.1)
+    judged-told facts (Entered file ∷ units) are = judged-told facts units are.1
+    judged-told facts (Left file ∷ units) are = judged-told facts units are.1
+    judged-told facts (End ∷ units) are = judged-told facts units are.1
 
-  pub units-told : (events : List Event) → AllByRecursion IsTold (judged_after [] (units_of events))
-  units-told events = judged-told [] (units_of events) (units-sited events)
+    pub units-told : (events : List Event) → AllByRecursion IsTold (judged_after [] (units_of events))
+    units-told events = judged-told [] (units_of events) (units-sited events)

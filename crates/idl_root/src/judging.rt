@@ -99,8 +99,11 @@ impl Judging {
     ) -> Result<Judging, AllocError>
         ensures { IfOk result (λ judging.
             held judging
-            ≡ with_judged (held self)
-            (record { text = unit.entry.text.now; sites = unit.entry.sites.now; verdict = verdict.now } ∷ [])) }
+            ≡ with_judged (held self) (record {
+              text = unit.entry.text.now;
+              sites = unit.entry.sites.now;
+              verdict = verdict.now;
+            } ∷ [])) }
     {
         let Judging {
             env,
