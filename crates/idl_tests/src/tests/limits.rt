@@ -36,30 +36,58 @@ static COMMANDS: [&str; 16] = [
      root f.idl\n=ok\nabsent f.idl\n=rows 0",
 ];
 
-static ROOTS: [&str; 8] = [
+static REPLACEMENTS: [&str; 2] = [
     // Thirty macros, each replaced by two of the next, make more than a million replacements, and nineteen make less.
     "#define M0`29× M@ M@\n#define M@`\nM0\n=a:31: E19",
     "#define M0`18× M@ M@\n#define M@`\nM0",
+];
+
+static TURNS: [&str; 2] = [
     // A million tokens are those of a condition.
     "#define M0`5× M@ M@ M@ M@ M@ M@ M@ M@ M@ M@\n#define M@` 1 1 1 1 1 1 1 1 1 1\n#if M0\n#endif\n;\n\
      =a:7: E18 if\n=a:9: E19",
     // Six turns are directives, and the others replacements; the last directive is one more than a million.
     "#define M0`5× M@ M@ M@ M@ M@ M@ M@ M@ M@ M@\n#define M@`\n\
      `8×M0 ``9×M1 ``9×M2 ``9×M3 ``9×M4 ``10×M5 `\n#\n=a:8: E19",
+];
+
+static GROUPS: [&str; 2] = [
     "`90000×#if 1\n`typedef long X;`90000×\n#endif`\n=typedef long X;",
     "`90000×#if 1\n`typedef long X;`89999×\n#endif`\n#else\n=a:1: E13 if",
-    // A chain of macros, each of which is replaced by the next, and parentheses in one another.
+];
+
+// A chain of macros, each of which is replaced by the next, and parentheses in one another.
+static DEPTHS: [&str; 2] = [
     "#define M0`99999× M@\n#define M@` X\ntypedef long M0;\n=typedef long X;",
     "#if \\`10000×\n((((((((((\\`\n1\\`10000×\n))))))))))\\`\n\n#error taken\n#endif\n=a:20004: E16 error taken",
 ];
 
 #[test]
+fn the_lines_of_a_file_are_bounded(rt: HostRuntime) -> Result<(), Fail> {
+    have_replies(&rt, &LINES)
+}
+
+#[test]
 fn commands_and_projects_are_bounded(rt: HostRuntime) -> Result<(), Fail> {
-    have_replies(&rt, &LINES)?;
     have_replies(&rt, &COMMANDS)
 }
 
 #[test]
-fn roots_are_bounded_and_may_be_deep(rt: HostRuntime) -> Result<(), Fail> {
-    have_rows(&rt, &ROOTS)
+fn the_replacements_of_a_root_are_bounded(rt: HostRuntime) -> Result<(), Fail> {
+    have_rows(&rt, &REPLACEMENTS)
+}
+
+#[test]
+fn the_tokens_and_turns_of_a_root_are_bounded(rt: HostRuntime) -> Result<(), Fail> {
+    have_rows(&rt, &TURNS)
+}
+
+#[test]
+fn groups_stand_in_one_another_to_any_depth(rt: HostRuntime) -> Result<(), Fail> {
+    have_rows(&rt, &GROUPS)
+}
+
+#[test]
+fn replacements_and_parentheses_do_so_too(rt: HostRuntime) -> Result<(), Fail> {
+    have_rows(&rt, &DEPTHS)
 }

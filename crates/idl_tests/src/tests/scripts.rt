@@ -64,8 +64,12 @@ static MALFORMED: &str =
 #[test]
 fn malformed_commands_are_refused(rt: HostRuntime) -> Result<(), Fail> {
     let want = "refused 1\n".repeat(rt.alloc(), MALFORMED.split('\n').count())?;
-    let mut session = Session::new(rt.alloc());
-    answers(&rt, &mut session, MALFORMED, want.as_bytes())
+    answers(
+        &rt,
+        &mut Session::new(rt.alloc()),
+        MALFORMED,
+        want.as_bytes(),
+    )
 }
 
 #[test]
