@@ -116,7 +116,7 @@ impl<K: Datum + Ord, V: Drop> Table<K, V> {
         self.push(key, value)
     }
 
-    /// Puts an entry in at a new key, as the last: `insert` makes a search more.
+    /// Puts an entry in at a new key, as the last. Unlike `insert` it doesn't search for the key first.
     ///
     /// Want of memory leaves the table as it was.
     pub fn push(&mut self, key: K, value: V) -> Result<(), AllocError>
