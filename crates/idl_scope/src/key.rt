@@ -2,8 +2,9 @@
 
 ghost use Rattle.std.specs.Prelude.{◌≡◌, IfOk};
 ghost use Rattle.idl_scope.specs.Facts.{entity_key};
+ghost use Rattle.idl_scope.specs.Key.{key_digest};
 
-use crate::name::folded_name;
+use crate::digest::{mixed, with_name};
 use crate::path::Path;
 use idl_base::Datum;
 use idl_lex::Spelling;
@@ -48,8 +49,25 @@ impl Key {
     pub fn of_entity(alloc: Global, path: &Path) -> Result<Key, AllocError>
         ensures { IfOk result (λ key. key ≡ entity_key path.now) }
     {
-        let name = folded_name(alloc, path.name())?;
+        let name = path.folded(alloc)?;
         let scope = path.scope()?;
         Ok(Key::Declared(name, scope))
+    }
+
+    /// A number that keys are found by: those that are one have one.
+    #[tactic(auto, unfolding(crate::specs::Key::key_digest))]
+    pub fn digest(&self) -> u64
+        ensures { result ≡ key_digest self.now }
+    {
+        match self {
+            Key::Cursor => 257,
+            Key::Declared(name, path) => with_name(mixed(path.digest(), 258), name.as_bytes()),
+            Key::Introduced(name, path, body) => {
+                let named = with_name(mixed(path.digest(), 259), name.as_bytes());
+                mixed(named, *body as u64)
+            }
+            Key::Opened(path) => mixed(path.digest(), 260),
+            Key::Nameless => 261,
+        }
     }
 }
