@@ -2,12 +2,12 @@
 
 ghost use Rattle.std.specs.Prelude.{◌≡◌, IfOk};
 ghost use Rattle.idl_scope.specs.Facts.{entity_key};
-ghost use Rattle.idl_scope.specs.Key.{key_digest};
 
 use crate::digest::{mixed, with_name};
 use crate::path::Path;
 use idl_base::Datum;
 use idl_lex::Spelling;
+use idl_map::Digest;
 use std::alloc::{AllocError, Global};
 
 /// What is asked of an environment.
@@ -53,12 +53,15 @@ impl Key {
         let scope = path.scope()?;
         Ok(Key::Declared(name, scope))
     }
+}
 
-    /// A number that keys are found by: those that are one have one.
+impl Digest for Key {
+    ghost use Rattle.idl_scope.specs.Key.{key_digest};
+
+    ghost digest_of = { key_digest };
+
     #[tactic(auto, unfolding(crate::specs::Key::key_digest))]
-    pub fn digest(&self) -> u64
-        ensures { result ≡ key_digest self.now }
-    {
+    fn digest(&self) -> u64 {
         match self {
             Key::Cursor => 257,
             Key::Declared(name, path) => with_name(mixed(path.digest(), 258), name.as_bytes()),
