@@ -3,8 +3,8 @@
 ghost use Rattle.std.specs.Prelude.{◌≡◌, ◌↔◌, [], Some, IsTrue, OnOk, OnErr, if◌then◌else◌};
 ghost use Rattle.std.specs.Map.{lookup};
 ghost use Rattle.std.specs.Option.{option_copied};
-ghost use Rattle.idl_map.specs.Entries.{put};
 
+use crate::Digest;
 use crate::tree::{Tree, get, insert};
 use idl_base::Datum;
 use std::alloc::{AllocError, Global};
@@ -16,11 +16,11 @@ use std::rc::Rc;
 /// A look-up compares the key with logarithmically many others, whatever the keys are. A copy is a pointer. A map that
 /// shares nothing changes in place; where parts are shared, the entries on the way to a new one are copied,
 /// logarithmically many.
-pub struct Map<K: Datum + Ord, V: Datum> {
+pub struct Map<K: Digest + Ord, V: Datum> {
     root: Option<Rc<Tree<K, V>>>,
 }
 
-impl<K: Datum + Ord, V: Datum> Model for Map<K, V> {
+impl<K: Digest + Ord, V: Datum> Model for Map<K, V> {
     ghost use Rattle.std.specs.Prelude.{List};
     ghost use Rattle.idl_map.specs.Entries.{IsAscending, entries_of};
 
@@ -31,13 +31,13 @@ impl<K: Datum + Ord, V: Datum> Model for Map<K, V> {
     ghost invariant = { λ map. IsAscending K.cmp (entries_of map.root) };
 }
 
-impl<K: Datum + Ord, V: Datum> Drop for Map<K, V> {
+impl<K: Digest + Ord, V: Datum> Drop for Map<K, V> {
     fn drop(self) {
         let Map { root: _root } = self;
     }
 }
 
-impl<K: Datum + Ord, V: Datum> Map<K, V> {
+impl<K: Digest + Ord, V: Datum> Map<K, V> {
     /// The map without entries. It takes no memory.
     pub fn new() -> Map<K, V>
         ensures { result ≡ [] }
@@ -56,17 +56,17 @@ impl<K: Datum + Ord, V: Datum> Map<K, V> {
     ///
     /// Want of memory leaves the map as it was.
     pub fn insert(&mut self, alloc: Global, key: K, value: V) -> Result<(), AllocError>
-        ensures entries { OnOk result (self.new ≡ put K.cmp self.old key value) }
         ensures each_key { OnOk result
             ((k : K)
             → lookup (K.eq k) self.new ≡ (if K.eq k key then Some value else lookup (K.eq k) self.old)) }
-        ensures err { OnErr result (self.new ≡ self.old) }
+        ensures err { OnErr result
+            ((k : K) → lookup (K.eq k) self.new ≡ lookup (K.eq k) self.old) }
     {
         insert(&mut self.root, alloc, key, value)
     }
 }
 
-impl<K: Datum + Ord, V: Datum> Clone for Map<K, V> {
+impl<K: Digest + Ord, V: Datum> Clone for Map<K, V> {
     ghost is_clone = { λ map copy. copy ≡ map };
 
     fn clone(&self) -> Result<Map<K, V>, AllocError> {

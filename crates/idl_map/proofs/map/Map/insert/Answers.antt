@@ -1,7 +1,6 @@
-use Rattle.std.proofs.Common.{◌≡◌, List, Result, Ok, Err, sym, ap, ◌∙◌, subst}
+use Rattle.std.proofs.Common.{◌≡◌, Result, Ok, Err, sym, ap, ◌∙◌, subst}
 use Rattle.std.specs.Prelude.{OnOk, OnErr}
 use Rattle.std.specs.Map.{lookup}
-use Rattle.std.specs.declared.cmp.Ordering.{Ordering}
 use Rattle.std.proofs.lemmas.Result.{on_ok_weaker}
 use Rattle.idl_map.specs.Entries.{IsAscending, entries_of, put}
 use Rattle.idl_map.proofs.EntryLemmas.{IsAscending-put, lookup-put}
