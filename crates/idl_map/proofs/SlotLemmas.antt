@@ -1,9 +1,9 @@
 -- Look-ups in what is gathered of slots.
-use Rattle.std.proofs.Common.{◌≡◌, ℕ, zero, suc, inl, inr, ◌<◌, ◌≤◌, ◌+◌, ◌≢◌, Bool, true, false, cond, List, [], ◌∷◌, ◌++◌, Option, Some, None, length, length-map, refl, sym, ap, ◌∙◌, arith}
+use Rattle.std.proofs.Common.{◌≡◌, ℕ, zero, suc, inl, inr, ◌<◌, ◌≤◌, ◌+◌, ◌≢◌, Bool, true, false, cond, List, [], ◌∷◌, ◌++◌, Option, Some, None, length, refl, sym, ap, ◌∙◌, arith}
 use Rattle.std.proofs.Math.Dec.{eqb}
 use Rattle.std.proofs.lemmas.Bool.{ne_eqb}
 use Rattle.std.proofs.lemmas.Bool.Decides.{eqb_tells}
-use Rattle.std.proofs.lemmas.List.{get_or-map, get_or-set_same, get_or-set_other, map-set}
+use Rattle.std.proofs.lemmas.List.{length-map, get_or-map, get_or-set_same, get_or-set_other, map-set}
 use Rattle.std.proofs.lemmas.Map.Entries.{lookup-filter-keys}
 use Rattle.std.proofs.Math.ListN.{get_or, set}
 use Rattle.std.specs.List.{filter, AllZip}
@@ -128,7 +128,7 @@ module _ {K V : Type 0} (eq : K → K → Bool) (same : (x y : K) → eq x y ≡
   changed_branch change slots i child d old new within others seen put below k =
       let entries : Slot K V → List (K × V) = slot_entries digest_of in
       let chosen : K → ℕ = λ x. choice shift (digest_of x) in
-      let long : i < length (map entries slots) = omega (arith, within, length-map entries slots) in
+      let long : i < length (map entries slots) = omega (arith, within, length-map slots entries) in
       ap (λ v. lookup (eq k) (gathered chosen 0 v.1)) put
       ∙ ap (λ lists. lookup (eq k) (gathered chosen 0 lists)) (map-set entries slots i child)
       ∙ changed_below eq same chosen change (map entries slots) i (entries child) long others

@@ -13,6 +13,9 @@ use std::alloc::{AllocError, Global};
 use std::marker::Model;
 use std::rc::Rc;
 
+// How many bits of a digest choose among slots. Keys that are alike in all of them come into one bucket.
+const BITS: u32 = 24;
+
 /// A few entries; or a branch, and the bit from which on digests choose among its slots.
 #[cycle(slot)]
 #[derive(Drop)]
@@ -132,7 +135,7 @@ pub fn insert<K: Digest + Ord, V: Datum>(
 // The place a level below.
 fn below(place: Place) -> Place
     ensures digest { result.digest ≡ place.digest }
-    ensures shift { 64 - result.shift ≡ 64 - (place.shift + 3) }
+    ensures shift { 24 - result.shift ≡ 24 - (place.shift + 3) }
 {
     Place {
         digest: place.digest,
@@ -150,7 +153,7 @@ fn divide<K: Digest + Ord, V: Datum>(
     ensures each_key { (k : K)
         → lookup (K.eq k) (slot_entries K.digest_of slot.new)
         ≡ lookup (K.eq k) (slot_entries K.digest_of slot.old) }
-    ensures bits { slot_size slot.new + (64 - (shift + 3)) ≤ slot_size slot.old + (64 - shift) }
+    ensures bits { slot_size slot.new + (24 - (shift + 3)) ≤ slot_size slot.old + (24 - shift) }
 {
     let Slot::Few(bucket) = slot else {
         return Ok(());
@@ -158,7 +161,7 @@ fn divide<K: Digest + Ord, V: Datum>(
     let Some(other) = bucket.only_but(key) else {
         return Ok(());
     };
-    if shift >= 64 {
+    if shift >= BITS {
         return Ok(());
     }
     let index = choice(shift, other.digest());

@@ -10,8 +10,9 @@ pub returns-in-Many : goal.returns-in-Many
 returns-in-Many g t c =
     let key = c.args.key.now in
     let test = g.K.PartialEq.eq key in
-    let entries = slot_entries g.K.Digest.digest_of in
-    let chosen : g.row.K.Denot → ℕ = λ k. choice c.in-Many.shift (g.K.Digest.digest_of k) in
+    let digest_of = g.K.Digest.digest_of in
+    let entries : Slot g.row.K.Denot g.row.V.Denot → List (g.row.K.Denot × g.row.V.Denot) = slot_entries digest_of in
+    let chosen : g.row.K.Denot → ℕ = λ k. choice c.in-Many.shift (digest_of k) in
     let slots = c.branch.inside.slots in
     let slot : c.choice.result ≡ chosen key = c.choice.ensures.value ∙ ap (choice c.in-Many.shift) c.requires in
     let within : c.choice.result < length slots = search (rules, c.choice.ensures.below) in
