@@ -1,5 +1,5 @@
 -- What a row has for its words: a path for each used name, and a blank before the first.
-use Rattle.std.proofs.Common.{◌≡◌, ◌∙◌, ◌+◌, ℕ, suc, Bool, true, false, cond, List, [], ◌∷◌, ◌++◌, drop, flat_map, length, map, take, Option, None, Some, Result, Ok, Err, refl, sym, ap, subst, add_assoc, append_assoc, arith}
+use Rattle.std.proofs.Common.{◌≡◌, ◌∙◌, ◌+◌, ℕ, suc, Bool, true, false, cond, List, [], ◌∷◌, ◌++◌, drop, flat_map, length, take, Option, None, Some, Result, Ok, Err, refl, sym, ap, subst, add_assoc, append_assoc, arith}
 use Rattle.std.proofs.lemmas.List.{length-append}
 use Rattle.std.proofs.lemmas.Option.{same_Some}
 use Rattle.std.proofs.lemmas.Slice.Eq.{bytes_eq-Decides}
@@ -27,7 +27,7 @@ use Rattle.idl_scope.specs.declared.fault.NameFault.{NameFault}
 use Rattle.idl_scope.specs.declared.fault.NameFault.TheVariants.{At, Memory}
 use Rattle.idl_scope.specs.declared.found.Found.{Found}
 use Rattle.idl_scope.specs.declared.key.Key.{Key}
-use Rattle.idl_site.specs.Item.{Item, item_of, items, Item as item}
+use Rattle.idl_site.specs.Item.{Item, items, Item as item}
 use Rattle.idl_site.specs.Part.{Part, Parts, spell_parts}
 use Rattle.idl_site.specs.UnitParts.{unit_parts}
 use Rattle.idl_site.proofs.UnitSpelling.{unit_spells}
