@@ -1,6 +1,7 @@
 mod JudgeLemmas
 mod NameLemmas
 mod PartLemmas
+mod RowLaws
 mod RowLemmas
 mod StandingLemmas
 mod VisitLemmas

@@ -20,6 +20,6 @@ mod using;
 mod verdict;
 mod walk;
 
-pub use laws::{acceptance, least, numbering, questions, refusal};
+pub use laws::{acceptance, least, numbering, questions, refusal, wording};
 pub use task::DeclarationTask;
 pub use verdict::{Row, Verdict};
