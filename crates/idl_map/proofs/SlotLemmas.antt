@@ -1,5 +1,5 @@
 -- Look-ups in what is gathered of slots.
-use Rattle.std.proofs.Common.{◌≡◌, ℕ, zero, suc, inl, inr, ◌<◌, ◌≤◌, ◌+◌, ◌≢◌, Bool, true, false, cond, List, [], ◌∷◌, ◌++◌, Option, Some, None, length, refl, sym, ap, ◌∙◌, arith}
+use Rattle.std.proofs.Common.{◌≡◌, ℕ, zero, suc, inl, inr, ◌<◌, ◌+◌, ◌≢◌, Bool, true, false, cond, List, [], ◌∷◌, ◌++◌, Option, Some, None, length, refl, sym, ap, ◌∙◌, arith}
 use Rattle.std.proofs.Math.Dec.{eqb}
 use Rattle.std.proofs.lemmas.Bool.{ne_eqb}
 use Rattle.std.proofs.lemmas.Bool.Decides.{eqb_tells}
@@ -9,7 +9,7 @@ use Rattle.std.proofs.Math.ListN.{get_or, set}
 use Rattle.std.specs.List.{filter, AllZip}
 use Rattle.std.specs.Map.{lookup}
 use Rattle.std.specs.Prelude.{map}
-use Rattle.idl_map.specs.Slots.{branch_seen, choice, gathered, slot_entries, slot_seen, slot_size, slots_size}
+use Rattle.idl_map.specs.Slots.{branch_seen, choice, gathered, slot_entries, slot_seen, slots_size}
 use Rattle.idl_map.specs.declared.slot.Slot.{Slot}
 
 -- a test of numbers that are one

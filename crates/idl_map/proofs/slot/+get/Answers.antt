@@ -1,8 +1,9 @@
-use Rattle.std.proofs.Common.{rules, ◌≡◌, ◌<◌, ℕ, [], length, sym, ap, ◌∙◌}
+use Rattle.std.proofs.Common.{rules, ◌≡◌, ◌<◌, ℕ, List, [], length, sym, ap, ◌∙◌}
 use Rattle.std.proofs.lemmas.List.{get_or-map}
 use Rattle.std.specs.Map.{lookup}
 use Rattle.std.specs.Prelude.{map}
 use Rattle.idl_map.specs.Slots.{choice, gathered, slot_entries}
+use Rattle.idl_map.specs.declared.slot.Slot.{Slot}
 use Rattle.idl_map.proofs.SlotLemmas.{lookup-gathered}
 use Rattle.idl_map.proofs.slot.+get.Goals as goal
 

@@ -1,4 +1,4 @@
-use Rattle.std.proofs.Common.{◌≡◌, sym, ap, ◌∙◌}
+use Rattle.std.proofs.Common.{sym, ap, ◌∙◌}
 use Rattle.idl_map.specs.Slots.{choice, gathered, slot_seen}
 use Rattle.idl_map.proofs.slot.SlotClone.clone.Goals as goal
 
