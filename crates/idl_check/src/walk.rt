@@ -20,16 +20,16 @@ ghost use Rattle.idl_unit.specs.TokenRules.{fault_at, first};
 ghost use Rattle.idl_site.specs.declared.site.Use.{Use};
 
 use crate::bases::Bases;
-use crate::declaring::{declared_code, entity_of, finished, kind_of, stays};
+use crate::declaring::{declared_code, entity_of, finished, kind_of, path_in, stays};
 use crate::part::front;
 use crate::standing::{Standing, standing_of};
-use crate::using::{introduce, last_at, name_code, part_at, used_code};
+use crate::using::{Denoting, introduce, last_at, name_code, part_at, used_code};
 use idl_base::{Seq, Text};
 use idl_event::Code;
 use idl_memo::Log;
 use idl_scope::{
     Addition, Entity, Env, Facts, Found, NameCode, NameFault, Path, Scope, Shared, Stage,
-    Standpoint, Step, View, folded_name, resolve, shared_name,
+    Standpoint, Step, View, resolve, shared_name,
 };
 use idl_site::{Declaration, Site, Use};
 use idl_tree::ScopedName;
@@ -203,10 +203,10 @@ impl<'a> Walker<'a> {
             return Ok(());
         };
         let scope = innermost.clone()?;
-        let folded = folded_name(alloc, name.as_bytes())?;
-        let standing = standing_of(self.view(), log, &scope, &folded)?;
         let spelled = shared_name(alloc, name.as_bytes())?;
         let entity = entity_of(alloc, way, &spelled, &scope.path)?;
+        let folded = entity.get().path.folded(alloc)?;
+        let standing = standing_of(self.view(), log, &scope, &folded)?;
         self.declare_as(&scope, entity, &standing)?;
         Ok(())
     }
@@ -307,7 +307,11 @@ impl<'a> Walker<'a> {
         self.note(last, code);
         self.at = last + 1;
         let scopes = front(self.cursor.as_slice(), found.reach);
-        introduce(alloc, &mut self.own, name, scopes)?;
+        let used = Denoting {
+            name,
+            path: &entity.path,
+        };
+        introduce(alloc, &mut self.own, used, scopes)?;
         add_base(alloc, &mut self.bases, way, entity)?;
         self.found.push(entity.path.clone()?)?;
         Ok(())
@@ -324,8 +328,7 @@ impl<'a> Walker<'a> {
         let Some(innermost) = self.cursor.first() else {
             return Ok(());
         };
-        let spelled = shared_name(alloc, name.as_bytes())?;
-        let path = innermost.path.child(alloc, &spelled)?;
+        let path = path_in(alloc, &self.own, name.as_bytes(), &innermost.path)?;
         let scope = Scope {
             path,
             kind: kind_of(way),
