@@ -91,8 +91,10 @@ fn a_last_line_without_newline_counts_if_it_has_a_byte(rt: HostRuntime) -> Resul
 #[test]
 fn refusals_and_stops_have_words(rt: HostRuntime) -> Result<(), Fail> {
     let mut said = String::new(rt.alloc());
-    write!(said, "{Malformed};{BadName};{NoSuchFile};{OutsideFile};{OverLimit};{BadMacro};")?;
-    write!(said, "{NoSuchRoot};{RootThere};{NoMemory};{Unfinished};{ReadFailed};{WriteFailed}")?;
+    write!(said, "{Malformed};{BadName};{NoSuchFile};")?;
+    write!(said, "{OutsideFile};{OverLimit};{BadMacro};")?;
+    write!(said, "{NoSuchRoot};{RootThere};{NoMemory};")?;
+    write!(said, "{Unfinished};{ReadFailed};{WriteFailed}")?;
     let want =
         "malformed command;name not allowed;no such file;lines outside the file;over a limit;macro not allowed;\
          no such root;root already there;no memory;input ended inside a command;read failed;write failed";
