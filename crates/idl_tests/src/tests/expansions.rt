@@ -33,9 +33,9 @@ impl Bank for Answers {
 }
 
 // Of a root's lines the tokens that it emits.
-struct Emitted;
+struct Replaced;
 
-impl Telling for Emitted {
+impl Telling for Replaced {
     fn told(alloc: Global, text: &str) -> Result<String, AllocError> {
         match Name::new(b"a.idl") {
             Some(name) => emitted(alloc, expanded(alloc, name, text)?.as_slice()),
@@ -87,5 +87,5 @@ static EXPANSIONS: [&str; 6] = [
 // What the definitions without parameters give in ISO/IEC 9899, 6.10.3.5, example 3, and what `cc -E -P` gives.
 #[test]
 fn macros_are_replaced_as_in_c(rt: HostRuntime) -> Result<(), Fail> {
-    are_told::<Emitted>(&rt, &EXPANSIONS)
+    are_told::<Replaced>(&rt, &EXPANSIONS)
 }
