@@ -12,9 +12,11 @@ use Rattle.std.specs.Str.{bytes_eq}
 use Rattle.std.specs.Cmp.Lexicographic.{bytes_decides, nat_list_eq_equiv}
 use Rattle.idl_event.specs.declared.key.Answer.{Answer}
 use Rattle.idl_event.specs.declared.key.Key.{Key}
+use Rattle.idl_event.specs.Key.{key_eq}
+use Rattle.idl_memo.specs.Cause.{changed}
 use Rattle.idl_source.specs.Name.{is_name}
 use Rattle.idl_workspace.specs.Compile.{compile_over}
-use Rattle.idl_workspace.specs.Bank.{bank_of, bank_with}
+use Rattle.idl_workspace.specs.Bank.{bank_of}
 use Rattle.idl_workspace.specs.Project.{Inputs}
 use Rattle.idl_workspace.specs.UpToDate.{HoldsRows, IsUpToDate, State}
 use Rattle.idl_workspace.specs.declared.work.Work.{Work}
@@ -109,10 +111,10 @@ IsUpToDate-again bank other held table up same rows = record {
 -- After an edit that changes one answer: the same roots, each with what compiling it over the changed answers gives.
 pub IsUpToDate-edited : (state : State) (now new : Inputs) (held table : List (List ℕ × CompiledRoot)) (asked at : Key) (given answer : Option Answer) (work : Work)
     → record { project = record { inputs = now; roots = keys_of held }; work = work } ≡ state → IsUpToDate (bank_of now) held
-    → keys_of table ≡ state.project.roots → HoldsRows (bank_with (bank_of state.project.inputs) asked given) table
-    → asked ≡ at → given ≡ answer → bank_of new ≡ bank_with (bank_of now) at answer → IsUpToDate (bank_of new) table
+    → keys_of table ≡ state.project.roots → HoldsRows (changed key_eq (bank_of state.project.inputs) asked given) table
+    → asked ≡ at → given ≡ answer → bank_of new ≡ changed key_eq (bank_of now) at answer → IsUpToDate (bank_of new) table
 IsUpToDate-edited state now new held table asked at given answer work is up same rows asks gives changes =
     IsUpToDate-again (bank_of now) (bank_of new) held table up (same ∙ ap (λ (s : State). s.project.roots) (sym is))
     (subst (λ (bank : Key → Option Answer). HoldsRows bank table)
-    (ap (λ (s : State). bank_with (bank_of s.project.inputs) asked given) (sym is) ∙ ap (λ (k : Key). bank_with (bank_of now) k given) asks ∙ ap (bank_with (bank_of now) at) gives ∙ sym changes)
+    (ap (λ (s : State). changed key_eq (bank_of s.project.inputs) asked given) (sym is) ∙ ap (λ (k : Key). changed key_eq (bank_of now) k given) asks ∙ ap (changed key_eq (bank_of now) at) gives ∙ sym changes)
     rows)
