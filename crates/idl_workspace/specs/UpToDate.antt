@@ -1,5 +1,5 @@
 -- The claim: what a session answers is what compiling the present project from scratch gives.
-use Rattle.std.specs.Prelude.{◌≡◌, ℕ, List, All, IsTrue, Option, None, Some, refl, length, sum_by, if◌then◌else◌}
+use Rattle.std.specs.Prelude.{◌≡◌, ℕ, List, All, IsTrue, Option, None, Some, refl, length, if◌then◌else◌, ◌+◌, [], ◌∷◌}
 use Rattle.std.specs.Coded.{Coded, code_by, coded×, coded_ℕ}
 use Rattle.std.specs.List.{IsDistinct}
 use Rattle.std.specs.Map.{keys_of}
@@ -59,7 +59,8 @@ pub record IsUpToDate (bank : Key → Option Answer) (held : List (List ℕ × K
 
 -- how many keys these roots asked
 abbrev pub keys_asked : List (List ℕ × KeptRoot) → ℕ
-keys_asked held = sum_by (λ root. length root.1.result.value.log) held
+keys_asked [] = 0
+keys_asked (root ∷ held) = length root.1.result.value.log + keys_asked held
 
 -- a state is stored as the tuple of its parts
 abbrev pub state_code : Coded State

@@ -135,7 +135,7 @@ impl RootTable {
         ensures { result ≡ compared_after 0 (keys_asked self.now) }
     {
         let mut keys: u64 = 0;
-        for kept in self.roots.values() {
+        for (_root, kept) in self.roots.iter() {
             keys = keys.saturating_add(kept.key_count() as u64);
         }
         keys

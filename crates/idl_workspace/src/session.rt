@@ -26,7 +26,8 @@ use idl_base::Seq;
 use idl_event::{Answer, FileName, Key};
 use idl_lex::Spelling;
 use idl_macro::is_macro_word;
-use idl_memo::{Edited, Meter};
+use idl_memo::{Edited, Meter, freshness};
+use idl_prep::RootTask;
 use idl_source::{Files, Line, Name, Refusal, Span};
 use std::alloc::{AllocError, Global};
 use std::marker::Model;
@@ -119,10 +120,10 @@ impl Session {
             return Err(refusal);
         }
         let body = MacroBody::new(self.alloc, body)?;
-        let (roots, work) = self.renewed_with_macro(&word, Some(body.answer()))?;
+        let renewed = self.renewed_with_macro(&word, Some(body.answer()))?;
         self.bank.define(word, body)?;
-        self.roots = roots;
-        self.work = work;
+        self.roots = renewed.0;
+        self.work = renewed.1;
         Ok(self.work)
     }
 
@@ -136,10 +137,10 @@ impl Session {
             return Err(Refusal::BadMacro);
         }
         let word = spelled(self.alloc, word)?;
-        let (roots, work) = self.renewed_with_macro(&word, None)?;
+        let renewed = self.renewed_with_macro(&word, None)?;
         self.bank.undef(&word);
-        self.roots = roots;
-        self.work = work;
+        self.roots = renewed.0;
+        self.work = renewed.1;
         Ok(self.work)
     }
 
@@ -152,10 +153,10 @@ impl Session {
     {
         let list = directories(self.alloc, list)?;
         let search = Answer::Search(Seq::from_vec(list));
-        let (roots, work) = self.renewed_with(&Key::Search, Some(&search))?;
+        let renewed = self.renewed_with(&Key::Search, Some(&search))?;
         self.bank.set_search(search);
-        self.roots = roots;
-        self.work = work;
+        self.roots = renewed.0;
+        self.work = renewed.1;
         Ok(self.work)
     }
 
@@ -175,8 +176,13 @@ impl Session {
         if self.roots.is_full() {
             return Err(Refusal::OverLimit);
         }
-        let mut meter = Meter::new();
-        meter.compared = self.roots.keys_asked();
+        freshness::<SessionBank, RootTask>();
+        let mut meter = Meter {
+            expanded: 0,
+            checked: 0,
+            printed: 0,
+            compared: self.roots.keys_asked(),
+        };
         let kept = KeptRoot::anew(self.alloc, root.copied(), &self.bank, &mut meter)?;
         self.roots.add(root, kept)?;
         self.work = Work::counted(&meter);
@@ -195,10 +201,14 @@ impl Session {
         if !self.roots.contains(&root) {
             return Err(Refusal::NoSuchRoot);
         }
+        freshness::<SessionBank, RootTask>();
         self.roots.remove(&root);
-        let mut meter = Meter::new();
-        meter.compared = self.roots.keys_asked();
-        self.work = Work::counted(&meter);
+        self.work = Work {
+            expanded: 0,
+            checked: 0,
+            printed: 0,
+            compared: self.roots.keys_asked(),
+        };
         Ok(self.work)
     }
 
@@ -307,10 +317,10 @@ impl Session {
     {
         let name = FileName::new(self.alloc, &Name::new(name).unwrap())?;
         let answer = file_answer(self.alloc, &files, &name)?;
-        let (roots, work) = self.renewed_with(&Key::File(name.clone()?), answer.as_ref())?;
+        let renewed = self.renewed_with(&Key::File(name.clone()?), answer.as_ref())?;
         self.bank.set_files(name, files, answer)?;
-        self.roots = roots;
-        self.work = work;
+        self.roots = renewed.0;
+        self.work = renewed.1;
         Ok(self.work)
     }
 
