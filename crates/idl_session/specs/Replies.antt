@@ -28,11 +28,13 @@ abbrev pub edit_reply : Result Work Refusal → List ℕ
 edit_reply (Ok work) = ok_reply
 edit_reply (Err refusal) = refused_reply refusal
 
--- the reply to a question about the work
+-- the reply to a question about the work: how many roots were expanded, declarations checked and
+-- entries printed
 abbrev pub work_reply : Work → List ℕ
 work_reply work =
-    (codes "work " ++ decimal work.expanded)
-    ++ ((codes " " ++ decimal work.checked) ++ whole_line (codes " " ++ decimal work.printed))
+    whole_line
+    (((codes "work " ++ decimal work.expanded) ++ (codes " " ++ decimal work.checked))
+    ++ (codes " " ++ decimal work.printed))
 
 abbrev pub found_reply : Option (List (List ℕ)) → List ℕ
 found_reply None = refused_reply NoSuchRoot

@@ -12,7 +12,9 @@ use Rattle.idl_event.specs.declared.key.Answer.TheVariants as answer
 use Rattle.idl_event.specs.declared.key.Key.{Key}
 use Rattle.idl_event.specs.declared.key.Key.TheVariants as key
 use Rattle.idl_memo.specs.Fresh.{asked_among, compared_among, fresh_among, is_alike, stale_among, stale_at}
-use Rattle.idl_memo.specs.Meter.{compared_after}
+use Rattle.idl_memo.specs.Meter.{ComparesOnly, compared_after}
+use Rattle.idl_memo.specs.Renewal.{IsTold}
+use Rattle.idl_memo.specs.declared.meter.Meter.{Meter}
 use Rattle.idl_memo.specs.Kept.{Kept, HoldsOver}
 use Rattle.idl_memo.specs.Query.{is_logged, noted_all}
 use Rattle.idl_prep.specs.Root.{absent_files, expanded, expansion, root}
@@ -91,6 +93,37 @@ compile-again old new kept before after =
     sym (compile-kept old kept before)
     ∙ ap (λ (a : Option Answer). record { rows = compile (record { file = kept.text; line = line_count a }) kept.out; absent = absent_files kept.log }) file
     ∙ compile-kept new kept after
+
+-- what is kept of a root is still kept of it where its result holds
+pub IsKept-still : (old new : Key → Option Answer) (kept copy : KeptRoot) → IsKept old (kept.result.value.text, kept)
+    → copy.result.value ≡ kept.result.value → copy.compiled.value ≡ kept.compiled.value → HoldsOver key_eq expansion new kept.result.value
+    → IsKept new (kept.result.value.text, copy)
+IsKept-still old new kept copy is result compiled over = record {
+  text = ap (λ (k : Kept Key (Option Answer) (List ℕ) (List Event)). k.text) result;
+  over = subst (λ (k : Kept Key (Option Answer) (List ℕ) (List Event)). HoldsOver key_eq expansion new k) (sym result) over;
+  rows = compiled ∙ is.rows ∙ compile-again old new kept.result.value is.over over;
+}
+
+-- what is told of a kept result, by the test of equality of the answers
+pub told-of : (old new : Key → Option Answer) (kept : Kept Key (Option Answer) (List ℕ) (List Event)) (holds : Bool)
+    → IsTold bytes_eq (option_eq eq-value) key_eq expansion old new kept holds → IsTold bytes_eq (option_eq answer_eq) key_eq expansion old new kept holds
+told-of old new kept holds told = subst (λ (e : Answer → Answer → Bool). IsTold bytes_eq (option_eq e) key_eq expansion old new kept holds) answer_eq-derived told
+
+-- the meter where a result holds still
+pub meter-still : (old new : Meter) (stale cost keys : ℕ) → ComparesOnly old new → new.compared ≡ compared_after old.compared keys → stale ≡ 0 → cost ≡ keys
+    → new ≡ record old { expanded = old.expanded + stale; compared = compared_after old.compared cost }
+meter-still old new stale cost keys only compared none same =
+    let expanded : old.expanded ≡ old.expanded + stale = omega (arith, none) in
+    only ∙ (λ i. record old { expanded = expanded i; compared = (compared ∙ ap (compared_after old.compared) (sym same)) i })
+
+-- the meter where it doesn't, and the root is expanded anew
+pub meter-anew : (old mid new : Meter) (stale cost keys : ℕ) → ComparesOnly old mid → mid.compared ≡ compared_after old.compared keys
+    → new ≡ record mid { expanded = mid.expanded + 1 } → stale ≡ 1 → cost ≡ keys
+    → new ≡ record old { expanded = old.expanded + stale; compared = compared_after old.compared cost }
+meter-anew old mid new stale cost keys only compared more one same =
+    let expanded : old.expanded + 1 ≡ old.expanded + stale = omega (arith, one) in
+    more ∙ ap (λ (m : Meter). record m { expanded = m.expanded + 1 }) only
+    ∙ (λ i. record old { expanded = expanded i; compared = (compared ∙ ap (compared_after old.compared) (sym same)) i })
 
 -- the keys that the roots asked are those of their results
 pub keys_asked-kept : (bank : Key → Option Answer) (held : List (List ℕ × KeptRoot)) → AreKept bank held

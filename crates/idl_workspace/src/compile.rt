@@ -35,7 +35,6 @@ impl Drop for CompiledRoot {
 }
 
 /// Compiles a root over a bank, in which its own file may be absent, from the result of its task.
-#[tactic(auto, unfolding(crate::specs::Compile::compile_over))]
 pub fn compile<B: RootBank>(
     alloc: Global,
     bank: &B,

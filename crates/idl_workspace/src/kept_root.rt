@@ -96,7 +96,8 @@ impl KeptRoot {
                 compiled: self.compiled.clone()?,
             });
         }
-        KeptRoot::anew(alloc, self.result.text().copied(), edited, meter)
+        let root = self.result.text().copied();
+        Ok(KeptRoot::anew(alloc, root, edited, meter)?)
     }
 
     /// What the root compiles to.

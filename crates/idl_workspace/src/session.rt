@@ -333,7 +333,7 @@ impl Session {
         ensures { IfOk result (IsRenewed self.now.project (keys.Macro word.now) (option_copied answer.entry)) }
     {
         let key = Key::Macro(word.clone()?);
-        self.renewed_with(&key, answer)
+        Ok(self.renewed_with(&key, answer)?)
     }
 
     // All roots as they are once this key has another answer, and the work of that.
@@ -349,6 +349,6 @@ impl Session {
             key,
             answer,
         };
-        self.roots.renewed(self.alloc, &edited)
+        Ok(self.roots.renewed(self.alloc, &edited)?)
     }
 }

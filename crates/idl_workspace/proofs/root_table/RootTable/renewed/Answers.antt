@@ -1,5 +1,5 @@
 use Rattle.std.proofs.Common.{◌≡◌, ◌+◌, ◌≤◌, ◌∷◌, ◌++◌, [], ◌∙◌, ℕ, List, length, refl, sym, ap, subst, arith}
-use Rattle.std.proofs.lemmas.List.Elements.{All-head, All-tail, All-push}
+use Rattle.std.proofs.lemmas.List.Elements.{All-head, All-tail, All-push, All-contains_itself}
 use Rattle.std.specs.List.{list_any, IsDistinct}
 use Rattle.std.specs.Map.{keys_of}
 use Rattle.std.specs.Option.{option_copied, option_eq}
@@ -14,8 +14,8 @@ use Rattle.idl_workspace.specs.Bank.{bank_of}
 use Rattle.idl_workspace.specs.UpToDate.{AreKept, IsKept}
 use Rattle.idl_workspace.specs.Work.{answer_eq, compared_keys}
 use Rattle.idl_workspace.specs.declared.kept_root.KeptRoot.{KeptRoot}
-use Rattle.idl_workspace.proofs.KeptLemmas.{IsKept-at, stale_most, stale_roots}
-use Rattle.idl_workspace.proofs.RootLemmas.{list_any-before, keys_of-push}
+use Rattle.idl_workspace.proofs.KeptLemmas.{IsKept-at, stale_most, stale_roots, work-same}
+use Rattle.idl_workspace.proofs.RootLemmas.{list_any-before, keys_of-push, staying-all}
 use Rattle.idl_workspace.proofs.root_table.RootTable.renewed.Goals as goal
 
 pub add-requires : goal.add-requires
@@ -79,3 +79,16 @@ loop-root-preserved c =
       checked = ap (λ (m : Meter). m.checked) counts ∙ c.loop-root.invariant.checked;
       printed = ap (λ (m : Meter). m.printed) counts ∙ c.loop-root.invariant.printed;
     }
+
+pub returns-clause-work : goal.returns-clause-work
+returns-clause-work c =
+    let before = bank_of c.args.edited.now.base.now in
+    let after = changed key_eq before c.args.edited.now.key.now (option_copied c.args.edited.now.answer) in
+    let names = keys_of c.args.self.now in
+    let m = c.loop-root.meter in
+    let inv = c.loop-root.invariant in
+    let expanded : m.expanded ≡ stale_roots before after names = omega (arith, rw c.in-None.ensures at inv.expanded) in
+    let compared : m.compared ≡ compared_after 0 (compared_keys before after names) = omega (arith, inv.fits, rw c.in-None.ensures at inv.compared) in
+    c.counted.ensures
+    ∙ (λ i. record { expanded = m.expanded; checked = inv.checked i; printed = inv.printed i; compared = m.compared })
+    ∙ work-same before after names m.expanded m.compared (staying-all names names (All-contains_itself names)) (c.freshness.ensures.same_places before after names c.requires.distinct) expanded compared
