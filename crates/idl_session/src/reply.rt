@@ -128,12 +128,7 @@ impl Reply {
     }
 
     // A word and a number.
-    fn push_number<K: Sink>(
-        &mut self,
-        sink: &mut K,
-        word: &[u8],
-        n: u64,
-    ) -> Result<(), WriteFailed>
+    fn push_number<K: Sink>(&mut self, sink: &mut K, word: &[u8], n: u64) -> Result<(), WriteFailed>
         requires counts { K.failures sink.old < 2 ^ 64 - 1 }
 
         ensures sent { let bytes = self.old ++ (word.now ++ decimal n) in OnOk result

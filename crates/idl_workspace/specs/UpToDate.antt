@@ -67,8 +67,10 @@ abbrev pub state_code : Coded State
 state_code =
     code_by (Project × ((ℕ × ℕ) × (ℕ × ℕ)))
     (coded× project_code (coded× (coded× coded_ℕ coded_ℕ) (coded× coded_ℕ coded_ℕ)))
-    (λ s. (s.project,
-      ((s.work.expanded, s.work.checked), (s.work.printed, s.work.compared))))
+    (λ s. (
+      s.project,
+      ((s.work.expanded, s.work.checked), (s.work.printed, s.work.compared)),
+    ))
     (λ t. record {
       project = t.0;
       work = record {
