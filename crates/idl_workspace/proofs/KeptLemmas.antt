@@ -5,7 +5,7 @@ use Rattle.std.specs.Map.{keys_of}
 use Rattle.std.specs.Option.{option_eq}
 use Rattle.std.specs.Str.{bytes_eq}
 use Rattle.idl_event.specs.Key.{key_eq}
-use Rattle.idl_event.specs.contracts.key.AnswerPartialEq.TheImpl.{eq-value}
+use Rattle.idl_event.specs.contracts.key.AnswerPartialEq.TheImpl.{ghosts}
 use Rattle.idl_event.specs.declared.event.Event.{Event}
 use Rattle.idl_event.specs.declared.key.Answer.{Answer}
 use Rattle.idl_event.specs.declared.key.Answer.TheVariants as answer
@@ -16,7 +16,7 @@ use Rattle.idl_memo.specs.Meter.{ComparesOnly, compared_after}
 use Rattle.idl_memo.specs.Renewal.{IsTold}
 use Rattle.idl_memo.specs.declared.meter.Meter.{Meter}
 use Rattle.idl_memo.specs.Kept.{Kept, HoldsOver}
-use Rattle.idl_memo.specs.Query.{is_logged, noted_all}
+use Rattle.idl_memo.specs.Query.{asked, is_logged, noted_all}
 use Rattle.idl_prep.specs.Root.{absent_files, expanded, expansion, root}
 use Rattle.idl_root.specs.Compile.{compile}
 use Rattle.idl_workspace.specs.Compile.{compile_over, end_of, line_count}
@@ -43,7 +43,7 @@ pub IsKept-at : (bank : Key → Option Answer) (name other : List ℕ) (kept : K
 IsKept-at bank name other kept same is = subst (λ (n : List ℕ). IsKept bank (n, kept)) same is
 
 -- the test of equality that answers derive, case by case
-answers_alike : (a b : Answer) → eq-value a b ≡ answer_eq a b
+answers_alike : (a b : Answer) → ghosts.eq a b ≡ answer_eq a b
 answers_alike (answer.Macro a) (answer.Macro b) = refl
 answers_alike (answer.Macro a) (answer.File b) = refl
 answers_alike (answer.Macro a) (answer.Search b) = refl
@@ -54,17 +54,21 @@ answers_alike (answer.Search a) (answer.Macro b) = refl
 answers_alike (answer.Search a) (answer.File b) = refl
 answers_alike (answer.Search a) (answer.Search b) = refl
 
-pub answer_eq-derived : eq-value ≡ answer_eq
+pub answer_eq-derived : ghosts.eq ≡ answer_eq
 answer_eq-derived i a b = answers_alike a b i
 
 -- the answer at the first key of a log
-first_answer : List (Key × Option Answer) → Option Answer
+abbrev first_answer : List (Key × Option Answer) → Option Answer
 first_answer [] = None
 first_answer (e ∷ log) = e.1
 
+-- the answer at the first of these keys
+abbrev first_asked : (Key → Option Answer) → List Key → Option Answer
+first_asked bank [] = None
+first_asked bank (k ∷ ks) = bank k
+
 -- further keys leave the first where it is
 first-stays : (bank : Key → Option Answer) (e : Key × Option Answer) (ks : List Key) (log : List (Key × Option Answer)) → first_answer (noted_all key_eq bank (e ∷ log) ks) ≡ e.1
-unfolding first_answer
 first-stays bank e [] log = refl
 first-stays bank e (k ∷ ks) log = by (is_logged key_eq (e ∷ log) k) (first-stays bank e ks)
   where
@@ -73,10 +77,15 @@ first-stays bank e (k ∷ ks) log = by (is_logged key_eq (e ∷ log) k) (first-s
     by true rest = rest log
     by false rest = rest (log ++ (k, bank k) ∷ [])
 
+-- the first key that is asked is the first of the log
+first-noted : (bank : Key → Option Answer) (ks : List Key) → first_answer (noted_all key_eq bank [] ks) ≡ first_asked bank ks
+first-noted bank [] = refl
+first-noted bank (k ∷ ks) = first-stays bank (k, bank k) ks []
+
 -- a root asks for its own file first
 first-file : (bank : Key → Option Answer) (name : List ℕ) → first_answer (expanded name bank).1 ≡ bank (key.File name)
 unfolding expansion root
-first-file bank name = first-stays bank (key.File name, bank (key.File name)) _ []
+first-file bank name = first-noted bank (asked (expansion name) bank)
 
 -- what is compiled from a result that holds
 pub compile-kept : (bank : Key → Option Answer) (kept : Kept Key (Option Answer) (List ℕ) (List Event)) → HoldsOver key_eq expansion bank kept
@@ -106,7 +115,7 @@ IsKept-still old new kept copy is result compiled over = record {
 
 -- what is told of a kept result, by the test of equality of the answers
 pub told-of : (old new : Key → Option Answer) (kept : Kept Key (Option Answer) (List ℕ) (List Event)) (holds : Bool)
-    → IsTold bytes_eq (option_eq eq-value) key_eq expansion old new kept holds → IsTold bytes_eq (option_eq answer_eq) key_eq expansion old new kept holds
+    → IsTold bytes_eq (option_eq ghosts.eq) key_eq expansion old new kept holds → IsTold bytes_eq (option_eq answer_eq) key_eq expansion old new kept holds
 told-of old new kept holds told = subst (λ (e : Answer → Answer → Bool). IsTold bytes_eq (option_eq e) key_eq expansion old new kept holds) answer_eq-derived told
 
 -- the meter where a result holds still
@@ -137,8 +146,8 @@ keys_asked-kept bank (e ∷ es) h =
 
 -- the work of an edit of the roots: so many are fresh, and those that stay are compared at all that they asked
 pub work-roots : (bank : Key → Option Answer) (before places : List (List ℕ)) (held : List (List ℕ × KeptRoot)) (n : ℕ) → AreKept bank held → staying before places ≡ keys_of held
-    → fresh_among bytes_eq (option_eq eq-value) expansion bank before bank places ≡ n
-    → compared_among bytes_eq (option_eq eq-value) expansion key_eq bank bank (keys_of held) ≡ asked_among bytes_eq (option_eq eq-value) expansion key_eq bank (keys_of held)
+    → fresh_among bytes_eq (option_eq ghosts.eq) expansion bank before bank places ≡ n
+    → compared_among bytes_eq (option_eq ghosts.eq) expansion key_eq bank bank (keys_of held) ≡ asked_among bytes_eq (option_eq ghosts.eq) expansion key_eq bank (keys_of held)
     → record { expanded = n; checked = 0; printed = 0; compared = compared_after 0 (keys_asked held) } ≡ work_between bank before bank places
 work-roots bank before places held n are stay fresh all =
     let counted : fresh_roots bank before bank places ≡ n =
@@ -152,16 +161,16 @@ work-roots bank before places held n are stay fresh all =
     λ i. record { expanded = sym counted i; checked = 0; printed = 0; compared = compared_after 0 (compared i) }
 
 -- the work of an edit that leaves the roots: those are fresh that aren't alike at their own places, and all stay
-pub work-same : (old new : Key → Option Answer) (names : List (List ℕ)) (expanded compared : ℕ) → staying names names ≡ names
-    → fresh_among bytes_eq (option_eq eq-value) expansion old names new names ≡ stale_among bytes_eq (option_eq eq-value) expansion old new names
-    → expanded ≡ stale_among bytes_eq (option_eq answer_eq) expansion old new names
-    → compared ≡ compared_after 0 (compared_keys old new names)
-    → record { expanded = expanded; checked = 0; printed = 0; compared = compared } ≡ work_between old names new names
-work-same old new names expanded compared stay fresh counted costs =
+pub work-same : (old new : Key → Option Answer) (names : List (List ℕ)) (n m : ℕ) → staying names names ≡ names
+    → fresh_among bytes_eq (option_eq ghosts.eq) expansion old names new names ≡ stale_among bytes_eq (option_eq ghosts.eq) expansion old new names
+    → n ≡ stale_among bytes_eq (option_eq answer_eq) expansion old new names
+    → m ≡ compared_after 0 (compared_keys old new names)
+    → record { expanded = n; checked = 0; printed = 0; compared = m } ≡ work_between old names new names
+work-same old new names n m stay fresh counted costs =
     let all : fresh_roots old names new names ≡ stale_among bytes_eq (option_eq answer_eq) expansion old new names =
     subst
     (λ (e : Answer → Answer → Bool). fresh_among bytes_eq (option_eq e) expansion old names new names ≡ stale_among bytes_eq (option_eq e) expansion old new names)
     answer_eq-derived fresh in
-    let cost : compared ≡ compared_after 0 (compared_keys old new (staying names names)) =
+    let cost : m ≡ compared_after 0 (compared_keys old new (staying names names)) =
     costs ∙ ap (λ (ns : List (List ℕ)). compared_after 0 (compared_keys old new ns)) (sym stay) in
     λ i. record { expanded = (counted ∙ sym all) i; checked = 0; printed = 0; compared = cost i }

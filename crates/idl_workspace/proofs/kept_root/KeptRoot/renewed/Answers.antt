@@ -4,7 +4,7 @@ use Rattle.std.specs.Prelude.{if◌then◌else◌}
 use Rattle.std.specs.Option.{option_copied, option_eq}
 use Rattle.std.specs.Str.{bytes_eq}
 use Rattle.idl_event.specs.Key.{key_eq}
-use Rattle.idl_event.specs.contracts.key.AnswerPartialEq.TheImpl.{eq-value}
+use Rattle.idl_event.specs.contracts.key.AnswerPartialEq.TheImpl.{ghosts}
 use Rattle.idl_event.specs.declared.event.Event.{Event}
 use Rattle.idl_event.specs.declared.key.Answer.{Answer}
 use Rattle.idl_event.specs.declared.key.Key.{Key}
@@ -27,7 +27,7 @@ returns-then-holds_after-clause-kept c =
     let kept : Kept Key (Option Answer) (List ℕ) (List Event) = c.args.self.now.result.value in
     let told : IsTold bytes_eq (option_eq answer_eq) key_eq expansion before after kept c.holds_after.result =
     told-of before after kept c.holds_after.result
-    (subst (λ (k : Kept Key (Option Answer) (List ℕ) (List Event)). HoldsOver key_eq expansion before k → IsTold bytes_eq (option_eq eq-value) key_eq expansion before after k c.holds_after.result)
+    (subst (λ (k : Kept Key (Option Answer) (List ℕ) (List Event)). HoldsOver key_eq expansion before k → IsTold bytes_eq (option_eq ghosts.eq) key_eq expansion before after k c.holds_after.result)
     c.deref.ensures (c.holds_after.ensures.told expansion before after c.requires.cause) c.requires.kept.over) in
     let keys : c.holds_after.new.meter.compared ≡ compared_after c.args.meter.now.compared (keys_compared kept c.holds_after.result) =
     c.holds_after.ensures.compared ∙ ap (λ (k : Kept Key (Option Answer) (List ℕ) (List Event)). compared_after c.args.meter.now.compared (keys_compared k c.holds_after.result)) c.deref.ensures in
@@ -40,7 +40,7 @@ returns-then-holds_after-clause-counts c =
     let kept : Kept Key (Option Answer) (List ℕ) (List Event) = c.args.self.now.result.value in
     let told : IsTold bytes_eq (option_eq answer_eq) key_eq expansion before after kept c.holds_after.result =
     told-of before after kept c.holds_after.result
-    (subst (λ (k : Kept Key (Option Answer) (List ℕ) (List Event)). HoldsOver key_eq expansion before k → IsTold bytes_eq (option_eq eq-value) key_eq expansion before after k c.holds_after.result)
+    (subst (λ (k : Kept Key (Option Answer) (List ℕ) (List Event)). HoldsOver key_eq expansion before k → IsTold bytes_eq (option_eq ghosts.eq) key_eq expansion before after k c.holds_after.result)
     c.deref.ensures (c.holds_after.ensures.told expansion before after c.requires.cause) c.requires.kept.over) in
     let keys : c.holds_after.new.meter.compared ≡ compared_after c.args.meter.now.compared (keys_compared kept c.holds_after.result) =
     c.holds_after.ensures.compared ∙ ap (λ (k : Kept Key (Option Answer) (List ℕ) (List Event)). compared_after c.args.meter.now.compared (keys_compared k c.holds_after.result)) c.deref.ensures in
@@ -66,7 +66,7 @@ returns-clause-counts c =
     let kept : Kept Key (Option Answer) (List ℕ) (List Event) = c.args.self.now.result.value in
     let told : IsTold bytes_eq (option_eq answer_eq) key_eq expansion before after kept c.holds_after.result =
     told-of before after kept c.holds_after.result
-    (subst (λ (k : Kept Key (Option Answer) (List ℕ) (List Event)). HoldsOver key_eq expansion before k → IsTold bytes_eq (option_eq eq-value) key_eq expansion before after k c.holds_after.result)
+    (subst (λ (k : Kept Key (Option Answer) (List ℕ) (List Event)). HoldsOver key_eq expansion before k → IsTold bytes_eq (option_eq ghosts.eq) key_eq expansion before after k c.holds_after.result)
     c.deref.ensures (c.holds_after.ensures.told expansion before after c.requires.cause) c.requires.kept.over) in
     let keys : c.holds_after.new.meter.compared ≡ compared_after c.args.meter.now.compared (keys_compared kept c.holds_after.result) =
     c.holds_after.ensures.compared ∙ ap (λ (k : Kept Key (Option Answer) (List ℕ) (List Event)). compared_after c.args.meter.now.compared (keys_compared k c.holds_after.result)) c.deref.ensures in

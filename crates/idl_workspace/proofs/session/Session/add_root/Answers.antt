@@ -6,7 +6,7 @@ use Rattle.std.specs.List.{list_any}
 use Rattle.std.specs.Map.{keys_of}
 use Rattle.std.specs.Option.{option_eq}
 use Rattle.std.specs.Str.{bytes_eq}
-use Rattle.idl_event.specs.contracts.key.AnswerPartialEq.TheImpl.{eq-value}
+use Rattle.idl_event.specs.contracts.key.AnswerPartialEq.TheImpl.{ghosts}
 use Rattle.idl_memo.specs.Fresh.{fresh_among}
 use Rattle.idl_memo.specs.declared.meter.Meter.{Meter}
 use Rattle.idl_prep.specs.Root.{expansion}
@@ -42,7 +42,7 @@ returns c =
     ap (λ (es : List (List ℕ × KeptRoot)). keys_of es) c.in_ok-add.ensures.ok ∙ map-append (λ (e : List ℕ × KeptRoot). e.0) held ((root, c.in_ok-kept.kept) ∷ []) in
     let stay : staying (keys_of held) (keys_of more) ≡ keys_of held = ap (staying (keys_of held)) names ∙ staying-push (keys_of held) root new in
     let one = c.freshness.ensures.one_more bank (keys_of held) root (IsDistinct-push nat_list_eq_equiv (keys_of held) root c.self.invariant.distinct new) in
-    let fresh = subst (λ (ns : List (List ℕ)). fresh_among bytes_eq (option_eq eq-value) expansion bank (keys_of held) bank ns ≡ 1) (sym names) one in
+    let fresh = subst (λ (ns : List (List ℕ)). fresh_among bytes_eq (option_eq ghosts.eq) expansion bank (keys_of held) bank ns ≡ 1) (sym names) one in
     record {
       project = search rules;
       kept = refl;
