@@ -87,8 +87,11 @@ returns-clause-work c =
     let names = keys_of c.args.self.now in
     let m = c.loop-root.meter in
     let inv = c.loop-root.invariant in
-    let expanded : m.expanded ≡ stale_roots before after names = omega (arith, rw c.in-None.ensures at inv.expanded) in
-    let compared : m.compared ≡ compared_after 0 (compared_keys before after names) = omega (arith, inv.fits, rw c.in-None.ensures at inv.compared) in
+    let none : c.loop-root.root-iterator ≡ [] = c.in-None.ensures.steps.0 in
+    let counted = subst (λ (es : List (List ℕ × KeptRoot)). m.expanded + stale_roots before after (keys_of es) ≡ stale_roots before after names) none inv.expanded in
+    let compares = subst (λ (es : List (List ℕ × KeptRoot)). compared_after m.compared (compared_keys before after (keys_of es)) ≡ compared_after 0 (compared_keys before after names)) none inv.compared in
+    let expanded : m.expanded ≡ stale_roots before after names = omega (arith, counted) in
+    let compared : m.compared ≡ compared_after 0 (compared_keys before after names) = omega (arith, inv.fits, compares) in
     c.counted.ensures
     ∙ (λ i. record { expanded = m.expanded; checked = inv.checked i; printed = inv.printed i; compared = m.compared })
     ∙ work-same before after names m.expanded m.compared (staying-all names names (All-contains_itself names)) (c.freshness.ensures.same_places before after names c.requires.distinct) expanded compared
