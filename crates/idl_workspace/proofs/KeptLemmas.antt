@@ -1,5 +1,5 @@
 -- What is kept of a root, over the answers before an edit and those after it.
-use Rattle.std.proofs.Common.{◌≡◌, ◌≤◌, arith, ℕ, ◌+◌, Bool, true, false, cond, List, [], ◌∷◌, ◌++◌, All, Option, None, Some, length, subst, refl, sym, ap, ◌∙◌, if◌then◌else◌}
+use Rattle.std.proofs.Common.{◌≡◌, ◌≤◌, arith, ℕ, ◌+◌, Bool, true, false, cond, List, [], ◌∷◌, ◌++◌, Option, None, length, subst, refl, sym, ap, ◌∙◌, if◌then◌else◌}
 use Rattle.std.proofs.lemmas.List.Elements.{All-head, All-tail}
 use Rattle.std.specs.Map.{keys_of}
 use Rattle.std.specs.Option.{option_eq}
@@ -22,8 +22,6 @@ use Rattle.idl_root.specs.Compile.{compile}
 use Rattle.idl_workspace.specs.Compile.{compile_over, end_of, line_count}
 use Rattle.idl_workspace.specs.UpToDate.{AreKept, IsKept, keys_asked}
 use Rattle.idl_workspace.specs.Work.{answer_eq, compared_keys, fresh_roots, staying, work_between}
-use Rattle.idl_workspace.specs.declared.work.Work.{Work}
-use Rattle.idl_workspace.specs.declared.compile.CompiledRoot.{CompiledRoot}
 use Rattle.idl_workspace.specs.declared.kept_root.KeptRoot.{KeptRoot}
 
 -- how many of these roots aren't alike at their own places

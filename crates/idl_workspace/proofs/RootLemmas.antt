@@ -1,6 +1,5 @@
 -- The roots that are held: what is found among them, and what is held with one more or one less.
-use Rattle.std.proofs.Common.{◌≡◌, ℕ, ◌+◌, Bool, true, false, cond, ◌||◌, List, [], ◌∷◌, ◌++◌, All, Contains, IsTrue, Option, None, Some, is_some, length, map-id, subst, refl, sym, ap, ◌∙◌, if◌then◌else◌}
-use Rattle.std.specs.Prelude.{filter}
+use Rattle.std.proofs.Common.{◌≡◌, ℕ, Bool, true, false, cond, ◌||◌, List, [], ◌∷◌, ◌++◌, All, Contains, IsTrue, Option, None, Some, is_some, map-id, subst, refl, sym, ap, ◌∙◌, if◌then◌else◌}
 use Rattle.std.proofs.lemmas.Bool.{true≢false}
 use Rattle.std.proofs.lemmas.Map.Keys.{IsDistinct-head, IsDistinct-tail, IsDistinct-push}
 use Rattle.std.proofs.lemmas.Map.Made.{is_some-lookup}
@@ -19,12 +18,11 @@ use Rattle.idl_memo.specs.Cause.{changed}
 use Rattle.idl_source.specs.Name.{is_name}
 use Rattle.idl_workspace.specs.Compile.{compile_over}
 use Rattle.idl_workspace.specs.Bank.{bank_of}
-use Rattle.idl_workspace.specs.Project.{Inputs, Project}
+use Rattle.idl_workspace.specs.Project.{Inputs}
 use Rattle.idl_workspace.specs.Renewed.{IsRenewed}
 use Rattle.idl_workspace.specs.UpToDate.{AreKept, IsKept, IsUpToDate, State}
 use Rattle.idl_workspace.specs.Work.{staying, work_between, work_of}
 use Rattle.idl_workspace.specs.declared.work.Work.{Work}
-use Rattle.idl_workspace.specs.declared.compile.CompiledRoot.{CompiledRoot}
 use Rattle.idl_workspace.specs.declared.kept_root.KeptRoot.{KeptRoot}
 
 -- of roots that are kept a name is found with what compiling it gives, and no other name is found
