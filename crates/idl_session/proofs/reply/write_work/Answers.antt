@@ -1,4 +1,4 @@
-use Rattle.std.proofs.Common.{◌≡◌, ◌++◌, ◌∷◌, [], List, ℕ, subst, codes}
+use Rattle.std.proofs.Common.{◌++◌, ◌∷◌, [], List, ℕ, subst, codes}
 use Rattle.std.proofs.lemmas.Result.{on_err_weaker, on_ok_weaker}
 use Rattle.std.specs.Fmt.{decimal}
 use Rattle.idl_source.specs.Device.{WritesPart}
