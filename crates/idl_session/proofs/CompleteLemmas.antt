@@ -1,5 +1,5 @@
 -- Complete commands, and what may come after them.
-use Rattle.std.proofs.Common.{◌≡◌, ◌∷◌, ◌++◌, ◌+◌, ◌-◌, ◌∙◌, ◌<◌, ◌≤◌, Bool, true, false, cond, eqb, ℕ, List, [], length, take, drop, sym, ap, refl, arith, subst, inl, inr, zero, suc, length-append}
+use Rattle.std.proofs.Common.{◌≡◌, ◌∷◌, ◌++◌, ◌+◌, ◌-◌, ◌∙◌, ◌≤◌, Bool, true, false, cond, eqb, ℕ, List, [], length, take, sym, ap, refl, arith, subst, inl, inr, zero, suc, length-append}
 use Rattle.std.specs.List.{filter, onto_first}
 use Rattle.std.proofs.lemmas.Bool.{cases_lt}
 use Rattle.std.proofs.lemmas.List.{append-nil, take-append-le, length-take-le}

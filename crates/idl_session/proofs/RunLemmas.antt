@@ -67,6 +67,7 @@ whole_command (request.Place edit count) lines same =
     ap (λ t. has_its_lines (cond t (Make (edit lines)) Unfinished)) e
 whole_command (request.Make edit) lines same = refl
 whole_command (request.Ask question name) lines same = refl
+whole_command request.TellWork lines same = refl
 
 -- and without one of them it is one that lacks lines
 short_command : (r : Request) (lines : List (List ℕ)) → length lines < lines_taken r → has_its_lines (command_of r lines) ≡ false
@@ -76,6 +77,7 @@ short_command (request.Place edit count) lines less =
     ap (λ t. has_its_lines (cond t (Make (edit lines)) Unfinished)) e
 short_command (request.Make edit) lines less = absurd (omega (arith, less))
 short_command (request.Ask question name) lines less = absurd (omega (arith, less))
+short_command request.TellWork lines less = absurd (omega (arith, less))
 
 -- a line and all the lines that its request takes are a complete command
 complete_command : (line : List ℕ) (lines : List (List ℕ)) (bytes rest : List ℕ) → whole_lines bytes ≡ line ∷ lines ++ whole_lines rest → length lines ≡ lines_taken (request_of line)

@@ -7,8 +7,8 @@ use Rattle.idl_workspace.specs.Edited.{IsEdited}
 use Rattle.idl_workspace.specs.Edits.{Edit}
 use Rattle.idl_workspace.specs.UpToDate.{State}
 use Rattle.idl_workspace.specs.declared.work.Work.{Work}
-use Rattle.idl_session.specs.Commands.{Command, Malformed, Unfinished, Make, Ask, commands_of}
-use Rattle.idl_session.specs.Replies.{refused_reply, edit_reply, query_reply}
+use Rattle.idl_session.specs.Commands.{Command, Malformed, Unfinished, Make, Ask, TellWork, commands_of}
+use Rattle.idl_session.specs.Replies.{refused_reply, edit_reply, query_reply, work_reply}
 use Rattle.idl_session.specs.Rows.{rows_for}
 
 -- nothing but a refusal of the command
@@ -27,6 +27,7 @@ Answers s Unfinished reply t = IsTurnedAway s refusal.Unfinished reply t
 Answers s (Make edit) reply t = IsEditAnswered s edit reply t
 Answers s (Ask question name) reply t =
     (reply ≡ query_reply name (rows_for s.project question name)) × (t ≡ s)
+Answers s TellWork reply t = (reply ≡ work_reply s.work) × (t ≡ s)
 
 -- the replies to commands in order, end to end, and the state after all
 abbrev pub Replies : State → List Command → List ℕ → State → Type 0

@@ -7,12 +7,14 @@ use Rattle.idl_session.specs.Requests.{Request, request_of, lines_taken}
 use Rattle.idl_session.specs.Requests as request
 use Rattle.idl_session.specs.declared.heading.Question.{Question}
 
--- none, an edit that lacks lines which it announced, an edit, or a question about a root
+-- none, an edit that lacks lines which it announced, an edit, a question about a root, or one about
+-- the work of the last accepted edit
 pub data Command : Type 0 where
   Malformed : Command
   Unfinished : Command
   Make : (edit : Edit) → Command
   Ask : (question : Question) (name : List ℕ) → Command
+  TellWork : Command
 
 -- the command of a request, with the lines that follow as far as they are there
 abbrev pub command_of : Request → List (List ℕ) → Command
@@ -21,6 +23,7 @@ command_of (request.Place edit count) lines =
     if nat_eq (length lines) count then Make (edit lines) else Unfinished
 command_of (request.Make edit) lines = Make edit
 command_of (request.Ask question name) lines = Ask question name
+command_of request.TellWork lines = TellWork
 
 -- the commands after the first n lines
 abbrev pub commands_after : ℕ → List (List ℕ) → List Command

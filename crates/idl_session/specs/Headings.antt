@@ -3,7 +3,7 @@ use Rattle.std.specs.Prelude.{ℕ, List, [], Option, None, Some}
 use Rattle.std.specs.Borrow.{Bor}
 use Rattle.idl_source.specs.Line.{IsLine}
 use Rattle.idl_workspace.specs.Edits.{Edit, Put, Splice, Remove, Define, Undef, Search, AddRoot, DropRoot}
-use Rattle.idl_session.specs.Requests.{Request, Malformed, Place, Make, Ask, words}
+use Rattle.idl_session.specs.Requests.{Request, Malformed, Place, Make, Ask, TellWork, words}
 use Rattle.idl_session.specs.declared.heading.Change.{Change}
 use Rattle.idl_session.specs.declared.heading.Change.TheVariants as change
 use Rattle.idl_session.specs.declared.heading.Heading.{Heading}
@@ -34,6 +34,7 @@ request_by heading.Malformed = Malformed
 request_by (heading.Place placement count) = Place (edit_with placement) count
 request_by (heading.Make what) = Make (edit_by what)
 request_by (heading.Ask question name) = Ask question name.now
+request_by heading.Work = TellWork
 
 -- the body of a macro has no newline
 abbrev pub HasLine : Change → Type 0

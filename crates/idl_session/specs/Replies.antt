@@ -28,6 +28,14 @@ abbrev pub edit_reply : Result Work Refusal → List ℕ
 edit_reply (Ok work) = ok_reply
 edit_reply (Err refusal) = refused_reply refusal
 
+-- the reply to a question about the work: how many roots were expanded, declarations checked and
+-- entries printed
+abbrev pub work_reply : Work → List ℕ
+work_reply work =
+    whole_line
+    (((codes "work " ++ decimal work.expanded) ++ (codes " " ++ decimal work.checked))
+    ++ (codes " " ++ decimal work.printed))
+
 abbrev pub found_reply : Option (List (List ℕ)) → List ℕ
 found_reply None = refused_reply NoSuchRoot
 found_reply (Some rows) = rows_reply rows

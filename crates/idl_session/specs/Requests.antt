@@ -9,13 +9,14 @@ use Rattle.idl_session.specs.Lines.{line_within}
 use Rattle.idl_session.specs.declared.heading.Question.{Question}
 use Rattle.idl_session.specs.declared.heading.Question.TheVariants.{Diagnostics, Dump, Absent}
 
--- no command, an edit with so many lines that follow, an edit that no line follows, or a question
--- about a root
+-- no command, an edit with so many lines that follow, an edit that no line follows, a question about
+-- a root, or one about the work of the last accepted edit
 pub data Request : Type 0 where
   Malformed : Request
   Place : (edit : List (List ℕ) → Edit) (count : ℕ) → Request
   Make : (edit : Edit) → Request
   Ask : (question : Question) (name : List ℕ) → Request
+  TellWork : Request
 
 -- bytes 33 to 126, one at least
 abbrev pub is_command_word : List ℕ → Bool
@@ -61,6 +62,7 @@ pair_request w about =
 
 -- by how many words follow the first
 abbrev pub counted_request : List ℕ → List (List ℕ) → Request
+counted_request w [] = if bytes_eq w (codes "work") then TellWork else Malformed
 counted_request w (about ∷ []) = pair_request w about
 counted_request w (name ∷ count ∷ []) =
     if bytes_eq w (codes "put") then put_request name count else Malformed
@@ -101,3 +103,4 @@ lines_taken Malformed = 0
 lines_taken (Place edit count) = count
 lines_taken (Make edit) = 0
 lines_taken (Ask question name) = 0
+lines_taken TellWork = 0

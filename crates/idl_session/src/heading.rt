@@ -56,6 +56,8 @@ pub enum Heading<'a> {
     Make(Change<'a>),
     /// A question about a root.
     Ask(Question, &'a [u8]),
+    /// The work of the last accepted edit.
+    Work,
 }
 
 /// Reads a command line.
@@ -76,8 +78,19 @@ pub fn parse(line: &[u8]) -> Heading<'_>
     }
     match rest {
         Some(rest) => parse_words(first, rest),
-        None => Heading::Malformed,
+        None => lone_heading(first),
     }
+}
+
+// A command of one word.
+fn lone_heading<'a>(word: &'a [u8]) -> Heading<'a>
+    ensures request { request_by result ≡ counted_request word.entry.now [] }
+    ensures one_line { HasLines result }
+{
+    if word == b"work".as_slice() {
+        return Heading::Work;
+    }
+    Heading::Malformed
 }
 
 // A command that defines a macro: a word, and if a blank follows it a body.

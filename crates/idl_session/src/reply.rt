@@ -1,14 +1,15 @@
 //! Replies. Each is gathered, goes out in large pieces, and has gone out whole by its end.
 
-ghost use Rattle.std.specs.Prelude.{◌≡◌, ◌<◌, ◌+◌, ◌-◌, ◌^◌, [], ◌++◌, OnOk, OnErr};
+ghost use Rattle.std.specs.Prelude.{◌≡◌, ◌<◌, ◌+◌, ◌-◌, ◌^◌, [], ◌++◌, OnOk, OnErr, decimal};
 ghost use Rattle.idl_source.specs.Device.{append, WritesPart};
-ghost use Rattle.idl_session.specs.Replies.{ok_reply, refused_reply, rows_reply, whole_line, number_line};
+ghost use Rattle.idl_session.specs.Replies.{ok_reply, refused_reply, rows_reply, work_reply, whole_line, number_line};
 ghost use Rattle.idl_session.specs.Gathering.{Sends};
 ghost use Rattle.idl_session.specs.Rows.{rows_of};
 
 use crate::rows::Rows;
 use arrayvec::ArrayVec;
 use idl_source::{Refusal, Sink, WriteFailed, write_all};
+use idl_workspace::Work;
 use itoa::Buffer;
 use std::marker::Model;
 
@@ -62,6 +63,25 @@ pub fn write_rows<K: Sink>(sink: &mut K, rows: Rows<'_>) -> Result<(), WriteFail
     reply.finish(sink)
 }
 
+/// `work`, and how many roots were expanded, declarations checked and entries printed
+pub fn write_work<K: Sink>(sink: &mut K, work: Work) -> Result<(), WriteFailed>
+    requires counts { K.failures sink.old < 2 ^ 64 - 1 }
+
+    ensures written { OnOk result
+        (K.written sink.new ≡ append (K.written sink.old) (work_reply work)) }
+    ensures ok { OnOk result (K.failures sink.new ≡ K.failures sink.old) }
+
+    ensures part { OnErr result (WritesPart (K.written sink.old) (work_reply work) (K.written sink.new)) }
+    ensures err { OnErr result (K.failures sink.new ≡ K.failures sink.old + 1) }
+{
+    let mut reply = Reply::new();
+    reply.push_number(sink, b"work ", work.expanded)?;
+    reply.push_number(sink, b" ", work.checked)?;
+    reply.push_number(sink, b" ", work.printed)?;
+    reply.push(sink, b"\n")?;
+    reply.finish(sink)
+}
+
 // What was gathered of a reply and hasn't gone out.
 #[derive(Drop)]
 struct Reply {
@@ -105,6 +125,23 @@ impl Reply {
         let mut buffer = Buffer::new();
         self.push(sink, word)?;
         self.push_line(sink, buffer.format(n).as_bytes())
+    }
+
+    // A word and a number.
+    fn push_number<K: Sink>(&mut self, sink: &mut K, word: &[u8], n: u64) -> Result<(), WriteFailed>
+        requires counts { K.failures sink.old < 2 ^ 64 - 1 }
+
+        ensures sent { let bytes = self.old ++ (word.now ++ decimal n) in OnOk result
+            (Sends (K.written sink.old) bytes (K.written sink.new) self.new) }
+        ensures ok { OnOk result (K.failures sink.new ≡ K.failures sink.old) }
+
+        ensures part { let bytes = self.old ++ (word.now ++ decimal n) in OnErr result
+            (WritesPart (K.written sink.old) bytes (K.written sink.new)) }
+        ensures err { OnErr result (K.failures sink.new ≡ K.failures sink.old + 1) }
+    {
+        let mut buffer = Buffer::new();
+        self.push(sink, word)?;
+        self.push(sink, buffer.format(n).as_bytes())
     }
 
     // Bytes, and the end of the line.

@@ -17,7 +17,7 @@ use crate::edit::{make, place};
 use crate::feed::Feed;
 use crate::heading::{Heading, parse};
 use crate::line_buffer::LineBuffer;
-use crate::reply::{write_ok, write_refused, write_rows};
+use crate::reply::{write_ok, write_refused, write_rows, write_work};
 use crate::rows::{Rows, ask};
 use crate::stop::Stop;
 use idl_source::{Name, Refusal, Sink, Source, WriteFailed};
@@ -109,6 +109,10 @@ pub fn serve<S: Source, K: Sink>(
         Heading::Ask(question, name) => {
             let rows = ask(session, question, name);
             write_query(sink, name, rows)?;
+            Ok(())
+        }
+        Heading::Work => {
+            write_work(sink, session.work())?;
             Ok(())
         }
     }

@@ -1,5 +1,6 @@
 pub mod BankLemmas
 pub mod FileLemmas
 pub mod FormLemmas
+pub mod KeptLemmas
 pub mod LimitLemmas
 pub mod RootLemmas

@@ -1,35 +1,43 @@
 -- The roots that are held: what is found among them, and what is held with one more or one less.
-use Rattle.std.proofs.Common.{◌≡◌, ℕ, Bool, true, false, cond, ◌||◌, List, [], ◌∷◌, ◌++◌, All, IsTrue, Option, None, Some, is_some, map-id, subst, refl, sym, ap, ◌∙◌, if◌then◌else◌}
+use Rattle.std.proofs.Common.{◌≡◌, ℕ, Bool, true, false, cond, ◌||◌, List, [], ◌∷◌, ◌++◌, All, Contains, IsTrue, Option, None, Some, is_some, map-id, subst, refl, sym, ap, ◌∙◌, if◌then◌else◌}
 use Rattle.std.proofs.lemmas.Bool.{true≢false}
 use Rattle.std.proofs.lemmas.Map.Keys.{IsDistinct-head, IsDistinct-tail, IsDistinct-push}
 use Rattle.std.proofs.lemmas.Map.Made.{is_some-lookup}
-use Rattle.std.proofs.lemmas.List.{map-append}
-use Rattle.std.proofs.lemmas.List.Elements.{All-head, All-tail, All-push}
+use Rattle.std.proofs.lemmas.List.{map-append, append-nil}
+use Rattle.std.proofs.lemmas.List.Elements.{All-head, All-tail, All-push, All-contains_itself}
 use Rattle.std.specs.List.{list_any, AllByRecursion, IsDistinct}
 use Rattle.std.specs.Map.{lookup, keys_of, remove_entry}
-use Rattle.std.proofs.lemmas.Map.Views.{All-map-remove_entry}
+use Rattle.std.specs.Option.{option_map}
+use Rattle.std.proofs.lemmas.Map.Views.{All-map-remove_entry, list_any-from_Contains}
 use Rattle.std.specs.Str.{bytes_eq}
 use Rattle.std.specs.Cmp.Lexicographic.{bytes_decides, nat_list_eq_equiv}
+use Rattle.idl_event.specs.Key.{key_eq}
 use Rattle.idl_event.specs.declared.key.Answer.{Answer}
 use Rattle.idl_event.specs.declared.key.Key.{Key}
+use Rattle.idl_memo.specs.Cause.{changed}
 use Rattle.idl_source.specs.Name.{is_name}
 use Rattle.idl_workspace.specs.Compile.{compile_over}
-use Rattle.idl_workspace.specs.Bank.{bank_of, bank_with}
+use Rattle.idl_workspace.specs.Bank.{bank_of}
 use Rattle.idl_workspace.specs.Project.{Inputs}
-use Rattle.idl_workspace.specs.UpToDate.{HoldsRows, IsUpToDate, State}
+use Rattle.idl_workspace.specs.Renewed.{IsRenewed}
+use Rattle.idl_workspace.specs.UpToDate.{AreKept, IsKept, IsUpToDate, State}
+use Rattle.idl_workspace.specs.Work.{staying, work_between, work_of}
 use Rattle.idl_workspace.specs.declared.work.Work.{Work}
-use Rattle.idl_workspace.specs.declared.compile.CompiledRoot.{CompiledRoot}
+use Rattle.idl_workspace.specs.declared.kept_root.KeptRoot.{KeptRoot}
 
--- entries that hold what f gives for their names: a name is found with that, and no other name is found
-pub lookup-held : (f : List ℕ → CompiledRoot) (held : List (List ℕ × CompiledRoot)) (name : List ℕ) → All (λ (root : List ℕ × CompiledRoot). root.1 ≡ f root.0) held
-    → lookup (bytes_eq name) held ≡ (if list_any (bytes_eq name) (keys_of held) then Some (f name) else None)
-lookup-held f [] name h = refl
-lookup-held f (e ∷ es) name h = by (bytes_eq name e.0) refl (lookup-held f es name (All-tail (λ (root : List ℕ × CompiledRoot). root.1 ≡ f root.0) e es h))
+-- of roots that are kept a name is found with what compiling it gives, and no other name is found
+pub lookup-held : (bank : Key → Option Answer) (held : List (List ℕ × KeptRoot)) (name : List ℕ) → AreKept bank held
+    → option_map (λ (k : KeptRoot). k.compiled.value) (lookup (bytes_eq name) held) ≡ (if list_any (bytes_eq name) (keys_of held) then Some (compile_over bank name) else None)
+lookup-held bank [] name h = refl
+lookup-held bank (e ∷ es) name h = by (bytes_eq name e.0) refl (lookup-held bank es name (All-tail (λ (root : List ℕ × KeptRoot). IsKept bank root) e es h))
   where
     by : (b : Bool) → bytes_eq name e.0 ≡ b
-        → lookup (bytes_eq name) es ≡ (if list_any (bytes_eq name) (keys_of es) then Some (f name) else None)
-        → cond b (Some e.1) (lookup (bytes_eq name) es) ≡ (if (b || list_any (bytes_eq name) (keys_of es)) then Some (f name) else None)
-    by true same rest = ap Some (All-head (λ (root : List ℕ × CompiledRoot). root.1 ≡ f root.0) e es h ∙ ap f (sym ((bytes_decides name e.0).0 same)))
+        → option_map (λ (k : KeptRoot). k.compiled.value) (lookup (bytes_eq name) es) ≡ (if list_any (bytes_eq name) (keys_of es) then Some (compile_over bank name) else None)
+        → option_map (λ (k : KeptRoot). k.compiled.value) (cond b (Some e.1) (lookup (bytes_eq name) es))
+        ≡ (if (b || list_any (bytes_eq name) (keys_of es)) then Some (compile_over bank name) else None)
+    by true same rest =
+        let kept : IsKept bank e = All-head (λ (root : List ℕ × KeptRoot). IsKept bank root) e es h in
+        ap Some (kept.rows ∙ ap (compile_over bank) (sym ((bytes_decides name e.0).0 same)))
     by false other rest = rest
 
 -- what isn't a name isn't that of a root
@@ -57,62 +65,97 @@ list_any-before (n ∷ ns) name after distinct =
     ∙ list_any-before ns name after (IsDistinct-tail bytes_eq n (ns ++ name ∷ after) distinct)
 
 -- the names with one more, and then others
-pub keys_of-push : (held : List (List ℕ × CompiledRoot)) (name : List ℕ) (compiled : CompiledRoot) (after : List (List ℕ))
-    → keys_of (held ++ (name, compiled) ∷ []) ++ after ≡ keys_of held ++ name ∷ after
-keys_of-push [] name compiled after = refl
-keys_of-push (e ∷ es) name compiled after = ap (λ names. e.0 ∷ names) (keys_of-push es name compiled after)
+pub keys_of-push : (held : List (List ℕ × KeptRoot)) (name : List ℕ) (kept : KeptRoot) (after : List (List ℕ))
+    → keys_of (held ++ (name, kept) ∷ []) ++ after ≡ keys_of held ++ name ∷ after
+keys_of-push [] name kept after = refl
+keys_of-push (e ∷ es) name kept after = ap (λ names. e.0 ∷ names) (keys_of-push es name kept after)
 
--- what isn't that of a root has no rows
-pub lookup-absent : (held : List (List ℕ × CompiledRoot)) (name : List ℕ) → list_any (bytes_eq name) (keys_of held) ≡ false → lookup (bytes_eq name) held ≡ None
+-- what isn't that of a root has nothing kept
+pub lookup-absent : (held : List (List ℕ × KeptRoot)) (name : List ℕ) → list_any (bytes_eq name) (keys_of held) ≡ false → lookup (bytes_eq name) held ≡ None
 lookup-absent held name new = none _ (is_some-lookup (bytes_eq name) held ∙ new)
   where
-    none : (r : Option CompiledRoot) → is_some r ≡ false → r ≡ None
+    none : (r : Option KeptRoot) → is_some r ≡ false → r ≡ None
     none None h = refl
-    none (Some compiled) h = absurd (true≢false h)
+    none (Some kept) h = absurd (true≢false h)
 
--- one more root, with what compiling it gives
-pub IsUpToDate-push : (bank : Key → Option Answer) (held : List (List ℕ × CompiledRoot)) (name : List ℕ) (compiled : CompiledRoot) → IsUpToDate bank held
-    → IsTrue (is_name name) → list_any (bytes_eq name) (keys_of held) ≡ false → compiled ≡ compile_over bank name
-    → IsUpToDate bank (held ++ (name, compiled) ∷ [])
-IsUpToDate-push bank held name compiled up allowed new is =
-    let names : keys_of (held ++ (name, compiled) ∷ []) ≡ keys_of held ++ name ∷ [] = map-append (λ (e : List ℕ × CompiledRoot). e.0) held ((name, compiled) ∷ []) in
+-- one more root, with what is kept of it
+pub IsUpToDate-push : (bank : Key → Option Answer) (held : List (List ℕ × KeptRoot)) (name : List ℕ) (kept : KeptRoot) → IsUpToDate bank held
+    → IsTrue (is_name name) → list_any (bytes_eq name) (keys_of held) ≡ false → IsKept bank (name, kept)
+    → IsUpToDate bank (held ++ (name, kept) ∷ [])
+IsUpToDate-push bank held name kept up allowed new is =
+    let names : keys_of (held ++ (name, kept) ∷ []) ≡ keys_of held ++ name ∷ [] = map-append (λ (e : List ℕ × KeptRoot). e.0) held ((name, kept) ∷ []) in
     record {
       names = subst (λ (ns : List (List ℕ)). All (λ n. IsTrue (is_name n)) ns) (sym names) (All-push (λ (n : List ℕ). IsTrue (is_name n)) (keys_of held) name up.names allowed);
       distinct = subst (λ (ns : List (List ℕ)). IsDistinct bytes_eq ns) (sym names) (IsDistinct-push nat_list_eq_equiv (keys_of held) name up.distinct new);
-      rows = All-push (λ (root : List ℕ × CompiledRoot). root.1 ≡ compile_over bank root.0) held (name, compiled) up.rows is;
+      kept = All-push (λ (root : List ℕ × KeptRoot). IsKept bank root) held (name, kept) up.kept is;
     }
 
 -- what holds of all entries holds of those that stay
-All-remove_entry : (P : List ℕ × CompiledRoot → Type 0) (test : List ℕ → Bool) (held : List (List ℕ × CompiledRoot)) → All P held → All P (remove_entry test held)
+All-remove_entry : (P : List ℕ × KeptRoot → Type 0) (test : List ℕ → Bool) (held : List (List ℕ × KeptRoot)) → All P held → All P (remove_entry test held)
 All-remove_entry P test held h =
-    subst (λ (es : List (List ℕ × CompiledRoot)). All P es) (map-id (remove_entry test held))
-    (All-map-remove_entry test (λ (e : List ℕ × CompiledRoot). e) P held (subst (λ (es : List (List ℕ × CompiledRoot)). All P es) (sym (map-id held)) h))
+    subst (λ (es : List (List ℕ × KeptRoot)). All P es) (map-id (remove_entry test held))
+    (All-map-remove_entry test (λ (e : List ℕ × KeptRoot). e) P held (subst (λ (es : List (List ℕ × KeptRoot)). All P es) (sym (map-id held)) h))
 
 -- one root less
-pub IsUpToDate-remove : (bank : Key → Option Answer) (held : List (List ℕ × CompiledRoot)) (test : List ℕ → Bool) → IsUpToDate bank held
+pub IsUpToDate-remove : (bank : Key → Option Answer) (held : List (List ℕ × KeptRoot)) (test : List ℕ → Bool) → IsUpToDate bank held
     → IsDistinct bytes_eq (keys_of (remove_entry test held)) → IsUpToDate bank (remove_entry test held)
 IsUpToDate-remove bank held test up distinct = record {
-  names = All-map-remove_entry test (λ (e : List ℕ × CompiledRoot). e.0) (λ n. IsTrue (is_name n)) held up.names;
+  names = All-map-remove_entry test (λ (e : List ℕ × KeptRoot). e.0) (λ n. IsTrue (is_name n)) held up.names;
   distinct = distinct;
-  rows = All-remove_entry (λ (root : List ℕ × CompiledRoot). root.1 ≡ compile_over bank root.0) test held up.rows;
+  kept = All-remove_entry (λ (root : List ℕ × KeptRoot). IsKept bank root) test held up.kept;
 }
 
--- the same roots, each with what compiling it over other answers gives
-pub IsUpToDate-again : (bank other : Key → Option Answer) (held table : List (List ℕ × CompiledRoot)) → IsUpToDate bank held
-    → keys_of table ≡ keys_of held → HoldsRows other table → IsUpToDate other table
-IsUpToDate-again bank other held table up same rows = record {
-  names = subst (λ (ns : List (List ℕ)). All (λ n. IsTrue (is_name n)) ns) (sym same) up.names;
-  distinct = subst (λ (ns : List (List ℕ)). IsDistinct bytes_eq ns) (sym same) up.distinct;
-  rows = rows;
-}
+-- the roots that stay were there
+pub remaining-there : (held : List (List ℕ × KeptRoot)) (test : List ℕ → Bool) → All (Contains (keys_of held)) (keys_of (remove_entry test held))
+remaining-there held test = All-map-remove_entry test (λ (e : List ℕ × KeptRoot). e.0) (Contains (keys_of held)) held (All-contains_itself (keys_of held))
 
--- After an edit that changes one answer: the same roots, each with what compiling it over the changed answers gives.
-pub IsUpToDate-edited : (state : State) (now new : Inputs) (held table : List (List ℕ × CompiledRoot)) (asked at : Key) (given answer : Option Answer) (work : Work)
+-- After an edit that changes one answer: the same roots, with what is kept of them over the changed answers.
+pub IsUpToDate-edited : (state : State) (now new : Inputs) (held : List (List ℕ × KeptRoot)) (renewed : List (List ℕ × KeptRoot) × Work) (asked at : Key) (given answer : Option Answer) (work : Work)
     → record { project = record { inputs = now; roots = keys_of held }; work = work } ≡ state → IsUpToDate (bank_of now) held
-    → keys_of table ≡ state.project.roots → HoldsRows (bank_with (bank_of state.project.inputs) asked given) table
-    → asked ≡ at → given ≡ answer → bank_of new ≡ bank_with (bank_of now) at answer → IsUpToDate (bank_of new) table
-IsUpToDate-edited state now new held table asked at given answer work is up same rows asks gives changes =
-    IsUpToDate-again (bank_of now) (bank_of new) held table up (same ∙ ap (λ (s : State). s.project.roots) (sym is))
-    (subst (λ (bank : Key → Option Answer). HoldsRows bank table)
-    (ap (λ (s : State). bank_with (bank_of s.project.inputs) asked given) (sym is) ∙ ap (λ (k : Key). bank_with (bank_of now) k given) asks ∙ ap (bank_with (bank_of now) at) gives ∙ sym changes)
-    rows)
+    → IsRenewed state.project asked given renewed
+    → asked ≡ at → given ≡ answer → bank_of new ≡ changed key_eq (bank_of now) at answer → IsUpToDate (bank_of new) renewed.0
+IsUpToDate-edited state now new held renewed asked at given answer work is up again asks gives changes =
+    let same : keys_of renewed.0 ≡ keys_of held = again.roots ∙ ap (λ (s : State). s.project.roots) (sym is) in
+    record {
+      names = subst (λ (ns : List (List ℕ)). All (λ n. IsTrue (is_name n)) ns) (sym same) up.names;
+      distinct = subst (λ (ns : List (List ℕ)). IsDistinct bytes_eq ns) (sym same) up.distinct;
+      kept = subst (λ (bank : Key → Option Answer). AreKept bank renewed.0)
+          (ap (λ (s : State). changed key_eq (bank_of s.project.inputs) asked given) (sym is) ∙ ap (λ (k : Key). changed key_eq (bank_of now) k given) asks ∙ ap (changed key_eq (bank_of now) at) gives ∙ sym changes)
+          again.kept;
+    }
+
+-- and the work is that between the two projects
+pub work-edited : (state : State) (now new : Inputs) (held : List (List ℕ × KeptRoot)) (renewed : List (List ℕ × KeptRoot) × Work) (asked at : Key) (given answer : Option Answer) (work : Work)
+    → record { project = record { inputs = now; roots = keys_of held }; work = work } ≡ state
+    → IsRenewed state.project asked given renewed
+    → asked ≡ at → given ≡ answer → bank_of new ≡ changed key_eq (bank_of now) at answer
+    → renewed.1 ≡ work_of state.project (record { inputs = new; roots = keys_of renewed.0 })
+work-edited state now new held renewed asked at given answer work is again asks gives changes =
+    let banks : changed key_eq (bank_of state.project.inputs) asked given ≡ bank_of new =
+    ap (λ (s : State). changed key_eq (bank_of s.project.inputs) asked given) (sym is) ∙ ap (λ (k : Key). changed key_eq (bank_of now) k given) asks ∙ ap (changed key_eq (bank_of now) at) gives ∙ sym changes in
+    again.work ∙ (λ i. work_between (bank_of state.project.inputs) state.project.roots (banks i) (sym again.roots i))
+
+-- all of these were roots before, and stay
+pub staying-all : (before roots : List (List ℕ)) → All (Contains before) roots → staying before roots ≡ roots
+staying-all before [] h = refl
+staying-all before (n ∷ ns) h =
+    ap (λ b. cond b (n ∷ staying before ns) (staying before ns)) (list_any-from_Contains nat_list_eq_equiv n before (All-head (Contains before) n ns h))
+    ∙ ap (λ (rest : List (List ℕ)). n ∷ rest) (staying-all before ns (All-tail (Contains before) n ns h))
+
+-- those of two lists
+staying-append : (before roots more : List (List ℕ)) → staying before (roots ++ more) ≡ staying before roots ++ staying before more
+staying-append before [] more = refl
+staying-append before (n ∷ ns) more = by (list_any (bytes_eq n) before) (staying-append before ns more)
+  where
+    by : (b : Bool) → staying before (ns ++ more) ≡ staying before ns ++ staying before more
+        → cond b (n ∷ staying before (ns ++ more)) (staying before (ns ++ more)) ≡ cond b (n ∷ staying before ns) (staying before ns) ++ staying before more
+    by true rest = ap (λ (rest : List (List ℕ)). n ∷ rest) rest
+    by false rest = rest
+
+-- with one more that wasn't there, all before it stay
+pub staying-push : (before : List (List ℕ)) (name : List ℕ) → list_any (bytes_eq name) before ≡ false → staying before (before ++ name ∷ []) ≡ before
+staying-push before name new =
+    staying-append before before (name ∷ [])
+    ∙ ap (λ b. staying before before ++ cond b (name ∷ []) []) new
+    ∙ append-nil (staying before before)
+    ∙ staying-all before before (All-contains_itself before)

@@ -1,10 +1,9 @@
 -- What a root is answered.
-use Rattle.std.specs.Prelude.{◌≡◌, ℕ, false, List, [], ◌∷◌, Option, Some, if◌then◌else◌}
+use Rattle.std.specs.Prelude.{◌≡◌, ℕ, false, List, [], ◌∷◌, Option, Some}
 use Rattle.std.specs.FinMap as map
 use Rattle.std.specs.Map.{lookup}
 use Rattle.std.specs.Option.{option_map}
 use Rattle.std.specs.Str.{bytes_eq}
-use Rattle.idl_event.specs.Key.{key_eq}
 use Rattle.idl_event.specs.declared.key.Answer.{Answer}
 use Rattle.idl_event.specs.declared.key.Answer.TheVariants as answer
 use Rattle.idl_event.specs.declared.key.Key.{Key}
@@ -19,10 +18,6 @@ bank_of inputs (key.Macro word) =
     option_map (λ body. answer.Macro (body ∷ [])) (lookup (bytes_eq word) inputs.macros)
 bank_of inputs (key.File name) = option_map answer.File (map.get inputs.files name)
 bank_of inputs key.Search = Some (answer.Search inputs.search)
-
--- the answers of a bank, but for one key
-unfoldable pub bank_with : (Key → Option Answer) → Key → Option Answer → Key → Option Answer
-bank_with bank at answer k = if key_eq at k then answer else bank k
 
 -- no file but the one of this name is another
 abbrev pub IsSameBeside : List ℕ → Texts → Texts → Type 0

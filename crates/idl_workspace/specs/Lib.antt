@@ -3,6 +3,7 @@ pub mod Compile
 pub mod Edited
 pub mod Edits
 pub mod Project
+pub mod Renewed
 pub mod UpToDate
 pub mod WellFormed
 pub mod WithinLimits

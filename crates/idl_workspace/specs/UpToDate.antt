@@ -1,16 +1,20 @@
 -- The claim: what a session answers is what compiling the present project from scratch gives.
-use Rattle.std.specs.Prelude.{◌≡◌, ℕ, List, All, IsTrue, Option, None, Some, refl, if◌then◌else◌}
+use Rattle.std.specs.Prelude.{◌≡◌, ℕ, List, All, IsTrue, Option, None, Some, refl, length, if◌then◌else◌, ◌+◌, [], ◌∷◌}
 use Rattle.std.specs.Coded.{Coded, code_by, coded×, coded_ℕ}
 use Rattle.std.specs.List.{IsDistinct}
 use Rattle.std.specs.Map.{keys_of}
 use Rattle.std.specs.Option.{option_map}
 use Rattle.std.specs.Str.{bytes_eq}
 use Rattle.idl_event.specs.declared.key.Answer.{Answer}
+use Rattle.idl_event.specs.Key.{key_eq}
 use Rattle.idl_event.specs.declared.key.Key.{Key}
+use Rattle.idl_memo.specs.Kept.{HoldsOver}
+use Rattle.idl_prep.specs.Root.{expansion}
 use Rattle.idl_source.specs.Name.{is_name}
 use Rattle.idl_workspace.specs.Compile.{compiled_root, compile_over}
 use Rattle.idl_workspace.specs.Project.{Project, project_code, is_root}
 use Rattle.idl_workspace.specs.declared.compile.CompiledRoot.{CompiledRoot}
+use Rattle.idl_workspace.specs.declared.kept_root.KeptRoot.{KeptRoot}
 use Rattle.idl_workspace.specs.declared.work.Work.{Work}
 
 -- what contracts see of a session: the project, and the work of the last accepted edit
@@ -35,26 +39,45 @@ dump_of project name = option_map (λ root. root.rows.dump) (compiled_of project
 abbrev pub absent_of : Project → List ℕ → Option (List (List ℕ))
 absent_of project name = option_map (λ root. root.absent) (compiled_of project name)
 
--- what is held for each root is what compiling it over these answers gives
-abbrev pub HoldsRows : (Key → Option Answer) → List (List ℕ × CompiledRoot) → Type 0
-HoldsRows bank held = All (λ root. root.1 ≡ compile_over bank root.0) held
+-- what is kept of a root is what its task over these answers leaves, and what compiling it over
+-- them gives
+pub record IsKept (bank : Key → Option Answer) (root : List ℕ × KeptRoot) : Type 0 where
+  pub text : root.1.result.value.text ≡ root.0
+  pub over : HoldsOver key_eq expansion bank root.1.result.value
+  pub rows : root.1.compiled.value ≡ compile_over bank root.0
 
--- what is held of the roots: distinct names, each with what it compiles to
-pub record IsUpToDate (bank : Key → Option Answer) (held : List (List ℕ × CompiledRoot))
+-- that is so of each root
+abbrev pub AreKept : (Key → Option Answer) → List (List ℕ × KeptRoot) → Type 0
+AreKept bank held = All (λ root. IsKept bank root) held
+
+-- what is held of the roots: distinct names, each with what is kept of it
+pub record IsUpToDate (bank : Key → Option Answer) (held : List (List ℕ × KeptRoot))
     : Type 0 where
   pub names : All (λ name. IsTrue (is_name name)) (keys_of held)
   pub distinct : IsDistinct bytes_eq (keys_of held)
-  pub rows : HoldsRows bank held
+  pub kept : AreKept bank held
+
+-- how many keys these roots asked
+abbrev pub keys_asked : List (List ℕ × KeptRoot) → ℕ
+keys_asked [] = 0
+keys_asked (root ∷ held) = length root.1.result.value.log + keys_asked held
 
 -- a state is stored as the tuple of its parts
 abbrev pub state_code : Coded State
 state_code =
-    code_by (Project × (ℕ × (ℕ × ℕ)))
-    (coded× project_code (coded× coded_ℕ (coded× coded_ℕ coded_ℕ)))
-    (λ s. (s.project, (s.work.expanded, (s.work.checked, s.work.printed))))
+    code_by (Project × ((ℕ × ℕ) × (ℕ × ℕ)))
+    (coded× project_code (coded× (coded× coded_ℕ coded_ℕ) (coded× coded_ℕ coded_ℕ)))
+    (λ s. (
+      s.project,
+      ((s.work.expanded, s.work.checked), (s.work.printed, s.work.compared)),
+    ))
     (λ t. record {
       project = t.0;
-      work = record
-          { expanded = t.1.0; checked = t.1.1.0; printed = t.1.1.1 };
+      work = record {
+        expanded = t.1.0.0;
+        checked = t.1.0.1;
+        printed = t.1.1.0;
+        compared = t.1.1.1;
+      };
     })
     (λ _. refl)

@@ -6,9 +6,11 @@ ghost use Rattle.std.specs.Option.{option_copied, option_map};
 ghost use Rattle.std.specs.FinMap as finite;
 ghost use Rattle.std.specs.Str.{bytes_eq};
 ghost use Rattle.indexmap.specs.IndexMap.{insert_entry};
+ghost use Rattle.idl_event.specs.Key.{key_eq};
 ghost use Rattle.idl_event.specs.declared.key.Answer.TheVariants as answers;
 ghost use Rattle.idl_event.specs.declared.key.Key.TheVariants as keys;
-ghost use Rattle.idl_workspace.specs.Bank.{IsSameBeside, bank_of, bank_with};
+ghost use Rattle.idl_memo.specs.Cause.{changed};
+ghost use Rattle.idl_workspace.specs.Bank.{IsSameBeside, bank_of};
 ghost use Rattle.idl_prep.specs.Candidate.{AnswersFrom};
 ghost use Rattle.idl_prep.specs.Include.{directories_in};
 ghost use Rattle.idl_source.specs.Limits.{most_macros};
@@ -109,7 +111,7 @@ impl SessionBank {
         requires answers { answer ≡ option_map answers.File (finite.get files name) }
         ensures ok { OnOk result (self.new ≡ record self.old { files = files }) }
         ensures bank { OnOk result
-            (bank_of self.new ≡ bank_with (bank_of self.old) (keys.File name) answer) }
+            (bank_of self.new ≡ changed key_eq (bank_of self.old) (keys.File name) answer) }
         ensures err { OnErr result (self.new ≡ self.old) }
     {
         match answer {
@@ -131,7 +133,7 @@ impl SessionBank {
         ensures ok { let macros = insert_entry bytes_eq self.old.macros word body in
             OnOk result (self.new ≡ record self.old { macros = macros }) }
         ensures bank { OnOk result (bank_of self.new
-            ≡ bank_with (bank_of self.old) (keys.Macro word) (Some (answers.Macro (body ∷ [])))) }
+            ≡ changed key_eq (bank_of self.old) (keys.Macro word) (Some (answers.Macro (body ∷ [])))) }
         ensures err { OnErr result (self.new ≡ self.old) }
     {
         self.macros.insert(word, body)?;
@@ -142,7 +144,7 @@ impl SessionBank {
     pub fn undef(&mut self, word: &Spelling)
         ensures left { let macros = remove_entry (bytes_eq word.now) self.old.macros in
             self.new ≡ record self.old { macros = macros } }
-        ensures bank { bank_of self.new ≡ bank_with (bank_of self.old) (keys.Macro word.now) None }
+        ensures bank { bank_of self.new ≡ changed key_eq (bank_of self.old) (keys.Macro word.now) None }
     {
         self.macros.shift_remove(word);
     }
@@ -151,7 +153,7 @@ impl SessionBank {
     pub fn set_search(&mut self, search: Answer)
         requires { search ≡ answers.Search (directories_in (Some search)) }
         ensures set { self.new ≡ record self.old { search = directories_in (Some search) } }
-        ensures bank { bank_of self.new ≡ bank_with (bank_of self.old) keys.Search (Some search) }
+        ensures bank { bank_of self.new ≡ changed key_eq (bank_of self.old) keys.Search (Some search) }
     {
         self.search = search;
     }
@@ -176,34 +178,6 @@ impl Bank for SessionBank {
             Key::File(name) => self.texts.get(name),
             Key::Search => Some(&self.search),
         }
-    }
-}
-
-/// A bank as it would be after an edit: it answers one key otherwise.
-#[derive(Clone, Copy)]
-pub struct EditedBank<'a> {
-    pub base: &'a SessionBank,
-    pub key: &'a Key,
-    pub answer: Option<&'a Answer>,
-}
-
-impl<'a> Bank for EditedBank<'a> {
-    ghost use Rattle.std.specs.Option.{option_copied};
-    ghost use Rattle.idl_workspace.specs.Bank.{bank_of, bank_with};
-
-    type Key = Key;
-
-    type Answer = Answer;
-
-    ghost at = { λ bank.
-        bank_with (bank_of bank.base.now) bank.key.now (option_copied bank.answer) };
-
-    #[tactic(auto, unfolding(crate::specs::Bank::bank_with))]
-    fn answer(&self, key: &Key) -> Option<&Answer> {
-        if self.key == key {
-            return self.answer;
-        }
-        self.base.answer(key)
     }
 }
 

@@ -2,15 +2,22 @@
 
 ghost use Rattle.std.specs.Prelude.{◌≡◌, IfOk};
 ghost use Rattle.std.specs.Option.{option_copied};
+ghost use Rattle.idl_event.specs.Key.{key_eq};
+ghost use Rattle.idl_memo.specs.Kept.{HoldsOver};
+ghost use Rattle.idl_prep.specs.Root.{expansion};
 ghost use Rattle.idl_workspace.specs.Compile.{compile_over, end_of, line_count};
 
+use crate::bank::SessionBank;
 use idl_base::Seq;
-use idl_event::{Answer, FileName, Key, Place};
-use idl_memo::{Bank, Log, Task};
-use idl_prep::{RootTask, absent};
+use idl_event::{Answer, Expansion, FileName, Key, Place, RootBank};
+use idl_memo::Kept;
+use idl_prep::absent;
 use idl_root::Compiled;
 use idl_source::Name;
 use std::alloc::{AllocError, Global};
+
+/// The result of a root's task, as a session keeps it.
+pub type KeptExpansion = Kept<SessionBank, Name, Expansion>;
 
 /// What a root compiles to: its rows, and the files that it asks for and that aren't there, in the order first asked.
 pub struct CompiledRoot {
@@ -27,21 +34,18 @@ impl Drop for CompiledRoot {
     }
 }
 
-/// Compiles a root from scratch over a bank, in which its own file may be absent.
-#[tactic(auto, unfolding(crate::specs::Compile::compile_over))]
-pub fn compile<B: Bank<Key = Key, Answer = Answer>>(
+/// Compiles a root over a bank, in which its own file may be absent, from the result of its task.
+pub fn compile<B: RootBank>(
     alloc: Global,
     bank: &B,
-    root: &Name,
+    kept: &KeptExpansion,
 ) -> Result<CompiledRoot, AllocError>
-    ensures { IfOk result (λ compiled. compiled ≡ compile_over (B.at bank.now) root.now) }
+    requires { HoldsOver key_eq expansion (B.at bank.now) kept.now }
+    ensures { IfOk result (λ compiled. compiled ≡ compile_over (B.at bank.now) kept.now.text) }
 {
-    let mut log = Log::new(alloc);
-    let task = RootTask::new(root.copied());
-    let expansion = task.run(alloc, bank, &mut log)?;
-    let end = end_of(alloc, bank, root)?;
-    let rows = idl_root::compile(alloc, &end, &expansion)?;
-    let names = absent(alloc, &log)?;
+    let end = end_of(alloc, bank, kept.text())?;
+    let rows = idl_root::compile(alloc, &end, kept.out())?;
+    let names = absent(alloc, kept.log())?;
     Ok(CompiledRoot {
         rows,
         absent: Seq::from_vec(names),
@@ -49,11 +53,7 @@ pub fn compile<B: Bank<Key = Key, Answer = Answer>>(
 }
 
 // The end of a root: its number of lines.
-fn end_of<B: Bank<Key = Key, Answer = Answer>>(
-    alloc: Global,
-    bank: &B,
-    root: &Name,
-) -> Result<Place, AllocError>
+fn end_of<B: RootBank>(alloc: Global, bank: &B, root: &Name) -> Result<Place, AllocError>
     ensures { IfOk result (λ place. place ≡ end_of (B.at bank.now) root.now) }
 {
     let file = FileName::new(alloc, root)?;

@@ -7,6 +7,7 @@
 mod bank;
 mod compile;
 mod directories;
+mod kept_root;
 mod limits;
 mod macro_body;
 mod root_table;

@@ -1,33 +1,42 @@
-//! Roots by name, each with what it compiles to.
+//! Roots by name, each with what is kept of it.
 
 ghost use Rattle.std.specs.Prelude.{◌≡◌, ◌∷◌, ◌++◌, [], false, IfOk, OnOk, OnErr, length, nat_le};
-ghost use Rattle.std.specs.Option.{option_copied};
+ghost use Rattle.std.specs.Option.{option_copied, option_map};
 ghost use Rattle.std.specs.List.{IsDistinct, list_any};
 ghost use Rattle.std.specs.Map.{lookup, keys_of, remove_entry};
 ghost use Rattle.std.specs.Str.{bytes_eq};
+ghost use Rattle.idl_event.specs.Key.{key_eq};
+ghost use Rattle.idl_memo.specs.Cause.{changed};
+ghost use Rattle.idl_memo.specs.Meter.{compared_after};
 ghost use Rattle.idl_source.specs.Limits.{most_roots};
-ghost use Rattle.idl_workspace.specs.UpToDate.{HoldsRows};
+ghost use Rattle.idl_workspace.specs.Bank.{bank_of};
+ghost use Rattle.idl_workspace.specs.UpToDate.{AreKept, IsUpToDate, keys_asked};
+ghost use Rattle.idl_workspace.specs.Work.{work_between};
 
 use crate::MAX_ROOTS;
-use crate::compile::{CompiledRoot, compile};
-use idl_event::RootBank;
+use crate::bank::SessionBank;
+use crate::compile::CompiledRoot;
+use crate::kept_root::KeptRoot;
+use crate::work::Work;
+use idl_memo::{Edited, Meter, freshness};
+use idl_prep::RootTask;
 use idl_source::Name;
 use indexmap::IndexMap;
 use std::alloc::{AllocError, Global};
 use std::marker::Model;
 
-/// Roots, each once, with what it compiles to, in the order in which they were added.
+/// Roots, each once, with what is kept of it, in the order in which they were added.
 ///
 /// A look-up takes the same time whatever their number.
 pub struct RootTable {
-    roots: IndexMap<Name, CompiledRoot>,
+    roots: IndexMap<Name, KeptRoot>,
 }
 
 impl Model for RootTable {
     ghost use Rattle.std.specs.Prelude.{List, ℕ};
-    ghost use Rattle.idl_workspace.specs.declared.compile.CompiledRoot.{CompiledRoot};
+    ghost use Rattle.idl_workspace.specs.declared.kept_root.KeptRoot.{KeptRoot};
 
-    ghost Value = { List (List ℕ × CompiledRoot) };
+    ghost Value = { List (List ℕ × KeptRoot) };
 
     ghost view = { λ table. table.roots.entries };
 }
@@ -64,19 +73,23 @@ impl RootTable {
 
     /// What the root of this name compiles to.
     pub fn get(&self, root: &Name) -> Option<&CompiledRoot>
-        ensures { option_copied result ≡ lookup (bytes_eq root.now) self.now }
+        ensures { option_copied result
+            ≡ option_map (λ kept. kept.compiled.value) (lookup (bytes_eq root.now) self.now) }
     {
-        self.roots.get(root)
+        match self.roots.get(root) {
+            Some(kept) => Some(kept.compiled()),
+            None => None,
+        }
     }
 
     /// Adds a root that isn't there, at the end.
-    pub fn add(&mut self, root: Name, compiled: CompiledRoot) -> Result<(), AllocError>
+    pub fn add(&mut self, root: Name, kept: KeptRoot) -> Result<(), AllocError>
         // Who adds a root has asked for it.
         requires { list_any (bytes_eq root) (keys_of self.old) ≡ false }
-        ensures ok { OnOk result (self.new ≡ self.old ++ (root, compiled) ∷ []) }
+        ensures ok { OnOk result (self.new ≡ self.old ++ (root, kept) ∷ []) }
         ensures err { OnErr result (self.new ≡ self.old) }
     {
-        self.roots.insert(root, compiled)?;
+        self.roots.insert(root, kept)?;
         Ok(())
     }
 
@@ -88,19 +101,43 @@ impl RootTable {
         self.roots.shift_remove(root);
     }
 
-    /// The same roots, each compiled anew over this bank.
-    pub fn compiled_over<B: RootBank>(
+    /// The same roots after an edit of the bank, each with what is kept of it, and the work of that: one look-up for each, and
+    /// those that asked for what has changed are expanded and compiled anew.
+    pub fn renewed<'a>(
         &self,
         alloc: Global,
-        bank: &B,
-    ) -> Result<RootTable, AllocError>
-        ensures roots { IfOk result (λ table. keys_of table ≡ keys_of self.now) }
-        ensures rows { IfOk result (λ table. HoldsRows (B.at bank.now) table) }
+        edited: &Edited<'a, SessionBank>,
+    ) -> Result<(RootTable, Work), AllocError>
+        requires { IsUpToDate (bank_of edited.now.base.now) self.now }
+        ensures roots { IfOk result (λ renewed. keys_of renewed.0 ≡ keys_of self.now) }
+        ensures kept { let before = bank_of edited.now.base.now in
+            let after = changed key_eq before edited.now.key.now (option_copied edited.now.answer) in
+            IfOk result (λ renewed. AreKept after renewed.0) }
+        ensures work { let before = bank_of edited.now.base.now in
+            let after = changed key_eq before edited.now.key.now (option_copied edited.now.answer) in
+            let roots = keys_of self.now in
+            IfOk result (λ renewed. renewed.1 ≡ work_between before roots after roots) }
     {
+        freshness::<SessionBank, RootTask>();
+        let _room = self.roots.len();
+        let mut meter = Meter::new();
+        let cause = edited.cause();
         let mut table = RootTable::new(alloc);
-        for root in self.roots.keys() {
-            table.add(root.copied(), compile(alloc, bank, root)?)?;
+        for (root, kept) in self.roots.iter() {
+            let next = kept.renewed(alloc, edited, cause, &mut meter)?;
+            table.add(root.copied(), next)?;
         }
-        Ok(table)
+        Ok((table, Work::counted(&meter)))
+    }
+
+    /// How many keys all roots asked, as far as a count goes.
+    pub fn keys_asked(&self) -> u64
+        ensures { result ≡ compared_after 0 (keys_asked self.now) }
+    {
+        let mut keys: u64 = 0;
+        for (_root, kept) in self.roots.iter() {
+            keys = keys.saturating_add(kept.key_count() as u64);
+        }
+        keys
     }
 }

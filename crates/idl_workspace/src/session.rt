@@ -1,21 +1,22 @@
 //! The session: its edits, and its queries.
 
 ghost use Rattle.std.specs.Prelude.{◌≡◌, ℕ, List, true, Ok, Err, IfOk, IsTrue, map};
-ghost use Rattle.std.specs.Map.{keys_of};
 ghost use Rattle.std.specs.Option.{option_copied};
 ghost use Rattle.std.specs.Result.{result_err};
 ghost use Rattle.idl_source.specs.Name.{is_name};
 ghost use Rattle.idl_event.specs.declared.key.Key.TheVariants as keys;
-ghost use Rattle.idl_workspace.specs.Bank.{IsSameBeside, bank_of, bank_with};
+ghost use Rattle.idl_workspace.specs.Bank.{IsSameBeside};
 ghost use Rattle.idl_workspace.specs.Project.{no_project, with_files};
 ghost use Rattle.idl_workspace.specs.Work.{no_work};
 ghost use Rattle.idl_workspace.specs.Edited.{IsEdited, takes_memory};
 ghost use Rattle.idl_workspace.specs.Edits.{Edit, Put, Splice, Remove, Define, Undef, Search, AddRoot, DropRoot, after, are_too_long, macros_with};
-ghost use Rattle.idl_workspace.specs.UpToDate.{HoldsRows, compiled_of, diagnostics_of, dump_of, absent_of};
+ghost use Rattle.idl_workspace.specs.Renewed.{IsRenewed};
+ghost use Rattle.idl_workspace.specs.UpToDate.{compiled_of, diagnostics_of, dump_of, absent_of};
 
-use crate::bank::{EditedBank, SessionBank, file_answer};
-use crate::compile::{CompiledRoot, compile};
+use crate::bank::{SessionBank, file_answer};
+use crate::compile::CompiledRoot;
 use crate::directories::directories;
+use crate::kept_root::KeptRoot;
 use crate::macro_body::MacroBody;
 use crate::root_table::RootTable;
 use crate::word::spelled;
@@ -25,6 +26,8 @@ use idl_base::Seq;
 use idl_event::{Answer, FileName, Key};
 use idl_lex::Spelling;
 use idl_macro::is_macro_word;
+use idl_memo::{Edited, Meter, freshness};
+use idl_prep::RootTask;
 use idl_source::{Files, Line, Name, Refusal, Span};
 use std::alloc::{AllocError, Global};
 use std::marker::Model;
@@ -117,10 +120,10 @@ impl Session {
             return Err(refusal);
         }
         let body = MacroBody::new(self.alloc, body)?;
-        let roots = self.compiled_with_macro(&word, Some(body.answer()))?;
+        let renewed = self.renewed_with_macro(&word, Some(body.answer()))?;
         self.bank.define(word, body)?;
-        self.roots = roots;
-        self.work = Work::none();
+        self.roots = renewed.0;
+        self.work = renewed.1;
         Ok(self.work)
     }
 
@@ -134,10 +137,10 @@ impl Session {
             return Err(Refusal::BadMacro);
         }
         let word = spelled(self.alloc, word)?;
-        let roots = self.compiled_with_macro(&word, None)?;
+        let renewed = self.renewed_with_macro(&word, None)?;
         self.bank.undef(&word);
-        self.roots = roots;
-        self.work = Work::none();
+        self.roots = renewed.0;
+        self.work = renewed.1;
         Ok(self.work)
     }
 
@@ -150,10 +153,10 @@ impl Session {
     {
         let list = directories(self.alloc, list)?;
         let search = Answer::Search(Seq::from_vec(list));
-        let roots = self.compiled_with(&Key::Search, Some(&search))?;
+        let renewed = self.renewed_with(&Key::Search, Some(&search))?;
         self.bank.set_search(search);
-        self.roots = roots;
-        self.work = Work::none();
+        self.roots = renewed.0;
+        self.work = renewed.1;
         Ok(self.work)
     }
 
@@ -173,9 +176,16 @@ impl Session {
         if self.roots.is_full() {
             return Err(Refusal::OverLimit);
         }
-        let compiled = compile(self.alloc, &self.bank, &root)?;
-        self.roots.add(root, compiled)?;
-        self.work = Work::none();
+        freshness::<SessionBank, RootTask>();
+        let mut meter = Meter {
+            expanded: 0,
+            checked: 0,
+            printed: 0,
+            compared: self.roots.keys_asked(),
+        };
+        let kept = KeptRoot::anew(self.alloc, root.copied(), &self.bank, &mut meter)?;
+        self.roots.add(root, kept)?;
+        self.work = Work::counted(&meter);
         Ok(self.work)
     }
 
@@ -191,8 +201,14 @@ impl Session {
         if !self.roots.contains(&root) {
             return Err(Refusal::NoSuchRoot);
         }
+        freshness::<SessionBank, RootTask>();
         self.roots.remove(&root);
-        self.work = Work::none();
+        self.work = Work {
+            expanded: 0,
+            checked: 0,
+            printed: 0,
+            compared: self.roots.keys_asked(),
+        };
         Ok(self.work)
     }
 
@@ -301,38 +317,38 @@ impl Session {
     {
         let name = FileName::new(self.alloc, &Name::new(name).unwrap())?;
         let answer = file_answer(self.alloc, &files, &name)?;
-        let roots = self.compiled_with(&Key::File(name.clone()?), answer.as_ref())?;
+        let renewed = self.renewed_with(&Key::File(name.clone()?), answer.as_ref())?;
         self.bank.set_files(name, files, answer)?;
-        self.roots = roots;
-        self.work = Work::none();
+        self.roots = renewed.0;
+        self.work = renewed.1;
         Ok(self.work)
     }
 
-    // All roots, compiled over the bank with another answer about the macro of this word.
-    fn compiled_with_macro(
+    // All roots as they are once the macro of this word has another answer, and the work of that.
+    fn renewed_with_macro(
         &self,
         word: &Spelling,
         answer: Option<&Answer>,
-    ) -> Result<RootTable, AllocError>
-        ensures roots { IfOk result (λ table. keys_of table ≡ self.now.project.roots) }
-        ensures rows { let bank = bank_of self.now.project.inputs in IfOk result (λ table.
-            HoldsRows (bank_with bank (keys.Macro word.now) (option_copied answer.entry)) table) }
+    ) -> Result<(RootTable, Work), AllocError>
+        ensures { IfOk result (IsRenewed self.now.project (keys.Macro word.now) (option_copied answer.entry)) }
     {
         let key = Key::Macro(word.clone()?);
-        self.compiled_with(&key, answer)
+        Ok(self.renewed_with(&key, answer)?)
     }
 
-    // All roots, compiled over the bank with another answer at this key.
-    fn compiled_with(&self, key: &Key, answer: Option<&Answer>) -> Result<RootTable, AllocError>
-        ensures roots { IfOk result (λ table. keys_of table ≡ self.now.project.roots) }
-        ensures rows { let bank = bank_of self.now.project.inputs in IfOk result (λ table.
-            HoldsRows (bank_with bank key.now (option_copied answer.entry)) table) }
+    // All roots as they are once this key has another answer, and the work of that.
+    fn renewed_with(
+        &self,
+        key: &Key,
+        answer: Option<&Answer>,
+    ) -> Result<(RootTable, Work), AllocError>
+        ensures { IfOk result (IsRenewed self.now.project key.now (option_copied answer.entry)) }
     {
-        let bank = EditedBank {
+        let edited = Edited {
             base: &self.bank,
             key,
             answer,
         };
-        self.roots.compiled_over(self.alloc, &bank)
+        Ok(self.roots.renewed(self.alloc, &edited)?)
     }
 }

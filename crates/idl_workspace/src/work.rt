@@ -3,14 +3,19 @@
 ghost use Rattle.std.specs.Prelude.{◌≡◌};
 ghost use Rattle.idl_workspace.specs.Work.{no_work};
 
-/// How many roots an edit expanded, declarations it checked and entries of a listing it printed, through kept results.
+use idl_memo::Meter;
+
+/// How many roots an edit expanded, declarations it checked and entries of a listing it printed, through kept results, and
+/// at how many asked keys these were compared.
 ///
-/// As long as no result is kept, all three are zero.
+/// As long as of roots alone results are kept, the second and the third are zero. The last stays at its greatest value once
+/// it is there.
 #[derive(Clone, Copy, Debug, PartialEq, Eq)]
 pub struct Work {
     pub expanded: u64,
     pub checked: u64,
     pub printed: u64,
+    pub compared: u64,
 }
 
 impl Work {
@@ -22,6 +27,24 @@ impl Work {
             expanded: 0,
             checked: 0,
             printed: 0,
+            compared: 0,
+        }
+    }
+
+    /// The work that a meter has counted.
+    pub fn counted(meter: &Meter) -> Work
+        ensures { result ≡ record {
+          expanded = meter.now.expanded;
+          checked = meter.now.checked;
+          printed = meter.now.printed;
+          compared = meter.now.compared;
+        } }
+    {
+        Work {
+            expanded: meter.expanded,
+            checked: meter.checked,
+            printed: meter.printed,
+            compared: meter.compared,
         }
     }
 }

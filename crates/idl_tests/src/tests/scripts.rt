@@ -58,13 +58,36 @@ fn scripts_have_these_replies(rt: HostRuntime) -> Result<(), Fail> {
     have_replies(&rt, &SCRIPTS)
 }
 
+// What edits cost: the roots that were expanded.
+static WORK: [&str; 6] = [
+    "work\n=work 0 0 0\nput a.idl 2\ntypedef long X;\ntypedef long X;\n=ok\nroot a.idl\n=ok\nwork\n=work 1 0 0\n\
+     splice a.idl 1 0 1\n\n=ok\nwork\n=work 1 0 0\ndiagnostics a.idl\n=rows 1\n=a.idl:3: E33 X",
+    "put a.idl 2\ntypedef long X;\ntypedef long X;\n=ok\nroot a.idl\n=ok\nsplice a.idl 1 1 0\n=ok\n\
+     diagnostics a.idl\n=rows 0\nwork\n=work 1 0 0\nput a.idl 1\ntypedef long X;\n=ok\nwork\n=work 0 0 0",
+    // A macro that the root doesn't ask, and one that it asks.
+    "put a.idl 1\ntypedef long X;\n=ok\nroot a.idl\n=ok\ndefine Z 1\n=ok\nwork\n=work 0 0 0",
+    "put a.idl 3\n#ifndef Z\ntypedef long X;\n#endif\n=ok\nroot a.idl\n=ok\ndefine Z 1\n=ok\nwork\n\
+     =work 1 0 0\ndump a.idl\n=rows 0",
+    // A search list that isn't asked, and files that come and go.
+    "put r.idl 1\n#include \"b.idl\"\n=ok\nput b.idl 1\ntypedef long B;\n=ok\nroot r.idl\n=ok\nsearch inc\n=ok\n\
+     work\n=work 0 0 0\nput inc/b.idl 0\n=ok\nwork\n=work 0 0 0\nremove b.idl\n=ok\nwork\n=work 1 0 0\n\
+     absent r.idl\n=rows 1\n=b.idl\nput b.idl 0\n=ok\nwork\n=work 1 0 0\nabsent r.idl\n=rows 0",
+    // A refusal leaves the work as it was.
+    "root a.idl\n=ok\nroot a.idl\n=refused 8\nwork\n=work 1 0 0\nunroot a.idl\n=ok\nwork\n=work 0 0 0",
+];
+
+#[test]
+fn edits_have_this_work(rt: HostRuntime) -> Result<(), Fail> {
+    have_replies(&rt, &WORK)
+}
+
 // A malformed command takes no further line, so that the line after it is a command.
 static MALFORMED: &str =
     " \nfrob\nroot\nroot \n root a.idl\nroot  a.idl\nroot a.idl \nroot a.idl b.idl\nroot a.idl\r\nroot\ta.idl\n\
      root \u{e9}.idl\nROOT a.idl\nput a.idl\nput a.idl 1 \nput  a.idl 0\nput a.idl 01\nput a.idl +1\nput a.idl 1000000000\n\
      put a.idl 1 1\nsplice a.idl 1 0\nsplice a.idl 1 0 x\nsplice a.idl 01 0 0\nsplice a.idl 1 0 0 0\nremove\nundef\n\
      undef X Y\ndefine\ndefine \ndefine  X\ndefine \u{e9}\nsearch \nsearch  d\nsearch d \nabsent\n\
-     unroot a.idl b.idl\nlisting a.idl\nwork\r\n\nwork";
+     unroot a.idl b.idl\nlisting a.idl\nwork\r\n\n work\nwork a.idl";
 
 #[test]
 fn malformed_commands_are_refused(rt: HostRuntime) -> Result<(), Fail> {

@@ -1,9 +1,10 @@
 use Rattle.std.proofs.Common.{◌≡◌, List, ℕ, Option, IfErr, refl, subst, rules}
 use Rattle.idl_source.specs.Device.{append, WritesPart}
 use Rattle.idl_source.specs.declared.refusal.Refusal.TheVariants as refusal
+use Rattle.idl_workspace.specs.declared.work.Work.{Work}
 use Rattle.idl_session.specs.Headings.{edit_by}
-use Rattle.idl_session.specs.Replies.{refused_reply, edit_reply, query_reply}
-use Rattle.idl_session.specs.Requests.{Malformed, Make, Ask, request_kept}
+use Rattle.idl_session.specs.Replies.{refused_reply, edit_reply, query_reply, work_reply}
+use Rattle.idl_session.specs.Requests.{Malformed, Make, Ask, TellWork, request_kept}
 use Rattle.idl_session.specs.Rows.{rows_for}
 use Rattle.idl_session.specs.Serving.{Standing}
 use Rattle.idl_session.specs.declared.stop.Stop.TheVariants.{WriteFailed}
@@ -68,4 +69,25 @@ returns-in_ok-write_query-in-Ask-clause-served g c =
       reply,
       subst (λ (rows : Option (List (List ℕ))). new.written ≡ append old.written (query_reply name rows)) c.ask-rows.ensures c.in_ok-write_query-in-Ask.ensures.written,
       serves-alone (request_kept c.args.input.now.line) (Ask question name) old new reply c.in-Ask.ensures.request refl refl (refl, refl),
+    )
+
+pub returns-in_err-write_work-in-Work-clause-cut : goal.returns-in_err-write_work-in-Work-clause-cut
+returns-in_err-write_work-in-Work-clause-cut g c =
+    let reply = work_reply c.args.session.now.work in
+    let old : Standing = record { left = g.S.Source.remaining c.args.source.now; fed = c.args.input.now.feed; written = g.K.Sink.written c.args.sink.now; state = c.args.session.now } in
+    let new : Standing = record { left = g.S.Source.remaining c.args.source.now; fed = c.args.input.now.feed; written = g.K.Sink.written c.write_work.new.sink; state = c.args.session.now } in
+    let r = c.from_residual-in_err-write_work-in-Work.result in
+    let why : IfErr r (λ stop. stop ≡ WriteFailed) = search rules in
+    cut-write r (request_kept c.args.input.now.line) old new reply why
+    (subst (λ (work : Work). WritesPart old.written (work_reply work) new.written) c.work.ensures c.in_err-write_work-in-Work.ensures.part)
+    (serves-alone (request_kept c.args.input.now.line) TellWork old new reply c.in-Work.ensures.request refl refl (refl, refl))
+
+pub returns-in_ok-write_work-in-Work-clause-served : goal.returns-in_ok-write_work-in-Work-clause-served
+returns-in_ok-write_work-in-Work-clause-served g c =
+    let reply = work_reply c.args.session.now.work in
+    let old : Standing = record { left = g.S.Source.remaining c.args.source.now; fed = c.args.input.now.feed; written = g.K.Sink.written c.args.sink.now; state = c.args.session.now } in
+    let new : Standing = record { left = g.S.Source.remaining c.args.source.now; fed = c.args.input.now.feed; written = g.K.Sink.written c.write_work.new.sink; state = c.args.session.now } in (
+      reply,
+      subst (λ (work : Work). new.written ≡ append old.written (work_reply work)) c.work.ensures c.in_ok-write_work-in-Work.ensures.written,
+      serves-alone (request_kept c.args.input.now.line) TellWork old new reply c.in-Work.ensures.request refl refl (refl, refl),
     )

@@ -1,4 +1,4 @@
-use Rattle.std.proofs.Common.{◌∙◌, List, ℕ, Some, refl, sym, ap}
+use Rattle.std.proofs.Common.{◌∙◌, List, ℕ, refl, sym, ap}
 use Rattle.std.specs.FinMap.{get-empty}
 use Rattle.std.specs.FinMap as finite
 use Rattle.std.specs.Map.{lookup}

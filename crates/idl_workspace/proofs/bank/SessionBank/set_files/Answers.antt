@@ -4,20 +4,22 @@ use Rattle.std.specs.Option.{option_map}
 use Rattle.idl_event.specs.declared.key.Answer.{Answer}
 use Rattle.idl_event.specs.declared.key.Answer.TheVariants as answers
 use Rattle.idl_event.specs.declared.key.Key.TheVariants as keys
+use Rattle.idl_event.specs.Key.{key_eq}
+use Rattle.idl_memo.specs.Cause.{changed}
 use Rattle.idl_source.specs.Texts.{Texts}
 use Rattle.idl_prep.specs.Include.{directories_in}
-use Rattle.idl_workspace.specs.Bank.{IsSameBeside, bank_of, bank_with}
+use Rattle.idl_workspace.specs.Bank.{IsSameBeside, bank_of}
 use Rattle.idl_workspace.specs.Project.{Inputs}
 use Rattle.idl_workspace.proofs.BankLemmas.{files-changed}
 use Rattle.idl_workspace.proofs.bank.SessionBank.set_files.Goals as goal
 
 -- from the inputs as they are held
 held : (inputs now : Inputs) (files : Texts) (name : List ℕ) (a : Option Answer) → inputs ≡ now → IsSameBeside name now.files files
-    → a ≡ option_map answers.File (finite.get files name) → bank_of (record inputs { files = files }) ≡ bank_with (bank_of now) (keys.File name) a
+    → a ≡ option_map answers.File (finite.get files name) → bank_of (record inputs { files = files }) ≡ changed key_eq (bank_of now) (keys.File name) a
 held inputs now files name a same beside is =
     ap (λ (i : Inputs). bank_of (record i { files = files })) same
     ∙ files-changed now files name beside
-    ∙ ap (λ (b : Option Answer). bank_with (bank_of now) (keys.File name) b) (sym is)
+    ∙ ap (λ (b : Option Answer). changed key_eq (bank_of now) (keys.File name) b) (sym is)
 
 pub returns-in_ok-insert-in-Some-clause-bank : goal.returns-in_ok-insert-in-Some-clause-bank
 returns-in_ok-insert-in-Some-clause-bank c =

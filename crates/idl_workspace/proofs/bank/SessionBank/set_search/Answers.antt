@@ -1,8 +1,10 @@
 use Rattle.std.proofs.Common.{◌∙◌, Some, sym, ap}
 use Rattle.idl_event.specs.declared.key.Answer.{Answer}
 use Rattle.idl_event.specs.declared.key.Key.TheVariants as keys
+use Rattle.idl_event.specs.Key.{key_eq}
+use Rattle.idl_memo.specs.Cause.{changed}
 use Rattle.idl_prep.specs.Include.{directories_in}
-use Rattle.idl_workspace.specs.Bank.{bank_of, bank_with}
+use Rattle.idl_workspace.specs.Bank.{bank_of}
 use Rattle.idl_workspace.specs.Project.{Inputs}
 use Rattle.idl_workspace.proofs.BankLemmas.{search-changed}
 use Rattle.idl_workspace.proofs.bank.SessionBank.set_search.Goals as goal
@@ -11,5 +13,5 @@ pub returns-clause-bank : goal.returns-clause-bank
 returns-clause-bank c =
     let inputs : Inputs = record { files = c.self.inside.files; macros = c.self.inside.macros.entries; search = directories_in (Some c.self.inside.search) } in
     search-changed inputs (directories_in (Some c.args.search))
-    ∙ ap (λ (a : Answer). bank_with (bank_of inputs) keys.Search (Some a)) (sym c.requires)
-    ∙ ap (λ (i : Inputs). bank_with (bank_of i) keys.Search (Some c.args.search)) c.self.view_is
+    ∙ ap (λ (a : Answer). changed key_eq (bank_of inputs) keys.Search (Some a)) (sym c.requires)
+    ∙ ap (λ (i : Inputs). changed key_eq (bank_of i) keys.Search (Some c.args.search)) c.self.view_is

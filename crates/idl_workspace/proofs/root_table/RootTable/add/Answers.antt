@@ -8,6 +8,6 @@ use Rattle.idl_workspace.proofs.root_table.RootTable.add.Goals as goal
 pub returns-clause-ok : goal.returns-clause-ok
 returns-clause-ok c =
     c.in_ok-insert.ensures.entries
-    ∙ insert_entry-new bytes_eq c.self.inside.roots c.args.root c.args.compiled
+    ∙ insert_entry-new bytes_eq c.self.inside.roots c.args.root c.args.kept
     (ap (lookup (bytes_eq c.args.root)) c.self.view_is ∙ lookup-absent c.args.self.now c.args.root c.requires)
-    ∙ ap (λ held. held ++ (c.args.root, c.args.compiled) ∷ []) c.self.view_is
+    ∙ ap (λ held. held ++ (c.args.root, c.args.kept) ∷ []) c.self.view_is

@@ -2,12 +2,12 @@ use Rattle.std.proofs.Common.{◌≡◌, ◌∙◌, List, ℕ, Option, None, Bor
 use Rattle.std.proofs.lemmas.Bool.{cond-false, false≢true}
 use Rattle.std.specs.List.{list_any}
 use Rattle.std.specs.Map.{keys_of, lookup}
-use Rattle.std.specs.Option.{option_copied}
+use Rattle.std.specs.Option.{option_copied, option_map}
 use Rattle.std.specs.Str.{bytes_eq}
 use Rattle.idl_workspace.specs.Bank.{bank_of}
-use Rattle.idl_workspace.specs.Compile.{compile_over}
 use Rattle.idl_workspace.specs.UpToDate.{State, compiled_of}
 use Rattle.idl_workspace.specs.declared.compile.CompiledRoot.{CompiledRoot}
+use Rattle.idl_workspace.specs.declared.kept_root.KeptRoot.{KeptRoot}
 use Rattle.idl_workspace.proofs.RootLemmas.{lookup-held, list_any-bad_name}
 use Rattle.idl_workspace.proofs.session.Session.compiled.Goals as goal
 
@@ -25,6 +25,6 @@ pub returns : goal.returns
 returns c =
     let name = c.args.root.now in
     c.get.ensures
-    ∙ ap (λ (bytes : List ℕ). lookup (bytes_eq bytes) c.self.inside.roots) c.in_ok-new.ensures.same
-    ∙ lookup-held (compile_over (bank_of c.self.inside.bank)) c.self.inside.roots name c.self.invariant.rows
+    ∙ ap (λ (bytes : List ℕ). option_map (λ (k : KeptRoot). k.compiled.value) (lookup (bytes_eq bytes) c.self.inside.roots)) c.in_ok-new.ensures.same
+    ∙ lookup-held (bank_of c.self.inside.bank) c.self.inside.roots name c.self.invariant.kept
     ∙ ap (λ (state : State). compiled_of state.project name) c.self.view_is

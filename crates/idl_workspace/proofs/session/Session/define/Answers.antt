@@ -10,14 +10,14 @@ use Rattle.idl_source.specs.declared.refusal.Refusal.TheVariants.{BadMacro, Over
 use Rattle.idl_workspace.specs.Edits.{Define, after, is_macro_over, macros_with, result_map}
 use Rattle.idl_workspace.specs.Project.{Inputs, Macros, Project, with_macros}
 use Rattle.idl_workspace.specs.UpToDate.{State}
-use Rattle.idl_workspace.proofs.RootLemmas.{IsUpToDate-edited}
+use Rattle.idl_workspace.proofs.RootLemmas.{IsUpToDate-edited, work-edited}
 use Rattle.idl_workspace.proofs.session.Session.define.Goals as goal
 
 pub invariant_of-self-2 : goal.invariant_of-self-2
 invariant_of-self-2 c =
-    IsUpToDate-edited c.args.self.now c.self.inside.bank c.define.new.self c.self.inside.roots c.in_ok-roots.roots (keys.Macro c.in_ok-word.word) (keys.Macro c.in_ok-word.word)
+    IsUpToDate-edited c.args.self.now c.self.inside.bank c.define.new.self c.self.inside.roots c.in_ok-renewed.renewed (keys.Macro c.in_ok-word.word) (keys.Macro c.in_ok-word.word)
     (Some c.answer.result.now) (Some (answers.Macro (c.in_ok-body.body ∷ []))) c.self.inside.work
-    c.self.view_is c.self.invariant c.in_ok-roots.ensures.roots c.in_ok-roots.ensures.rows refl (ap Some c.answer.ensures) c.in_ok-define.ensures.bank
+    c.self.view_is c.self.invariant c.in_ok-renewed.ensures refl (ap Some c.answer.ensures) c.in_ok-define.ensures.bank
 
 -- a macro that isn't refused
 accepted : (over allowed : Bool) (macros : Macros) → None ≡ result_err (cond over (Err OverLimit) (cond allowed (Ok macros) (Err BadMacro)))
@@ -44,9 +44,12 @@ returns c =
       project =
           ap (λ (state : State). after state.project (Define c.args.word.now c.args.body)) (sym c.self.view_is)
           ∙ ap (λ w. after project (Define w c.args.body)) (sym c.in_ok-word.ensures)
-          ∙ defined project word c.args.body c.define.new.self (keys_of c.in_ok-roots.roots) none
+          ∙ defined project word c.args.body c.define.new.self (keys_of c.in_ok-renewed.renewed.0) none
           (c.in_ok-define.ensures.ok ∙ ap (λ (b : List ℕ). record project.inputs { macros = insert_entry bytes_eq project.inputs.macros word b }) c.in_ok-body.ensures)
-          (c.in_ok-roots.ensures.roots ∙ ap (λ (state : State). state.project.roots) (sym c.self.view_is));
+          (c.in_ok-renewed.ensures.roots ∙ ap (λ (state : State). state.project.roots) (sym c.self.view_is));
       kept = refl;
-      told = c.none-self-inside.ensures;
+      told =
+          work-edited c.args.self.now c.self.inside.bank c.define.new.self c.self.inside.roots c.in_ok-renewed.renewed (keys.Macro word) (keys.Macro word)
+          (Some c.answer.result.now) (Some (answers.Macro (c.in_ok-body.body ∷ []))) c.self.inside.work
+          c.self.view_is c.in_ok-renewed.ensures refl (ap Some c.answer.ensures) c.in_ok-define.ensures.bank;
     }

@@ -1,6 +1,6 @@
-use Rattle.std.proofs.Common.{◌≡◌, ◌∙◌, true, cond, not, List, ℕ, Result, Ok, Err, refl, sym, ap, subst}
+use Rattle.std.proofs.Common.{◌≡◌, ◌∙◌, true, cond, not, All, Contains, List, ℕ, Result, Ok, Err, refl, sym, ap, subst}
 use Rattle.std.specs.List.{IsDistinct}
-use Rattle.std.specs.Map.{keys_of}
+use Rattle.std.specs.Map.{keys_of, remove_entry}
 use Rattle.std.specs.Str.{bytes_eq}
 use Rattle.idl_workspace.specs.Bank.{bank_of}
 use Rattle.std.specs.Set.{remove_key}
@@ -10,17 +10,19 @@ use Rattle.idl_source.specs.declared.refusal.Refusal.{Refusal}
 use Rattle.idl_source.specs.declared.refusal.Refusal.TheVariants.{BadName, NoSuchRoot}
 use Rattle.idl_workspace.specs.Edits.{DropRoot, after, result_map, roots_without}
 use Rattle.idl_workspace.specs.Project.{Project, is_root, with_roots}
-use Rattle.idl_workspace.specs.UpToDate.{IsUpToDate, State}
-use Rattle.idl_workspace.specs.declared.compile.CompiledRoot.{CompiledRoot}
-use Rattle.idl_workspace.proofs.RootLemmas.{IsUpToDate-remove}
+use Rattle.idl_workspace.specs.UpToDate.{AreKept, IsUpToDate, State}
+use Rattle.idl_workspace.specs.declared.kept_root.KeptRoot.{KeptRoot}
+use Rattle.idl_workspace.specs.Work.{work_of}
+use Rattle.idl_workspace.proofs.KeptLemmas.{work-roots}
+use Rattle.idl_workspace.proofs.RootLemmas.{IsUpToDate-remove, remaining-there, staying-all}
 use Rattle.idl_workspace.proofs.session.Session.drop_root.Goals as goal
 
 pub invariant_of-self : goal.invariant_of-self
 invariant_of-self c =
     let left = c.remove.ensures.left in
-    subst (λ (held : List (List ℕ × CompiledRoot)). IsUpToDate (bank_of c.self.inside.bank) held) (sym left)
+    subst (λ (held : List (List ℕ × KeptRoot)). IsUpToDate (bank_of c.self.inside.bank) held) (sym left)
     (IsUpToDate-remove (bank_of c.self.inside.bank) c.self.inside.roots (bytes_eq c.in-Some.root) c.self.invariant
-    (subst (λ (held : List (List ℕ × CompiledRoot)). IsDistinct bytes_eq (keys_of held)) left c.remove.ensures.distinct))
+    (subst (λ (held : List (List ℕ × KeptRoot)). IsDistinct bytes_eq (keys_of held)) left c.remove.ensures.distinct))
 
 dropped : (project : Project) (name root : List ℕ) (roots : List (List ℕ)) → root ≡ name → is_name name ≡ true → is_root project root ≡ true → remove_key (bytes_eq root) project.roots ≡ roots
     → roots_without project name ≡ Ok roots
@@ -34,12 +36,23 @@ pub returns : goal.returns
 returns c =
     let held = c.self.inside.roots in
     let root = c.in-Some.root in
+    let bank = bank_of c.self.inside.bank in
+    let left : List (List ℕ × KeptRoot) = c.remove.new.self in
+    let fewer : left ≡ remove_entry (bytes_eq root) held = c.remove.ensures.left in
     let project : Project = record { inputs = c.self.inside.bank; roots = keys_of held } in
+    let after_drop : Project = record { inputs = c.self.inside.bank; roots = keys_of left } in
+    let there = subst (λ (es : List (List ℕ × KeptRoot)). All (Contains (keys_of held)) (keys_of es)) (sym fewer) (remaining-there held (bytes_eq root)) in
+    let up = IsUpToDate-remove bank held (bytes_eq root) c.self.invariant (subst (λ (es : List (List ℕ × KeptRoot)). IsDistinct bytes_eq (keys_of es)) fewer c.remove.ensures.distinct) in
+    let kept = subst (λ (es : List (List ℕ × KeptRoot)). AreKept bank es) (sym fewer) up.kept in
     record {
       project = ap (λ (state : State). after state.project (DropRoot c.args.name.now)) (sym c.self.view_is)
           ∙ ap (λ (r : Result (List (List ℕ)) Refusal). result_map (with_roots project) r)
-          (dropped project c.args.name.now root (keys_of c.remove.new.self) c.in-Some.ensures.same (c.in-Some.ensures.allowed.0 refl) (sym c.contains.ensures ∙ c.if-not-contains.false)
-          (sym (keys-shift_remove_entry (bytes_eq root) held) ∙ ap (λ (es : List (List ℕ × CompiledRoot)). keys_of es) (sym c.remove.ensures.left)));
+          (dropped project c.args.name.now root (keys_of left) c.in-Some.ensures.same (c.in-Some.ensures.allowed.0 refl) (sym c.contains.ensures ∙ c.if-not-contains.false)
+          (sym (keys-shift_remove_entry (bytes_eq root) held) ∙ ap (λ (es : List (List ℕ × KeptRoot)). keys_of es) (sym fewer)));
       kept = refl;
-      told = c.none-self-inside.ensures;
+      told =
+          (λ i. record { expanded = 0; checked = 0; printed = 0; compared = c.keys_asked.ensures i })
+          ∙ work-roots bank (keys_of held) (keys_of left) left 0 kept (staying-all (keys_of held) (keys_of left) there)
+          (c.freshness.ensures.fewer bank (keys_of held) (keys_of left) c.remove.ensures.distinct there) (c.freshness.ensures.stay bank (keys_of left))
+          ∙ ap (λ (state : State). work_of state.project after_drop) c.self.view_is;
     }

@@ -1,0 +1,38 @@
+use Rattle.std.proofs.Common.{◌≡◌, ◌∙◌, ℕ, List, Ok, map, refl, ap, sym}
+use Rattle.std.specs.Borrow.{Bor}
+use Rattle.std.specs.Map.{keys_of}
+use Rattle.idl_event.specs.declared.key.Key.TheVariants as keys
+use Rattle.idl_workspace.specs.Edits.{Search, after, result_map, search_list}
+use Rattle.idl_workspace.specs.Project.{Inputs, Project, with_search}
+use Rattle.idl_workspace.specs.UpToDate.{State}
+use Rattle.idl_workspace.proofs.RootLemmas.{IsUpToDate-edited, work-edited}
+use Rattle.idl_workspace.proofs.session.Session.search.Goals as goal
+
+pub invariant_of-self : goal.invariant_of-self
+invariant_of-self c =
+    IsUpToDate-edited c.args.self.now c.self.inside.bank c.set_search.new.self c.self.inside.roots c.in_ok-renewed.renewed keys.Search keys.Search _ _ c.self.inside.work
+    c.self.view_is c.self.invariant c.in_ok-renewed.ensures refl refl c.set_search.ensures.bank
+
+searched : (project : Project) (given list : List (List ℕ)) (inputs : Inputs) (roots : List (List ℕ)) → search_list given ≡ Ok list
+    → inputs ≡ record project.inputs { search = list } → roots ≡ project.roots
+    → after project (Search given) ≡ Ok (record { inputs = inputs; roots = roots })
+searched project given list inputs roots allowed made same =
+    ap (result_map (with_search project)) allowed
+    ∙ ap (λ (inputs : Inputs). Ok (record { inputs = inputs; roots = project.roots })) (sym made)
+    ∙ ap (λ (roots : List (List ℕ)). Ok (record { inputs = inputs; roots = roots })) (sym same)
+
+pub returns : goal.returns
+returns c =
+    let project : Project = record { inputs = c.self.inside.bank; roots = keys_of c.self.inside.roots } in
+    let given : List (List ℕ) = map (λ (bytes : Bor (List ℕ)). bytes.now) c.args.list.now in
+    record {
+      project =
+          ap (λ (state : State). after state.project (Search given)) (sym c.self.view_is)
+          ∙ searched project given c.in_ok-list.list.items c.set_search.new.self (keys_of c.in_ok-renewed.renewed.0) c.in_ok-list.ensures.ok
+          (c.set_search.ensures.set ∙ ap (λ (list : List (List ℕ)). record project.inputs { search = list }) c.from_vec.ensures)
+          (c.in_ok-renewed.ensures.roots ∙ ap (λ (state : State). state.project.roots) (sym c.self.view_is));
+      kept = refl;
+      told =
+          work-edited c.args.self.now c.self.inside.bank c.set_search.new.self c.self.inside.roots c.in_ok-renewed.renewed keys.Search keys.Search _ _ c.self.inside.work
+          c.self.view_is c.in_ok-renewed.ensures refl refl c.set_search.ensures.bank;
+    }

@@ -1,0 +1,116 @@
+//! What is kept of a root.
+
+ghost use Rattle.std.specs.Prelude.{◌≡◌, ◌+◌, ◌<◌, IfOk, OnOk, length};
+ghost use Rattle.std.specs.Option.{option_copied, option_eq};
+ghost use Rattle.std.specs.Str.{bytes_eq};
+ghost use Rattle.idl_event.specs.Key.{key_eq};
+ghost use Rattle.idl_memo.specs.Cause.{IsCause, changed};
+ghost use Rattle.idl_memo.specs.Fresh.{compared_at, stale_at};
+ghost use Rattle.idl_memo.specs.Meter.{compared_after, most_compared};
+ghost use Rattle.idl_prep.specs.Root.{expansion};
+ghost use Rattle.idl_workspace.specs.Bank.{bank_of};
+ghost use Rattle.idl_workspace.specs.UpToDate.{IsKept};
+ghost use Rattle.idl_workspace.specs.Work.{answer_eq};
+
+use crate::bank::SessionBank;
+use crate::compile::{CompiledRoot, KeptExpansion, compile};
+use idl_event::{Key, RootBank};
+use idl_memo::{Edited, Meter, run_anew};
+use idl_prep::RootTask;
+use idl_source::Name;
+use std::alloc::{AllocError, Global};
+use std::rc::Rc;
+
+/// What is kept of a root: the result of its task, and what the root compiles to.
+pub struct KeptRoot {
+    result: Rc<KeptExpansion>,
+    compiled: Rc<CompiledRoot>,
+}
+
+impl Drop for KeptRoot {
+    fn drop(self) {
+        let KeptRoot {
+            result: _result,
+            compiled: _compiled,
+        } = self;
+    }
+}
+
+impl KeptRoot {
+    /// What comes of the root of this name over a bank: it is expanded and compiled anew.
+    ///
+    /// After want of memory nothing is said of the meter.
+    pub fn anew<B: RootBank>(
+        alloc: Global,
+        root: Name,
+        bank: &B,
+        meter: &mut Meter,
+    ) -> Result<KeptRoot, AllocError>
+        requires room { meter.old.expanded < most_compared }
+        ensures kept { IfOk result (λ kept. IsKept (B.at bank.now) (root, kept)) }
+        ensures count { let expanded = meter.old.expanded + 1 in
+            OnOk result (meter.new ≡ record meter.old { expanded = expanded }) }
+    {
+        let task = RootTask::new(root);
+        let result = run_anew(alloc, &task, bank, meter)?;
+        let compiled = compile(alloc, bank, &result)?;
+        Ok(KeptRoot {
+            result,
+            compiled: Rc::new(alloc, compiled)?,
+        })
+    }
+
+    /// What is kept of the root after an edit of the bank that has this cause: the same where its result holds still, and
+    /// else what comes of the root anew.
+    ///
+    /// After want of memory nothing is said of the meter.
+    pub fn renewed<'a>(
+        &self,
+        alloc: Global,
+        edited: &Edited<'a, SessionBank>,
+        cause: Option<&Key>,
+        meter: &mut Meter,
+    ) -> Result<KeptRoot, AllocError>
+        requires kept { let before = bank_of edited.now.base.now in
+            IsKept before (self.now.result.value.text, self.now) }
+        requires cause { let before = bank_of edited.now.base.now in
+            let after = changed key_eq before edited.now.key.now (option_copied edited.now.answer) in
+            IsCause before after (option_copied cause) }
+        requires room { meter.old.expanded < most_compared }
+        ensures kept { let before = bank_of edited.now.base.now in
+            let after = changed key_eq before edited.now.key.now (option_copied edited.now.answer) in
+            IfOk result (λ kept. IsKept after (self.now.result.value.text, kept)) }
+        ensures counts { let before = bank_of edited.now.base.now in
+            let after = changed key_eq before edited.now.key.now (option_copied edited.now.answer) in
+            let name = self.now.result.value.text in
+            let stale = stale_at bytes_eq (option_eq answer_eq) expansion before after name in
+            let compared = compared_at bytes_eq (option_eq answer_eq) expansion key_eq before after name in
+            OnOk result (meter.new ≡ record meter.old {
+              expanded = meter.old.expanded + stale;
+              compared = compared_after meter.old.compared compared;
+            }) }
+    {
+        if self.result.holds_after(cause, meter) {
+            return Ok(KeptRoot {
+                result: self.result.clone()?,
+                compiled: self.compiled.clone()?,
+            });
+        }
+        let root = self.result.text().copied();
+        Ok(KeptRoot::anew(alloc, root, edited, meter)?)
+    }
+
+    /// What the root compiles to.
+    pub fn compiled(&self) -> &CompiledRoot
+        ensures { result.now ≡ self.now.compiled.value }
+    {
+        &self.compiled
+    }
+
+    /// How many keys the root asked.
+    pub fn key_count(&self) -> usize
+        ensures { result ≡ length self.now.result.value.log }
+    {
+        self.result.log().len()
+    }
+}
