@@ -1,10 +1,30 @@
 -- How a walk is kept, and one site of it.
 use Rattle.std.specs.Prelude.{ℕ, ◌+◌, ◌≤◌, List}
+use Rattle.idl_check.specs.Declaring.{Written}
+use Rattle.idl_check.specs.Values.{Values}
 use Rattle.idl_check.specs.Walk.{Walk, noted_in, visit}
+use Rattle.idl_check.specs.declared.declaring.Written.{Written as LastWritten}
+use Rattle.idl_check.specs.declared.values.Values.{Values as ToldValues}
 use Rattle.idl_check.specs.declared.walk.Walker.{Walker}
 use Rattle.idl_memo.specs.Query.{Done, and_then}
 use Rattle.idl_scope.specs.Lookup.{Lookup}
 use Rattle.idl_site.specs.Item.{Item, items_length}
+
+abbrev pub held_values : ToldValues → Values
+held_values values = record {
+  begin = values.begin;
+  operands = values.operands.items;
+  told = values.told.items;
+  bound = values.bound;
+  constant = values.constant;
+}
+
+abbrev pub held_written : LastWritten → Written
+held_written written = record {
+  meaning = written.meaning;
+  enumeration = written.enumeration;
+  enumerators = written.enumerators;
+}
 
 abbrev pub held : Walker → Walk
 held w = record {
@@ -13,9 +33,13 @@ held w = record {
   own = w.own.additions;
   begun = w.begun.items;
   bases = w.bases;
+  written = held_written w.written;
+  alias = w.alias;
+  unions = w.unions.items;
+  gives_back = w.gives_back;
   found = w.found.items;
+  values = held_values w.values;
   fault = w.fault;
-  in_value = w.in_value;
 }
 
 -- a site, whose first fault is noted
