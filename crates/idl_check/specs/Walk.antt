@@ -37,6 +37,7 @@ use Rattle.idl_tree.specs.declared.name.ScopedName.{ScopedName}
 use Rattle.idl_unit.specs.Faults.{least_fault}
 use Rattle.idl_unit.specs.TokenRules.{fault_at, first}
 use Rattle.idl_unit.specs.declared.fault.Fault.{Fault}
+use Rattle.idl_value.specs.Evaluation.{ahead}
 use Rattle.idl_value.specs.Target.{discriminates, target_of}
 use Rattle.idl_value.specs.declared.outcome.Outcome.{Outcome}
 use Rattle.idl_value.specs.declared.outcome.Outcome.TheVariants as outcome
@@ -251,7 +252,7 @@ value_visit w way (outcome.Value v) = record {
   after = record (valued_after w way v) { values = with_value way v w.values };
 }
 value_visit w way (outcome.Fault f) = record {
-  faults = fault_at (begin_of w + f.token) (code_of f.code) ∷ [];
+  faults = fault_at (ahead (begin_of w) f.token) (code_of f.code) ∷ [];
   after = record w { values = record w.values { begin = None } };
 }
 value_visit w way outcome.Told =
@@ -298,7 +299,8 @@ visit turns item.Default w =
 visit turns item.GivesBack w = Done (quiet (record w { gives_back = true }))
 visit turns (item.Tokens n) w =
     Done (faulty_if w.gives_back code.BadOneway w (passed n w))
-visit turns (item.Joined text) w = Done (quiet (passed (item_length (item.Joined text)) w))
+visit turns (item.Joined text) w =
+    Done (faulty_if w.gives_back code.BadOneway w (passed (item_length (item.Joined text)) w))
 
 -- after a site: the least of its faults and of the one before
 abbrev pub noted : Option Fault → List Fault → Option Fault

@@ -2,7 +2,7 @@
 
 ghost use Rattle.std.specs.Prelude.{◌≡◌, ◌≤◌, ◌+◌, ◌∷◌, ◌++◌, [], ℕ, IfOk, OnOk, Ok, Err, length, if◌then◌else◌};
 ghost use Rattle.idl_check.specs.Declaring.{with_declared};
-ghost use Rattle.idl_check.specs.Held.{HasRoomFor, held, visited};
+ghost use Rattle.idl_check.specs.Held.{HasRoomFor, head_noted, held, used_noted, visited};
 ghost use Rattle.idl_check.specs.Using.{bases_after, last_at};
 ghost use Rattle.idl_check.specs.Walk.{declared_visit, noted_in, unfound_visit, used_visit};
 ghost use Rattle.idl_memo.specs.Query.{run};
@@ -122,7 +122,15 @@ impl<'a> Walker<'a> {
 
     // The name of a type that a oneway operation gives back, of which its first token alone is
     // looked at.
-    fn use_head(&mut self, log: &mut Log<Env>, name: &ScopedName) -> Result<(), AllocError> {
+    #[tactic(auto, unfolding(crate::specs::Walk::given_back))]
+    fn use_head(&mut self, log: &mut Log<Env>, name: &ScopedName) -> Result<(), AllocError>
+        requires room { last_at self.old.at name.now + 1 ≤ 18446744073709551615 }
+        ensures run { OnOk result ((turns : ℕ) → TURNS ≤ turns →
+            (held self.new, log.new)
+            ≡ run key_eq (head_noted turns name.now (held self.old))
+            (answers self.old.env.now) log.old) }
+        ensures env { OnOk result (self.new.env.now ≡ self.old.env.now) }
+    {
         let at = self.at;
         self.at += name_length(name);
         self.gives_back = false;
@@ -160,7 +168,15 @@ impl<'a> Walker<'a> {
         log: &mut Log<Env>,
         way: Use,
         name: &ScopedName,
-    ) -> Result<(), AllocError> {
+    ) -> Result<(), AllocError>
+        requires room { last_at self.old.at name.now + 1 ≤ 18446744073709551615 }
+        ensures run { OnOk result ((turns : ℕ) → TURNS ≤ turns →
+            (held self.new, log.new)
+            ≡ run key_eq (used_noted turns way name.now (held self.old))
+            (answers self.old.env.now) log.old) }
+        ensures at { OnOk result (self.new.at ≡ last_at self.old.at name.now + 1) }
+        ensures env { OnOk result (self.new.env.now ≡ self.old.env.now) }
+    {
         let place = Standpoint {
             own: &self.own,
             cursor: self.cursor.as_slice(),

@@ -2,11 +2,12 @@
 
 ghost use Rattle.std.specs.Prelude.{◌≡◌, IfOk};
 ghost use Rattle.std.specs.Option.{option_copied};
-ghost use Rattle.idl_check.specs.Types.{constants_of, is_incomplete, looked_through, may_switch, meaning_of, path_in, string_of, written_as};
+ghost use Rattle.idl_check.specs.Types.{behind_typedefs, constants_of, is_incomplete, looked_through, may_switch, meaning_of, path_in, string_of, written_as};
 ghost use Rattle.idl_memo.specs.Query.{run};
 ghost use Rattle.idl_scope.specs.Facts.{answers};
 ghost use Rattle.idl_scope.specs.Key.{key_eq};
 ghost use Rattle.idl_scope.specs.Lookup.{under};
+ghost use Rattle.idl_scope.specs.declared.lookup.TheConstants.{TURNS};
 
 use idl_base::Seq;
 use idl_lex::Spelling;
@@ -50,7 +51,12 @@ fn behind_typedefs(
     view: View<'_>,
     log: &mut Log<Env>,
     entity: &Shared<Entity>,
-) -> Result<Shared<Entity>, AllocError> {
+) -> Result<Shared<Entity>, AllocError>
+    ensures { IfOk result (λ behind.
+        (behind, log.new)
+        ≡ run key_eq (under view.entry.own.now.additions (behind_typedefs TURNS entity.now))
+        (answers view.entry.env.now) log.old) }
+{
     let mut behind = entity.clone()?;
     for _turn in 0..TURNS {
         let Some(path) = path_in(behind.get()) else {

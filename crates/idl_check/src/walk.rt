@@ -1,15 +1,18 @@
 //! The walk over the sites of a unit.
 
-ghost use Rattle.std.specs.Prelude.{◌≡◌, ◌≤◌, ◌+◌, ◌∷◌, [], ℕ, IfOk, OnOk, List, drop, map, true};
+ghost use Rattle.std.specs.Prelude.{◌≡◌, ◌≤◌, ◌+◌, ◌∷◌, [], ℕ, IfOk, OnOk, drop, map, option_to_list, take, true};
 ghost use Rattle.idl_check.specs.Declaring.{with_finished};
 ghost use Rattle.idl_check.specs.Held.{HasRoomFor, held, visited};
-ghost use Rattle.idl_check.specs.Walk.{first_walk, is_over, noted, noted_in, scope_visit, walk, with_scope};
+ghost use Rattle.idl_check.specs.Walk.{faulty_if, first_walk, is_over, noted, noted_in, passed, scope_visit, walk, with_scope};
+ghost use Rattle.idl_check.specs.Labels.{is_idle};
+ghost use Rattle.idl_event.specs.declared.code.Code.TheVariants.{BadOneway, UselessDefault};
+ghost use Rattle.std.specs.List.{list_any};
 ghost use Rattle.idl_memo.specs.Query.{run};
 ghost use Rattle.idl_scope.specs.Facts.{answers};
 ghost use Rattle.idl_scope.specs.Key.{key_eq};
 ghost use Rattle.idl_scope.specs.declared.lookup.TheConstants.{TURNS};
 ghost use Rattle.idl_site.specs.Item.{item_at, item_length, items_length};
-ghost use Rattle.idl_unit.specs.TokenRules.{fault_at, first};
+ghost use Rattle.idl_unit.specs.TokenRules.{fault_at};
 
 use crate::bases::Bases;
 use crate::codes::lesser;
@@ -124,11 +127,12 @@ impl<'a> Walker<'a> {
         self.fault.is_some() && self.values.begin.is_none()
     }
 
-    /// Notes the first of the faults of a token, unless one before it was noted.
+    /// Notes a fault of a token, unless a lesser one was noted.
     pub fn note(&mut self, index: usize, code: Option<Code>)
-        ensures { (codes : List Code) → code ≡ first codes
-            → self.new
-            ≡ record self.old { fault = noted self.old.fault (map (fault_at index) codes) } }
+        ensures { self.new
+            ≡ record self.old {
+              fault = noted self.old.fault (map (fault_at index) (option_to_list code));
+            } }
     {
         let Some(code) = code else {
             return;
@@ -171,6 +175,12 @@ impl<'a> Walker<'a> {
     // So many tokens.
     fn pass(&mut self, count: usize) -> Result<(), AllocError>
         requires { self.old.at + count ≤ 18446744073709551615 }
+        ensures visit { held self.new
+            ≡ noted_in
+            (faulty_if self.old.gives_back BadOneway (held self.old)
+            (passed count (held self.old))) self.old.fault }
+        ensures at { self.new.at ≡ self.old.at + count }
+        ensures env { self.new.env.now ≡ self.old.env.now }
     {
         if self.gives_back {
             self.note(self.at, Some(Code::BadOneway));
@@ -223,7 +233,10 @@ impl<'a> Walker<'a> {
 
     // It ends: it is a type from then on. The labels of a union are complete.
     fn end_scope(&mut self) -> Result<(), AllocError>
-        ensures env { self.new.env.now ≡ self.old.env.now }
+        ensures visit { OnOk result
+            (held self.new ≡ noted_in (scope_visit (held self.old)) self.old.fault) }
+        ensures at { OnOk result (self.new.at ≡ self.old.at) }
+        ensures env { OnOk result (self.new.env.now ≡ self.old.env.now) }
     {
         let Some(innermost) = self.cursor.first() else {
             return Ok(());
@@ -239,6 +252,12 @@ impl<'a> Walker<'a> {
 
     // The labels of the innermost union are complete.
     fn end_union(&mut self)
+        ensures visit { held self.new
+            ≡ noted_in
+            (faulty_if (list_any is_idle (take 1 self.old.unions.items)) UselessDefault
+            (held self.old)
+            (record (held self.old) { unions = drop 1 self.old.unions.items })) self.old.fault }
+        ensures cursor { self.new.cursor ≡ self.old.cursor }
         ensures env { self.new.env.now ≡ self.old.env.now }
     {
         if self.unions.is_empty() {
