@@ -8,7 +8,7 @@ use Rattle.idl_lex.specs.Keywords.{folded}
 use Rattle.idl_scope.specs.Facts.{answers}
 use Rattle.idl_scope.specs.Lookup.{under}
 use Rattle.idl_unit.specs.TokenRules.{first}
-use Rattle.idl_check.proofs.walk.Walker.declare.Goals as goal
+use Rattle.idl_check.proofs.naming.Walker.declare.Goals as goal
 
 pub returns-clause-visited : goal.returns-clause-visited
 returns-clause-visited c = λ turns more.
