@@ -20,8 +20,8 @@ mod standing;
 mod task;
 mod types;
 mod using;
-mod valuing;
 mod values;
+mod valuing;
 mod verdict;
 mod walk;
 

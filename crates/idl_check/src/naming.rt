@@ -163,12 +163,7 @@ impl<'a> Walker<'a> {
     }
 
     // A used name that isn't given back by a oneway operation.
-    fn use_any(
-        &mut self,
-        log: &mut Log<Env>,
-        way: Use,
-        name: &ScopedName,
-    ) -> Result<(), AllocError>
+    fn use_any(&mut self, log: &mut Log<Env>, way: Use, name: &ScopedName) -> Result<(), AllocError>
         requires room { last_at self.old.at name.now + 1 ≤ 18446744073709551615 }
         ensures run { OnOk result ((turns : ℕ) → TURNS ≤ turns →
             (held self.new, log.new)

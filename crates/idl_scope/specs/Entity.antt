@@ -62,7 +62,7 @@ same_entity e f h =
     let meaning = same_option meaning_eq same_meaning e.meaning f.meaning k.0 in
     let value = same_option value_eq same_value e.value f.value l.0 in
     let enumerators =
-        same_list bytes_eq (λ m n. (bytes_decides m n).0) e.enumerators f.enumerators l.1
+    same_list bytes_eq (λ m n. (bytes_decides m n).0) e.enumerators f.enumerators l.1
     in
     λ i. record {
       path = path i;
