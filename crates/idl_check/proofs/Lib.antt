@@ -1,8 +1,10 @@
 mod JudgeLemmas
 mod NameLemmas
+mod NotedLemmas
 mod PartLemmas
 mod RowLemmas
 mod StandingLemmas
+mod TypeLemmas
 mod VisitLemmas
 pub mod FaultOrder
 pub mod SiteLaws

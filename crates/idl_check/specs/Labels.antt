@@ -25,14 +25,18 @@ no_labels target enumerators = record {
 }
 
 -- a value is labelled already
+abbrev pub is_among : List Value → Value → Bool
+is_among values v = list_any (value_eq v) values
+
 abbrev pub is_labelled : Labels → Value → Bool
-is_labelled labels v = list_any (value_eq v) labels.values
+is_labelled labels v = is_among labels.values v
 
 -- with a label more
+abbrev pub with_one : List Value → Value → List Value
+with_one values v = if is_among values v then values else values ++ v ∷ []
+
 abbrev pub with_label : Labels → Value → Labels
-with_label labels v =
-    if is_labelled labels v then labels
-    else record labels { values = labels.values ++ v ∷ [] }
+with_label labels v = record labels { values = with_one labels.values v }
 
 abbrev pub with_default : Labels → Labels
 with_default labels = record labels { has_default = true }
@@ -45,5 +49,7 @@ count_of labels =
 -- there is a `default`, though all values are labelled
 abbrev pub is_idle : Labels → Bool
 is_idle labels =
-    labels.has_default && elim (count_of labels)
-    [ None ↦ false | Some n ↦ int_eq (pos (length labels.values)) n ]
+    elim (count_of labels) [
+      | None ↦ false
+      | Some n ↦ labels.has_default && int_eq (pos (length labels.values)) n
+    ]

@@ -1,9 +1,9 @@
 //! The labels of a union.
 
-ghost use Rattle.std.specs.Prelude.{◌≡◌, IfOk, OnOk};
+ghost use Rattle.std.specs.Prelude.{◌≡◌, IfOk, OnOk, length, pos};
 ghost use Rattle.std.specs.Option.{option_copied};
 ghost use Rattle.std.specs.Map.{keys_of};
-ghost use Rattle.idl_check.specs.Labels.{count_of, is_idle, is_labelled, no_labels, with_default, with_label};
+ghost use Rattle.idl_check.specs.Labels.{count_of, is_among, is_idle, is_labelled, no_labels, with_default, with_label, with_one};
 
 use idl_base::Table;
 use idl_value::{Target, Value};
@@ -69,18 +69,14 @@ impl Labels {
     pub fn is_labelled(&self, value: &Value) -> bool
         ensures { result ≡ is_labelled self.now value.now }
     {
-        self.values.contains(value)
+        is_among(&self.values, value)
     }
 
     /// A label more.
     pub fn add(&mut self, value: &Value) -> Result<(), AllocError>
         ensures { OnOk result (self.new ≡ with_label self.old value.now) }
     {
-        if self.values.contains(value) {
-            return Ok(());
-        }
-        self.values.insert(value.clone()?, ())?;
-        Ok(())
+        add_one(&mut self.values, value)
     }
 
     /// Whether there is a `default`.
@@ -101,7 +97,10 @@ impl Labels {
     pub fn is_idle(&self) -> bool
         ensures { result ≡ is_idle self.now }
     {
-        self.has_default && self.count() == Some(self.values.len() as i128)
+        match self.count() {
+            Some(count) => self.has_default && self.labelled() == count,
+            None => false,
+        }
     }
 
     // How many values there are to be labelled.
@@ -113,4 +112,29 @@ impl Labels {
             None => None,
         }
     }
+
+    // How many of them are.
+    fn labelled(&self) -> i128
+        ensures { result ≡ pos (length self.now.values) }
+    {
+        self.values.len() as i128
+    }
+}
+
+// Whether a value is in a table.
+fn is_among(values: &Table<Value, ()>, value: &Value) -> bool
+    ensures { result ≡ is_among (keys_of values.now) value.now }
+{
+    values.contains(value)
+}
+
+// A value more, unless it is there.
+fn add_one(values: &mut Table<Value, ()>, value: &Value) -> Result<(), AllocError>
+    ensures { OnOk result (keys_of values.new ≡ with_one (keys_of values.old) value.now) }
+{
+    if values.contains(value) {
+        return Ok(());
+    }
+    values.push(value.clone()?, ())?;
+    Ok(())
 }

@@ -1,19 +1,20 @@
 //! The walk over declared and used names.
 
-ghost use Rattle.std.specs.Prelude.{◌≡◌, ◌≤◌, ◌+◌, ◌∷◌, ◌++◌, [], ℕ, IfOk, OnOk, Ok, Err, length, if◌then◌else◌};
+ghost use Rattle.std.specs.Prelude.{◌≡◌, ◌≤◌, ◌+◌, ◌∷◌, ◌++◌, [], ℕ, IfOk, None, OnOk, Some, false, length, if◌then◌else◌};
 ghost use Rattle.idl_check.specs.Declaring.{with_declared};
-ghost use Rattle.idl_check.specs.Held.{HasRoomFor, head_noted, held, used_noted, visited};
-ghost use Rattle.idl_check.specs.Using.{bases_after, last_at};
-ghost use Rattle.idl_check.specs.Walk.{declared_visit, noted_in, unfound_visit, used_visit};
+ghost use Rattle.idl_check.specs.Held.{HasRoomFor, head_noted, held, held_values, used_noted, visited};
+ghost use Rattle.idl_check.specs.Using.{last_at, name_code, part_at, values_after};
+ghost use Rattle.idl_check.specs.Walk.{declared_visit, noted, noted_in, unions_without, used_visit};
 ghost use Rattle.idl_memo.specs.Query.{run};
 ghost use Rattle.idl_scope.specs.Facts.{answers};
 ghost use Rattle.idl_scope.specs.Key.{key_eq};
-ghost use Rattle.idl_scope.specs.Kind.{stage_eq};
+ghost use Rattle.idl_scope.specs.Kind.{kind_eq, stage_eq};
+ghost use Rattle.idl_scope.specs.declared.kind.Kind.TheVariants.{Alias};
 ghost use Rattle.idl_scope.specs.declared.kind.Stage.TheVariants.{Begun};
-ghost use Rattle.idl_scope.specs.declared.fault.NameFault.TheVariants.{At};
 ghost use Rattle.idl_scope.specs.declared.lookup.TheConstants.{TURNS};
 ghost use Rattle.idl_site.specs.Item.{item_length};
 ghost use Rattle.idl_site.specs.Item.{Item as item};
+ghost use Rattle.idl_unit.specs.TokenRules.{fault_at};
 
 use crate::bases::Bases;
 use crate::declaring::{declared_code, stays};
@@ -193,7 +194,14 @@ impl<'a> Walker<'a> {
     fn use_nothing(&mut self, name: &ScopedName, code: NameCode, part: usize)
         requires room { last_at self.old.at name.now + 1 ≤ 18446744073709551615 }
         requires part { part ≤ length name.now.rest }
-        ensures env { self.new.env.now ≡ self.old.env.now }
+        ensures walk { self.new
+            ≡ record self.old {
+              at = last_at self.old.at name.now + 1;
+              gives_back = false;
+              fault =
+                  noted self.old.fault
+                  (fault_at (part_at self.old.at name.now part) (name_code code) ∷ []);
+            } }
     {
         self.note(part_at(self.at, name, part), Some(name_code(code)));
         self.at = last_at(self.at, name) + 1;
@@ -202,6 +210,12 @@ impl<'a> Walker<'a> {
 
     // An operand without a value, or a discriminator of no type.
     fn follow_nothing(&mut self, way: Use) -> Result<(), AllocError>
+        ensures walk { OnOk result
+            (held self.new
+            ≡ record (held self.old) {
+              unions = unions_without way self.old.unions.items;
+              values = values_after way None (held_values self.old.values);
+            }) }
         ensures env { OnOk result (self.new.env.now ≡ self.old.env.now) }
     {
         match way {
@@ -284,7 +298,10 @@ fn keep_begun(begun: &mut Vec<Shared<Entity>>, entity: &Shared<Entity>) -> Resul
 fn keep_alias(
     alias: &mut Option<Shared<Entity>>,
     entity: &Shared<Entity>,
-) -> Result<(), AllocError> {
+) -> Result<(), AllocError>
+    ensures { OnOk result
+        (alias.new ≡ (if kind_eq entity.now.kind Alias then Some entity.now else alias.old)) }
+{
     if entity.get().kind == Kind::Alias {
         *alias = Some(entity.clone()?);
     }

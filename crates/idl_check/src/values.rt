@@ -103,17 +103,23 @@ impl Values {
     }
 
     /// It is for this, and has this value.
+    #[tactic(auto, using(idl_value::specs::Exact::copied_value))]
     pub fn end_with(&mut self, way: Purpose, value: &Value) -> Result<(), AllocError>
         ensures { OnOk result (held_values self.new ≡ with_value way value.now (held_values self.old)) }
     {
         self.begin = None;
-        match way {
-            Purpose::Bound => self.bound = number_of(value),
-            Purpose::Constant => self.constant = Some(value.clone()?),
-            Purpose::Length | Purpose::Label => {}
-        }
         self.told.push(value.clone()?)?;
-        Ok(())
+        match way {
+            Purpose::Bound => {
+                self.bound = number_of(value);
+                Ok(())
+            }
+            Purpose::Constant => {
+                self.constant = Some(value.clone()?);
+                Ok(())
+            }
+            Purpose::Length | Purpose::Label => Ok(()),
+        }
     }
 }
 

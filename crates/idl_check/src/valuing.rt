@@ -215,11 +215,13 @@ impl<'a> Walker<'a> {
         ensures env { OnOk result (self.new.env.now ≡ self.old.env.now) }
     {
         let target = Target::of_keywords(discrete);
-        if !target.discriminates() {
-            self.note(self.at, Some(Code::BadDiscriminator));
-        }
+        let discriminates = target.discriminates();
         let labels = Labels::new(self.env.alloc(), Some(target), 0);
         self.unions.insert(0, labels)?;
+        if discriminates {
+            return Ok(());
+        }
+        self.note(self.at, Some(Code::BadDiscriminator));
         Ok(())
     }
 
@@ -242,6 +244,7 @@ impl<'a> Walker<'a> {
         labels.add_default();
         if is_repeated {
             self.note(self.at, Some(Code::RepeatedLabel));
+            return Ok(());
         }
         Ok(())
     }

@@ -1,6 +1,6 @@
 //! The walk over the sites of a unit.
 
-ghost use Rattle.std.specs.Prelude.{◌≡◌, ◌≤◌, ◌+◌, ◌∷◌, [], ℕ, IfOk, OnOk, drop, map, option_to_list, take, true};
+ghost use Rattle.std.specs.Prelude.{◌≡◌, ◌≤◌, ◌+◌, ◌∷◌, [], ℕ, IfOk, OnOk, Some, drop, map, option_to_list, take, true};
 ghost use Rattle.idl_check.specs.Declaring.{with_finished};
 ghost use Rattle.idl_check.specs.Held.{HasRoomFor, held, visited};
 ghost use Rattle.idl_check.specs.Walk.{faulty_if, first_walk, is_over, noted, noted_in, passed, scope_visit, walk, with_scope};
@@ -138,10 +138,7 @@ impl<'a> Walker<'a> {
             return;
         };
         let fault = Fault { index, code };
-        self.fault = Some(match self.fault {
-            Some(before) => lesser(before, fault),
-            None => fault,
-        });
+        self.fault = Some(least_of(self.fault, fault));
     }
 
     // A site.
@@ -182,11 +179,14 @@ impl<'a> Walker<'a> {
         ensures at { self.new.at ≡ self.old.at + count }
         ensures env { self.new.env.now ≡ self.old.env.now }
     {
-        if self.gives_back {
-            self.note(self.at, Some(Code::BadOneway));
-        }
+        let at = self.at;
+        let is_given_back = self.gives_back;
         self.at += count;
         self.gives_back = false;
+        if is_given_back {
+            self.note(at, Some(Code::BadOneway));
+            return Ok(());
+        }
         Ok(())
     }
 
@@ -242,31 +242,36 @@ impl<'a> Walker<'a> {
             return Ok(());
         };
         let path = innermost.path.clone()?;
-        if innermost.kind == Kind::Union {
-            self.end_union();
-        }
+        let is_union = innermost.kind == Kind::Union;
         self.written.meaning = Meaning::Named(path);
         leave(&mut self.cursor);
-        Ok(())
+        if is_union {
+            self.end_union()
+        } else {
+            Ok(())
+        }
     }
 
     // The labels of the innermost union are complete.
-    fn end_union(&mut self)
-        ensures visit { held self.new
+    fn end_union(&mut self) -> Result<(), AllocError>
+        ensures visit { OnOk result
+            (held self.new
             ≡ noted_in
             (faulty_if (list_any is_idle (take 1 self.old.unions.items)) UselessDefault
             (held self.old)
-            (record (held self.old) { unions = drop 1 self.old.unions.items })) self.old.fault }
-        ensures cursor { self.new.cursor ≡ self.old.cursor }
-        ensures env { self.new.env.now ≡ self.old.env.now }
+            (record (held self.old) { unions = drop 1 self.old.unions.items })) self.old.fault) }
+        ensures at { OnOk result (self.new.at ≡ self.old.at) }
+        ensures env { OnOk result (self.new.env.now ≡ self.old.env.now) }
     {
         if self.unions.is_empty() {
-            return;
+            return Ok(());
         }
         let labels = self.unions.remove(0);
         if labels.is_idle() {
             self.note(self.at, Some(Code::UselessDefault));
+            return Ok(());
         }
+        Ok(())
     }
 
     /// What a unit without fault adds, where it does this to the open scopes.
@@ -299,6 +304,16 @@ impl<'a> Walker<'a> {
         finish(alloc, &mut own, &bases, &values.constant, begun.as_slice())?;
         own.then(step);
         Ok(own)
+    }
+}
+
+// The least of a fault and of the one before, if there was one.
+fn least_of(before: Option<Fault>, fault: Fault) -> Fault
+    ensures { Some result ≡ noted before (fault ∷ []) }
+{
+    match before {
+        Some(before) => lesser(before, fault),
+        None => fault,
     }
 }
 

@@ -75,28 +75,3 @@ same_entity e f h =
       value = value i;
       enumerators = enumerators i;
     }
-
--- a copied entity is its source, by the copies of its parts
-abbrev pub IsEntityCopy : Entity → Entity → Type 0
-IsEntityCopy e copy =
-    (copy.path ≡ e.path)
-    × ((copy.kind ≡ e.kind)
-    × ((copy.is_local ≡ e.is_local)
-    × ((copy.stage ≡ e.stage)
-    × ((copy.bases ≡ e.bases)
-    × ((copy.operations ≡ e.operations)
-    × ((copy.meaning ≡ e.meaning)
-    × ((copy.value ≡ e.value) × (copy.enumerators ≡ e.enumerators))))))))
-
-pub copied_entity : (e copy : Entity) → IsEntityCopy e copy → copy ≡ e
-copied_entity e copy h = λ i. record {
-  path = h.0 i;
-  kind = h.1.0 i;
-  is_local = h.1.1.0 i;
-  stage = h.1.1.1.0 i;
-  bases = h.1.1.1.1.0 i;
-  operations = h.1.1.1.1.1.0 i;
-  meaning = h.1.1.1.1.1.1.0 i;
-  value = h.1.1.1.1.1.1.1.0 i;
-  enumerators = h.1.1.1.1.1.1.1.1 i;
-}

@@ -52,7 +52,7 @@ impl Datum for Meaning {
 }
 
 /// What is known of a declared name, beside places and ids.
-#[derive(Clone, PartialEq, Eq)]
+#[derive(PartialEq, Eq)]
 pub struct Entity {
     /// Its name as it is spelled, in the scope in which it is declared.
     pub path: Path,
@@ -89,12 +89,36 @@ impl Drop for Entity {
     }
 }
 
+impl Clone for Entity {
+    ghost is_clone = { λ entity copy. copy ≡ entity };
+
+    fn clone(&self) -> Result<Entity, AllocError> {
+        let path = self.path.clone()?;
+        let bases = self.bases.clone()?;
+        let operations = self.operations.clone()?;
+        let meaning = self.meaning.clone()?;
+        let value = self.value.clone()?;
+        let enumerators = self.enumerators.clone()?;
+        Ok(Entity {
+            path,
+            kind: self.kind,
+            is_local: self.is_local,
+            stage: self.stage,
+            bases,
+            operations,
+            meaning,
+            value,
+            enumerators,
+        })
+    }
+}
+
 impl Datum for Entity {
-    ghost use Rattle.idl_scope.specs.Entity.{same_entity, copied_entity};
+    ghost use Rattle.idl_scope.specs.Entity.{same_entity};
 
     ghost same = { same_entity };
 
-    ghost copy = { copied_entity };
+    ghost copy = { λ x y h. h };
 }
 
 impl Entity {

@@ -8,7 +8,7 @@ use Rattle.idl_scope.specs.Facts.{answers}
 use Rattle.idl_scope.specs.Lookup.{denoted, under}
 use Rattle.idl_scope.specs.declared.fault.NameFault.TheVariants.{At}
 use Rattle.idl_scope.specs.declared.lookup.TheConstants.{TURNS}
-use Rattle.idl_check.proofs.naming.Walker.use_name.Goals as goal
+use Rattle.idl_check.proofs.walk.Walker.use_name.Goals as goal
 
 pub use_as-requires : goal.use_as-requires
 use_as-requires c =

@@ -2,7 +2,7 @@ use Rattle.std.proofs.Common.{◌≡◌, ◌+◌, ◌∷◌, [], ap, ◌∙◌, 
 use Rattle.idl_check.specs.Using.{last_at}
 use Rattle.idl_check.specs.Walk.{first_fault}
 use Rattle.idl_unit.specs.TokenRules.{fault_at}
-use Rattle.idl_check.proofs.naming.Walker.use_nothing.Goals as goal
+use Rattle.idl_check.proofs.walk.Walker.use_nothing.Goals as goal
 
 pub last_at-requires : goal.last_at-requires
 last_at-requires c =
