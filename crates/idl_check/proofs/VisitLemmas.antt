@@ -3,11 +3,10 @@ use Rattle.std.proofs.Common.{◌≡◌, ◌∙◌, ℕ, true, false, cond, List
 use Rattle.std.specs.Prelude.{◌+◌, Bool, OnOk, length, slice_get}
 use Rattle.idl_memo.specs.Query.{Done, and_then, run}
 use Rattle.idl_memo.proofs.QueryLaws.{run-and_then, run-and_then_at}
-use Rattle.idl_check.specs.Held.{head_noted, used_noted, visited}
+use Rattle.idl_check.specs.Held.{given_noted, head_noted, used_noted, visited}
 use Rattle.idl_check.specs.Declaring.{entity_of, standing}
 use Rattle.idl_check.specs.Types.{looked_through}
-use Rattle.idl_check.specs.Using.{last_at}
-use Rattle.idl_check.specs.Walk.{Visit, Walk, declared_visit, faulty_if, given_back, given_by_head, head_faults, is_over, noted_in, passed, quiet, unfound_visit, used, used_visit, visit, walk, with_oneway}
+use Rattle.idl_check.specs.Walk.{Visit, Walk, past_name, declared_visit, faulty_if, given_back, head_of, head_visit, is_over, noted_in, passed, quiet, unfound_visit, used, used_visit, visit, walk, with_oneway}
 use Rattle.idl_check.specs.declared.standing.Standing.{Standing}
 use Rattle.idl_event.specs.declared.code.Code.TheVariants.{BadOneway}
 use Rattle.idl_lex.specs.Keywords.{folded}
@@ -132,59 +131,42 @@ module _ (bank : Key → Option Answer) where
       ∙ (λ i. (noted_in-one_way at (g r.0) fault i, r.1))
       ∙ ap (λ (p : Walk × List (Key × Option Answer)). (one_way at p.0, p.1)) (sym (h ∙ run-and_then key_eq q (λ x. Done (noted_in (g x) fault)) bank log))
 
-  abbrev given : Bool → ℕ → Use → ScopedName → Walk → Lookup Walk
-  given b turns way name w = and_then (cond b (given_back turns way name w) (used turns way name w)) (λ v. Done (noted_in v w.fault))
+  abbrev given_visit : ℕ → Use → ScopedName → Walk → Bool → List (List ℕ) → Lookup Visit
+  given_visit turns way name w is_global parts =
+      cond is_global (Done (with_oneway w.at (quiet (past_name name w)))) (elim parts [
+        | [] ↦ and_then (used turns way name w) (λ v. Done (with_oneway w.at v))
+        | part ∷ parts ↦ and_then (under w.own (denoted turns w.cursor (head_of name)))
+            (λ r. Done (with_oneway w.at (head_visit name w r)))
+      ])
 
-  -- what is given back is a name of one part
-  pub named_given : (turns : ℕ) (way : Use) (name : ScopedName) (w : Walk) (log : List (Key × Option Answer)) (next : Walk) (after : List (Key × Option Answer))
-      → w.gives_back ≡ true → name.is_global ≡ false → name.rest ≡ [] → (next, after) ≡ runs_over (used_noted turns way name w) log
+  abbrev given_walk : ℕ → Use → ScopedName → Walk → Bool → List (List ℕ) → Lookup Walk
+  given_walk turns way name w is_global parts =
+      cond is_global (Done (past_name name w)) (elim parts
+      [ [] ↦ used_noted turns way name w | part ∷ parts ↦ head_noted turns name w ])
+
+  given_same : (turns : ℕ) (way : Use) (name : ScopedName) (w : Walk) (is_global : Bool) (parts : List (List ℕ)) (log : List (Key × Option Answer)) (next : Walk) (after : List (Key × Option Answer))
+      → (next, after) ≡ runs_over (given_walk turns way name w is_global parts) log
+      → runs_over (and_then (given_visit turns way name w is_global parts) (λ v. Done (noted_in v w.fault))) log ≡ (one_way w.at next, after)
+  given_same turns way name w true parts log next after h = ap (λ (p : Walk × List (Key × Option Answer)). (one_way w.at p.0, p.1)) (sym h)
+  given_same turns way name w false [] log next after h = one_way_by (used turns way name w) (λ v. v) w.at w.fault log next after h
+  given_same turns way name w false (part ∷ parts) log next after h =
+      one_way_by (under w.own (denoted turns w.cursor (head_of name))) (head_visit name w) w.at w.fault log next after h
+
+  -- a name that is given back
+  pub given_by : (turns : ℕ) (way : Use) (name : ScopedName) (w : Walk) (log : List (Key × Option Answer)) (next : Walk) (after : List (Key × Option Answer))
+      → w.gives_back ≡ true → (next, after) ≡ runs_over (given_noted turns way name w) log
       → runs_over (visited turns (item.Used way name) w) log ≡ (one_way w.at next, after)
   unfolding visit given_back
-  named_given turns way name w log next after gives is_local alone h =
-      ap (λ b. runs_over (given b turns way name w) log) gives
-      ∙ ap (λ b. runs_over (and_then (cond b (Done (with_oneway w.at (quiet (passed (last_at 0 name + 1) w)))) (elim name.rest [
-        | [] ↦ and_then (used turns way name w) (λ v. Done (with_oneway w.at v))
-        | part ∷ parts ↦ given_by_head turns name w
-      ])) (λ v. Done (noted_in v w.fault))) log) is_local
-      ∙ ap (λ (parts : List (List ℕ)). runs_over (and_then (elim parts [
-        | [] ↦ and_then (used turns way name w) (λ v. Done (with_oneway w.at v))
-        | part ∷ parts ↦ given_by_head turns name w
-      ]) (λ v. Done (noted_in v w.fault))) log) alone
-      ∙ one_way_by (used turns way name w) (λ v. v) w.at w.fault log next after h
+  given_by turns way name w log next after gives h =
+      ap (λ b. runs_over (and_then (cond b (given_back turns way name w) (used turns way name w)) (λ v. Done (noted_in v w.fault))) log) gives
+      ∙ given_same turns way name w name.is_global name.rest log next after h
 
-  -- a name from the global scope on, which is not looked up
-  pub named_global : (turns : ℕ) (way : Use) (name : ScopedName) (w : Walk) (log : List (Key × Option Answer)) (next : Walk) (after : List (Key × Option Answer))
-      → w.gives_back ≡ true → name.is_global ≡ true → (next, after) ≡ runs_over (head_noted turns name w) log
-      → runs_over (visited turns (item.Used way name) w) log ≡ (one_way w.at next, after)
-  unfolding visit given_back
-  named_global turns way name w log next after gives is_global h =
-      ap (λ b. runs_over (given b turns way name w) log) gives
-      ∙ ap (λ b. runs_over (and_then (cond b (Done (with_oneway w.at (quiet (passed (last_at 0 name + 1) w)))) (elim name.rest [
-        | [] ↦ and_then (used turns way name w) (λ v. Done (with_oneway w.at v))
-        | part ∷ parts ↦ given_by_head turns name w
-      ])) (λ v. Done (noted_in v w.fault))) log) is_global
-      ∙ ap (λ (p : Walk × List (Key × Option Answer)). (one_way w.at p.0, p.1)) (sym (h ∙ ap (λ b. runs_over (cond b (Done (passed (last_at 0 name + 1) w)) (and_then (under w.own (denoted turns w.cursor (record name { rest = [] })))
-      (λ r. Done (noted_in (record { faults = head_faults w.at r; after = passed (last_at 0 name + 1) w }) w.fault)))) log) is_global))
-
-  -- and one of several parts, of which the first is
-  pub named_first : (turns : ℕ) (way : Use) (name : ScopedName) (w : Walk) (log : List (Key × Option Answer)) (next : Walk) (after : List (Key × Option Answer)) (part : List ℕ) (parts : List (List ℕ))
-      → w.gives_back ≡ true → name.is_global ≡ false → name.rest ≡ part ∷ parts → (next, after) ≡ runs_over (head_noted turns name w) log
-      → runs_over (visited turns (item.Used way name) w) log ≡ (one_way w.at next, after)
-  unfolding visit given_back
-  named_first turns way name w log next after part parts gives is_local more h =
-      let head = under w.own (denoted turns w.cursor (record name { rest = [] })) in
-      ap (λ b. runs_over (given b turns way name w) log) gives
-      ∙ ap (λ b. runs_over (and_then (cond b (Done (with_oneway w.at (quiet (passed (last_at 0 name + 1) w)))) (elim name.rest [
-        | [] ↦ and_then (used turns way name w) (λ v. Done (with_oneway w.at v))
-        | part ∷ parts ↦ given_by_head turns name w
-      ])) (λ v. Done (noted_in v w.fault))) log) is_local
-      ∙ ap (λ (parts : List (List ℕ)). runs_over (and_then (elim parts [
-        | [] ↦ and_then (used turns way name w) (λ v. Done (with_oneway w.at v))
-        | part ∷ parts ↦ given_by_head turns name w
-      ]) (λ v. Done (noted_in v w.fault))) log) more
-      ∙ one_way_by head (λ r. record { faults = head_faults w.at r; after = passed (last_at 0 name + 1) w }) w.at w.fault log next after
-      (h ∙ ap (λ b. runs_over (cond b (Done (passed (last_at 0 name + 1) w)) (and_then head
-      (λ r. Done (noted_in (record { faults = head_faults w.at r; after = passed (last_at 0 name + 1) w }) w.fault)))) log) is_local)
+  -- of the first part of a name, by what it denotes
+  pub head_by : (turns : ℕ) (name : ScopedName) (w : Walk) (log : List (Key × Option Answer)) (r : Result Found NameFault) (after : List (Key × Option Answer))
+      → (r, after) ≡ runs_over (under w.own (denoted turns w.cursor (head_of name))) log
+      → runs_over (head_noted turns name w) log ≡ (noted_in (head_visit name w r) w.fault, after)
+  head_by turns name w log r after h =
+      run-and_then_at key_eq (under w.own (denoted turns w.cursor (head_of name))) (λ r. Done (noted_in (head_visit name w r) w.fault)) bank log r after h
 
   -- literals that are joined
   pub visited_joined : (turns : ℕ) (text : Several (List ℕ)) (w : Walk) (log : List (Key × Option Answer))

@@ -1,9 +1,8 @@
 -- How a walk is kept, and one site of it.
-use Rattle.std.specs.Prelude.{ℕ, ◌+◌, ◌≤◌, List, [], if◌then◌else◌}
+use Rattle.std.specs.Prelude.{ℕ, ◌+◌, ◌≤◌, List, [], ◌∷◌, if◌then◌else◌}
 use Rattle.idl_check.specs.Declaring.{Written}
-use Rattle.idl_check.specs.Using.{last_at}
 use Rattle.idl_check.specs.Values.{Values}
-use Rattle.idl_check.specs.Walk.{Walk, head_faults, noted_in, passed, used, visit}
+use Rattle.idl_check.specs.Walk.{Walk, past_name, head_of, head_visit, noted_in, used, visit}
 use Rattle.idl_check.specs.declared.declaring.Written.{Written as LastWritten}
 use Rattle.idl_check.specs.declared.values.Values.{Values as ToldValues}
 use Rattle.idl_check.specs.declared.walk.Walker.{Walker}
@@ -49,18 +48,21 @@ held w = record {
 abbrev pub visited : ℕ → Item → Walk → Lookup Walk
 visited turns site w = and_then (visit turns site w) (λ v. Done (noted_in v w.fault))
 
--- the same of a used name by itself, and of the first token of one that is given back
+-- the same of a used name by itself, of the first token of one that is given back, and of all that
+-- is looked at of one
 abbrev pub used_noted : ℕ → Use → ScopedName → Walk → Lookup Walk
 used_noted turns way name w = and_then (used turns way name w) (λ v. Done (noted_in v w.fault))
 
 abbrev pub head_noted : ℕ → ScopedName → Walk → Lookup Walk
 head_noted turns name w =
-    if name.is_global then Done (passed (last_at 0 name + 1) w)
-    else and_then (under w.own (denoted turns w.cursor (record name { rest = [] })))
-    (λ r. Done (noted_in (record {
-      faults = head_faults w.at r;
-      after = passed (last_at 0 name + 1) w;
-    }) w.fault))
+    and_then (under w.own (denoted turns w.cursor (head_of name)))
+    (λ r. Done (noted_in (head_visit name w r) w.fault))
+
+abbrev pub given_noted : ℕ → Use → ScopedName → Walk → Lookup Walk
+given_noted turns way name w =
+    if name.is_global then Done (past_name name w)
+    else elim name.rest
+    [ [] ↦ used_noted turns way name w | part ∷ parts ↦ head_noted turns name w ]
 
 -- the numbers of the tokens of these sites fit into a word
 abbrev pub HasRoomFor : Walk → List Item → Type 0

@@ -176,19 +176,23 @@ head_faults at (Ok found) =
 head_faults at (Err (At why part)) = fault_at at (name_code why) ∷ []
 head_faults at (Err Memory) = []
 
-abbrev pub given_by_head : ℕ → ScopedName → Walk → Lookup Visit
-given_by_head turns name w =
-    and_then (under w.own (denoted turns w.cursor (record name { rest = [] })))
-    (λ r. Done (with_oneway w.at
-    (record { faults = head_faults w.at r; after = passed (last_at 0 name + 1) w })))
+abbrev pub past_name : ScopedName → Walk → Walk
+past_name name w = record w { at = last_at w.at name + 1; gives_back = false }
+
+abbrev pub head_visit : ScopedName → Walk → Result Found NameFault → Visit
+head_visit name w r = record { faults = head_faults w.at r; after = past_name name w }
+
+-- the name with which a name of several parts begins
+abbrev pub head_of : ScopedName → ScopedName
+head_of name = record name { rest = [] }
 
 unfoldable pub given_back : ℕ → Use → ScopedName → Walk → Lookup Visit
 given_back turns way name w =
-    if name.is_global
-    then Done (with_oneway w.at (quiet (passed (last_at 0 name + 1) w)))
+    if name.is_global then Done (with_oneway w.at (quiet (past_name name w)))
     else elim name.rest [
       | [] ↦ and_then (used turns way name w) (λ v. Done (with_oneway w.at v))
-      | part ∷ parts ↦ given_by_head turns name w
+      | part ∷ parts ↦ and_then (under w.own (denoted turns w.cursor (head_of name)))
+          (λ r. Done (with_oneway w.at (head_visit name w r)))
     ]
 
 -- the scope of what is declared so begins

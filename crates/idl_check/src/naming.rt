@@ -2,7 +2,7 @@
 
 ghost use Rattle.std.specs.Prelude.{◌≡◌, ◌≤◌, ◌+◌, ◌∷◌, ◌++◌, [], ℕ, IfOk, None, OnOk, Some, false, length, if◌then◌else◌};
 ghost use Rattle.idl_check.specs.Declaring.{with_declared};
-ghost use Rattle.idl_check.specs.Held.{HasRoomFor, head_noted, held, held_values, used_noted, visited};
+ghost use Rattle.idl_check.specs.Held.{HasRoomFor, given_noted, head_noted, held, held_values, used_noted, visited};
 ghost use Rattle.idl_check.specs.Using.{last_at, name_code, part_at, values_after};
 ghost use Rattle.idl_check.specs.Walk.{declared_visit, noted, noted_in, unions_without, used_visit};
 ghost use Rattle.idl_memo.specs.Query.{run};
@@ -22,7 +22,7 @@ use crate::labels::Labels;
 use crate::part::front;
 use crate::standing::{Standing, standing_of};
 use crate::types::{constants_of, looked_through, meaning_of};
-use crate::using::{Denoted, introduce, last_at, name_code, name_length, part_at, used_code};
+use crate::using::{Denoted, introduce, last_at, name_code, part_at, used_code};
 use crate::walk::Walker;
 use idl_base::{Seq, Text};
 use idl_event::Code;
@@ -108,51 +108,75 @@ impl<'a> Walker<'a> {
             (self.new.at ≡ self.old.at + item_length (item.Used way name.now)) }
         ensures env { OnOk result (self.new.env.now ≡ self.old.env.now) }
     {
-        if !self.gives_back {
-            return self.use_any(log, way, name);
+        if self.gives_back {
+            let at = self.at;
+            self.use_given(log, way, name)?;
+            self.note(at, Some(Code::BadOneway));
+            return Ok(());
         }
-        let at = self.at;
-        if !name.is_global && name.rest.is_empty() {
-            self.use_any(log, way, name)?;
-        } else {
-            self.use_head(log, name)?;
-        }
-        self.note(at, Some(Code::BadOneway));
+        self.use_any(log, way, name)?;
         Ok(())
     }
 
     // The name of a type that a oneway operation gives back, of which its first token alone is
     // looked at.
-    #[tactic(auto, unfolding(crate::specs::Walk::given_back))]
+    fn use_given(
+        &mut self,
+        log: &mut Log<Env>,
+        way: Use,
+        name: &ScopedName,
+    ) -> Result<(), AllocError>
+        requires room { last_at self.old.at name.now + 1 ≤ 18446744073709551615 }
+        ensures run { OnOk result ((turns : ℕ) → TURNS ≤ turns →
+            (held self.new, log.new)
+            ≡ run key_eq (given_noted turns way name.now (held self.old))
+            (answers self.old.env.now) log.old) }
+        ensures at { OnOk result (self.new.at ≡ last_at self.old.at name.now + 1) }
+        ensures env { OnOk result (self.new.env.now ≡ self.old.env.now) }
+    {
+        if name.is_global {
+            self.at = last_at(self.at, name) + 1;
+            self.gives_back = false;
+            return Ok(());
+        }
+        if name.rest.is_empty() {
+            self.use_any(log, way, name)?;
+            return Ok(());
+        }
+        self.use_head(log, name)?;
+        Ok(())
+    }
+
+    // The first part of a name of several.
     fn use_head(&mut self, log: &mut Log<Env>, name: &ScopedName) -> Result<(), AllocError>
         requires room { last_at self.old.at name.now + 1 ≤ 18446744073709551615 }
+        requires local { name.now.is_global ≡ false }
         ensures run { OnOk result ((turns : ℕ) → TURNS ≤ turns →
             (held self.new, log.new)
             ≡ run key_eq (head_noted turns name.now (held self.old))
             (answers self.old.env.now) log.old) }
+        ensures at { OnOk result (self.new.at ≡ last_at self.old.at name.now + 1) }
         ensures env { OnOk result (self.new.env.now ≡ self.old.env.now) }
     {
         let at = self.at;
-        self.at += name_length(name);
-        self.gives_back = false;
-        if name.is_global {
-            return Ok(());
-        }
-        let alloc = self.env.alloc();
         let head = ScopedName {
             is_global: false,
             first: name.first.clone()?,
-            rest: Seq::new(alloc),
+            rest: Seq::new(self.env.alloc()),
         };
         let place = Standpoint {
             own: &self.own,
             cursor: self.cursor.as_slice(),
         };
-        match resolve(self.env, log, place, &head) {
+        let found = resolve(self.env, log, place, &head);
+        self.at = last_at(at, name) + 1;
+        self.gives_back = false;
+        match found {
             Ok(found) => {
-                if !found.entity.get().kind.is_scope() {
-                    self.note(at, Some(Code::NoScope));
+                if found.entity.get().kind.is_scope() {
+                    return Ok(());
                 }
+                self.note(at, Some(Code::NoScope));
                 Ok(())
             }
             Err(NameFault::Memory) => Err(AllocError),
@@ -180,12 +204,14 @@ impl<'a> Walker<'a> {
         match resolve(self.env, log, place, name) {
             Ok(found) => {
                 let behind = looked_through(self.view(), log, way, &found.entity)?;
-                self.use_as(way, name, &found, behind.get())
+                self.use_as(way, name, &found, behind.get())?;
+                Ok(())
             }
             Err(NameFault::Memory) => Err(AllocError),
             Err(NameFault::At(code, part)) => {
                 self.use_nothing(name, code, part);
-                self.follow_nothing(way)
+                self.follow_nothing(way)?;
+                Ok(())
             }
         }
     }
@@ -194,7 +220,7 @@ impl<'a> Walker<'a> {
     fn use_nothing(&mut self, name: &ScopedName, code: NameCode, part: usize)
         requires room { last_at self.old.at name.now + 1 ≤ 18446744073709551615 }
         requires part { part ≤ length name.now.rest }
-        ensures walk { self.new
+        ensures { self.new
             ≡ record self.old {
               at = last_at self.old.at name.now + 1;
               gives_back = false;
