@@ -1,10 +1,14 @@
 -- A table's entries by the index of their places.
-use Rattle.std.specs.Prelude.{slice_get, slice_set, slice_index_or}
-use Rattle.std.proofs.Common.{◌≡◌, ◌≢◌, ℕ, zero, suc, ◌<◌, Bool, true, false, cond, if◌then◌else◌, List, [], ◌∷◌, ◌++◌, Option, None, Some, length, ◌⊎◌, inl, inr, refl, sym, ap, ◌∙◌, arith}
+use Rattle.std.specs.Prelude.{nat_lt, slice_get, slice_set, slice_index_or}
+use Rattle.std.proofs.Common.{◌≡◌, ◌≢◌, ◌↔◌, ◌+◌, ℕ, zero, suc, ◌<◌, Bool, true, false, not, cond, if◌then◌else◌, List, [], ◌∷◌, ◌++◌, Option, None, Some, length, ◌⊎◌, inl, inr, refl, sym, ap, ◌∙◌, arith}
 use Rattle.std.specs.Bool.{Decides}
+use Rattle.std.specs.List.{position, position_or_len}
 use Rattle.std.specs.Map.{lookup, keys_of}
+use Rattle.std.proofs.lemmas.Bool.{lt-ltb}
 use Rattle.std.proofs.lemmas.Option.{same_Some, slice_get_within}
-use Rattle.idl_base.specs.Table.{insert_entry, IsIndexOf}
+use Rattle.std.proofs.lemmas.List.Quantifiers.{position-Some}
+use Rattle.std.proofs.lemmas.Map.Entries.{length-keys_of}
+use Rattle.idl_base.specs.Table.{insert_entry, AreDistinct, IsIndexOf}
 
 module _ {K V : Type 0} where
   -- the keys of entries behind which one more is put
@@ -23,6 +27,12 @@ module _ {K V : Type 0} where
   key-at [] i k d h = cc
   key-at (e ∷ es) zero k d h = same_Some e.0 k h
   key-at (e ∷ es) (suc i) k d h = key-at es i k d h
+
+  -- the key at a place
+  pub slice_get-key : (es : List (K × V)) (i : ℕ) (d : K × V) → i < length es → slice_get (keys_of es) i ≡ Some (slice_index_or es i d).0
+  slice_get-key [] i d h = absurd (omega arith)
+  slice_get-key (e ∷ es) zero d h = refl
+  slice_get-key (e ∷ es) (suc i) d h = slice_get-key es i d (omega arith)
 
 module _ {K V : Type 0} (eq : K → K → Bool) (exact : (x y : K) → Decides (eq x y) (x ≡ y)) where
   -- the value at a key that stands at one place alone
@@ -82,6 +92,33 @@ module _ {K V : Type 0} (eq : K → K → Bool) (exact : (x y : K) → Decides (
           ap (λ b. if b then (e.0, v) ∷ es else e ∷ insert_entry eq es k v) t
           ∙ ap (λ fs. e ∷ fs) (rest (sym (ap (λ b. cond b (Some e.1) (lookup (eq k) es)) t) ∙ none))
 
+  -- a key that stands at one place alone is found there
+  pub position_or_len-at : (es : List (K × V)) (k : K) (i : ℕ) → AreDistinct (keys_of es) → slice_get (keys_of es) i ≡ Some k → position_or_len (λ e. eq e.0 k) es ≡ i
+  position_or_len-at [] k i distinct at = cc
+  position_or_len-at (e ∷ es) k zero distinct at = ap (λ b. cond (not b) (1 + position_or_len (λ e. eq e.0 k) es) 0) ((exact e.0 k).1 (same_Some e.0 k at))
+  position_or_len-at (e ∷ es) k (suc i) distinct at =
+      by (eq e.0 k) refl (position_or_len-at es k i (λ q m n one two. let both : suc m ≡ suc n = distinct q (suc m) (suc n) one two in omega arith) at)
+    where
+      by : (b : Bool) → eq e.0 k ≡ b → position_or_len (λ e. eq e.0 k) es ≡ i → position_or_len (λ e. eq e.0 k) (e ∷ es) ≡ suc i
+      by true t later = absurd (let same : 0 ≡ suc i = distinct k 0 (suc i) (ap Some ((exact e.0 k).0 t)) at in omega arith)
+      by false t later = ap (λ b. cond (not b) (1 + position_or_len (λ e. eq e.0 k) es) 0) t ∙ omega (arith, later)
+
+  -- and there alone
+  pub position-is : (es : List (K × V)) (k : K) → AreDistinct (keys_of es) → (i : ℕ) → (position (λ e. eq e.0 k) es ≡ Some i) ↔ (slice_get (keys_of es) i ≡ Some k)
+  position-is es k distinct i = (found es, at)
+    where
+      found : (es : List (K × V)) → position (λ e. eq e.0 k) es ≡ Some i → slice_get (keys_of es) i ≡ Some k
+      found [] h = cc
+      found (e ∷ es) h =
+          let there = position-Some (λ e. eq e.0 k) (e ∷ es) i e h in
+          slice_get-key (e ∷ es) i e there.0 ∙ ap Some ((exact (slice_index_or (e ∷ es) i e).0 k).0 there.1)
+
+      at : slice_get (keys_of es) i ≡ Some k → position (λ e. eq e.0 k) es ≡ Some i
+      at h =
+          let within : i < length (keys_of es) = slice_get_within (keys_of es) i k h in
+          let below : i < length es = omega (arith, length-keys_of es) in
+          ap (λ n. cond (nat_lt n (length es)) (Some n) None) (position_or_len-at es k i distinct h) ∙ ap (λ b. cond b (Some i) None) (lt-ltb i (length es) below)
+
 module _ {K : Type 0} where
   -- an item before the last
   pub slice_get-front : (ks : List K) (k q : K) (i : ℕ) → slice_get ks i ≡ Some q → slice_get (ks ++ k ∷ []) i ≡ Some q
@@ -101,6 +138,36 @@ module _ {K : Type 0} where
   slice_get-push (x ∷ ks) k q zero h = inl h
   slice_get-push (x ∷ ks) k q (suc i) h = elim (slice_get-push ks k q i h) [ inl there ↦ inl there | inr here ↦ inr (ap suc here.0, here.1) ]
 
+  -- keys that differ, and one more that stands nowhere
+  pub AreDistinct-push : (ks : List K) (k : K) → AreDistinct ks → ((i : ℕ) → slice_get ks i ≢ Some k) → AreDistinct (ks ++ k ∷ [])
+  AreDistinct-push ks k distinct nowhere q i j one two = elim (slice_get-push ks k q i one) [
+    | inl first ↦ elim (slice_get-push ks k q j two) [
+      | inl second ↦ distinct q i j first second
+      | inr second ↦ absurd (nowhere i (first ∙ ap Some (sym second.1)))
+    ]
+    | inr first ↦ elim (slice_get-push ks k q j two) [
+      | inl second ↦ absurd (nowhere j (second ∙ ap Some (sym first.1)))
+      | inr second ↦ first.0 ∙ sym second.0
+    ]
+  ]
+
+  -- without the last they differ still
+  pub AreDistinct-front : (ks : List K) (k : K) → AreDistinct (ks ++ k ∷ []) → AreDistinct ks
+  AreDistinct-front ks k distinct q i j one two = distinct q i j (slice_get-front ks k q i one) (slice_get-front ks k q j two)
+
+-- the index of as many of the first keys has each of these at its place
+abbrev pub IsIndexTo : {K : Type 0} → ℕ → (K → Option ℕ) → List K → Type 0
+IsIndexTo n places keys = (k : _) (i : ℕ) → (places k ≡ Some i) ↔ ((i < n) × (slice_get keys i ≡ Some k))
+
+module _ {K : Type 0} (places : K → Option ℕ) (ks : List K) where
+  -- of none
+  pub IsIndexTo-none : ((k : K) → places k ≡ None) → IsIndexTo 0 places ks
+  IsIndexTo-none none k i = (λ h. (let never : None ≡ Some i = sym (none k) ∙ h in cc), λ h. absurd (let below : i < 0 = h.0 in omega arith))
+
+  -- of all
+  pub IsIndexTo-all : IsIndexTo (length ks) places ks → IsIndexOf places ks
+  IsIndexTo-all index k i = (λ h. ((index k i).0 h).1, λ h. (index k i).1 (slice_get_within ks i k h, h))
+
 -- an index lacks a key that stands nowhere
 pub IsIndexOf-nowhere : {K : Type 0} (places : K → Option ℕ) (ks : List K) (k : K) → IsIndexOf places ks → ((i : ℕ) → slice_get ks i ≢ Some k) → places k ≡ None
 IsIndexOf-nowhere places ks k index nowhere = by (places k) refl
@@ -111,6 +178,26 @@ IsIndexOf-nowhere places ks k index nowhere = by (places k) refl
 
 -- the index after a step, where its test finds a key exactly
 module _ {K : Type 0} (test : K → Bool) (k : K) (finds : (q : K) → Decides (test q) (k ≡ q)) (places new : K → Option ℕ) (ks : List K) where
+  -- the next of keys that differ
+  pub IsIndexTo-next : AreDistinct ks → (n : ℕ) → slice_get ks n ≡ Some k → IsIndexTo n places ks → ((q : K) → new q ≡ cond (test q) (Some n) (places q)) → IsIndexTo (n + 1) new ks
+  IsIndexTo-next distinct n at index is q i = by (test q) refl
+    where
+      by : (b : Bool) → test q ≡ b → (new q ≡ Some i) ↔ ((i < n + 1) × (slice_get ks i ≡ Some q))
+      by true t =
+          let here : new q ≡ Some n = is q ∙ ap (λ b. cond b (Some n) (places q)) t in
+          let one : k ≡ q = (finds q).0 t in (
+            λ h. (let same : n ≡ i = same_Some n i (sym here ∙ h) in (omega arith, ap (slice_get ks) (sym same) ∙ at ∙ ap Some one)),
+            λ h. here ∙ ap Some (distinct q n i (at ∙ ap Some one) h.1),
+          )
+      by false t =
+          let old : new q ≡ places q = is q ∙ ap (λ b. cond b (Some n) (places q)) t in (
+            λ h. (let before : (i < n) × (slice_get ks i ≡ Some q) = (index q i).0 (sym old ∙ h) in let below : i < n = before.0 in (omega arith, before.1)),
+            λ h. old ∙ (index q i).1 (earlier h.0 (λ same. (let none : true ≡ false = sym ((finds q).1 (same_Some k q (sym at ∙ ap (slice_get ks) (sym same) ∙ h.1))) ∙ t in cc)), h.1),
+          )
+        where
+          earlier : i < n + 1 → (i ≢ n) → i < n
+          earlier within other = omega arith
+
   -- a new key goes last
   pub IsIndexOf-push : IsIndexOf places ks → places k ≡ None → ((q : K) → new q ≡ cond (test q) (Some (length ks)) (places q)) → IsIndexOf new (ks ++ k ∷ [])
   IsIndexOf-push index absent is q i = by (test q) refl

@@ -1,6 +1,6 @@
--- A table: entries in the order in which their keys were first put in, and an index of their places
--- by key.
-use Rattle.std.specs.Prelude.{◌≡◌, ◌↔◌, ℕ, Bool, List, [], ◌∷◌, Option, Some, slice_get, if◌then◌else◌}
+-- A table: entries in the order in which their keys were first put in, and, where they are many, an
+-- index of their places by key.
+use Rattle.std.specs.Prelude.{◌≡◌, ◌↔◌, ℕ, Bool, List, [], ◌∷◌, Option, Some, IfSome, slice_get, if◌then◌else◌}
 
 -- the entries after a put: a key that is there keeps its place and takes the value, and a new key
 -- goes last
@@ -11,3 +11,12 @@ insert_entry eq (e ∷ es) k v = if eq k e.0 then (e.0, v) ∷ es else e ∷ ins
 -- the index has a key at a place exactly where that key stands there
 abbrev pub IsIndexOf : {K : Type 0} → (K → Option ℕ) → List K → Type 0
 IsIndexOf {K} places keys = (k : K) (i : ℕ) → (places k ≡ Some i) ↔ (slice_get keys i ≡ Some k)
+
+-- no key stands at two places
+abbrev pub AreDistinct : {K : Type 0} → List K → Type 0
+AreDistinct keys = (k : _) (i j : ℕ) → slice_get keys i ≡ Some k → slice_get keys j ≡ Some k → i ≡ j
+
+-- the keys of a table differ, and its index, where it has one, is of them
+pub record IsIndexed {K : Type 0} (index : Option (K → Option ℕ)) (keys : List K) : Type 0 where
+  pub distinct : AreDistinct keys
+  pub places : IfSome index (λ places. IsIndexOf places keys)

@@ -1,43 +1,51 @@
 //! A table of entries by their keys, in the order in which the keys were first put in.
 
-ghost use Rattle.std.specs.Prelude.{◌≡◌, ◌↔◌, ◌++◌, ◌∷◌, [], ℕ, Some, false, IsTrue, IsNone, OnOk, OnErr, is_some, length, slice_get};
+ghost use Rattle.std.specs.Prelude.{◌≡◌, ◌↔◌, ◌++◌, ◌∷◌, [], ℕ, Some, false, IfOk, IsTrue, IsNone, OnOk, OnErr, is_some, length, slice_get};
+ghost use Rattle.std.specs.BTreeMap.{get};
+ghost use Rattle.std.specs.List.{position};
 ghost use Rattle.std.specs.Map.{keys_of, lookup};
 ghost use Rattle.std.specs.Option.{option_copied, option_map, option_to_list};
-ghost use Rattle.idl_base.specs.Table.{insert_entry};
+ghost use Rattle.idl_base.specs.Table.{AreDistinct, IsIndexOf, insert_entry};
 
 use crate::Datum;
 use std::alloc::{AllocError, Global};
 use std::collections::BTreeMap;
 use std::marker::Model;
 
+// Up to so many entries have no index: it costs less to compare a key with each of them than to keep copies in order.
+const FEW: usize = 16;
+
 /// Entries by their keys, in the order in which the keys were first put in. To every contract it is the list of them.
 ///
-/// A look-up compares the key with logarithmically many others, whatever the keys are. A hash table doesn't serve where
-/// keys come from input: its hash is known, so that input can be made whose keys all fall into one place of the table,
-/// and then each look-up goes through all of them. The index holds a copy of each key. Only `insert` takes memory.
+/// A look-up goes through few entries, and where there have been more than 16 at once, it compares the key with
+/// logarithmically many in an index, whatever the keys are. A hash table doesn't serve where keys come from input: its
+/// hash is known, so that input can be made whose keys all fall into one place of the table, and then each look-up goes
+/// through all of them. The index holds a copy of each key. Only `insert`, `push` and `keys` take memory.
 pub struct Table<K: Datum + Ord, V> {
     entries: Vec<(K, V)>,
-    places: BTreeMap<K, usize>,
+    index: Option<BTreeMap<K, usize>>,
 }
 
 impl<K: Datum + Ord, V> Model for Table<K, V> {
     ghost use Rattle.std.specs.Prelude.{List};
     ghost use Rattle.std.specs.BTreeMap.{get};
     ghost use Rattle.std.specs.Map.{keys_of};
-    ghost use Rattle.idl_base.specs.Table.{IsIndexOf};
+    ghost use Rattle.std.specs.Option.{option_map};
+    ghost use Rattle.idl_base.specs.Table.{IsIndexed};
 
     ghost Value = { List (K × V) };
 
     ghost view = { λ table. table.entries.items };
 
-    ghost invariant = { λ table. IsIndexOf (get K.cmp table.places) (keys_of table.entries.items) };
+    ghost invariant = { λ table.
+        IsIndexed (option_map (get K.cmp) table.index) (keys_of table.entries.items) };
 }
 
 impl<K: Datum + Ord, V: Drop> Drop for Table<K, V> {
     fn drop(self) {
         let Table {
             entries: _entries,
-            places: _places,
+            index: _index,
         } = self;
     }
 }
@@ -49,7 +57,7 @@ impl<K: Datum + Ord, V: Drop> Table<K, V> {
     {
         Table {
             entries: Vec::new(alloc),
-            places: BTreeMap::new(alloc),
+            index: None,
         }
     }
 
@@ -108,7 +116,7 @@ impl<K: Datum + Ord, V: Drop> Table<K, V> {
         self.push(key, value)
     }
 
-    /// Puts an entry in at a new key, as the last: one search of the index, where `insert` makes two.
+    /// Puts an entry in at a new key, as the last. Unlike `insert` it doesn't search for the key first.
     ///
     /// Want of memory leaves the table as it was.
     pub fn push(&mut self, key: K, value: V) -> Result<(), AllocError>
@@ -116,10 +124,12 @@ impl<K: Datum + Ord, V: Drop> Table<K, V> {
         ensures entries { OnOk result (self.new ≡ self.old ++ (key, value) ∷ []) }
         ensures err { OnErr result (self.new ≡ self.old) }
     {
+        self.index_many()?;
         let place = self.entries.len();
-        let copy = key.clone()?;
         self.entries.reserve(1)?;
-        self.places.insert(copy, place)?;
+        if let Some(places) = &mut self.index {
+            places.insert(key.clone()?, place)?;
+        }
         self.entries.push((key, value))?;
         Ok(())
     }
@@ -130,14 +140,64 @@ impl<K: Datum + Ord, V: Drop> Table<K, V> {
         ensures none { IsNone result ↔ (self.old ≡ []) }
     {
         let (key, value) = self.entries.pop()?;
-        self.places.remove(&key);
+        if let Some(places) = &mut self.index {
+            places.remove(&key);
+        }
         Some((key, value))
+    }
+
+    /// Copies of the keys, in their order.
+    pub fn keys(&self, alloc: Global) -> Result<Vec<K>, AllocError>
+        ensures { IfOk result (λ keys. keys.items ≡ keys_of self.now) }
+    {
+        let mut keys = Vec::new(alloc);
+        for entry in &self.entries {
+            keys.push(entry.0.clone()?)?;
+        }
+        Ok(keys)
     }
 
     // The place of a key among the entries, or nothing.
     fn place_of(&self, key: &K) -> Option<usize>
         ensures { (i : ℕ) → (result ≡ Some i) ↔ (slice_get (keys_of self.now) i ≡ Some key.now) }
     {
-        self.places.get(key).copied()
+        match &self.index {
+            Some(places) => places.get(key).copied(),
+            None => place_among(&self.entries, key),
+        }
     }
+
+    // Makes the index where there is none and an entry more is too many for that.
+    fn index_many(&mut self) -> Result<(), AllocError>
+        ensures { self.new ≡ self.old }
+    {
+        if self.index.is_some() || self.entries.len() < FEW {
+            return Ok(());
+        }
+        let places = index_of(*self.entries.allocator(), &self.entries)?;
+        self.index = Some(places);
+        Ok(())
+    }
+}
+
+// The first place of a key among entries, or nothing.
+fn place_among<K: Datum + Ord, V>(entries: &[(K, V)], key: &K) -> Option<usize>
+    ensures { result ≡ position (λ e. K.eq e.0 key.now) entries.now }
+{
+    entries.iter().position(|entry| entry.0 == *key)
+}
+
+// The index of entries whose keys differ.
+fn index_of<K: Datum + Ord, V>(
+    alloc: Global,
+    entries: &[(K, V)],
+) -> Result<BTreeMap<K, usize>, AllocError>
+    requires { AreDistinct (keys_of entries.now) }
+    ensures { IfOk result (λ places. IsIndexOf (get K.cmp places) (keys_of entries.now)) }
+{
+    let mut places = BTreeMap::new(alloc);
+    for (place, entry) in entries.iter().enumerate() {
+        places.insert(entry.0.clone()?, place)?;
+    }
+    Ok(places)
 }

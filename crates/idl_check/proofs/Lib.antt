@@ -2,6 +2,7 @@ mod JudgeLemmas
 mod NameLemmas
 mod NotedLemmas
 mod PartLemmas
+mod RowLaws
 mod RowLemmas
 mod StandingLemmas
 mod TypeLemmas

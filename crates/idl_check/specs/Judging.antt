@@ -1,5 +1,5 @@
 -- What the laws of verdicts speak of.
-use Rattle.std.specs.Prelude.{◌≡◌, ◌<◌, ◌≤◌, ◌⊎◌, ℕ, false, List, [], ◌∷◌, Option, None, Some}
+use Rattle.std.specs.Prelude.{◌≡◌, ◌<◌, ◌≤◌, ◌⊎◌, ℕ, false, List, [], ◌∷◌, flat_map, Option, None, Some}
 use Rattle.idl_check.specs.AllFaults.{site_faults}
 use Rattle.idl_check.specs.Placing.{is_misplaced, opened_kind, opening_faults}
 use Rattle.idl_check.specs.Verdict.{sound}
@@ -14,10 +14,11 @@ use Rattle.idl_scope.specs.declared.answer.Answer.{Answer}
 use Rattle.idl_scope.specs.declared.answer.Scope.{Scope}
 use Rattle.idl_scope.specs.declared.key.Key.{Key}
 use Rattle.idl_scope.specs.declared.key.Key.TheVariants.{Nameless}
-use Rattle.idl_site.specs.Item.{Item, items}
+use Rattle.idl_site.specs.Item.{Item, items, Item as item}
 use Rattle.idl_site.specs.UnitParts.{unit_parts}
 use Rattle.idl_tree.specs.Lexeme.{lexemes}
 use Rattle.idl_tree.specs.Unit.{spell}
+use Rattle.idl_tree.specs.declared.name.ScopedName.{ScopedName}
 use Rattle.idl_tree.specs.declared.unit.Tree.{Tree}
 use Rattle.idl_unit.specs.TokenRules.{token_faults}
 use Rattle.idl_unit.specs.declared.fault.Fault.{Fault}
@@ -41,6 +42,15 @@ module _ (turns : ℕ) (answers : Key → Option Answer) where
   abbrev pub walked : List Item → Walk → Walk
   walked [] w = w
   walked (site ∷ sites) w = walked sites (outcome (visit turns site w) answers).after
+
+-- the name that a site uses, if it does
+abbrev pub used_name : Item → List ScopedName
+used_name (item.Used way name) = name ∷ []
+used_name other = []
+
+-- the names that these sites use, in order
+abbrev pub used_names : List Item → List ScopedName
+used_names sites = flat_map used_name sites
 
 -- In these scopes no rule of tokens refuses the tokens. They are the spelling of a tree, which
 -- stands where it may, and at none of whose sites is a fault; and what all these sites come to is

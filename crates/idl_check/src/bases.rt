@@ -13,7 +13,7 @@ use crate::codes::first_code;
 use idl_base::{Seq, Table};
 use idl_event::Code;
 use idl_lex::Spelling;
-use idl_scope::{Entity, Path, Stage, folded_name};
+use idl_scope::{Entity, Path, Stage};
 use std::alloc::{AllocError, Global};
 use std::marker::Model;
 
@@ -92,7 +92,7 @@ impl Bases {
     fn is_another(&self, alloc: Global, path: &Path) -> Result<bool, AllocError>
         ensures { IfOk result (λ b. b ≡ is_another self.now.operations path.now) }
     {
-        let name = folded_name(alloc, path.name())?;
+        let name = path.folded(alloc)?;
         match self.operations.get(&name) {
             Some(other) => Ok(*path != *other),
             None => Ok(false),
@@ -153,7 +153,7 @@ fn add_operations(
     ensures { OnOk result (operations.new ≡ fold with_operation operations.old paths.now) }
 {
     for path in paths {
-        let name = folded_name(alloc, path.name())?;
+        let name = path.folded(alloc)?;
         operations.insert(name, path.clone()?)?;
     }
     Ok(())

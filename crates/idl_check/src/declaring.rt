@@ -1,10 +1,11 @@
 //! Declared names: what they are declared as, and what is wrong with that.
 
-ghost use Rattle.std.specs.Prelude.{◌≡◌, [], IfOk, OnOk, Some};
+ghost use Rattle.std.specs.Prelude.{◌≡◌, ◌∷◌, [], IfOk, IfSome, OnOk, Some};
 ghost use Rattle.idl_check.specs.Declaring.{are_modules, come_ahead, declared_table, differs, entity_of, enumerators_in, finished, is_local_in, is_name_of_scope, kind_of, may_be_ahead, may_follow, meaning_in, stage_of, stays, value_in, written_after};
 ghost use Rattle.idl_check.specs.Held.{held_written};
 ghost use Rattle.idl_scope.specs.declared.entity.Meaning.TheVariants as meaning;
 ghost use Rattle.idl_check.specs.Codes.{codes_in};
+ghost use Rattle.idl_scope.specs.Path.{path_eq};
 ghost use Rattle.idl_unit.specs.TokenRules.{first};
 
 use crate::codes::first_code;
@@ -13,7 +14,9 @@ use crate::types::names_of;
 use idl_base::Seq;
 use idl_event::Code;
 use idl_lex::Spelling;
-use idl_scope::{Entity, Kind, Meaning, Path, Scope, Shared, Stage, folded_name};
+use idl_scope::{
+    Addition, Entity, Facts, Kind, Meaning, Path, Scope, Shared, Stage, shared_name,
+};
 use idl_site::Declaration;
 use idl_value::Value;
 use std::alloc::{AllocError, Global};
@@ -175,6 +178,43 @@ impl Written {
     }
 }
 
+/// The path of a name in the scope with this path: that of what was added last, if this is declared
+/// so, and else a new one.
+pub fn path_in(alloc: Global, own: &Facts, name: &[u8], scope: &Path) -> Result<Path, AllocError>
+    ensures { IfOk result (λ path. path ≡ name.now ∷ scope.now) }
+{
+    if let Some(path) = declared_path(own, name, scope) {
+        return path.clone();
+    }
+    let spelled = shared_name(alloc, name)?;
+    scope.child(alloc, &spelled)
+}
+
+// The path of what was added last, if it is that of a name in the scope with a path.
+fn declared_path<'a>(own: &'a Facts, name: &[u8], scope: &Path) -> Option<&'a Path>
+    ensures { IfSome result (λ path. path.now ≡ name.now ∷ scope.now) }
+{
+    let last = own.len().checked_sub(1)?;
+    let Some(Addition::Declares(entity)) = own.addition(last) else {
+        return None;
+    };
+    let path = &entity.get().path;
+    if is_child(path, name, scope) {
+        return Some(path);
+    }
+    None
+}
+
+// Whether a path is that of a name in the scope with a path.
+fn is_child(path: &Path, name: &[u8], scope: &Path) -> bool
+    ensures { result ≡ path_eq path.now (name.now ∷ scope.now) }
+{
+    match path.as_slice() {
+        [own, outer @ ..] => own.as_bytes() == name && outer == scope.as_slice(),
+        [] => false,
+    }
+}
+
 /// An entity that has begun, as its unit leaves it: an interface is open with these bases, and a
 /// constant has this value.
 pub fn finished(
@@ -285,8 +325,8 @@ fn is_name_of_scope(alloc: Global, scope: &Scope, new: &Entity) -> Result<bool, 
     if !scope.kind.is_scope() {
         return Ok(false);
     }
-    let own = folded_name(alloc, scope.path.name())?;
-    let name = folded_name(alloc, new.path.name())?;
+    let own = scope.path.folded(alloc)?;
+    let name = new.path.folded(alloc)?;
     Ok(own == name)
 }
 

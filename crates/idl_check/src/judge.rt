@@ -212,7 +212,7 @@ impl<'a> Judge<'a> {
         };
         let row = row_of(alloc, row_depth(unit.tree, self.scopes), unit.sites, rest)?;
         let around = path_around(alloc, self.scopes)?;
-        let step = step_of(alloc, unit.tree, &around)?;
+        let step = step_of(alloc, &walker.own, unit.tree, &around)?;
         self.ask_step(log, &step)?;
         let facts = walker.into_facts(step)?;
         let writes = Shared::new(alloc, facts)?;

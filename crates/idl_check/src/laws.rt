@@ -3,10 +3,11 @@
 //! Each function does nothing: it carries its laws as clauses. They hold over any answers, and for
 //! any number of turns.
 
-ghost use Rattle.std.specs.Prelude.{◌≡◌, ◌≢◌, ◌↔◌, ◌+◌, ◌<◌, ◌≤◌, Bool, ℕ, List, [], ◌∷◌, All, Contains, length, None, Option, Some};
-ghost use Rattle.idl_check.specs.AllFaults.{unit_faults};
+ghost use Rattle.std.specs.Prelude.{◌≡◌, ◌≢◌, ◌↔◌, ◌+◌, ◌<◌, ◌≤◌, Bool, ℕ, List, [], ◌∷◌, All, Contains, codes, false, length, take, None, Option, Some};
+ghost use Rattle.idl_check.specs.AllFaults.{site_faults, unit_faults};
 ghost use Rattle.idl_check.specs.Placing.{faulty_step, step_of};
-ghost use Rattle.idl_check.specs.Judging.{IsNotAfter, IsSound, refused_keys, walked, without_name};
+ghost use Rattle.idl_check.specs.Judging.{IsNotAfter, IsSound, refused_keys, used_names, walked, without_name};
+ghost use Rattle.idl_check.specs.Row.{Rest, unit_text};
 ghost use Rattle.idl_check.specs.Verdict.{faulty, first_faults, pragma_verdict, tree_of, verdict};
 ghost use Rattle.idl_check.specs.Walk.{Walk, visit};
 ghost use Rattle.idl_lex.specs.Tokens.{Token};
@@ -15,7 +16,8 @@ ghost use Rattle.idl_scope.specs.Facts.{scopes_in};
 ghost use Rattle.idl_scope.specs.declared.answer.Answer.{Answer};
 ghost use Rattle.idl_scope.specs.declared.key.Key.{Key};
 ghost use Rattle.idl_scope.specs.declared.key.Key.TheVariants.{Cursor};
-ghost use Rattle.idl_site.specs.Item.{Item, item_length, items_length};
+ghost use Rattle.idl_site.specs.Item.{Item, item_length, items, items_length};
+ghost use Rattle.idl_site.specs.UnitParts.{unit_parts};
 ghost use Rattle.idl_syntax.specs.Parse.{pragma_faults};
 ghost use Rattle.idl_tree.specs.Lexeme.{lexemes};
 ghost use Rattle.idl_tree.specs.Unit.{spell};
@@ -87,6 +89,20 @@ pub fn numbering()
         → tokens ≢ []
         → (outcome (verdict turns (unit.Tokens tokens)) answers).fault ≡ Some fault
         → fault.index < length tokens }
+{}
+
+/// A walk over sites without fault has found a path for each name that they use, so no used name is
+/// left out of a row; and a row's first word has a blank before it, which is what is dropped there.
+pub fn wording()
+    ensures found { (turns : ℕ) (answers : Key → Option Answer) (sites : List Item) (w : Walk)
+        → site_faults turns answers sites w ≡ []
+        → length (walked turns answers sites w).found
+        ≡ length w.found + length (used_names sites) }
+    ensures blank { (tree : Tree) (rest : Rest)
+        → lexemes rest.tokens ≡ spell tree
+        → length rest.found ≡ length (used_names (items (unit_parts tree)))
+        → rest.in_value ≡ false
+        → take 1 (unit_text rest (items (unit_parts tree))) ≡ codes " " }
 {}
 
 /// A unit that the rules of tokens refuse, or that no tree spells, asks for the open scopes, and as

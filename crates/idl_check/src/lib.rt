@@ -25,6 +25,6 @@ mod valuing;
 mod verdict;
 mod walk;
 
-pub use laws::{acceptance, least, numbering, questions, refusal};
+pub use laws::{acceptance, least, numbering, questions, refusal, wording};
 pub use task::DeclarationTask;
 pub use verdict::Verdict;

@@ -22,14 +22,14 @@ use crate::labels::Labels;
 use crate::part::front;
 use crate::standing::{Standing, standing_of};
 use crate::types::{constants_of, looked_through, meaning_of};
-use crate::using::{Denoted, introduce, last_at, name_code, part_at, used_code};
+use crate::using::{Denoted, Denoting, introduce, last_at, name_code, part_at, used_code};
 use crate::walk::Walker;
 use idl_base::{Seq, Text};
 use idl_event::Code;
 use idl_memo::Log;
 use idl_scope::{
     Addition, Entity, Env, Facts, Found, Kind, Meaning, NameCode, NameFault, Scope, Shared, Stage,
-    Standpoint, folded_name, resolve, shared_name,
+    Standpoint, resolve, shared_name,
 };
 use idl_site::{Declaration, Use};
 use idl_tree::ScopedName;
@@ -59,10 +59,10 @@ impl<'a> Walker<'a> {
             return Ok(());
         };
         let scope = innermost.clone()?;
-        let folded = folded_name(alloc, name.as_bytes())?;
-        let standing = standing_of(self.view(), log, &scope, &folded)?;
         let spelled = shared_name(alloc, name.as_bytes())?;
         let entity = self.written.entity(alloc, way, &spelled, &scope.path)?;
+        let folded = entity.get().path.folded(alloc)?;
+        let standing = standing_of(self.view(), log, &scope, &folded)?;
         self.declare_as(&scope, entity, &standing)?;
         Ok(())
     }
@@ -283,7 +283,11 @@ impl<'a> Walker<'a> {
         self.at = last + 1;
         self.gives_back = false;
         let scopes = front(self.cursor.as_slice(), found.reach);
-        introduce(alloc, &mut self.own, name, scopes)?;
+        let used = Denoting {
+            name,
+            path: &entity.path,
+        };
+        introduce(alloc, &mut self.own, used, scopes)?;
         self.found.push(entity.path.clone()?)?;
         match way {
             Use::AsBase(_) => self.bases.add(alloc, entity),

@@ -1,13 +1,14 @@
 //! Where a unit may stand, and what it does to the open scopes.
 
-ghost use Rattle.std.specs.Prelude.{◌≡◌, ◌∷◌, IfOk, if◌then◌else◌, option_to_list};
+ghost use Rattle.std.specs.Prelude.{◌≡◌, IfOk, if◌then◌else◌, option_to_list};
 ghost use Rattle.idl_check.specs.Placing.{brace_from, depth, faulty_step, heading_kind, is_closing_by, is_interface, is_misplaced, is_module, opened_kind, opening_brace, opening_faults, step_of};
 ghost use Rattle.idl_scope.specs.declared.addition.Step.TheVariants as steps;
 ghost use Rattle.idl_unit.specs.Ending.{begins, opens};
 
+use crate::declaring::path_in;
 use idl_event::Code;
 use idl_lex::Token;
-use idl_scope::{Kind, Path, Scope, Step, shared_name};
+use idl_scope::{Facts, Kind, Path, Scope, Step};
 use idl_tree::{Forward, Tree};
 use idl_unit::{Fault, Role, Rule, role_of, rule_of};
 use std::alloc::{AllocError, Global};
@@ -106,27 +107,23 @@ fn unopened_step(rule: Rule) -> Step
     }
 }
 
-/// What a unit without fault does to the open scopes, in the scope at a path.
-pub fn step_of(alloc: Global, tree: &Tree, scope: &Path) -> Result<Step, AllocError>
+/// What a unit without fault does to the open scopes, in the scope at a path. Where what it adds has
+/// the path of the scope that it opens, that is shared.
+pub fn step_of(alloc: Global, own: &Facts, tree: &Tree, scope: &Path) -> Result<Step, AllocError>
     ensures { IfOk result (λ step. step ≡ step_of tree.now scope.now) }
 {
     match tree {
         Tree::Closing => Ok(Step::Closes),
-        Tree::Module(name) => opening(alloc, name.as_bytes(), scope, Kind::Module),
+        Tree::Module(name) => {
+            let path = path_in(alloc, own, name.as_bytes(), scope)?;
+            Ok(Step::Opens(path, Kind::Module))
+        }
         Tree::Interface(interface) => {
-            opening(alloc, interface.name.as_bytes(), scope, Kind::Interface)
+            let path = path_in(alloc, own, interface.name.as_bytes(), scope)?;
+            Ok(Step::Opens(path, Kind::Interface))
         }
         _ => Ok(Step::Stays),
     }
-}
-
-// A scope is opened.
-fn opening(alloc: Global, name: &[u8], scope: &Path, kind: Kind) -> Result<Step, AllocError>
-    ensures { IfOk result (λ step. step ≡ steps.Opens (name.now ∷ scope.now) kind) }
-{
-    let spelled = shared_name(alloc, name)?;
-    let path = scope.child(alloc, &spelled)?;
-    Ok(Step::Opens(path, kind))
 }
 
 /// How many of these scopes are open beside the global one.

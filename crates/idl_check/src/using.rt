@@ -13,11 +13,19 @@ use crate::bases::Bases;
 use crate::codes::first_code;
 use crate::types::{is_incomplete, may_switch};
 use idl_event::Code;
-use idl_scope::{Addition, Entity, Facts, Kind, NameCode, Scope, folded_name};
+use idl_lex::Spelling;
+use idl_scope::{Addition, Entity, Facts, Kind, NameCode, Path, Scope, folded_name};
 use idl_site::Use;
 use idl_tree::ScopedName;
 use idl_value::Target;
 use std::alloc::{AllocError, Global};
+
+/// A used name, and the path of what it denotes.
+#[derive(Clone, Copy)]
+pub struct Denoting<'a> {
+    pub name: &'a ScopedName,
+    pub path: &'a Path,
+}
 
 /// The number of the token that is a part of a name, where the name begins at this token.
 pub fn part_at(at: usize, name: &ScopedName, part: usize) -> usize
@@ -136,21 +144,32 @@ fn type_code(way: Use, denoted: Denoted<'_>) -> Option<Code>
 pub fn introduce(
     alloc: Global,
     own: &mut Facts,
-    name: &ScopedName,
+    used: Denoting<'_>,
     scopes: &[Scope],
 ) -> Result<(), AllocError>
     ensures { OnOk result
         (own.new
         ≡ record own.old {
-          additions = with_uses (folded name.now.first) scopes.now own.old.additions;
+          additions = with_uses (folded used.entry.name.now.first) scopes.now own.old.additions;
         }) }
 {
     if scopes.is_empty() {
         return Ok(());
     }
-    let folded = folded_name(alloc, name.first.as_bytes())?;
+    let folded = folded_first(alloc, used)?;
     for scope in scopes {
         own.add(Addition::Uses(folded.clone()?, scope.path.clone()?, scope.body))?;
     }
     Ok(())
+}
+
+// The first part of a name, folded. What stands under that very name has it folded already.
+fn folded_first(alloc: Global, used: Denoting<'_>) -> Result<Spelling, AllocError>
+    ensures { IfOk result (λ first. first ≡ folded used.entry.name.now.first) }
+{
+    let first = used.name.first.as_bytes();
+    if used.path.name() == first {
+        return used.path.folded(alloc);
+    }
+    folded_name(alloc, first)
 }

@@ -16,14 +16,14 @@ ghost use Rattle.idl_unit.specs.TokenRules.{fault_at};
 
 use crate::bases::Bases;
 use crate::codes::lesser;
-use crate::declaring::{Written, finished, kind_of};
+use crate::declaring::{Written, finished, kind_of, path_in};
 use crate::labels::Labels;
 use crate::values::Values;
 use idl_base::Text;
 use idl_event::Code;
 use idl_memo::Log;
 use idl_scope::{
-    Addition, Entity, Env, Facts, Kind, Meaning, Path, Scope, Shared, Step, View, shared_name,
+    Addition, Entity, Env, Facts, Kind, Meaning, Path, Scope, Shared, Step, View,
 };
 use idl_site::{Declaration, Site};
 use idl_unit::Fault;
@@ -220,8 +220,7 @@ impl<'a> Walker<'a> {
         let Some(innermost) = self.cursor.first() else {
             return Ok(());
         };
-        let spelled = shared_name(alloc, name.as_bytes())?;
-        let path = innermost.path.child(alloc, &spelled)?;
+        let path = path_in(alloc, &self.own, name.as_bytes(), &innermost.path)?;
         let scope = Scope {
             path,
             kind: kind_of(way),

@@ -29,3 +29,8 @@ put cmp (e ∷ entries) k v = elim (cmp k e.0) [
   | Equal ↦ (e.0, v) ∷ entries
   | Greater ↦ e ∷ put cmp entries k v
 ]
+
+-- there is one entry, at this key
+abbrev pub IsOnly : {K V : Type 0} → K → List (K × V) → Type 0
+IsOnly k [] = ⊥
+IsOnly k (e ∷ entries) = (e.0 ≡ k) × (entries ≡ [])

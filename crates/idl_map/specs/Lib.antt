@@ -1,2 +1,4 @@
 pub mod Entries
 pub mod Items
+pub mod SlotSizes
+pub mod Slots

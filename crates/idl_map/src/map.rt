@@ -1,72 +1,76 @@
-//! A map in the order of its keys, whose copies share their parts.
+//! A map whose copies share their parts.
 
-ghost use Rattle.std.specs.Prelude.{◌≡◌, ◌↔◌, [], Some, IsTrue, OnOk, OnErr, if◌then◌else◌};
+ghost use Rattle.std.specs.Prelude.{◌≡◌, [], Some, OnOk, OnErr, if◌then◌else◌};
 ghost use Rattle.std.specs.Map.{lookup};
 ghost use Rattle.std.specs.Option.{option_copied};
-ghost use Rattle.idl_map.specs.Entries.{put};
 
-use crate::tree::{Tree, get, insert};
+use crate::Digest;
+use crate::bucket::Bucket;
+use crate::slot::{Place, Slot, get, insert};
 use idl_base::Datum;
 use std::alloc::{AllocError, Global};
 use std::marker::Model;
-use std::rc::Rc;
 
-/// Entries in the order of their keys. To every contract it is the list of them.
+/// Values by their keys. To every contract it is a list of entries, the first of which counts at a key.
 ///
-/// A look-up compares the key with logarithmically many others, whatever the keys are. A copy is a pointer. A map that
-/// shares nothing changes in place; where parts are shared, the entries on the way to a new one are copied,
-/// logarithmically many.
-pub struct Map<K: Datum + Ord, V: Datum> {
-    root: Option<Rc<Tree<K, V>>>,
+/// A look-up goes down by the bits of the key's digest, as far as keys are alike in them, and then compares the key with
+/// those alone that are alike in all these bits: one mostly, and logarithmically many of them, whatever the keys are. A
+/// copy is a pointer. A map that shares nothing changes in place; where parts are shared, those on the way to a new entry
+/// are copied.
+pub struct Map<K: Digest + Ord, V: Datum> {
+    root: Slot<K, V>,
 }
 
-impl<K: Datum + Ord, V: Datum> Model for Map<K, V> {
+impl<K: Digest + Ord, V: Datum> Model for Map<K, V> {
     ghost use Rattle.std.specs.Prelude.{List};
-    ghost use Rattle.idl_map.specs.Entries.{IsAscending, entries_of};
 
     ghost Value = { List (K × V) };
 
-    ghost view = { λ map. entries_of map.root };
+    ghost use Rattle.idl_map.specs.Slots.{slot_entries};
 
-    ghost invariant = { λ map. IsAscending K.cmp (entries_of map.root) };
+    ghost view = { λ map. slot_entries K.digest_of map.root };
 }
 
-impl<K: Datum + Ord, V: Datum> Drop for Map<K, V> {
+impl<K: Digest + Ord, V: Datum> Drop for Map<K, V> {
     fn drop(self) {
         let Map { root: _root } = self;
     }
 }
 
-impl<K: Datum + Ord, V: Datum> Map<K, V> {
+impl<K: Digest + Ord, V: Datum> Map<K, V> {
     /// The map without entries. It takes no memory.
     pub fn new() -> Map<K, V>
         ensures { result ≡ [] }
     {
-        Map { root: None }
+        Map {
+            root: Slot::Few(Bucket::new()),
+        }
     }
 
     /// The value at a key, or nothing.
     pub fn get(&self, key: &K) -> Option<&V>
         ensures { option_copied result ≡ lookup (K.eq key.now) self.now }
     {
-        get(&self.root, key)
+        get(&self.root, key.digest(), key)
     }
 
-    /// Puts a value in at a key: one that is there takes the value, and a new one goes before the first above it.
-    ///
-    /// Want of memory leaves the map as it was.
+    /// Puts a value in at a key. Want of memory leaves what each key has.
     pub fn insert(&mut self, alloc: Global, key: K, value: V) -> Result<(), AllocError>
-        ensures entries { OnOk result (self.new ≡ put K.cmp self.old key value) }
         ensures each_key { OnOk result
             ((k : K)
             → lookup (K.eq k) self.new ≡ (if K.eq k key then Some value else lookup (K.eq k) self.old)) }
-        ensures err { OnErr result (self.new ≡ self.old) }
+        ensures err { OnErr result
+            ((k : K) → lookup (K.eq k) self.new ≡ lookup (K.eq k) self.old) }
     {
-        insert(&mut self.root, alloc, key, value)
+        let place = Place {
+            digest: key.digest(),
+            shift: 0,
+        };
+        insert(&mut self.root, alloc, place, (key, value))
     }
 }
 
-impl<K: Datum + Ord, V: Datum> Clone for Map<K, V> {
+impl<K: Digest + Ord, V: Datum> Clone for Map<K, V> {
     ghost is_clone = { λ map copy. copy ≡ map };
 
     fn clone(&self) -> Result<Map<K, V>, AllocError> {

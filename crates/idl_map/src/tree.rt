@@ -2,10 +2,10 @@
 //!
 //! The sides of a node differ by at most one in height, so that no way down is long. Contracts see its entries alone.
 
-ghost use Rattle.std.specs.Prelude.{◌≡◌, ◌∷◌, [], OnOk, OnErr};
+ghost use Rattle.std.specs.Prelude.{◌≡◌, ◌∷◌, [], IfSome, OnOk, OnErr};
 ghost use Rattle.std.specs.Map.{lookup};
 ghost use Rattle.std.specs.Option.{option_copied};
-ghost use Rattle.idl_map.specs.Entries.{IsAscending, entries_of, put};
+ghost use Rattle.idl_map.specs.Entries.{IsAscending, IsOnly, entries_of, put};
 
 use idl_base::Datum;
 use std::alloc::{AllocError, Global};
@@ -54,6 +54,18 @@ impl<K: Datum + Ord, V: Datum> Clone for Tree<K, V> {
             height: self.height,
             right,
         })
+    }
+}
+
+impl<K: Datum + Ord, V: Datum> Tree<K, V> {
+    /// The key, if nothing stands beside it.
+    pub fn only(&self) -> Option<&K>
+        ensures { IfSome result (λ key. IsOnly key.now self.now) }
+    {
+        if self.left.is_some() || self.right.is_some() {
+            return None;
+        }
+        Some(&self.key)
     }
 }
 

@@ -4,6 +4,7 @@ pub mod DenotesOnce
 pub mod FactsLaws
 pub mod Introduced
 pub mod LookupLaws
+pub mod MarkLemmas
 pub mod Meant
 pub mod Membership
 pub mod PlaceLemmas

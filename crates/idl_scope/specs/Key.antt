@@ -1,8 +1,9 @@
--- When two keys are one.
-use Rattle.std.specs.Prelude.{◌≡◌, Bool, true, refl}
+-- When two keys are one, and what number a key is found by.
+use Rattle.std.specs.Prelude.{◌≡◌, ℕ, Bool, true, refl}
 use Rattle.std.specs.Cmp.Lexicographic.{bytes_decides}
 use Rattle.std.proofs.Common.{ap}
 use Rattle.idl_base.specs.Exact.{both, same_number}
+use Rattle.idl_scope.specs.Digest.{mixed, path_digest, with_name}
 use Rattle.idl_scope.specs.Path.{same_path}
 use Rattle.idl_scope.specs.contracts.key.KeyPartialEq.TheImpl.{ghosts}
 use Rattle.idl_scope.specs.declared.key.Key.{Key}
@@ -80,3 +81,11 @@ copied_key Nameless (Declared m q) h = absurd h
 copied_key Nameless (Introduced m q b) h = absurd h
 copied_key Nameless (Opened q) h = absurd h
 copied_key Nameless Nameless h = refl
+
+-- the digest of a key: of the path and the name, with a number that is no byte for what is asked
+unfoldable pub key_digest : Key → ℕ
+key_digest Cursor = 257
+key_digest (Declared n path) = with_name (mixed (path_digest path) 258) n
+key_digest (Introduced n path body) = mixed (with_name (mixed (path_digest path) 259) n) body
+key_digest (Opened path) = mixed (path_digest path) 260
+key_digest Nameless = 261

@@ -1,11 +1,13 @@
 pub mod Answer
 pub mod Bases
+pub mod Digest
 pub mod Entity
 pub mod Facts
 pub mod Held
 pub mod Key
 pub mod Kind
 pub mod Lookup
+pub mod Mark
 pub mod Meaning
 pub mod Outside
 pub mod Path

@@ -3,10 +3,11 @@
 ghost use Rattle.std.specs.Prelude.{◌≡◌, IfOk};
 ghost use Rattle.idl_scope.specs.Facts.{entity_key};
 
-use crate::name::folded_name;
+use crate::digest::{mixed, with_name};
 use crate::path::Path;
 use idl_base::Datum;
 use idl_lex::Spelling;
+use idl_map::Digest;
 use std::alloc::{AllocError, Global};
 
 /// What is asked of an environment.
@@ -48,8 +49,28 @@ impl Key {
     pub fn of_entity(alloc: Global, path: &Path) -> Result<Key, AllocError>
         ensures { IfOk result (λ key. key ≡ entity_key path.now) }
     {
-        let name = folded_name(alloc, path.name())?;
+        let name = path.folded(alloc)?;
         let scope = path.scope()?;
         Ok(Key::Declared(name, scope))
+    }
+}
+
+impl Digest for Key {
+    ghost use Rattle.idl_scope.specs.Key.{key_digest};
+
+    ghost digest_of = { key_digest };
+
+    #[tactic(auto, unfolding(crate::specs::Key::key_digest))]
+    fn digest(&self) -> u64 {
+        match self {
+            Key::Cursor => 257,
+            Key::Declared(name, path) => with_name(mixed(path.digest(), 258), name.as_bytes()),
+            Key::Introduced(name, path, body) => {
+                let named = with_name(mixed(path.digest(), 259), name.as_bytes());
+                mixed(named, *body as u64)
+            }
+            Key::Opened(path) => mixed(path.digest(), 260),
+            Key::Nameless => 261,
+        }
     }
 }

@@ -6,6 +6,7 @@
 
 mod addition;
 mod answer;
+mod digest;
 mod entity;
 mod env;
 mod facts;
@@ -15,6 +16,7 @@ mod key;
 mod kind;
 mod laws;
 mod lookup;
+mod mark;
 mod name;
 mod naming;
 mod path;

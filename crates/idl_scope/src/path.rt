@@ -5,8 +5,14 @@ ghost use Rattle.std.specs.Cmp.{partial_equiv_from_equiv};
 ghost use Rattle.std.specs.Cmp.Lexicographic.{lists_agrees, lists_equiv, lists_per, lists_po, lists_ties, lists_total, nat_list_cmp_total, nat_list_eq_equiv, pointwise, slice_cmp, slice_partial_cmp, texts_po, texts_ties};
 ghost use Rattle.std.specs.Ordering.{nat_cmp};
 ghost use Rattle.std.specs.Str.{bytes_eq};
+ghost use Rattle.idl_lex.specs.Keywords.{folded};
+ghost use Rattle.idl_scope.specs.Digest.{path_digest};
+ghost use Rattle.idl_scope.specs.Mark.{marks_of};
 ghost use Rattle.idl_scope.specs.Path.{name_of, path_eq, scope_of};
 
+use crate::digest::with_child;
+use crate::mark::Mark;
+use crate::name::{folded_spelling, shared_name};
 use idl_base::Datum;
 use idl_lex::Spelling;
 use std::alloc::{AllocError, Global};
@@ -17,21 +23,32 @@ use std::rc::Rc;
 /// A path: the name of an entity as it is spelled, then those of the scopes around it, the innermost first. The global scope's
 /// has none.
 ///
-/// To every contract it is the list of its names. A clone, and the path of the scope around, share them.
+/// To every contract it is the list of its names. A clone, and the path of the scope around, share them. Beside each name its
+/// folded form is kept, and the digest of the path from there on.
 #[derive(Drop)]
 pub struct Path {
-    names: Rc<Vec<Spelling>>,
+    parts: Rc<Parts>,
     from: usize,
 }
 
+// The names of a path, and what is kept beside them.
+#[derive(Drop)]
+struct Parts {
+    names: Vec<Spelling>,
+    marks: Vec<Mark>,
+}
+
 impl Model for Path {
-    ghost use Rattle.std.specs.Prelude.{◌≤◌, List, ℕ, drop, length};
+    ghost use Rattle.std.specs.Prelude.{◌≡◌, ◌≤◌, List, ℕ, drop, length};
+    ghost use Rattle.idl_scope.specs.Mark.{marks_of};
 
     ghost Value = { List (List ℕ) };
 
-    ghost view = { λ path. drop path.from path.names.value.items };
+    ghost view = { λ path. drop path.from path.parts.value.names.items };
 
-    ghost invariant = { λ path. path.from ≤ length path.names.value.items };
+    ghost invariant = { λ path.
+        (path.from ≤ length path.parts.value.names.items)
+        × (path.parts.value.marks.items ≡ marks_of path.parts.value.names.items) };
 }
 
 impl Path {
@@ -39,8 +56,12 @@ impl Path {
     pub fn global(alloc: Global) -> Result<Path, AllocError>
         ensures { IfOk result (λ path. path ≡ []) }
     {
-        let names = Rc::new(alloc, Vec::new(alloc))?;
-        Ok(Path { names, from: 0 })
+        let parts = Parts {
+            names: Vec::new(alloc),
+            marks: Vec::new(alloc),
+        };
+        let parts = Rc::new(alloc, parts)?;
+        Ok(Path { parts, from: 0 })
     }
 
     /// The path of a name in the scope with this path.
@@ -52,15 +73,57 @@ impl Path {
         for outer in self.as_slice() {
             names.push(outer.clone()?)?;
         }
-        let names = Rc::new(alloc, names)?;
-        Ok(Path { names, from: 0 })
+        let marks = self.marks_of_child(alloc, name)?;
+        let parts = Rc::new(alloc, Parts { names, marks })?;
+        Ok(Path { parts, from: 0 })
+    }
+
+    // What is kept beside the names of the path of a name in this scope.
+    fn marks_of_child(&self, alloc: Global, name: &Spelling) -> Result<Vec<Mark>, AllocError>
+        ensures { IfOk result (λ marks. marks.items ≡ marks_of (name.now ∷ self.now)) }
+    {
+        let folded = folded_spelling(alloc, name)?;
+        let digest = with_child(self.digest(), name.as_bytes());
+        let mut marks = Vec::new(alloc);
+        marks.push(Mark { folded, digest })?;
+        for outer in self.marks() {
+            marks.push(outer.clone()?)?;
+        }
+        Ok(marks)
     }
 
     /// The names, the innermost first.
     pub fn as_slice(&self) -> &[Spelling]
         ensures { result.now ≡ self.now }
     {
-        &self.names.as_slice()[self.from..]
+        &self.parts.names.as_slice()[self.from..]
+    }
+
+    // What is kept beside them.
+    fn marks(&self) -> &[Mark]
+        ensures { result.now ≡ marks_of self.now }
+    {
+        marks_from(self.parts.marks.as_slice(), self.from)
+    }
+
+    /// A number that paths are found by: those that are alike have one.
+    pub fn digest(&self) -> u64
+        ensures { result ≡ path_digest self.now }
+    {
+        match self.marks() {
+            [] => 0,
+            [own, ..] => own.digest,
+        }
+    }
+
+    /// The name of what stands there, folded.
+    pub fn folded(&self, alloc: Global) -> Result<Spelling, AllocError>
+        ensures { IfOk result (λ name. name ≡ folded (name_of self.now)) }
+    {
+        match self.marks() {
+            [] => shared_name(alloc, &[]),
+            [own, ..] => own.folded.clone(),
+        }
     }
 
     /// The name of what stands there, which the global scope has not.
@@ -77,9 +140,9 @@ impl Path {
     pub fn scope(&self) -> Result<Path, AllocError>
         ensures { IfOk result (λ path. path ≡ scope_of self.now) }
     {
-        let names = self.names.clone()?;
-        let from = behind_first(self.names.as_slice(), self.from);
-        Ok(Path { names, from })
+        let parts = self.parts.clone()?;
+        let from = behind_first(self.parts.names.as_slice(), self.from);
+        Ok(Path { parts, from })
     }
 
     /// Whether it stands directly in the scope with that path.
@@ -91,6 +154,14 @@ impl Path {
             [_, outer @ ..] => outer == scope.as_slice(),
         }
     }
+}
+
+// Those from a place on.
+fn marks_from(marks: &[Mark], from: usize) -> &[Mark]
+    requires { from ≤ length marks.now }
+    ensures { result.now ≡ drop from marks.now }
+{
+    &marks[from..]
 }
 
 // The place behind the first of the names from a place on, if there is one.
@@ -106,9 +177,9 @@ impl Clone for Path {
     ghost is_clone = { λ path copy. copy ≡ path };
 
     fn clone(&self) -> Result<Path, AllocError> {
-        let names = self.names.clone()?;
+        let parts = self.parts.clone()?;
         Ok(Path {
-            names,
+            parts,
             from: self.from,
         })
     }

@@ -8,7 +8,6 @@ mod files;
 mod kinds;
 mod limits;
 mod memory;
-mod messages;
 mod names;
 mod rows;
 mod scripts;

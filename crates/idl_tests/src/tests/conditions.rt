@@ -1,58 +1,21 @@
 //! Conditions of the preprocessor, with the values that another one gives.
 
-use super::support::{have_rows, in_full};
+use super::support::{Telling, are_told, has_rows};
 use idl_condition::{Symbol, evaluate};
 use std::alloc::{AllocError, AllocGlobal, Global};
 use std::process::Abort;
 use std::test::Fail;
 
-// Conditions of tokens that are parted by blanks, each with its value, or with none where it is faulty.
-//
-// The values are those of GCC's preprocessor (cpp 12.2), which is asked for the 64 bits of a condition $C by
-//     for i in $(seq 63 -1 0); do printf '#if (%s) >> %d & 1\n1\n#else\n0\n#endif\n' "$C" $i; done | cpp -P -pedantic-errors
-// and a condition is faulty where this reports an error:
-//     printf '#if %s\n#endif\n' "$C" | cpp -P -pedantic-errors
-static LIKE_C: [&str; 10] = [
-    "1 + 2 * 3 = 7;( 1 + 2 ) * 3 = 9;10 - 4 - 3 = 3;2 - - 2 = 4;100 / 10 * 5 = 50;- 7 / 2 = -3",
-    "7 / - 2 = -3;- 7 % 2 = -1;7 % - 2 = 1;17 % 5 % 3 = 2;1 << 2 << 3 = 32;3 < 2 < 1 = 1;5 >= 5 = 1",
-    "1 << 62 = 4611686018427387904;- 1 < 0 = 1;4 == 4 == 1 = 1;( 6 & 3 ) == 3 = 0;6 ^ 3 & 1 = 7",
-    "6 | 1 ^ 7 = 6;- 6 & 11 = 10;- 6 | 3 = -5;~ 0 = -1;! 0 + 1 = 2;! ! 7 = 1;- ~ - 1 = 0",
-    "1 || 0 && 0 = 1;2 || 3 = 1;1 || 1 / 0 = 1;0 && 1 / 0 = 0;0 || 1 && 0 && 1 / 0 = 0",
-    "1 || 9223372036854775807 + 1 = 1;long = 0;x + 1 = 1;010 = 8;0x1F = 31;0XfF = 255;( ( ( 5 ) ) ) = 5",
-    "9223372036854775807 = 9223372036854775807;- 9223372036854775807 - 1 = -9223372036854775808",
-    "( - 9223372036854775807 - 1 ) % - 2 = 0;3037000499 * 3037000499 = 9223372030926249001",
-    "1 / 0;1 && 1 / 0;9223372036854775807 + 1;- ( - 9223372036854775807 - 1 );3037000500 * 3037000500;\
-     ( - 9223372036854775807 - 1 ) / - 1;1 << 63;1 || ( 1 / 0;1 || 1 );0 && ( );1 || 2 3;1 || * 1;1 ! 2",
-    "+;( 1 ) ( 2 );1 || 08;1 || 0x;1 || 1.5;1 || 18446744073709551616x",
-];
+// Of a condition's tokens, which are parted by blanks, the value.
+struct Value;
 
-// C leaves these open, or takes them in another way. In the last ones each parenthesis, sign and operator waits until
-// the end.
-static OURS: [&str; 4] = [
-    "0 << 63 = 0;1 >> 63 = 0;0 && - 8 >> 1 = 0;7lUlu = 7;1 || 18446744073709551615 = 1",
-    "1 << 64;1 << - 1;- 1 << 1;1 >> 64;- 8 >> 1;9223372036854775808;1 || 18446744073709551616;1 ? 2 : 3",
-    "1 , 2;1 || 'a';",
-    "`1000×1 + ( - `x`1000× )` = -998;`1000×1 + ( - `x",
-];
-
-#[test]
-fn conditions_have_these_values(rt: HostRuntime) -> Result<(), Fail> {
-    have_values(&rt, &LIKE_C)?;
-    have_values(&rt, &OURS)
-}
-
-fn have_values(rt: &(impl Abort + AllocGlobal), rows: &[&str]) -> Result<(), Fail> {
-    for rows in rows {
-        for row in in_full(rt.alloc(), rows)?.as_str().split(';') {
-            let (text, want) = row.split_once(" = ").unwrap_or((row, ""));
-            assert_eq!(rt;
-                value_of(rt.alloc(), text)?,
-                want.parse::<i64>().ok(),
-                "{row}"
-            );
+impl Telling for Value {
+    fn told(alloc: Global, text: &str) -> Result<String, AllocError> {
+        match value_of(alloc, text)? {
+            Some(value) => format!(in alloc; "{value}"),
+            None => String::from_str(alloc, "faulty"),
         }
     }
-    Ok(())
 }
 
 fn value_of(alloc: Global, text: &str) -> Result<Option<i64>, AllocError> {
@@ -63,6 +26,39 @@ fn value_of(alloc: Global, text: &str) -> Result<Option<i64>, AllocError> {
         }
     }
     evaluate(alloc, &symbols)
+}
+
+// The values are those of GCC's preprocessor (cpp 12.2), which is asked for the 64 bits of a condition $C by
+//     for i in $(seq 63 -1 0); do printf '#if (%s) >> %d & 1\n1\n#else\n0\n#endif\n' "$C" $i; done | cpp -P -pedantic-errors
+// and a condition is faulty where this reports an error:
+//     printf '#if %s\n#endif\n' "$C" | cpp -P -pedantic-errors
+static LIKE_C: [&str; 10] = [
+    "1 + 2 * 3 => 7 ¶ ( 1 + 2 ) * 3 => 9 ¶ 10 - 4 - 3 => 3 ¶ 2 - - 2 => 4 ¶ 100 / 10 * 5 => 50 ¶ - 7 / 2 => -3",
+    "7 / - 2 => -3 ¶ - 7 % 2 => -1 ¶ 7 % - 2 => 1 ¶ 17 % 5 % 3 => 2 ¶ 1 << 2 << 3 => 32 ¶ 3 < 2 < 1 => 1 ¶ 5 >= 5 => 1",
+    "1 << 62 => 4611686018427387904 ¶ - 1 < 0 => 1 ¶ 4 == 4 == 1 => 1 ¶ ( 6 & 3 ) == 3 => 0 ¶ 6 ^ 3 & 1 => 7",
+    "6 | 1 ^ 7 => 6 ¶ - 6 & 11 => 10 ¶ - 6 | 3 => -5 ¶ ~ 0 => -1 ¶ ! 0 + 1 => 2 ¶ ! ! 7 => 1 ¶ - ~ - 1 => 0",
+    "1 || 0 && 0 · 2 || 3 · 1 || 1 / 0 => 1 ¶ 0 && 1 / 0 · 0 || 1 && 0 && 1 / 0 => 0 ¶ ( ( ( 5 ) ) ) => 5",
+    "1 || 9223372036854775807 + 1 => 1 ¶ long => 0 ¶ x + 1 => 1 ¶ 010 => 8 ¶ 0x1F => 31 ¶ 0XfF => 255",
+    "9223372036854775807 => 9223372036854775807 ¶ - 9223372036854775807 - 1 => -9223372036854775808",
+    "( - 9223372036854775807 - 1 ) % - 2 => 0 ¶ 3037000499 * 3037000499 => 9223372030926249001",
+    "1 / 0 · 1 && 1 / 0 · 9223372036854775807 + 1 · - ( - 9223372036854775807 - 1 ) · 3037000500 * 3037000500 · \
+     ( - 9223372036854775807 - 1 ) / - 1 · 1 << 63 · 1 || ( 1 / 0 · 1 || 1 ) · 0 && ( ) · 1 || 2 3 · 1 || * 1 => faulty",
+    "+ · ( 1 ) ( 2 ) · 1 ! 2 · 1 || 08 · 1 || 0x · 1 || 1.5 · 1 || 18446744073709551616x => faulty",
+];
+
+// C leaves these open, or takes them in another way. In the last ones each parenthesis, sign and operator waits until
+// the end.
+static OURS: [&str; 4] = [
+    "0 << 63 · 1 >> 63 · 0 && - 8 >> 1 => 0 ¶ 7lUlu => 7 ¶ 1 || 18446744073709551615 => 1",
+    "1 << 64 · 1 << - 1 · - 1 << 1 · 1 >> 64 · - 8 >> 1 · 9223372036854775808 · 1 || 18446744073709551616 => faulty",
+    "1 ? 2 : 3 · 1 , 2 · 1 || 'a' ·  => faulty",
+    "`1000×1 + ( - `x`1000× )` => -998 ¶ `1000×1 + ( - `x => faulty",
+];
+
+#[test]
+fn conditions_have_these_values(rt: HostRuntime) -> Result<(), Fail> {
+    are_told::<Value>(&rt, &LIKE_C)?;
+    are_told::<Value>(&rt, &OURS)
 }
 
 const DEFINITIONS: &str =
@@ -83,17 +79,17 @@ const FAULTY: &str = "Y / Z;;X;defined(;defined(X;defined(X Y);defined O X C;def
 
 #[test]
 fn conditions_hold_or_not(rt: HostRuntime) -> Result<(), Fail> {
-    have_row(&rt, HOLDING, "\n=a:10: E16 error taken")?;
+    have_row(&rt, HOLDING, "a:10: E16 error taken\n")?;
     have_row(&rt, NOT_HOLDING, "")?;
-    have_row(&rt, FAULTY, "\n=a:9: E18 if")
+    have_row(&rt, FAULTY, "a:9: E18 if\n")
 }
 
 fn have_row(rt: &(impl Abort + AllocGlobal), conditions: &str, row: &str) -> Result<(), Fail> {
     for condition in conditions.split(';') {
-        let text = format!(in rt.alloc();
-            "{DEFINITIONS}\n#if {condition}\n#error taken\n#endif{row}"
+        let lines = format!(in rt.alloc();
+            "{DEFINITIONS}\n#if {condition}\n#error taken\n#endif\n"
         )?;
-        have_rows(rt, &[text.as_str()])?;
+        has_rows(rt, lines.as_str(), row)?;
     }
     Ok(())
 }

@@ -1,7 +1,7 @@
 //! Exact data at its types, by the bounds alone.
 
 use idl_base::{Datum, Seq, Text};
-use std::alloc::AllocError;
+use std::alloc::{AllocError, Global};
 use std::hash::{FoldHasher, Hash, Hasher};
 use std::test::Fail;
 
@@ -17,12 +17,15 @@ fn is_copied_alike<T: Datum + Hash>(value: &T) -> Result<bool, AllocError> {
     Ok(copy == *value && digest(&copy) == digest(value))
 }
 
+// A value of each sort.
+fn are_copied_alike(alloc: Global) -> Result<bool, AllocError> {
+    let mut items = Vec::new(alloc);
+    items.push((7u8, Some(Text::from_slice(alloc, b"Foo")?)))?;
+    is_copied_alike(&((((), true), ('ß', i64::MIN)), Seq::from_vec(items)))
+}
+
 #[test]
 fn data_is_copied_alike(rt: HostRuntime) -> Result<(), Fail> {
-    assert!(rt; is_copied_alike(&((), true))?);
-    assert!(rt; is_copied_alike(&('ß', i64::MIN))?);
-    let mut items = Vec::new(rt.alloc());
-    items.push((7u8, Some(Text::from_slice(rt.alloc(), b"Foo")?)))?;
-    assert!(rt; is_copied_alike(&Seq::from_vec(items))?);
+    assert!(rt; are_copied_alike(rt.alloc())?);
     Ok(())
 }

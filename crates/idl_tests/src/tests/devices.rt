@@ -1,64 +1,202 @@
-//! What comes of a read or a write that fails in mid-stream.
+//! What is seen from outside of runs over devices that move one byte a call, and that fail at a call.
 
-ghost use Rattle.std.specs.Prelude.{None, length};
+ghost use Rattle.std.specs.Prelude.{◌≡◌, None};
 
-use super::support::answers;
-use idl_session::{Session, Stop, run};
-use idl_source::{BufferSink, ReadFailed, SliceSource, Source};
+use super::support::replies;
+use idl_session::{BufferSink, ReadFailed, Session, Sink, Source, Stop, WriteFailed, run};
+use std::alloc::{AllocError, Global};
 use std::test::Fail;
 
-// Fails where the slice ends.
+// Moves so many bytes, a few at each call; that the end is told counts as one. Further calls fail, and a write of other
+// bytes.
 #[derive(Drop)]
-struct Broken<'a> {
-    source: SliceSource<'a>,
+struct Device<'a> {
+    bytes: &'a [u8],
+    left: usize,
+    most: usize,
     failures: u64,
 }
 
-impl<'a> Source for Broken<'a> {
+impl<'a> Device<'a> {
+    fn new(text: &'a str, left: usize, most: usize) -> Device<'a>
+        ensures { result.failures ≡ 0 }
+    {
+        Device {
+            bytes: text.as_bytes(),
+            left,
+            most,
+            failures: 0,
+        }
+    }
+}
+
+impl<'a> Source for Device<'a> {
     ghost remaining = { λ _. None };
 
-    ghost reads_left = { λ broken. length broken.source };
+    ghost reads_left = { λ device. device.left };
 
-    ghost failures = { λ broken. broken.failures };
+    ghost failures = { λ device. device.failures };
 
     fn failures(&self) -> u64 {
         self.failures
     }
 
     fn read(&mut self, buffer: &mut [u8]) -> Result<usize, ReadFailed> {
-        match self.source.read(buffer) {
-            Ok(n) if n > 0 => Ok(n),
+        if self.left == 0 {
+            self.failures += 1;
+            return Err(ReadFailed);
+        }
+        let room = buffer.len().min(self.most).min(self.left);
+        let (front, rest) = self.bytes.split_at(room.min(self.bytes.len()));
+        buffer[..front.len()].copy_from_slice(front);
+        self.bytes = rest;
+        self.left -= front.len().max(1);
+        Ok(front.len())
+    }
+}
+
+impl<'a> Sink for Device<'a> {
+    ghost written = { λ _. None };
+
+    ghost failures = { λ device. device.failures };
+
+    fn failures(&self) -> u64 {
+        self.failures
+    }
+
+    fn write(&mut self, bytes: &[u8]) -> Result<usize, WriteFailed> {
+        let n = bytes.len().min(self.most).min(self.left);
+        match self.bytes.strip_prefix(&bytes[..n]) {
+            Some(rest) if n > 0 => {
+                self.bytes = rest;
+                self.left -= n;
+                Ok(n)
+            }
             _ => {
                 self.failures += 1;
-                Err(ReadFailed)
+                Err(WriteFailed)
             }
         }
     }
 }
 
-// The commands that were read whole are served, and the other one has no effect.
-#[test]
-fn a_read_fails(rt: HostRuntime) -> Result<(), Fail> {
-    let mut session = Session::new(rt.alloc());
-    let mut source = Broken {
-        source: SliceSource::new(b"put a 1\ntypedef long X;\nroot a\nput a 2\n\n"),
-        failures: 0,
-    };
-    let mut sink = BufferSink::new(rt.alloc(), 100)?;
-    let stop = run(&mut session, &mut source, &mut sink).err();
-    assert_eq!(rt; stop, Some(Stop::ReadFailed));
-    assert_eq!(rt; sink.as_bytes(), b"ok\nok\n".as_slice());
-    answers(&rt, &mut session, "dump a\n", b"rows 1\ntypedef long X;\n")
+// The commands of a script, the replies to them, how many bytes of both are moved before a call fails, and how many at a
+// call.
+#[derive(Clone, Copy)]
+struct Script<'a> {
+    given: &'a str,
+    wanted: &'a str,
+    reads: usize,
+    writes: usize,
+    most: usize,
 }
 
-// An edit that was accepted stands, also where its reply didn't go out.
+const ASKED: &str =
+    "dump a.idl\nroot a.idl\ndiagnostics a.idl\ndump a.idl\nabsent a.idl\nroot d/b.idl\ndump d/b.idl\n\
+     put c.idl 3\n#ifdef R\ntypedef long Y;\n#endif\nroot c.idl\ndump c.idl\n";
+
+// A run over such devices stops so, and leaves a session that answers so. Nothing was called after a call that failed.
+fn leaves(alloc: Global, script: Script<'_>, stop: Option<Stop>, want: &[u8]) -> Result<(), Fail> {
+    let mut source = Device::new(script.given, script.reads, script.most);
+    let mut sink = Device::new(script.wanted, script.writes, script.most);
+    let mut session = Session::new(alloc);
+    let is_so = run(&mut session, &mut source, &mut sink).err() == stop
+        && (source.left, sink.left) == (0, 0)
+        && source.failures == u64::from(stop == Some(Stop::ReadFailed))
+        && sink.failures == u64::from(stop == Some(Stop::WriteFailed));
+    let answer = replies(alloc, &mut session, ASKED)?;
+    if is_so && answer.as_bytes() == want {
+        return Ok(());
+    }
+    let Script { reads, writes, .. } = script;
+    Err(Fail::new(format_args!("{stop:?}: {reads} read, {writes} written")))
+}
+
+// What a session answers after the first bytes of these commands.
+fn after(alloc: Global, given: &str, len: usize) -> Result<BufferSink, Fail> {
+    let mut session = Session::new(alloc);
+    let _replies = replies(alloc, &mut session, given.get(..len).unwrap_or(given))?;
+    replies(alloc, &mut session, ASKED)
+}
+
+// Whichever read of a command fails, those before it have been served, and it has had no effect. Whichever write of its
+// reply fails, it has been served, and none after it, also where all have been read at once. To read the end is to read an
+// empty command.
+fn has_stops(alloc: Global, script: &mut Script<'_>, command: &str) -> Result<(), Fail> {
+    let (lines, reply) = command.split_once("=>").unwrap_or((command, ""));
+    let before = after(alloc, script.given, script.reads)?;
+    for _ in 0..lines.len().max(1) {
+        leaves(alloc, *script, Some(Stop::ReadFailed), before.as_bytes())?;
+        script.reads = script.reads.saturating_add(1);
+    }
+    let done = after(alloc, script.given, script.reads)?;
+    let mut ahead = *script;
+    if script.most > 1 {
+        ahead.reads = script.reads.max(script.given.len());
+    }
+    for _ in 0..reply.len() {
+        leaves(alloc, ahead, Some(Stop::WriteFailed), done.as_bytes())?;
+        ahead.writes = ahead.writes.saturating_add(1);
+    }
+    script.writes = ahead.writes;
+    Ok(())
+}
+
+// All commands of a text, or all replies.
+fn joined(alloc: Global, text: &str, is_given: bool) -> Result<String, AllocError> {
+    let mut all = String::new(alloc);
+    for command in text.split('|') {
+        let (lines, reply) = command.split_once("=>").unwrap_or((command, ""));
+        all.push_str(if is_given { lines } else { reply })?;
+    }
+    Ok(all)
+}
+
+fn have_stops(alloc: Global, text: &str, most: usize) -> Result<(), Fail> {
+    let given = joined(alloc, text, true)?;
+    let wanted = joined(alloc, text, false)?;
+    let mut script = Script {
+        given: given.as_str(),
+        wanted: wanted.as_str(),
+        reads: 0,
+        writes: 0,
+        most,
+    };
+    for command in text.split('|') {
+        has_stops(alloc, &mut script, command)?;
+    }
+    let all = after(alloc, script.given, script.reads)?;
+    leaves(alloc, script, None, all.as_bytes())
+}
+
+// Commands, each with its reply behind `=>`, and `|` between them; behind the last one what the end has.
+static SCRIPTS: [&str; 4] = [
+    "put a.idl 2\ntypedef long X;\ntypedef short X;\n=>ok\n|root a.idl\n=>ok\n|diagnostics a.idl\n\
+     =>rows 1\na.idl:2: E33 X\n|=>",
+    "put a.idl 2\ntypedef long X;\ntypedef short X;\n=>ok\n|root a.idl\n=>ok\n|diagnostics a.idl\n\
+     =>rows 1\na.idl:2: E33 X\n|dump a.idl\n=>rows 0\n|splice a.idl 2 1 0\n=>ok\n|dump a.idl\n\
+     =>rows 1\ntypedef long X;\n|=>",
+    "root a.idl\n=>ok\n|put a.idl 3\ntypedef long X;\ntypedef long Y;\n|=>refused 10\n",
+    "put a.idl 4\n#include \"b.idl\"\n#ifdef Q\ntypedef long X;\n#endif\n=>ok\n|root a.idl\n=>ok\n|search d\n=>ok\n|\
+     absent a.idl\n=>rows 2\nb.idl\nd/b.idl\n|put d/b.idl 1\ntypedef long X;\n=>ok\n|dump a.idl\n=>rows 1\n\
+     typedef long X;\n|define Q 1\n=>ok\n|diagnostics a.idl\n=>rows 1\na.idl:3: E33 X\n|splice a.idl 1 1 1\n\n=>ok\n|\
+     undef Q\n=>ok\n|dump a.idl\n=>rows 0\n|remove d/b.idl\n=>ok\n|root a.idl\n=>refused 8\n|unroot a.idl\n=>ok\n|\
+     dump a.idl\n=>refused 7\n|\n=>refused 1\n|put a//b 1\nroot c.idl\n=>refused 2\n|define R\n=>ok\n|=>",
+];
+
 #[test]
-fn a_write_fails(rt: HostRuntime) -> Result<(), Fail> {
-    let mut session = Session::new(rt.alloc());
-    let mut source = SliceSource::new(b"root a\nroot b\nroot c\n");
-    let mut sink = BufferSink::new(rt.alloc(), 5)?;
-    let stop = run(&mut session, &mut source, &mut sink).err();
-    assert_eq!(rt; stop, Some(Stop::WriteFailed));
-    assert_eq!(rt; sink.as_bytes(), b"ok\nok".as_slice());
-    answers(&rt, &mut session, "root c\nroot b\n", b"ok\nrefused 8\n")
+fn runs_over_one_byte_a_call_stop_where_a_call_fails(rt: HostRuntime) -> Result<(), Fail> {
+    all_have_stops(rt.alloc(), 1)
+}
+
+#[test]
+fn runs_over_all_bytes_at_once_stop_where_a_call_fails(rt: HostRuntime) -> Result<(), Fail> {
+    all_have_stops(rt.alloc(), 4096)
+}
+
+fn all_have_stops(alloc: Global, most: usize) -> Result<(), Fail> {
+    for text in &SCRIPTS {
+        have_stops(alloc, text, most)?;
+    }
+    Ok(())
 }

@@ -1,74 +1,82 @@
 //! Which bytes are names of files and of directories, and where operands lead.
 
-use super::support::in_full;
+use super::support::{Telling, are_told};
 use idl_source::{Directory, Name, join};
+use std::alloc::{AllocError, Global};
 use std::test::Fail;
+
+// Of a text which of the two it is.
+struct Sort;
+
+impl Telling for Sort {
+    fn told(alloc: Global, text: &str) -> Result<String, AllocError> {
+        String::from_str(alloc, sort_of(text.as_bytes()))
+    }
+}
+
+fn sort_of(text: &[u8]) -> &'static str {
+    match (Name::new(text).is_some(), Directory::new(text).is_some()) {
+        (true, true) => "both",
+        (true, false) => "name",
+        (false, true) => "directory",
+        (false, false) => "neither",
+    }
+}
 
 // A name is visible segments between single slashes, and a directory is a name or a place to begin.
 static TEXTS: [&str; 3] = [
-    "name|a.idl|a/b.idl|a/b|/a|../a|../../x/y|...|.a|a..|!~|`255×n`",
-    "directory|.|/|..|../..",
-    "none||//a|/..|/../a|a//b|a/|a/.|./a|a/../b|../a/..|a b|a\x7f|a\n|é|./.|../|a/..|`256×n`",
+    "a.idl · a/b.idl · a/b · /a · ../a · ../../x/y · ... · .a · a.. · !~ · `255×n` => both",
+    ". · / · .. · ../.. => directory",
+    " · //a · /.. · /../a · a//b · a/ · a/. · ./a · a/../b · ../a/.. · a b · a\x7f · a\n · é · ./. · ../ · a/.. · \
+     `256×n` => neither",
+];
+
+// Of a file its directory.
+struct Home;
+
+impl Telling for Home {
+    fn told(alloc: Global, text: &str) -> Result<String, AllocError> {
+        match Name::new(text.as_bytes()) {
+            Some(name) => String::from_utf8_lossy(alloc, name.directory().as_bytes()),
+            None => String::from_str(alloc, "no name"),
+        }
+    }
+}
+
+const HOMES: &str =
+    "a.idl => . ¶ /a.idl => / ¶ a/b/c.idl => a/b ¶ /a/b => /a ¶ ../a => .. ¶ ../../a => ../.. ¶ ../a/b => ../a";
+
+// Of a directory and an operand, with a blank between, the name that the operand makes there: it makes none where it leads
+// above `/`, or to no name.
+struct Operand;
+
+impl Telling for Operand {
+    fn told(alloc: Global, text: &str) -> Result<String, AllocError> {
+        let (directory, operand) = text.split_once(' ').unwrap_or((text, ""));
+        match joined(directory.as_bytes(), operand.as_bytes()) {
+            Some(name) => String::from_utf8_lossy(alloc, name.as_bytes()),
+            None => String::from_str(alloc, "none"),
+        }
+    }
+}
+
+fn joined(directory: &[u8], operand: &[u8]) -> Option<Name> {
+    join(&Directory::new(directory)?, operand)
+}
+
+static OPERANDS: [&str; 6] = [
+    ". a.idl => a.idl ¶ . a\x7f/../b => b ¶ . `255×n` => `255×n` ¶ . ./. · . a b · . `256×n` => none",
+    "/ a.idl => /a.idl ¶ / `254×n` => /`254×n` ¶ / // · / `255×n` => none",
+    "/a ../c => /c ¶ /a ../../c · /a ../../a/c => none",
+    "a  => a ¶ a .. => none",
+    "a/b c => a/b/c ¶ a/b .//./c//d => a/b/c/d ¶ a/b ../c => a/c ¶ a/b ../../c => c ¶ a/b ../../../c => ../c ¶ \
+     a/b /c/./d/../e => /c/e ¶ a/b /../c => none ¶ a/b .. => a",
+    ".. ../c => ../../c ¶ .. x/../c => ../c",
 ];
 
 #[test]
-fn names_and_directories_are_these(rt: HostRuntime) -> Result<(), Fail> {
-    for row in &TEXTS {
-        let row = in_full(rt.alloc(), row)?;
-        let (sort, texts) = row.as_str().split_once('|').ok_or("no sort")?;
-        for text in texts.split('|') {
-            let name = Name::new(text.as_bytes());
-            assert_eq!(rt; name.is_some(), sort == "name", "{text}");
-            let directory = Directory::new(text.as_bytes());
-            assert_eq!(rt; directory.is_some(), sort != "none", "{text}");
-        }
-    }
-    Ok(())
-}
-
-#[test]
-fn the_directory_of_a_file_ends_before_its_last_slash(rt: HostRuntime) -> Result<(), Fail> {
-    let rows =
-        "a.idl in .;/a.idl in /;a/b/c.idl in a/b;/a/b in /a;../a in ..;../../a in ../..;../a/b in ../a";
-    for row in rows.split(';') {
-        let (name, want) = row.split_once(" in ").ok_or("no directory")?;
-        let name = Name::new(name.as_bytes()).ok_or("no name")?;
-        assert_eq!(rt; name.directory().as_bytes(), want.as_bytes());
-    }
-    Ok(())
-}
-
-// Operands in a directory, each with its name, or with nothing where it makes none: it leads above `/`, or to no name.
-static OPERANDS: [(&str, &str); 6] = [
-    (
-        ".",
-        "a.idl is a.idl;./. is ;a b is ;a\x7f/../b is b;`255×n` is `255×n`;`256×n` is ",
-    ),
-    (
-        "/",
-        "a.idl is /a.idl;// is ;`254×n` is /`254×n`;`255×n` is ",
-    ),
-    ("/a", "../c is /c;../../c is ;../../a/c is "),
-    ("a", " is a;.. is "),
-    (
-        "a/b",
-        "c is a/b/c;.//./c//d is a/b/c/d;../c is a/c;../../c is c;../../../c is ../c;/c/./d/../e is /c/e;\
-         /../c is ;.. is a",
-    ),
-    ("..", "../c is ../../c;x/../c is ../c"),
-];
-
-#[test]
-fn operands_are_joined_in_normal_form(rt: HostRuntime) -> Result<(), Fail> {
-    for (directory, rows) in &OPERANDS {
-        let directory = Directory::new(directory.as_bytes()).ok_or("no directory")?;
-        for row in in_full(rt.alloc(), rows)?.as_str().split(';') {
-            let (spelled, want) = row.split_once(" is ").ok_or("no name")?;
-            match join(&directory, spelled.as_bytes()) {
-                Some(name) => assert_eq!(rt; name.as_bytes(), want.as_bytes(), "{row}"),
-                None => assert!(rt; want.is_empty(), "{row}"),
-            }
-        }
-    }
-    Ok(())
+fn names_directories_and_operands_are_these(rt: HostRuntime) -> Result<(), Fail> {
+    are_told::<Sort>(&rt, &TEXTS)?;
+    are_told::<Home>(&rt, &[HOMES])?;
+    are_told::<Operand>(&rt, &OPERANDS)
 }

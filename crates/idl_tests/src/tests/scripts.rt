@@ -1,7 +1,12 @@
-//! Worked replies to commands.
+//! Worked replies to commands, and the words of refusals and stops.
 
 use super::support::{answers, have_replies};
+use idl_session::Refusal::{
+    BadMacro, BadName, Malformed, NoMemory, NoSuchFile, NoSuchRoot, OutsideFile, OverLimit,
+    RootThere, Unfinished,
+};
 use idl_session::Session;
+use idl_session::Stop::{ReadFailed, WriteFailed};
 use std::test::Fail;
 
 static SCRIPTS: [&str; 14] = [
@@ -64,12 +69,8 @@ static MALFORMED: &str =
 #[test]
 fn malformed_commands_are_refused(rt: HostRuntime) -> Result<(), Fail> {
     let want = "refused 1\n".repeat(rt.alloc(), MALFORMED.split('\n').count())?;
-    answers(
-        &rt,
-        &mut Session::new(rt.alloc()),
-        MALFORMED,
-        want.as_bytes(),
-    )
+    let mut session = Session::new(rt.alloc());
+    answers(&rt, &mut session, MALFORMED, want.as_bytes())
 }
 
 #[test]
@@ -84,5 +85,19 @@ fn a_last_line_without_newline_counts_if_it_has_a_byte(rt: HostRuntime) -> Resul
     ] {
         answers(&rt, &mut Session::new(rt.alloc()), script, want.as_bytes())?;
     }
+    Ok(())
+}
+
+#[test]
+fn refusals_and_stops_have_words(rt: HostRuntime) -> Result<(), Fail> {
+    let mut said = String::new(rt.alloc());
+    write!(said, "{Malformed};{BadName};{NoSuchFile};")?;
+    write!(said, "{OutsideFile};{OverLimit};{BadMacro};")?;
+    write!(said, "{NoSuchRoot};{RootThere};{NoMemory};")?;
+    write!(said, "{Unfinished};{ReadFailed};{WriteFailed}")?;
+    let want =
+        "malformed command;name not allowed;no such file;lines outside the file;over a limit;macro not allowed;\
+         no such root;root already there;no memory;input ended inside a command;read failed;write failed";
+    assert_eq!(rt; said.as_str(), want);
     Ok(())
 }

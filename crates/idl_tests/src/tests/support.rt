@@ -1,4 +1,4 @@
-//! What the tests share: texts with repeated pieces, scripts with their replies, files with their rows.
+//! What the tests share: texts with what is told of them, scripts with their replies, files with their rows.
 
 ghost use Rattle.std.specs.Prelude.{◌≡◌, IfOk};
 
@@ -55,6 +55,41 @@ fn push_numbered(text: &mut String, n: usize, piece: &str) -> Result<(), AllocEr
     Ok(())
 }
 
+/// A way to put a text in words.
+pub trait Telling {
+    fn told(alloc: Global, text: &str) -> Result<String, AllocError>;
+}
+
+/// In the rows what is told of texts stands behind them, with ` => ` between, and ` · ` between texts of which the same is
+/// told. ` ¶ ` stands between one such list and the next, and `` `3×a` `` for `aaa`.
+pub fn are_told<T: Telling>(rt: &(impl Abort + AllocGlobal), rows: &[&str]) -> Result<(), Fail> {
+    for row in rows {
+        let row = in_full(rt.alloc(), row)?;
+        row_is_told::<T>(rt, row.as_str())?;
+    }
+    Ok(())
+}
+
+fn row_is_told<T: Telling>(rt: &(impl Abort + AllocGlobal), row: &str) -> Result<(), Fail> {
+    for list in row.split(" ¶ ") {
+        let (texts, want) = list.split_once(" => ").unwrap_or((list, ""));
+        for text in texts.split(" · ") {
+            is_told::<T>(rt, text, want)?;
+        }
+    }
+    Ok(())
+}
+
+fn is_told<T: Telling>(
+    rt: &(impl Abort + AllocGlobal),
+    text: &str,
+    want: &str,
+) -> Result<(), Fail> {
+    let told = T::told(rt.alloc(), text)?;
+    assert_eq!(rt; told.as_str(), want, "{text}");
+    Ok(())
+}
+
 /// The lines that have no `=` before them, and the others without it. Each ends with a newline.
 pub fn parted(alloc: Global, text: &str) -> Result<(String, String), AllocError> {
     let mut given = String::new(alloc);
@@ -77,7 +112,7 @@ fn push_line(text: &mut String, line: &str) -> Result<(), AllocError> {
 pub fn replies(alloc: Global, session: &mut Session, script: &str) -> Result<BufferSink, Fail> {
     let mut source = SliceSource::new(script.as_bytes());
     let mut sink = sink_of(alloc, 65_536)?;
-    run(session, &mut source, &mut sink).map_err(|_stop| Fail::from("stopped"))?;
+    run(session, &mut source, &mut sink)?;
     Ok(sink)
 }
 
@@ -107,24 +142,30 @@ pub fn answers(
 pub fn have_replies(rt: &(impl Abort + AllocGlobal), texts: &[&str]) -> Result<(), Fail> {
     for text in texts {
         let (script, want) = parted(rt.alloc(), text)?;
-        let mut session = Session::new(rt.alloc());
-        answers(rt, &mut session, script.as_str(), want.as_bytes())?;
+        has_replies(rt, script.as_str(), want.as_str())?;
     }
     Ok(())
 }
 
-/// For each text a root `a` of the lines without `=` has the other lines as its rows: diagnostics, which begin with its
-/// name, or else its dump.
+fn has_replies(rt: &(impl Abort + AllocGlobal), script: &str, want: &str) -> Result<(), Fail> {
+    let mut session = Session::new(rt.alloc());
+    answers(rt, &mut session, script, want.as_bytes())
+}
+
+/// For each text a root `a` of the lines without `=` has the other lines as its rows.
 pub fn have_rows(rt: &(impl Abort + AllocGlobal), texts: &[&str]) -> Result<(), Fail> {
-    let alloc = rt.alloc();
     for text in texts {
-        let (lines, rows) = parted(alloc, text)?;
-        let script = script_of(alloc, lines.as_str())?;
-        let want = lists_of(alloc, rows.as_str())?;
-        let mut session = Session::new(alloc);
-        answers(rt, &mut session, script.as_str(), want.as_bytes())?;
+        let (lines, rows) = parted(rt.alloc(), text)?;
+        has_rows(rt, lines.as_str(), rows.as_str())?;
     }
     Ok(())
+}
+
+/// A root `a` of these lines has these rows: diagnostics, which begin with its name, or else its dump.
+pub fn has_rows(rt: &(impl Abort + AllocGlobal), lines: &str, rows: &str) -> Result<(), Fail> {
+    let script = script_of(rt.alloc(), lines)?;
+    let want = lists_of(rt.alloc(), rows)?;
+    has_replies(rt, script.as_str(), want.as_str())
 }
 
 fn script_of(alloc: Global, text: &str) -> Result<String, AllocError> {

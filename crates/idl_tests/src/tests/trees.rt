@@ -1,6 +1,7 @@
 //! Every production of the grammar, what is long or deep, and the faults of units.
 
-use super::units::have_units;
+use super::support::are_told;
+use super::units::Units;
 use std::test::Fail;
 
 static UNITS: [&str; 18] = [
@@ -67,16 +68,8 @@ static FAULTS: [&str; 12] = [
 ];
 
 #[test]
-fn units_are_of_these_productions(rt: HostRuntime) -> Result<(), Fail> {
-    have_units(&rt, &UNITS)
-}
-
-#[test]
-fn units_are_long_and_nest_64_levels(rt: HostRuntime) -> Result<(), Fail> {
-    have_units(&rt, &LONG)
-}
-
-#[test]
-fn units_have_these_faults(rt: HostRuntime) -> Result<(), Fail> {
-    have_units(&rt, &FAULTS)
+fn units_are_of_these_trees_or_faults(rt: HostRuntime) -> Result<(), Fail> {
+    are_told::<Units>(&rt, &UNITS)?;
+    are_told::<Units>(&rt, &LONG)?;
+    are_told::<Units>(&rt, &FAULTS)
 }

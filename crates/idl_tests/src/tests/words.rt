@@ -1,18 +1,18 @@
 //! Units in words: what the value of a constant is, and what a pragma is.
 
 use idl_tree::{
-    Expression, Literal, Pragma, Primary, ProductOperator, ScopedName, Shift, ShiftOperator, Sum,
-    SumOperator, Tree, Unary, UnaryOperator,
+    Expression, Literal, Pragma, Primary, Product, ProductOperator, ScopedName, Shift,
+    ShiftOperator, Sum, SumOperator, Tree, Unary, UnaryOperator,
 };
-use std::alloc::AllocError;
+use std::alloc::{AllocError, Global};
 
-/// Says what a pragma is, with how long its text is.
-pub fn say_pragma(said: &mut String, pragma: &Pragma) -> Result<(), AllocError> {
+/// What a pragma is, with how long its text is.
+pub fn pragma_word(alloc: Global, pragma: &Pragma) -> Result<String, AllocError> {
     match pragma {
-        Pragma::Prefix(text) => write!(said, "prefix {}", text.len()),
-        Pragma::Id(name, text) => write!(said, "ID {} {}", name_word(name), text.len()),
+        Pragma::Prefix(text) => format!(in alloc; "prefix {}", text.len()),
+        Pragma::Id(name, text) => format!(in alloc; "ID {} {}", name_word(name), text.len()),
         Pragma::Version(name, major, minor) => {
-            write!(said, "version {} {major} {minor}", name_word(name))
+            format!(in alloc; "version {} {major} {minor}", name_word(name))
         }
     }
 }
@@ -57,30 +57,47 @@ fn shift_word(shift: &Shift) -> &'static str {
 }
 
 fn sum_word(sum: &Sum) -> &'static str {
-    let product = &sum.first;
-    match (sum.rest.as_slice().last(), product.rest.as_slice().last()) {
-        (Some((SumOperator::Plus, _operand)), _) => "+",
-        (Some((SumOperator::Minus, _operand)), _) => "-",
-        (None, Some((ProductOperator::Times, _operand))) => "*",
-        (None, Some((ProductOperator::Divided, _operand))) => "/",
-        (None, Some((ProductOperator::Remainder, _operand))) => "%",
-        (None, None) => unary_word(&product.first),
+    match sum.rest.as_slice().last() {
+        None => product_word(&sum.first),
+        Some((SumOperator::Plus, _operand)) => "+",
+        Some((SumOperator::Minus, _operand)) => "-",
+    }
+}
+
+fn product_word(product: &Product) -> &'static str {
+    match product.rest.as_slice().last() {
+        None => unary_word(&product.first),
+        Some((ProductOperator::Times, _operand)) => "*",
+        Some((ProductOperator::Divided, _operand)) => "/",
+        Some((ProductOperator::Remainder, _operand)) => "%",
     }
 }
 
 fn unary_word(unary: &Unary) -> &'static str {
-    match (unary.operator, &unary.operand) {
-        (Some(UnaryOperator::Minus), _operand) => "minus",
-        (Some(UnaryOperator::Plus), _operand) => "plus",
-        (Some(UnaryOperator::Complement), _operand) => "complement",
-        (None, Primary::Name(name)) => name_word(name),
-        (None, Primary::Literal(Literal::Integer(_value))) => "integer",
-        (None, Primary::Literal(Literal::Character(_value))) => "character",
-        (None, Primary::Literal(Literal::WideCharacter(_value))) => "wide character",
-        (None, Primary::Literal(Literal::Text(_pieces))) => "text",
-        (None, Primary::Literal(Literal::WideText(_pieces))) => "wide text",
-        (None, Primary::Literal(Literal::True)) => "TRUE",
-        (None, Primary::Literal(Literal::False)) => "FALSE",
-        (None, Primary::Parentheses(_expression)) => "parentheses",
+    match unary.operator {
+        None => primary_word(&unary.operand),
+        Some(UnaryOperator::Minus) => "minus",
+        Some(UnaryOperator::Plus) => "plus",
+        Some(UnaryOperator::Complement) => "complement",
+    }
+}
+
+fn primary_word(primary: &Primary) -> &'static str {
+    match primary {
+        Primary::Name(name) => name_word(name),
+        Primary::Literal(literal) => literal_word(literal),
+        Primary::Parentheses(_expression) => "parentheses",
+    }
+}
+
+fn literal_word(literal: &Literal) -> &'static str {
+    match literal {
+        Literal::Integer(_value) => "integer",
+        Literal::Character(_value) => "character",
+        Literal::WideCharacter(_value) => "wide character",
+        Literal::Text(_pieces) => "text",
+        Literal::WideText(_pieces) => "wide text",
+        Literal::True => "TRUE",
+        Literal::False => "FALSE",
     }
 }

@@ -1,11 +1,10 @@
-use Rattle.std.proofs.Common.{◌≡◌, List, Result, Ok, Err, sym, ap, ◌∙◌, subst}
+use Rattle.std.proofs.Common.{◌≡◌, Result, Ok, Err, sym, ap, ◌∙◌, subst}
 use Rattle.std.specs.Prelude.{OnOk, OnErr}
 use Rattle.std.specs.Map.{lookup}
-use Rattle.std.specs.declared.cmp.Ordering.{Ordering}
 use Rattle.std.proofs.lemmas.Result.{on_ok_weaker}
 use Rattle.idl_map.specs.Entries.{IsAscending, entries_of, put}
 use Rattle.idl_map.proofs.EntryLemmas.{IsAscending-put, lookup-put}
-use Rattle.idl_map.proofs.map.Map.insert.Goals as goal
+use Rattle.idl_map.proofs.bucket.Bucket.insert.Goals as goal
 
 -- what holds of the old entries and of the new ones holds of those that are left, whatever came of it
 either : {A X E : Type 0} (P : A → Type 0) (r : Result X E) (new put old : A) → OnOk r (new ≡ put) → OnErr r (new ≡ old) → P put → P old → P new

@@ -1,0 +1,57 @@
+use Rattle.std.proofs.Common.{rules, ◌≡◌, ◌<◌, ℕ, Option, Some, cond, length, sym, refl, ap, ◌∙◌, inl, inr}
+use Rattle.std.proofs.lemmas.Result.{on_err_weaker, on_ok_weaker}
+use Rattle.std.proofs.Math.ListN.{set}
+use Rattle.std.specs.Map.{lookup}
+use Rattle.idl_map.specs.Slots.{branch_seen, choice, slot_entries}
+use Rattle.idl_map.proofs.SlotLemmas.{changed_branch, put_elsewhere}
+use Rattle.idl_map.proofs.slot.+insert.Goals as goal
+
+pub returns-in_ok-branch-in-Many-clause-each_key :
+    goal.returns-in_ok-branch-in-Many-clause-each_key
+returns-in_ok-branch-in-Many-clause-each_key g t c =
+    let eq = g.K.PartialEq.eq in
+    let same = g.met.K.Datum.same in
+    let digest_of = g.K.Digest.digest_of in
+    let key = c.args.entry.0 in
+    let value = c.args.entry.1 in
+    let index = c.choice-index.result in
+    let slots = c.branch.inside.slots in
+    let child = c.insert-in-Many.new.slot in
+    let chosen : g.row.K.Denot → ℕ = λ k. choice c.in-Many.shift (digest_of k) in
+    let change : g.row.K.Denot → Option g.row.V.Denot → Option g.row.V.Denot = λ k o. cond (g.K.PartialEq.eq k key) (Some value) o in
+    let at : chosen key ≡ index = ap (choice c.in-Many.shift) (sym c.requires) ∙ sym c.choice-index.ensures.value in
+    let within : index < length slots = search (rules, c.choice-index.ensures.below) in
+    let taken : c.in_ok-branch-in-Many.branch.now ≡ c.in-Many.shared.value = elim c.in_ok-branch-in-Many.ensures.value [ inl h ↦ h | inr h ↦ h ] in
+    let old = c.in-Many.shared.value in
+    let put = c.make_mut.follows.holds (branch_seen digest_of (set slots index child)) (search rules) in
+    on_ok_weaker c.insert-in-Many.result
+    (λ below k.
+    changed_branch eq same digest_of c.in-Many.shift change slots index child _ old _ within (put_elsewhere eq same chosen key value index at) (c.branch.view_is ∙ taken) put below k
+    ∙ ap (λ s. change k (lookup (eq k) (slot_entries digest_of s))) (sym c.in-Many.is)
+    ∙ ap (change k) (c.divide.ensures.each_key k))
+    c.insert-in-Many.ensures.each_key
+
+pub returns-in_ok-branch-in-Many-clause-err :
+    goal.returns-in_ok-branch-in-Many-clause-err
+returns-in_ok-branch-in-Many-clause-err g t c =
+    let eq = g.K.PartialEq.eq in
+    let same = g.met.K.Datum.same in
+    let digest_of = g.K.Digest.digest_of in
+    let key = c.args.entry.0 in
+    let value = c.args.entry.1 in
+    let index = c.choice-index.result in
+    let slots = c.branch.inside.slots in
+    let child = c.insert-in-Many.new.slot in
+    let chosen : g.row.K.Denot → ℕ = λ k. choice c.in-Many.shift (digest_of k) in
+    let change : g.row.K.Denot → Option g.row.V.Denot → Option g.row.V.Denot = λ k o. o in
+    let at : chosen key ≡ index = ap (choice c.in-Many.shift) (sym c.requires) ∙ sym c.choice-index.ensures.value in
+    let within : index < length slots = search (rules, c.choice-index.ensures.below) in
+    let taken : c.in_ok-branch-in-Many.branch.now ≡ c.in-Many.shared.value = elim c.in_ok-branch-in-Many.ensures.value [ inl h ↦ h | inr h ↦ h ] in
+    let old = c.in-Many.shared.value in
+    let put = c.make_mut.follows.holds (branch_seen digest_of (set slots index child)) (search rules) in
+    on_err_weaker c.insert-in-Many.result
+    (λ below k.
+    changed_branch eq same digest_of c.in-Many.shift change slots index child _ old _ within (λ k o other. refl) (c.branch.view_is ∙ taken) put below k
+    ∙ ap (λ s. change k (lookup (eq k) (slot_entries digest_of s))) (sym c.in-Many.is)
+    ∙ ap (change k) (c.divide.ensures.each_key k))
+    c.insert-in-Many.ensures.err
