@@ -161,6 +161,8 @@ impl<'a> Walker<'a> {
         ensures env { OnOk result (self.new.env.now ≡ self.old.env.now) }
     {
         let at = self.at;
+        self.at = last_at(at, name) + 1;
+        self.gives_back = false;
         let head = ScopedName {
             is_global: false,
             first: name.first.clone()?,
@@ -170,10 +172,7 @@ impl<'a> Walker<'a> {
             own: &self.own,
             cursor: self.cursor.as_slice(),
         };
-        let found = resolve(self.env, log, place, &head);
-        self.at = last_at(at, name) + 1;
-        self.gives_back = false;
-        match found {
+        match resolve(self.env, log, place, &head) {
             Ok(found) => {
                 if found.entity.get().kind.is_scope() {
                     return Ok(());

@@ -24,8 +24,8 @@ returns-clause-visit c =
     let before = c.note.new.self in
     let last = last_at old.at name in
     let table = used_table way old.bases e behind in
-    let code = c.in_ok-code.ensures behind c.in_ok-constants.ensures ∙ (λ i. first (codes_in (used_table way old.bases (c.get.ensures i) behind))) in
-    let fault = (λ i. noted old.fault (map (fault_at (c.last_at.ensures i)) (option_to_list c.in_ok-code.code)))
+    let code = c.in_ok-code.ensures behind c.in_ok-constants.ensures ∙ (λ i. first (codes_in (used_table way old.bases (c.get-entity.ensures i) behind))) in
+    let fault = (λ i. noted old.fault (map (fault_at (c.last_at-last.ensures i)) (option_to_list c.in_ok-code.code)))
     ∙ noted-by old.fault last table c.in_ok-code.code (used-up way old.bases e behind) code in
     let after : Walker → ℕ → List Addition → List (List (List ℕ)) → Entity → Walk = λ w at own found f. record (held w) {
       at = at + 1;
@@ -37,10 +37,10 @@ returns-clause-visit c =
       found = found;
       values = values_after way f.value (held_values w.values);
     } in
-    let path = c.in_ok-clone.ensures.cases ∙ ap (λ (f : Entity). f.path) c.get.ensures in
-    let scopes = c.front.ensures ∙ ap (take reach) c.as_slice.ensures.value in
+    let path = c.in_ok-clone.ensures.cases ∙ ap (λ (f : Entity). f.path) c.get-entity.ensures in
+    let scopes = c.front-scopes.ensures ∙ ap (take reach) c.as_slice.ensures.value in
     c.in_ok-follow.ensures.walk
-    ∙ (λ i. after before c.last_at.result (c.in_ok-introduce.ensures i).additions (c.in_ok-push.ensures.items i) (c.get.ensures i))
-    ∙ (λ i. after before (c.last_at.ensures i) (with_uses (folded name.first) (scopes i) before.own.additions) (before.found.items ++ path i ∷ []) e)
+    ∙ (λ i. after before c.last_at-last.result (c.in_ok-introduce.ensures i).additions (c.in_ok-push.ensures.items i) (c.get-entity.ensures i))
+    ∙ (λ i. after before (c.last_at-last.ensures i) (with_uses (folded name.first) (scopes i) before.own.additions) (before.found.items ++ path i ∷ []) e)
     ∙ (λ i. after (c.note.ensures i) last (with_uses (folded name.first) (take reach (c.note.ensures i).cursor.items) (c.note.ensures i).own.additions) ((c.note.ensures i).found.items ++ e.path ∷ []) e)
     ∙ (λ i. record (after old last (with_uses (folded name.first) (take reach old.cursor.items) old.own.additions) (old.found.items ++ e.path ∷ []) e) { fault = fault i })
