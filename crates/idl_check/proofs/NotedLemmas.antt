@@ -1,14 +1,17 @@
 -- The least fault of a walk, as further ones are noted.
-use Rattle.std.proofs.Common.{◌≡◌, ◌∙◌, ℕ, Bool, true, false, List, [], ◌∷◌, ◌++◌, Option, None, Some, map, refl, sym, ap, subst, arith, inl, inr}
+use Rattle.std.proofs.Common.{◌≡◌, ◌∙◌, ℕ, Bool, true, false, cond, List, [], ◌∷◌, ◌++◌, Option, None, Some, Ok, map, refl, sym, ap, subst, arith, inl, inr}
 use Rattle.std.proofs.lemmas.Bool.{cond_both}
 use Rattle.std.proofs.lemmas.List.Elements.{All-weaker}
 use Rattle.std.proofs.lemmas.List.Sums.{fold-append}
 use Rattle.std.specs.Prelude.{All, fold, option_to_list}
 use Rattle.idl_check.specs.Codes.{Table, codes_in, faults_by}
 use Rattle.idl_check.specs.Judging.{IsNotAfter}
-use Rattle.idl_check.specs.Walk.{Visit, Walk, faulty_if, noted, noted_in, quiet, with_oneway}
+use Rattle.idl_check.specs.Walk.{Visit, Walk, faulty_if, head_visit, noted, noted_in, past_name, quiet, with_oneway}
 use Rattle.idl_event.specs.declared.code.Code.{Code}
-use Rattle.idl_event.specs.declared.code.Code.TheVariants.{BadOneway}
+use Rattle.idl_event.specs.declared.code.Code.TheVariants.{BadOneway, NoScope}
+use Rattle.idl_scope.specs.Lookup.{is_scope}
+use Rattle.idl_scope.specs.declared.found.Found.{Found}
+use Rattle.idl_tree.specs.declared.name.ScopedName.{ScopedName}
 use Rattle.idl_unit.specs.Faults.{lesser_fault}
 use Rattle.idl_unit.specs.TokenRules.{fault_at, first}
 use Rattle.idl_unit.specs.declared.fault.Fault.{Fault}
@@ -75,3 +78,15 @@ one_way at w = record w { fault = noted w.fault (fault_at at BadOneway ∷ []) }
 
 pub noted_in-one_way : (at : ℕ) (v : Visit) (fault : Option Fault) → noted_in (with_oneway at v) fault ≡ one_way at (noted_in v fault)
 noted_in-one_way at v fault = λ i. record v.after { fault = sym (noted-append fault v.faults (fault_at at BadOneway ∷ [])) i }
+
+-- the first part of a name denotes a scope, or something else
+pub head-scope : (name : ScopedName) (w : Walk) (found : Found) (fault : Option Fault) → is_scope found.entity.kind ≡ true
+    → noted_in (head_visit name w (Ok found)) fault ≡ record (past_name name w) { fault = fault }
+head-scope name w found fault h =
+    ap (λ b. record (past_name name w) { fault = noted fault (cond b [] (fault_at w.at NoScope ∷ [])) }) h
+    ∙ noted_in-quiet (past_name name w) fault
+
+pub head-other : (name : ScopedName) (w : Walk) (found : Found) (fault : Option Fault) → is_scope found.entity.kind ≡ false
+    → noted_in (head_visit name w (Ok found)) fault ≡ record (past_name name w) { fault = noted fault (fault_at w.at NoScope ∷ []) }
+head-other name w found fault h =
+    ap (λ b. record (past_name name w) { fault = noted fault (cond b [] (fault_at w.at NoScope ∷ [])) }) h

@@ -225,36 +225,14 @@ pub fn finished(
 ) -> Result<Shared<Entity>, AllocError>
     ensures { IfOk result (λ entity. entity ≡ finished bases.now value.now begun.now) }
 {
-    let is_interface = begun.kind == Kind::Interface;
-    let path = begun.path.clone()?;
-    let bases = if is_interface {
-        bases.clone()?
-    } else {
-        begun.bases.clone()?
-    };
-    let operations = begun.operations.clone()?;
-    let meaning = begun.meaning.clone()?;
-    let value = if is_interface {
-        begun.value.clone()?
-    } else {
-        value.clone()?
-    };
-    let enumerators = begun.enumerators.clone()?;
-    let entity = Entity {
-        path,
-        kind: begun.kind,
-        is_local: begun.is_local,
-        stage: if is_interface {
-            Stage::Open
-        } else {
-            Stage::Complete
-        },
-        bases,
-        operations,
-        meaning,
-        value,
-        enumerators,
-    };
+    let mut entity = begun.clone()?;
+    if begun.kind == Kind::Interface {
+        entity.stage = Stage::Open;
+        entity.bases = bases.clone()?;
+        return Shared::new(alloc, entity);
+    }
+    entity.stage = Stage::Complete;
+    entity.value = value.clone()?;
     Shared::new(alloc, entity)
 }
 

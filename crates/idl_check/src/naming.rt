@@ -2,8 +2,9 @@
 
 ghost use Rattle.std.specs.Prelude.{◌≡◌, ◌≤◌, ◌+◌, ◌∷◌, ◌++◌, [], ℕ, IfOk, None, OnOk, Some, false, length, if◌then◌else◌};
 ghost use Rattle.idl_check.specs.Declaring.{with_declared};
-ghost use Rattle.idl_check.specs.Held.{HasRoomFor, given_noted, head_noted, held, held_values, used_noted, visited};
-ghost use Rattle.idl_check.specs.Using.{last_at, name_code, part_at, values_after};
+ghost use Rattle.idl_check.specs.Held.{HasRoomFor, given_noted, head_noted, held, held_values, held_written, used_noted, visited};
+ghost use Rattle.idl_check.specs.Types.{constants_of};
+ghost use Rattle.idl_check.specs.Using.{bases_after, last_at, meaning_after, name_code, part_at, unions_after, values_after};
 ghost use Rattle.idl_check.specs.Walk.{declared_visit, noted, noted_in, unions_without, used_visit};
 ghost use Rattle.idl_memo.specs.Query.{run};
 ghost use Rattle.idl_scope.specs.Facts.{answers};
@@ -33,6 +34,7 @@ use idl_scope::{
 };
 use idl_site::{Declaration, Use};
 use idl_tree::ScopedName;
+use idl_value::Target;
 use std::alloc::{AllocError, Global};
 
 impl<'a> Walker<'a> {
@@ -159,6 +161,8 @@ impl<'a> Walker<'a> {
         ensures env { OnOk result (self.new.env.now ≡ self.old.env.now) }
     {
         let at = self.at;
+        self.at = last_at(at, name) + 1;
+        self.gives_back = false;
         let head = ScopedName {
             is_global: false,
             first: name.first.clone()?,
@@ -168,10 +172,7 @@ impl<'a> Walker<'a> {
             own: &self.own,
             cursor: self.cursor.as_slice(),
         };
-        let found = resolve(self.env, log, place, &head);
-        self.at = last_at(at, name) + 1;
-        self.gives_back = false;
-        match found {
+        match resolve(self.env, log, place, &head) {
             Ok(found) => {
                 if found.entity.get().kind.is_scope() {
                     return Ok(());
@@ -289,8 +290,33 @@ impl<'a> Walker<'a> {
         };
         introduce(alloc, &mut self.own, used, scopes)?;
         self.found.push(entity.path.clone()?)?;
+        self.follow(way, entity, behind, constants)?;
+        Ok(())
+    }
+
+    // What a used name leaves to what follows, where constants are of this type.
+    fn follow(
+        &mut self,
+        way: Use,
+        entity: &Entity,
+        behind: &Entity,
+        constants: Option<Target>,
+    ) -> Result<(), AllocError>
+        requires { constants ≡ constants_of behind.now }
+        ensures walk { OnOk result
+            (held self.new
+            ≡ record (held self.old) {
+              bases = bases_after way entity.now self.old.bases;
+              written = record (held_written self.old.written) {
+                meaning = meaning_after way entity.now behind.now self.old.written.meaning;
+              };
+              unions = unions_after way behind.now self.old.unions.items;
+              values = values_after way entity.now.value (held_values self.old.values);
+            }) }
+        ensures env { OnOk result (self.new.env.now ≡ self.old.env.now) }
+    {
         match way {
-            Use::AsBase(_) => self.bases.add(alloc, entity),
+            Use::AsBase(_) => self.bases.add(self.env.alloc(), entity),
             Use::AsType => {
                 self.written.meaning = Meaning::Named(entity.path.clone()?);
                 Ok(())
@@ -301,7 +327,7 @@ impl<'a> Walker<'a> {
             }
             Use::AsDiscriminator => {
                 let count = behind.enumerators.len() as u64;
-                let labels = Labels::new(alloc, constants, count);
+                let labels = Labels::new(self.env.alloc(), constants, count);
                 self.unions.insert(0, labels)?;
                 Ok(())
             }

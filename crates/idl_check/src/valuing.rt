@@ -1,6 +1,6 @@
 //! The walk over types, expressions and labels.
 
-ghost use Rattle.std.specs.Prelude.{◌≡◌, ◌∷◌, [], IfOk, OnOk, Some, if◌then◌else◌, not, take};
+ghost use Rattle.std.specs.Prelude.{◌≡◌, ◌∷◌, ◌++◌, [], IfOk, OnOk, Some, if◌then◌else◌, not, take};
 ghost use Rattle.std.specs.List.{list_any};
 ghost use Rattle.idl_check.specs.Held.{held, held_values, held_written};
 ghost use Rattle.idl_check.specs.Labels.{no_labels, with_default};
@@ -21,11 +21,12 @@ use crate::values::{Types, code_of};
 use crate::walk::Walker;
 use idl_base::{Seq, Text};
 use idl_event::Code;
+use idl_lex::Spelling;
 use idl_scope::{Addition, Meaning, shared_name};
 use idl_site::{Shape, Target as Purpose};
 use idl_tree::{DiscreteType, Expression, Several};
 use idl_value::{Fault, Outcome, Target, Value};
-use std::alloc::AllocError;
+use std::alloc::{AllocError, Global};
 
 impl<'a> Walker<'a> {
     /// An expression begins.
@@ -192,13 +193,7 @@ impl<'a> Walker<'a> {
         ensures at { OnOk result (self.new.at ≡ self.old.at) }
         ensures env { OnOk result (self.new.env.now ≡ self.old.env.now) }
     {
-        let alloc = self.env.alloc();
-        let mut enumerators = Vec::new(alloc);
-        enumerators.push(shared_name(alloc, names.first.as_bytes())?)?;
-        for name in names.rest.as_slice() {
-            enumerators.push(shared_name(alloc, name.as_bytes())?)?;
-        }
-        self.written.enumerators = Seq::from_vec(enumerators);
+        self.written.enumerators = spelled(self.env.alloc(), names)?;
         Ok(())
     }
 
@@ -248,4 +243,28 @@ impl<'a> Walker<'a> {
         }
         Ok(())
     }
+}
+
+// Names as they are spelled.
+fn spelled(alloc: Global, names: &Several<Text>) -> Result<Seq<Spelling>, AllocError>
+    ensures { IfOk result (λ spelled. spelled ≡ names.now.first ∷ names.now.rest) }
+{
+    let mut spelled = Vec::new(alloc);
+    spelled.push(shared_name(alloc, names.first.as_bytes())?)?;
+    spell_each(alloc, &mut spelled, names.rest.as_slice())?;
+    Ok(Seq::from_vec(spelled))
+}
+
+// Names more as they are spelled.
+fn spell_each(
+    alloc: Global,
+    spelled: &mut Vec<Spelling>,
+    names: &[Text],
+) -> Result<(), AllocError>
+    ensures { OnOk result (spelled.new.items ≡ spelled.old.items ++ names.now) }
+{
+    for name in names {
+        spelled.push(shared_name(alloc, name.as_bytes())?)?;
+    }
+    Ok(())
 }

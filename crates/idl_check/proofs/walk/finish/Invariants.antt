@@ -6,7 +6,7 @@ use Rattle.idl_check.proofs.walk.finish.Given as goal
 abbrev pub invariant-loop-entity : goal.invariant-loop-entity
 invariant-loop-entity l = record {
   rest :
-      with_finished l.paths l.constant l.own.additions (drop l.entity-index l.begun)
-      ≡ with_finished l.paths l.constant l.fn.own.additions l.begun;
+      with_finished l.bases.paths l.constant l.own.additions (drop l.entity-index l.begun)
+      ≡ with_finished l.bases.paths l.constant l.fn.own.additions l.begun;
   step : l.own.step ≡ l.fn.own.step;
 }

@@ -32,10 +32,10 @@ returns-in_ok-use_as-in-Ok-clause-run c = λ turns more.
     let middle = c.resolve.new.log in
     let after = c.looked_through.new.log in
     let gives = c.in-Ok.ensures.asked turns more ∙ ap (λ cursor. runs_over bank (under w.own (denoted turns cursor name)) log) c.as_slice.ensures.value in
-    let through = c.in_ok-behind.ensures ∙ (λ i. runs_over (answers (c.view.ensures.env i)) (under (c.view.ensures.own i).additions (looked_through way found.entity)) middle) in
+    let through = c.in_ok-behind-in-Ok.ensures ∙ (λ i. runs_over (answers (c.view.ensures.env i)) (under (c.view.ensures.own i).additions (looked_through way found.entity)) middle) in
     (λ i. (c.in_ok-use_as-in-Ok.ensures.visit i, after))
     ∙ (λ i. (noted_in (used_visit w way name found (c.get.ensures i)) w.fault, after))
-    ∙ sym (used_by bank turns way name w log found middle c.in_ok-behind.behind after gives through)
+    ∙ sym (used_by bank turns way name w log found middle c.in_ok-behind-in-Ok.behind after gives through)
 
 pub returns-in_ok-use_as-in-Ok-clause-at : goal.returns-in_ok-use_as-in-Ok-clause-at
 returns-in_ok-use_as-in-Ok-clause-at c = ap (λ w. w.at) c.in_ok-use_as-in-Ok.ensures.visit

@@ -5,8 +5,8 @@ use Rattle.idl_check.specs.Held.{held}
 use Rattle.idl_scope.specs.Facts.{answers}
 use Rattle.idl_check.proofs.walk.Walker.use_name.Goals as goal
 
-pub use_given-requires-then-gives_back : goal.use_given-requires-then-gives_back
-use_given-requires-then-gives_back c =
+pub use_given-requires : goal.use_given-requires
+use_given-requires c =
     let behind = behind_name c.args.self.now.at c.args.name.now in
     record { room = omega (arith, behind, c.requires) }
 
@@ -15,22 +15,22 @@ use_any-requires c =
     let behind = behind_name c.args.self.now.at c.args.name.now in
     record { room = omega (arith, behind, c.requires) }
 
-pub returns-then-gives_back-clause-visited : goal.returns-then-gives_back-clause-visited
-returns-then-gives_back-clause-visited c = λ turns more.
+pub returns-then-self-clause-visited : goal.returns-then-self-clause-visited
+returns-then-self-clause-visited c = λ turns more.
     let w = held c.args.self.now in
     let bank = answers c.args.self.now.env.now in
     (λ i. (held (c.note.ensures i), c.use_given.new.log))
-    ∙ sym (given_by bank turns c.args.way c.args.name.now w c.args.log.now (held c.use_given.new.self) c.use_given.new.log c.if-gives_back.true (c.in_ok-use_given.ensures.run turns more))
+    ∙ sym (given_by bank turns c.args.way c.args.name.now w c.args.log.now (held c.use_given.new.self) c.use_given.new.log c.if-self.true (c.in_ok-use_given.ensures.run turns more))
 
-pub returns-then-gives_back-clause-at : goal.returns-then-gives_back-clause-at
-returns-then-gives_back-clause-at c =
+pub returns-then-self-clause-at : goal.returns-then-self-clause-at
+returns-then-self-clause-at c =
     (λ i. (c.note.ensures i).at) ∙ c.in_ok-use_given.ensures.at ∙ behind_name c.args.self.now.at c.args.name.now
 
 pub returns-clause-visited : goal.returns-clause-visited
 returns-clause-visited c = λ turns more.
     let bank = answers c.args.self.now.env.now in
     c.in_ok-use_any.ensures.run turns more
-    ∙ sym (named_plain bank turns c.args.way c.args.name.now (held c.args.self.now) c.args.log.now c.if-gives_back.false)
+    ∙ sym (named_plain bank turns c.args.way c.args.name.now (held c.args.self.now) c.args.log.now c.if-self.false)
 
 pub returns-clause-at : goal.returns-clause-at
 returns-clause-at c = c.in_ok-use_any.ensures.at ∙ behind_name c.args.self.now.at c.args.name.now
