@@ -351,10 +351,7 @@ fn keep_begun(begun: &mut Vec<Shared<Entity>>, entity: &Shared<Entity>) -> Resul
 }
 
 // The name of a typedef that was declared last, with one more name.
-fn keep_alias(
-    alias: &mut Option<Shared<Entity>>,
-    entity: &Shared<Entity>,
-) -> Result<(), AllocError>
+fn keep_alias(alias: &mut Option<Shared<Entity>>, entity: &Shared<Entity>) -> Result<(), AllocError>
     ensures { OnOk result
         (alias.new ≡ (if kind_eq entity.now.kind Alias then Some entity.now else alias.old)) }
 {

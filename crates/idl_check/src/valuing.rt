@@ -256,11 +256,7 @@ fn spelled(alloc: Global, names: &Several<Text>) -> Result<Seq<Spelling>, AllocE
 }
 
 // Names more as they are spelled.
-fn spell_each(
-    alloc: Global,
-    spelled: &mut Vec<Spelling>,
-    names: &[Text],
-) -> Result<(), AllocError>
+fn spell_each(alloc: Global, spelled: &mut Vec<Spelling>, names: &[Text]) -> Result<(), AllocError>
     ensures { OnOk result (spelled.new.items ≡ spelled.old.items ++ names.now) }
 {
     for name in names {

@@ -244,11 +244,7 @@ impl<'a> Walker<'a> {
         let is_union = innermost.kind == Kind::Union;
         self.written.meaning = Meaning::Named(path);
         leave(&mut self.cursor);
-        if is_union {
-            self.end_union()
-        } else {
-            Ok(())
-        }
+        if is_union { self.end_union() } else { Ok(()) }
     }
 
     // The labels of the innermost union are complete.

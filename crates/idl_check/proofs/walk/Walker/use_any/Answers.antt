@@ -51,10 +51,13 @@ returns-in_ok-follow_nothing-in-Err-At-clause-run c = λ turns more.
     let asked = rw c.in-Err-At.field-0-is at c.in-Err-At.ensures.asked in
     let gives = asked turns more ∙ ap (λ cursor. runs_over bank (under w.own (denoted turns cursor name)) log) c.as_slice.ensures.value in
     (λ i. (c.in_ok-follow_nothing-in-Err-At.ensures.walk i, after))
-    ∙ (λ i. (record (held (c.use_nothing.ensures i)) {
-      unions = unions_without way (c.use_nothing.ensures i).unions.items;
-      values = values_after way None (held_values (c.use_nothing.ensures i).values);
-    }, after))
+    ∙ (λ i. (
+      record (held (c.use_nothing.ensures i)) {
+        unions = unions_without way (c.use_nothing.ensures i).unions.items;
+        values = values_after way None (held_values (c.use_nothing.ensures i).values);
+      },
+      after,
+    ))
     ∙ (λ i. (noted_in (unfound_visit w way name (At (c.in-Err-At.code-is i) (c.in-Err-At.part-is i))) w.fault, after))
     ∙ sym (unfound_by bank turns way name w log (At c.in-Err-At.code c.in-Err-At.part) after gives)
 
