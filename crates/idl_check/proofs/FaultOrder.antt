@@ -28,7 +28,7 @@ abbrev pub IsLed : List Fault → Type 0
 IsLed [] = ⊤
 IsLed (f ∷ fs) = All (Leads f) fs
 
-fold-led : (f : Fault) (fs : List Fault) → All (Leads f) fs → fold lesser_fault f fs ≡ f
+pub fold-led : (f : Fault) (fs : List Fault) → All (Leads f) fs → fold lesser_fault f fs ≡ f
 fold-led f [] led = refl
 fold-led f (g ∷ fs) led = ap (λ x. fold lesser_fault x fs) (All-head (Leads f) g fs led) ∙ fold-led f fs (All-tail (Leads f) g fs led)
 

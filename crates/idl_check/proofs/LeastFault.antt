@@ -12,14 +12,14 @@ use Rattle.idl_check.proofs.FaultOrder.{least-in}
 after-itself : (f : Fault) → IsNotAfter f f
 after-itself f = inr (refl, omega arith)
 
-after-trans : (f g h : Fault) → IsNotAfter f g → IsNotAfter g h → IsNotAfter f h
+pub after-trans : (f g h : Fault) → IsNotAfter f g → IsNotAfter g h → IsNotAfter f h
 after-trans f g h (inl a) (inl b) = inl (omega arith)
 after-trans f g h (inl a) (inr b) = inl (omega (arith, b.0))
 after-trans f g h (inr a) (inl b) = inl (omega (arith, a.0))
 after-trans f g h (inr a) (inr b) = inr (a.0 ∙ b.0, omega (arith, a.1, b.1))
 
 -- the one of two that the test tells
-abbrev is_lesser : Fault → Fault → Bool
+abbrev pub is_lesser : Fault → Fault → Bool
 is_lesser f g = nat_lt g.index f.index || (nat_eq g.index f.index && nat_lt (number_of g.code) (number_of f.code))
 
 lesser-yes : (f g : Fault) → (nat_lt g.index f.index ≡ true) ⊎ ((nat_eq g.index f.index && nat_lt (number_of g.code) (number_of f.code)) ≡ true) → IsNotAfter g f
@@ -34,7 +34,7 @@ lesser-beside f g le either (inl lt) = inl lt
 lesser-beside f g le (inl other) (inr ge) = absurd (eqb-false g.index f.index other (omega arith))
 lesser-beside f g le (inr below) (inr ge) = inr (omega arith, ltb-false (number_of g.code) (number_of f.code) below)
 
-lesser-no : (f g : Fault) → is_lesser f g ≡ false → IsNotAfter f g
+pub lesser-no : (f g : Fault) → is_lesser f g ≡ false → IsNotAfter f g
 lesser-no f g h =
     let both = or_parts (nat_lt g.index f.index) (nat_eq g.index f.index && nat_lt (number_of g.code) (number_of f.code)) h in
     lesser-beside f g (ltb-false g.index f.index both.0) (and_cases (nat_eq g.index f.index) (nat_lt (number_of g.code) (number_of f.code)) both.1) (cases_lt f.index g.index)
@@ -44,7 +44,7 @@ lesser-first f g =
     cond_both (is_lesser f g) g f (λ x. IsNotAfter x f)
     (λ h. lesser-yes f g (or_cases (nat_lt g.index f.index) (nat_eq g.index f.index && nat_lt (number_of g.code) (number_of f.code)) h)) (λ h. after-itself f)
 
-lesser-second : (f g : Fault) → IsNotAfter (lesser_fault f g) g
+pub lesser-second : (f g : Fault) → IsNotAfter (lesser_fault f g) g
 lesser-second f g = cond_both (is_lesser f g) g f (λ x. IsNotAfter x g) (λ h. after-itself g) (λ h. lesser-no f g h)
 
 fold-first : (f : Fault) (fs : List Fault) → IsNotAfter (fold lesser_fault f fs) f

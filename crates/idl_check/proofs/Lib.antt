@@ -1,9 +1,11 @@
 mod JudgeLemmas
 mod NameLemmas
+mod NotedLemmas
 mod PartLemmas
 mod RowLaws
 mod RowLemmas
 mod StandingLemmas
+mod TypeLemmas
 mod VisitLemmas
 pub mod FaultOrder
 pub mod SiteLaws

@@ -57,21 +57,21 @@ all-by n table P at up =
 pub declared-up : (s : Scope) (standing : Standing) (e : Entity) → Ascends 22 (declared_table s standing e)
 declared-up s standing e = (omega arith, (omega arith, (omega arith, (omega arith, (omega arith, tt)))))
 
-suited-up : (way : Use) (bases : Bases) (e : Entity) → Ascends 22 (suited_table way bases e)
-suited-up (AsBase is_local) bases e = (omega arith, (omega arith, (omega arith, (omega arith, tt))))
-suited-up AsType bases e = tt
-suited-up AsElement bases e = tt
-suited-up AsConstantType bases e = tt
-suited-up AsDiscriminator bases e = tt
-suited-up AsOperand bases e = tt
-suited-up Raised bases e = tt
+suited-up : (way : Use) (bases : Bases) (e behind : Entity) → Ascends 22 (suited_table way bases e behind)
+suited-up (AsBase is_local) bases e behind = (omega arith, (omega arith, (omega arith, (omega arith, tt))))
+suited-up AsType bases e behind = (omega arith, tt)
+suited-up AsElement bases e behind = tt
+suited-up AsConstantType bases e behind = (omega arith, (omega arith, tt))
+suited-up AsDiscriminator bases e behind = (omega arith, (omega arith, tt))
+suited-up AsOperand bases e behind = tt
+suited-up Raised bases e behind = tt
 
 up-if : (b : Bool) (table : Table) → Ascends 22 table → Ascends 22 (cond b table ((true, code.WrongKind) ∷ []))
 up-if true table up = up
 up-if false table up = (omega arith, tt)
 
-pub used-up : (way : Use) (bases : Bases) (e : Entity) → Ascends 22 (used_table way bases e)
-used-up way bases e = up-if (suits way e) (suited_table way bases e) (suited-up way bases e)
+pub used-up : (way : Use) (bases : Bases) (e behind : Entity) → Ascends 22 (used_table way bases e behind)
+used-up way bases e behind = up-if (suits way e) (suited_table way bases e behind) (suited-up way bases e behind)
 
 pub name-number : (why : NameCode) → 22 ≤ number_of (name_code why)
 name-number Undeclared = omega arith

@@ -1,31 +1,32 @@
 -- Runs of a walk and of its sites.
-use Rattle.std.proofs.Common.{◌≡◌, ℕ, true, false, cond, List, [], ◌∷◌, Option, None, Some, Result, Ok, Err, is_some, map, refl, sym, ap, ◌∙◌}
-use Rattle.std.specs.Option.{option_map}
-use Rattle.std.specs.Prelude.{◌+◌, OnOk, length, slice_get}
+use Rattle.std.proofs.Common.{◌≡◌, ◌∙◌, ℕ, true, false, cond, List, [], ◌∷◌, Option, None, Some, Result, Ok, Err, refl, sym, ap}
+use Rattle.std.specs.Prelude.{◌+◌, Bool, OnOk, length, slice_get}
 use Rattle.idl_memo.specs.Query.{Done, and_then, run}
 use Rattle.idl_memo.proofs.QueryLaws.{run-and_then, run-and_then_at}
-use Rattle.idl_check.specs.Held.{visited}
+use Rattle.idl_check.specs.Held.{given_noted, head_noted, used_noted, visited}
 use Rattle.idl_check.specs.Declaring.{entity_of, standing}
-use Rattle.idl_check.specs.Walk.{Walk, Visit, declared_visit, first_fault, is_over, noted_in, passed, quiet, used_visit, visit, walk}
+use Rattle.idl_check.specs.Types.{looked_through}
+use Rattle.idl_check.specs.Walk.{Visit, Walk, past_name, declared_visit, faulty_if, given_back, head_of, head_visit, is_over, noted_in, passed, quiet, unfound_visit, used, used_visit, visit, walk, with_oneway}
 use Rattle.idl_check.specs.declared.standing.Standing.{Standing}
+use Rattle.idl_event.specs.declared.code.Code.TheVariants.{BadOneway}
 use Rattle.idl_lex.specs.Keywords.{folded}
 use Rattle.idl_scope.specs.Key.{key_eq}
-use Rattle.idl_scope.specs.Lookup.{Lookup, denoted, under}
+use Rattle.idl_scope.specs.Lookup.{Lookup, by_result, denoted, under}
 use Rattle.idl_scope.specs.declared.answer.Answer.{Answer}
 use Rattle.idl_scope.specs.declared.answer.Scope.{Scope}
+use Rattle.idl_scope.specs.declared.entity.Entity.{Entity}
 use Rattle.idl_scope.specs.declared.fault.NameFault.{NameFault}
 use Rattle.idl_scope.specs.declared.found.Found.{Found}
 use Rattle.idl_scope.specs.declared.key.Key.{Key}
 use Rattle.idl_site.specs.Item.{Item, Item as item}
 use Rattle.idl_site.specs.declared.site.Declaration.{Declaration}
 use Rattle.idl_site.specs.declared.site.Use.{Use}
-use Rattle.idl_tree.specs.Interface.{spell_text}
 use Rattle.idl_tree.specs.declared.name.ScopedName.{ScopedName}
 use Rattle.idl_tree.specs.declared.several.Several.{Several}
-use Rattle.idl_check.proofs.NameLemmas.{text-length}
-use Rattle.idl_event.specs.declared.code.Code.{Code}
-use Rattle.idl_unit.specs.TokenRules.{fault_at, first}
+use Rattle.idl_unit.specs.TokenRules.{first}
 use Rattle.idl_unit.specs.declared.fault.Fault.{Fault}
+use Rattle.idl_check.proofs.NameLemmas.{text-length}
+use Rattle.idl_check.proofs.NotedLemmas.{noted_in-one_way, noted_in-quiet, one_way}
 
 -- the innermost of scopes
 pub first-at : {A : Type 0} (xs : List A) → first xs ≡ slice_get xs 0
@@ -36,31 +37,6 @@ first-at (x ∷ xs) = refl
 pub OnOk-always : {T E P : Type 0} (r : Result T E) → P → OnOk r P
 OnOk-always (Ok x) p = p
 OnOk-always (Err e) p = tt
-
--- no fault more
-first_fault-none : (fault : Option Fault) → first_fault fault [] ≡ fault
-first_fault-none None = refl
-first_fault-none (Some f) = refl
-
--- a site at which nothing is wrong
-pub noted_in-quiet : (w : Walk) (fault : Option Fault) → noted_in (quiet w) fault ≡ record w { fault = fault }
-noted_in-quiet w fault = λ i. record w { fault = first_fault-none fault i }
-
--- the first fault of a token is that of its first code
-first-map : (n : ℕ) (codes : List Code) → first (map (fault_at n) codes) ≡ option_map (fault_at n) (first codes)
-first-map n [] = refl
-first-map n (c ∷ codes) = refl
-
--- after a fault others don't count
-pub first_fault-after : (fault : Option Fault) (faults : List Fault) → is_some fault ≡ true → first_fault fault faults ≡ fault
-first_fault-after None faults h = cc
-first_fault-after (Some f) faults h = refl
-
--- and else the first code does
-pub first_fault-by : (fault : Option Fault) (n : ℕ) (codes : List Code) (code : Option Code) → is_some fault ≡ false → code ≡ first codes
-    → first_fault fault (map (fault_at n) codes) ≡ option_map (fault_at n) code
-first_fault-by None n codes code h is = first-map n codes ∙ ap (option_map (fault_at n)) (sym is)
-first_fault-by (Some f) n codes code h is = cc
 
 module _ (bank : Key → Option Answer) where
   -- a run over a bank
@@ -76,10 +52,14 @@ module _ (bank : Key → Option Answer) where
       (sym (run-and_then_at key_eq q (λ x. Done (g x)) bank log x after h))
 
   -- a site at which nothing is asked
+  pub visited_done : (turns : ℕ) (site : Item) (w : Walk) (v : Visit) (log : List (Key × Option Answer)) → visit turns site w ≡ Done v
+      → runs_over (visited turns site w) log ≡ (noted_in v w.fault, log)
+  visited_done turns site w v log h = ap (λ q. runs_over (and_then q (λ v. Done (noted_in v w.fault))) log) h
+
+  -- and at which nothing is wrong either
   pub visited_quiet : (turns : ℕ) (site : Item) (w next : Walk) (log : List (Key × Option Answer)) → visit turns site w ≡ Done (quiet next)
       → runs_over (visited turns site w) log ≡ (record next { fault = w.fault }, log)
-  visited_quiet turns site w next log h =
-      ap (λ q. runs_over (and_then q (λ v. Done (noted_in v w.fault))) log) h ∙ ap (λ x. (x, log)) (noted_in-quiet next w.fault)
+  visited_quiet turns site w next log h = visited_done turns site w (quiet next) log h ∙ ap (λ x. (x, log)) (noted_in-quiet next w.fault)
 
   -- a name that is declared in no scope
   pub declared_nowhere : (turns : ℕ) (way : Declaration) (name : List ℕ) (w : Walk) (log : List (Key × Option Answer)) → first w.cursor ≡ None
@@ -90,36 +70,109 @@ module _ (bank : Key → Option Answer) where
       (ap (λ o. elim o [
         | None ↦ Done (quiet (passed 1 w))
         | Some s ↦ and_then (under w.own (standing turns s (folded name)))
-            (λ there. Done (declared_visit w s (entity_of way name s.path) there))
+            (λ there. Done (declared_visit w s (entity_of w.written way name s.path) there))
       ]) h)
 
   -- and one in a scope, by what stands there under it
   pub declared_in : (turns : ℕ) (way : Declaration) (name : List ℕ) (w : Walk) (log : List (Key × Option Answer)) (s : Scope) (there : Standing) (after : List (Key × Option Answer))
       → first w.cursor ≡ Some s → (there, after) ≡ runs_over (under w.own (standing turns s (folded name))) log
-      → runs_over (visited turns (item.Declared way name) w) log ≡ (noted_in (declared_visit w s (entity_of way name s.path) there) w.fault, after)
+      → runs_over (visited turns (item.Declared way name) w) log ≡ (noted_in (declared_visit w s (entity_of w.written way name s.path) there) w.fault, after)
   unfolding visit
   declared_in turns way name w log s there after h gives =
       ap (λ o. runs_over (and_then (elim o [
         | None ↦ Done (quiet (passed 1 w))
         | Some s ↦ and_then (under w.own (standing turns s (folded name)))
-            (λ there. Done (declared_visit w s (entity_of way name s.path) there))
+            (λ there. Done (declared_visit w s (entity_of w.written way name s.path) there))
       ]) (λ v. Done (noted_in v w.fault))) log) h
-      ∙ visited_by (under w.own (standing turns s (folded name))) (declared_visit w s (entity_of way name s.path)) w.fault log there after gives
+      ∙ visited_by (under w.own (standing turns s (folded name))) (declared_visit w s (entity_of w.written way name s.path)) w.fault log there after gives
 
-  -- a used name, by what it denotes
-  pub used_by : (turns : ℕ) (way : Use) (name : ScopedName) (w : Walk) (log : List (Key × Option Answer)) (r : Result Found NameFault) (after : List (Key × Option Answer))
-      → (r, after) ≡ runs_over (under w.own (denoted turns w.cursor name)) log
-      → runs_over (visited turns (item.Used way name) w) log ≡ (noted_in (used_visit w way name r) w.fault, after)
+  -- a used name, by what it denotes and what stands behind that
+  abbrev by_found : ℕ → Use → ScopedName → Walk → Result Found NameFault → Lookup Visit
+  by_found turns way name w r =
+      by_result r
+      (λ found. and_then (under w.own (looked_through way found.entity)) (λ behind. Done (used_visit w way name found behind)))
+      (λ fault. Done (unfound_visit w way name fault))
+
+  pub used_by : (turns : ℕ) (way : Use) (name : ScopedName) (w : Walk) (log : List (Key × Option Answer)) (found : Found) (middle : List (Key × Option Answer)) (behind : Entity) (after : List (Key × Option Answer))
+      → (Ok found, middle) ≡ runs_over (under w.own (denoted turns w.cursor name)) log
+      → (behind, after) ≡ runs_over (under w.own (looked_through way found.entity)) middle
+      → runs_over (used_noted turns way name w) log ≡ (noted_in (used_visit w way name found behind) w.fault, after)
+  unfolding used
+  used_by turns way name w log found middle behind after gives through =
+      let found_by = under w.own (denoted turns w.cursor name) in
+      let behind_by = under w.own (looked_through way found.entity) in
+      run-and_then_at key_eq (and_then found_by (by_found turns way name w)) (λ v. Done (noted_in v w.fault)) bank log (used_visit w way name found behind) after
+      (sym (run-and_then_at key_eq found_by (by_found turns way name w) bank log (Ok found) middle gives
+      ∙ run-and_then_at key_eq behind_by (λ b. Done (used_visit w way name found b)) bank middle behind after through))
+
+  -- and one that denotes nothing
+  pub unfound_by : (turns : ℕ) (way : Use) (name : ScopedName) (w : Walk) (log : List (Key × Option Answer)) (fault : NameFault) (after : List (Key × Option Answer))
+      → (Err fault, after) ≡ runs_over (under w.own (denoted turns w.cursor name)) log
+      → runs_over (used_noted turns way name w) log ≡ (noted_in (unfound_visit w way name fault) w.fault, after)
+  unfolding used
+  unfound_by turns way name w log fault after gives =
+      let found_by = under w.own (denoted turns w.cursor name) in
+      run-and_then_at key_eq (and_then found_by (by_found turns way name w)) (λ v. Done (noted_in v w.fault)) bank log (unfound_visit w way name fault) after
+      (sym (run-and_then_at key_eq found_by (by_found turns way name w) bank log (Err fault) after gives))
+
+  -- one that isn't given back by a oneway operation
+  pub named_plain : (turns : ℕ) (way : Use) (name : ScopedName) (w : Walk) (log : List (Key × Option Answer)) → w.gives_back ≡ false
+      → runs_over (visited turns (item.Used way name) w) log ≡ runs_over (used_noted turns way name w) log
   unfolding visit
-  used_by turns way name w log r after gives = visited_by (under w.own (denoted turns w.cursor name)) (used_visit w way name) w.fault log r after gives
+  named_plain turns way name w log h = ap (λ b. runs_over (and_then (cond b (given_back turns way name w) (used turns way name w)) (λ v. Done (noted_in v w.fault))) log) h
+
+  -- what is given back, by the same without that
+  one_way_by : {X : Type 0} (q : Lookup X) (g : X → Visit) (at : ℕ) (fault : Option Fault) (log : List (Key × Option Answer)) (next : Walk) (after : List (Key × Option Answer))
+      → (next, after) ≡ runs_over (and_then q (λ x. Done (noted_in (g x) fault))) log
+      → runs_over (and_then (and_then q (λ x. Done (with_oneway at (g x)))) (λ v. Done (noted_in v fault))) log ≡ (one_way at next, after)
+  one_way_by q g at fault log next after h =
+      let r = runs_over q log in
+      visited_by q (λ x. with_oneway at (g x)) fault log r.0 r.1 refl
+      ∙ (λ i. (noted_in-one_way at (g r.0) fault i, r.1))
+      ∙ ap (λ (p : Walk × List (Key × Option Answer)). (one_way at p.0, p.1)) (sym (h ∙ run-and_then key_eq q (λ x. Done (noted_in (g x) fault)) bank log))
+
+  abbrev given_visit : ℕ → Use → ScopedName → Walk → Bool → List (List ℕ) → Lookup Visit
+  given_visit turns way name w is_global parts =
+      cond is_global (Done (with_oneway w.at (quiet (past_name name w)))) (elim parts [
+        | [] ↦ and_then (used turns way name w) (λ v. Done (with_oneway w.at v))
+        | part ∷ parts ↦ and_then (under w.own (denoted turns w.cursor (head_of name)))
+            (λ r. Done (with_oneway w.at (head_visit name w r)))
+      ])
+
+  abbrev given_walk : ℕ → Use → ScopedName → Walk → Bool → List (List ℕ) → Lookup Walk
+  given_walk turns way name w is_global parts =
+      cond is_global (Done (past_name name w)) (elim parts
+      [ [] ↦ used_noted turns way name w | part ∷ parts ↦ head_noted turns name w ])
+
+  given_same : (turns : ℕ) (way : Use) (name : ScopedName) (w : Walk) (is_global : Bool) (parts : List (List ℕ)) (log : List (Key × Option Answer)) (next : Walk) (after : List (Key × Option Answer))
+      → (next, after) ≡ runs_over (given_walk turns way name w is_global parts) log
+      → runs_over (and_then (given_visit turns way name w is_global parts) (λ v. Done (noted_in v w.fault))) log ≡ (one_way w.at next, after)
+  given_same turns way name w true parts log next after h = ap (λ (p : Walk × List (Key × Option Answer)). (one_way w.at p.0, p.1)) (sym h)
+  given_same turns way name w false [] log next after h = one_way_by (used turns way name w) (λ v. v) w.at w.fault log next after h
+  given_same turns way name w false (part ∷ parts) log next after h =
+      one_way_by (under w.own (denoted turns w.cursor (head_of name))) (head_visit name w) w.at w.fault log next after h
+
+  -- a name that is given back
+  pub given_by : (turns : ℕ) (way : Use) (name : ScopedName) (w : Walk) (log : List (Key × Option Answer)) (next : Walk) (after : List (Key × Option Answer))
+      → w.gives_back ≡ true → (next, after) ≡ runs_over (given_noted turns way name w) log
+      → runs_over (visited turns (item.Used way name) w) log ≡ (one_way w.at next, after)
+  unfolding visit given_back
+  given_by turns way name w log next after gives h =
+      ap (λ b. runs_over (and_then (cond b (given_back turns way name w) (used turns way name w)) (λ v. Done (noted_in v w.fault))) log) gives
+      ∙ given_same turns way name w name.is_global name.rest log next after h
+
+  -- of the first part of a name, by what it denotes
+  pub head_by : (turns : ℕ) (name : ScopedName) (w : Walk) (log : List (Key × Option Answer)) (r : Result Found NameFault) (after : List (Key × Option Answer))
+      → (r, after) ≡ runs_over (under w.own (denoted turns w.cursor (head_of name))) log
+      → runs_over (head_noted turns name w) log ≡ (noted_in (head_visit name w r) w.fault, after)
+  head_by turns name w log r after h =
+      run-and_then_at key_eq (under w.own (denoted turns w.cursor (head_of name))) (λ r. Done (noted_in (head_visit name w r) w.fault)) bank log r after h
 
   -- literals that are joined
   pub visited_joined : (turns : ℕ) (text : Several (List ℕ)) (w : Walk) (log : List (Key × Option Answer))
-      → runs_over (visited turns (item.Joined text) w) log ≡ (record w { at = w.at + (1 + length text.rest) }, log)
+      → runs_over (visited turns (item.Joined text) w) log ≡ (noted_in (faulty_if w.gives_back BadOneway w (passed (1 + length text.rest) w)) w.fault, log)
   unfolding visit
-  visited_joined turns text w log =
-      visited_quiet turns (item.Joined text) w (passed (length (spell_text text)) w) log refl
-      ∙ (λ i. (record w { at = w.at + text-length text i }, log))
+  visited_joined turns text w log = λ i. (noted_in (faulty_if w.gives_back BadOneway w (passed (text-length text i) w)) w.fault, log)
 
   -- a walk that is over
   pub walk_over : (turns : ℕ) (sites : List Item) (w : Walk) (log : List (Key × Option Answer)) → is_over w ≡ true → runs_over (walk turns sites w) log ≡ (w, log)

@@ -16,6 +16,8 @@ use Rattle.idl_scope.specs.declared.addition.Addition.{Addition}
 use Rattle.idl_scope.specs.declared.addition.Addition.TheVariants.{Declares}
 use Rattle.idl_scope.specs.declared.answer.Scope.{Scope}
 use Rattle.idl_scope.specs.declared.entity.Entity.{Entity}
+use Rattle.idl_scope.specs.declared.entity.Meaning.{Meaning}
+use Rattle.idl_scope.specs.declared.entity.Meaning.TheVariants.{Named}
 use Rattle.idl_scope.specs.declared.key.Key.TheVariants.{Declared, Introduced}
 use Rattle.idl_scope.specs.declared.kind.Kind.{Kind}
 use Rattle.idl_scope.specs.declared.kind.Kind.TheVariants.{Module, Interface, Structure, Union, Exception, Enumeration, Enumerator, Alias, Native, Constant, Attribute, Operation, Parameter, Member}
@@ -23,6 +25,8 @@ use Rattle.idl_scope.specs.declared.kind.Stage.{Stage}
 use Rattle.idl_scope.specs.declared.kind.Stage.TheVariants.{Ahead, Begun, Open, Complete}
 use Rattle.idl_site.specs.declared.site.Declaration.{Declaration}
 use Rattle.idl_site.specs.declared.site.Declaration.TheVariants as declaration
+use Rattle.idl_value.specs.declared.value.Value.{Value}
+use Rattle.idl_value.specs.declared.value.Value.TheVariants as value
 
 abbrev pub kind_of : Declaration → Kind
 kind_of declaration.Module = Module
@@ -60,27 +64,57 @@ stage_of declaration.Union = Begun
 stage_of declaration.Constant = Begun
 stage_of other = Complete
 
+-- what the names that are declared next are declared with: the type that was written last, the
+-- enum that was declared last, and the enumerators of the next one
+pub record Written : Type 0 where
+  pub meaning : Meaning
+  pub enumeration : List (List ℕ)
+  pub enumerators : List (List ℕ)
+
+abbrev pub meaning_in : Written → Declaration → Option Meaning
+meaning_in written declaration.Alias = Some written.meaning
+meaning_in written other = None
+
+abbrev pub value_in : Written → Declaration → List ℕ → Option Value
+value_in written declaration.Enumerator name = Some (value.Enumerator written.enumeration name)
+value_in written other name = None
+
+abbrev pub enumerators_in : Written → Declaration → List (List ℕ)
+enumerators_in written declaration.Enumeration = written.enumerators
+enumerators_in written other = []
+
 -- the entity that a name is declared as in the scope at a path
-abbrev pub entity_of : Declaration → List ℕ → List (List ℕ) → Entity
-entity_of way name scope = record {
+abbrev pub entity_of : Written → Declaration → List ℕ → List (List ℕ) → Entity
+entity_of written way name scope = record {
   path = name ∷ scope;
   kind = kind_of way;
   is_local = is_local_in way;
   stage = stage_of way;
   bases = [];
   operations = [];
+  meaning = meaning_in written way;
+  value = value_in written way name;
+  enumerators = enumerators_in written way;
 }
 
--- it as its unit leaves it: an interface is open with these bases
-abbrev pub finished : List (List (List ℕ)) → Entity → Entity
-finished bases e =
+-- what is written once this name is declared: an enum is a type
+abbrev pub written_after : Written → Entity → Written
+written_after written e =
+    if kind_eq e.kind Enumeration
+    then record written { meaning = Named e.path; enumeration = e.path }
+    else written
+
+-- it as its unit leaves it: an interface is open with these bases, and a constant has this value
+abbrev pub finished : List (List (List ℕ)) → Option Value → Entity → Entity
+finished bases v e =
     if kind_eq e.kind Interface then record e { stage = Open; bases = bases }
-    else record e { stage = Complete }
+    else record e { stage = Complete; value = v }
 
 -- additions with those that finish what has begun
-abbrev pub with_finished : List (List (List ℕ)) → List Addition → List Entity → List Addition
-with_finished bases own begun =
-    fold with_addition own (map (λ e. Declares (finished bases e)) begun)
+abbrev pub with_finished : List (List (List ℕ)) → Option Value → List Addition → List Entity
+    → List Addition
+with_finished bases v own begun =
+    fold with_addition own (map (λ e. Declares (finished bases v e)) begun)
 
 -- what is inherited under a folded name in a scope, which its bases may have
 abbrev pub inherited : ℕ → Scope → List ℕ → Lookup (List Entity)

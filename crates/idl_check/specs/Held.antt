@@ -1,10 +1,32 @@
 -- How a walk is kept, and one site of it.
-use Rattle.std.specs.Prelude.{ℕ, ◌+◌, ◌≤◌, List}
-use Rattle.idl_check.specs.Walk.{Walk, noted_in, visit}
+use Rattle.std.specs.Prelude.{ℕ, ◌+◌, ◌≤◌, List, [], ◌∷◌, if◌then◌else◌}
+use Rattle.idl_check.specs.Declaring.{Written}
+use Rattle.idl_check.specs.Values.{Values}
+use Rattle.idl_check.specs.Walk.{Walk, past_name, head_of, head_visit, noted_in, used, visit}
+use Rattle.idl_check.specs.declared.declaring.Written.{Written as LastWritten}
+use Rattle.idl_check.specs.declared.values.Values.{Values as ToldValues}
 use Rattle.idl_check.specs.declared.walk.Walker.{Walker}
 use Rattle.idl_memo.specs.Query.{Done, and_then}
-use Rattle.idl_scope.specs.Lookup.{Lookup}
+use Rattle.idl_scope.specs.Lookup.{Lookup, denoted, under}
 use Rattle.idl_site.specs.Item.{Item, items_length}
+use Rattle.idl_site.specs.declared.site.Use.{Use}
+use Rattle.idl_tree.specs.declared.name.ScopedName.{ScopedName}
+
+abbrev pub held_values : ToldValues → Values
+held_values values = record {
+  begin = values.begin;
+  operands = values.operands.items;
+  told = values.told.items;
+  bound = values.bound;
+  constant = values.constant;
+}
+
+abbrev pub held_written : LastWritten → Written
+held_written written = record {
+  meaning = written.meaning;
+  enumeration = written.enumeration;
+  enumerators = written.enumerators;
+}
 
 abbrev pub held : Walker → Walk
 held w = record {
@@ -13,14 +35,34 @@ held w = record {
   own = w.own.additions;
   begun = w.begun.items;
   bases = w.bases;
+  written = held_written w.written;
+  alias = w.alias;
+  unions = w.unions.items;
+  gives_back = w.gives_back;
   found = w.found.items;
+  values = held_values w.values;
   fault = w.fault;
-  in_value = w.in_value;
 }
 
 -- a site, whose first fault is noted
 abbrev pub visited : ℕ → Item → Walk → Lookup Walk
 visited turns site w = and_then (visit turns site w) (λ v. Done (noted_in v w.fault))
+
+-- the same of a used name by itself, of the first token of one that is given back, and of all that
+-- is looked at of one
+abbrev pub used_noted : ℕ → Use → ScopedName → Walk → Lookup Walk
+used_noted turns way name w = and_then (used turns way name w) (λ v. Done (noted_in v w.fault))
+
+abbrev pub head_noted : ℕ → ScopedName → Walk → Lookup Walk
+head_noted turns name w =
+    and_then (under w.own (denoted turns w.cursor (head_of name)))
+    (λ r. Done (noted_in (head_visit name w r) w.fault))
+
+abbrev pub given_noted : ℕ → Use → ScopedName → Walk → Lookup Walk
+given_noted turns way name w =
+    if name.is_global then Done (past_name name w)
+    else elim name.rest
+    [ [] ↦ used_noted turns way name w | part ∷ parts ↦ head_noted turns name w ]
 
 -- the numbers of the tokens of these sites fit into a word
 abbrev pub HasRoomFor : Walk → List Item → Type 0

@@ -1,9 +1,13 @@
 pub mod Codes
+pub mod Types
+pub mod Labels
+pub mod Values
 pub mod Declaring
 pub mod Using
 pub mod Walk
 pub mod Placing
 pub mod Row
+pub mod HeldRow
 pub mod Verdict
 pub mod AllFaults
 pub mod Held

@@ -1,13 +1,13 @@
 -- The row of a unit in the dump.
 use Rattle.std.specs.Prelude.{ℕ, ◌+◌, ◌/◌, ◌%◌, Bool, true, false, ◌&&◌, ◌||◌, List, [], ◌∷◌, ◌++◌, codes, drop, flat_map, nat_eq, nat_le, take, if◌then◌else◌}
-use Rattle.std.specs.List.{list_any, repeat}
+use Rattle.std.specs.List.{repeat}
 use Rattle.std.specs.Str.{bytes_eq}
-use Rattle.idl_check.specs.declared.verdict.Row.{Row}
-use Rattle.idl_check.specs.declared.verdict.Row.TheVariants.{Spelled, Unknown}
 use Rattle.idl_lex.specs.Kind.{is_like_keyword}
 use Rattle.idl_lex.specs.Tokens.{Token}
 use Rattle.idl_site.specs.Item.{Item, item_length, Item as item}
 use Rattle.idl_tree.specs.declared.several.Several.{Several}
+use Rattle.idl_value.specs.Spelled.{value_word}
+use Rattle.idl_value.specs.declared.value.Value.{Value}
 
 -- a name, with `_` before it where it is a keyword but for the case of letters
 abbrev pub escaped : List ℕ → List ℕ
@@ -45,31 +45,50 @@ abbrev pub token_text : Token → List ℕ
 token_text token =
     if bytes_eq token (codes ";") || bytes_eq token (codes ",") then token else spaced token
 
--- The words of a row, from the tokens and the sites that they are, and the paths of what the used
--- names denote: a used name is its path, and joined literals are one.
-abbrev pub unit_text : List Token → List Item → List (List (List ℕ)) → List ℕ
-unit_text tokens [] found = []
-unit_text tokens (item.Tokens n ∷ sites) found =
-    flat_map token_text (take n tokens) ++ unit_text (drop n tokens) sites found
-unit_text tokens (item.Declared way name ∷ sites) found =
-    spaced (escaped name) ++ unit_text (drop 1 tokens) sites found
-unit_text tokens (item.Used way name ∷ sites) [] =
-    unit_text (drop (item_length (item.Used way name)) tokens) sites []
-unit_text tokens (item.Used way name ∷ sites) (path ∷ found) =
-    spaced (path_word path)
-    ++ unit_text (drop (item_length (item.Used way name)) tokens) sites found
-unit_text tokens (item.Joined text ∷ sites) found =
-    spaced (text_word text)
-    ++ unit_text (drop (item_length (item.Joined text)) tokens) sites found
-unit_text tokens (other ∷ sites) found = unit_text tokens sites found
+-- what a row is still to be made of: tokens, the paths of what the names among them denote, and the
+-- values of the expressions among them; and whether the first of them stands in an expression
+pub record Rest : Type 0 where
+  pub tokens : List Token
+  pub found : List (List (List ℕ))
+  pub values : List Value
+  pub in_value : Bool
 
--- an expression, whose value would stand in the row
-abbrev pub is_value : Item → Bool
-is_value item.ValueBegins = true
-is_value other = false
+abbrev pub next_path : List (List (List ℕ)) → List ℕ
+next_path [] = []
+next_path (path ∷ found) = spaced (path_word path)
+
+abbrev pub next_value : List Value → List ℕ
+next_value [] = []
+next_value (v ∷ values) = spaced (value_word v)
+
+-- The words of a site: a used name is its path, joined literals are one, and an expression is its
+-- value, which stands where it ends.
+abbrev pub site_text : Rest → Item → List ℕ
+site_text rest (item.Tokens n) =
+    if rest.in_value then [] else flat_map token_text (take n rest.tokens)
+site_text rest (item.Declared way name) = spaced (escaped name)
+site_text rest (item.Used way name) = if rest.in_value then [] else next_path rest.found
+site_text rest (item.Joined text) = spaced (text_word text)
+site_text rest (item.ValueEnds way expression) = next_value rest.values
+site_text rest other = []
+
+-- what is left behind it
+abbrev pub behind_tokens : Rest → Item → Rest
+behind_tokens rest site = record rest { tokens = drop (item_length site) rest.tokens }
+
+abbrev pub behind_site : Rest → Item → Rest
+behind_site rest (item.Used way name) =
+    record (behind_tokens rest (item.Used way name)) { found = drop 1 rest.found }
+behind_site rest item.ValueBegins = record rest { in_value = true }
+behind_site rest (item.ValueEnds way expression) =
+    record rest { values = drop 1 rest.values; in_value = false }
+behind_site rest other = behind_tokens rest other
+
+-- the words of these sites
+abbrev pub unit_text : Rest → List Item → List ℕ
+unit_text rest [] = []
+unit_text rest (site ∷ sites) = site_text rest site ++ unit_text (behind_site rest site) sites
 
 -- the row of a unit around which so many scopes are open: two blanks for each, and then its words
-unfoldable pub row_of : ℕ → List Token → List Item → List (List (List ℕ)) → Row
-row_of depth tokens sites found =
-    if list_any is_value sites then Unknown
-    else Spelled (repeat depth (codes "  ") ++ drop 1 (unit_text tokens sites found))
+unfoldable pub row_of : ℕ → List Item → Rest → List ℕ
+row_of depth sites rest = repeat depth (codes "  ") ++ drop 1 (unit_text rest sites)

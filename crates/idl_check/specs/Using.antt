@@ -1,10 +1,13 @@
 -- Used names: what they may denote where they stand, and what bases bring.
-use Rattle.std.specs.Prelude.{ℕ, ◌+◌, ◌*◌, Bool, true, false, ◌&&◌, ◌||◌, List, [], ◌∷◌, fold, length, map, not, None, Some, if◌then◌else◌}
+use Rattle.std.specs.Prelude.{ℕ, ◌+◌, ◌*◌, Bool, true, false, ◌&&◌, ◌||◌, List, [], ◌∷◌, fold, is_none, is_some, length, map, not, None, Option, Some, if◌then◌else◌}
 use Rattle.std.specs.List.{list_any}
 use Rattle.std.specs.Map.{lookup}
 use Rattle.std.specs.Str.{bytes_eq}
 use Rattle.idl_base.specs.Table.{insert_entry}
 use Rattle.idl_check.specs.Codes.{Table}
+use Rattle.idl_check.specs.Labels.{Labels, no_labels}
+use Rattle.idl_check.specs.Types.{constants_of, is_incomplete, may_switch, meaning_of}
+use Rattle.idl_check.specs.Values.{Values, with_operand}
 use Rattle.idl_event.specs.declared.code.Code.{Code}
 use Rattle.idl_event.specs.declared.code.Code.TheVariants as code
 use Rattle.idl_lex.specs.Keywords.{folded}
@@ -15,14 +18,17 @@ use Rattle.idl_scope.specs.declared.addition.Addition.{Addition}
 use Rattle.idl_scope.specs.declared.addition.Addition.TheVariants.{Uses}
 use Rattle.idl_scope.specs.declared.answer.Scope.{Scope}
 use Rattle.idl_scope.specs.declared.entity.Entity.{Entity}
+use Rattle.idl_scope.specs.declared.entity.Meaning.{Meaning}
+use Rattle.idl_scope.specs.declared.entity.Meaning.TheVariants.{Named}
 use Rattle.idl_scope.specs.declared.fault.NameCode.{NameCode}
 use Rattle.idl_scope.specs.declared.fault.NameCode.TheVariants.{Undeclared, Ambiguous, OtherSpelling, NoScope}
 use Rattle.idl_scope.specs.declared.kind.Kind.{Kind}
-use Rattle.idl_scope.specs.declared.kind.Kind.TheVariants.{Interface, Structure, Union, Exception, Enumeration, Enumerator, Alias, Native, Constant}
+use Rattle.idl_scope.specs.declared.kind.Kind.TheVariants.{Interface, Structure, Union, Exception, Enumeration, Alias, Native}
 use Rattle.idl_scope.specs.declared.kind.Stage.TheVariants.{Complete}
 use Rattle.idl_site.specs.declared.site.Use.{Use}
 use Rattle.idl_site.specs.declared.site.Use.TheVariants.{AsBase, AsType, AsElement, AsConstantType, AsDiscriminator, AsOperand, Raised}
 use Rattle.idl_tree.specs.declared.name.ScopedName.{ScopedName}
+use Rattle.idl_value.specs.declared.value.Value.{Value}
 
 -- the number of a name's part, where the name begins at this token
 abbrev pub part_at : ℕ → ScopedName → ℕ → ℕ
@@ -47,19 +53,15 @@ is_type Alias = true
 is_type Native = true
 is_type other = false
 
--- an enumerator, or a constant that is not the one whose value is being told
-abbrev pub has_value : Entity → Bool
-has_value e =
-    (kind_eq e.kind Constant || kind_eq e.kind Enumerator) && stage_eq e.stage Complete
-
--- whether a name may be used so that denotes this
+-- whether a name may be used so that denotes this: an operand is an enumerator, or a constant that
+-- is not the one whose value is being told
 abbrev pub suits : Use → Entity → Bool
 suits (AsBase is_local) e = kind_eq e.kind Interface
 suits AsType e = is_type e.kind
 suits AsElement e = is_type e.kind
 suits AsConstantType e = is_type e.kind
 suits AsDiscriminator e = is_type e.kind
-suits AsOperand e = has_value e
+suits AsOperand e = is_some e.value
 suits Raised e = kind_eq e.kind Exception
 
 -- the bases that were named so far: their paths, and those of the operations and attributes that
@@ -93,19 +95,46 @@ base_table is_local bases e =
     ∷ (list_any (is_another bases.operations) e.operations, code.InheritedTwice)
     ∷ (e.is_local && not is_local, code.LocalBase) ∷ []
 
--- the faults of a name that denotes this
-abbrev pub suited_table : Use → Bases → Entity → Table
-suited_table (AsBase is_local) bases e = base_table is_local bases e
-suited_table other bases e = []
+abbrev pub is_base : Use → Bool
+is_base (AsBase is_local) = true
+is_base other = false
 
-abbrev pub used_table : Use → Bases → Entity → Table
-used_table way bases e =
-    if suits way e then suited_table way bases e else (true, code.WrongKind) ∷ []
+-- the faults of a name that denotes this, behind which that stands
+abbrev pub suited_table : Use → Bases → Entity → Entity → Table
+suited_table (AsBase is_local) bases e behind = base_table is_local bases e
+suited_table AsType bases e behind = (is_incomplete e, code.IncompleteType) ∷ []
+suited_table AsConstantType bases e behind =
+    (is_none (constants_of behind), code.NoConstantType)
+    ∷ (is_incomplete e, code.IncompleteType) ∷ []
+suited_table AsDiscriminator bases e behind =
+    (is_incomplete e, code.IncompleteType)
+    ∷ (not (may_switch (constants_of behind)), code.BadDiscriminator) ∷ []
+suited_table other bases e behind = []
+
+abbrev pub used_table : Use → Bases → Entity → Entity → Table
+used_table way bases e behind =
+    if suits way e then suited_table way bases e behind else (true, code.WrongKind) ∷ []
 
 -- the bases after a name that is used so and denotes this
 abbrev pub bases_after : Use → Entity → Bases → Bases
 bases_after (AsBase is_local) e bases = with_base e bases
 bases_after other e bases = bases
+
+-- the type that is written once a name is used so and denotes this, behind which that stands
+abbrev pub meaning_after : Use → Entity → Entity → Meaning → Meaning
+meaning_after AsType e behind before = Named e.path
+meaning_after AsConstantType e behind before = meaning_of (constants_of behind)
+meaning_after other e behind before = before
+
+-- the values of an expression's names, and the unions, innermost first, after such a name
+abbrev pub values_after : Use → Option Value → Values → Values
+values_after AsOperand v values = with_operand v values
+values_after other v values = values
+
+abbrev pub unions_after : Use → Entity → List Labels → List Labels
+unions_after AsDiscriminator behind unions =
+    no_labels (constants_of behind) (length behind.enumerators) ∷ unions
+unions_after other behind unions = unions
 
 -- the use of a folded name introduces it into these scopes
 abbrev pub with_uses : List ℕ → List Scope → List Addition → List Addition

@@ -1,9 +1,9 @@
 -- The verdict of a unit: its fault, what it adds, and its row in the dump. A fault is found in
 -- three steps: the rules of tokens, the tree, and the rules over tree and names.
-use Rattle.std.specs.Prelude.{ℕ, suc, ◌-◌, List, [], ◌∷◌, ◌++◌, length, Option, None, Some, Result, Ok, if◌then◌else◌}
+use Rattle.std.specs.Prelude.{ℕ, suc, ◌-◌, List, [], ◌∷◌, ◌++◌, length, false, Option, None, Some, Result, Ok, if◌then◌else◌}
 use Rattle.idl_check.specs.Declaring.{with_finished}
 use Rattle.idl_check.specs.Placing.{depth, faulty_step, is_misplaced, opened_kind, opening_faults, step_of}
-use Rattle.idl_check.specs.Row.{row_of}
+use Rattle.idl_check.specs.Row.{Rest, row_of}
 use Rattle.idl_check.specs.Walk.{Walk, first_walk, walk}
 use Rattle.idl_check.specs.declared.verdict.Verdict.{Verdict}
 use Rattle.idl_event.specs.declared.code.Code.TheVariants.{NoTree, MisplacedUnit}
@@ -50,15 +50,20 @@ abbrev pub row_depth : Tree → List Scope → ℕ
 row_depth tree.Closing scopes = depth scopes - 1
 row_depth other scopes = depth scopes
 
+-- of what its row is made
+abbrev pub rest_of : List Token → Walk → Rest
+rest_of tokens w =
+    record { tokens = tokens; found = w.found; values = w.values.told; in_value = false }
+
 -- a unit without fault, over which a walk has come to this
 abbrev pub sound : List Token → List Scope → Tree → Walk → Verdict
 sound tokens scopes tree w = record {
   fault = None;
   writes = record {
-    additions = with_finished w.bases.paths w.own w.begun;
+    additions = with_finished w.bases.paths w.values.constant w.own w.begun;
     step = step_of tree (path_around scopes);
   };
-  row = Some (row_of (row_depth tree scopes) tokens (items (unit_parts tree)) w.found);
+  row = Some (row_of (row_depth tree scopes) (items (unit_parts tree)) (rest_of tokens w));
 }
 
 -- of a scope that is opened it is asked how often it was before

@@ -1,27 +1,48 @@
 -- The walk over the sites of a unit, in the order of its tokens: what is asked at each, what is
 -- wrong there, and what it adds.
-use Rattle.std.specs.Prelude.{ℕ, ◌+◌, Bool, true, false, ◌&&◌, List, [], ◌∷◌, ◌++◌, drop, is_some, not, take, Option, None, Some, Result, Ok, Err, if◌then◌else◌}
+use Rattle.std.specs.Prelude.{ℕ, ◌+◌, Bool, true, false, ◌&&◌, List, [], ◌∷◌, ◌++◌, drop, is_some, not, take, Option, None, Some, Result, Ok, Err, if◌then◌else◌, option_to_list}
+use Rattle.std.specs.List.{list_any}
 use Rattle.idl_check.specs.Codes.{faults_by}
-use Rattle.idl_check.specs.Declaring.{declared_table, entity_of, kind_of, standing, with_declared}
-use Rattle.idl_check.specs.Using.{Bases, bases_after, last_at, name_code, part_at, used_table, with_uses}
+use Rattle.idl_check.specs.Declaring.{Written, declared_table, entity_of, kind_of, standing, with_declared, written_after}
+use Rattle.idl_check.specs.Labels.{Labels, is_idle, is_labelled, no_labels, with_default, with_label}
+use Rattle.idl_check.specs.Types.{looked_through, target_in, written_as}
+use Rattle.idl_check.specs.Using.{Bases, bases_after, last_at, meaning_after, name_code, part_at, unions_after, used_table, values_after, with_uses}
+use Rattle.idl_check.specs.Values.{Values, begun_at, code_of, no_values, outcome_for, with_value}
 use Rattle.idl_check.specs.declared.standing.Standing.{Standing}
+use Rattle.idl_event.specs.declared.code.Code.{Code}
+use Rattle.idl_event.specs.declared.code.Code.TheVariants as code
 use Rattle.idl_lex.specs.Keywords.{folded}
 use Rattle.idl_memo.specs.Query.{Done, and_then}
-use Rattle.idl_scope.specs.Kind.{stage_eq}
-use Rattle.idl_scope.specs.Lookup.{Lookup, denoted, under}
+use Rattle.idl_scope.specs.Facts.{with_addition}
+use Rattle.idl_scope.specs.Kind.{kind_eq, stage_eq}
+use Rattle.idl_scope.specs.Lookup.{Lookup, by_result, denoted, is_scope, under}
 use Rattle.idl_scope.specs.declared.addition.Addition.{Addition}
+use Rattle.idl_scope.specs.declared.addition.Addition.TheVariants.{Declares}
 use Rattle.idl_scope.specs.declared.answer.Scope.{Scope}
 use Rattle.idl_scope.specs.declared.entity.Entity.{Entity}
+use Rattle.idl_scope.specs.declared.entity.Meaning.TheVariants.{Named, Other}
 use Rattle.idl_scope.specs.declared.fault.NameFault.{NameFault}
 use Rattle.idl_scope.specs.declared.fault.NameFault.TheVariants.{At, Memory}
 use Rattle.idl_scope.specs.declared.found.Found.{Found}
+use Rattle.idl_scope.specs.declared.kind.Kind.TheVariants.{Alias, Union}
 use Rattle.idl_scope.specs.declared.kind.Stage.TheVariants.{Begun}
 use Rattle.idl_site.specs.Item.{Item, item_length, Item as item}
 use Rattle.idl_site.specs.declared.site.Declaration.{Declaration}
+use Rattle.idl_site.specs.declared.site.Target.{Target as Purpose}
+use Rattle.idl_site.specs.declared.site.Target.TheVariants as purpose
 use Rattle.idl_site.specs.declared.site.Use.{Use}
+use Rattle.idl_site.specs.declared.site.Use.TheVariants.{AsDiscriminator}
+use Rattle.idl_tree.specs.declared.expression.Expression.{Expression}
 use Rattle.idl_tree.specs.declared.name.ScopedName.{ScopedName}
+use Rattle.idl_unit.specs.Faults.{least_fault}
 use Rattle.idl_unit.specs.TokenRules.{fault_at, first}
 use Rattle.idl_unit.specs.declared.fault.Fault.{Fault}
+use Rattle.idl_value.specs.Evaluation.{ahead}
+use Rattle.idl_value.specs.Target.{discriminates, target_of}
+use Rattle.idl_value.specs.declared.outcome.Outcome.{Outcome}
+use Rattle.idl_value.specs.declared.outcome.Outcome.TheVariants as outcome
+use Rattle.idl_value.specs.declared.target.Target.{Target}
+use Rattle.idl_value.specs.declared.value.Value.{Value}
 
 -- how far a walk has come
 pub record Walk : Type 0 where
@@ -33,12 +54,19 @@ pub record Walk : Type 0 where
   pub own : List Addition
   pub begun : List Entity
   pub bases : Bases
+  -- what the next names are declared with, and the name of a typedef that was declared last
+  pub written : Written
+  pub alias : Option Entity
+  -- the labels of the unions around it, the innermost first
+  pub unions : List Labels
+  -- what the next token begins is given back by a oneway operation
+  pub gives_back : Bool
   -- the paths of what the used names denote, in order
   pub found : List (List (List ℕ))
-  -- the first fault
+  -- the expressions, each of which is read to its end whatever is wrong in it
+  pub values : Values
+  -- the least fault so far
   pub fault : Option Fault
-  -- inside an expression, which is read to its end whatever is wrong in it
-  pub in_value : Bool
 
 -- before the first site, in these scopes
 abbrev pub first_walk : List Scope → Walk
@@ -48,14 +76,18 @@ first_walk cursor = record {
   own = [];
   begun = [];
   bases = record { paths = []; operations = [] };
+  written = record { meaning = Other; enumeration = []; enumerators = [] };
+  alias = None;
+  unions = [];
+  gives_back = false;
   found = [];
+  values = no_values;
   fault = None;
-  in_value = false;
 }
 
 -- behind so many tokens more
 abbrev pub passed : ℕ → Walk → Walk
-passed n w = record w { at = w.at + n }
+passed n w = record w { at = w.at + n; gives_back = false }
 
 -- what comes of a site: the faults there, in order, and how the walk goes on where these are passed
 -- over
@@ -66,6 +98,13 @@ pub record Visit : Type 0 where
 abbrev pub quiet : Walk → Visit
 quiet w = record { faults = []; after = w }
 
+-- with this fault at the next token where a test holds
+abbrev pub faulty_if : Bool → Code → Walk → Walk → Visit
+faulty_if is_faulty why w after = record {
+  faults = if is_faulty then fault_at w.at why ∷ [] else [];
+  after = after;
+}
+
 -- a declared name, by what stands under it in its scope
 abbrev pub declared_visit : Walk → Scope → Entity → Standing → Visit
 declared_visit w s e standing = record {
@@ -74,28 +113,87 @@ declared_visit w s e standing = record {
     at = w.at + 1;
     own = with_declared standing.there e w.own;
     begun = w.begun ++ (if stage_eq e.stage Begun then e ∷ [] else []);
+    written = written_after w.written e;
+    alias = if kind_eq e.kind Alias then Some e else w.alias;
   };
 }
 
--- a used name, by what it denotes
-abbrev pub used_after : Walk → Use → ScopedName → Found → Walk
-used_after w way name found = record w {
+-- a used name, by what it denotes, and by what stands behind that
+abbrev pub used_after : Walk → Use → ScopedName → Found → Entity → Walk
+used_after w way name found behind = record w {
   at = last_at w.at name + 1;
   own = with_uses (folded name.first) (take found.reach w.cursor) w.own;
   bases = bases_after way found.entity w.bases;
+  written = record w.written {
+    meaning = meaning_after way found.entity behind w.written.meaning;
+  };
+  unions = unions_after way behind w.unions;
+  gives_back = false;
   found = w.found ++ found.entity.path ∷ [];
+  values = values_after way found.entity.value w.values;
 }
 
-abbrev pub used_visit : Walk → Use → ScopedName → Result Found NameFault → Visit
-used_visit w way name (Ok found) = record {
-  faults = faults_by (last_at w.at name) (used_table way w.bases found.entity);
-  after = used_after w way name found;
+abbrev pub used_visit : Walk → Use → ScopedName → Found → Entity → Visit
+used_visit w way name found behind = record {
+  faults = faults_by (last_at w.at name) (used_table way w.bases found.entity behind);
+  after = used_after w way name found behind;
 }
-used_visit w way name (Err (At why part)) = record {
+
+-- a used name that denotes nothing; a union's labels are then of no type
+abbrev pub unions_without : Use → List Labels → List Labels
+unions_without AsDiscriminator unions = no_labels None 0 ∷ unions
+unions_without other unions = unions
+
+abbrev pub unfound_visit : Walk → Use → ScopedName → NameFault → Visit
+unfound_visit w way name (At why part) = record {
   faults = fault_at (part_at w.at name part) (name_code why) ∷ [];
-  after = passed (last_at 0 name + 1) w;
+  after = record w {
+    at = last_at w.at name + 1;
+    unions = unions_without way w.unions;
+    gives_back = false;
+    values = values_after way None w.values;
+  };
 }
-used_visit w way name (Err Memory) = quiet w
+unfound_visit w way name Memory = quiet w
+
+-- a used name
+unfoldable pub used : ℕ → Use → ScopedName → Walk → Lookup Visit
+used turns way name w =
+    and_then (under w.own (denoted turns w.cursor name))
+    (λ r. by_result r
+    (λ found. and_then (under w.own (looked_through way found.entity))
+    (λ behind. Done (used_visit w way name found behind)))
+    (λ fault. Done (unfound_visit w way name fault)))
+
+-- The type that a oneway operation gives back: the fault stands at its first token, and of a name
+-- that token alone is looked at.
+abbrev pub with_oneway : ℕ → Visit → Visit
+with_oneway at v = record v { faults = v.faults ++ fault_at at code.BadOneway ∷ [] }
+
+abbrev pub head_faults : ℕ → Result Found NameFault → List Fault
+head_faults at (Ok found) =
+    if is_scope found.entity.kind then [] else fault_at at code.NoScope ∷ []
+head_faults at (Err (At why part)) = fault_at at (name_code why) ∷ []
+head_faults at (Err Memory) = []
+
+abbrev pub past_name : ScopedName → Walk → Walk
+past_name name w = record w { at = last_at w.at name + 1; gives_back = false }
+
+abbrev pub head_visit : ScopedName → Walk → Result Found NameFault → Visit
+head_visit name w r = record { faults = head_faults w.at r; after = past_name name w }
+
+-- the name with which a name of several parts begins
+abbrev pub head_of : ScopedName → ScopedName
+head_of name = record name { rest = [] }
+
+unfoldable pub given_back : ℕ → Use → ScopedName → Walk → Lookup Visit
+given_back turns way name w =
+    if name.is_global then Done (with_oneway w.at (quiet (past_name name w)))
+    else elim name.rest [
+      | [] ↦ and_then (used turns way name w) (λ v. Done (with_oneway w.at v))
+      | part ∷ parts ↦ and_then (under w.own (denoted turns w.cursor (head_of name)))
+          (λ r. Done (with_oneway w.at (head_visit name w r)))
+    ]
 
 -- the scope of what is declared so begins
 abbrev pub with_scope : Declaration → List ℕ → List Scope → List Scope
@@ -103,34 +201,121 @@ with_scope way name [] = []
 with_scope way name (s ∷ scopes) =
     record { path = name ∷ s.path; kind = kind_of way; body = 1 } ∷ s ∷ scopes
 
+-- It ends: it is a type from then on. The labels of a union are complete.
+abbrev pub ended_scope : Walk → Walk
+ended_scope w = record w {
+  cursor = drop 1 w.cursor;
+  written =
+      elim (first w.cursor)
+      [ None ↦ w.written | Some s ↦ record w.written { meaning = Named s.path } ];
+}
+
+abbrev pub scope_visit : Walk → Visit
+scope_visit w =
+    elim (first w.cursor) [
+      | None ↦ quiet w
+      | Some s ↦
+          if kind_eq s.kind Union
+          then faulty_if (list_any is_idle (take 1 w.unions)) code.UselessDefault w
+          (record (ended_scope w) { unions = drop 1 w.unions })
+          else quiet (ended_scope w)
+    ]
+
+-- the labels of the innermost union are now these
+abbrev pub with_labels : (Labels → Labels) → List Labels → List Labels
+with_labels more [] = []
+with_labels more (labels ∷ unions) = more labels ∷ unions
+
+-- the type of the innermost union's labels, if it is known
+abbrev pub label_target : List Labels → Option Target
+label_target [] = None
+label_target (labels ∷ unions) = labels.target
+
+-- the name of a typedef is that of an array
+abbrev pub with_array : Option Entity → List Addition → List Addition
+with_array None own = own
+with_array (Some e) own = with_addition own (Declares (record e { meaning = Some Other }))
+
+-- an expression that is for this and has this value
+abbrev pub valued_after : Walk → Purpose → Value → Walk
+valued_after w purpose.Label v = record w { unions = with_labels (λ l. with_label l v) w.unions }
+valued_after w purpose.Length v = record w { own = with_array w.alias w.own }
+valued_after w other v = w
+
+abbrev pub is_repeated : Walk → Purpose → Value → Bool
+is_repeated w purpose.Label v = list_any (λ l. is_labelled l v) (take 1 w.unions)
+is_repeated w other v = false
+
+-- the number of its first token
+abbrev pub begin_of : Walk → ℕ
+begin_of w = elim w.values.begin [ None ↦ w.at | Some at ↦ at ]
+
+abbrev pub value_visit : Walk → Purpose → Outcome → Visit
+value_visit w way (outcome.Value v) = record {
+  faults = if is_repeated w way v then fault_at (begin_of w) code.RepeatedLabel ∷ [] else [];
+  after = record (valued_after w way v) { values = with_value way v w.values };
+}
+value_visit w way (outcome.Fault f) = record {
+  faults = fault_at (ahead (begin_of w) f.token) (code_of f.code) ∷ [];
+  after = record w { values = record w.values { begin = None } };
+}
+value_visit w way outcome.Told =
+    quiet (record w { values = record w.values { begin = None } })
+
+-- what it comes to
+abbrev pub outcome_at : Walk → Purpose → Expression → Outcome
+outcome_at w way e =
+    outcome_for way (target_in (Some w.written.meaning)) (label_target w.unions)
+    w.values.operands e
+
 -- a site
 unfoldable pub visit : ℕ → Item → Walk → Lookup Visit
 visit turns (item.Declared way name) w =
     elim (first w.cursor) [
       | None ↦ Done (quiet (passed 1 w))
       | Some s ↦ and_then (under w.own (standing turns s (folded name)))
-          (λ there. Done (declared_visit w s (entity_of way name s.path) there))
+          (λ there.
+          Done (declared_visit w s (entity_of w.written way name s.path) there))
     ]
 visit turns (item.Used way name) w =
-    and_then (under w.own (denoted turns w.cursor name)) (λ r. Done (used_visit w way name r))
+    if w.gives_back then given_back turns way name w else used turns way name w
 visit turns (item.ScopeBegins way name) w =
     Done (quiet (record w { cursor = with_scope way name w.cursor }))
-visit turns item.ScopeEnds w = Done (quiet (record w { cursor = drop 1 w.cursor }))
-visit turns item.ValueBegins w = Done (quiet (record w { in_value = true }))
-visit turns (item.ValueEnds target expression) w = Done (quiet (record w { in_value = false }))
-visit turns other w = Done (quiet (passed (item_length other) w))
+visit turns item.ScopeEnds w = Done (scope_visit w)
+visit turns item.ValueBegins w = Done (quiet (record w { values = begun_at w.at w.values }))
+visit turns (item.ValueEnds way expression) w =
+    Done (value_visit w way (outcome_at w way expression))
+visit turns (item.TypeEnds shape) w =
+    Done (quiet (record w {
+      written = record w.written { meaning = written_as shape w.values.bound };
+    }))
+visit turns (item.Enumerates names) w =
+    Done (quiet (record w {
+      written = record w.written { enumerators = names.first ∷ names.rest };
+    }))
+visit turns (item.Switches discrete) w =
+    let t = target_of discrete in
+    Done (faulty_if (not (discriminates t)) code.BadDiscriminator w
+    (record w { unions = no_labels (Some t) 0 ∷ w.unions }))
+visit turns item.Default w =
+    Done (faulty_if (list_any (λ l. l.has_default) (take 1 w.unions)) code.RepeatedLabel w
+    (record w { unions = with_labels with_default w.unions }))
+visit turns item.GivesBack w = Done (quiet (record w { gives_back = true }))
+visit turns (item.Tokens n) w =
+    Done (faulty_if w.gives_back code.BadOneway w (passed n w))
+visit turns (item.Joined text) w =
+    Done (faulty_if w.gives_back code.BadOneway w (passed (item_length (item.Joined text)) w))
 
--- after a site: its first fault is the walk's, unless one came before
-abbrev pub first_fault : Option Fault → List Fault → Option Fault
-first_fault None faults = first faults
-first_fault (Some f) faults = Some f
+-- after a site: the least of its faults and of the one before
+abbrev pub noted : Option Fault → List Fault → Option Fault
+noted before faults = least_fault (option_to_list before ++ faults)
 
 abbrev pub noted_in : Visit → Option Fault → Walk
-noted_in v fault = record v.after { fault = first_fault fault v.faults }
+noted_in v fault = record v.after { fault = noted fault v.faults }
 
 -- nothing more is asked after a fault, but to the end of an expression
 abbrev pub is_over : Walk → Bool
-is_over w = is_some w.fault && not w.in_value
+is_over w = is_some w.fault && not (is_some w.values.begin)
 
 -- the walk over these sites
 unfoldable pub walk : ℕ → List Item → Walk → Lookup Walk

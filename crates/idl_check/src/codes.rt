@@ -2,9 +2,11 @@
 
 ghost use Rattle.std.specs.Prelude.{◌≡◌};
 ghost use Rattle.idl_check.specs.Codes.{codes_in};
+ghost use Rattle.idl_unit.specs.Faults.{lesser_fault};
 ghost use Rattle.idl_unit.specs.TokenRules.{first};
 
 use idl_event::Code;
+use idl_unit::Fault;
 
 /// The code of the first test that holds.
 pub fn first_code(table: &[(bool, Code)]) -> Option<Code>
@@ -16,4 +18,17 @@ pub fn first_code(table: &[(bool, Code)]) -> Option<Code>
         }
     }
     None
+}
+
+/// The lesser of two faults: by the token, and at one token by the code.
+pub fn lesser(fault: Fault, other: Fault) -> Fault
+    ensures { result ≡ lesser_fault fault other }
+{
+    if other.index < fault.index
+        || (other.index == fault.index && other.code.number() < fault.code.number())
+    {
+        other
+    } else {
+        fault
+    }
 }

@@ -1,18 +1,24 @@
 //! Declared names: what they are declared as, and what is wrong with that.
 
-ghost use Rattle.std.specs.Prelude.{◌≡◌, ◌∷◌, IfOk, IfSome};
-ghost use Rattle.idl_check.specs.Declaring.{are_modules, come_ahead, declared_table, differs, entity_of, finished, is_local_in, is_name_of_scope, kind_of, may_be_ahead, may_follow, stage_of, stays};
+ghost use Rattle.std.specs.Prelude.{◌≡◌, ◌∷◌, [], IfOk, IfSome, OnOk, Some};
+ghost use Rattle.idl_check.specs.Declaring.{are_modules, come_ahead, declared_table, differs, entity_of, enumerators_in, finished, is_local_in, is_name_of_scope, kind_of, may_be_ahead, may_follow, meaning_in, stage_of, stays, value_in, written_after};
+ghost use Rattle.idl_check.specs.Held.{held_written};
+ghost use Rattle.idl_scope.specs.declared.entity.Meaning.TheVariants as meaning;
 ghost use Rattle.idl_check.specs.Codes.{codes_in};
 ghost use Rattle.idl_scope.specs.Path.{path_eq};
 ghost use Rattle.idl_unit.specs.TokenRules.{first};
 
 use crate::codes::first_code;
 use crate::standing::Standing;
+use crate::types::names_of;
 use idl_base::Seq;
 use idl_event::Code;
 use idl_lex::Spelling;
-use idl_scope::{Addition, Entity, Facts, Kind, Path, Scope, Shared, Stage, shared_name};
+use idl_scope::{
+    Addition, Entity, Facts, Kind, Meaning, Path, Scope, Shared, Stage, shared_name,
+};
 use idl_site::Declaration;
+use idl_value::Value;
 use std::alloc::{AllocError, Global};
 
 /// What is declared.
@@ -63,25 +69,113 @@ fn stage_of(way: Declaration) -> Stage
     }
 }
 
-/// The entity that a name is declared as in the scope at a path.
-pub fn entity_of(
-    alloc: Global,
-    way: Declaration,
-    name: &Spelling,
-    scope: &Path,
-) -> Result<Shared<Entity>, AllocError>
-    ensures { IfOk result (λ entity. entity ≡ entity_of way name.now scope.now) }
-{
-    let path = scope.child(alloc, name)?;
-    let entity = Entity {
-        path,
-        kind: kind_of(way),
-        is_local: is_local_in(way),
-        stage: stage_of(way),
-        bases: Seq::new(alloc),
-        operations: Seq::new(alloc),
-    };
-    Shared::new(alloc, entity)
+/// What the names that are declared next are declared with.
+pub struct Written {
+    /// The type that was written last.
+    pub meaning: Meaning,
+    /// The path of the enum that was declared last.
+    pub enumeration: Seq<Spelling>,
+    /// The enumerators of the next enum.
+    pub enumerators: Seq<Spelling>,
+}
+
+impl Drop for Written {
+    fn drop(self) {
+        let Written {
+            meaning: _meaning,
+            enumeration: _enumeration,
+            enumerators: _enumerators,
+        } = self;
+    }
+}
+
+impl Written {
+    /// Before the first name. It takes no memory.
+    pub fn new(alloc: Global) -> Written
+        ensures { held_written result
+            ≡ record { meaning = meaning.Other; enumeration = []; enumerators = [] } }
+    {
+        Written {
+            meaning: Meaning::Other,
+            enumeration: Seq::new(alloc),
+            enumerators: Seq::new(alloc),
+        }
+    }
+
+    // What the name of a typedef stands for.
+    fn meaning(&self, way: Declaration) -> Result<Option<Meaning>, AllocError>
+        ensures { IfOk result (λ meaning. meaning ≡ meaning_in (held_written self.now) way) }
+    {
+        match way {
+            Declaration::Alias => Ok(Some(self.meaning.clone()?)),
+            _ => Ok(None),
+        }
+    }
+
+    // The value of an enumerator.
+    fn value(&self, way: Declaration, name: &Spelling) -> Result<Option<Value>, AllocError>
+        ensures { IfOk result (λ value. value ≡ value_in (held_written self.now) way name.now) }
+    {
+        match way {
+            Declaration::Enumerator => {
+                let enumeration = self.enumeration.clone()?;
+                Ok(Some(Value::Enumerator(enumeration, name.clone()?)))
+            }
+            _ => Ok(None),
+        }
+    }
+
+    // The enumerators of an enum.
+    fn enumerators(&self, alloc: Global, way: Declaration) -> Result<Seq<Spelling>, AllocError>
+        ensures { IfOk result (λ names. names ≡ enumerators_in (held_written self.now) way) }
+    {
+        match way {
+            Declaration::Enumeration => self.enumerators.clone(),
+            _ => Ok(Seq::new(alloc)),
+        }
+    }
+
+    /// The entity that a name is declared as in the scope at a path.
+    pub fn entity(
+        &self,
+        alloc: Global,
+        way: Declaration,
+        name: &Spelling,
+        scope: &Path,
+    ) -> Result<Shared<Entity>, AllocError>
+        ensures { IfOk result (λ entity.
+            entity ≡ entity_of (held_written self.now) way name.now scope.now) }
+    {
+        let path = scope.child(alloc, name)?;
+        let meaning = self.meaning(way)?;
+        let value = self.value(way, name)?;
+        let enumerators = self.enumerators(alloc, way)?;
+        let entity = Entity {
+            path,
+            kind: kind_of(way),
+            is_local: is_local_in(way),
+            stage: stage_of(way),
+            bases: Seq::new(alloc),
+            operations: Seq::new(alloc),
+            meaning,
+            value,
+            enumerators,
+        };
+        Shared::new(alloc, entity)
+    }
+
+    /// This name is declared: an enum is a type.
+    pub fn declare(&mut self, alloc: Global, entity: &Entity) -> Result<(), AllocError>
+        ensures { OnOk result
+            (held_written self.new ≡ written_after (held_written self.old) entity.now) }
+    {
+        if entity.kind != Kind::Enumeration {
+            return Ok(());
+        }
+        self.meaning = Meaning::Named(entity.path.clone()?);
+        self.enumeration = names_of(alloc, &entity.path)?;
+        Ok(())
+    }
 }
 
 /// The path of a name in the scope with this path: that of what was added last, if this is declared
@@ -121,33 +215,46 @@ fn is_child(path: &Path, name: &[u8], scope: &Path) -> bool
     }
 }
 
-/// An entity that has begun, as its unit leaves it: an interface is open with these bases.
+/// An entity that has begun, as its unit leaves it: an interface is open with these bases, and a
+/// constant has this value.
 pub fn finished(
     alloc: Global,
     bases: &Seq<Path>,
+    value: &Option<Value>,
     begun: &Entity,
 ) -> Result<Shared<Entity>, AllocError>
-    ensures { IfOk result (λ entity. entity ≡ finished bases.now begun.now) }
+    ensures { IfOk result (λ entity. entity ≡ finished bases.now value.now begun.now) }
 {
-    let is_interface = begun.kind == Kind::Interface;
-    let path = begun.path.clone()?;
-    let bases = if is_interface {
-        bases.clone()?
-    } else {
-        begun.bases.clone()?
-    };
-    let operations = begun.operations.clone()?;
+    let mut entity = begun.clone()?;
+    if begun.kind == Kind::Interface {
+        entity.stage = Stage::Open;
+        entity.bases = bases.clone()?;
+        return Shared::new(alloc, entity);
+    }
+    entity.stage = Stage::Complete;
+    entity.value = value.clone()?;
+    Shared::new(alloc, entity)
+}
+
+/// The name of a typedef as that of an array.
+pub fn array_of(alloc: Global, alias: &Entity) -> Result<Shared<Entity>, AllocError>
+    ensures { IfOk result (λ entity. entity ≡ record alias.now { meaning = Some meaning.Other }) }
+{
+    let path = alias.path.clone()?;
+    let bases = alias.bases.clone()?;
+    let operations = alias.operations.clone()?;
+    let value = alias.value.clone()?;
+    let enumerators = alias.enumerators.clone()?;
     let entity = Entity {
         path,
-        kind: begun.kind,
-        is_local: begun.is_local,
-        stage: if is_interface {
-            Stage::Open
-        } else {
-            Stage::Complete
-        },
+        kind: alias.kind,
+        is_local: alias.is_local,
+        stage: alias.stage,
         bases,
         operations,
+        meaning: Some(Meaning::Other),
+        value,
+        enumerators,
     };
     Shared::new(alloc, entity)
 }

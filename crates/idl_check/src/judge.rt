@@ -18,12 +18,13 @@ ghost use Rattle.idl_check.specs.declared.verdict.Verdict.{Verdict as UnitVerdic
 ghost use Rattle.idl_lex.specs.Keywords.{folded};
 ghost use Rattle.idl_scope.specs.Lookup.{outward};
 ghost use Rattle.std.specs.Option.{option_map};
-ghost use Rattle.idl_unit.specs.Faults.{least_fault, lesser_fault};
+ghost use Rattle.idl_unit.specs.Faults.{least_fault};
 ghost use Rattle.idl_unit.specs.TokenRules.{fault_at, token_faults};
 ghost use Rattle.idl_unit.specs.declared.fault.Fault.{Fault as UnitFault};
 ghost use Rattle.idl_unit.specs.declared.unit.UnitText.TheVariants as unit;
 ghost use Rattle.idl_event.specs.declared.code.Code.TheVariants.{MisplacedUnit, NoTree};
 
+use crate::codes::lesser;
 use crate::placing::{depth, faulty_step, is_misplaced, opened_kind, opening_fault, step_of};
 use crate::row::{Rest, row_of};
 use crate::verdict::{Verdict, adding};
@@ -206,6 +207,8 @@ impl<'a> Judge<'a> {
         let rest = Rest {
             tokens: self.tokens,
             found: walker.found.as_slice(),
+            values: walker.values.told.as_slice(),
+            in_value: false,
         };
         let row = row_of(alloc, row_depth(unit.tree, self.scopes), unit.sites, rest)?;
         let around = path_around(alloc, self.scopes)?;
@@ -261,19 +264,6 @@ fn at_first(code: Code) -> Fault
     ensures { result ≡ fault_at 0 code }
 {
     Fault { index: 0, code }
-}
-
-// The lesser of two faults: by the token, and at one token by the code.
-fn lesser(fault: Fault, other: Fault) -> Fault
-    ensures { result ≡ lesser_fault fault other }
-{
-    if other.index < fault.index
-        || (other.index == fault.index && other.code.number() < fault.code.number())
-    {
-        other
-    } else {
-        fault
-    }
 }
 
 // The part of a name with which the sites begin, if they do.

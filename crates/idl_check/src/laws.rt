@@ -3,11 +3,11 @@
 //! Each function does nothing: it carries its laws as clauses. They hold over any answers, and for
 //! any number of turns.
 
-ghost use Rattle.std.specs.Prelude.{◌≡◌, ◌≢◌, ◌↔◌, ◌+◌, ◌<◌, ◌≤◌, Bool, ℕ, List, [], ◌∷◌, All, Contains, codes, length, take, None, Option, Some};
+ghost use Rattle.std.specs.Prelude.{◌≡◌, ◌≢◌, ◌↔◌, ◌+◌, ◌<◌, ◌≤◌, Bool, ℕ, List, [], ◌∷◌, All, Contains, codes, false, length, take, None, Option, Some};
 ghost use Rattle.idl_check.specs.AllFaults.{site_faults, unit_faults};
 ghost use Rattle.idl_check.specs.Placing.{faulty_step, step_of};
 ghost use Rattle.idl_check.specs.Judging.{IsNotAfter, IsSound, refused_keys, used_names, walked, without_name};
-ghost use Rattle.idl_check.specs.Row.{unit_text};
+ghost use Rattle.idl_check.specs.Row.{Rest, unit_text};
 ghost use Rattle.idl_check.specs.Verdict.{faulty, first_faults, pragma_verdict, tree_of, verdict};
 ghost use Rattle.idl_check.specs.Walk.{Walk, visit};
 ghost use Rattle.idl_lex.specs.Tokens.{Token};
@@ -98,10 +98,11 @@ pub fn wording()
         → site_faults turns answers sites w ≡ []
         → length (walked turns answers sites w).found
         ≡ length w.found + length (used_names sites) }
-    ensures blank { (tokens : List Token) (tree : Tree) (found : List (List (List ℕ)))
-        → lexemes tokens ≡ spell tree
-        → length found ≡ length (used_names (items (unit_parts tree)))
-        → take 1 (unit_text tokens (items (unit_parts tree)) found) ≡ codes " " }
+    ensures blank { (tree : Tree) (rest : Rest)
+        → lexemes rest.tokens ≡ spell tree
+        → length rest.found ≡ length (used_names (items (unit_parts tree)))
+        → rest.in_value ≡ false
+        → take 1 (unit_text rest (items (unit_parts tree))) ≡ codes " " }
 {}
 
 /// A unit that the rules of tokens refuse, or that no tree spells, asks for the open scopes, and as

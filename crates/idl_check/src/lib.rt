@@ -2,24 +2,29 @@
 //! the facts, and its row in the dump.
 //!
 //! A unit is walked over in the order of its tokens, each name is looked up by questions, and each
-//! site has a table of what may be wrong there. Nothing here knows places, or the values of
-//! expressions.
+//! site has a table of what may be wrong there. Nothing here knows places, or how a value is
+//! reckoned.
 #![tactic(auto)]
 
 mod bases;
 mod codes;
 mod declaring;
 mod judge;
+mod labels;
 mod laws;
+mod naming;
 mod part;
 mod placing;
 mod row;
 mod standing;
 mod task;
+mod types;
 mod using;
+mod values;
+mod valuing;
 mod verdict;
 mod walk;
 
 pub use laws::{acceptance, least, numbering, questions, refusal, wording};
 pub use task::DeclarationTask;
-pub use verdict::{Row, Verdict};
+pub use verdict::Verdict;

@@ -1,22 +1,19 @@
 //! The row of a unit in the dump.
 
-ghost use Rattle.std.specs.Prelude.{◌≡◌, ◌≤◌, ◌∷◌, ◌++◌, ℕ, codes, IfOk, List, OnOk, drop, flat_map, length, map};
-ghost use Rattle.std.specs.List.{list_any, repeat};
-ghost use Rattle.idl_check.specs.Row.{character, escaped, is_value, octal, path_word, row_of, spaced, text_word, token_text, unit_text};
-ghost use Rattle.idl_site.specs.Item.{Item as SiteItem};
-ghost use Rattle.idl_site.specs.Item.{Item as item};
-ghost use Rattle.idl_site.specs.declared.site.Use.{Use};
-ghost use Rattle.idl_tree.specs.Name.{spell_name};
+ghost use Rattle.std.specs.Prelude.{◌≡◌, ◌≤◌, ◌++◌, codes, IfOk, OnOk, drop, flat_map, map};
+ghost use Rattle.std.specs.List.{repeat};
+ghost use Rattle.idl_check.specs.Row.{behind_site, character, escaped, next_path, next_value, octal, path_word, row_of, site_text, spaced, text_word, token_text, unit_text};
+ghost use Rattle.idl_check.specs.HeldRow.{rest_at};
 ghost use Rattle.idl_site.specs.Item.{item_at, item_length, items_length};
 
 use crate::part::{behind, front};
 use crate::using::name_length;
-use crate::verdict::Row;
 use idl_base::{Seq, Text};
 use idl_lex::{Spelling, Token, is_like_keyword};
 use idl_scope::{Path, Shared};
 use idl_site::Site;
-use idl_tree::{ScopedName, Several};
+use idl_tree::Several;
+use idl_value::{Value, push_value};
 use std::alloc::{AllocError, Global};
 
 /// What a row is still to be made of: tokens, and the paths of what the names among them denote.
@@ -24,6 +21,10 @@ use std::alloc::{AllocError, Global};
 pub struct Rest<'a> {
     pub tokens: &'a [Token],
     pub found: &'a [Path],
+    /// The values of the expressions among them.
+    pub values: &'a [Value],
+    /// Whether the first of them stands in an expression.
+    pub in_value: bool,
 }
 
 /// The row of a unit around which so many scopes are open.
@@ -33,42 +34,16 @@ pub fn row_of(
     depth: usize,
     sites: &[Site<'_>],
     unit: Rest<'_>,
-) -> Result<Row, AllocError>
+) -> Result<Shared<Text>, AllocError>
     requires { items_length (map item_at sites.now) ≤ 18446744073709551615 }
-    ensures { IfOk result (λ row.
-        row ≡ row_of depth unit.entry.tokens.now (map item_at sites.now) unit.entry.found.now) }
+    ensures { IfOk result (λ row. row ≡ row_of depth (map item_at sites.now) (rest_at unit.entry)) }
 {
-    if holds_value(sites) {
-        return Ok(Row::Unknown);
-    }
     let mut text = Vec::new(alloc);
     push_sites(&mut text, sites, unit)?;
     let mut row = Vec::new(alloc);
     push_blanks(&mut row, depth)?;
     row.extend_from_slice(behind(text.as_slice(), 1))?;
-    let spelled = Shared::new(alloc, Text::from_vec(row))?;
-    Ok(Row::Spelled(spelled))
-}
-
-// Whether one of the sites is an expression.
-fn holds_value(sites: &[Site<'_>]) -> bool
-    ensures { result ≡ list_any is_value (map item_at sites.now) }
-{
-    for site in sites {
-        if is_value(*site) {
-            return true;
-        }
-    }
-    false
-}
-
-fn is_value(site: Site<'_>) -> bool
-    ensures { result ≡ is_value (item_at site.entry) }
-{
-    match site {
-        Site::ValueBegins => true,
-        _ => false,
-    }
+    Shared::new(alloc, Text::from_vec(row))
 }
 
 // Two blanks for each open scope.
@@ -86,76 +61,93 @@ fn push_sites(text: &mut Vec<u8>, sites: &[Site<'_>], unit: Rest<'_>) -> Result<
     requires { items_length (map item_at sites.now) ≤ 18446744073709551615 }
     ensures { OnOk result
         (text.new.items
-        ≡ text.old.items
-        ++ unit_text unit.entry.tokens.now (map item_at sites.now) unit.entry.found.now) }
+        ≡ text.old.items ++ unit_text (rest_at unit.entry) (map item_at sites.now)) }
 {
     let mut rest = unit;
     for site in sites {
-        rest = push_site(text, *site, rest)?;
+        rest.push_site(text, *site)?;
+        rest = rest.behind_site(*site);
     }
     Ok(())
 }
 
-// The words of a site, and what is left behind it.
-fn push_site<'a>(text: &mut Vec<u8>, site: Site<'_>, rest: Rest<'a>) -> Result<Rest<'a>, AllocError>
-    requires { item_length (item_at site) ≤ 18446744073709551615 }
-    ensures { IfOk result (λ left. (sites : List SiteItem) →
-        text.new.items ++ unit_text left.tokens.now sites left.found.now
-        ≡ text.old.items
-        ++ unit_text rest.entry.tokens.now (item_at site.entry ∷ sites) rest.entry.found.now) }
-{
-    match site {
-        Site::Tokens(count) => {
-            push_tokens(text, front(rest.tokens, count))?;
-            Ok(rest.behind(count))
-        }
-        Site::Declared(_, name) => {
-            push_declared(text, name.as_bytes())?;
-            Ok(rest.behind(1))
-        }
-        Site::Used(_, name) => push_used(text, name, rest),
-        Site::Joined(pieces) => {
-            push_joined(text, pieces)?;
-            Ok(rest.behind(1 + pieces.rest.len()))
-        }
-        _ => Ok(rest),
-    }
-}
-
 impl<'a> Rest<'a> {
+    // The words of a site.
+    fn push_site(self, text: &mut Vec<u8>, site: Site<'_>) -> Result<(), AllocError>
+        requires { item_length (item_at site) ≤ 18446744073709551615 }
+        ensures { OnOk result
+            (text.new.items
+            ≡ text.old.items ++ site_text (rest_at self.entry) (item_at site.entry)) }
+    {
+        match site {
+            Site::Tokens(count) if !self.in_value => push_tokens(text, front(self.tokens, count)),
+            Site::Declared(_, name) => push_declared(text, name.as_bytes()),
+            Site::Used(_, _) if !self.in_value => push_next_path(text, self.found),
+            Site::Joined(pieces) => push_joined(text, pieces),
+            Site::ValueEnds(_, _) => push_next_value(text, self.values),
+            _ => Ok(()),
+        }
+    }
+
+    // What is left behind a site.
+    fn behind_site(self, site: Site<'_>) -> Rest<'a>
+        requires { item_length (item_at site) ≤ 18446744073709551615 }
+        ensures { rest_at result ≡ behind_site (rest_at self.entry) (item_at site.entry) }
+    {
+        match site {
+            Site::Tokens(count) => self.behind(count),
+            Site::Declared(_, _) => self.behind(1),
+            Site::Used(_, name) => Rest {
+                found: behind(self.found, 1),
+                ..self.behind(name_length(name))
+            },
+            Site::Joined(pieces) => self.behind(1 + pieces.rest.len()),
+            Site::ValueBegins => Rest {
+                in_value: true,
+                ..self
+            },
+            Site::ValueEnds(_, _) => Rest {
+                values: behind(self.values, 1),
+                in_value: false,
+                ..self
+            },
+            _ => self,
+        }
+    }
+
     // What is left behind so many tokens.
     fn behind(self, count: usize) -> Rest<'a>
-        ensures tokens { result.tokens.now ≡ drop count self.entry.tokens.now }
-        ensures found { result.found.now ≡ self.entry.found.now }
+        ensures { rest_at result
+            ≡ record (rest_at self.entry) { tokens = drop count self.entry.tokens.now } }
     {
         Rest {
             tokens: behind(self.tokens, count),
-            found: self.found,
+            ..self
         }
     }
 }
 
-// The path of what a used name denotes, and what is left behind the name.
-fn push_used<'a>(
-    text: &mut Vec<u8>,
-    name: &ScopedName,
-    rest: Rest<'a>,
-) -> Result<Rest<'a>, AllocError>
-    requires { length (spell_name name.now) ≤ 18446744073709551615 }
-    ensures { IfOk result (λ left. (way : Use) (sites : List SiteItem) →
-        text.new.items ++ unit_text left.tokens.now sites left.found.now
-        ≡ text.old.items
-        ++ unit_text rest.entry.tokens.now (item.Used way name.now ∷ sites) rest.entry.found.now) }
+// The first of these paths.
+fn push_next_path(text: &mut Vec<u8>, found: &[Path]) -> Result<(), AllocError>
+    ensures { OnOk result (text.new.items ≡ text.old.items ++ next_path found.now) }
 {
-    let tokens = behind(rest.tokens, name_length(name));
-    let [path, found @ ..] = rest.found else {
-        return Ok(Rest {
-            tokens,
-            found: rest.found,
-        });
-    };
-    push_path(text, path)?;
-    Ok(Rest { tokens, found })
+    match found {
+        [] => Ok(()),
+        [path, ..] => push_path(text, path),
+    }
+}
+
+// The first of these values.
+fn push_next_value(text: &mut Vec<u8>, values: &[Value]) -> Result<(), AllocError>
+    ensures { OnOk result (text.new.items ≡ text.old.items ++ next_value values.now) }
+{
+    match values {
+        [] => Ok(()),
+        [value, ..] => {
+            text.extend_from_slice(b" ")?;
+            push_value(text, value)
+        }
+    }
 }
 
 // Tokens as they are spelled.

@@ -1,18 +1,23 @@
 //! Used names: what they may denote where they stand.
 
-ghost use Rattle.std.specs.Prelude.{◌≡◌, ◌≤◌, ◌+◌, ◌*◌, IfOk, OnOk, length};
-ghost use Rattle.idl_check.specs.Using.{part_at, last_at, name_code, is_type, has_value, suits, used_table, with_uses};
+ghost use Rattle.std.specs.Prelude.{◌≡◌, ◌≤◌, ◌+◌, ◌*◌, IfOk, OnOk, false, length};
+ghost use Rattle.idl_check.specs.Using.{is_base, part_at, last_at, name_code, is_type, suited_table, suits, used_table, with_uses, Bases as NamedBases};
 ghost use Rattle.idl_check.specs.Codes.{codes_in};
+ghost use Rattle.idl_check.specs.Types.{constants_of};
+ghost use Rattle.idl_scope.specs.declared.entity.Entity.{Entity as ScopeEntity};
 ghost use Rattle.idl_lex.specs.Keywords.{folded};
 ghost use Rattle.idl_tree.specs.Name.{spell_name};
 ghost use Rattle.idl_unit.specs.TokenRules.{first};
 
 use crate::bases::Bases;
+use crate::codes::first_code;
+use crate::types::{is_incomplete, may_switch};
 use idl_event::Code;
 use idl_lex::Spelling;
-use idl_scope::{Addition, Entity, Facts, Kind, NameCode, Path, Scope, Stage, folded_name};
+use idl_scope::{Addition, Entity, Facts, Kind, NameCode, Path, Scope, folded_name};
 use idl_site::Use;
 use idl_tree::ScopedName;
+use idl_value::Target;
 use std::alloc::{AllocError, Global};
 
 /// A used name, and the path of what it denotes.
@@ -72,14 +77,6 @@ fn is_type(kind: Kind) -> bool
     }
 }
 
-// Whether it is an enumerator, or a constant that is not the one whose value is being told.
-fn has_value(entity: &Entity) -> bool
-    ensures { result ≡ has_value entity.now }
-{
-    (entity.kind == Kind::Constant || entity.kind == Kind::Enumerator)
-        && entity.stage == Stage::Complete
-}
-
 // Whether a name may be used so that denotes this.
 fn suits(way: Use, entity: &Entity) -> bool
     ensures { result ≡ suits way entity.now }
@@ -89,9 +86,16 @@ fn suits(way: Use, entity: &Entity) -> bool
         Use::AsType | Use::AsElement | Use::AsConstantType | Use::AsDiscriminator => {
             is_type(entity.kind)
         }
-        Use::AsOperand => has_value(entity),
+        Use::AsOperand => entity.value.is_some(),
         Use::Raised => entity.kind == Kind::Exception,
     }
+}
+
+/// What a name denotes, what stands behind that, and the type that its constants have.
+#[derive(Clone, Copy)]
+pub struct Denoted<'a> {
+    pub entity: &'a Entity,
+    pub constants: &'a Option<Target>,
 }
 
 /// The code of the least fault of a name that is used so and denotes this.
@@ -99,17 +103,40 @@ pub fn used_code(
     alloc: Global,
     way: Use,
     bases: &Bases,
-    entity: &Entity,
+    denoted: Denoted<'_>,
 ) -> Result<Option<Code>, AllocError>
-    ensures { IfOk result (λ code.
-        code ≡ first (codes_in (used_table way bases.now entity.now))) }
+    ensures { IfOk result (λ code. (behind : ScopeEntity) →
+        denoted.entry.constants.now ≡ constants_of behind →
+        code ≡ first (codes_in (used_table way bases.now denoted.entry.entity.now behind))) }
 {
-    if !suits(way, entity) {
+    if !suits(way, denoted.entity) {
         return Ok(Some(Code::WrongKind));
     }
     match way {
-        Use::AsBase(is_local) => bases.code(alloc, is_local, entity),
-        _ => Ok(None),
+        Use::AsBase(is_local) => bases.code(alloc, is_local, denoted.entity),
+        _ => Ok(type_code(way, denoted)),
+    }
+}
+
+// The code of the least fault of the name of a type.
+fn type_code(way: Use, denoted: Denoted<'_>) -> Option<Code>
+    ensures { (behind : ScopeEntity) → (bases : NamedBases) →
+        denoted.entry.constants.now ≡ constants_of behind →
+        is_base way ≡ false →
+        result ≡ first (codes_in (suited_table way bases denoted.entry.entity.now behind)) }
+{
+    let is_incomplete = is_incomplete(denoted.entity);
+    match way {
+        Use::AsType => first_code(&[(is_incomplete, Code::IncompleteType)]),
+        Use::AsConstantType => first_code(&[
+            (denoted.constants.is_none(), Code::NoConstantType),
+            (is_incomplete, Code::IncompleteType),
+        ]),
+        Use::AsDiscriminator => first_code(&[
+            (is_incomplete, Code::IncompleteType),
+            (!may_switch(denoted.constants), Code::BadDiscriminator),
+        ]),
+        _ => None,
     }
 }
 

@@ -7,31 +7,14 @@ use idl_scope::{Facts, Shared, Step};
 use idl_unit::Fault;
 use std::alloc::{AllocError, Global};
 
-/// The row of a unit in the dump.
-pub enum Row {
-    /// Its bytes.
-    Spelled(Shared<Text>),
-    /// It holds an expression, whose value isn't known.
-    Unknown,
-}
-
-impl Drop for Row {
-    fn drop(self) {
-        match self {
-            Row::Spelled(_text) => {}
-            Row::Unknown => {}
-        }
-    }
-}
-
 /// What comes of a unit. It names tokens by their numbers, and no place.
 pub struct Verdict {
     /// Its least fault.
     pub fault: Option<Fault>,
     /// What it adds: names only where there is no fault.
     pub writes: Shared<Facts>,
-    /// Its row, which a faulty unit and a pragma have not.
-    pub row: Option<Row>,
+    /// Its row in the dump, which a faulty unit and a pragma have not.
+    pub row: Option<Shared<Text>>,
 }
 
 impl Drop for Verdict {

@@ -1,39 +1,33 @@
 //! The walk over the sites of a unit.
 
-ghost use Rattle.std.specs.Prelude.{◌≡◌, ◌≤◌, ◌+◌, ◌∷◌, ◌++◌, [], ℕ, IfOk, OnOk, Ok, Err, List, drop, length, map, take, if◌then◌else◌, true, false};
-ghost use Rattle.idl_check.specs.Declaring.{standing, with_declared, with_finished};
+ghost use Rattle.std.specs.Prelude.{◌≡◌, ◌≤◌, ◌+◌, ◌∷◌, [], ℕ, IfOk, OnOk, Some, drop, map, option_to_list, take, true};
+ghost use Rattle.idl_check.specs.Declaring.{with_finished};
 ghost use Rattle.idl_check.specs.Held.{HasRoomFor, held, visited};
-ghost use Rattle.idl_check.specs.Using.{bases_after, last_at};
-ghost use Rattle.idl_check.specs.Walk.{declared_visit, first_fault, first_walk, is_over, noted_in, used_visit, walk, with_scope};
-ghost use Rattle.idl_lex.specs.Keywords.{folded};
+ghost use Rattle.idl_check.specs.Walk.{faulty_if, first_walk, is_over, noted, noted_in, passed, scope_visit, walk, with_scope};
+ghost use Rattle.idl_check.specs.Labels.{is_idle};
+ghost use Rattle.idl_event.specs.declared.code.Code.TheVariants.{BadOneway, UselessDefault};
+ghost use Rattle.std.specs.List.{list_any};
 ghost use Rattle.idl_memo.specs.Query.{run};
 ghost use Rattle.idl_scope.specs.Facts.{answers};
 ghost use Rattle.idl_scope.specs.Key.{key_eq};
-ghost use Rattle.idl_scope.specs.Kind.{stage_eq};
-ghost use Rattle.idl_scope.specs.Lookup.{under};
-ghost use Rattle.idl_scope.specs.declared.kind.Stage.TheVariants.{Begun};
-ghost use Rattle.idl_scope.specs.declared.fault.NameFault.TheVariants.{At};
 ghost use Rattle.idl_scope.specs.declared.lookup.TheConstants.{TURNS};
 ghost use Rattle.idl_site.specs.Item.{item_at, item_length, items_length};
-ghost use Rattle.idl_site.specs.Item.{Item as item};
-ghost use Rattle.idl_unit.specs.TokenRules.{fault_at, first};
-ghost use Rattle.idl_site.specs.declared.site.Use.{Use};
+ghost use Rattle.idl_unit.specs.TokenRules.{fault_at};
 
 use crate::bases::Bases;
-use crate::declaring::{declared_code, entity_of, finished, kind_of, path_in, stays};
-use crate::part::front;
-use crate::standing::{Standing, standing_of};
-use crate::using::{Denoting, introduce, last_at, name_code, part_at, used_code};
-use idl_base::{Seq, Text};
+use crate::codes::lesser;
+use crate::declaring::{Written, finished, kind_of, path_in};
+use crate::labels::Labels;
+use crate::values::Values;
+use idl_base::Text;
 use idl_event::Code;
 use idl_memo::Log;
 use idl_scope::{
-    Addition, Entity, Env, Facts, Found, NameCode, NameFault, Path, Scope, Shared, Stage,
-    Standpoint, Step, View, resolve, shared_name,
+    Addition, Entity, Env, Facts, Kind, Meaning, Path, Scope, Shared, Step, View,
 };
-use idl_site::{Declaration, Site, Use};
-use idl_tree::ScopedName;
+use idl_site::{Declaration, Site};
 use idl_unit::Fault;
+use idl_value::Value;
 use std::alloc::{AllocError, Global};
 
 /// How far a walk has come.
@@ -48,12 +42,19 @@ pub struct Walker<'a> {
     /// Those of the declared names that the unit's end finishes.
     pub begun: Vec<Shared<Entity>>,
     pub bases: Bases,
+    /// What the next names are declared with.
+    pub written: Written,
+    /// The name of a typedef that was declared last.
+    pub alias: Option<Shared<Entity>>,
+    /// The labels of the unions around it, the innermost first.
+    pub unions: Vec<Labels>,
+    /// Whether what the next token begins is given back by a oneway operation.
+    pub gives_back: bool,
     /// The paths of what the used names denote, in order.
     pub found: Vec<Path>,
-    /// The first fault.
+    pub values: Values,
+    /// The least fault so far.
     pub fault: Option<Fault>,
-    /// Whether the next token stands in an expression.
-    pub in_value: bool,
 }
 
 impl<'a> Drop for Walker<'a> {
@@ -65,9 +66,13 @@ impl<'a> Drop for Walker<'a> {
             own: _own,
             begun: _begun,
             bases: _bases,
+            written: _written,
+            alias: _alias,
+            unions: _unions,
+            gives_back: _gives_back,
             found: _found,
+            values: _values,
             fault: _fault,
-            in_value: _in_value,
         } = self;
     }
 }
@@ -87,9 +92,13 @@ impl<'a> Walker<'a> {
             own: Facts::new(alloc),
             begun: Vec::new(alloc),
             bases: Bases::new(alloc),
+            written: Written::new(alloc),
+            alias: None,
+            unions: Vec::new(alloc),
+            gives_back: false,
             found: Vec::new(alloc),
+            values: Values::new(alloc),
             fault: None,
-            in_value: false,
         })
     }
 
@@ -115,21 +124,21 @@ impl<'a> Walker<'a> {
     fn is_over(&self) -> bool
         ensures { result ≡ is_over (held self.now) }
     {
-        self.fault.is_some() && !self.in_value
+        self.fault.is_some() && self.values.begin.is_none()
     }
 
-    // Notes the first of the faults of a token, unless one came before.
-    fn note(&mut self, index: usize, code: Option<Code>)
-        ensures { (codes : List Code) → code ≡ first codes
-            → self.new
-            ≡ record self.old { fault = first_fault self.old.fault (map (fault_at index) codes) } }
+    /// Notes a fault of a token, unless a lesser one was noted.
+    pub fn note(&mut self, index: usize, code: Option<Code>)
+        ensures { self.new
+            ≡ record self.old {
+              fault = noted self.old.fault (map (fault_at index) (option_to_list code));
+            } }
     {
-        if self.fault.is_some() {
+        let Some(code) = code else {
             return;
-        }
-        if let Some(code) = code {
-            self.fault = Some(Fault { index, code });
-        }
+        };
+        let fault = Fault { index, code };
+        self.fault = Some(least_of(self.fault, fault));
     }
 
     // A site.
@@ -150,69 +159,47 @@ impl<'a> Walker<'a> {
             Site::Tokens(count) => self.pass(count),
             Site::Joined(text) => self.pass(1 + text.rest.len()),
             Site::ScopeEnds => self.end_scope(),
-            Site::ValueBegins => self.enter_value(),
-            Site::ValueEnds(_target, _expression) => self.leave_value(),
-            Site::Switches(_) | Site::Default | Site::GivesBack => Ok(()),
+            Site::ValueBegins => self.begin_value(),
+            Site::ValueEnds(way, expression) => self.end_value(way, expression),
+            Site::TypeEnds(shape) => self.end_type(shape),
+            Site::Enumerates(names) => self.enumerate(names),
+            Site::Switches(discrete) => self.switch(discrete),
+            Site::Default => self.label_default(),
+            Site::GivesBack => self.give_back(),
         }
     }
 
     // So many tokens.
     fn pass(&mut self, count: usize) -> Result<(), AllocError>
         requires { self.old.at + count ≤ 18446744073709551615 }
-        ensures { self.new ≡ record self.old { at = self.old.at + count } }
+        ensures visit { held self.new
+            ≡ noted_in
+            (faulty_if self.old.gives_back BadOneway (held self.old)
+            (passed count (held self.old))) self.old.fault }
+        ensures at { self.new.at ≡ self.old.at + count }
+        ensures env { self.new.env.now ≡ self.old.env.now }
     {
+        let at = self.at;
+        let is_given_back = self.gives_back;
         self.at += count;
-        Ok(())
-    }
-
-    // An expression begins.
-    fn enter_value(&mut self) -> Result<(), AllocError>
-        ensures { self.new ≡ record self.old { in_value = true } }
-    {
-        self.in_value = true;
-        Ok(())
-    }
-
-    // It ends.
-    fn leave_value(&mut self) -> Result<(), AllocError>
-        ensures { self.new ≡ record self.old { in_value = false } }
-    {
-        self.in_value = false;
-        Ok(())
-    }
-
-    // A declared name.
-    #[tactic(auto, unfolding(crate::specs::Walk::visit))]
-    fn declare(
-        &mut self,
-        log: &mut Log<Env>,
-        way: Declaration,
-        name: &Text,
-    ) -> Result<(), AllocError>
-        requires { HasRoomFor (held self.old) (item.Declared way name.now ∷ []) }
-        ensures visited { OnOk result ((turns : ℕ) → TURNS ≤ turns →
-            (held self.new, log.new)
-            ≡ run key_eq (visited turns (item.Declared way name.now) (held self.old))
-            (answers self.old.env.now) log.old) }
-        ensures at { OnOk result (self.new.at ≡ self.old.at + 1) }
-        ensures env { OnOk result (self.new.env.now ≡ self.old.env.now) }
-    {
-        let alloc = self.env.alloc();
-        let Some(innermost) = self.cursor.first() else {
-            self.at += 1;
+        self.gives_back = false;
+        if is_given_back {
+            self.note(at, Some(Code::BadOneway));
             return Ok(());
-        };
-        let scope = innermost.clone()?;
-        let spelled = shared_name(alloc, name.as_bytes())?;
-        let entity = entity_of(alloc, way, &spelled, &scope.path)?;
-        let folded = entity.get().path.folded(alloc)?;
-        let standing = standing_of(self.view(), log, &scope, &folded)?;
-        self.declare_as(&scope, entity, &standing)?;
+        }
         Ok(())
     }
 
-    // The environment under what the tokens so far add.
-    fn view(&self) -> View<'_>
+    // What the next token begins is given back by a oneway operation.
+    fn give_back(&mut self) -> Result<(), AllocError>
+        ensures { self.new ≡ record self.old { gives_back = true } }
+    {
+        self.gives_back = true;
+        Ok(())
+    }
+
+    /// The environment under what the tokens so far add.
+    pub fn view(&self) -> View<'_>
         ensures env { result.env.now ≡ self.now.env.now }
         ensures own { result.own.now ≡ self.now.own }
     {
@@ -220,101 +207,6 @@ impl<'a> Walker<'a> {
             env: self.env,
             own: &self.own,
         }
-    }
-
-    // A declared name, by what stands under it in its scope.
-    fn declare_as(
-        &mut self,
-        scope: &Scope,
-        entity: Shared<Entity>,
-        standing: &Standing,
-    ) -> Result<(), AllocError>
-        requires { self.old.at + 1 ≤ 18446744073709551615 }
-        ensures visit { OnOk result
-            (held self.new
-            ≡ noted_in (declared_visit (held self.old) scope.now entity standing.now)
-            self.old.fault) }
-        ensures env { OnOk result (self.new.env.now ≡ self.old.env.now) }
-    {
-        let code = declared_code(self.env.alloc(), scope, standing, entity.get())?;
-        self.note(self.at, code);
-        self.at += 1;
-        keep_begun(&mut self.begun, &entity)?;
-        add_declared(&mut self.own, &standing.there, entity)?;
-        Ok(())
-    }
-
-    // A used name.
-    #[tactic(auto, unfolding(crate::specs::Walk::visit))]
-    fn use_name(
-        &mut self,
-        log: &mut Log<Env>,
-        way: Use,
-        name: &ScopedName,
-    ) -> Result<(), AllocError>
-        requires { HasRoomFor (held self.old) (item.Used way name.now ∷ []) }
-        ensures visited { OnOk result ((turns : ℕ) → TURNS ≤ turns →
-            (held self.new, log.new)
-            ≡ run key_eq (visited turns (item.Used way name.now) (held self.old))
-            (answers self.old.env.now) log.old) }
-        ensures at { OnOk result
-            (self.new.at ≡ self.old.at + item_length (item.Used way name.now)) }
-        ensures env { OnOk result (self.new.env.now ≡ self.old.env.now) }
-    {
-        let place = Standpoint {
-            own: &self.own,
-            cursor: self.cursor.as_slice(),
-        };
-        match resolve(self.env, log, place, name) {
-            Ok(found) => {
-                self.use_as(way, name, found)?;
-                Ok(())
-            }
-            Err(NameFault::Memory) => Err(AllocError),
-            Err(NameFault::At(code, part)) => {
-                self.use_nothing(name, code, part);
-                Ok(())
-            }
-        }
-    }
-
-    // A used name that denotes nothing.
-    fn use_nothing(&mut self, name: &ScopedName, code: NameCode, part: usize)
-        requires room { last_at self.old.at name.now + 1 ≤ 18446744073709551615 }
-        requires part { part ≤ length name.now.rest }
-        ensures visit { (way : Use) →
-            held self.new
-            ≡ noted_in (used_visit (held self.old) way name.now (Err (At code part)))
-            self.old.fault }
-        ensures env { self.new.env.now ≡ self.old.env.now }
-    {
-        self.note(part_at(self.at, name, part), Some(name_code(code)));
-        self.at = last_at(self.at, name) + 1;
-    }
-
-    // A used name, by what it denotes.
-    fn use_as(&mut self, way: Use, name: &ScopedName, found: Found) -> Result<(), AllocError>
-        requires room { last_at self.old.at name.now + 1 ≤ 18446744073709551615 }
-        ensures visit { OnOk result
-            (held self.new
-            ≡ noted_in (used_visit (held self.old) way name.now (Ok found)) self.old.fault) }
-        ensures env { OnOk result (self.new.env.now ≡ self.old.env.now) }
-    {
-        let alloc = self.env.alloc();
-        let entity = found.entity.get();
-        let code = used_code(alloc, way, &self.bases, entity)?;
-        let last = last_at(self.at, name);
-        self.note(last, code);
-        self.at = last + 1;
-        let scopes = front(self.cursor.as_slice(), found.reach);
-        let used = Denoting {
-            name,
-            path: &entity.path,
-        };
-        introduce(alloc, &mut self.own, used, scopes)?;
-        add_base(alloc, &mut self.bases, way, entity)?;
-        self.found.push(entity.path.clone()?)?;
-        Ok(())
     }
 
     // The scope of what is declared so begins.
@@ -338,13 +230,42 @@ impl<'a> Walker<'a> {
         Ok(())
     }
 
-    // It ends.
+    // It ends: it is a type from then on. The labels of a union are complete.
     fn end_scope(&mut self) -> Result<(), AllocError>
-        ensures walk { held self.new
-            ≡ record (held self.old) { cursor = drop 1 self.old.cursor.items } }
-        ensures env { self.new.env.now ≡ self.old.env.now }
+        ensures visit { OnOk result
+            (held self.new ≡ noted_in (scope_visit (held self.old)) self.old.fault) }
+        ensures at { OnOk result (self.new.at ≡ self.old.at) }
+        ensures env { OnOk result (self.new.env.now ≡ self.old.env.now) }
     {
+        let Some(innermost) = self.cursor.first() else {
+            return Ok(());
+        };
+        let path = innermost.path.clone()?;
+        let is_union = innermost.kind == Kind::Union;
+        self.written.meaning = Meaning::Named(path);
         leave(&mut self.cursor);
+        if is_union { self.end_union() } else { Ok(()) }
+    }
+
+    // The labels of the innermost union are complete.
+    fn end_union(&mut self) -> Result<(), AllocError>
+        ensures visit { OnOk result
+            (held self.new
+            ≡ noted_in
+            (faulty_if (list_any is_idle (take 1 self.old.unions.items)) UselessDefault
+            (held self.old)
+            (record (held self.old) { unions = drop 1 self.old.unions.items })) self.old.fault) }
+        ensures at { OnOk result (self.new.at ≡ self.old.at) }
+        ensures env { OnOk result (self.new.env.now ≡ self.old.env.now) }
+    {
+        if self.unions.is_empty() {
+            return Ok(());
+        }
+        let labels = self.unions.remove(0);
+        if labels.is_idle() {
+            self.note(self.at, Some(Code::UselessDefault));
+            return Ok(());
+        }
         Ok(())
     }
 
@@ -354,8 +275,8 @@ impl<'a> Walker<'a> {
             facts
             ≡ record {
               additions =
-                  with_finished self.entry.bases.paths self.entry.own.additions
-                  self.entry.begun.items;
+                  with_finished self.entry.bases.paths self.entry.values.constant
+                  self.entry.own.additions self.entry.begun.items;
               step = step;
             }) }
     {
@@ -367,13 +288,27 @@ impl<'a> Walker<'a> {
             mut own,
             begun,
             bases,
+            written: _written,
+            alias: _alias,
+            unions: _unions,
+            gives_back: _gives_back,
             found: _found,
+            values,
             fault: _fault,
-            in_value: _in_value,
         } = self;
-        finish(alloc, &mut own, &bases, begun.as_slice())?;
+        finish(alloc, &mut own, &bases, &values.constant, begun.as_slice())?;
         own.then(step);
         Ok(own)
+    }
+}
+
+// The least of a fault and of the one before, if there was one.
+fn least_of(before: Option<Fault>, fault: Fault) -> Fault
+    ensures { Some result ≡ noted before (fault ∷ []) }
+{
+    match before {
+        Some(before) => lesser(before, fault),
+        None => fault,
     }
 }
 
@@ -386,78 +321,26 @@ fn leave(scopes: &mut Vec<Scope>)
     }
 }
 
-// Those that have begun, with one more if it has.
-fn keep_begun(begun: &mut Vec<Shared<Entity>>, entity: &Shared<Entity>) -> Result<(), AllocError>
-    ensures { OnOk result
-        (begun.new.items
-        ≡ begun.old.items ++ (if stage_eq entity.now.stage Begun then entity.now ∷ [] else [])) }
-{
-    if entity.get().stage != Stage::Begun {
-        return Ok(());
-    }
-    begun.push(entity.clone()?)?;
-    Ok(())
-}
-
-// Puts in what a declared name adds.
-fn add_declared(
-    own: &mut Facts,
-    there: &Option<Shared<Entity>>,
-    entity: Shared<Entity>,
-) -> Result<(), AllocError>
-    ensures { OnOk result
-        (own.new
-        ≡ record own.old { additions = with_declared there.now entity own.old.additions }) }
-{
-    if stays(there, entity.get()) {
-        return Ok(());
-    }
-    own.add(Addition::Declares(entity))
-}
-
-// The bases after a name that is used so and denotes this.
-fn add_base(alloc: Global, bases: &mut Bases, way: Use, entity: &Entity) -> Result<(), AllocError>
-    ensures { OnOk result (bases.new ≡ bases_after way entity.now bases.old) }
-{
-    match way {
-        Use::AsBase(_) => bases.add(alloc, entity),
-        _ => Ok(()),
-    }
-}
-
 // Puts in what has begun, as the unit's end finishes it.
 fn finish(
     alloc: Global,
     own: &mut Facts,
     bases: &Bases,
+    constant: &Option<Value>,
     begun: &[Shared<Entity>],
 ) -> Result<(), AllocError>
     ensures { OnOk result
         (own.new
         ≡ record own.old {
-          additions = with_finished bases.now.paths own.old.additions begun.now;
+          additions = with_finished bases.now.paths constant.now own.old.additions begun.now;
         }) }
 {
     if begun.is_empty() {
         return Ok(());
     }
     let paths = bases.paths(alloc)?;
-    add_finished(alloc, own, &paths, begun)
-}
-
-// Puts in what has begun, with these bases.
-fn add_finished(
-    alloc: Global,
-    own: &mut Facts,
-    bases: &Seq<Path>,
-    begun: &[Shared<Entity>],
-) -> Result<(), AllocError>
-    ensures { OnOk result
-        (own.new
-        ≡ record own.old { additions = with_finished bases.now own.old.additions begun.now }) }
-{
     for entity in begun {
-        own.add(Addition::Declares(finished(alloc, bases, entity.get())?))?;
+        own.add(Addition::Declares(finished(alloc, &paths, constant, entity.get())?))?;
     }
     Ok(())
 }

@@ -1,9 +1,6 @@
 -- What compiling a root gives, from the events that it expands to.
-use Rattle.std.specs.Prelude.{ℕ, Bool, true, false, ◌||◌, List, [], ◌∷◌, ◌++◌, flat_map, length, map, nat_lt, Option, None, Some}
+use Rattle.std.specs.Prelude.{ℕ, Bool, true, false, ◌||◌, List, [], ◌∷◌, ◌++◌, flat_map, length, map, nat_lt, None, option_to_list}
 use Rattle.std.specs.List.{enumerate_from, list_any}
-use Rattle.std.specs.Option.{option_map}
-use Rattle.idl_check.specs.declared.verdict.Row.{Row}
-use Rattle.idl_check.specs.declared.verdict.Row.TheVariants.{Spelled, Unknown}
 use Rattle.idl_event.specs.Code.{is_error}
 use Rattle.idl_event.specs.Diagnostic.{diagnostic_row}
 use Rattle.idl_event.specs.declared.code.Code.TheVariants.{OpenScope}
@@ -17,22 +14,15 @@ use Rattle.idl_scope.specs.Facts.{UnitFacts, answers, scopes_in}
 use Rattle.idl_scope.specs.declared.key.Key.TheVariants.{Cursor}
 use Rattle.idl_unit.specs.Units.{units_of}
 
--- what comes of a root: the facts that its units add, what is found, and the rows of the dump, if
--- all are known
+-- what comes of a root: the facts that its units add, what is found, and the rows of the dump
 pub record Outcome : Type 0 where
   pub facts : List UnitFacts
   pub found : List Finding
-  pub rows : Option (List (List ℕ))
+  pub rows : List (List ℕ)
 
--- the row of a unit, if it has one, before those of the units behind it, if all are known
-abbrev pub with_row : Option Row → Option (List (List ℕ)) → Option (List (List ℕ))
-with_row None rows = rows
-with_row (Some (Spelled row)) rows = option_map (λ more. row ∷ more) rows
-with_row (Some Unknown) rows = None
-
-abbrev pub known_rows : List Judged → Option (List (List ℕ))
-known_rows [] = Some []
-known_rows (j ∷ judged) = with_row j.verdict.row (known_rows judged)
+-- the row of a unit, if it has one
+abbrev pub row_in : Judged → List (List ℕ)
+row_in j = option_to_list j.verdict.row
 
 -- what is found in the events, and then what is found in the units
 abbrev pub findings : List Event → List Judged → List Finding
@@ -43,7 +33,11 @@ findings events judged =
 abbrev pub outcome_of : List Event → Outcome
 outcome_of events =
     let judged = judged_units (units_of events) in
-    record { facts = facts_of judged; found = findings events judged; rows = known_rows judged }
+    record {
+      facts = facts_of judged;
+      found = findings events judged;
+      rows = flat_map row_in judged;
+    }
 
 -- a scope beside the global one is open
 abbrev pub is_open : List UnitFacts → Bool
@@ -59,9 +53,9 @@ abbrev pub has_error : List Finding → Bool
 has_error found = list_any (λ f. is_error f.code) found
 
 -- the rows of a dump, beside an error none
-abbrev pub dump_beside : Bool → Option (List (List ℕ)) → List (List ℕ)
-dump_beside false (Some rows) = rows
-dump_beside is_faulty rows = []
+abbrev pub dump_beside : Bool → List (List ℕ) → List (List ℕ)
+dump_beside false rows = rows
+dump_beside true rows = []
 
 -- the rows of a root, whose end is this place: those of what is found, in the order of the events
 -- that they name, and then that of an open scope

@@ -1,7 +1,6 @@
 //! The compilation of a root.
 
 ghost use Rattle.std.specs.Prelude.{◌≡◌, ◌++◌, IfOk, map};
-ghost use Rattle.std.specs.Option.{option_map};
 ghost use Rattle.idl_root.specs.Compile.{compile, dump_beside, has_error, open_row, told};
 ghost use Rattle.idl_root.specs.Findings.{in_order};
 ghost use Rattle.idl_root.specs.Held.{held};
@@ -17,8 +16,7 @@ use std::alloc::{AllocError, Global};
 /// A row of diagnostics or of a dump, whose bytes are shared: a line of text without its newline.
 pub type Row = Shared<Text>;
 
-/// What compiling a root gives: the rows of its diagnostics, and of its dump, which is empty where one of them is an error,
-/// and where a row isn't known.
+/// What compiling a root gives: the rows of its diagnostics, and of its dump, which is empty where one of them is an error.
 pub struct Compiled {
     pub diagnostics: Seq<Row>,
     pub dump: Seq<Row>,
@@ -81,11 +79,12 @@ fn diagnostics(
 }
 
 // The rows of a dump, beside an error none.
-fn dump_beside(alloc: Global, is_faulty: bool, rows: Option<Vec<Row>>) -> Seq<Row>
-    ensures { result ≡ dump_beside is_faulty (option_map (λ rows. rows.items) rows) }
+fn dump_beside(alloc: Global, is_faulty: bool, rows: Vec<Row>) -> Seq<Row>
+    ensures { result ≡ dump_beside is_faulty rows.items }
 {
-    match rows {
-        Some(rows) if !is_faulty => Seq::from_vec(rows),
-        _ => Seq::new(alloc),
+    if is_faulty {
+        Seq::new(alloc)
+    } else {
+        Seq::from_vec(rows)
     }
 }

@@ -1,16 +1,15 @@
 //! The verdicts of a root's units.
 
-ghost use Rattle.std.specs.Prelude.{◌≡◌, ◌∷◌, [], IfOk, List, Some};
-ghost use Rattle.std.specs.Option.{option_map};
+ghost use Rattle.std.specs.Prelude.{◌≡◌, ◌∷◌, ◌++◌, [], IfOk, List, OnOk, option_to_list};
 ghost use Rattle.idl_check.specs.declared.verdict.Verdict.{Verdict as UnitVerdict};
-ghost use Rattle.idl_root.specs.Compile.{is_open, with_row};
-ghost use Rattle.idl_root.specs.Held.{held, rows_before, to_come, with_judged};
+ghost use Rattle.idl_root.specs.Compile.{is_open};
+ghost use Rattle.idl_root.specs.Held.{held, to_come, with_judged};
 ghost use Rattle.idl_root.specs.Judged.{judged_over, verdict_over};
 ghost use Rattle.idl_unit.specs.declared.unit.Unit.{Unit as RootUnit};
 
 use crate::compiled::Row;
 use crate::finding::{Finding, Spelled, push_fault};
-use idl_check::{DeclarationTask, Row as UnitRow, Verdict};
+use idl_check::{DeclarationTask, Verdict};
 use idl_memo::{Bank, Log, Task};
 use idl_scope::{Env, Key, scopes_in};
 use idl_unit::{Unit, UnitText};
@@ -20,8 +19,8 @@ use std::alloc::{AllocError, Global};
 pub struct Judging {
     pub env: Env,
     pub findings: Vec<Finding>,
-    /// The rows of the dump, if all are known.
-    pub rows: Option<Vec<Row>>,
+    /// The rows of the dump.
+    pub rows: Vec<Row>,
 }
 
 impl Drop for Judging {
@@ -38,13 +37,13 @@ impl Judging {
     /// Before the first unit, where this is found in the events.
     pub fn new(alloc: Global, findings: Vec<Finding>) -> Result<Judging, AllocError>
         ensures { IfOk result (λ judging.
-            held judging ≡ record { facts = []; found = findings.items; rows = Some [] }) }
+            held judging ≡ record { facts = []; found = findings.items; rows = [] }) }
     {
         let env = Env::new(alloc)?;
         Ok(Judging {
             env,
             findings,
-            rows: Some(Vec::new(alloc)),
+            rows: Vec::new(alloc),
         })
     }
 
@@ -108,10 +107,10 @@ impl Judging {
         let Judging {
             env,
             mut findings,
-            rows,
+            mut rows,
         } = self;
         push_fault(alloc, &mut findings, unit, verdict.fault)?;
-        let rows = with_row(rows, verdict)?;
+        push_row(&mut rows, &verdict.row)?;
         let env = env.add(&verdict.writes)?;
         Ok(Judging {
             env,
@@ -127,8 +126,8 @@ impl Judging {
         scopes_in(self.env.answer(&Key::Cursor)).len() > 1
     }
 
-    /// What was found, and the rows of the dump, if all are known.
-    pub fn ended(self) -> (Vec<Finding>, Option<Vec<Row>>)
+    /// What was found, and the rows of the dump.
+    pub fn ended(self) -> (Vec<Finding>, Vec<Row>)
         ensures found { result.0 ≡ self.findings }
         ensures rows { result.1 ≡ self.rows }
     {
@@ -152,21 +151,12 @@ fn verdict_over(alloc: Global, env: &Env, text: &UnitText) -> Result<Verdict, Al
     task.run(alloc, env, &mut log)
 }
 
-// The rows with that of a unit, if it has one and it is known.
-fn with_row(rows: Option<Vec<Row>>, verdict: &Verdict) -> Result<Option<Vec<Row>>, AllocError>
-    ensures { IfOk result (λ after.
-        option_map (λ rows. rows.items) after
-        ≡ rows_before (option_map (λ rows. rows.items) rows) (with_row verdict.now.row (Some []))) }
+// Puts in the row of a unit, if it has one.
+fn push_row(rows: &mut Vec<Row>, row: &Option<Row>) -> Result<(), AllocError>
+    ensures { OnOk result (rows.new.items ≡ rows.old.items ++ option_to_list row.now) }
 {
-    let Some(mut rows) = rows else {
-        return Ok(None);
-    };
-    match &verdict.row {
-        None => Ok(Some(rows)),
-        Some(UnitRow::Spelled(row)) => {
-            rows.push(row.clone()?)?;
-            Ok(Some(rows))
-        }
-        Some(UnitRow::Unknown) => Ok(None),
+    if let Some(row) = row {
+        rows.push(row.clone()?)?;
     }
+    Ok(())
 }

@@ -1,11 +1,33 @@
--- When two entities are one.
-use Rattle.std.specs.Prelude.{◌≡◌, Bool, true, ◌&&◌}
+-- When two meanings, or two entities, are one.
+use Rattle.std.specs.Prelude.{◌≡◌, Bool, true, ◌&&◌, refl}
 use Rattle.std.specs.Bool.{beq}
-use Rattle.std.specs.Cmp.Lexicographic.{pointwise}
-use Rattle.idl_base.specs.Exact.{both, same_bool, same_list}
+use Rattle.std.specs.Cmp.Lexicographic.{bytes_decides, pointwise}
+use Rattle.std.specs.Option.{option_eq}
+use Rattle.std.specs.Str.{bytes_eq}
+use Rattle.std.proofs.Common.{ap}
+use Rattle.idl_base.specs.Exact.{both, same_bool, same_list, same_option}
 use Rattle.idl_scope.specs.Path.{path_eq, same_path}
 use Rattle.idl_scope.specs.Kind.{kind_eq, same_kind, stage_eq, same_stage}
+use Rattle.idl_scope.specs.contracts.entity.MeaningPartialEq.TheImpl.{ghosts}
 use Rattle.idl_scope.specs.declared.entity.Entity.{Entity}
+use Rattle.idl_scope.specs.declared.entity.Meaning.{Meaning}
+use Rattle.idl_scope.specs.declared.entity.Meaning.TheVariants.{Constants, Named, Other}
+use Rattle.idl_value.specs.Exact.{same_target, same_value, value_eq}
+
+-- whether two meanings are one
+abbrev pub meaning_eq : Meaning → Meaning → Bool
+meaning_eq = ghosts.eq
+
+pub same_meaning : (m n : Meaning) → meaning_eq m n ≡ true → m ≡ n
+same_meaning (Constants t) (Constants u) h = ap Constants (same_target t u h)
+same_meaning (Constants t) (Named q) h = cc
+same_meaning (Constants t) Other h = cc
+same_meaning (Named p) (Constants u) h = cc
+same_meaning (Named p) (Named q) h = ap Named (same_path p q h)
+same_meaning (Named p) Other h = cc
+same_meaning Other (Constants u) h = cc
+same_meaning Other (Named q) h = cc
+same_meaning Other Other h = refl
 
 -- whether two entities are one, by what is known of them
 abbrev pub entity_eq : Entity → Entity → Bool
@@ -14,7 +36,11 @@ entity_eq e f =
     && (kind_eq e.kind f.kind
     && (beq e.is_local f.is_local
     && (stage_eq e.stage f.stage
-    && (pointwise path_eq e.bases f.bases && pointwise path_eq e.operations f.operations))))
+    && (pointwise path_eq e.bases f.bases
+    && (pointwise path_eq e.operations f.operations
+    && (option_eq meaning_eq e.meaning f.meaning
+    && (option_eq value_eq e.value f.value
+    && pointwise bytes_eq e.enumerators f.enumerators)))))))
 
 -- entities that are found equal are one
 pub same_entity : (e f : Entity) → entity_eq e f ≡ true → e ≡ f
@@ -29,7 +55,15 @@ same_entity e f h =
     let local = same_bool e.is_local f.is_local c.0 in
     let stage = same_stage e.stage f.stage d.0 in
     let bases = same_list path_eq same_path e.bases f.bases g.0 in
-    let operations = same_list path_eq same_path e.operations f.operations g.1 in
+    let j = both _ _ g.1 in
+    let k = both _ _ j.1 in
+    let l = both _ _ k.1 in
+    let operations = same_list path_eq same_path e.operations f.operations j.0 in
+    let meaning = same_option meaning_eq same_meaning e.meaning f.meaning k.0 in
+    let value = same_option value_eq same_value e.value f.value l.0 in
+    let enumerators =
+    same_list bytes_eq (λ m n. (bytes_decides m n).0) e.enumerators f.enumerators l.1
+    in
     λ i. record {
       path = path i;
       kind = kind i;
@@ -37,23 +71,7 @@ same_entity e f h =
       stage = stage i;
       bases = bases i;
       operations = operations i;
+      meaning = meaning i;
+      value = value i;
+      enumerators = enumerators i;
     }
-
--- a copied entity is its source, by the copies of its parts
-abbrev pub IsEntityCopy : Entity → Entity → Type 0
-IsEntityCopy e copy =
-    (copy.path ≡ e.path)
-    × ((copy.kind ≡ e.kind)
-    × ((copy.is_local ≡ e.is_local)
-    × ((copy.stage ≡ e.stage)
-    × ((copy.bases ≡ e.bases) × (copy.operations ≡ e.operations)))))
-
-pub copied_entity : (e copy : Entity) → IsEntityCopy e copy → copy ≡ e
-copied_entity e copy h = λ i. record {
-  path = h.0 i;
-  kind = h.1.0 i;
-  is_local = h.1.1.0 i;
-  stage = h.1.1.1.0 i;
-  bases = h.1.1.1.1.0 i;
-  operations = h.1.1.1.1.1 i;
-}

@@ -26,7 +26,7 @@ mod state;
 
 pub use addition::{Addition, Step};
 pub use answer::{Answer, Scope, count_in, entity_in, scopes_in};
-pub use entity::Entity;
+pub use entity::{Entity, Meaning};
 pub use env::Env;
 pub use facts::Facts;
 pub use fault::{NameCode, NameFault};

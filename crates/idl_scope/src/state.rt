@@ -263,6 +263,9 @@ fn closed(interface: &Entity, operations: Vec<Path>) -> Result<Entity, AllocErro
 {
     let path = interface.path.clone()?;
     let bases = interface.bases.clone()?;
+    let meaning = interface.meaning.clone()?;
+    let value = interface.value.clone()?;
+    let enumerators = interface.enumerators.clone()?;
     Ok(Entity {
         path,
         kind: interface.kind,
@@ -270,6 +273,9 @@ fn closed(interface: &Entity, operations: Vec<Path>) -> Result<Entity, AllocErro
         stage: Stage::Complete,
         bases,
         operations: Seq::from_vec(operations),
+        meaning,
+        value,
+        enumerators,
     })
 }
 

@@ -1,13 +1,14 @@
 -- The parts of a type are spelled as it is, and those of a declared name.
-use Rattle.std.proofs.Common.{◌≡◌, ◌∙◌, [], ◌∷◌, ◌++◌, Option, None, Some, refl, sym, ap, subst}
+use Rattle.std.proofs.Common.{◌≡◌, ◌∙◌, [], ◌∷◌, ◌++◌, Option, None, Some, is_some, refl, sym, ap, subst}
 use Rattle.std.proofs.lemmas.List.{append-nil}
 use Rattle.idl_lex.specs.declared.keyword.Keyword.TheVariants as word
 use Rattle.idl_lex.specs.declared.mark.Mark.TheVariants as mark
-use Rattle.idl_site.specs.Part.{Parts, Plain, punctuation, spell_parts}
+use Rattle.idl_site.specs.Part.{Parts, Plain, TypeEnds, punctuation, spell_parts}
 use Rattle.idl_site.specs.ExpressionParts.{value_parts}
 use Rattle.idl_site.specs.TypeParts.{bound_parts, constant_type_parts, data_type_step, declarator_parts, length_parts, limit_parts, plain_parts, sequence_step, string_parts, type_parts_as}
 use Rattle.idl_site.specs.declared.site.Declaration.{Declaration}
-use Rattle.idl_site.specs.declared.site.Target.TheVariants.{Bound}
+use Rattle.idl_site.specs.declared.site.Shape.TheVariants.{Text, Sequence as Elements}
+use Rattle.idl_site.specs.declared.site.Target.TheVariants.{Bound, Length}
 use Rattle.idl_site.specs.declared.site.Use.{Use}
 use Rattle.idl_site.specs.declared.site.Use.TheVariants.{AsElement}
 use Rattle.idl_tree.proofs.NestedTypeLaws.{spell_type-plain, spell_type-sequence}
@@ -44,7 +45,9 @@ limit_spells None = refl
 limit_spells (Some e) = ap (λ (w : Lexemes). Punctuation mark.Comma ∷ w) (value_spells Bound e)
 
 string_spells : (s : StringType) → spell_parts (string_parts s) ≡ spell_string s
-string_spells s = ap (λ (w : Lexemes). spell_string_word s.is_wide ++ w) (bound_spells s.bound)
+string_spells s =
+    ap (λ (w : Lexemes). spell_string_word s.is_wide ++ w)
+    (spells-then (bound_parts s.bound) (TypeEnds (Text s.is_wide (is_some s.bound)) ∷ []) (spell_bound s.bound) [] (bound_spells s.bound) refl ∙ append-nil (spell_bound s.bound))
 
 plain_spells : (p : PlainType) (way : Use) → spell_parts (plain_parts p way) ≡ spell_plain p
 plain_spells (plain.Basic b) way = append-nil (spell_basic b)
@@ -58,7 +61,7 @@ type_parts-plain p way = ap (λ (f : Use → Parts). f way)
     ∙ fold-roll-DataType (Use → Parts) (Use → Parts) data_type_step sequence_step (DataType-F.Plain p))
 
 type_parts-sequence : (t : DataType) (b : Option Expression) (way : Use)
-    → type_parts_as (made_sequence t b) way ≡ Plain (Word word.Sequence ∷ Punctuation mark.Less ∷ []) ∷ (type_parts_as t AsElement ++ (limit_parts b ++ punctuation mark.Greater ∷ []))
+    → type_parts_as (made_sequence t b) way ≡ Plain (Word word.Sequence ∷ Punctuation mark.Less ∷ []) ∷ (type_parts_as t AsElement ++ (limit_parts b ++ punctuation mark.Greater ∷ TypeEnds (Elements (is_some b)) ∷ []))
 unfolding type_parts_as
 type_parts-sequence t b way =
     let s = roll-Sequence (record { element = t; bound = b }) in
@@ -81,8 +84,8 @@ sequence_spells : (t : DataType) (b : Option Expression) → Types t → Types (
 sequence_spells t b h way =
     ap spell_parts (type_parts-sequence t b way)
     ∙ ap (λ (w : Lexemes). Word word.Sequence ∷ Punctuation mark.Less ∷ w)
-    (spells-then (type_parts_as t AsElement) (limit_parts b ++ punctuation mark.Greater ∷ []) (spell_type t) (spell_limit b ++ Punctuation mark.Greater ∷ []) (h AsElement)
-    (spells-then (limit_parts b) (punctuation mark.Greater ∷ []) (spell_limit b) (Punctuation mark.Greater ∷ []) (limit_spells b) refl))
+    (spells-then (type_parts_as t AsElement) (limit_parts b ++ punctuation mark.Greater ∷ TypeEnds (Elements (is_some b)) ∷ []) (spell_type t) (spell_limit b ++ Punctuation mark.Greater ∷ []) (h AsElement)
+    (spells-then (limit_parts b) (punctuation mark.Greater ∷ TypeEnds (Elements (is_some b)) ∷ []) (spell_limit b) (Punctuation mark.Greater ∷ []) (limit_spells b) refl))
     ∙ sym (spell_type-sequence t b)
 
 by_type : (y : DataType-F (Such Types) (Such Sequences)) → Types (roll-DataType (map-DataType (Such Types) (Such Sequences) DataType Sequence (λ e. e.0) (λ e. e.0) y))
@@ -102,7 +105,7 @@ constant_type_spells (constant.Name n) = append-nil (spell_name n)
 length_spells : (e : Expression) → spell_parts (length_parts e) ≡ spell_length e
 length_spells e =
     ap (λ (w : Lexemes). Punctuation mark.OpenBracket ∷ w)
-    (spells-then (value_parts Bound e) (punctuation mark.CloseBracket ∷ []) (spell_expression e) (Punctuation mark.CloseBracket ∷ []) (value_spells Bound e) refl)
+    (spells-then (value_parts Length e) (punctuation mark.CloseBracket ∷ []) (spell_expression e) (Punctuation mark.CloseBracket ∷ []) (value_spells Length e) refl)
 
 pub declarator_spells : (declaration : Declaration) (d : Declarator) → spell_parts (declarator_parts declaration d) ≡ spell_declarator d
 declarator_spells declaration d = ap (λ (w : Lexemes). Identifier d.name ∷ w) (spells-each length_parts spell_length length_spells d.lengths)

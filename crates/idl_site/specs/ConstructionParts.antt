@@ -3,7 +3,7 @@ use Rattle.std.specs.Prelude.{[], ◌∷◌, ◌++◌, flat_map}
 use Rattle.idl_lex.specs.declared.keyword.Keyword.TheVariants as word
 use Rattle.idl_lex.specs.declared.mark.Mark.TheVariants as mark
 use Rattle.idl_site.specs.ExpressionParts.{value_parts}
-use Rattle.idl_site.specs.Part.{Parts, Plain, Declares, Uses, ScopeBegins, ScopeEnds, Switches, Default, all_parts, declared, keyword_part, listed, punctuation}
+use Rattle.idl_site.specs.Part.{Parts, Plain, Declares, Uses, ScopeBegins, ScopeEnds, Enumerates, Switches, Default, all_parts, declared, keyword_part, listed, punctuation}
 use Rattle.idl_site.specs.TypeParts.{declarator_parts, type_parts}
 use Rattle.idl_site.specs.declared.site.Declaration.TheVariants as declaration
 use Rattle.idl_site.specs.declared.site.Target.TheVariants as target
@@ -27,7 +27,8 @@ use Rattle.idl_tree.specs.declared.construction.Union.{Union}
 -- "enum" ID "{" ID/"," "}"; the enumerators are declared in the scope around
 abbrev pub enumeration_parts : Enumeration → Parts
 enumeration_parts e =
-    keyword_part word.Enum ∷ Declares declaration.Enumeration e.name ∷ punctuation mark.OpenBrace
+    keyword_part word.Enum ∷ Enumerates e.enumerators ∷ Declares declaration.Enumeration e.name
+    ∷ punctuation mark.OpenBrace
     ∷ (listed (declared declaration.Enumerator) e.enumerators ++ punctuation mark.CloseBrace ∷ [])
 
 -- disc

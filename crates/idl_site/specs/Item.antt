@@ -3,6 +3,7 @@
 use Rattle.std.specs.Prelude.{◌≡◌, ◌++◌, ℕ, ◌+◌, List, [], ◌∷◌, length, map}
 use Rattle.idl_site.specs.Part.{Part, Parts}
 use Rattle.idl_site.specs.declared.site.Declaration.{Declaration}
+use Rattle.idl_site.specs.declared.site.Shape.{Shape}
 use Rattle.idl_site.specs.declared.site.Site.{Site}
 use Rattle.idl_site.specs.declared.site.Site.TheVariants as site
 use Rattle.idl_site.specs.declared.site.Target.{Target}
@@ -23,6 +24,8 @@ pub data Item : Type 0 where
   ValueEnds : Target → Expression → Item
   ScopeBegins : Declaration → List ℕ → Item
   ScopeEnds : Item
+  TypeEnds : Shape → Item
+  Enumerates : Several (List ℕ) → Item
   Switches : DiscreteType → Item
   Default : Item
   GivesBack : Item
@@ -36,6 +39,8 @@ item_of Part.ValueBegins = ValueBegins
 item_of (Part.ValueEnds target expression) = ValueEnds target expression
 item_of (Part.ScopeBegins declaration name) = ScopeBegins declaration name
 item_of Part.ScopeEnds = ScopeEnds
+item_of (Part.TypeEnds shape) = TypeEnds shape
+item_of (Part.Enumerates names) = Enumerates names
 item_of (Part.Switches discrete) = Switches discrete
 item_of Part.Default = Default
 item_of Part.GivesBack = GivesBack
@@ -65,6 +70,8 @@ item_at site.ValueBegins = ValueBegins
 item_at (site.ValueEnds target expression) = ValueEnds target expression.now
 item_at (site.ScopeBegins declaration name) = ScopeBegins declaration name.now
 item_at site.ScopeEnds = ScopeEnds
+item_at (site.TypeEnds shape) = TypeEnds shape
+item_at (site.Enumerates names) = Enumerates names.now
 item_at (site.Switches discrete) = Switches discrete
 item_at site.Default = Default
 item_at site.GivesBack = GivesBack

@@ -5,6 +5,7 @@ use Rattle.idl_lex.specs.declared.keyword.Keyword.{Keyword}
 use Rattle.idl_lex.specs.declared.mark.Mark.{Mark}
 use Rattle.idl_lex.specs.declared.mark.Mark.TheVariants.{Comma, OpenParenthesis, CloseParenthesis}
 use Rattle.idl_site.specs.declared.site.Declaration.{Declaration}
+use Rattle.idl_site.specs.declared.site.Shape.{Shape}
 use Rattle.idl_site.specs.declared.site.Target.{Target}
 use Rattle.idl_site.specs.declared.site.Use.{Use}
 use Rattle.idl_site.specs.declared.site.Use.TheVariants.{Raised}
@@ -29,6 +30,10 @@ pub data Part : Type 0 where
   -- the scope of what is declared so begins, or ends
   ScopeBegins : Declaration → List ℕ → Part
   ScopeEnds : Part
+  -- a type ends that is no name
+  TypeEnds : Shape → Part
+  -- the enum that is declared next has these enumerators
+  Enumerates : Several (List ℕ) → Part
   -- a discriminator of keywords follows
   Switches : DiscreteType → Part
   -- the label `default` follows

@@ -1,15 +1,17 @@
 -- The parts of types and of declared names.
-use Rattle.std.specs.Prelude.{[], ◌∷◌, ◌++◌, flat_map, Option, None, Some}
+use Rattle.std.specs.Prelude.{[], ◌∷◌, ◌++◌, flat_map, is_some, Option, None, Some}
 use Rattle.idl_lex.specs.declared.keyword.Keyword.TheVariants as word
 use Rattle.idl_lex.specs.declared.mark.Mark.TheVariants as mark
 use Rattle.idl_site.specs.ExpressionParts.{value_parts}
-use Rattle.idl_site.specs.Part.{Parts, Plain, Declares, Uses, punctuation}
+use Rattle.idl_site.specs.Part.{Parts, Plain, Declares, TypeEnds, Uses, punctuation}
 use Rattle.idl_site.specs.declared.site.Declaration.{Declaration}
-use Rattle.idl_site.specs.declared.site.Target.TheVariants.{Bound}
+use Rattle.idl_site.specs.declared.site.Shape.TheVariants.{Basic, Text, Sequence as Elements}
+use Rattle.idl_site.specs.declared.site.Target.TheVariants.{Bound, Length}
 use Rattle.idl_site.specs.declared.site.Use.{Use}
 use Rattle.idl_site.specs.declared.site.Use.TheVariants.{AsType, AsElement, AsConstantType}
 use Rattle.idl_tree.specs.DataType.{spell_basic, spell_discrete, spell_string_word}
 use Rattle.idl_tree.specs.Lexeme.{Word, Punctuation}
+use Rattle.idl_tree.specs.declared.data_type.BasicType.TheVariants.{Discrete}
 use Rattle.idl_tree.specs.declared.data_type.DataType.{DataType, fold-DataType}
 use Rattle.idl_tree.specs.declared.data_type.DataType.TheOpen.{DataType-F, Sequence-F}
 use Rattle.idl_tree.specs.declared.data_type.PlainType.{PlainType}
@@ -28,11 +30,13 @@ bound_parts (Some e) =
 
 -- string = ( "string" | "wstring" ) [ "<" expr ">" ]
 abbrev pub string_parts : StringType → Parts
-string_parts s = Plain (spell_string_word s.is_wide) ∷ bound_parts s.bound
+string_parts s =
+    Plain (spell_string_word s.is_wide)
+    ∷ (bound_parts s.bound ++ TypeEnds (Text s.is_wide (is_some s.bound)) ∷ [])
 
 -- ptype, whose name is used so
 abbrev pub plain_parts : PlainType → Use → Parts
-plain_parts (plain.Basic b) way = Plain (spell_basic b) ∷ []
+plain_parts (plain.Basic b) way = Plain (spell_basic b) ∷ TypeEnds (Basic b) ∷ []
 plain_parts (plain.String s) way = string_parts s
 plain_parts (plain.Name n) way = Uses way n ∷ []
 
@@ -49,7 +53,9 @@ data_type_step (DataType-F.Sequence inner) way = inner way
 abbrev pub sequence_step : Sequence-F (Use → Parts) (Use → Parts) → Use → Parts
 sequence_step s way =
     Plain (Word word.Sequence ∷ Punctuation mark.Less ∷ [])
-    ∷ (s.element AsElement ++ (limit_parts s.bound ++ punctuation mark.Greater ∷ []))
+    ∷ (s.element AsElement
+    ++ (limit_parts s.bound
+    ++ punctuation mark.Greater ∷ TypeEnds (Elements (is_some s.bound)) ∷ []))
 
 -- a type; a name that it is itself is used so
 unfoldable pub type_parts_as : DataType → Use → Parts
@@ -60,14 +66,15 @@ type_parts t = type_parts_as t AsType
 
 -- ctype
 abbrev pub constant_type_parts : ConstantType → Parts
-constant_type_parts (constant.Discrete d) = Plain (spell_discrete d) ∷ []
+constant_type_parts (constant.Discrete d) =
+    Plain (spell_discrete d) ∷ TypeEnds (Basic (Discrete d)) ∷ []
 constant_type_parts (constant.String s) = string_parts s
 constant_type_parts (constant.Name n) = Uses AsConstantType n ∷ []
 
 -- "[" expr "]"
 abbrev pub length_parts : Expression → Parts
 length_parts e =
-    punctuation mark.OpenBracket ∷ (value_parts Bound e ++ punctuation mark.CloseBracket ∷ [])
+    punctuation mark.OpenBracket ∷ (value_parts Length e ++ punctuation mark.CloseBracket ∷ [])
 
 -- declr = ID ( "[" expr "]" )*
 abbrev pub declarator_parts : Declaration → Declarator → Parts

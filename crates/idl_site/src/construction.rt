@@ -183,6 +183,7 @@ fn push_enumeration<'a>(
         (Pushes sites.old.items sites.new.items (enumeration_parts enumeration.now)) }
 {
     sites.push(Site::Tokens(1))?;
+    sites.push(Site::Enumerates(&enumeration.enumerators))?;
     sites.push(Site::Declared(Declaration::Enumeration, &enumeration.name))?;
     sites.push(Site::Tokens(1))?;
     push_declared(sites, Declaration::Enumerator, &enumeration.enumerators)?;

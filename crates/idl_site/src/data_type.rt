@@ -6,7 +6,7 @@ ghost use Rattle.idl_site.specs.TypeParts.{constant_type_parts, declarator_parts
 ghost use Rattle.idl_tree.specs.DataType.{spell_basic, spell_discrete, spell_sign, spell_size};
 
 use crate::expression::push_value;
-use crate::site::{Declaration, Site, Target, Use};
+use crate::site::{Declaration, Shape, Site, Target, Use};
 use idl_tree::{
     BasicType, ConstantType, DataType, Declarator, DiscreteType, Expression, IntegerSize,
     IntegerType, PlainType, Sequence, StringType,
@@ -31,6 +31,7 @@ pub fn push_type<'a>(
             push_type(sites, element, Use::AsElement)?;
             push_limit(sites, bound)?;
             sites.push(Site::Tokens(1))?;
+            sites.push(Site::TypeEnds(Shape::Sequence(bound.is_some())))?;
             Ok(())
         }
     }
@@ -45,7 +46,10 @@ fn push_plain<'a>(
     ensures { OnOk result (Pushes sites.old.items sites.new.items (plain_parts plain.now way)) }
 {
     match plain {
-        PlainType::Basic(basic) => sites.push(Site::Tokens(basic_len(*basic)))?,
+        PlainType::Basic(basic) => {
+            sites.push(Site::Tokens(basic_len(*basic)))?;
+            sites.push(Site::TypeEnds(Shape::Basic(*basic)))?;
+        }
         PlainType::String(string) => push_string(sites, string)?,
         PlainType::Name(name) => sites.push(Site::Used(way, name))?,
     }
@@ -62,6 +66,7 @@ fn push_string<'a>(sites: &mut Vec<Site<'a>>, string: &'a StringType) -> Result<
         push_value(sites, Target::Bound, bound)?;
         sites.push(Site::Tokens(1))?;
     }
+    sites.push(Site::TypeEnds(Shape::Text(string.is_wide, string.bound.is_some())))?;
     Ok(())
 }
 
@@ -120,7 +125,10 @@ pub fn push_constant_type<'a>(
     ensures { OnOk result (Pushes sites.old.items sites.new.items (constant_type_parts kind.now)) }
 {
     match kind {
-        ConstantType::Discrete(discrete) => sites.push(Site::Tokens(discrete_len(*discrete)))?,
+        ConstantType::Discrete(discrete) => {
+            sites.push(Site::Tokens(discrete_len(*discrete)))?;
+            sites.push(Site::TypeEnds(Shape::Basic(BasicType::Discrete(*discrete))))?;
+        }
         ConstantType::String(string) => push_string(sites, string)?,
         ConstantType::Name(name) => sites.push(Site::Used(Use::AsConstantType, name))?,
     }
@@ -139,7 +147,7 @@ pub fn push_declarator<'a>(
     sites.push(Site::Declared(declaration, &declarator.name))?;
     for length in declarator.lengths.as_slice() {
         sites.push(Site::Tokens(1))?;
-        push_value(sites, Target::Bound, length)?;
+        push_value(sites, Target::Length, length)?;
         sites.push(Site::Tokens(1))?;
     }
     Ok(())

@@ -14,5 +14,5 @@ mod site;
 mod unit;
 
 pub use laws::{counting, spelling};
-pub use site::{Declaration, Site, Target, Use};
+pub use site::{Declaration, Shape, Site, Target, Use};
 pub use unit::sites;

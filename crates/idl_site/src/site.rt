@@ -1,7 +1,7 @@
 //! Sites.
 
 use idl_base::{Seq, Text};
-use idl_tree::{DiscreteType, Expression, ScopedName, Several};
+use idl_tree::{BasicType, DiscreteType, Expression, ScopedName, Several};
 
 /// What a name is declared as.
 #[derive(Clone, Copy)]
@@ -50,12 +50,24 @@ pub enum Use {
 /// What an expression is for.
 #[derive(Clone, Copy)]
 pub enum Target {
-    /// The bound of a string or a sequence, or the length of an array.
+    /// The bound of a string or a sequence.
     Bound,
+    /// The length of an array.
+    Length,
     /// The value of a constant.
     Constant,
     /// The label of a case.
     Label,
+}
+
+/// What a type that is no name is, beside the type and the bound in it.
+#[derive(Clone, Copy)]
+pub enum Shape {
+    Basic(BasicType),
+    /// A string: whether it is wide, and whether it has a bound.
+    Text(bool, bool),
+    /// A sequence of the type that ended last, and whether it has a bound.
+    Sequence(bool),
 }
 
 /// A part of a unit: tokens, or what begins or ends between two of them. What it names is lent by the unit's tree.
@@ -77,6 +89,10 @@ pub enum Site<'a> {
     ScopeBegins(Declaration, &'a Text),
     /// That scope ends.
     ScopeEnds,
+    /// A type ends that is no name.
+    TypeEnds(Shape),
+    /// The enum that is declared next has these enumerators.
+    Enumerates(&'a Several<Text>),
     /// The discriminator of a union is this type, whose keywords follow.
     Switches(DiscreteType),
     /// The label `default` follows.

@@ -1,4 +1,5 @@
 use Rattle.std.proofs.Common.{◌≡◌, ◌≤◌, ◌++◌, drop, map}
+use Rattle.idl_check.specs.HeldRow.{rest_at}
 use Rattle.idl_check.specs.Row.{unit_text}
 use Rattle.idl_site.specs.Item.{item_at, items_length}
 use Rattle.idl_check.proofs.row.push_sites.Given as goal
@@ -7,8 +8,7 @@ use Rattle.idl_check.proofs.row.push_sites.Given as goal
 abbrev pub invariant-loop-site : goal.invariant-loop-site
 invariant-loop-site l = record {
   text :
-      l.text.items
-      ++ unit_text l.rest.tokens.now (map item_at (drop l.site-index l.sites)) l.rest.found.now
-      ≡ l.fn.text.items ++ unit_text l.unit.tokens.now (map item_at l.sites) l.unit.found.now;
+      l.text.items ++ unit_text (rest_at l.rest) (map item_at (drop l.site-index l.sites))
+      ≡ l.fn.text.items ++ unit_text (rest_at l.unit) (map item_at l.sites);
   room : items_length (map item_at (drop l.site-index l.sites)) ≤ 18446744073709551615;
 }

@@ -1,4 +1,4 @@
-use Rattle.std.proofs.Common.{◌≡◌, [], Some, flat_map, ◌∙◌, ap}
+use Rattle.std.proofs.Common.{◌≡◌, [], flat_map, ◌∙◌, ap}
 use Rattle.std.specs.List.{enumerate_from}
 use Rattle.idl_root.specs.Compile.{compile, told}
 use Rattle.idl_root.specs.Findings.{event_finding}
@@ -11,7 +11,7 @@ unfolding compile
 returns c =
     let events = c.args.expansion.now in
     let first = held c.in_ok-first.first in
-    let start : first ≡ record { facts = []; found = flat_map event_finding (enumerate_from 0 events); rows = Some [] } =
-    c.in_ok-first.ensures ∙ ap (λ found. record { facts = []; found = found; rows = Some [] }) c.in_ok-findings.ensures in
+    let start : first ≡ record { facts = []; found = flat_map event_finding (enumerate_from 0 events); rows = [] } =
+    c.in_ok-first.ensures ∙ ap (λ found. record { facts = []; found = found; rows = [] }) c.in_ok-findings.ensures in
     let all = c.in_ok-judging.ensures ∙ ap (to_come first) (c.as_slice.ensures ∙ c.in_ok-units.ensures) ∙ to_come-start events first start in
     c.in_ok-told.ensures ∙ ap (told c.args.end.now) all

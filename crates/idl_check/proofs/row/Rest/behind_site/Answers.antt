@@ -1,0 +1,21 @@
+use Rattle.std.proofs.Common.{◌≡◌, ◌∙◌, ◌+◌, drop, length, sym, ap, arith}
+use Rattle.idl_check.proofs.NameLemmas.{text-length}
+use Rattle.idl_check.specs.HeldRow.{rest_at}
+use Rattle.idl_check.specs.Row.{behind_site}
+use Rattle.idl_site.specs.Item.{item_at, item_length}
+use Rattle.idl_tree.specs.Interface.{spell_text}
+use Rattle.idl_check.proofs.row.Rest.behind_site.Goals as goal
+
+pub overflow_add-len : goal.overflow_add-len
+overflow_add-len c =
+    let e = text-length c.in-Joined.pieces.now in
+    let room = ap (λ s. item_length (item_at s)) c.in-Joined.is in
+    omega (arith, e, room, c.len.ensures, c.requires)
+
+pub returns-in-Joined : goal.returns-in-Joined
+returns-in-Joined c =
+    let e = text-length c.in-Joined.pieces.now in
+    let all : 1 + c.len.result ≡ length (spell_text c.in-Joined.pieces.now) = omega (arith, e, c.len.ensures) in
+    c.behind-in-Joined.ensures
+    ∙ (λ i. record (rest_at c.args.self) { tokens = drop (all i) c.args.self.tokens.now })
+    ∙ ap (λ s. behind_site (rest_at c.args.self) (item_at s)) (sym c.in-Joined.is)

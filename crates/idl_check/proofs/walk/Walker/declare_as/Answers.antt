@@ -1,0 +1,40 @@
+use Rattle.std.proofs.Common.{◌+◌, ◌∷◌, ◌++◌, [], Some, cond, ◌∙◌}
+use Rattle.idl_check.proofs.NotedLemmas.{noted-by}
+use Rattle.idl_check.proofs.TableLaws.{declared-up}
+use Rattle.idl_check.specs.Codes.{codes_in}
+use Rattle.idl_check.specs.Declaring.{declared_table, with_declared, written_after}
+use Rattle.idl_check.specs.Held.{held, held_written}
+use Rattle.idl_check.specs.Walk.{Walk}
+use Rattle.idl_check.specs.declared.walk.Walker.{Walker}
+use Rattle.idl_scope.specs.Kind.{kind_eq, stage_eq}
+use Rattle.idl_scope.specs.declared.kind.Kind.TheVariants.{Alias}
+use Rattle.idl_scope.specs.declared.kind.Stage.TheVariants.{Begun}
+use Rattle.idl_unit.specs.TokenRules.{first}
+use Rattle.idl_check.proofs.walk.Walker.declare_as.Goals as goal
+
+pub returns-clause-visit : goal.returns-clause-visit
+returns-clause-visit c =
+    let old = c.args.self.now in
+    let s = c.args.scope.now in
+    let there = c.args.standing.now in
+    let e = c.args.entity in
+    let noted = c.note.new.self in
+    let code = c.in_ok-code.ensures ∙ (λ i. first (codes_in (declared_table s there (c.get.ensures i)))) in
+    let fault = noted-by old.fault old.at (declared_table s there e) c.in_ok-code.code (declared-up s there e) code in
+    let after : Walker → Walk = λ w. record (held w) {
+      at = w.at + 1;
+      own = with_declared there.there e w.own.additions;
+      begun = w.begun.items ++ cond (stage_eq e.stage Begun) (e ∷ []) [];
+      written = written_after (held_written w.written) e;
+      alias = cond (kind_eq e.kind Alias) (Some e) w.alias;
+    } in
+    (λ i. record (held noted) {
+      at = noted.at + 1;
+      own = (c.in_ok-add_declared.ensures i).additions;
+      begun = c.in_ok-keep_begun.ensures i;
+      written = c.in_ok-declare.ensures i;
+      alias = c.in_ok-keep_alias.ensures i;
+    })
+    ∙ (λ i. record (after noted) { written = written_after (held_written noted.written) (c.get-2.ensures i) })
+    ∙ (λ i. after (c.note.ensures i))
+    ∙ (λ i. record (after old) { fault = fault i })

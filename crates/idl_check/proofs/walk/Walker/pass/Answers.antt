@@ -1,0 +1,16 @@
+use Rattle.std.proofs.Common.{sym, ap, ◌∙◌}
+use Rattle.idl_event.specs.declared.code.Code.TheVariants.{BadOneway}
+use Rattle.idl_check.proofs.NotedLemmas.{faulty-no, faulty-yes}
+use Rattle.idl_check.specs.Held.{held}
+use Rattle.idl_check.specs.Walk.{passed}
+use Rattle.idl_check.proofs.walk.Walker.pass.Goals as goal
+
+pub returns-then-is_given_back-clause-visit : goal.returns-then-is_given_back-clause-visit
+returns-then-is_given_back-clause-visit c =
+    let w = held c.args.self.now in
+    ap held c.note.ensures ∙ sym (faulty-yes w.gives_back BadOneway w (passed c.args.count w) w.fault c.if-is_given_back.true)
+
+pub returns-clause-visit : goal.returns-clause-visit
+returns-clause-visit c =
+    let w = held c.args.self.now in
+    sym (faulty-no w.gives_back BadOneway w (passed c.args.count w) w.fault c.if-is_given_back.false)

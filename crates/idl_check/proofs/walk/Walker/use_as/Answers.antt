@@ -1,0 +1,46 @@
+use Rattle.std.proofs.Common.{ℕ, ◌+◌, ◌∷◌, ◌++◌, [], List, false, map, take, ap, ◌∙◌}
+use Rattle.std.specs.Prelude.{option_to_list}
+use Rattle.idl_check.proofs.NotedLemmas.{noted-by}
+use Rattle.idl_check.proofs.TableLaws.{used-up}
+use Rattle.idl_check.specs.Codes.{codes_in}
+use Rattle.idl_check.specs.Held.{held, held_values, held_written}
+use Rattle.idl_check.specs.Using.{bases_after, last_at, meaning_after, unions_after, used_table, values_after, with_uses}
+use Rattle.idl_check.specs.Walk.{Walk, noted}
+use Rattle.idl_check.specs.declared.walk.Walker.{Walker}
+use Rattle.idl_lex.specs.Keywords.{folded}
+use Rattle.idl_scope.specs.declared.addition.Addition.{Addition}
+use Rattle.idl_scope.specs.declared.entity.Entity.{Entity}
+use Rattle.idl_unit.specs.TokenRules.{fault_at, first}
+use Rattle.idl_check.proofs.walk.Walker.use_as.Goals as goal
+
+pub returns-clause-visit : goal.returns-clause-visit
+returns-clause-visit c =
+    let old = c.args.self.now in
+    let way = c.args.way in
+    let name = c.args.name.now in
+    let behind = c.args.behind.now in
+    let e = c.args.found.now.entity in
+    let reach = c.args.found.now.reach in
+    let before = c.note.new.self in
+    let last = last_at old.at name in
+    let table = used_table way old.bases e behind in
+    let code = c.in_ok-code.ensures behind c.in_ok-constants.ensures ∙ (λ i. first (codes_in (used_table way old.bases (c.get-entity.ensures i) behind))) in
+    let fault = (λ i. noted old.fault (map (fault_at (c.last_at-last.ensures i)) (option_to_list c.in_ok-code.code)))
+    ∙ noted-by old.fault last table c.in_ok-code.code (used-up way old.bases e behind) code in
+    let after : Walker → ℕ → List Addition → List (List (List ℕ)) → Entity → Walk = λ w at own found f. record (held w) {
+      at = at + 1;
+      own = own;
+      bases = bases_after way f w.bases;
+      written = record (held_written w.written) { meaning = meaning_after way f behind w.written.meaning };
+      unions = unions_after way behind w.unions.items;
+      gives_back = false;
+      found = found;
+      values = values_after way f.value (held_values w.values);
+    } in
+    let path = c.in_ok-clone.ensures.cases ∙ ap (λ (f : Entity). f.path) c.get-entity.ensures in
+    let scopes = c.front-scopes.ensures ∙ ap (take reach) c.as_slice.ensures.value in
+    c.in_ok-follow.ensures.walk
+    ∙ (λ i. after before c.last_at-last.result (c.in_ok-introduce.ensures i).additions (c.in_ok-push.ensures.items i) (c.get-entity.ensures i))
+    ∙ (λ i. after before (c.last_at-last.ensures i) (with_uses (folded name.first) (scopes i) before.own.additions) (before.found.items ++ path i ∷ []) e)
+    ∙ (λ i. after (c.note.ensures i) last (with_uses (folded name.first) (take reach (c.note.ensures i).cursor.items) (c.note.ensures i).own.additions) ((c.note.ensures i).found.items ++ e.path ∷ []) e)
+    ∙ (λ i. record (after old last (with_uses (folded name.first) (take reach old.cursor.items) old.own.additions) (old.found.items ++ e.path ∷ []) e) { fault = fault i })

@@ -1,0 +1,378 @@
+//! The walk over declared and used names.
+
+ghost use Rattle.std.specs.Prelude.{◌≡◌, ◌≤◌, ◌+◌, ◌∷◌, ◌++◌, [], ℕ, IfOk, None, OnOk, Some, false, length, if◌then◌else◌};
+ghost use Rattle.idl_check.specs.Declaring.{with_declared};
+ghost use Rattle.idl_check.specs.Held.{HasRoomFor, given_noted, head_noted, held, held_values, held_written, used_noted, visited};
+ghost use Rattle.idl_check.specs.Types.{constants_of};
+ghost use Rattle.idl_check.specs.Using.{bases_after, last_at, meaning_after, name_code, part_at, unions_after, values_after};
+ghost use Rattle.idl_check.specs.Walk.{declared_visit, noted, noted_in, unions_without, used_visit};
+ghost use Rattle.idl_memo.specs.Query.{run};
+ghost use Rattle.idl_scope.specs.Facts.{answers};
+ghost use Rattle.idl_scope.specs.Key.{key_eq};
+ghost use Rattle.idl_scope.specs.Kind.{kind_eq, stage_eq};
+ghost use Rattle.idl_scope.specs.declared.kind.Kind.TheVariants.{Alias};
+ghost use Rattle.idl_scope.specs.declared.kind.Stage.TheVariants.{Begun};
+ghost use Rattle.idl_scope.specs.declared.lookup.TheConstants.{TURNS};
+ghost use Rattle.idl_site.specs.Item.{item_length};
+ghost use Rattle.idl_site.specs.Item.{Item as item};
+ghost use Rattle.idl_unit.specs.TokenRules.{fault_at};
+
+use crate::bases::Bases;
+use crate::declaring::{declared_code, stays};
+use crate::labels::Labels;
+use crate::part::front;
+use crate::standing::{Standing, standing_of};
+use crate::types::{constants_of, looked_through, meaning_of};
+use crate::using::{Denoted, Denoting, introduce, last_at, name_code, part_at, used_code};
+use crate::walk::Walker;
+use idl_base::{Seq, Text};
+use idl_event::Code;
+use idl_memo::Log;
+use idl_scope::{
+    Addition, Entity, Env, Facts, Found, Kind, Meaning, NameCode, NameFault, Scope, Shared, Stage,
+    Standpoint, resolve, shared_name,
+};
+use idl_site::{Declaration, Use};
+use idl_tree::ScopedName;
+use idl_value::Target;
+use std::alloc::{AllocError, Global};
+
+impl<'a> Walker<'a> {
+    /// A declared name.
+    #[tactic(auto, unfolding(crate::specs::Walk::visit))]
+    pub fn declare(
+        &mut self,
+        log: &mut Log<Env>,
+        way: Declaration,
+        name: &Text,
+    ) -> Result<(), AllocError>
+        requires { HasRoomFor (held self.old) (item.Declared way name.now ∷ []) }
+        ensures visited { OnOk result ((turns : ℕ) → TURNS ≤ turns →
+            (held self.new, log.new)
+            ≡ run key_eq (visited turns (item.Declared way name.now) (held self.old))
+            (answers self.old.env.now) log.old) }
+        ensures at { OnOk result (self.new.at ≡ self.old.at + 1) }
+        ensures env { OnOk result (self.new.env.now ≡ self.old.env.now) }
+    {
+        let alloc = self.env.alloc();
+        let Some(innermost) = self.cursor.first() else {
+            self.at += 1;
+            self.gives_back = false;
+            return Ok(());
+        };
+        let scope = innermost.clone()?;
+        let spelled = shared_name(alloc, name.as_bytes())?;
+        let entity = self.written.entity(alloc, way, &spelled, &scope.path)?;
+        let folded = entity.get().path.folded(alloc)?;
+        let standing = standing_of(self.view(), log, &scope, &folded)?;
+        self.declare_as(&scope, entity, &standing)?;
+        Ok(())
+    }
+
+    // A declared name, by what stands under it in its scope.
+    fn declare_as(
+        &mut self,
+        scope: &Scope,
+        entity: Shared<Entity>,
+        standing: &Standing,
+    ) -> Result<(), AllocError>
+        requires { self.old.at + 1 ≤ 18446744073709551615 }
+        ensures visit { OnOk result
+            (held self.new
+            ≡ noted_in (declared_visit (held self.old) scope.now entity standing.now)
+            self.old.fault) }
+        ensures env { OnOk result (self.new.env.now ≡ self.old.env.now) }
+    {
+        let code = declared_code(self.env.alloc(), scope, standing, entity.get())?;
+        self.note(self.at, code);
+        self.at += 1;
+        keep_begun(&mut self.begun, &entity)?;
+        self.written.declare(self.env.alloc(), entity.get())?;
+        keep_alias(&mut self.alias, &entity)?;
+        add_declared(&mut self.own, &standing.there, entity)?;
+        Ok(())
+    }
+
+    /// A used name.
+    #[tactic(auto, unfolding(crate::specs::Walk::visit))]
+    pub fn use_name(
+        &mut self,
+        log: &mut Log<Env>,
+        way: Use,
+        name: &ScopedName,
+    ) -> Result<(), AllocError>
+        requires { HasRoomFor (held self.old) (item.Used way name.now ∷ []) }
+        ensures visited { OnOk result ((turns : ℕ) → TURNS ≤ turns →
+            (held self.new, log.new)
+            ≡ run key_eq (visited turns (item.Used way name.now) (held self.old))
+            (answers self.old.env.now) log.old) }
+        ensures at { OnOk result
+            (self.new.at ≡ self.old.at + item_length (item.Used way name.now)) }
+        ensures env { OnOk result (self.new.env.now ≡ self.old.env.now) }
+    {
+        if self.gives_back {
+            let at = self.at;
+            self.use_given(log, way, name)?;
+            self.note(at, Some(Code::BadOneway));
+            return Ok(());
+        }
+        self.use_any(log, way, name)?;
+        Ok(())
+    }
+
+    // The name of a type that a oneway operation gives back, of which its first token alone is
+    // looked at.
+    fn use_given(
+        &mut self,
+        log: &mut Log<Env>,
+        way: Use,
+        name: &ScopedName,
+    ) -> Result<(), AllocError>
+        requires room { last_at self.old.at name.now + 1 ≤ 18446744073709551615 }
+        ensures run { OnOk result ((turns : ℕ) → TURNS ≤ turns →
+            (held self.new, log.new)
+            ≡ run key_eq (given_noted turns way name.now (held self.old))
+            (answers self.old.env.now) log.old) }
+        ensures at { OnOk result (self.new.at ≡ last_at self.old.at name.now + 1) }
+        ensures env { OnOk result (self.new.env.now ≡ self.old.env.now) }
+    {
+        if name.is_global {
+            self.at = last_at(self.at, name) + 1;
+            self.gives_back = false;
+            return Ok(());
+        }
+        if name.rest.is_empty() {
+            self.use_any(log, way, name)?;
+            return Ok(());
+        }
+        self.use_head(log, name)?;
+        Ok(())
+    }
+
+    // The first part of a name of several.
+    fn use_head(&mut self, log: &mut Log<Env>, name: &ScopedName) -> Result<(), AllocError>
+        requires room { last_at self.old.at name.now + 1 ≤ 18446744073709551615 }
+        requires local { name.now.is_global ≡ false }
+        ensures run { OnOk result ((turns : ℕ) → TURNS ≤ turns →
+            (held self.new, log.new)
+            ≡ run key_eq (head_noted turns name.now (held self.old))
+            (answers self.old.env.now) log.old) }
+        ensures at { OnOk result (self.new.at ≡ last_at self.old.at name.now + 1) }
+        ensures env { OnOk result (self.new.env.now ≡ self.old.env.now) }
+    {
+        let at = self.at;
+        self.at = last_at(at, name) + 1;
+        self.gives_back = false;
+        let head = ScopedName {
+            is_global: false,
+            first: name.first.clone()?,
+            rest: Seq::new(self.env.alloc()),
+        };
+        let place = Standpoint {
+            own: &self.own,
+            cursor: self.cursor.as_slice(),
+        };
+        match resolve(self.env, log, place, &head) {
+            Ok(found) => {
+                if found.entity.get().kind.is_scope() {
+                    return Ok(());
+                }
+                self.note(at, Some(Code::NoScope));
+                Ok(())
+            }
+            Err(NameFault::Memory) => Err(AllocError),
+            Err(NameFault::At(code, _part)) => {
+                self.note(at, Some(name_code(code)));
+                Ok(())
+            }
+        }
+    }
+
+    // A used name that isn't given back by a oneway operation.
+    fn use_any(&mut self, log: &mut Log<Env>, way: Use, name: &ScopedName) -> Result<(), AllocError>
+        requires room { last_at self.old.at name.now + 1 ≤ 18446744073709551615 }
+        ensures run { OnOk result ((turns : ℕ) → TURNS ≤ turns →
+            (held self.new, log.new)
+            ≡ run key_eq (used_noted turns way name.now (held self.old))
+            (answers self.old.env.now) log.old) }
+        ensures at { OnOk result (self.new.at ≡ last_at self.old.at name.now + 1) }
+        ensures env { OnOk result (self.new.env.now ≡ self.old.env.now) }
+    {
+        let place = Standpoint {
+            own: &self.own,
+            cursor: self.cursor.as_slice(),
+        };
+        match resolve(self.env, log, place, name) {
+            Ok(found) => {
+                let behind = looked_through(self.view(), log, way, &found.entity)?;
+                self.use_as(way, name, &found, behind.get())?;
+                Ok(())
+            }
+            Err(NameFault::Memory) => Err(AllocError),
+            Err(NameFault::At(code, part)) => {
+                self.use_nothing(name, code, part);
+                self.follow_nothing(way)?;
+                Ok(())
+            }
+        }
+    }
+
+    // A used name that denotes nothing.
+    fn use_nothing(&mut self, name: &ScopedName, code: NameCode, part: usize)
+        requires room { last_at self.old.at name.now + 1 ≤ 18446744073709551615 }
+        requires part { part ≤ length name.now.rest }
+        ensures { self.new
+            ≡ record self.old {
+              at = last_at self.old.at name.now + 1;
+              gives_back = false;
+              fault =
+                  noted self.old.fault
+                  (fault_at (part_at self.old.at name.now part) (name_code code) ∷ []);
+            } }
+    {
+        self.note(part_at(self.at, name, part), Some(name_code(code)));
+        self.at = last_at(self.at, name) + 1;
+        self.gives_back = false;
+    }
+
+    // An operand without a value, or a discriminator of no type.
+    fn follow_nothing(&mut self, way: Use) -> Result<(), AllocError>
+        ensures walk { OnOk result
+            (held self.new
+            ≡ record (held self.old) {
+              unions = unions_without way self.old.unions.items;
+              values = values_after way None (held_values self.old.values);
+            }) }
+        ensures env { OnOk result (self.new.env.now ≡ self.old.env.now) }
+    {
+        match way {
+            Use::AsOperand => self.values.add_operand(&None),
+            Use::AsDiscriminator => {
+                let labels = Labels::new(self.env.alloc(), None, 0);
+                self.unions.insert(0, labels)?;
+                Ok(())
+            }
+            _ => Ok(()),
+        }
+    }
+
+    // A used name, by what it denotes, and by what stands behind that.
+    fn use_as(
+        &mut self,
+        way: Use,
+        name: &ScopedName,
+        found: &Found,
+        behind: &Entity,
+    ) -> Result<(), AllocError>
+        requires room { last_at self.old.at name.now + 1 ≤ 18446744073709551615 }
+        ensures visit { OnOk result
+            (held self.new
+            ≡ noted_in (used_visit (held self.old) way name.now found.now behind.now)
+            self.old.fault) }
+        ensures env { OnOk result (self.new.env.now ≡ self.old.env.now) }
+    {
+        let alloc = self.env.alloc();
+        let entity = found.entity.get();
+        let constants = constants_of(alloc, behind)?;
+        let denoted = Denoted {
+            entity,
+            constants: &constants,
+        };
+        let code = used_code(alloc, way, &self.bases, denoted)?;
+        let last = last_at(self.at, name);
+        self.note(last, code);
+        self.at = last + 1;
+        self.gives_back = false;
+        let scopes = front(self.cursor.as_slice(), found.reach);
+        let used = Denoting {
+            name,
+            path: &entity.path,
+        };
+        introduce(alloc, &mut self.own, used, scopes)?;
+        self.found.push(entity.path.clone()?)?;
+        self.follow(way, entity, behind, constants)?;
+        Ok(())
+    }
+
+    // What a used name leaves to what follows, where constants are of this type.
+    fn follow(
+        &mut self,
+        way: Use,
+        entity: &Entity,
+        behind: &Entity,
+        constants: Option<Target>,
+    ) -> Result<(), AllocError>
+        requires { constants ≡ constants_of behind.now }
+        ensures walk { OnOk result
+            (held self.new
+            ≡ record (held self.old) {
+              bases = bases_after way entity.now self.old.bases;
+              written = record (held_written self.old.written) {
+                meaning = meaning_after way entity.now behind.now self.old.written.meaning;
+              };
+              unions = unions_after way behind.now self.old.unions.items;
+              values = values_after way entity.now.value (held_values self.old.values);
+            }) }
+        ensures env { OnOk result (self.new.env.now ≡ self.old.env.now) }
+    {
+        match way {
+            Use::AsBase(_) => self.bases.add(self.env.alloc(), entity),
+            Use::AsType => {
+                self.written.meaning = Meaning::Named(entity.path.clone()?);
+                Ok(())
+            }
+            Use::AsConstantType => {
+                self.written.meaning = meaning_of(constants);
+                Ok(())
+            }
+            Use::AsDiscriminator => {
+                let count = behind.enumerators.len() as u64;
+                let labels = Labels::new(self.env.alloc(), constants, count);
+                self.unions.insert(0, labels)?;
+                Ok(())
+            }
+            Use::AsOperand => self.values.add_operand(&entity.value),
+            Use::AsElement | Use::Raised => Ok(()),
+        }
+    }
+}
+
+// Those that have begun, with one more if it has.
+fn keep_begun(begun: &mut Vec<Shared<Entity>>, entity: &Shared<Entity>) -> Result<(), AllocError>
+    ensures { OnOk result
+        (begun.new.items
+        ≡ begun.old.items ++ (if stage_eq entity.now.stage Begun then entity.now ∷ [] else [])) }
+{
+    if entity.get().stage != Stage::Begun {
+        return Ok(());
+    }
+    begun.push(entity.clone()?)?;
+    Ok(())
+}
+
+// The name of a typedef that was declared last, with one more name.
+fn keep_alias(alias: &mut Option<Shared<Entity>>, entity: &Shared<Entity>) -> Result<(), AllocError>
+    ensures { OnOk result
+        (alias.new ≡ (if kind_eq entity.now.kind Alias then Some entity.now else alias.old)) }
+{
+    if entity.get().kind == Kind::Alias {
+        *alias = Some(entity.clone()?);
+    }
+    Ok(())
+}
+
+// Puts in what a declared name adds.
+fn add_declared(
+    own: &mut Facts,
+    there: &Option<Shared<Entity>>,
+    entity: Shared<Entity>,
+) -> Result<(), AllocError>
+    ensures { OnOk result
+        (own.new
+        ≡ record own.old { additions = with_declared there.now entity own.old.additions }) }
+{
+    if stays(there, entity.get()) {
+        return Ok(());
+    }
+    own.add(Addition::Declares(entity))
+}

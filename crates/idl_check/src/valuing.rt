@@ -1,0 +1,266 @@
+//! The walk over types, expressions and labels.
+
+ghost use Rattle.std.specs.Prelude.{◌≡◌, ◌∷◌, ◌++◌, [], IfOk, OnOk, Some, if◌then◌else◌, not, take};
+ghost use Rattle.std.specs.List.{list_any};
+ghost use Rattle.idl_check.specs.Held.{held, held_values, held_written};
+ghost use Rattle.idl_check.specs.Labels.{no_labels, with_default};
+ghost use Rattle.idl_check.specs.Types.{written_as};
+ghost use Rattle.idl_check.specs.Values.{begun_at, code_of};
+ghost use Rattle.idl_check.specs.Walk.{begin_of, faulty_if, is_repeated, noted, noted_in, outcome_at, value_visit, valued_after, with_array, with_labels};
+ghost use Rattle.idl_event.specs.declared.code.Code.TheVariants.{BadDiscriminator, RepeatedLabel};
+ghost use Rattle.idl_site.specs.declared.site.Target.TheVariants as purpose;
+ghost use Rattle.idl_unit.specs.TokenRules.{fault_at};
+ghost use Rattle.idl_value.specs.Evaluation.{ahead};
+ghost use Rattle.idl_value.specs.Target.{discriminates, target_of};
+ghost use Rattle.idl_value.specs.declared.outcome.Outcome.TheVariants as outcome;
+
+use crate::declaring::array_of;
+use crate::labels::Labels;
+use crate::types::written_as;
+use crate::values::{Types, code_of};
+use crate::walk::Walker;
+use idl_base::{Seq, Text};
+use idl_event::Code;
+use idl_lex::Spelling;
+use idl_scope::{Addition, Meaning, shared_name};
+use idl_site::{Shape, Target as Purpose};
+use idl_tree::{DiscreteType, Expression, Several};
+use idl_value::{Fault, Outcome, Target, Value};
+use std::alloc::{AllocError, Global};
+
+impl<'a> Walker<'a> {
+    /// An expression begins.
+    pub fn begin_value(&mut self) -> Result<(), AllocError>
+        ensures visit { held self.new
+            ≡ record (held self.old) {
+              values = begun_at self.old.at (held_values self.old.values);
+            } }
+        ensures env { self.new.env.now ≡ self.old.env.now }
+    {
+        self.values.begin(self.at);
+        Ok(())
+    }
+
+    /// It ends.
+    pub fn end_value(&mut self, way: Purpose, expression: &Expression) -> Result<(), AllocError>
+        ensures visit { OnOk result
+            (held self.new
+            ≡ noted_in
+            (value_visit (held self.old) way (outcome_at (held self.old) way expression.now))
+            self.old.fault) }
+        ensures at { OnOk result (self.new.at ≡ self.old.at) }
+        ensures env { OnOk result (self.new.env.now ≡ self.old.env.now) }
+    {
+        let outcome = self.outcome(way, expression)?;
+        match &outcome {
+            Outcome::Value(value) => self.end_valued(way, value),
+            Outcome::Fault(fault) => {
+                self.note_value(*fault);
+                self.values.end();
+                Ok(())
+            }
+            Outcome::Told => {
+                self.values.end();
+                Ok(())
+            }
+        }
+    }
+
+    // What an expression comes to.
+    fn outcome(&self, way: Purpose, expression: &Expression) -> Result<Outcome, AllocError>
+        ensures { IfOk result (λ outcome. outcome ≡ outcome_at (held self.now) way expression.now) }
+    {
+        let types = Types {
+            constant: match &self.written.meaning {
+                Meaning::Constants(target) => Some(target),
+                _ => None,
+            },
+            label: match self.unions.first() {
+                Some(labels) => labels.target(),
+                None => None,
+            },
+        };
+        self.values
+            .outcome(self.env.alloc(), way, types, expression)
+    }
+
+    // The number of its first token.
+    fn begin_of(&self) -> usize
+        ensures { result ≡ begin_of (held self.now) }
+    {
+        match self.values.begin {
+            Some(at) => at,
+            None => self.at,
+        }
+    }
+
+    // Notes a fault in it.
+    fn note_value(&mut self, fault: Fault)
+        ensures { self.new
+            ≡ record self.old {
+              fault =
+                  noted self.old.fault
+                  (fault_at (ahead (begin_of (held self.old)) fault.token) (code_of fault.code)
+                  ∷ []);
+            } }
+    {
+        let index = self.begin_of().saturating_add(fault.token);
+        self.note(index, Some(code_of(fault.code)));
+    }
+
+    // It has a value.
+    fn end_valued(&mut self, way: Purpose, value: &Value) -> Result<(), AllocError>
+        ensures visit { OnOk result
+            (held self.new
+            ≡ noted_in (value_visit (held self.old) way (outcome.Value value.now))
+            self.old.fault) }
+        ensures at { OnOk result (self.new.at ≡ self.old.at) }
+        ensures env { OnOk result (self.new.env.now ≡ self.old.env.now) }
+    {
+        match way {
+            Purpose::Label => self.label(value)?,
+            Purpose::Length => self.make_array()?,
+            Purpose::Bound | Purpose::Constant => {}
+        }
+        self.values.end_with(way, value)
+    }
+
+    // A label of the innermost union.
+    fn label(&mut self, value: &Value) -> Result<(), AllocError>
+        ensures visit { OnOk result
+            (held self.new
+            ≡ noted_in (record {
+              faults =
+                  if is_repeated (held self.old) purpose.Label value.now
+                  then fault_at (begin_of (held self.old)) RepeatedLabel ∷ [] else [];
+              after = valued_after (held self.old) purpose.Label value.now;
+            }) self.old.fault) }
+        ensures at { OnOk result (self.new.at ≡ self.old.at) }
+        ensures env { OnOk result (self.new.env.now ≡ self.old.env.now) }
+    {
+        let begin = self.begin_of();
+        let Some(labels) = self.unions.first_mut() else {
+            return Ok(());
+        };
+        if labels.is_labelled(value) {
+            self.note(begin, Some(Code::RepeatedLabel));
+            return Ok(());
+        }
+        labels.add(value)
+    }
+
+    // The name of a typedef that was declared last is that of an array.
+    fn make_array(&mut self) -> Result<(), AllocError>
+        ensures { OnOk result
+            (self.new
+            ≡ record self.old {
+              own = record self.old.own {
+                additions = with_array self.old.alias self.old.own.additions;
+              };
+            }) }
+    {
+        let Some(alias) = &self.alias else {
+            return Ok(());
+        };
+        let array = array_of(self.env.alloc(), alias.get())?;
+        self.own.add(Addition::Declares(array))
+    }
+
+    /// A type ends that is no name.
+    pub fn end_type(&mut self, shape: Shape) -> Result<(), AllocError>
+        ensures visit { held self.new
+            ≡ record (held self.old) {
+              written = record (held_written self.old.written) {
+                meaning = written_as shape self.old.values.bound;
+              };
+            } }
+        ensures at { self.new.at ≡ self.old.at }
+        ensures env { self.new.env.now ≡ self.old.env.now }
+    {
+        self.written.meaning = written_as(shape, self.values.bound);
+        Ok(())
+    }
+
+    /// The enum that is declared next has these enumerators.
+    pub fn enumerate(&mut self, names: &Several<Text>) -> Result<(), AllocError>
+        ensures visit { OnOk result
+            (held self.new
+            ≡ record (held self.old) {
+              written = record (held_written self.old.written) {
+                enumerators = names.now.first ∷ names.now.rest;
+              };
+            }) }
+        ensures at { OnOk result (self.new.at ≡ self.old.at) }
+        ensures env { OnOk result (self.new.env.now ≡ self.old.env.now) }
+    {
+        self.written.enumerators = spelled(self.env.alloc(), names)?;
+        Ok(())
+    }
+
+    /// A discriminator of keywords follows.
+    pub fn switch(&mut self, discrete: DiscreteType) -> Result<(), AllocError>
+        ensures visit { OnOk result
+            (held self.new
+            ≡ noted_in
+            (faulty_if (not (discriminates (target_of discrete))) BadDiscriminator
+            (held self.old) (record (held self.old) {
+              unions = no_labels (Some (target_of discrete)) 0 ∷ self.old.unions.items;
+            })) self.old.fault) }
+        ensures at { OnOk result (self.new.at ≡ self.old.at) }
+        ensures env { OnOk result (self.new.env.now ≡ self.old.env.now) }
+    {
+        let target = Target::of_keywords(discrete);
+        let discriminates = target.discriminates();
+        let labels = Labels::new(self.env.alloc(), Some(target), 0);
+        self.unions.insert(0, labels)?;
+        if discriminates {
+            return Ok(());
+        }
+        self.note(self.at, Some(Code::BadDiscriminator));
+        Ok(())
+    }
+
+    /// The label `default` follows.
+    pub fn label_default(&mut self) -> Result<(), AllocError>
+        ensures visit { OnOk result
+            (held self.new
+            ≡ noted_in
+            (faulty_if (list_any (λ l. l.has_default) (take 1 self.old.unions.items))
+            RepeatedLabel (held self.old) (record (held self.old) {
+              unions = with_labels with_default self.old.unions.items;
+            })) self.old.fault) }
+        ensures at { OnOk result (self.new.at ≡ self.old.at) }
+        ensures env { OnOk result (self.new.env.now ≡ self.old.env.now) }
+    {
+        let Some(labels) = self.unions.first_mut() else {
+            return Ok(());
+        };
+        let is_repeated = labels.has_default();
+        labels.add_default();
+        if is_repeated {
+            self.note(self.at, Some(Code::RepeatedLabel));
+            return Ok(());
+        }
+        Ok(())
+    }
+}
+
+// Names as they are spelled.
+fn spelled(alloc: Global, names: &Several<Text>) -> Result<Seq<Spelling>, AllocError>
+    ensures { IfOk result (λ spelled. spelled ≡ names.now.first ∷ names.now.rest) }
+{
+    let mut spelled = Vec::new(alloc);
+    spelled.push(shared_name(alloc, names.first.as_bytes())?)?;
+    spell_each(alloc, &mut spelled, names.rest.as_slice())?;
+    Ok(Seq::from_vec(spelled))
+}
+
+// Names more as they are spelled.
+fn spell_each(alloc: Global, spelled: &mut Vec<Spelling>, names: &[Text]) -> Result<(), AllocError>
+    ensures { OnOk result (spelled.new.items ≡ spelled.old.items ++ names.now) }
+{
+    for name in names {
+        spelled.push(shared_name(alloc, name.as_bytes())?)?;
+    }
+    Ok(())
+}
