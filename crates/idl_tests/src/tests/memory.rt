@@ -16,8 +16,8 @@ static EDITS: [&str; 16] = [
     "root b.idl\n=work 1 0 0\n",
     "define T long\n=work 1 0 0\n",
     "search d .\n=work 1 0 0\n",
-    "put b.idl 6\nmodule M {\nstruct S;\ninterface I { void f(in T x); };\ninterface J : I { };\n};\n\
-     typedef M::J Z;\n=work 2 0 0\n",
+    "put b.idl 8\nmodule M {\nstruct S;\ninterface I { void f(in T x); };\ninterface J : I { };\n\
+     const long C = 2 * 3;\nunion V switch (long) { case C: T x; };\n};\ntypedef M::V Z;\n=work 2 0 0\n",
     "splice b.idl 4 1 1\ninterface J : I, K { S g(); };\n=work 2 0 0\n",
     "define T short\n=work 2 0 0\n",
     "define U T T\n=work 0 0 0\n",
@@ -44,7 +44,7 @@ fn an_edit_that_was_refused_memory_is_accepted_later(rt: HostRuntime) -> Result<
 
 // The edit is accepted, or refused memory; then it changed nothing, and is accepted when it is asked again.
 fn is_made(rt: &(impl Abort + AllocGlobal), session: &mut Session, edit: &str) -> Result<(), Fail> {
-    let (edit, work) = edit.split_once('=').unwrap_or((edit, ""));
+    let (edit, work) = edit.rsplit_once('=').unwrap_or((edit, ""));
     let before = replies(rt.alloc(), session, QUERIES)?;
     let reply = replies(rt.alloc(), session, edit)?;
     if reply.as_bytes() != b"ok\n".as_slice() {
