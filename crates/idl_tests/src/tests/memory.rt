@@ -44,7 +44,7 @@ fn an_edit_that_was_refused_memory_is_accepted_later(rt: HostRuntime) -> Result<
 
 // The edit is accepted, or refused memory; then it changed nothing, and is accepted when it is asked again.
 fn is_made(rt: &(impl Abort + AllocGlobal), session: &mut Session, edit: &str) -> Result<(), Fail> {
-    let (edit, work) = edit.split_once('=').unwrap_or((edit, ""));
+    let (edit, work) = edit.rsplit_once('=').unwrap_or((edit, ""));
     let before = replies(rt.alloc(), session, QUERIES)?;
     let reply = replies(rt.alloc(), session, edit)?;
     if reply.as_bytes() != b"ok\n".as_slice() {
