@@ -10,6 +10,7 @@ mod diagnostic;
 mod event;
 mod expansion;
 mod file_name;
+mod hinted_log;
 mod hints;
 mod key;
 mod lexed_file;

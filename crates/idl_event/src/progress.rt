@@ -1,16 +1,15 @@
 //! How far the expansion of a root has come.
 
-ghost use Rattle.std.specs.Prelude.{◌≡◌, ◌↔◌, ◌++◌, ◌≤◌, [], None, Some, IfOk, OnOk, IsTrue, true};
+ghost use Rattle.std.specs.Prelude.{◌≡◌, ◌↔◌, ◌++◌, ◌≤◌, [], None, Some, IfOk, OnOk, IsTrue};
 ghost use Rattle.std.specs.Option.{option_copied, option_to_list};
 ghost use Rattle.idl_memo.specs.Progress.{after_item, after_key};
-ghost use Rattle.idl_memo.specs.Query.{is_logged};
 ghost use Rattle.idl_event.specs.Items.{event_of, rules, turns_left, beginning};
 ghost use Rattle.idl_event.specs.Key.{key_eq};
 ghost use Rattle.idl_event.specs.Limits.{turns_at_most};
 
 use crate::allowance::Allowance;
 use crate::event::{Event, Item};
-use crate::hints::Hints;
+use crate::hinted_log::HintedLog;
 use crate::key::{Answer, Key};
 use crate::root_bank::RootBank;
 use idl_memo::{Bank, Log};
@@ -25,8 +24,7 @@ use std::marker::Model;
 pub struct Progress<B: RootBank> {
     kept: Vec<Event>,
     left: Option<Allowance>,
-    log: Log<B>,
-    hints: Hints,
+    log: HintedLog<B>,
 }
 
 impl<B: RootBank> Model for Progress<B> {
@@ -55,8 +53,7 @@ impl<B: RootBank> Progress<B> {
         Progress {
             kept: Vec::new(alloc),
             left: Some(Allowance::new()),
-            log,
-            hints: Hints::new(alloc),
+            log: HintedLog::new(alloc, log),
         }
     }
 
@@ -65,7 +62,7 @@ impl<B: RootBank> Progress<B> {
         ensures events { result.0.items ≡ self.kept }
         ensures log { result.1 ≡ self.log }
     {
-        (self.kept, self.log)
+        (self.kept, self.log.into_log())
     }
 
     /// The events so far.
@@ -113,37 +110,10 @@ impl<B: RootBank> Progress<B> {
         ensures answer { IfOk result (λ answer. option_copied answer ≡ B.at bank.now key.now) }
         ensures progress { OnOk result (self.new ≡ after_key key_eq (B.at bank.now) key.now self.old) }
     {
-        if self.left.is_none() || is_hinted(&self.hints, &self.log, key) {
+        if self.left.is_none() {
             return Ok(bank.answer(key));
         }
-        let place = self.log.len();
-        let answer = self.log.ask(key, bank)?;
-        if place < self.log.len() {
-            self.hints.note(key, place)?;
-        }
-        Ok(answer)
-    }
-}
-
-// Whether a key stands in the log where it may stand. One that doesn't may be there still.
-fn is_hinted<B: RootBank>(hints: &Hints, log: &Log<B>, key: &Key) -> bool
-    ensures { IsTrue result → is_logged key_eq log.now key.now ≡ true }
-{
-    match hints.places_of(key) {
-        Some(places) => {
-            stands_at(log, places.first, key) || stands_at(log, places.last, key)
-        }
-        None => false,
-    }
-}
-
-// Whether a key stands at a place in the log.
-fn stands_at<B: RootBank>(log: &Log<B>, place: usize, key: &Key) -> bool
-    ensures { IsTrue result → is_logged key_eq log.now key.now ≡ true }
-{
-    match log.get(place) {
-        Some((logged, _answer)) => logged == key,
-        None => false,
+        self.log.ask(key, bank)
     }
 }
 
