@@ -13,6 +13,5 @@ mod rows;
 mod scripts;
 mod support;
 mod tokens;
-mod trees;
 mod units;
-mod words;
+mod values;
