@@ -95,10 +95,7 @@ fn a_last_line_without_newline_counts_if_it_has_a_byte(rt: HostRuntime) -> Resul
     for (script, want) in &[
         ("", ""),
         ("put a.idl 2\n\na", "ok\n"),
-        (
-            "put a.idl 1\n\nroot a.idl\n\ndefine X tail",
-            "ok\nok\nrefused 1\nok\n",
-        ),
+        ("put a 1\n\n\nundef X", "ok\nrefused 1\nok\n"),
     ] {
         answers(&rt, &mut Session::new(rt.alloc()), script, want.as_bytes())?;
     }
