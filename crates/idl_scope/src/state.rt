@@ -2,21 +2,22 @@
 
 ghost use Rattle.std.specs.Prelude.{◌≡◌, ◌<◌, ◌∷◌, ◌++◌, [], IfOk, OnOk, drop, map, option_to_list, reverse};
 ghost use Rattle.std.specs.Option.{option_map};
-ghost use Rattle.idl_scope.specs.Facts.{after, after_closing, after_nameless, after_opening, after_step, closed, closing, entity_key, first_world, inherited, innermost, joined, more_inside, nameless, next_body, operations_among, operations_of, path_around, with_additions, with_answer, count_in, entity_in, scopes_in, over};
+ghost use Rattle.idl_scope.specs.Facts.{after, after_closing, after_nameless, after_opening, after_step, closed, closing, entity_key, first_world, given_back, inherited, innermost, joined, more_inside, nameless, next_body, no_prefix, operations_among, operations_of, path_around, prefix_in, with_additions, with_answer, count_in, entity_in, scopes_in, over};
 ghost use Rattle.idl_scope.specs.Held.{closable, held};
 ghost use Rattle.idl_scope.specs.Key.{key_eq};
 ghost use Rattle.idl_scope.specs.declared.addition.Addition.TheVariants.{Declares};
-ghost use Rattle.idl_scope.specs.declared.addition.Step.TheVariants.{Closes, Opens, OpensNameless};
+ghost use Rattle.idl_scope.specs.declared.addition.Step.TheVariants.{Closes, Enters, Leaves, Opens, OpensNameless, Prefixes};
 ghost use Rattle.idl_scope.specs.declared.answer.Answer.TheVariants as answers;
 ghost use Rattle.idl_scope.specs.declared.key.Key.{Key};
-ghost use Rattle.idl_scope.specs.declared.key.Key.TheVariants.{Opened};
+ghost use Rattle.idl_scope.specs.declared.key.Key.TheVariants.{Opened, Prefix as PrefixKey};
 ghost use Rattle.idl_scope.specs.declared.kind.Stage.TheVariants as stages;
 ghost use Rattle.std.specs.Map.{keys_of, lookup};
 
 use crate::addition::{Addition, Step};
-use crate::answer::{Answer, Scope, count_in, entity_in, scopes_in};
+use crate::answer::{Answer, Scope, count_in, entity_in, prefix_in, scopes_in};
 use crate::entity::Entity;
 use crate::facts::Facts;
+use crate::identity::Prefix;
 use crate::key::Key;
 use crate::kind::{Kind, Stage};
 use crate::name::shared_name;
@@ -29,11 +30,14 @@ use idl_map::{Map, SharedList};
 use itoa::Buffer;
 use std::alloc::{AllocError, Global};
 
-/// The answers at their keys, and beside them the paths of the operations and attributes so far of each open scope, the
-/// innermost last. Its copies share both.
+/// The answers at their keys, and beside them the paths of the operations and attributes so far of each open scope, and the
+/// prefixes that were in force before the open scopes were opened and before files were entered, the innermost last. Its
+/// copies share all of it.
 pub struct State {
     pub answers: Map<Key, Answer>,
     pub inside: SharedList<SharedList<Path>>,
+    pub opened: SharedList<Shared<Prefix>>,
+    pub entered: SharedList<Shared<Prefix>>,
 }
 
 impl Drop for State {
@@ -41,6 +45,8 @@ impl Drop for State {
         let State {
             answers: _answers,
             inside: _inside,
+            opened: _opened,
+            entered: _entered,
         } = self;
     }
 }
@@ -51,29 +57,41 @@ impl Clone for State {
     fn clone(&self) -> Result<State, AllocError> {
         let answers = self.answers.clone()?;
         let inside = self.inside.clone()?;
-        Ok(State { answers, inside })
+        let opened = self.opened.clone()?;
+        let entered = self.entered.clone()?;
+        Ok(State {
+            answers,
+            inside,
+            opened,
+            entered,
+        })
     }
 }
 
 impl State {
     /// The global scope is open, and nothing is declared.
     pub fn new(alloc: Global) -> Result<State, AllocError>
-        ensures { IfOk result (λ state. held state.answers state.inside ≡ first_world) }
+        ensures { IfOk result (λ state. held state ≡ first_world) }
     {
         let scopes = opened(alloc, Scope::global(alloc)?, &[])?;
         let mut answers = Map::new();
         answers.insert(alloc, Key::Cursor, scopes)?;
+        answers.insert(alloc, Key::Prefix, Answer::InForce(no_prefix(alloc)?))?;
         let mut inside = SharedList::new();
         inside.push(alloc, SharedList::new())?;
-        Ok(State { answers, inside })
+        Ok(State {
+            answers,
+            inside,
+            opened: SharedList::new(),
+            entered: SharedList::new(),
+        })
     }
 
     /// What it comes to with what a unit adds.
     pub fn add(&mut self, alloc: Global, facts: &Facts) -> Result<(), AllocError>
         requires { (key : Key) → count_in (lookup (key_eq key) self.old.answers) < 18446744073709551615 }
         ensures { OnOk result
-            (held self.new.answers self.new.inside
-            ≡ after (held self.old.answers self.old.inside) facts.now) }
+            (held self.new ≡ after (held self.old) facts.now) }
     {
         self.add_all(alloc, facts)?;
         self.take(alloc, facts.step())
@@ -83,22 +101,23 @@ impl State {
     fn take(&mut self, alloc: Global, step: &Step) -> Result<(), AllocError>
         requires { (key : Key) → count_in (lookup (key_eq key) self.old.answers) < 18446744073709551615 }
         ensures { OnOk result
-            (held self.new.answers self.new.inside
-            ≡ after_step (held self.old.answers self.old.inside) step.now) }
+            (held self.new ≡ after_step (held self.old) step.now) }
     {
         match step {
             Step::Stays => Ok(()),
             Step::Opens(path, kind) => self.open(alloc, path, *kind),
             Step::OpensNameless(kind) => self.open_nameless(alloc, *kind),
             Step::Closes => self.close(alloc),
+            Step::Prefixes(text) => self.put_prefix(alloc, text),
+            Step::Enters => self.enter(alloc),
+            Step::Leaves => self.leave(alloc),
         }
     }
 
     // What it comes to with the additions.
     fn add_all(&mut self, alloc: Global, facts: &Facts) -> Result<(), AllocError>
         ensures { OnOk result
-            (held self.new.answers self.new.inside
-            ≡ with_additions facts.now.additions (held self.old.answers self.old.inside)) }
+            (held self.new ≡ with_additions facts.now.additions (held self.old)) }
     {
         put_all(alloc, &mut self.answers, facts)?;
         add_inside(
@@ -112,16 +131,17 @@ impl State {
     fn open(&mut self, alloc: Global, path: &Path, kind: Kind) -> Result<(), AllocError>
         requires { count_in (lookup (key_eq (Opened path.now)) self.old.answers) < 18446744073709551615 }
         ensures { OnOk result
-            (held self.new.answers self.new.inside
-            ≡ after_step (held self.old.answers self.old.inside) (Opens path.now kind)) }
+            (held self.new ≡ after_step (held self.old) (Opens path.now kind)) }
     {
         let scope = self.next_body(path, kind)?;
         let body = scope.body;
         let key = Key::Opened(scope.path.clone()?);
         let scopes = opened(alloc, scope, scopes_in(self.answers.get(&Key::Cursor)))?;
+        let prefix = self.prefix(alloc)?;
         self.answers.insert(alloc, key, Answer::Count(body))?;
         self.answers.insert(alloc, Key::Cursor, scopes)?;
         self.inside.push(alloc, SharedList::new())?;
+        self.opened.push(alloc, prefix)?;
         Ok(())
     }
 
@@ -133,7 +153,7 @@ impl State {
             ≡ record {
               path = path.now;
               kind = kind;
-              body = next_body (held self.now.answers self.now.inside) path.now;
+              body = next_body (held self.now) path.now;
             }) }
     {
         let key = Key::Opened(path.clone()?);
@@ -146,8 +166,7 @@ impl State {
     fn open_nameless(&mut self, alloc: Global, kind: Kind) -> Result<(), AllocError>
         requires { (key : Key) → count_in (lookup (key_eq key) self.old.answers) < 18446744073709551615 }
         ensures { OnOk result
-            (held self.new.answers self.new.inside
-            ≡ after_step (held self.old.answers self.old.inside) (OpensNameless kind)) }
+            (held self.new ≡ after_step (held self.old) (OpensNameless kind)) }
     {
         let number = count_in(self.answers.get(&Key::Nameless));
         let name = nameless_name(alloc, number)?;
@@ -160,8 +179,7 @@ impl State {
     // What it comes to with the innermost scope closed, if it isn't the global one.
     fn close(&mut self, alloc: Global) -> Result<(), AllocError>
         ensures { OnOk result
-            (held self.new.answers self.new.inside
-            ≡ after_step (held self.old.answers self.old.inside) Closes) }
+            (held self.new ≡ after_step (held self.old) Closes) }
     {
         let Some((scope, outer)) = closable(scopes_in(self.answers.get(&Key::Cursor))) else {
             return Ok(());
@@ -170,13 +188,62 @@ impl State {
         let closing = self.closing(alloc, scope)?;
         put_closing(alloc, &mut self.answers, &closing)?;
         self.answers.insert(alloc, Key::Cursor, scopes)?;
-        leave(&mut self.inside)
+        leave(&mut self.inside)?;
+        let prefix = taken_last(alloc, &mut self.opened)?;
+        self.answers
+            .insert(alloc, Key::Prefix, Answer::InForce(prefix))?;
+        Ok(())
+    }
+
+    // The prefix in force.
+    fn prefix(&self, alloc: Global) -> Result<Shared<Prefix>, AllocError>
+        ensures { IfOk result (λ prefix.
+            prefix ≡ prefix_in (lookup (key_eq PrefixKey) self.now.answers)) }
+    {
+        match prefix_in(self.answers.get(&Key::Prefix)) {
+            Some(prefix) => prefix.clone(),
+            None => no_prefix(alloc),
+        }
+    }
+
+    // What it comes to with a prefix pragma.
+    fn put_prefix(&mut self, alloc: Global, text: &Spelling) -> Result<(), AllocError>
+        ensures { OnOk result (held self.new ≡ after_step (held self.old) (Prefixes text.now)) }
+    {
+        let text = text.clone()?;
+        let scope = path_of_first(alloc, scopes_in(self.answers.get(&Key::Cursor)))?;
+        let prefix = Shared::new(alloc, Prefix { text, scope })?;
+        self.answers
+            .insert(alloc, Key::Prefix, Answer::InForce(prefix))?;
+        Ok(())
+    }
+
+    // What it comes to with a file entered.
+    fn enter(&mut self, alloc: Global) -> Result<(), AllocError>
+        ensures { OnOk result (held self.new ≡ after_step (held self.old) Enters) }
+    {
+        let prefix = self.prefix(alloc)?;
+        let none = no_prefix(alloc)?;
+        self.answers
+            .insert(alloc, Key::Prefix, Answer::InForce(none))?;
+        self.entered.push(alloc, prefix)?;
+        Ok(())
+    }
+
+    // What it comes to with a file left.
+    fn leave(&mut self, alloc: Global) -> Result<(), AllocError>
+        ensures { OnOk result (held self.new ≡ after_step (held self.old) Leaves) }
+    {
+        let prefix = taken_last(alloc, &mut self.entered)?;
+        self.answers
+            .insert(alloc, Key::Prefix, Answer::InForce(prefix))?;
+        Ok(())
     }
 
     // The interface that is closed with this scope, if it is of one.
     fn closing(&self, alloc: Global, scope: &Scope) -> Result<Option<Shared<Entity>>, AllocError>
         ensures { IfOk result (λ entity.
-            closing (held self.now.answers self.now.inside) scope.now
+            closing (held self.now) scope.now
             ≡ map Declares (option_to_list entity)) }
     {
         if !scope.kind.inherits() {
@@ -244,6 +311,31 @@ fn innermost(alloc: Global, inside: &SharedList<SharedList<Path>>) -> Result<Vec
         Some((_outer, own)) => own.to_vec(alloc),
         None => Ok(Vec::new(alloc)),
     }
+}
+
+// The empty prefix, met in the global scope.
+fn no_prefix(alloc: Global) -> Result<Shared<Prefix>, AllocError>
+    ensures { IfOk result (λ prefix. prefix ≡ no_prefix) }
+{
+    let text = shared_name(alloc, b"")?;
+    let scope = Path::global(alloc)?;
+    Shared::new(alloc, Prefix { text, scope })
+}
+
+// The prefix that was put there last, taken off.
+fn taken_last(
+    alloc: Global,
+    before: &mut SharedList<Shared<Prefix>>,
+) -> Result<Shared<Prefix>, AllocError>
+    ensures prefix { IfOk result (λ prefix. prefix ≡ given_back (reverse before.old)) }
+    ensures others { IfOk result (λ prefix. reverse before.new ≡ drop 1 (reverse before.old)) }
+{
+    let Some((earlier, last)) = before.split_last()? else {
+        return no_prefix(alloc);
+    };
+    let prefix = last.clone()?;
+    *before = earlier;
+    Ok(prefix)
 }
 
 // All but the innermost.
@@ -440,6 +532,16 @@ fn child_of_first(alloc: Global, scopes: &[Scope], name: &Spelling) -> Result<Pa
     match scopes {
         [] => Path::global(alloc)?.child(alloc, name),
         [innermost, ..] => innermost.path.child(alloc, name),
+    }
+}
+
+// The path of the innermost of the scopes.
+fn path_of_first(alloc: Global, scopes: &[Scope]) -> Result<Path, AllocError>
+    ensures { IfOk result (λ path. path ≡ path_around scopes.now) }
+{
+    match scopes {
+        [] => Path::global(alloc),
+        [innermost, ..] => innermost.path.clone(),
     }
 }
 
