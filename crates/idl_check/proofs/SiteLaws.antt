@@ -1,5 +1,5 @@
--- What comes of a site: its faults stand where it speaks, no expression begins behind the next token, and nothing of it hangs on the fault so far.
-use Rattle.std.proofs.Common.{◌≡◌, ◌∙◌, ℕ, ◌+◌, ◌<◌, ◌≤◌, max, min, Bool, true, false, cond, List, [], ◌∷◌, ◌++◌, length, Option, Some, None, Result, Ok, Err, refl, sym, ap, subst, arith}
+-- What comes of a site: its faults stand where it speaks, and no expression begins behind the next token.
+use Rattle.std.proofs.Common.{◌≡◌, ℕ, ◌+◌, ◌<◌, ◌≤◌, min, Bool, true, false, cond, List, [], ◌∷◌, length, Option, Some, None, Result, Ok, Err, refl, sym, subst, arith}
 use Rattle.std.proofs.lemmas.List.Elements.{All-append, All-cons, All-nil, All-weaker}
 use Rattle.std.specs.List.{list_any}
 use Rattle.std.specs.Prelude.{All, drop, not, take}
@@ -11,7 +11,7 @@ use Rattle.idl_check.specs.Labels.{is_idle, no_labels, with_default}
 use Rattle.idl_check.specs.Types.{looked_through, written_as}
 use Rattle.idl_check.specs.Using.{last_at, name_code, part_at, used_table, values_after}
 use Rattle.idl_check.specs.Values.{Values, begun_at, code_of, with_value}
-use Rattle.idl_check.specs.Walk.{Visit, Walk, begin_of, declared_visit, ended_scope, faulty_if, given_back, head_faults, head_of, head_visit, is_repeated, outcome_at, passed, past_name, quiet, scope_visit, token_of, unfound_visit, used, used_after, used_visit, value_visit, valued_after, visit, with_labels, with_oneway, with_scope}
+use Rattle.idl_check.specs.Walk.{Visit, Walk, begin_of, declared_visit, ended_scope, faulty_if, given_back, head_faults, head_of, head_visit, is_repeated, outcome_at, passed, past_name, quiet, token_of, unfound_visit, used, used_after, used_visit, value_visit, valued_after, visit, with_labels, with_oneway, with_scope}
 use Rattle.idl_check.specs.declared.standing.Standing.{Standing}
 use Rattle.idl_event.specs.Code.{number_of}
 use Rattle.idl_event.specs.declared.code.Code.{Code}
@@ -301,34 +301,6 @@ value-placed w way e comes.Told =
     let u = (value_visit w way comes.Told).after in
     record { passes = omega arith; begins = begin-over w u refl (omega arith); within = none-within (item.ValueEnds way e) w; keeps = refl }
 
--- ---- the same walk but for the fault
-
-abbrev pub with_fault : Option Fault → Walk → Walk
-with_fault f w = record w { fault = f }
-
-abbrev pub with_fault_after : Option Fault → Visit → Visit
-with_fault_after f v = record { faults = v.faults; after = with_fault f v.after }
-
-unfound-apart : (f : Option Fault) (w : Walk) (way : Use) (name : ScopedName) (fault : NameFault) → unfound_visit (with_fault f w) way name fault ≡ with_fault_after f (unfound_visit w way name fault)
-unfound-apart f w way name (At why part) = refl
-unfound-apart f w way name Memory = refl
-
-union-apart : (f : Option Fault) (w : Walk) (b : Bool) → union_visit (with_fault f w) b ≡ with_fault_after f (union_visit w b)
-union-apart f w true = refl
-union-apart f w false = refl
-
-end-apart : (f : Option Fault) (w : Walk) (o : Option Scope) → end_visit (with_fault f w) o ≡ with_fault_after f (end_visit w o)
-end-apart f w None = refl
-end-apart f w (Some s) = union-apart f w (kind_eq s.kind Union)
-
-value-apart : (f : Option Fault) (w : Walk) (way : Purpose) (o : Outcome) → value_visit (with_fault f w) way o ≡ with_fault_after f (value_visit w way o)
-value-apart f w purpose.Bound (comes.Value v) = refl
-value-apart f w purpose.Constant (comes.Value v) = refl
-value-apart f w purpose.Length (comes.Value v) = refl
-value-apart f w purpose.Label (comes.Value v) = refl
-value-apart f w way (comes.Fault g) = refl
-value-apart f w way comes.Told = refl
-
 module _ (turns : ℕ) (answers : Key → Option Answer) where
   -- what comes of a site
   abbrev pub visited : Item → Walk → Visit
@@ -443,71 +415,7 @@ module _ (turns : ℕ) (answers : Key → Option Answer) where
       let p : IsPlaced site w (visited site w) = visit-placed site w in
       omega (arith, p.passes, walked-at sites (visited site w).after)
 
-  -- ---- and they do not hang on the fault so far
-
-  declared-apart : (f : Option Fault) (way : Declaration) (name : List ℕ) (w : Walk) (o : Option Scope) → outcome (declared_by way name (with_fault f w) o) answers ≡ with_fault_after f (outcome (declared_by way name w o) answers)
-  declared-apart f way name w None = refl
-  declared-apart f way name w (Some s) =
-      let e = entity_of w.written way name s.path in
-      let query = under w.own (standing turns s (folded name)) in
-      outcome-and_then query (λ there. Done (declared_visit (with_fault f w) s e there)) answers
-      ∙ sym (ap (with_fault_after f) (outcome-and_then query (λ there. Done (declared_visit w s e there)) answers))
-
-  used-by-apart : (f : Option Fault) (way : Use) (name : ScopedName) (w : Walk) (r : Result Found NameFault) → outcome (used_by way name (with_fault f w) r) answers ≡ with_fault_after f (outcome (used_by way name w r) answers)
-  used-by-apart f way name w (Ok found) =
-      let query = under w.own (looked_through way found.entity) in
-      outcome-and_then query (λ behind. Done (used_visit (with_fault f w) way name found behind)) answers
-      ∙ sym (ap (with_fault_after f) (outcome-and_then query (λ behind. Done (used_visit w way name found behind)) answers))
-  used-by-apart f way name w (Err fault) = unfound-apart f w way name fault
-
-  plain-apart : (f : Option Fault) (way : Use) (name : ScopedName) (w : Walk) → outcome (used turns way name (with_fault f w)) answers ≡ with_fault_after f (outcome (used turns way name w) answers)
-  unfolding used
-  plain-apart f way name w =
-      let query = under w.own (denoted turns w.cursor name) in
-      outcome-and_then query (used_by way name (with_fault f w)) answers
-      ∙ used-by-apart f way name w (outcome query answers)
-      ∙ sym (ap (with_fault_after f) (outcome-and_then query (used_by way name w) answers))
-
-  given-apart : (f : Option Fault) (way : Use) (name : ScopedName) (w : Walk) (is_global : Bool) (parts : List (List ℕ))
-      → outcome (given_by way name (with_fault f w) is_global parts) answers ≡ with_fault_after f (outcome (given_by way name w is_global parts) answers)
-  given-apart f way name w true parts = refl
-  given-apart f way name w false [] =
-      outcome-and_then (used turns way name (with_fault f w)) (λ v. Done (with_oneway w.at v)) answers
-      ∙ ap (with_oneway w.at) (plain-apart f way name w)
-      ∙ sym (ap (with_fault_after f) (outcome-and_then (used turns way name w) (λ v. Done (with_oneway w.at v)) answers))
-  given-apart f way name w false (part ∷ parts) =
-      let query = under w.own (denoted turns w.cursor (head_of name)) in
-      outcome-and_then query (λ r. Done (with_oneway w.at (head_visit name (with_fault f w) r))) answers
-      ∙ sym (ap (with_fault_after f) (outcome-and_then query (λ r. Done (with_oneway w.at (head_visit name w r))) answers))
-
-  named-apart : (f : Option Fault) (way : Use) (name : ScopedName) (w : Walk) (b : Bool) → outcome (named_by way name (with_fault f w) b) answers ≡ with_fault_after f (outcome (named_by way name w b) answers)
-  unfolding given_back
-  named-apart f way name w true = given-apart f way name w name.is_global name.rest
-  named-apart f way name w false = plain-apart f way name w
-
-  pub visit-apart : (f : Option Fault) (site : Item) (w : Walk) → visited site (with_fault f w) ≡ with_fault_after f (visited site w)
-  unfolding visit
-  visit-apart f (item.Tokens n) w = refl
-  visit-apart f (item.Declared way name) w = declared-apart f way name w (first w.cursor)
-  visit-apart f (item.Used way name) w = named-apart f way name w w.gives_back
-  visit-apart f (item.Joined text) w = refl
-  visit-apart f item.ValueBegins w = refl
-  visit-apart f (item.ValueEnds way e) w = value-apart f w way (outcome_at w way e)
-  visit-apart f (item.ScopeBegins way name) w = refl
-  visit-apart f item.ScopeEnds w = end-apart f w (first w.cursor)
-  visit-apart f (item.TypeEnds shape) w = refl
-  visit-apart f (item.Enumerates names) w = refl
-  visit-apart f (item.Switches discrete) w = refl
-  visit-apart f item.Default w = refl
-  visit-apart f item.GivesBack w = refl
-
   -- ---- all sites
-
-  pub faults-apart : (f : Option Fault) (sites : List Item) (w : Walk) → site_faults turns answers sites (with_fault f w) ≡ site_faults turns answers sites w
-  faults-apart f [] w = refl
-  faults-apart f (site ∷ sites) w =
-      ap (λ (v : Visit). v.faults ++ site_faults turns answers sites v.after) (visit-apart f site w)
-      ∙ ap (λ fs. (visited site w).faults ++ fs) (faults-apart f sites (visited site w).after)
 
   -- none stands before the expression in which a walk is
   pub faults-from : (sites : List Item) (w : Walk) → All (IsFrom (begin_of w)) (site_faults turns answers sites w)

@@ -13,9 +13,10 @@ use Rattle.idl_scope.specs.declared.answer.Answer.{Answer}
 use Rattle.idl_scope.specs.declared.key.Key.{Key}
 use Rattle.idl_site.specs.Item.{Item}
 use Rattle.idl_unit.specs.declared.fault.Fault.{Fault}
+use Rattle.idl_check.proofs.ApartLaws.{faults-apart, with_fault}
 use Rattle.idl_check.proofs.FaultOrder.{Leads, fold-led, leads-later}
 use Rattle.idl_check.proofs.NotedLemmas.{noted-append, noted-none}
-use Rattle.idl_check.proofs.SiteLaws.{IsFrom, IsPlaced, begin_before, faults-apart, faults-from, visit-placed, visited, with_fault}
+use Rattle.idl_check.proofs.SiteLaws.{IsFrom, IsPlaced, begin_before, faults-from, visit-placed, visited}
 
 -- the fault of a walk that is over stands before those of all later sites
 abbrev over_by : Option Fault → Option ℕ → ℕ → Bool
