@@ -141,7 +141,7 @@ module _ (turns : ℕ) (answers : Key → Option Answer) where
 
   -- what is given back is never without fault
   given-found : (way : Use) (name : ScopedName) (w : Walk) (is_global : Bool) (parts : List (List ℕ)) → FindsOne w (outcome (given_by turns answers way name w is_global parts) answers)
-  given-found way name w true parts h = absurd (no-end [] (fault_at w.at BadOneway) h)
+  given-found way name w true parts = λ h. absurd (no-end [] (fault_at w.at BadOneway) h)
   given-found way name w false [] =
       let query = used turns way name w in
       subst (FindsOne w) (sym (outcome-and_then query (λ v. Done (with_oneway w.at v)) answers))
