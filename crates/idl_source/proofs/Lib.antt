@@ -1,3 +1,4 @@
+pub mod CutLemmas
 pub mod DeviceLemmas
 pub mod DirectoryLemmas
 pub mod EntryLemmas

@@ -3,6 +3,7 @@
 //! Nothing here reads a disk: a file is a list of lines that a caller handed in.
 #![tactic(auto)]
 
+mod cutting;
 mod device;
 mod directory;
 mod entries;
@@ -16,6 +17,7 @@ mod path;
 mod refusal;
 mod span;
 
+pub use cutting::cut;
 pub use device::{ReadFailed, Sink, Source, WriteFailed, write_all};
 pub use directory::Directory;
 pub use file::File;

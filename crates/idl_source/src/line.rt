@@ -43,8 +43,17 @@ impl Line {
         if bytes.contains(&NEWLINE) {
             return Ok(None);
         }
-        let bytes = RcSlice::from_slice(alloc, bytes)?;
-        Ok(Some(Line { bytes }))
+        Ok(Some(Line::copied(alloc, bytes)?))
+    }
+
+    /// Copies the bytes of a line.
+    pub(crate) fn copied(alloc: Global, bytes: &[u8]) -> Result<Line, AllocError>
+        requires { IsLine bytes.now }
+        ensures { IfOk result (λ line. line ≡ bytes.now) }
+    {
+        Ok(Line {
+            bytes: RcSlice::from_slice(alloc, bytes)?,
+        })
     }
 
     /// The bytes, none of them a newline.
