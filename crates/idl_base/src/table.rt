@@ -13,11 +13,11 @@ use std::collections::BTreeMap;
 use std::marker::Model;
 
 // Up to so many entries have no index: it costs less to compare a key with each of them than to keep copies in order.
-const FEW: usize = 16;
+const FEW: usize = 32;
 
 /// Entries by their keys, in the order in which the keys were first put in. To every contract it is the list of them.
 ///
-/// A look-up goes through few entries, and where there have been more than 16 at once, it compares the key with
+/// A look-up goes through few entries, and where there have been more than 32 at once, it compares the key with
 /// logarithmically many in an index, whatever the keys are. A hash table doesn't serve where keys come from input: its
 /// hash is known, so that input can be made whose keys all fall into one place of the table, and then each look-up goes
 /// through all of them. The index holds a copy of each key. Only `insert`, `push` and `keys` take memory.
@@ -144,6 +144,14 @@ impl<K: Datum + Ord, V: Drop> Table<K, V> {
             places.remove(&key);
         }
         Some((key, value))
+    }
+
+    /// Takes all entries out. The memory of the entries stays, for those that are put in next.
+    pub fn clear(&mut self)
+        ensures { self.new ≡ [] }
+    {
+        self.entries.clear();
+        self.index = None;
     }
 
     /// Copies of the keys, in their order.

@@ -10,6 +10,8 @@ mod diagnostic;
 mod event;
 mod expansion;
 mod file_name;
+mod hinted_log;
+mod hints;
 mod key;
 mod lexed_file;
 mod place;

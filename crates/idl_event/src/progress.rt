@@ -9,6 +9,7 @@ ghost use Rattle.idl_event.specs.Limits.{turns_at_most};
 
 use crate::allowance::Allowance;
 use crate::event::{Event, Item};
+use crate::hinted_log::HintedLog;
 use crate::key::{Answer, Key};
 use crate::root_bank::RootBank;
 use idl_memo::{Bank, Log};
@@ -23,7 +24,7 @@ use std::marker::Model;
 pub struct Progress<B: RootBank> {
     kept: Vec<Event>,
     left: Option<Allowance>,
-    log: Log<B>,
+    log: HintedLog<B>,
 }
 
 impl<B: RootBank> Model for Progress<B> {
@@ -52,7 +53,7 @@ impl<B: RootBank> Progress<B> {
         Progress {
             kept: Vec::new(alloc),
             left: Some(Allowance::new()),
-            log,
+            log: HintedLog::new(alloc, log),
         }
     }
 
@@ -61,7 +62,7 @@ impl<B: RootBank> Progress<B> {
         ensures events { result.0.items ≡ self.kept }
         ensures log { result.1 ≡ self.log }
     {
-        (self.kept, self.log)
+        (self.kept, self.log.into_log())
     }
 
     /// The events so far.

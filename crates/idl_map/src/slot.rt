@@ -14,7 +14,7 @@ use std::marker::Model;
 use std::rc::Rc;
 
 // How many bits of a digest choose among slots. Keys that are alike in all of them come into one bucket.
-const BITS: u32 = 24;
+const BITS: u32 = 30;
 
 /// A few entries; or a branch, and the bit from which on digests choose among its slots.
 #[cycle(slot)]
@@ -135,7 +135,7 @@ pub fn insert<K: Digest + Ord, V: Datum>(
 // The place a level below.
 fn below(place: Place) -> Place
     ensures digest { result.digest ≡ place.digest }
-    ensures shift { 24 - result.shift ≡ 24 - (place.shift + 3) }
+    ensures shift { 30 - result.shift ≡ 30 - (place.shift + 3) }
 {
     Place {
         digest: place.digest,
@@ -153,7 +153,7 @@ fn divide<K: Digest + Ord, V: Datum>(
     ensures each_key { (k : K)
         → lookup (K.eq k) (slot_entries K.digest_of slot.new)
         ≡ lookup (K.eq k) (slot_entries K.digest_of slot.old) }
-    ensures bits { slot_size slot.new + (24 - (shift + 3)) ≤ slot_size slot.old + (24 - shift) }
+    ensures bits { slot_size slot.new + (30 - (shift + 3)) ≤ slot_size slot.old + (30 - shift) }
 {
     let Slot::Few(bucket) = slot else {
         return Ok(());

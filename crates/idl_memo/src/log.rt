@@ -80,6 +80,13 @@ impl<B: Bank> Log<B> {
         Ok(answer)
     }
 
+    /// The log before anything is asked, again. Its memory stays, for what is asked next.
+    pub fn clear(&mut self)
+        ensures { self.new ≡ [] }
+    {
+        self.entries.clear();
+    }
+
     /// Whether a key was asked, with an answer or without. It takes no memory.
     pub fn contains(&self, key: &B::Key) -> bool
         ensures { result ≡ is_logged B.Key.eq self.now key.now }

@@ -52,15 +52,16 @@ impl Judging {
         ensures { IfOk result (λ judging. held judging ≡ to_come (held self) units.now) }
     {
         let mut judging = self;
+        let mut log = Log::new(alloc);
         for unit in units {
-            judging = judging.with(alloc, unit)?;
+            judging = judging.with(alloc, unit, &mut log)?;
         }
         Ok(judging)
     }
 
-    // After one unit more.
+    // After one unit more, which takes the memory of the log for what it asks.
     #[tactic(auto, unfolding(crate::specs::Judged::judged_after))]
-    fn with(self, alloc: Global, unit: &Unit) -> Result<Judging, AllocError>
+    fn with(self, alloc: Global, unit: &Unit, log: &mut Log<Env>) -> Result<Judging, AllocError>
         ensures { IfOk result (λ judging. (units : List RootUnit)
             → to_come (held judging) units ≡ to_come (held self) (unit.now ∷ units)) }
     {
@@ -70,7 +71,7 @@ impl Judging {
                     text,
                     sites: sites.as_slice(),
                 };
-                Ok(self.with_spelled(alloc, unit)?)
+                Ok(self.with_spelled(alloc, unit, log)?)
             }
             Unit::Entered(_file) => Ok(self),
             Unit::Left(_file) => Ok(self),
@@ -79,13 +80,18 @@ impl Judging {
     }
 
     // After a unit with tokens.
-    fn with_spelled(self, alloc: Global, unit: Spelled<'_>) -> Result<Judging, AllocError>
+    fn with_spelled(
+        self,
+        alloc: Global,
+        unit: Spelled<'_>,
+        log: &mut Log<Env>,
+    ) -> Result<Judging, AllocError>
         ensures { IfOk result (λ judging.
             held judging
             ≡ with_judged (held self)
             (judged_over self.env unit.entry.text.now unit.entry.sites.now ∷ [])) }
     {
-        let verdict = verdict_over(alloc, &self.env, unit.text)?;
+        let verdict = verdict_over(alloc, &self.env, unit.text, log)?;
         Ok(self.with_verdict(alloc, unit, &verdict)?)
     }
 
@@ -140,15 +146,20 @@ impl Judging {
     }
 }
 
-// The verdict of a text over facts.
-fn verdict_over(alloc: Global, env: &Env, text: &UnitText) -> Result<Verdict, AllocError>
+// The verdict of a text over facts. What the log held before is forgotten.
+fn verdict_over(
+    alloc: Global,
+    env: &Env,
+    text: &UnitText,
+    log: &mut Log<Env>,
+) -> Result<Verdict, AllocError>
     ensures { IfOk result (λ verdict. verdict ≡ verdict_over env.now text.now) }
 {
     let task = DeclarationTask {
         text: text.clone()?,
     };
-    let mut log = Log::new(alloc);
-    task.run(alloc, env, &mut log)
+    log.clear();
+    task.run(alloc, env, log)
 }
 
 // Puts in the row of a unit, if it has one.

@@ -1,7 +1,7 @@
 -- What is kept beside the names of a path.
-use Rattle.std.proofs.Common.{◌≡◌, ℕ, zero, suc, ◌<◌, ◌≤◌, List, [], ◌∷◌, length, drop, get_or, refl, ap, arith}
+use Rattle.std.proofs.Common.{◌≡◌, ℕ, zero, suc, ◌<◌, ◌≤◌, ◌-◌, List, [], ◌∷◌, length, drop, get_or, refl, ap, arith}
 use Rattle.idl_lex.specs.Keywords.{folded}
-use Rattle.idl_scope.specs.Digest.{path_digest}
+use Rattle.idl_scope.specs.Digest.{outermost_digest, path_digest}
 use Rattle.idl_scope.specs.Mark.{marks_of}
 use Rattle.idl_scope.specs.Path.{name_of}
 use Rattle.idl_scope.specs.declared.mark.Mark.{Mark}
@@ -26,3 +26,10 @@ marks_of-none (name ∷ scope) h = absurd (omega arith)
 pub marks_of-first : (path : List (List ℕ)) (d : Mark) → 1 ≤ length (marks_of path) → get_or (marks_of path) 0 d ≡ record { folded = folded (name_of path); digest = path_digest path }
 marks_of-first [] d h = absurd (omega arith)
 marks_of-first (name ∷ scope) d h = refl
+
+-- the last one
+pub marks_of-last : (path : List (List ℕ)) (d : Mark) → 1 ≤ length (marks_of path) → (get_or (marks_of path) (length (marks_of path) - 1) d).digest ≡ outermost_digest path
+unfolding outermost_digest
+marks_of-last [] d h = absurd (omega arith)
+marks_of-last (name ∷ []) d h = refl
+marks_of-last (name ∷ outer ∷ scope) d h = marks_of-last (outer ∷ scope) d (omega arith)

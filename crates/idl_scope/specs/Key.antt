@@ -3,7 +3,8 @@ use Rattle.std.specs.Prelude.{◌≡◌, ℕ, Bool, true, refl}
 use Rattle.std.specs.Cmp.Lexicographic.{bytes_decides}
 use Rattle.std.proofs.Common.{ap}
 use Rattle.idl_base.specs.Exact.{both, same_number}
-use Rattle.idl_scope.specs.Digest.{mixed, path_digest, with_name}
+use Rattle.idl_base.specs.Digest.{mixed, with_bytes}
+use Rattle.idl_scope.specs.Digest.{behind, outermost_digest, path_digest}
 use Rattle.idl_scope.specs.Path.{same_path}
 use Rattle.idl_scope.specs.contracts.key.KeyPartialEq.TheImpl.{ghosts}
 use Rattle.idl_scope.specs.declared.key.Key.{Key}
@@ -85,7 +86,9 @@ copied_key Nameless Nameless h = refl
 -- the digest of a key: of the path and the name, with a number that is no byte for what is asked
 unfoldable pub key_digest : Key → ℕ
 key_digest Cursor = 257
-key_digest (Declared n path) = with_name (mixed (path_digest path) 258) n
-key_digest (Introduced n path body) = mixed (with_name (mixed (path_digest path) 259) n) body
-key_digest (Opened path) = mixed (path_digest path) 260
+key_digest (Declared n path) =
+    behind (outermost_digest path) (with_bytes (mixed (path_digest path) 258) n)
+key_digest (Introduced n path body) =
+    behind (outermost_digest path) (mixed (with_bytes (mixed (path_digest path) 259) n) body)
+key_digest (Opened path) = behind (outermost_digest path) (mixed (path_digest path) 260)
 key_digest Nameless = 261

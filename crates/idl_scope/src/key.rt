@@ -3,9 +3,9 @@
 ghost use Rattle.std.specs.Prelude.{◌≡◌, IfOk};
 ghost use Rattle.idl_scope.specs.Facts.{entity_key};
 
-use crate::digest::{mixed, with_name};
+use crate::digest::behind;
 use crate::path::Path;
-use idl_base::Datum;
+use idl_base::{Datum, mixed, with_bytes};
 use idl_lex::Spelling;
 use idl_map::Digest;
 use std::alloc::{AllocError, Global};
@@ -64,12 +64,17 @@ impl Digest for Key {
     fn digest(&self) -> u64 {
         match self {
             Key::Cursor => 257,
-            Key::Declared(name, path) => with_name(mixed(path.digest(), 258), name.as_bytes()),
-            Key::Introduced(name, path, body) => {
-                let named = with_name(mixed(path.digest(), 259), name.as_bytes());
-                mixed(named, *body as u64)
+            Key::Declared(name, path) => {
+                let named = with_bytes(mixed(path.digest(), 258), name.as_bytes());
+                behind(path.outermost_digest(), named)
             }
-            Key::Opened(path) => mixed(path.digest(), 260),
+            Key::Introduced(name, path, body) => {
+                let named = with_bytes(mixed(path.digest(), 259), name.as_bytes());
+                behind(path.outermost_digest(), mixed(named, *body as u64))
+            }
+            Key::Opened(path) => {
+                behind(path.outermost_digest(), mixed(path.digest(), 260))
+            }
             Key::Nameless => 261,
         }
     }

@@ -6,7 +6,7 @@ ghost use Rattle.std.specs.Cmp.Lexicographic.{lists_agrees, lists_equiv, lists_p
 ghost use Rattle.std.specs.Ordering.{nat_cmp};
 ghost use Rattle.std.specs.Str.{bytes_eq};
 ghost use Rattle.idl_lex.specs.Keywords.{folded};
-ghost use Rattle.idl_scope.specs.Digest.{path_digest};
+ghost use Rattle.idl_scope.specs.Digest.{outermost_digest, path_digest};
 ghost use Rattle.idl_scope.specs.Mark.{marks_of};
 ghost use Rattle.idl_scope.specs.Path.{name_of, path_eq, scope_of};
 
@@ -68,9 +68,10 @@ impl Path {
     pub fn child(&self, alloc: Global, name: &Spelling) -> Result<Path, AllocError>
         ensures { IfOk result (λ path. path ≡ name.now ∷ self.now) }
     {
-        let mut names = Vec::new(alloc);
+        let scope = self.as_slice();
+        let mut names = Vec::with_capacity(alloc, scope.len() + 1)?;
         names.push(name.clone()?)?;
-        for outer in self.as_slice() {
+        for outer in scope {
             names.push(outer.clone()?)?;
         }
         let marks = self.marks_of_child(alloc, name)?;
@@ -84,9 +85,10 @@ impl Path {
     {
         let folded = folded_spelling(alloc, name)?;
         let digest = with_child(self.digest(), name.as_bytes());
-        let mut marks = Vec::new(alloc);
+        let scope = self.marks();
+        let mut marks = Vec::with_capacity(alloc, scope.len() + 1)?;
         marks.push(Mark { folded, digest })?;
-        for outer in self.marks() {
+        for outer in scope {
             marks.push(outer.clone()?)?;
         }
         Ok(marks)
@@ -113,6 +115,16 @@ impl Path {
         match self.marks() {
             [] => 0,
             [own, ..] => own.digest,
+        }
+    }
+
+    /// The digest of the outermost scope around, or of a path of one name that path's own.
+    pub fn outermost_digest(&self) -> u64
+        ensures { result ≡ outermost_digest self.now }
+    {
+        match self.marks() {
+            [] => 0,
+            [.., outermost] => outermost.digest,
         }
     }
 

@@ -82,6 +82,13 @@ impl RootTable {
         }
     }
 
+    /// Makes room for one root more. The roots stay as they are.
+    pub fn reserve_one(&mut self) -> Result<(), AllocError>
+        ensures { self.new ≡ self.old }
+    {
+        self.roots.reserve(1)
+    }
+
     /// Adds a root that isn't there, at the end.
     pub fn add(&mut self, root: Name, kept: KeptRoot) -> Result<(), AllocError>
         // Who adds a root has asked for it.

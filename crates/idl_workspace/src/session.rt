@@ -183,6 +183,8 @@ impl Session {
             printed: 0,
             compared: self.roots.keys_asked(),
         };
+        // First, so that no root is compiled where there is no room for it.
+        self.roots.reserve_one()?;
         let kept = KeptRoot::anew(self.alloc, root.copied(), &self.bank, &mut meter)?;
         self.roots.add(root, kept)?;
         self.work = Work::counted(&meter);

@@ -4,4 +4,4 @@ use Rattle.idl_map.proofs.slot.+insert.Given as goal
 
 -- a slot below has fewer branches, or fewer bits are left
 abbrev pub decreases-insert : goal.decreases-insert
-decreases-insert g l = slot_size l.slot.now + (24 - l.place.shift)
+decreases-insert g l = slot_size l.slot.now + (30 - l.place.shift)

@@ -33,7 +33,9 @@ invariant_of-self-2 c =
     let root = c.in-Some.root in
     let allowed : is_name root ≡ true = ap is_name c.in-Some.ensures.same ∙ c.in-Some.ensures.allowed.0 refl in
     let kept = c.in_ok-kept.ensures.kept in
-    subst (λ (after : List (List ℕ × KeptRoot)). IsUpToDate bank after) (sym c.in_ok-add.ensures.ok)
+    let grown : c.add.new.self ≡ c.self.inside.roots ++ (root, c.in_ok-kept.kept) ∷ [] =
+    c.in_ok-add.ensures.ok ∙ ap (λ (rs : List (List ℕ × KeptRoot)). rs ++ (root, c.in_ok-kept.kept) ∷ []) c.reserve_one.ensures in
+    subst (λ (after : List (List ℕ × KeptRoot)). IsUpToDate bank after) (sym grown)
     (IsUpToDate-push bank c.self.inside.roots root c.in_ok-kept.kept c.self.invariant allowed (sym c.contains.ensures ∙ c.if-contains.false) (rw c.copied.ensures at kept))
 
 -- a root that isn't refused
@@ -58,8 +60,10 @@ returns c =
     let project : Project = record { inputs = c.self.inside.bank; roots = keys_of held } in
     let after_add : Project = record { inputs = c.self.inside.bank; roots = keys_of more } in
     let new : list_any (bytes_eq root) (keys_of held) ≡ false = sym c.contains.ensures ∙ c.if-contains.false in
+    let grown : more ≡ held ++ (root, c.in_ok-kept.kept) ∷ [] =
+    c.in_ok-add.ensures.ok ∙ ap (λ (rs : List (List ℕ × KeptRoot)). rs ++ (root, c.in_ok-kept.kept) ∷ []) c.reserve_one.ensures in
     let names : keys_of more ≡ keys_of held ++ root ∷ [] =
-    ap (λ (es : List (List ℕ × KeptRoot)). keys_of es) c.in_ok-add.ensures.ok ∙ map-append (λ (e : List ℕ × KeptRoot). e.0) held ((root, c.in_ok-kept.kept) ∷ []) in
+    ap (λ (es : List (List ℕ × KeptRoot)). keys_of es) grown ∙ map-append (λ (e : List ℕ × KeptRoot). e.0) held ((root, c.in_ok-kept.kept) ∷ []) in
     let stay : staying (keys_of held) (keys_of more) ≡ keys_of held = ap (staying (keys_of held)) names ∙ staying-push (keys_of held) root new in
     let one = c.freshness.ensures.one_more bank (keys_of held) root (IsDistinct-push nat_list_eq_equiv (keys_of held) root c.self.invariant.distinct new) in
     let fresh = subst (λ (ns : List (List ℕ)). fresh_among bytes_eq (option_eq ghosts.eq) expansion bank (keys_of held) bank ns ≡ 1) (sym names) one in
