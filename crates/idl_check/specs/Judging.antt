@@ -1,9 +1,9 @@
 -- What the laws of verdicts speak of.
-use Rattle.std.specs.Prelude.{◌≡◌, ◌<◌, ◌≤◌, ◌⊎◌, ℕ, false, List, [], ◌∷◌, flat_map, Option, None, Some}
+use Rattle.std.specs.Prelude.{◌≡◌, ◌<◌, ◌≤◌, ◌⊎◌, ◌+◌, ℕ, max, false, List, [], ◌∷◌, flat_map, Option, None, Some}
 use Rattle.idl_check.specs.AllFaults.{site_faults}
 use Rattle.idl_check.specs.Placing.{is_misplaced, opened_kind, opening_faults}
 use Rattle.idl_check.specs.Verdict.{sound}
-use Rattle.idl_check.specs.Walk.{Walk, first_walk, visit}
+use Rattle.idl_check.specs.Walk.{Walk, begin_of, first_walk, visit}
 use Rattle.idl_check.specs.declared.verdict.Verdict.{Verdict}
 use Rattle.idl_event.specs.Code.{number_of}
 use Rattle.idl_lex.specs.Tokens.{Token}
@@ -14,7 +14,7 @@ use Rattle.idl_scope.specs.declared.answer.Answer.{Answer}
 use Rattle.idl_scope.specs.declared.answer.Scope.{Scope}
 use Rattle.idl_scope.specs.declared.key.Key.{Key}
 use Rattle.idl_scope.specs.declared.key.Key.TheVariants.{Nameless}
-use Rattle.idl_site.specs.Item.{Item, items, Item as item}
+use Rattle.idl_site.specs.Item.{Item, item_length, items, Item as item}
 use Rattle.idl_site.specs.UnitParts.{unit_parts}
 use Rattle.idl_tree.specs.Lexeme.{lexemes}
 use Rattle.idl_tree.specs.Unit.{spell}
@@ -42,6 +42,16 @@ module _ (turns : ℕ) (answers : Key → Option Answer) where
   abbrev pub walked : List Item → Walk → Walk
   walked [] w = w
   walked (site ∷ sites) w = walked sites (outcome (visit turns site w) answers).after
+
+-- The tokens at which a site's faults stand: its own, or of a site of none the next one; of the end
+-- of an expression those of the expression too. They are counted from the first, and up to the one
+-- behind the last.
+abbrev pub spoken_from : Item → Walk → ℕ
+spoken_from (item.ValueEnds way expression) w = begin_of w
+spoken_from other w = w.at
+
+abbrev pub spoken_till : Item → Walk → ℕ
+spoken_till site w = w.at + max 1 (item_length site)
 
 -- the name that a site uses, if it does
 abbrev pub used_name : Item → List ScopedName

@@ -1,6 +1,6 @@
 -- The walk over the sites of a unit, in the order of its tokens: what is asked at each, what is
 -- wrong there, and what it adds.
-use Rattle.std.specs.Prelude.{ℕ, ◌+◌, Bool, true, false, ◌&&◌, List, [], ◌∷◌, ◌++◌, drop, is_some, not, take, Option, None, Some, Result, Ok, Err, if◌then◌else◌, option_to_list}
+use Rattle.std.specs.Prelude.{ℕ, ◌+◌, Bool, true, false, ◌&&◌, List, [], ◌∷◌, ◌++◌, drop, is_some, min, nat_lt, not, take, Option, None, Some, Result, Ok, Err, if◌then◌else◌, option_to_list}
 use Rattle.std.specs.List.{list_any}
 use Rattle.idl_check.specs.Codes.{faults_by}
 use Rattle.idl_check.specs.Declaring.{Written, declared_table, entity_of, kind_of, standing, with_declared, written_after}
@@ -37,7 +37,6 @@ use Rattle.idl_tree.specs.declared.name.ScopedName.{ScopedName}
 use Rattle.idl_unit.specs.Faults.{least_fault}
 use Rattle.idl_unit.specs.TokenRules.{fault_at, first}
 use Rattle.idl_unit.specs.declared.fault.Fault.{Fault}
-use Rattle.idl_value.specs.Evaluation.{ahead}
 use Rattle.idl_value.specs.Target.{discriminates, target_of}
 use Rattle.idl_value.specs.declared.outcome.Outcome.{Outcome}
 use Rattle.idl_value.specs.declared.outcome.Outcome.TheVariants as outcome
@@ -246,9 +245,12 @@ abbrev pub is_repeated : Walk → Purpose → Value → Bool
 is_repeated w purpose.Label v = list_any (λ l. is_labelled l v) (take 1 w.unions)
 is_repeated w other v = false
 
--- the number of its first token
+-- the number of its first token, and of the one so many further on, none behind the next token
 abbrev pub begin_of : Walk → ℕ
-begin_of w = elim w.values.begin [ None ↦ w.at | Some at ↦ at ]
+begin_of w = elim w.values.begin [ None ↦ w.at | Some at ↦ min at w.at ]
+
+abbrev pub token_of : Walk → ℕ → ℕ
+token_of w n = min (begin_of w + n) w.at
 
 abbrev pub value_visit : Walk → Purpose → Outcome → Visit
 value_visit w way (outcome.Value v) = record {
@@ -256,7 +258,7 @@ value_visit w way (outcome.Value v) = record {
   after = record (valued_after w way v) { values = with_value way v w.values };
 }
 value_visit w way (outcome.Fault f) = record {
-  faults = fault_at (ahead (begin_of w) f.token) (code_of f.code) ∷ [];
+  faults = fault_at (token_of w f.token) (code_of f.code) ∷ [];
   after = record w { values = record w.values { begin = None } };
 }
 value_visit w way outcome.Told =
@@ -313,9 +315,11 @@ noted before faults = least_fault (option_to_list before ++ faults)
 abbrev pub noted_in : Visit → Option Fault → Walk
 noted_in v fault = record v.after { fault = noted fault v.faults }
 
--- nothing more is asked after a fault, but to the end of an expression
+-- nothing more is asked behind the token of a fault, but to the end of an expression
 abbrev pub is_over : Walk → Bool
-is_over w = is_some w.fault && not (is_some w.values.begin)
+is_over w =
+    elim w.fault
+    [ None ↦ false | Some f ↦ nat_lt f.index w.at && not (is_some w.values.begin) ]
 
 -- the walk over these sites
 unfoldable pub walk : ℕ → List Item → Walk → Lookup Walk

@@ -14,9 +14,7 @@ use crate::types::names_of;
 use idl_base::Seq;
 use idl_event::Code;
 use idl_lex::Spelling;
-use idl_scope::{
-    Addition, Entity, Facts, Kind, Meaning, Path, Scope, Shared, Stage, shared_name,
-};
+use idl_scope::{Addition, Entity, Facts, Kind, Meaning, Path, Scope, Shared, Stage, shared_name};
 use idl_site::Declaration;
 use idl_value::Value;
 use std::alloc::{AllocError, Global};

@@ -6,7 +6,7 @@
 ghost use Rattle.std.specs.Prelude.{◌≡◌, ◌≢◌, ◌↔◌, ◌+◌, ◌<◌, ◌≤◌, Bool, ℕ, List, [], ◌∷◌, All, Contains, codes, false, length, take, None, Option, Some};
 ghost use Rattle.idl_check.specs.AllFaults.{site_faults, unit_faults};
 ghost use Rattle.idl_check.specs.Placing.{faulty_step, step_of};
-ghost use Rattle.idl_check.specs.Judging.{IsNotAfter, IsSound, refused_keys, used_names, walked, without_name};
+ghost use Rattle.idl_check.specs.Judging.{IsNotAfter, IsSound, refused_keys, spoken_from, spoken_till, used_names, walked, without_name};
 ghost use Rattle.idl_check.specs.Row.{Rest, unit_text};
 ghost use Rattle.idl_check.specs.Verdict.{faulty, first_faults, pragma_verdict, tree_of, verdict};
 ghost use Rattle.idl_check.specs.Walk.{Walk, visit};
@@ -16,7 +16,7 @@ ghost use Rattle.idl_scope.specs.Facts.{scopes_in};
 ghost use Rattle.idl_scope.specs.declared.answer.Answer.{Answer};
 ghost use Rattle.idl_scope.specs.declared.key.Key.{Key};
 ghost use Rattle.idl_scope.specs.declared.key.Key.TheVariants.{Cursor};
-ghost use Rattle.idl_site.specs.Item.{Item, item_length, items, items_length};
+ghost use Rattle.idl_site.specs.Item.{Item, items, items_length};
 ghost use Rattle.idl_site.specs.UnitParts.{unit_parts};
 ghost use Rattle.idl_syntax.specs.Parse.{pragma_faults};
 ghost use Rattle.idl_tree.specs.Lexeme.{lexemes};
@@ -76,13 +76,13 @@ pub fn acceptance()
 {}
 
 /// At a site a walk has come to the number of its first token, whatever is wrong before, and the
-/// faults there stand at the tokens of the site. So a fault that is told stands at a token of its
-/// unit.
+/// faults there stand at the tokens of the site, or at the next one of a site of none; those of an
+/// expression at its tokens. So a fault that is told stands at a token of its unit.
 pub fn numbering()
     ensures walk { (turns : ℕ) (answers : Key → Option Answer) (front : List Item) (w : Walk)
         → (walked turns answers front w).at ≡ w.at + items_length front }
     ensures site { (turns : ℕ) (answers : Key → Option Answer) (site : Item) (w : Walk)
-        → All (λ f. (w.at ≤ f.index) × (f.index < w.at + item_length site))
+        → All (λ f. (spoken_from site w ≤ f.index) × (f.index < spoken_till site w))
         (outcome (visit turns site w) answers).faults }
     ensures told { (turns : ℕ) (tokens : List Token) (answers : Key → Option Answer)
         (fault : Fault)

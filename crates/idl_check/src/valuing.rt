@@ -6,11 +6,10 @@ ghost use Rattle.idl_check.specs.Held.{held, held_values, held_written};
 ghost use Rattle.idl_check.specs.Labels.{no_labels, with_default};
 ghost use Rattle.idl_check.specs.Types.{written_as};
 ghost use Rattle.idl_check.specs.Values.{begun_at, code_of};
-ghost use Rattle.idl_check.specs.Walk.{begin_of, faulty_if, is_repeated, noted, noted_in, outcome_at, value_visit, valued_after, with_array, with_labels};
+ghost use Rattle.idl_check.specs.Walk.{begin_of, faulty_if, is_repeated, noted, noted_in, outcome_at, token_of, value_visit, valued_after, with_array, with_labels};
 ghost use Rattle.idl_event.specs.declared.code.Code.TheVariants.{BadDiscriminator, RepeatedLabel};
 ghost use Rattle.idl_site.specs.declared.site.Target.TheVariants as purpose;
 ghost use Rattle.idl_unit.specs.TokenRules.{fault_at};
-ghost use Rattle.idl_value.specs.Evaluation.{ahead};
 ghost use Rattle.idl_value.specs.Target.{discriminates, target_of};
 ghost use Rattle.idl_value.specs.declared.outcome.Outcome.TheVariants as outcome;
 
@@ -84,14 +83,21 @@ impl<'a> Walker<'a> {
             .outcome(self.env.alloc(), way, types, expression)
     }
 
-    // The number of its first token.
+    // The number of its first token, not behind the next.
     fn begin_of(&self) -> usize
         ensures { result ≡ begin_of (held self.now) }
     {
         match self.values.begin {
-            Some(at) => at,
+            Some(at) => at.min(self.at),
             None => self.at,
         }
+    }
+
+    // The number of its token so many further on, not behind the next.
+    fn token_of(&self, count: usize) -> usize
+        ensures { result ≡ token_of (held self.now) count }
+    {
+        self.begin_of().saturating_add(count).min(self.at)
     }
 
     // Notes a fault in it.
@@ -100,11 +106,10 @@ impl<'a> Walker<'a> {
             ≡ record self.old {
               fault =
                   noted self.old.fault
-                  (fault_at (ahead (begin_of (held self.old)) fault.token) (code_of fault.code)
-                  ∷ []);
+                  (fault_at (token_of (held self.old) fault.token) (code_of fault.code) ∷ []);
             } }
     {
-        let index = self.begin_of().saturating_add(fault.token);
+        let index = self.token_of(fault.token);
         self.note(index, Some(code_of(fault.code)));
     }
 

@@ -22,9 +22,7 @@ use crate::values::Values;
 use idl_base::Text;
 use idl_event::Code;
 use idl_memo::Log;
-use idl_scope::{
-    Addition, Entity, Env, Facts, Kind, Meaning, Path, Scope, Shared, Step, View,
-};
+use idl_scope::{Addition, Entity, Env, Facts, Kind, Meaning, Path, Scope, Shared, Step, View};
 use idl_site::{Declaration, Site};
 use idl_unit::Fault;
 use idl_value::Value;
@@ -120,11 +118,14 @@ impl<'a> Walker<'a> {
         Ok(())
     }
 
-    // Nothing more is asked after a fault, but to the end of an expression.
+    // Nothing more is asked behind the token of a fault, but to the end of an expression.
     fn is_over(&self) -> bool
         ensures { result ≡ is_over (held self.now) }
     {
-        self.fault.is_some() && self.values.begin.is_none()
+        match self.fault {
+            Some(fault) => fault.index < self.at && self.values.begin.is_none(),
+            None => false,
+        }
     }
 
     /// Notes a fault of a token, unless a lesser one was noted.
