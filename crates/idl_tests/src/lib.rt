@@ -1,5 +1,4 @@
-//! What no clause of the crates below says: values from outside, calls that succeed with ample memory, and what comes of
-//! an allocation that is refused.
+//! What no clause of the crates below says: values from outside, calls that succeed, and what a refused allocation leaves.
 //!
 //! A session is shown by scripts, with the replies that it must give to them.
 #![tactic(auto)]

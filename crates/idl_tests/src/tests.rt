@@ -13,7 +13,5 @@ mod rows;
 mod scripts;
 mod support;
 mod tokens;
-mod trees;
 mod units;
 mod values;
-mod words;

@@ -170,9 +170,7 @@ fn have_stops(alloc: Global, text: &str, most: usize) -> Result<(), Fail> {
 }
 
 // Commands, each with its reply behind `=>`, and `|` between them; behind the last one what the end has.
-static SCRIPTS: [&str; 4] = [
-    "put a.idl 2\ntypedef long X;\ntypedef short X;\n=>ok\n|root a.idl\n=>ok\n|diagnostics a.idl\n\
-     =>rows 1\na.idl:2: E33 X\n|=>",
+static SCRIPTS: [&str; 3] = [
     "put a.idl 2\ntypedef long X;\ntypedef short X;\n=>ok\n|root a.idl\n=>ok\n|diagnostics a.idl\n\
      =>rows 1\na.idl:2: E33 X\n|dump a.idl\n=>rows 0\n|splice a.idl 2 1 0\n=>ok\n|dump a.idl\n\
      =>rows 1\ntypedef long X;\n|=>",

@@ -3,45 +3,36 @@
 use super::support::have_replies;
 use std::test::Fail;
 
-static FILES: [&str; 17] = [
-    // A file that an include asks for comes, and goes again.
-    "put r.idl 1\n#include \"b.idl\"\n=ok\nroot r.idl\n=ok\ndiagnostics r.idl\n=rows 1\n=r.idl:1: E10 \"b.idl\"\n\
-     absent r.idl\n=rows 1\n=b.idl\nput b.idl 0\n=ok\ndiagnostics r.idl\n=rows 0\nabsent r.idl\n=rows 0\n\
-     remove b.idl\n=ok\nabsent r.idl\n=rows 1\n=b.idl",
+static FILES: [&str; 12] = [
     // Replacements that stand in one another, and a file that includes itself.
     "put p.idl 3\n#define A A B\n#define B A\nA\n=ok\nroot p.idl\n=ok\ndiagnostics p.idl\n=rows 1\n=p.idl:3: E20 A",
-    "put l.idl 1\n#include \"l.idl\"\n=ok\nroot l.idl\n=ok\ndiagnostics l.idl\n=rows 1\n=l.idl:1: E19",
-    "put a/r 1\n#include \"../b\"\n=ok\nroot a/r\n=ok\ndiagnostics a/r\n=rows 1\n=a/r:1: E10 \"../b\"\nabsent a/r\n\
-     =rows 1\n=b",
+    "put l.idl 1\n#include \"l.idl\"\n=ok\nroot l.idl\n=ok\ndiagnostics l.idl\n=rows 1\n=l.idl:1: E19 ¶ put a/r 1\n\
+     #include \"../b\"\n=ok\nroot a/r\n=ok\ndiagnostics a/r\n=rows 1\n=a/r:1: E10 \"../b\"\nabsent a/r\n=rows 1\n=b",
     // Directories: the first that has the file.
     "put a 1\n#include <t>\n=ok\nput d/t 1\ntypedef long D;\n=ok\nput e/t 1\ntypedef long E;\n=ok\nroot a\n=ok\n\
-     absent a\n=rows 0\nsearch x d e\n=ok\nabsent a\n=rows 1\n=x/t\ndump a\n=rows 1\n=typedef long D;\nsearch e\n\
-     =ok\ndump a\n=rows 1\n=typedef long E;\nsearch\n=ok\ndiagnostics a\n=rows 1\n=a:1: E10 <t>\nsearch . a//b\n\
-     =refused 2",
+     absent a\n=rows 0\nsearch x d e\n=ok\nabsent a\n=rows 1\n=x/t\ndump a\n=rows 1\n=typedef long D;\nsearch e\n=ok\n\
+     dump a\n=rows 1\n=typedef long E;\nsearch\n=ok\ndiagnostics a\n=rows 1\n=a:1: E10 <t>\nsearch . a//b\n=refused 2",
     // Beside the including file, where the name stands in quotes, and then in each directory.
     "put src/a 1\n#error\n=ok\nput inc/a 1\n#error\n=ok\nput inc/b 1\n#error\n=ok\nput lib/b 1\n#error\n=ok\n\
-     put lib/c 1\n#error\n=ok\nput /c 1\n#error\n=ok\nput ../d 1\n#error\n=ok\nsearch inc lib ..\n=ok\n\
-     root src/main\n=ok\nput src/main 22\n#include \"a\"\n#include <a>\n#include \"b\"\n#include <b>\n\
-     #include \"c\"\n#include <c>\n#include \"d\"\n#include <d>\n#include \"../lib/b\"\n#include <../lib/b>\n\
-     #include \"../src/a\"\n#include <../src/a>\n#include \"/c\"\n#include </c>\n#include \"/a\"\n#include </a>\n\
-     #include \"/../c\"\n#include </../c>\n#include \"e\"\n#include <e>\n#include \"\"\n#include <>\n=ok\n\
-     diagnostics src/main\n=rows 22\n=src/a:1: E16 error\n=inc/a:1: E16 error\n=inc/b:1: E16 error\n\
-     =inc/b:1: E16 error\n=lib/c:1: E16 error\n=lib/c:1: E16 error\n=../d:1: E16 error\n=../d:1: E16 error\n\
-     =lib/b:1: E16 error\n=lib/b:1: E16 error\n=src/a:1: E16 error\n=src/a:1: E16 error\n=/c:1: E16 error\n\
-     =/c:1: E16 error\n=src/main:15: E10 \"/a\"\n=src/main:16: E10 </a>\n=src/main:17: E10 \"/../c\"\n\
-     =src/main:18: E10 </../c>\n=src/main:19: E10 \"e\"\n=src/main:20: E10 <e>\n=src/main:21: E10 \"\"\n\
-     =src/main:22: E10 <>",
+     put lib/c 1\n#error\n=ok\nput /c 1\n#error\n=ok\nput ../d 1\n#error\n=ok\nsearch inc lib ..\n=ok\nroot src/main\n\
+     =ok\nput src/main 22\n#include \"a\"\n#include <a>\n#include \"b\"\n#include <b>\n#include \"c\"\n#include <c>\n\
+     #include \"d\"\n#include <d>\n#include \"../lib/b\"\n#include <../lib/b>\n#include \"../src/a\"\n\
+     #include <../src/a>\n#include \"/c\"\n#include </c>\n#include \"/a\"\n#include </a>\n#include \"/../c\"\n\
+     #include </../c>\n#include \"e\"\n#include <e>\n#include \"\"\n#include <>\n=ok\ndiagnostics src/main\n=rows 22\n\
+     =src/a:1: E16 error\n=inc/a:1: E16 error\n=inc/b:1: E16 error\n=inc/b:1: E16 error\n=lib/c:1: E16 error\n\
+     =lib/c:1: E16 error\n=../d:1: E16 error\n=../d:1: E16 error\n=lib/b:1: E16 error\n=lib/b:1: E16 error\n\
+     =src/a:1: E16 error\n=src/a:1: E16 error\n=/c:1: E16 error\n=/c:1: E16 error\n=src/main:15: E10 \"/a\"\n\
+     =src/main:16: E10 </a>\n=src/main:17: E10 \"/../c\"\n=src/main:18: E10 </../c>\n=src/main:19: E10 \"e\"\n\
+     =src/main:20: E10 <e>\n=src/main:21: E10 \"\"\n=src/main:22: E10 <>",
     // A file that is entered once: under any spelling of its name, in each root anew, and only where the pragma isn't skipped.
     "put f 3\n#include \"o\"\n#include \"./x/..//o\"\n#include \"o\"\n=ok\nput o 2\n#pragma once\ntypedef long X;\n\
      =ok\nroot f\n=ok\ndiagnostics f\n=rows 0\ndump f\n=rows 1\n=typedef long X;\nput o 2\n#pragma once extra\n\
      typedef long X;\n=ok\ndiagnostics f\n=rows 0\nput o 4\n#if 0\n#pragma once\n#endif\ntypedef long X;\n=ok\n\
-     diagnostics f\n=rows 2\n=o:4: E33 X\n=o:4: E33 X",
-    "put f 3\n#pragma once\n#include \"f\"\n#include \"o\"\n=ok\nput o 2\n#pragma once\ntypedef long X;\n=ok\n\
-     put g 1\n#include \"o\"\n=ok\nroot f\n=ok\nroot g\n=ok\ndiagnostics f\n=rows 0\ndump f\n=rows 1\n\
-     =typedef long X;\ndump g\n=rows 1\n=typedef long X;",
-    "define A 1 + 2\n=ok\nput f 10\n#define A 1+2\n#define A 1 +/**/2 // three\n#define A 1 + 3\n#if A == 3\n\
-     #undef A\n#define A 4\n#endif\n#if A == 4\n#error a\n#endif\n=ok\nroot f\n=ok\ndiagnostics f\n=rows 2\n\
-     =f:3: E17 A\n=f:9: E16 error a",
+     diagnostics f\n=rows 2\n=o:4: E33 X\n=o:4: E33 X ¶ put f 3\n#pragma once\n#include \"f\"\n#include \"o\"\n=ok\n\
+     put o 2\n#pragma once\ntypedef long X;\n=ok\nput g 1\n#include \"o\"\n=ok\nroot f\n=ok\nroot g\n=ok\n\
+     diagnostics f\n=rows 0\ndump f\n=rows 1\n=typedef long X;\ndump g\n=rows 1\n=typedef long X; ¶ define A 1 + 2\n\
+     =ok\nput f 10\n#define A 1+2\n#define A 1 +/**/2 // three\n#define A 1 + 3\n#if A == 3\n#undef A\n#define A 4\n\
+     #endif\n#if A == 4\n#error a\n#endif\n=ok\nroot f\n=ok\ndiagnostics f\n=rows 2\n=f:3: E17 A\n=f:9: E16 error a",
     // What an include may name: one string literal or `<..>`, the rest of the line is passed over.
     "put f 8\n#include\n#include L\"b\"\n#include \"b\n#include <b\n#include b\n#include 1\n#include \"b\" \"c\"\n\
      #include <b> c\n=ok\nput b 1\ntypedef long X;\n=ok\nroot f\n=ok\ndiagnostics f\n=rows 7\n=f:1: E11 include\n\
@@ -61,12 +52,11 @@ static FILES: [&str; 17] = [
      =ok\nroot f\n=ok\ndiagnostics f\n=rows 5\n=g:2: E13 if\n=g:1: E13 ifndef\n=f:5: E16 error f\n=f:2: E13 ifdef\n\
      =f:1: E13 if",
     // What has no open group in its file is out of place, in skipped lines too.
-    "put f 15\n#endif\n#elif 1/0\n#else\n#if 0\n#if 1/0\n#else\n#elif 1\n#else\n#endif\n#endif\n#if 1\n\
-     #include \"g\"\n#error f\n#endif\n#endif\n=ok\nput g 2\n#endif\n#else\n=ok\nroot f\n=ok\ndiagnostics f\n\
-     =rows 9\n=f:1: E12 endif\n=f:2: E12 elif\n=f:3: E12 else\n=f:7: E12 elif\n=f:8: E12 else\n=g:1: E12 endif\n\
-     =g:2: E12 else\n=f:13: E16 error f\n=f:15: E12 endif",
-    "put f 4\n#if 0\n#if 1\n#else\n#endif\n=ok\nroot f\n=ok\ndiagnostics f\n=rows 1\n=f:1: E13 if\nput l 2\n#if 1\n\
-     #include \"l\"\n=ok\nroot l\n=ok\ndiagnostics l\n=rows 1\n=l:2: E19",
+    "put f 15\n#endif\n#elif 1/0\n#else\n#if 0\n#if 1/0\n#else\n#elif 1\n#else\n#endif\n#endif\n#if 1\n#include \"g\"\n\
+     #error f\n#endif\n#endif\n=ok\nput g 2\n#endif\n#else\n=ok\nroot f\n=ok\ndiagnostics f\n=rows 9\n=f:1: E12 endif\n\
+     =f:2: E12 elif\n=f:3: E12 else\n=f:7: E12 elif\n=f:8: E12 else\n=g:1: E12 endif\n=g:2: E12 else\n\
+     =f:13: E16 error f\n=f:15: E12 endif ¶ put f 4\n#if 0\n#if 1\n#else\n#endif\n=ok\nroot f\n=ok\ndiagnostics f\n\
+     =rows 1\n=f:1: E13 if\nput l 2\n#if 1\n#include \"l\"\n=ok\nroot l\n=ok\ndiagnostics l\n=rows 1\n=l:2: E19",
     // A unit may go on over files, and a fault of the preprocessor stands where it comes.
     "put a 3\ntypedef long\n#include \"b\"\n;\n=ok\nput b 2\n#pragma prefix \"P\"\n_any\n=ok\nroot a\n=ok\n\
      diagnostics a\n=rows 1\n=b:1: E25 pragma\nput a 6\n#if\n#endif\ntypedef long\n\

@@ -38,23 +38,15 @@ fn is_named(name: &str, spelling: &str) -> bool {
     name.trim_end_matches(')').eq_ignore_ascii_case(spelling)
 }
 
-static KINDS: [&str; 23] = [
+static KINDS: [&str; 15] = [
     "Boolean · TYPEDEF · false · Valuebase => like a keyword: Miscased",
-    "Foo · i · L · interfaces · x_2 => Identifier",
-    "_interface · _Foo => Escaped",
-    "_ · _1 · __a => Bad(NothingEscaped)",
-    "18446744073709551616 · 0x10000000000000000 => Bad(IntegerTooLarge)",
+    "Foo · i · L · interfaces · x_2 => Identifier ¶ _interface · _Foo => Escaped",
+    "_ · _1 · __a => Bad(NothingEscaped) ¶ 18446744073709551616 · 0x10000000000000000 => Bad(IntegerTooLarge)",
     "08 · 0x · 0xg · 12u · 1_ · 99999999999999999999z => Bad(MalformedInteger)",
-    ".5 · 1.5 · 1e+3 · 1D · 0x1. => Bad(FloatingLiteral)",
-    "<a/b> · <> => HeaderName",
-    "/* => Bad(UnclosedComment)",
+    ".5 · 1.5 · 1e+3 · 1D · 0x1. => Bad(FloatingLiteral) ¶ <a/b> · <> => HeaderName ¶ /* => Bad(UnclosedComment)",
     // The last one is empty.
-    "$ · @ · \\ ·  => Bad(UnknownByte)",
-    "'a' · '\\0' => Character",
-    "L'a' · L'\\u0041' => WideCharacter",
-    "\"\" · \"'\" => String",
-    "L\"a\" => WideString",
-    "'a · L' · \"a\\\" => Bad(UnclosedLiteral)",
+    "$ · @ · \\ ·  => Bad(UnknownByte) ¶ 'a' · '\\0' => Character ¶ L'a' · L'\\u0041' => WideCharacter",
+    "\"\" · \"'\" => String ¶ L\"a\" => WideString ¶ 'a · L' · \"a\\\" => Bad(UnclosedLiteral)",
     "'' · 'ab' · '\\qa' · '\\xg' · '\\u0041' => Bad(NotOneCharacter)",
     "'\\q' · '\\400' · L'\\400' · \"\\u0041\" · \"\\0\" · \"a\0\" => Bad(BadEscape)",
     "abstract · component · consumes · custom · emits · eventtype · factory · finder · fixed · home · import · multiple · \

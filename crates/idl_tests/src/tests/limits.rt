@@ -3,30 +3,20 @@
 use super::support::{have_replies, have_rows};
 use std::test::Fail;
 
-static LINES: [&str; 4] = [
-    "put a.idl 200000`200000×\n`\n=ok",
-    "put a.idl 200001`200001×\n`\n=refused 5",
-    "put a//b 200001`200001×\n`\n=refused 2",
-    "splice a.idl 1 0 200001`200001×\n`\n=refused 3",
+static LINES: [&str; 2] = [
+    "put a.idl 200000`200000×\n`\n=ok ¶ put a.idl 200001`200001×\n`\n=refused 5",
+    "put a//b 200001`200001×\n`\n=refused 2 ¶ splice a.idl 1 0 200001`200001×\n`\n=refused 3",
 ];
 
-static COMMANDS: [&str; 16] = [
-    "put a.idl 1\n`4096×x`\n=ok",
-    "put a.idl 1\n`4097×x`\n=refused 5",
-    "put a.idl 2\n`4097×x`\n=refused 10",
-    "define X `4096×x`\n=ok",
-    "define X `4097×x`\n=refused 5",
-    "define 1x `4097×x`\n=refused 5",
-    "search`256× d`\n=ok",
-    "search`257× d`\n=refused 5",
-    "search`257× d` a//b\n=refused 2",
+static COMMANDS: [&str; 7] = [
+    "put a.idl 1\n`4096×x`\n=ok ¶ put a.idl 1\n`4097×x`\n=refused 5 ¶ put a.idl 2\n`4097×x`\n=refused 10",
+    "define X `4096×x`\n=ok ¶ define X `4097×x`\n=refused 5 ¶ define 1x `4097×x`\n=refused 5",
+    "search`256× d`\n=ok ¶ search`257× d`\n=refused 5 ¶ search`257× d` a//b\n=refused 2",
     // A command of that length is one line, and too long for a name.
-    "root `8187×x`\n=refused 2",
-    "root `8188×x`\n=refused 1\nroot a.idl\n=ok",
+    "root `8187×x`\n=refused 2 ¶ root `8188×x`\n=refused 1\nroot a.idl\n=ok",
     // What is there already goes past no limit.
-    "`4096×put f@ 0\n=ok\n`put f0 0\n=refused 5\nput f1 0\n=ok",
-    "`256×root f@\n=ok\n`root f0\n=refused 5\nroot f1\n=refused 8",
-    "`4096×define f@ x\n=ok\n`define f0 x\n=refused 5\ndefine f1 x\n=ok",
+    "`4096×put f@ 0\n=ok\n`put f0 0\n=refused 5\nput f1 0\n=ok ¶ `256×root f@\n=ok\n`root f0\n=refused 5\nroot f1\n\
+     =refused 8 ¶ `4096×define f@ x\n=ok\n`define f0 x\n=refused 5\ndefine f1 x\n=ok",
     // Files are entered to a depth of 64.
     "put f0.idl 1\n`62×#include \"f@.idl\"\n=ok\nput f@.idl 1\n`#include \"f63.idl\"\n=ok\nput f63.idl 0\n=ok\nroot f0.idl\n\
      =ok\ndiagnostics f0.idl\n=rows 0\nput f64.idl 0\n=ok\nput f63.idl 1\n#include \"f64.idl\"\n=ok\ndiagnostics f0.idl\n\
@@ -36,13 +26,9 @@ static COMMANDS: [&str; 16] = [
      root f.idl\n=ok\nabsent f.idl\n=rows 0",
 ];
 
-static REPLACEMENTS: [&str; 2] = [
+static TURNS: [&str; 3] = [
     // Thirty macros, each replaced by two of the next, make more than a million replacements, and nineteen make less.
-    "#define M0`29× M@ M@\n#define M@`\nM0\n=a:31: E19",
-    "#define M0`18× M@ M@\n#define M@`\nM0",
-];
-
-static TURNS: [&str; 2] = [
+    "#define M0`29× M@ M@\n#define M@`\nM0\n=a:31: E19 ¶ #define M0`18× M@ M@\n#define M@`\nM0",
     // A million tokens are those of a condition.
     "#define M0`5× M@ M@ M@ M@ M@ M@ M@ M@ M@ M@\n#define M@` 1 1 1 1 1 1 1 1 1 1\n#if M0\n#endif\n;\n\
      =a:7: E18 if\n=a:9: E19",
@@ -51,14 +37,10 @@ static TURNS: [&str; 2] = [
      `8×M0 ``9×M1 ``9×M2 ``9×M3 ``9×M4 ``10×M5 `\n#\n=a:8: E19",
 ];
 
-static GROUPS: [&str; 2] = [
-    "`90000×#if 1\n`typedef long X;`90000×\n#endif`\n=typedef long X;",
-    "`90000×#if 1\n`typedef long X;`89999×\n#endif`\n#else\n=a:1: E13 if",
-];
-
-// A chain of macros, each of which is replaced by the next, and parentheses in one another.
+// Groups in one another, a chain of macros, each of which is replaced by the next, and parentheses.
 static DEPTHS: [&str; 2] = [
-    "#define M0`99999× M@\n#define M@` X\ntypedef long M0;\n=typedef long X;",
+    "`90000×#if 1\n`typedef long X;`90000×\n#endif`\n=typedef long X; ¶ `90000×#if 1\n`typedef long X;`89999×\n\
+     #endif`\n#else\n=a:1: E13 if ¶ #define M0`99999× M@\n#define M@` X\ntypedef long M0;\n=typedef long X;",
     "#if \\`10000×\n((((((((((\\`\n1\\`10000×\n))))))))))\\`\n\n#error taken\n#endif\n=a:20004: E16 error taken",
 ];
 
@@ -73,21 +55,11 @@ fn commands_and_projects_are_bounded(rt: HostRuntime) -> Result<(), Fail> {
 }
 
 #[test]
-fn the_replacements_of_a_root_are_bounded(rt: HostRuntime) -> Result<(), Fail> {
-    have_rows(&rt, &REPLACEMENTS)
-}
-
-#[test]
-fn the_tokens_and_turns_of_a_root_are_bounded(rt: HostRuntime) -> Result<(), Fail> {
+fn the_turns_of_a_root_are_bounded(rt: HostRuntime) -> Result<(), Fail> {
     have_rows(&rt, &TURNS)
 }
 
 #[test]
-fn groups_stand_in_one_another_to_any_depth(rt: HostRuntime) -> Result<(), Fail> {
-    have_rows(&rt, &GROUPS)
-}
-
-#[test]
-fn replacements_and_parentheses_do_so_too(rt: HostRuntime) -> Result<(), Fail> {
+fn what_stands_in_one_another_may_do_so_to_any_depth(rt: HostRuntime) -> Result<(), Fail> {
     have_rows(&rt, &DEPTHS)
 }

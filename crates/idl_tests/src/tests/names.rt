@@ -64,14 +64,12 @@ fn joined(directory: &[u8], operand: &[u8]) -> Option<Name> {
     join(&Directory::new(directory)?, operand)
 }
 
-static OPERANDS: [&str; 6] = [
+static OPERANDS: [&str; 4] = [
     ". a.idl => a.idl ¶ . a\x7f/../b => b ¶ . `255×n` => `255×n` ¶ . ./. · . a b · . `256×n` => none",
     "/ a.idl => /a.idl ¶ / `254×n` => /`254×n` ¶ / // · / `255×n` => none",
-    "/a ../c => /c ¶ /a ../../c · /a ../../a/c => none",
-    "a  => a ¶ a .. => none",
+    "/a ../c => /c ¶ /a ../../c · /a ../../a/c => none ¶ a  => a ¶ a .. => none",
     "a/b c => a/b/c ¶ a/b .//./c//d => a/b/c/d ¶ a/b ../c => a/c ¶ a/b ../../c => c ¶ a/b ../../../c => ../c ¶ \
-     a/b /c/./d/../e => /c/e ¶ a/b /../c => none ¶ a/b .. => a",
-    ".. ../c => ../../c ¶ .. x/../c => ../c",
+     a/b /c/./d/../e => /c/e ¶ a/b /../c => none ¶ a/b .. => a ¶ .. ../c => ../../c ¶ .. x/../c => ../c",
 ];
 
 #[test]

@@ -3,97 +3,74 @@
 use super::support::have_rows;
 use std::test::Fail;
 
-static ROWS: [&str; 34] = [
-    "",
-    "typedef unsigned long long _boolean;\n=typedef unsigned long long _boolean;",
-    "typedef long _x; typedef\nObject _any\t;\n=typedef long x;\n=typedef Object _any;",
-    "typedef un\\\nsigned/**/long x;\n=typedef unsigned long x;",
-    "\"a\"; L\"b\" /* c */\n\"d\";\n=a:1: E20 \"a\"\n=a:2: E08 \"d\"",
-    "typedef long $;\ntypedef char X\n=a:1: E01 $\n=a:2: E20 typedef",
-    "typedef FOO\n$ ;\n=a:2: E01 $",
-    "typedef /* a\n ; */ long // b ;\n=a:1: E20 typedef",
-    "typedef long x; #\n;\n=a:1: E01 #",
-    "typedef long 'a;\n;\n=a:1: E02 'a;",
-    "typedef long 'ab';\n=a:1: E03 'ab'",
-    "typedef long \"\\q\";\n=a:1: E04 \"\\q\"",
-    "typedef long 0x;\n=a:1: E05 0x",
-    "typedef long 1.5;\n=a:1: E06 1.5",
-    "typedef long 18446744073709551616;\n=a:1: E07 18446744073709551616",
-    "typedef long \"a\" \"b\"\nL\"c\" 'ab';\n=a:2: E08 L\"c\"",
-    "\"a\" L\"\\q\";\n=a:1: E04 L\"\\q\"",
-    "typedef long x; /*\n;\n=a:1: E09 /*",
-    "typedef long 1;\n=a:1: E20 typedef",
-    "typedef long 1 $ 'ab';\n=a:1: E01 $",
-    "typedef short long X;\n=a:1: E20 typedef",
-    "\n;\n=a:2: E20 ;",
-    "typedef long Boolean $;\n=a:1: E36 Boolean",
-    "typedef FOO X;\ntypedef long X;\n=a:1: E30 FOO",
+static ROWS: [&str; 13] = [
+    " ¶ typedef unsigned long long _boolean;\n=typedef unsigned long long _boolean;",
+    "typedef long _x; typedef\nObject _any\t;\n=typedef long x;\n=typedef Object _any; ¶ typedef un\\\n\
+     signed/**/long x;\n=typedef unsigned long x; ¶ \"a\"; L\"b\" /* c */\n\"d\";\n=a:1: E20 \"a\"\n=a:2: E08 \"d\"",
+    "typedef long $;\ntypedef char X\n=a:1: E01 $\n=a:2: E20 typedef ¶ typedef FOO\n$ ;\n=a:2: E01 $",
+    "typedef /* a\n ; */ long // b ;\n=a:1: E20 typedef ¶ typedef long x; #\n;\n=a:1: E01 #",
+    "typedef long 'a;\n;\n=a:1: E02 'a; ¶ typedef long 'ab';\n=a:1: E03 'ab'",
+    "typedef long \"\\q\";\n=a:1: E04 \"\\q\" ¶ typedef long 0x;\n=a:1: E05 0x ¶ typedef long 1.5;\n=a:1: E06 1.5",
+    "typedef long 18446744073709551616;\n=a:1: E07 18446744073709551616 ¶ typedef long \"a\" \"b\"\nL\"c\" 'ab';\n\
+     =a:2: E08 L\"c\" ¶ \"a\" L\"\\q\";\n=a:1: E04 L\"\\q\" ¶ typedef long x; /*\n;\n=a:1: E09 /* ¶ typedef long 1;\n\
+     =a:1: E20 typedef ¶ typedef long 1 $ 'ab';\n=a:1: E01 $ ¶ typedef short long X;\n=a:1: E20 typedef ¶ \n;\n\
+     =a:2: E20 ; ¶ typedef long Boolean $;\n=a:1: E36 Boolean ¶ typedef FOO X;\ntypedef long X;\n=a:1: E30 FOO",
     // The first branch whose condition holds is taken, and no condition after it is evaluated.
     "#if 0\n#error a\n#elif 1\n#error b\n#elif 1/0\n#error c\n#else\n#error d\n#endif\n=a:4: E16 error b",
     "#if 1\n#elif (\n#error a\n#elif\n#endif\n#if 0\n#if 1\n#elif 1/0\n#endif\n#elif 0\n#else\n#error b\n#endif\n\
      =a:12: E16 error b",
     // A faulty condition doesn't hold.
     "#if 0\n#elif\n#error a\n#elif 1/0\n#error b\n#elif 2\n#error c\n#endif\n=a:2: E18 elif\n=a:4: E18 elif\n\
-     =a:7: E16 error c",
-    "#define A\n#if defined A && defined(A) && !defined B && !defined\n#error a\n#endif\n#if defined(\n\
-     #elif 1 || 1/0\n#error b\n#endif\n=a:3: E16 error a\n=a:5: E18 if\n=a:7: E16 error b",
+     =a:7: E16 error c ¶ #define A\n#if defined A && defined(A) && !defined B && !defined\n#error a\n#endif\n\
+     #if defined(\n#elif 1 || 1/0\n#error b\n#endif\n=a:3: E16 error a\n=a:5: E18 if\n=a:7: E16 error b",
     // A group that asks for a macro needs its name; what follows the name is passed over.
     "#ifdef\n#error a\n#else\n#error b\n#endif\n#ifndef 1\n#error c\n#endif\n=a:1: E14 ifdef\n=a:4: E16 error b\n\
-     =a:6: E14 ifndef",
-    "#ifndef defined\n#error a\n#endif\n#ifdef defined\n#error b\n#endif\n#define A\n#ifdef A extra\n#error c\n\
-     #endif\n#undef A extra\n#ifdef A\n#error d\n#endif extra\n=a:2: E16 error a\n=a:9: E16 error c",
+     =a:6: E14 ifndef ¶ #ifndef defined\n#error a\n#endif\n#ifdef defined\n#error b\n#endif\n#define A\n#ifdef A extra\n\
+     #error c\n#endif\n#undef A extra\n#ifdef A\n#error d\n#endif extra\n=a:2: E16 error a\n=a:9: E16 error c",
     // Macros that can't be defined or undefined, and ones that may be again.
     "#define\n#define 1 2\n#define defined\n#define F(x) x\n#undef\n#undef 1\n#undef defined\n#undef F\n\
      #define F (long)\ntypedef F X;\n=a:1: E14 define\n=a:2: E14 define\n=a:3: E14 define\n=a:4: E14 define\n\
-     =a:5: E14 undef\n=a:6: E14 undef\n=a:10: E20 typedef",
-    "#\n#warning a\n#ident \"b\"\n  #  /* */ // c\ntypedef\n# warning d\nlong\n#\nX;\n/*\n\
-     */ #error  a\t\"b  c\" // d\n=a:11: E16 error a \"b  c\"",
+     =a:5: E14 undef\n=a:6: E14 undef\n=a:10: E20 typedef ¶ #\n#warning a\n#ident \"b\"\n  #  /* */ // c\ntypedef\n\
+     # warning d\nlong\n#\nX;\n/*\n*/ #error  a\t\"b  c\" // d\n=a:11: E16 error a \"b  c\"",
     // Pragmas.
     "#pragma prefix \"P\"\ntypedef long X;\n#pragma ID X \"IDL:x:1.0\"\n#pragma version X 1.1\n#pragma\n\
      #pragma hdrstop\n#pragma Prefix 1\n#define once\n#pragma once\n#if 0\n#pragma version\n#endif\ntypedef short Y;\n\
-     =typedef long X;\n=typedef short Y;",
-    "typedef\n#pragma version X 1.1\nlong X;\n#pragma prefix\n#pragma ID 1\n#pragma version X 65536.0\n=a:2: E25 pragma\n\
-     =a:4: E26 pragma\n=a:5: E26 pragma\n=a:6: E26 pragma",
+     =typedef long X;\n=typedef short Y; ¶ typedef\n#pragma version X 1.1\nlong X;\n#pragma prefix\n#pragma ID 1\n\
+     #pragma version X 65536.0\n=a:2: E25 pragma\n=a:4: E26 pragma\n=a:5: E26 pragma\n=a:6: E26 pragma",
 ];
 
 // Units in their scopes, and the names that they declare and use.
-static DECLARATIONS: [&str; 25] = [
+static DECLARATIONS: [&str; 13] = [
     // Units, and the scopes that hold them.
     "module M { interface I { oneway void f(in long x); }; };\n=module M {\n=  interface I {\n\
      =    oneway void f ( in long x );\n=  };\n=};",
-    "};\nvoid f();\ninterface I { module M { interface J; struct S; }; };\n=a:1: E22 }\n=a:2: E22 void\n=a:3: E22 module",
-    "module M {\n\n=a:2: E23",
-    "module M { typedef long X };\n=a:1: E20 typedef",
+    "};\nvoid f();\ninterface I { module M { interface J; struct S; }; };\n=a:1: E22 }\n=a:2: E22 void\n\
+     =a:3: E22 module ¶ module M {\n\n=a:2: E23 ¶ module M { typedef long X };\n=a:1: E20 typedef",
     "valuetype V { };\nconst double D = 1.5;\nconst long K = 1.5;\nstruct P { double x; };\n=a:1: E21 valuetype\n\
-     =a:2: E21 double\n=a:3: E06 1.5",
-    "`64×module M@ {\n``64×};\n`\nmodule N {`64×module M@ {``65×};`\n=a:130: E24 {",
+     =a:2: E21 double\n=a:3: E06 1.5 ¶ `64×module M@ {\n``64×};\n`\nmodule N {`64×module M@ {``65×};`\n=a:130: E24 {",
     // Names of other scopes, and what their use introduces.
-    "typedef long ArgType;\nconst long I = 10;\ntypedef short Y;\ninterface A {\nstruct S {\nstruct T {\nArgType x[I];\n\
-     long y;\n} m;\n};\ntypedef string ArgType;\nenum I { I1, I2 };\ntypedef short Y;\n};\n=a:11: E35 ArgType\n\
-     =a:12: E35 I",
-    "typedef long ArgType;\nmodule M {\nstruct S { ArgType x; };\ntypedef string ArgType;\nstruct T { ArgType y; };\n};\n\
-     =typedef long ArgType;\n=module M {\n=  struct S { ::ArgType x; };\n=  typedef string ArgType;\n\
-     =  struct T { ::M::ArgType y; };\n=};",
+    "typedef long ArgType;\nconst long I = 10;\ntypedef short Y;\ninterface A {\nstruct S {\nstruct T {\n\
+     ArgType x[I];\nlong y;\n} m;\n};\ntypedef string ArgType;\nenum I { I1, I2 };\ntypedef short Y;\n};\n\
+     =a:11: E35 ArgType\n=a:12: E35 I ¶ typedef long ArgType;\nmodule M {\nstruct S { ArgType x; };\n\
+     typedef string ArgType;\nstruct T { ArgType y; };\n};\n=typedef long ArgType;\n=module M {\n\
+     =  struct S { ::ArgType x; };\n=  typedef string ArgType;\n=  struct T { ::M::ArgType y; };\n=};",
     "typedef long T;\nmodule M { typedef T U; };\nmodule M { typedef short T; };\n=typedef long T;\n=module M {\n\
-     =  typedef ::T U;\n=};\n=module M {\n=  typedef short T;\n=};",
-    "typedef long T;\nmodule M { typedef T U; typedef short T; };\n=a:2: E35 T",
-    "typedef long Boolean;\ntypedef long foo;\ntypedef long Foo;\ntypedef FOO bar;\n=a:1: E36 Boolean\n=a:3: E33 Foo\n\
-     =a:4: E32 FOO",
-    "typedef long _interface;\ntypedef _interface x;\n=typedef long _interface;\n=typedef ::_interface x;",
-    "module M { typedef long T; struct m { long x; }; };\ntypedef U A;\ntypedef M::U B;\ntypedef M C;\ntypedef M::T::T D;\n\
-     typedef M::t E;\nconst long K = K;\n=a:1: E34 m\n=a:2: E30 U\n=a:3: E30 U\n=a:4: E37 M\n=a:5: E38 T\n=a:6: E32 t\n\
-     =a:7: E37 K",
+     =  typedef ::T U;\n=};\n=module M {\n=  typedef short T;\n=}; ¶ typedef long T;\nmodule M { typedef T U; \
+     typedef short T; };\n=a:2: E35 T ¶ typedef long Boolean;\ntypedef long foo;\ntypedef long Foo;\n\
+     typedef FOO bar;\n=a:1: E36 Boolean\n=a:3: E33 Foo\n=a:4: E32 FOO ¶ typedef long _interface;\n\
+     typedef _interface x;\n=typedef long _interface;\n=typedef ::_interface x; ¶ module M { typedef long T; \
+     struct m { long x; }; };\ntypedef U A;\ntypedef M::U B;\ntypedef M C;\ntypedef M::T::T D;\ntypedef M::t E;\n\
+     const long K = K;\n=a:1: E34 m\n=a:2: E30 U\n=a:3: E30 U\n=a:4: E37 M\n=a:5: E38 T\n=a:6: E32 t\n=a:7: E37 K",
     // Bases.
     "interface A { void f(); };\ninterface B : A { };\ninterface C : A { };\ninterface D : B, C { };\n\
      interface E { typedef long T; };\ninterface F { typedef short T; };\ninterface G : E, F { };\n\
      interface H : E, F { typedef T U; };\n=a:8: E31 T",
-    "interface A { void f(); };\ninterface H : A { void F(); };\n=a:2: E42 F",
-    "interface A { void f(); };\ninterface B : A { };\ninterface C : A { };\ninterface D : B, C { };\n=interface A {\n\
-     =  void f ( );\n=};\n=interface B : ::A {\n=};\n=interface C : ::A {\n=};\n=interface D : ::B, ::C {\n=};",
-    "interface A;\ninterface B : A { };\n=a:2: E40 A",
-    "interface A { void f(); };\ninterface B { void f(); };\nlocal interface L { };\ninterface C : A, A { };\n\
-     interface D : A, B { };\ninterface E : L { };\nlocal interface F : L, A { };\ninterface G : G { };\n=a:4: E41 A\n\
-     =a:5: E42 B\n=a:6: E43 L\n=a:8: E40 G",
+    "interface A { void f(); };\ninterface H : A { void F(); };\n=a:2: E42 F ¶ interface A { void f(); };\n\
+     interface B : A { };\ninterface C : A { };\ninterface D : B, C { };\n=interface A {\n=  void f ( );\n=};\n\
+     =interface B : ::A {\n=};\n=interface C : ::A {\n=};\n=interface D : ::B, ::C {\n=};",
+    "interface A;\ninterface B : A { };\n=a:2: E40 A ¶ interface A { void f(); };\ninterface B { void f(); };\n\
+     local interface L { };\ninterface C : A, A { };\ninterface D : A, B { };\ninterface E : L { };\n\
+     local interface F : L, A { };\ninterface G : G { };\n=a:4: E41 A\n=a:5: E42 B\n=a:6: E43 L\n=a:8: E40 G",
     // What is declared ahead.
     "struct S;\nstruct S;\nstruct S { long x; };\nstruct S;\ninterface I;\nlocal interface I;\nunion S;\n=a:6: E39 I\n\
      =a:7: E39 S",
@@ -102,9 +79,7 @@ static DECLARATIONS: [&str; 25] = [
      =a:6: E30 A",
     // Nesting, and what isn't closed.
     "const long K = `64×(`1`64×)`;\nconst long L = `65×(`1`65×)`;\nconst long M = `64×-(`1`64×)`;\nconst long N = --1;\n\
-     =a:2: E24 (\n=a:4: E20 const",
-    "`65×module M@ {\n``64×};\n`};\n=a:65: E24 {",
-    "struct S { long a;\n=a:1: E20 struct",
+     =a:2: E24 (\n=a:4: E20 const ¶ `65×module M@ {\n``64×};\n`};\n=a:65: E24 { ¶ struct S { long a;\n=a:1: E20 struct",
     "const long K = 18446744073709551616;\nconst string S = \"abc;\n=a:1: E07 18446744073709551616\n=a:2: E02 \"abc;",
     // A diamond of bases, of which each is asked once.
     "interface A0 { typedef long T; };\n#define B A0\n`40×interface L@ : B { };\ninterface R@ : B { };\n\

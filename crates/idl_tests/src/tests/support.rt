@@ -138,11 +138,13 @@ pub fn answers(
     Ok(())
 }
 
-/// A new session for each text has these replies, its lines with `=` before them, to the other lines.
+/// For each text, with ` ¶ ` between one and the next, a new session replies to the lines without `=` by the other lines.
 pub fn have_replies(rt: &(impl Abort + AllocGlobal), texts: &[&str]) -> Result<(), Fail> {
-    for text in texts {
-        let (script, want) = parted(rt.alloc(), text)?;
-        has_replies(rt, script.as_str(), want.as_str())?;
+    for list in texts {
+        for text in list.split(" ¶ ") {
+            let (script, want) = parted(rt.alloc(), text)?;
+            has_replies(rt, script.as_str(), want.as_str())?;
+        }
     }
     Ok(())
 }
@@ -152,11 +154,13 @@ fn has_replies(rt: &(impl Abort + AllocGlobal), script: &str, want: &str) -> Res
     answers(rt, &mut session, script, want.as_bytes())
 }
 
-/// For each text a root `a` of the lines without `=` has the other lines as its rows.
+/// For each text, with ` ¶ ` between one and the next, a root `a` of the lines without `=` has the other lines as its rows.
 pub fn have_rows(rt: &(impl Abort + AllocGlobal), texts: &[&str]) -> Result<(), Fail> {
-    for text in texts {
-        let (lines, rows) = parted(rt.alloc(), text)?;
-        has_rows(rt, lines.as_str(), rows.as_str())?;
+    for list in texts {
+        for text in list.split(" ¶ ") {
+            let (lines, rows) = parted(rt.alloc(), text)?;
+            has_rows(rt, lines.as_str(), rows.as_str())?;
+        }
     }
     Ok(())
 }

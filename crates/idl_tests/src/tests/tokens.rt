@@ -32,7 +32,7 @@ fn print(alloc: Global, text: &mut String, token: &PlacedToken) -> Result<(), Al
     write!(text, "{between}{}{start}{after}{bytes}", token.line)
 }
 
-static TOKENS: [&str; 10] = [
+static TOKENS: [&str; 9] = [
     " =>  ¶ \n \t\r\x0c\n =>  ¶ typedef\t_long x1;\n\n\x0b;;12 => 1^typedef 1:_long 1:x1 1:~; 3^; 3:; 3:12",
     "a::b:::c => 1^a 1:~:: 1:b 1:~:: 1:: 1:c ¶ <<=>>=<== => 1^<< 1:= 1:>> 1:= 1:<= 1:=",
     "1e+2 0x1e+2 1.e-.5 a.5 ..5 => 1^1e+2 1:0x1e 1:+ 1:2 1:1.e-.5 1:a 1:~.5 1:. 1:.5",
@@ -40,9 +40,8 @@ static TOKENS: [&str; 10] = [
     "\"b\\\"\nx => 1^\"b\\\" 2^x ¶ a//b\nc/*d*/e/**/(/ * /*/*/f => 1^a 2^c 2:e 2:( 2:/ 2:* 2:f",
     "a/*b\n*/c/* /* */ d */ => 1^a 2:c 2:d 2:* 2:/ ¶ #a/*\n\n*/(\nb => 1^# 1:a 3:( 4^b ¶ a /*b\n*\n/ => 1^a 1:/*",
     "X(X (X\\\n( => 1^X 1:~( 1:X 1:( 1:X 2:~( ¶ ab\\\nc\\\n\\\nd\ne\\ => 1^abcd 5^e 5:~\\ ¶ /\\\n/ a\\\nb\nc => 4^c",
-    "/* *\\\n/a => 2^a",
-    " # include <a b> /*c*/ <d> x<\n<a> include <b> => 1^# 1:include 1:<a b> 1:<d> 1:x 1:~< 2^< 2:a 2:~> 2:include \
-     2:< 2:b 2:~>",
+    "/* *\\\n/a => 2^a ¶  # include <a b> /*c*/ <d> x<\n\
+     <a> include <b> => 1^# 1:include 1:<a b> 1:<d> 1:x 1:~< 2^< 2:a 2:~> 2:include 2:< 2:b 2:~>",
     "#include /*\n*/ <//>/**/>\n# include <a\n> => 1^# 1:include 2:<//> 2:> 3^# 3:include 3:< 3:a 4^>",
 ];
 

@@ -1,24 +1,20 @@
-//! The units of a text, and what is said of each.
+//! The units of a text: every production of the grammar, what is long or deep, and the faults of units.
 
-use super::support::{Telling, file_of};
-use super::words::{pragma_word, tree_word};
-use idl_event::{Event, Expansion, FileName, FileTokens, LexedFile, Place};
-use idl_lex::PlacedToken;
-use idl_source::Name;
+use super::expansions::expansion_of;
+use super::support::{Telling, are_told};
+use idl_event::Expansion;
 use idl_syntax::{SyntaxFault, UnitTree, parse};
+use idl_tree::{Pragma, ScopedName};
 use idl_unit::{Unit, UnitText, split};
 use std::alloc::{AllocError, Global};
+use std::test::Fail;
 
-/// Of the units of a text the word of a tree, a pragma, or a fault with the number of its token, from 0: with ` / ` between,
-/// and once where some side by side are the same. Lines that begin with `#` are pragmas.
-pub struct Units;
+// Of each unit that it is a tree, a pragma, or a fault with the number of its token; once where some in a row are alike.
+struct Units;
 
 impl Telling for Units {
     fn told(alloc: Global, text: &str) -> Result<String, AllocError> {
-        match Name::new(b"a.idl") {
-            Some(name) => told_of(alloc, &expansion_of(alloc, &name, text)?),
-            None => String::from_str(alloc, "no name"),
-        }
+        told_of(alloc, &expansion_of(alloc, text)?)
     }
 }
 
@@ -44,7 +40,7 @@ fn say_unit(alloc: Global, said: &mut String, unit: &UnitText) -> Result<(), All
 
 fn word_of(alloc: Global, parsed: &Result<UnitTree, SyntaxFault>) -> Result<String, AllocError> {
     match parsed {
-        Ok(UnitTree::Tokens(tree)) => String::from_str(alloc, tree_word(tree)),
+        Ok(UnitTree::Tokens(_tree)) => String::from_str(alloc, "tree"),
         Ok(UnitTree::Pragma(pragma)) => pragma_word(alloc, pragma),
         Err(SyntaxFault::Rule(fault)) => {
             format!(in alloc; "E{:02} {}", fault.code.number(), fault.index)
@@ -55,51 +51,82 @@ fn word_of(alloc: Global, parsed: &Result<UnitTree, SyntaxFault>) -> Result<Stri
     }
 }
 
-// What the lines expand to, each by itself: tokens of the text, and pragmas.
-fn expansion_of(alloc: Global, name: &Name, text: &str) -> Result<Expansion, AllocError> {
-    let place = Place {
-        file: FileName::new(alloc, name)?,
-        line: 1,
-    };
-    let mut events = Vec::new(alloc);
-    for line in text.split('\n') {
-        push_line(alloc, &mut events, &place, line)?;
-    }
-    Ok(Expansion::from_vec(events))
-}
-
-fn push_line(
-    alloc: Global,
-    events: &mut Vec<Event>,
-    place: &Place,
-    line: &str,
-) -> Result<(), AllocError> {
-    let lexed = LexedFile::new(alloc, file_of(alloc, line)?)?;
-    push_tokens(events, place, lexed.tokens())
-}
-
-fn push_tokens(
-    events: &mut Vec<Event>,
-    place: &Place,
-    tokens: FileTokens<'_>,
-) -> Result<(), AllocError> {
-    match tokens.as_slice() {
-        [hash, _word, ..] if hash.token.as_bytes() == b"#".as_slice() => {
-            let (_hash, pragma) = tokens.split_at(1);
-            events.push(Event::Pragma(place.clone()?, pragma.shared()?))?;
-            Ok(())
+// What a pragma is, with how long its text is.
+fn pragma_word(alloc: Global, pragma: &Pragma) -> Result<String, AllocError> {
+    match pragma {
+        Pragma::Prefix(text) => format!(in alloc; "prefix {}", text.len()),
+        Pragma::Id(name, text) => format!(in alloc; "ID {} {}", name_word(name), text.len()),
+        Pragma::Version(name, major, minor) => {
+            format!(in alloc; "version {} {major} {minor}", name_word(name))
         }
-        tokens => push_emitted(events, place, tokens),
     }
 }
 
-fn push_emitted(
-    events: &mut Vec<Event>,
-    place: &Place,
-    tokens: &[PlacedToken],
-) -> Result<(), AllocError> {
-    for token in tokens {
-        events.push(Event::Emitted(place.clone()?, token.token.clone()?))?;
+fn name_word(name: &ScopedName) -> &'static str {
+    match (name.is_global, name.rest.is_empty()) {
+        (false, true) => "name",
+        (false, false) => "name of parts",
+        (true, true) => "global name",
+        (true, false) => "global name of parts",
     }
-    Ok(())
+}
+
+static UNITS: [&str; 6] = [
+    "}; module M { interface I { interface I : A { interface I : ::A, B { local interface I { interface I; \
+     local interface I; struct S; union U; native N; => tree ¶ typedef A B; typedef A B, C[1]; typedef A B[1]; \
+     typedef struct S { A a; } T; enum E { A }; enum E { A, B, C }; struct S { A a; }; struct S { A a, b; A c; }; \
+     struct S { enum E { A } b; }; struct S { union U switch (A) { default: A a; } b; }; => tree",
+    "union U switch (A) { case 1: A a; }; union U switch (A) { default: A a[1]; case 2: A b; }; \
+     union U switch (A) { case 1: default: enum E { B } a; }; => tree ¶ exception E { }; exception E { A a[1]; }; \
+     exception E { A a; A b; }; readonly attribute A a; attribute A a; readonly attribute A a, b; \
+     readonly attribute A a raises (B); attribute A a, b; attribute A a getraises (B); attribute A a setraises (B, C); \
+     attribute A a getraises (B) setraises (C); => tree ¶ void f(); A f(in A a, in A b); A f(inout A a) raises (B); \
+     A f() context (\"a\" \"b\"); oneway void f(out A a); A f() raises (B, C) context (\"a\", \"b\"); => tree",
+    "const A B = C; const string<8> K = ::A; => tree ¶ typedef float T; typedef double T; typedef long double T; \
+     typedef any T; typedef Object T; typedef string T; typedef string<8> T; typedef wstring T; typedef wstring<8> T; \
+     typedef _long T; typedef A::B::C T; typedef ::A::B T; typedef sequence<A> T; typedef sequence<A, 8> T; \
+     typedef sequence<sequence<A> > T; typedef sequence<sequence<A, 8>, 8> T; => tree",
+    "typedef short T; typedef long T; typedef long long T; typedef unsigned short T; typedef unsigned long T; \
+     typedef unsigned long long T; typedef char T; typedef wchar T; typedef boolean T; typedef octet T; => tree",
+    "const short K = A; const long K = A; const long long K = A; const unsigned short K = A; const unsigned long K = A; \
+     const unsigned long long K = A; const char K = A; const wchar K = A; const boolean K = A; const octet K = A; \
+     => tree ¶ union U switch (short) { default: A a; }; union U switch (long) { default: A a; }; \
+     union U switch (long long) { default: A a; }; union U switch (unsigned short) { default: A a; }; \
+     union U switch (unsigned long) { default: A a; }; union U switch (unsigned long long) { default: A a; }; \
+     union U switch (char) { default: A a; }; union U switch (wchar) { default: A a; }; \
+     union U switch (boolean) { default: A a; }; union U switch (octet) { default: A a; }; => tree",
+    "const A K = ::A::B; const A K = 0x1F; const A K = 'a'; const A K = L'a'; const A K = \"a\" \"\" \"b\"; \
+     const A K = L\"a\" L\"b\"; const A K = TRUE; const A K = FALSE; const A K = (1 | +2 * ~3); => tree",
+];
+
+// 64 brackets may stand in one another; one more is a fault. A scope is opened by a unit, so that no unit nests deeply.
+static LONG: [&str; 4] = [
+    "`64×struct S {`A`64× a; }`; => tree ¶ `65×struct S {`A`65× a; }`; => E24 194",
+    "typedef `64×sequence<`A`64×> `T; => tree ¶ typedef `65×sequence<`A`65×> `T; => E24 130",
+    "`65×module M { ` => tree ¶ const A K = 1`99999×\n+ 1`; => tree ¶ typedef A B`10000×,\nC`; => tree",
+    "typedef A B`10000×\n[1]`; => tree ¶ struct S {`10000×A a;\n` => E20 at its end",
+];
+
+static FAULTS: [&str; 12] = [
+    // The first of several faults, before a tree that isn't there.
+    "typedef Boolean 08; => E36 1",
+    // With the first token through which the unit is no beginning of a tree.
+    "typedef long X Y; => E20 3 ¶ typedef long X => E20 at its end ¶ struct S { long a short b; }; => E20 5",
+    "const long K = 1 + ; => E20 6 ¶ const long K = --1; => E20 5 ¶ typedef sequence<sequence<long>> Q; => E20 6",
+    "module M { typedef long X }; => tree / E20 at its end / tree ¶ struct S { long a; => E20 at its end",
+    "A A => E20 at its end ¶ x x x x => E20 2 ¶ struct S { }; => E20 3 ¶ void f() context (L\"a\"); => E20 6",
+    "} typedef A X; => E20 at its end / tree ¶ #pragma prefix \"P\" => prefix 1",
+    "#pragma ID ::A::_b \"x\" => ID global name of parts 1 ¶ #pragma ID Boolean \"\" => ID name 0",
+    "#pragma version A::B 02.4 => version name of parts 2 4",
+    "#pragma version A 65535.65535 => version name 65535 65535 ¶ A\n#pragma prefix \"P\"\nf(); => tree / E25 0",
+    "#pragma prefix => E26 0 ¶ #pragma prefix L\"P\" => E26 0 ¶ #pragma prefix \"\\q\" => E26 0",
+    "#pragma ID module \"x\" => E26 0 ¶ #pragma ID A:: \"x\" => E26 0 ¶ #pragma version A 65536.0 => E26 0",
+    "#pragma version A 1.2.3 => E26 0",
+];
+
+#[test]
+fn units_are_of_these_trees_or_faults(rt: HostRuntime) -> Result<(), Fail> {
+    are_told::<Units>(&rt, &UNITS)?;
+    are_told::<Units>(&rt, &LONG)?;
+    are_told::<Units>(&rt, &FAULTS)
 }
