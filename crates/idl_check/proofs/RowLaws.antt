@@ -18,7 +18,7 @@ use Rattle.idl_lex.specs.Marks.{marks}
 use Rattle.idl_lex.specs.Tokens.{Token}
 use Rattle.idl_lex.specs.declared.keyword.Keyword.TheVariants as word
 use Rattle.idl_lex.specs.declared.mark.Mark.TheVariants as mark
-use Rattle.idl_memo.specs.Query.{Done, and_then, outcome}
+use Rattle.idl_memo.specs.Query.{Done, outcome}
 use Rattle.idl_memo.proofs.QueryLaws.{outcome-and_then}
 use Rattle.idl_scope.specs.Kind.{kind_eq}
 use Rattle.idl_scope.specs.Lookup.{denoted, under}
