@@ -15,4 +15,5 @@ mod support;
 mod tokens;
 mod trees;
 mod units;
+mod values;
 mod words;
