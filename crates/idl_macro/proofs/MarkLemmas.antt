@@ -1,6 +1,6 @@
 -- What the marks of words say of a look-up.
 use Rattle.std.specs.Prelude.{slice_index_or, slice_set}
-use Rattle.std.proofs.Common.{◌≡◌, ◌≢◌, ℕ, zero, suc, ◌<◌, Bool, true, false, cond, if◌then◌else◌, List, [], ◌∷◌, Option, None, Some, All, length, refl, sym, ap, ◌∙◌, true≢false, arith}
+use Rattle.std.proofs.Common.{◌≡◌, ℕ, zero, suc, Bool, true, false, cond, if◌then◌else◌, List, [], ◌∷◌, Option, None, Some, refl, sym, ap, ◌∙◌, true≢false, subst}
 use Rattle.std.specs.Cmp.Lexicographic.{bytes_decides}
 use Rattle.std.specs.Map.{keys_of, lookup}
 use Rattle.std.specs.Str.{bytes_eq}
@@ -38,3 +38,9 @@ module _ {V : Type 0} (marks : List Bool) (word : List ℕ) where
       by : (b : Bool) → AreMarked marks (keys_of (insert_entry bytes_eq es word v)) → AreMarked marks (keys_of (if b then (e.0, v) ∷ es else e ∷ insert_entry bytes_eq es word v))
       by true rest = (are.0, are.1)
       by false rest = (are.0, rest)
+
+  -- so does one at a copy of it
+  pub AreMarked-put : (es new : List (List ℕ × V)) (copy : List ℕ) (v : V) → new ≡ insert_entry bytes_eq es copy v → copy ≡ word → AreMarked marks (keys_of es) → is_marked marks word ≡ true
+      → AreMarked marks (keys_of new)
+  AreMarked-put es new copy v put same are marked =
+      subst (λ after. AreMarked marks (keys_of after)) (sym (put ∙ ap (λ k. insert_entry bytes_eq es k v) same)) (AreMarked-insert es v are marked)

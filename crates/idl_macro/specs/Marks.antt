@@ -1,5 +1,5 @@
 -- Marks at the numbers of words. Words share numbers: a word without a mark is known to have none.
-use Rattle.std.specs.Prelude.{◌≡◌, ℕ, ◌/◌, ◌^◌, Bool, true, false, List, All, slice_index_or}
+use Rattle.std.specs.Prelude.{◌≡◌, ℕ, ◌/◌, ◌^◌, Bool, true, false, List, [], ◌∷◌, slice_index_or}
 use Rattle.idl_base.specs.Digest.{with_bytes}
 
 -- the number of a word
@@ -12,4 +12,5 @@ is_marked marks word = slice_index_or marks (word_number word) false
 
 -- each of these words is marked
 abbrev pub AreMarked : List Bool → List (List ℕ) → Type 0
-AreMarked marks words = All (λ word. is_marked marks word ≡ true) words
+AreMarked marks [] = Unit {0}
+AreMarked marks (word ∷ words) = (is_marked marks word ≡ true) × AreMarked marks words

@@ -1,6 +1,6 @@
 //! Which words something may have been said of.
 
-ghost use Rattle.std.specs.Prelude.{◌≡◌, true, slice_set};
+ghost use Rattle.std.specs.Prelude.{◌≡◌, ◌<◌, true, slice_set};
 ghost use Rattle.idl_macro.specs.Marks.{is_marked, word_number};
 
 use idl_base::with_bytes;
