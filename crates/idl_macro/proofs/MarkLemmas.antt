@@ -16,9 +16,12 @@ slice_set-kept (m ∷ marks) (suc i) zero h = h
 slice_set-kept (m ∷ marks) (suc i) (suc j) h = slice_set-kept marks i j h
 
 -- so words that are marked stay so
-pub AreMarked-more : (marks : List Bool) (i : ℕ) (words : List (List ℕ)) → AreMarked marks words → AreMarked (slice_set marks i true) words
-AreMarked-more marks i [] h = tt
-AreMarked-more marks i (word ∷ words) h = (slice_set-kept marks i (word_number word) h.0, AreMarked-more marks i words h.1)
+AreMarked-slice_set : (marks : List Bool) (i : ℕ) (words : List (List ℕ)) → AreMarked marks words → AreMarked (slice_set marks i true) words
+AreMarked-slice_set marks i [] h = tt
+AreMarked-slice_set marks i (word ∷ words) h = (slice_set-kept marks i (word_number word) h.0, AreMarked-slice_set marks i words h.1)
+
+pub AreMarked-more : (marks new : List Bool) (i : ℕ) (words : List (List ℕ)) → new ≡ slice_set marks i true → AreMarked marks words → AreMarked new words
+AreMarked-more marks new i words made h = subst (λ after. AreMarked after words) (sym made) (AreMarked-slice_set marks i words h)
 
 module _ {V : Type 0} (marks : List Bool) (word : List ℕ) where
   -- an unmarked word has no entry
