@@ -1,12 +1,12 @@
 -- Faults of which none is less than the first: the first is the least.
-use Rattle.std.proofs.Common.{◌≡◌, ◌∙◌, ◌<◌, ◌≤◌, ℕ, List, [], ◌∷◌, ◌++◌, map, Some, refl, ap, subst, arith}
+use Rattle.std.proofs.Common.{◌≡◌, ◌∙◌, ◌<◌, ◌≤◌, ℕ, List, [], ◌∷◌, map, Some, refl, ap, subst, arith}
 use Rattle.std.proofs.lemmas.Bool.{and_left, and_right, cond-false, cond_both, le-ltb, ne_eqb, or_from}
-use Rattle.std.proofs.lemmas.List.Elements.{All-append, All-cons, All-head, All-map, All-nil, All-tail, All-weaker}
+use Rattle.std.proofs.lemmas.List.Elements.{All-cons, All-head, All-map, All-nil, All-tail, All-weaker}
 use Rattle.std.specs.Prelude.{All, fold, nat_eq, nat_lt, ◌&&◌, ◌||◌, ⊤}
 use Rattle.idl_event.specs.Code.{number_of}
 use Rattle.idl_event.specs.declared.code.Code.{Code}
 use Rattle.idl_unit.specs.Faults.{least_fault, lesser_fault}
-use Rattle.idl_unit.specs.TokenRules.{fault_at, first}
+use Rattle.idl_unit.specs.TokenRules.{fault_at}
 use Rattle.idl_unit.specs.declared.fault.Fault.{Fault}
 
 -- ---- the lesser of two
@@ -31,17 +31,6 @@ IsLed (f ∷ fs) = All (Leads f) fs
 pub fold-led : (f : Fault) (fs : List Fault) → All (Leads f) fs → fold lesser_fault f fs ≡ f
 fold-led f [] led = refl
 fold-led f (g ∷ fs) led = ap (λ x. fold lesser_fault x fs) (All-head (Leads f) g fs led) ∙ fold-led f fs (All-tail (Leads f) g fs led)
-
-pub least-led : (fs : List Fault) → IsLed fs → least_fault fs ≡ first fs
-least-led [] led = refl
-least-led (f ∷ fs) led = ap Some (fold-led f fs led)
-
--- those of tokens before one, and those from it on
-pub led-append : (n : ℕ) (fs gs : List Fault) → IsLed fs → All (λ f. f.index < n) fs → IsLed gs → All (λ g. n ≤ g.index) gs → IsLed (fs ++ gs)
-led-append n [] gs led below more from = more
-led-append n (f ∷ fs) gs led below more from =
-    let lt : f.index < n = All-head (λ f. f.index < n) f fs below in
-    All-append (Leads f) fs gs led (All-weaker (λ g. n ≤ g.index) (Leads f) (λ g le. leads-later f g (omega arith)) gs from)
 
 -- codes of which the first has the least number, at one token
 abbrev pub AreLed : List Code → Type 0

@@ -8,6 +8,7 @@ mod StandingLemmas
 mod TypeLemmas
 mod VisitLemmas
 pub mod FaultOrder
+pub mod ApartLaws
 pub mod SiteLaws
 pub mod TableLaws
 pub mod VerdictLaws

@@ -3,7 +3,7 @@ use Rattle.std.proofs.Common.{◌≡◌, ◌∙◌, ℕ, Bool, true, false, cond
 use Rattle.std.proofs.lemmas.Bool.{cond_both}
 use Rattle.std.proofs.lemmas.List.Elements.{All-weaker}
 use Rattle.std.proofs.lemmas.List.Sums.{fold-append}
-use Rattle.std.specs.Prelude.{All, fold, option_to_list}
+use Rattle.std.specs.Prelude.{option_to_list}
 use Rattle.idl_check.specs.Codes.{Table, codes_in, faults_by}
 use Rattle.idl_check.specs.Judging.{IsNotAfter}
 use Rattle.idl_check.specs.Walk.{Visit, Walk, faulty_if, head_visit, noted, noted_in, past_name, quiet, with_oneway}

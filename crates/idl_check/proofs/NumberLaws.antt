@@ -1,5 +1,5 @@
 -- A fault that is told stands at a token of its unit.
-use Rattle.std.proofs.Common.{◌≡◌, ◌∙◌, ◌+◌, ◌<◌, ℕ, Bool, true, false, cond, List, [], ◌∷◌, length, map, Option, None, Some, refl, sym, ap, arith}
+use Rattle.std.proofs.Common.{◌≡◌, ◌∙◌, ◌+◌, ◌<◌, ◌≤◌, ℕ, Bool, true, false, cond, List, [], ◌∷◌, ◌++◌, length, map, Option, None, Some, refl, sym, ap, arith}
 use Rattle.std.proofs.lemmas.List.{length-map}
 use Rattle.std.proofs.lemmas.List.Elements.{All-append, All-cons, All-nil, All-weaker}
 use Rattle.std.specs.Prelude.{◌≢◌, All, nat_le}
@@ -11,7 +11,10 @@ use Rattle.idl_check.specs.Walk.{first_walk}
 use Rattle.idl_event.specs.declared.code.Code.TheVariants.{MisplacedUnit, NestedTooDeep, NoTree}
 use Rattle.idl_lex.specs.Kind.{kind_of}
 use Rattle.idl_lex.specs.Tokens.{Token}
+use Rattle.idl_lex.specs.declared.keyword.Keyword.TheVariants as word
 use Rattle.idl_lex.specs.declared.kind.Kind.{Kind as TokenKind}
+use Rattle.idl_lex.specs.declared.mark.Mark.{Mark}
+use Rattle.idl_lex.specs.declared.mark.Mark.TheVariants as mark
 use Rattle.idl_memo.specs.Query.{outcome}
 use Rattle.idl_scope.specs.Facts.{scopes_in}
 use Rattle.idl_scope.specs.declared.answer.Answer.{Answer}
@@ -19,11 +22,16 @@ use Rattle.idl_scope.specs.declared.answer.Scope.{Scope}
 use Rattle.idl_scope.specs.declared.key.Key.{Key}
 use Rattle.idl_scope.specs.declared.key.Key.TheVariants.{Cursor}
 use Rattle.idl_site.specs.Item.{items, items_length}
-use Rattle.idl_site.specs.UnitParts.{unit_parts}
+use Rattle.idl_site.specs.ConstructionParts.{construction_parts}
+use Rattle.idl_site.specs.Part.{Parts, Declares, Plain, if_some, keyword_part, punctuation}
+use Rattle.idl_site.specs.UnitParts.{attribute_parts, bases_parts, constant_parts, exception_parts, forward_parts, native_parts, operation_parts, readonly_attribute_parts, typedef_parts, unit_parts}
+use Rattle.idl_site.specs.declared.site.Declaration.TheVariants as declaration
 use Rattle.idl_site.proofs.UnitSpelling.{counted, unit_spells}
-use Rattle.idl_tree.specs.Lexeme.{lexeme_of, lexemes}
+use Rattle.idl_tree.specs.Interface.{spell_local}
+use Rattle.idl_tree.specs.Lexeme.{Word, lexeme_of, lexemes}
 use Rattle.idl_tree.specs.Unit.{spell}
 use Rattle.idl_tree.specs.declared.unit.Tree.{Tree}
+use Rattle.idl_tree.specs.declared.unit.Tree.TheVariants as tree
 use Rattle.idl_unit.specs.Ending.{opens, role, rule_of}
 use Rattle.idl_unit.specs.TokenRules.{fault_at, faults_after, token_codes, token_faults}
 use Rattle.idl_unit.specs.declared.fault.Fault.{Fault}
@@ -31,9 +39,41 @@ use Rattle.idl_unit.specs.declared.role.Rule.{Rule}
 use Rattle.idl_unit.specs.declared.role.Rule.TheVariants.{Closing, Heading, Declaration}
 use Rattle.idl_unit.specs.declared.unit.UnitText.TheVariants as unit
 use Rattle.idl_check.proofs.FaultOrder.{all-at, least-in}
-use Rattle.idl_check.proofs.SiteLaws.{faults-till}
+use Rattle.idl_check.proofs.SiteLaws.{EndsInTokens, faults-till}
 use Rattle.idl_check.proofs.TableLaws.{all-if}
 use Rattle.idl_check.proofs.VerdictLaws.{least-tokens, tree-spelled}
+
+-- ---- a unit ends in a token
+
+some-behind : (front back : Parts) → 1 ≤ items_length (items back) → 1 ≤ items_length (items (front ++ back))
+some-behind [] back some = some
+some-behind (p ∷ front) back some = omega (arith, some-behind front back some)
+
+parts-end : (front back : Parts) → 1 ≤ items_length (items back) → EndsInTokens (items back) → EndsInTokens (items (front ++ back))
+parts-end [] back some ends = ends
+parts-end (p ∷ front) back some ends = (omega (arith, some-behind front back some), parts-end front back some ends)
+
+-- in a mark
+mark-ends : (front : Parts) (m : Mark) → EndsInTokens (items (front ++ punctuation m ∷ []))
+mark-ends front m = parts-end front (punctuation m ∷ []) (omega arith) (omega arith, tt)
+
+unit-ends : (t : Tree) → EndsInTokens (items (unit_parts t))
+unfolding unit_parts
+unit-ends tree.Closing = (omega arith, tt)
+unit-ends (tree.Module name) = mark-ends (keyword_part word.Module ∷ Declares declaration.Module name ∷ []) mark.OpenBrace
+unit-ends (tree.Interface i) =
+    mark-ends (Plain (spell_local i.is_local ++ Word word.Interface ∷ []) ∷ Declares (declaration.Interface i.is_local) i.name ∷ if_some (bases_parts i.is_local) i.bases) mark.OpenBrace
+unit-ends (tree.Forward f) = mark-ends (forward_parts f) mark.Semicolon
+unit-ends (tree.Typedef t) = mark-ends (typedef_parts t) mark.Semicolon
+unit-ends (tree.Construction c) = mark-ends (construction_parts c) mark.Semicolon
+unit-ends (tree.Native name) = mark-ends (native_parts name) mark.Semicolon
+unit-ends (tree.Constant c) = mark-ends (constant_parts c) mark.Semicolon
+unit-ends (tree.Exception e) = mark-ends (exception_parts e) mark.Semicolon
+unit-ends (tree.ReadonlyAttribute a) = mark-ends (readonly_attribute_parts a) mark.Semicolon
+unit-ends (tree.Attribute a) = mark-ends (attribute_parts a) mark.Semicolon
+unit-ends (tree.Operation o) = mark-ends (operation_parts o) mark.Semicolon
+
+-- ---- the faults of the steps
 
 after-inside : (before kinds : List TokenKind) → All (λ f. f.index < length before + length kinds) (faults_after before kinds)
 after-inside before [] = All-nil (λ f. f.index < length before + 0)
@@ -78,7 +118,7 @@ module _ (turns : ℕ) (answers : Key → Option Answer) (tokens : List Token) (
   sites-inside scopes tree spelled =
       let count : items_length (items (unit_parts tree)) ≡ length tokens = counted (unit_parts tree) ∙ ap length (unit_spells tree) ∙ sym (ap length spelled) ∙ length-map tokens lexeme_of in
       All-weaker (λ f. f.index < 0 + items_length (items (unit_parts tree))) Inside (λ f h. omega (arith, h, count))
-      (site_faults turns answers (items (unit_parts tree)) (first_walk scopes)) (faults-till turns answers (items (unit_parts tree)) (first_walk scopes))
+      (site_faults turns answers (items (unit_parts tree)) (first_walk scopes)) (faults-till turns answers (items (unit_parts tree)) (first_walk scopes) (unit-ends tree))
 
   further-by : (scopes : List Scope) (o : Option Tree) → tree_of tokens ≡ o → All Inside (elim o [ None ↦ fault_at 0 NoTree ∷ [] | Some tree ↦ name_faults turns answers scopes tree ])
   further-by scopes None h = All-cons Inside (fault_at 0 NoTree) [] some (All-nil Inside)

@@ -33,13 +33,13 @@ use Rattle.idl_tree.specs.declared.unit.Tree.{Tree}
 use Rattle.idl_tree.proofs.UnitAgain.{unit_again}
 use Rattle.idl_tree.proofs.UnitWhole.{unit_found}
 use Rattle.idl_unit.specs.Faults.{least_fault, lesser_fault}
-use Rattle.idl_unit.specs.TokenRules.{fault_at, first, token_faults}
+use Rattle.idl_unit.specs.TokenRules.{fault_at, token_faults}
 use Rattle.idl_unit.specs.declared.fault.Fault.{Fault}
 use Rattle.idl_unit.specs.declared.unit.UnitText.{UnitText}
 use Rattle.idl_unit.specs.declared.unit.UnitText.TheVariants as unit
-use Rattle.idl_check.proofs.FaultOrder.{Leads, leads-beside, least-led}
-use Rattle.idl_check.proofs.SiteLaws.{IsFrom, faults-from, faults-led}
-use Rattle.idl_check.proofs.WalkLaws.{none-append, none-first, walk-first, walk-sound}
+use Rattle.idl_check.proofs.FaultOrder.{Leads, fold-led, leads-beside}
+use Rattle.idl_check.proofs.SiteLaws.{IsFrom, faults-from}
+use Rattle.idl_check.proofs.WalkLaws.{none-append, none-noted, walk-noted, walk-sound}
 
 -- ---- the tree of tokens
 
@@ -120,12 +120,12 @@ module _ (turns : ℕ) (answers : Key → Option Answer) (tokens : List Token) w
           → Comes (site_faults turns answers (items (unit_parts tree)) (first_walk scopes)) scopes (outcome (judged tokens scopes tree w) answers)
       walked-comes stands w is (Some f) h =
           let fs = site_faults turns answers (items (unit_parts tree)) (first_walk scopes) in
-          let at_first : w.fault ≡ first fs = ap (λ (u : Walk). u.fault) is ∙ walk-first turns answers (items (unit_parts tree)) (first_walk scopes) in
-          inl (f, judged-some scopes tree w f w.fault h, least-led fs (faults-led turns answers (items (unit_parts tree)) (first_walk scopes)) ∙ sym at_first ∙ h)
+          let at_least : w.fault ≡ least_fault fs = ap (λ (u : Walk). u.fault) is ∙ walk-noted turns answers (items (unit_parts tree)) (first_walk scopes) in
+          inl (f, judged-some scopes tree w f w.fault h, sym at_least ∙ h)
       walked-comes stands w is None h =
           let fs = site_faults turns answers (items (unit_parts tree)) (first_walk scopes) in
-          let at_first : w.fault ≡ first fs = ap (λ (u : Walk). u.fault) is ∙ walk-first turns answers (items (unit_parts tree)) (first_walk scopes) in
-          let empty : fs ≡ [] = none-first None fs (sym at_first ∙ h) in
+          let at_least : w.fault ≡ least_fault fs = ap (λ (u : Walk). u.fault) is ∙ walk-noted turns answers (items (unit_parts tree)) (first_walk scopes) in
+          let empty : fs ≡ [] = none-noted fs (sym at_least ∙ h) in
           inr (
             record {
               tree = tree;
@@ -150,7 +150,7 @@ module _ (turns : ℕ) (answers : Key → Option Answer) (tokens : List Token) w
           inl (
             f,
             outcome-and_then before (λ found. refused tokens f) answers ∙ refused-is f,
-            least-led (f ∷ fs) (All-weaker (IsFrom 0) (Leads f) (λ g h. leads-beside f g h.0 h.1) fs (faults-from turns answers (items (unit_parts tree)) (first_walk scopes))),
+            ap Some (fold-led f fs (All-weaker (IsFrom 0) (Leads f) (λ g h. leads-beside f g h.0 h.1) fs (faults-from turns answers (items (unit_parts tree)) (first_walk scopes)))),
           )
       named-comes false stands =
           let query = walk turns (items (unit_parts tree)) (first_walk scopes) in

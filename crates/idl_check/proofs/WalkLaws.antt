@@ -1,9 +1,11 @@
--- What a walk over sites comes to: its fault is the first of all, and without one all sites were passed.
-use Rattle.std.proofs.Common.{◌≡◌, ◌∙◌, ℕ, Bool, true, false, cond, List, [], ◌∷◌, ◌++◌, Option, Some, None, refl, sym, ap}
-use Rattle.std.specs.Prelude.{◌&&◌, is_some, not}
+-- What a walk over sites comes to: its fault is the least of all, and without one all sites were passed.
+use Rattle.std.proofs.Common.{◌≡◌, ◌∙◌, ◌<◌, ℕ, Bool, true, false, cond, List, [], ◌∷◌, ◌++◌, Option, Some, None, refl, sym, ap, arith}
+use Rattle.std.proofs.lemmas.Bool.{and_parts, ltb-true}
+use Rattle.std.proofs.lemmas.List.Elements.{All-weaker}
+use Rattle.std.specs.Prelude.{◌&&◌, All, is_some, nat_lt, not}
 use Rattle.idl_check.specs.AllFaults.{site_faults}
 use Rattle.idl_check.specs.Judging.{walked}
-use Rattle.idl_check.specs.Walk.{Walk, first_fault, is_over, noted_in, visit, walk}
+use Rattle.idl_check.specs.Walk.{Walk, is_over, noted, noted_in, visit, walk}
 use Rattle.idl_memo.specs.Query.{Done, and_then, outcome}
 use Rattle.idl_memo.proofs.QueryLaws.{outcome-and_then}
 use Rattle.idl_scope.specs.Lookup.{Lookup}
@@ -11,33 +13,34 @@ use Rattle.idl_scope.specs.declared.answer.Answer.{Answer}
 use Rattle.idl_scope.specs.declared.key.Key.{Key}
 use Rattle.idl_site.specs.Item.{Item}
 use Rattle.idl_unit.specs.declared.fault.Fault.{Fault}
-use Rattle.idl_check.proofs.SiteLaws.{IsPlaced, faults-apart, visit-placed, visited, with_fault}
+use Rattle.idl_check.proofs.ApartLaws.{faults-apart, with_fault}
+use Rattle.idl_check.proofs.FaultOrder.{Leads, fold-led, leads-later}
+use Rattle.idl_check.proofs.NotedLemmas.{noted-append, noted-none}
+use Rattle.idl_check.proofs.SiteLaws.{IsFrom, IsPlaced, begin_before, faults-from, visit-placed, visited}
 
-first-nil : (o : Option Fault) → o ≡ first_fault o []
-first-nil None = refl
-first-nil (Some f) = refl
+-- the fault of a walk that is over stands before those of all later sites
+abbrev over_by : Option Fault → Option ℕ → ℕ → Bool
+over_by o begin at = elim o [ None ↦ false | Some f ↦ nat_lt f.index at && not (is_some begin) ]
 
-first-append : (o : Option Fault) (fs gs : List Fault) → first_fault (first_fault o fs) gs ≡ first_fault o (fs ++ gs)
-first-append None [] gs = refl
-first-append None (f ∷ fs) gs = refl
-first-append (Some f) fs gs = refl
+still-least : (o : Option Fault) (begin : Option ℕ) (at : ℕ) (fs : List Fault) → over_by o begin at ≡ true → All (IsFrom (begin_before begin at)) fs → o ≡ noted o fs
+still-least None begin at fs h from = cc
+still-least (Some f) (Some b) at fs h from = let both = and_parts (nat_lt f.index at) false h in let no : false ≡ true = both.1 in cc
+still-least (Some f) None at fs h from =
+    let both = and_parts (nat_lt f.index at) true h in
+    let lt : f.index < at = ltb-true f.index at both.0 in
+    ap Some (sym (fold-led f fs (All-weaker (IsFrom at) (Leads f) (λ g le. leads-later f g (omega (arith, le.0))) fs from)))
 
-first-over : (o : Option Fault) (b : Bool) (fs : List Fault) → (is_some o && b) ≡ true → o ≡ first_fault o fs
-first-over None b fs h = cc
-first-over (Some f) b fs h = refl
-
-pub none-first : (o : Option Fault) (fs : List Fault) → first_fault o fs ≡ None → fs ≡ []
-none-first None [] h = refl
-none-first None (f ∷ fs) h = cc
-none-first (Some f) fs h = cc
+pub none-noted : (fs : List Fault) → noted None fs ≡ None → fs ≡ []
+none-noted [] h = refl
+none-noted (f ∷ fs) h = cc
 
 pub none-append : (fs gs : List Fault) → fs ++ gs ≡ [] → (fs ≡ []) × (gs ≡ [])
 none-append [] gs h = (refl, h)
 none-append (f ∷ fs) gs h = (cc, cc)
 
-not-over : (o : Option Fault) (b : Bool) → o ≡ None → (is_some o && b) ≡ false
-not-over None b h = refl
-not-over (Some f) b h = cc
+not-over : (o : Option Fault) (begin : Option ℕ) (at : ℕ) → o ≡ None → over_by o begin at ≡ false
+not-over None begin at h = refl
+not-over (Some f) begin at h = cc
 
 module _ (turns : ℕ) (answers : Key → Option Answer) where
   -- a walk that goes on, unless it is over
@@ -47,23 +50,23 @@ module _ (turns : ℕ) (answers : Key → Option Answer) where
   on-goes : (site : Item) (sites : List Item) (w : Walk) → outcome (on false site sites w) answers ≡ outcome (walk turns sites (noted_in (visited turns answers site w) w.fault)) answers
   on-goes site sites w = outcome-and_then (visit turns site w) (λ v. walk turns sites (noted_in v w.fault)) answers
 
-  first-on : (b : Bool) (site : Item) (sites : List Item) (w : Walk) → is_over w ≡ b
-      → ((u : Walk) → (outcome (walk turns sites u) answers).fault ≡ first_fault u.fault (site_faults turns answers sites u))
-      → (outcome (on b site sites w) answers).fault ≡ first_fault w.fault (site_faults turns answers (site ∷ sites) w)
-  first-on true site sites w is more = first-over w.fault (not w.in_value) (site_faults turns answers (site ∷ sites) w) is
-  first-on false site sites w is more =
+  noted-on : (b : Bool) (site : Item) (sites : List Item) (w : Walk) → is_over w ≡ b
+      → ((u : Walk) → (outcome (walk turns sites u) answers).fault ≡ noted u.fault (site_faults turns answers sites u))
+      → (outcome (on b site sites w) answers).fault ≡ noted w.fault (site_faults turns answers (site ∷ sites) w)
+  noted-on true site sites w is more = still-least w.fault w.values.begin w.at (site_faults turns answers (site ∷ sites) w) is (faults-from turns answers (site ∷ sites) w)
+  noted-on false site sites w is more =
       let v = visited turns answers site w in
-      let f = first_fault w.fault v.faults in
+      let f = noted w.fault v.faults in
       ap (λ (u : Walk). u.fault) (on-goes site sites w)
       ∙ more (noted_in v w.fault)
-      ∙ ap (first_fault f) (faults-apart turns answers f sites v.after)
-      ∙ first-append w.fault v.faults (site_faults turns answers sites v.after)
+      ∙ ap (noted f) (faults-apart turns answers f sites v.after)
+      ∙ noted-append w.fault v.faults (site_faults turns answers sites v.after)
 
-  -- its fault is the first of all, also of those of sites to which it doesn't come
-  pub walk-first : (sites : List Item) (w : Walk) → (outcome (walk turns sites w) answers).fault ≡ first_fault w.fault (site_faults turns answers sites w)
+  -- its fault is the least of all, also of those of sites to which it doesn't come
+  pub walk-noted : (sites : List Item) (w : Walk) → (outcome (walk turns sites w) answers).fault ≡ noted w.fault (site_faults turns answers sites w)
   unfolding walk
-  walk-first [] w = first-nil w.fault
-  walk-first (site ∷ sites) w = first-on (is_over w) site sites w refl (walk-first sites)
+  walk-noted [] w = sym (noted-none w.fault)
+  walk-noted (site ∷ sites) w = noted-on (is_over w) site sites w refl (walk-noted sites)
 
   on-sound : (b : Bool) (site : Item) (sites : List Item) (w : Walk) → b ≡ false → w.fault ≡ None → site_faults turns answers (site ∷ sites) w ≡ []
       → ((u : Walk) → u.fault ≡ None → site_faults turns answers sites u ≡ [] → outcome (walk turns sites u) answers ≡ walked turns answers sites u)
@@ -74,7 +77,7 @@ module _ (turns : ℕ) (answers : Key → Option Answer) where
       let p : IsPlaced site w v = visit-placed turns answers site w in
       let parts = none-append v.faults (site_faults turns answers sites v.after) h in
       let kept : v.after.fault ≡ None = p.keeps ∙ none in
-      let same : first_fault w.fault v.faults ≡ v.after.fault = ap (first_fault w.fault) parts.0 ∙ sym (first-nil w.fault) ∙ none ∙ sym kept in
+      let same : noted w.fault v.faults ≡ v.after.fault = ap (noted w.fault) parts.0 ∙ noted-none w.fault ∙ none ∙ sym kept in
       on-goes site sites w
       ∙ ap (λ o. outcome (walk turns sites (with_fault o v.after)) answers) same
       ∙ more v.after kept parts.1
@@ -83,4 +86,4 @@ module _ (turns : ℕ) (answers : Key → Option Answer) where
   pub walk-sound : (sites : List Item) (w : Walk) → w.fault ≡ None → site_faults turns answers sites w ≡ [] → outcome (walk turns sites w) answers ≡ walked turns answers sites w
   unfolding walk
   walk-sound [] w none h = refl
-  walk-sound (site ∷ sites) w none h = on-sound (is_over w) site sites w (not-over w.fault (not w.in_value) none) none h (walk-sound sites)
+  walk-sound (site ∷ sites) w none h = on-sound (is_over w) site sites w (not-over w.fault w.values.begin w.at none) none h (walk-sound sites)

@@ -1,5 +1,5 @@
 -- Types: what constants may be of, what may discriminate a union, and what is not yet complete.
-use Rattle.std.specs.Prelude.{ℕ, zero, suc, Bool, true, false, ◌&&◌, ◌||◌, is_some, length, not, List, [], ◌∷◌, Option, None, Some, if◌then◌else◌}
+use Rattle.std.specs.Prelude.{ℕ, zero, suc, Bool, true, false, ◌&&◌, ◌||◌, not, List, Option, None, Some, if◌then◌else◌}
 use Rattle.idl_memo.specs.Query.{Done, Ask}
 use Rattle.idl_scope.specs.Facts.{entity_in, entity_key}
 use Rattle.idl_scope.specs.Kind.{kind_eq, stage_eq}

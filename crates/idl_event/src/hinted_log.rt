@@ -70,7 +70,8 @@ impl<B: RootBank> HintedLog<B> {
         ensures { IsTrue result → is_logged key_eq self.now key.now ≡ true }
     {
         match self.hints.places_of(key) {
-            Some(places) => stands_at(&self.log, places.first, key) || stands_at(&self.log, places.last, key),
+            Some(places) => stands_at(&self.log, places.first, key)
+                || stands_at(&self.log, places.last, key),
             None => false,
         }
     }

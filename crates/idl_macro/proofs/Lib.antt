@@ -3,6 +3,7 @@ pub mod ArrivalLemmas
 pub mod ConditionLemmas
 pub mod DirectiveLemmas
 pub mod MacroLemmas
+pub mod MarkLemmas
 pub mod OutputLemmas
 pub mod ReplaceLemmas
 pub mod RoomLemmas

@@ -1,6 +1,7 @@
 //! The macros of a root: those that the root itself defines or removes, and else those of the bank.
 
 ghost use Rattle.std.specs.Prelude.{◌≡◌, [], Some, None, IfOk, OnOk, OnErr};
+ghost use Rattle.std.specs.Map.{lookup};
 ghost use Rattle.std.specs.Option.{option_copied, option_map};
 ghost use Rattle.std.specs.Str.{bytes_eq};
 ghost use Rattle.idl_base.specs.Table.{insert_entry};
@@ -8,6 +9,7 @@ ghost use Rattle.idl_event.specs.Expanding.{arrival, arrived};
 ghost use Rattle.idl_lex.specs.Tokens.{tokens_in};
 ghost use Rattle.idl_macro.specs.Macros.{body_in, macro_of};
 
+use crate::marks::Marks;
 use idl_base::Table;
 use idl_event::{Answer, Key, Progress, RootBank, TokenRange};
 use idl_lex::{PlacedToken, Spelling};
@@ -15,18 +17,25 @@ use std::alloc::{AllocError, Global};
 use std::marker::Model;
 
 /// What a root itself has said of words: the body of a macro, or that the macro is removed.
+///
+/// Of most words nothing is said, and those are mostly found by the marks of those that something was said of.
 #[derive(Drop)]
 pub struct Definitions {
     entries: Table<Spelling, Option<TokenRange>>,
+    marks: Marks,
 }
 
 impl Model for Definitions {
     ghost use Rattle.std.specs.Prelude.{List, ℕ, Option};
+    ghost use Rattle.std.specs.Map.{keys_of};
     ghost use Rattle.idl_lex.specs.Tokens.{Token};
+    ghost use Rattle.idl_macro.specs.Marks.{AreMarked};
 
     ghost Value = { List (List ℕ × Option (List Token)) };
 
     ghost view = { λ definitions. definitions.entries };
+
+    ghost invariant = { λ definitions. AreMarked definitions.marks (keys_of definitions.entries) };
 }
 
 /// The macros of a root: what the root has said of them, and the bank that is asked of the others.
@@ -43,6 +52,7 @@ impl Definitions {
     {
         Definitions {
             entries: Table::new(alloc),
+            marks: Marks::new(),
         }
     }
 
@@ -57,7 +67,7 @@ impl Definitions {
             arrived (option_map tokens_in (option_copied body)) progress.new
             ≡ arrival (B.at bank.now) (macro_of self.now word.now) progress.old) }
     {
-        match self.entries.get(word) {
+        match self.said_of(word) {
             Some(said) => Ok(tokens_of(said.as_ref())),
             None => {
                 let answer = progress.ask(&Key::Macro(word.clone()?), bank)?;
@@ -66,12 +76,23 @@ impl Definitions {
         }
     }
 
+    // What was said of a word, if anything was.
+    fn said_of(&self, word: &Spelling) -> Option<&Option<TokenRange>>
+        ensures { option_copied result ≡ lookup (bytes_eq word.now) self.now }
+    {
+        if !self.marks.has(word) {
+            return None;
+        }
+        self.entries.get(word)
+    }
+
     /// The macro with this word has this body from now on, whatever was said of the word. Want of
     /// memory leaves what was said as it was.
     pub fn define(&mut self, word: &Spelling, body: TokenRange) -> Result<(), AllocError>
         ensures ok { OnOk result (self.new ≡ insert_entry bytes_eq self.old word.now (Some body)) }
         ensures err { OnErr result (self.new ≡ self.old) }
     {
+        self.marks.mark(word);
         self.entries.insert(word.clone()?, Some(body))?;
         Ok(())
     }
@@ -81,6 +102,7 @@ impl Definitions {
         ensures ok { OnOk result (self.new ≡ insert_entry bytes_eq self.old word.now None) }
         ensures err { OnErr result (self.new ≡ self.old) }
     {
+        self.marks.mark(word);
         self.entries.insert(word.clone()?, None)?;
         Ok(())
     }

@@ -8,6 +8,7 @@
 mod conditional;
 mod definitions;
 mod directive;
+mod marks;
 mod replacement;
 mod word;
 

@@ -27,9 +27,15 @@ pub marks_of-first : (path : List (List ℕ)) (d : Mark) → 1 ≤ length (marks
 marks_of-first [] d h = absurd (omega arith)
 marks_of-first (name ∷ scope) d h = refl
 
+-- the one before which so many stand, where these are all but one
+mark-outermost : (path : List (List ℕ)) (i : ℕ) (d : Mark) → suc i ≡ length (marks_of path) → (get_or (marks_of path) i d).digest ≡ outermost_digest path
+unfolding outermost_digest
+mark-outermost [] i d h = absurd (omega (arith, h))
+mark-outermost (name ∷ []) zero d h = refl
+mark-outermost (name ∷ []) (suc i) d h = absurd (omega (arith, h))
+mark-outermost (name ∷ outer ∷ scope) zero d h = absurd (omega (arith, h))
+mark-outermost (name ∷ outer ∷ scope) (suc i) d h = mark-outermost (outer ∷ scope) i d (omega (arith, h))
+
 -- the last one
 pub marks_of-last : (path : List (List ℕ)) (d : Mark) → 1 ≤ length (marks_of path) → (get_or (marks_of path) (length (marks_of path) - 1) d).digest ≡ outermost_digest path
-unfolding outermost_digest
-marks_of-last [] d h = absurd (omega arith)
-marks_of-last (name ∷ []) d h = refl
-marks_of-last (name ∷ outer ∷ scope) d h = marks_of-last (outer ∷ scope) d (omega arith)
+marks_of-last path d h = mark-outermost path (length (marks_of path) - 1) d (omega (arith, h))

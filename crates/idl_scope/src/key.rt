@@ -77,9 +77,7 @@ impl Digest for Key {
                 let named = with_bytes(mixed(path.digest(), 259), name.as_bytes());
                 behind(path.outermost_digest(), mixed(named, *body as u64))
             }
-            Key::Opened(path) => {
-                behind(path.outermost_digest(), mixed(path.digest(), 260))
-            }
+            Key::Opened(path) => { behind(path.outermost_digest(), mixed(path.digest(), 260)) }
             Key::Nameless => 261,
             Key::Prefix => 262,
             Key::IdOf(path) => behind(path.outermost_digest(), mixed(path.digest(), 263)),

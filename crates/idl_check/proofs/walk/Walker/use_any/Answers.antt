@@ -1,4 +1,4 @@
-use Rattle.std.proofs.Common.{ℕ, ◌≤◌, Ok, Err, length, subst, sym, ap, ◌∙◌, arith}
+use Rattle.std.proofs.Common.{ℕ, ◌≤◌, length, subst, sym, ap, ◌∙◌, arith}
 use Rattle.idl_check.proofs.PartLemmas.{part-within}
 use Rattle.idl_check.proofs.VisitLemmas.{runs_over, unfound_by, used_by}
 use Rattle.idl_check.specs.Held.{held, held_values}

@@ -1,4 +1,4 @@
-use Rattle.std.proofs.Common.{◌≡◌, ◌+◌, ◌∷◌, [], true, false, Ok, sym, ap, ◌∙◌}
+use Rattle.std.proofs.Common.{◌+◌, ◌∷◌, [], false, Ok, sym, ap, ◌∙◌}
 use Rattle.idl_check.proofs.NotedLemmas.{head-other, head-scope}
 use Rattle.idl_check.proofs.VisitLemmas.{head_by, runs_over}
 use Rattle.idl_check.specs.Held.{held}

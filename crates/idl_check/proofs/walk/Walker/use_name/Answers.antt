@@ -1,4 +1,4 @@
-use Rattle.std.proofs.Common.{◌+◌, sym, ◌∙◌, arith}
+use Rattle.std.proofs.Common.{sym, ◌∙◌, arith}
 use Rattle.idl_check.proofs.NameLemmas.{behind_name}
 use Rattle.idl_check.proofs.VisitLemmas.{given_by, named_plain}
 use Rattle.idl_check.specs.Held.{held}

@@ -11,14 +11,14 @@ use Rattle.idl_macro.proofs.definitions.Definitions.macro_of.Goals as goal
 
 pub returns-in-Some : goal.returns-in-Some
 returns-in-Some g c =
-    let said : lookup (bytes_eq c.args.word.now) c.args.self.now ≡ Some c.in-Some.said.now = ap (lookup (bytes_eq c.args.word.now)) (sym c.self.view_is) ∙ sym c.in-Some.ensures in
+    let said : lookup (bytes_eq c.args.word.now) c.args.self.now ≡ Some c.in-Some.said.now = sym c.in-Some.ensures in
     ap (λ body. arrived body c.args.progress.now) (c.tokens_of.ensures ∙ c.as_ref.ensures.value)
     ∙ sym (ap (λ query. arrival (g.B.Bank.at c.args.bank.now) query c.args.progress.now) (macro_of-said c.args.self.now c.args.word.now c.in-Some.said.now said))
 
 pub returns-in_ok-answer-in-None : goal.returns-in_ok-answer-in-None
 returns-in_ok-answer-in-None g c =
     let bank = g.B.Bank.at c.args.bank.now in
-    let unsaid : lookup (bytes_eq c.args.word.now) c.args.self.now ≡ None = ap (lookup (bytes_eq c.args.word.now)) (sym c.self.view_is) ∙ sym c.in-None.ensures in
+    let unsaid : lookup (bytes_eq c.args.word.now) c.args.self.now ≡ None = sym c.in-None.ensures in
     let asked = c.in_ok-answer-in-None.ensures in
     (λ i. arrived (c.body_in.ensures i) (asked.progress i))
     ∙ ap (λ found. arrived (body_in found) (after_key key_eq bank (key.Macro c.in_ok-clone-in-None.field-0) c.args.progress.now)) asked.answer

@@ -5,4 +5,4 @@ use Rattle.idl_scope.proofs.path.Path.marks_of_child.Given as goal
 
 abbrev pub invariant-loop-outer : goal.invariant-loop-outer
 invariant-loop-outer l =
-    l.marks.items ≡ record { folded = folded l.name; digest = path_digest (l.name ∷ l.self) } ∷ take l.outer-index l.outer-items
+    l.marks.items ≡ record { folded = folded l.name; digest = path_digest (l.name ∷ l.self) } ∷ take l.outer-index l.scope
