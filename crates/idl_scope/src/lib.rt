@@ -20,6 +20,7 @@ mod lookup;
 mod mark;
 mod name;
 mod naming;
+mod operations;
 mod path;
 mod queue;
 mod shared;

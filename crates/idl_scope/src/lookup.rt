@@ -192,7 +192,7 @@ fn declared_by(addition: &Addition) -> Option<&Shared<Entity>>
 {
     match addition {
         Addition::Declares(entity) => Some(entity),
-        Addition::Uses(_, _, _) => None,
+        Addition::Uses(_, _, _) | Addition::Identifies(_, _) => None,
     }
 }
 

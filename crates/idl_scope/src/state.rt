@@ -1,8 +1,8 @@
 //! What the facts so far come to.
 
-ghost use Rattle.std.specs.Prelude.{◌≡◌, ◌<◌, ◌∷◌, ◌++◌, [], IfOk, OnOk, drop, map, option_to_list, reverse};
+ghost use Rattle.std.specs.Prelude.{◌≡◌, ◌<◌, ◌∷◌, ◌++◌, [], IfOk, drop, map, OnOk, option_to_list, reverse};
 ghost use Rattle.std.specs.Option.{option_map};
-ghost use Rattle.idl_scope.specs.Facts.{after, after_closing, after_nameless, after_opening, after_step, closed, closing, entity_key, first_world, given_back, inherited, innermost, joined, more_inside, nameless, next_body, no_prefix, operations_among, operations_of, path_around, prefix_in, with_additions, with_answer, count_in, entity_in, scopes_in, over};
+ghost use Rattle.idl_scope.specs.Facts.{after, after_step, closing, count_in, first_world, given_back, inherited, innermost, nameless, next_body, no_prefix, over, path_around, prefix_in, with_additions};
 ghost use Rattle.idl_scope.specs.Held.{closable, held};
 ghost use Rattle.idl_scope.specs.Key.{key_eq};
 ghost use Rattle.idl_scope.specs.declared.addition.Addition.TheVariants.{Declares};
@@ -11,7 +11,7 @@ ghost use Rattle.idl_scope.specs.declared.answer.Answer.TheVariants as answers;
 ghost use Rattle.idl_scope.specs.declared.key.Key.{Key};
 ghost use Rattle.idl_scope.specs.declared.key.Key.TheVariants.{Opened, Prefix as PrefixKey};
 ghost use Rattle.idl_scope.specs.declared.kind.Stage.TheVariants as stages;
-ghost use Rattle.std.specs.Map.{keys_of, lookup};
+ghost use Rattle.std.specs.Map.{lookup};
 
 use crate::addition::{Addition, Step};
 use crate::answer::{Answer, Scope, count_in, entity_in, prefix_in, scopes_in};
@@ -21,10 +21,10 @@ use crate::identity::Prefix;
 use crate::key::Key;
 use crate::kind::{Kind, Stage};
 use crate::name::shared_name;
+use crate::operations::{add_inside, append, inherited, innermost, leave, operations_among};
 use crate::path::Path;
-use crate::queue::join;
 use crate::shared::Shared;
-use idl_base::{Seq, Table};
+use idl_base::Seq;
 use idl_lex::Spelling;
 use idl_map::{Map, SharedList};
 use itoa::Buffer;
@@ -303,16 +303,6 @@ fn put_closing(
     Ok(())
 }
 
-// The innermost ones.
-fn innermost(alloc: Global, inside: &SharedList<SharedList<Path>>) -> Result<Vec<Path>, AllocError>
-    ensures { IfOk result (λ paths. paths.items ≡ innermost (reverse inside.now)) }
-{
-    match inside.split_last()? {
-        Some((_outer, own)) => own.to_vec(alloc),
-        None => Ok(Vec::new(alloc)),
-    }
-}
-
 // The empty prefix, met in the global scope.
 fn no_prefix(alloc: Global) -> Result<Shared<Prefix>, AllocError>
     ensures { IfOk result (λ prefix. prefix ≡ no_prefix) }
@@ -338,16 +328,6 @@ fn taken_last(
     Ok(prefix)
 }
 
-// All but the innermost.
-fn leave(inside: &mut SharedList<SharedList<Path>>) -> Result<(), AllocError>
-    ensures { OnOk result (reverse inside.new ≡ drop 1 (reverse inside.old)) }
-{
-    if let Some((outer, _own)) = inside.split_last()? {
-        *inside = outer;
-    }
-    Ok(())
-}
-
 // An interface as it is once it is closed, with these operations and attributes.
 fn closed(interface: &Entity, operations: Vec<Path>) -> Result<Entity, AllocError>
     ensures { IfOk result (λ entity.
@@ -371,62 +351,6 @@ fn closed(interface: &Entity, operations: Vec<Path>) -> Result<Entity, AllocErro
     })
 }
 
-// The operations and attributes of the bases in their order, none twice.
-fn inherited(
-    alloc: Global,
-    answers: &Map<Key, Answer>,
-    bases: &[Path],
-) -> Result<Vec<Path>, AllocError>
-    ensures { IfOk result (λ paths.
-        paths.items ≡ inherited (λ k. lookup (key_eq k) answers.now) [] bases.now) }
-{
-    let mut found = Table::new(alloc);
-    for base in bases {
-        join(&mut found, operations_at(alloc, answers, base)?)?;
-    }
-    listed(alloc, &found)
-}
-
-// The operations and attributes of the closed interface at a path.
-fn operations_at<'a>(
-    alloc: Global,
-    answers: &'a Map<Key, Answer>,
-    path: &Path,
-) -> Result<&'a [Path], AllocError>
-    ensures { IfOk result (λ paths.
-        paths.now ≡ operations_of (entity_in (lookup (key_eq (entity_key path.now)) answers.now))) }
-{
-    let key = Key::of_entity(alloc, path)?;
-    match entity_in(answers.get(&key)) {
-        Some(entity) => Ok(entity.get().operations.as_slice()),
-        None => Ok(&[]),
-    }
-}
-
-// The paths of a queue in order.
-fn listed(alloc: Global, found: &Table<Path, ()>) -> Result<Vec<Path>, AllocError>
-    ensures { IfOk result (λ paths. paths.items ≡ keys_of found.now) }
-{
-    let mut paths = Vec::new(alloc);
-    for index in 0..found.len() {
-        let Some((path, ())) = found.get_index(index) else {
-            continue;
-        };
-        paths.push(path.clone()?)?;
-    }
-    Ok(paths)
-}
-
-// These paths, and copies of the others.
-fn append(paths: &mut Vec<Path>, others: &[Path]) -> Result<(), AllocError>
-    ensures { OnOk result (paths.new.items ≡ paths.old.items ++ others.now) }
-{
-    for path in others {
-        paths.push(path.clone()?)?;
-    }
-    Ok(())
-}
-
 // The answers with those of the additions.
 fn put_all(alloc: Global, answers: &mut Map<Key, Answer>, facts: &Facts) -> Result<(), AllocError>
     ensures { OnOk result
@@ -439,66 +363,6 @@ fn put_all(alloc: Global, answers: &mut Map<Key, Answer>, facts: &Facts) -> Resu
             continue;
         };
         answers.insert(alloc, addition.key(alloc)?, addition.answer()?)?;
-    }
-    Ok(())
-}
-
-// The paths of the operations and attributes among what is declared.
-fn operations_among(alloc: Global, facts: &Facts) -> Result<Vec<Path>, AllocError>
-    ensures { IfOk result (λ paths. paths.items ≡ operations_among facts.now.additions) }
-{
-    let mut paths = Vec::new(alloc);
-    for index in 0..facts.len() {
-        let Some(addition) = facts.addition(index) else {
-            continue;
-        };
-        keep_operation(&mut paths, addition)?;
-    }
-    Ok(paths)
-}
-
-// Keeps the path of what an addition declares, if it is an operation or attribute.
-fn keep_operation(paths: &mut Vec<Path>, addition: &Addition) -> Result<(), AllocError>
-    ensures { OnOk result
-        (paths.new.items ≡ paths.old.items ++ operations_among (addition.now ∷ [])) }
-{
-    let Addition::Declares(entity) = addition else {
-        return Ok(());
-    };
-    if !entity.get().is_operation() {
-        return Ok(());
-    }
-    paths.push(entity.get().path.clone()?)?;
-    Ok(())
-}
-
-// The innermost ones with more.
-fn add_inside(
-    alloc: Global,
-    inside: &mut SharedList<SharedList<Path>>,
-    paths: &[Path],
-) -> Result<(), AllocError>
-    ensures { OnOk result (reverse inside.new ≡ more_inside (reverse inside.old) paths.now) }
-{
-    if paths.is_empty() {
-        return Ok(());
-    }
-    let Some((mut outer, own)) = inside.split_last()? else {
-        return Ok(());
-    };
-    let mut own = own.clone()?;
-    put_last(alloc, &mut own, paths)?;
-    outer.push(alloc, own)?;
-    *inside = outer;
-    Ok(())
-}
-
-// Puts copies of the paths last.
-fn put_last(alloc: Global, own: &mut SharedList<Path>, paths: &[Path]) -> Result<(), AllocError>
-    ensures { OnOk result (own.new ≡ own.old ++ paths.now) }
-{
-    for path in paths {
-        own.push(alloc, path.clone()?)?;
     }
     Ok(())
 }
