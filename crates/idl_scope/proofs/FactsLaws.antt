@@ -195,7 +195,9 @@ module _ (keys : List Key) where
 
   -- the facts of a unit, added to worlds that agree outside some keys, of which they look at none
   pub after-outside : (w v : World) (f : UnitFacts) → WorldsAgreeOutside keys w v → AreApart (looked_at_by w f) keys → WorldsAgreeOutside keys (after w f) (after v f)
-  after-outside w v f (same, inside, before) apart =
+  after-outside w v f (same, both) apart =
+      let inside = both.0 in
+      let before = both.1 in
       let added = over-outside f.additions keys w.answers v.answers same in
       let more = ap (λ x. more_inside x (operations_among f.additions)) inside in
       let read : (k : Key) → IsIn k (looked_at_by w f) → over f.additions k (v.answers k) ≡ over f.additions k (w.answers k) = λ k i. added k (apart k (Contains-IsIn k (looked_at_by w f) i)) in
