@@ -1,8 +1,8 @@
 //! The laws of what is told.
 
-ghost use Rattle.std.specs.Prelude.{◌≡◌, ℕ, All, List, filter, nat_eq};
+ghost use Rattle.std.specs.Prelude.{◌≡◌, [], ℕ, All, List, filter, nat_eq};
 ghost use Rattle.idl_event.specs.declared.event.Event.{Event};
-ghost use Rattle.idl_root.specs.Judged.{judged_units};
+ghost use Rattle.idl_root.specs.Judged.{judged_after};
 ghost use Rattle.idl_root.specs.Told.{IsTold};
 ghost use Rattle.idl_unit.specs.Units.{units_of};
 ghost use Rattle.std.specs.List.Sorted.{IsNonDecreasingBy};
@@ -21,7 +21,7 @@ pub fn ordering()
 
 /// The fault of each unit of a root is told: it is found once, with its code. This does nothing: it carries the law.
 pub fn telling()
-    ensures { (events : List Event) → All IsTold (judged_units (units_of events)) }
+    ensures { (events : List Event) → All IsTold (judged_after [] (units_of events)) }
 {
     // They do nothing: they carry the laws of verdicts.
     numbering();
