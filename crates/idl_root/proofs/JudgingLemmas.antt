@@ -1,15 +1,17 @@
 -- What comes of a root, unit by unit.
-use Rattle.std.proofs.Common.{◌≡◌, List, [], ◌∷◌, ◌++◌, flat_map, ap, sym, ◌∙◌, append-nil, append_assoc}
+use Rattle.std.proofs.Common.{◌≡◌, ℕ, List, [], ◌∷◌, ◌++◌, flat_map, refl, ap, sym, ◌∙◌, append-nil, append_assoc}
 use Rattle.std.specs.List.{enumerate_from}
+use Rattle.std.proofs.lemmas.Grind.{flat_map-append}
 use Rattle.idl_event.specs.declared.event.Event.{Event}
 use Rattle.idl_root.specs.Compile.{Outcome, outcome_of, row_in}
 use Rattle.idl_root.specs.Findings.{event_finding, unit_finding}
 use Rattle.idl_root.specs.Held.{to_come, with_judged}
-use Rattle.idl_root.specs.Judged.{Judged, added, facts_after, judged_after, judged_at, judged_over}
+use Rattle.idl_root.specs.Judged.{added, boundary, facts_after, judged_after, judged_at, judged_over}
+use Rattle.idl_scope.specs.declared.addition.Step.TheVariants.{Enters, Leaves}
 use Rattle.idl_unit.specs.Units.{units_of}
 use Rattle.idl_unit.specs.declared.unit.Site.{Site}
 use Rattle.idl_unit.specs.declared.unit.Unit.{Unit as RootUnit}
-use Rattle.idl_unit.specs.declared.unit.Unit.TheVariants.{Spelled}
+use Rattle.idl_unit.specs.declared.unit.Unit.TheVariants.{Spelled, Entered, Left, End}
 use Rattle.idl_unit.specs.declared.unit.UnitText.{UnitText}
 
 -- what comes of one unit, and then of those behind it
@@ -40,6 +42,16 @@ to_come-quiet o next u units none is =
     let found = sym (append-nil o.found) ∙ ap (λ js. o.found ++ flat_map unit_finding js) (sym none) in
     let rows = sym (append-nil o.rows) ∙ ap (λ js. o.rows ++ flat_map row_in js) (sym none) in
     to_come-cons o next u units (is ∙ (λ i. record { facts = o.facts ++ added o.facts u; found = found i; rows = rows i }))
+
+-- a file boundary, and the end
+pub to_come-entered : (o next : Outcome) (file : List ℕ) (units : List RootUnit) → next ≡ record o { facts = o.facts ++ boundary Enters ∷ [] } → to_come next units ≡ to_come o (Entered file ∷ units)
+to_come-entered o next file units is = to_come-quiet o next (Entered file) units refl is
+
+pub to_come-left : (o next : Outcome) (file : List ℕ) (units : List RootUnit) → next ≡ record o { facts = o.facts ++ boundary Leaves ∷ [] } → to_come next units ≡ to_come o (Left file ∷ units)
+to_come-left o next file units is = to_come-quiet o next (Left file) units refl is
+
+pub to_come-over : (o : Outcome) (units : List RootUnit) → to_come o units ≡ to_come o (End ∷ units)
+to_come-over o units = to_come-quiet o o End units refl (λ i. record o { facts = sym (append-nil o.facts) i })
 
 -- nothing is to come any more
 pub to_come-end : (o : Outcome) → to_come o [] ≡ o

@@ -9,7 +9,7 @@ ghost use Rattle.std.specs.List.Sorted.{IsNonDecreasingBy};
 ghost use Rattle.idl_root.specs.Findings.{in_order};
 ghost use Rattle.idl_root.specs.declared.finding.Finding.{Finding};
 
-use idl_check::{numbering, refusal};
+use idl_check::numbering;
 
 /// What is found is told in the order of events: no finding names an event before that of an earlier one, and each event has
 /// the findings that it had, in their order. This does nothing: it carries the law.
@@ -23,7 +23,6 @@ pub fn ordering()
 pub fn telling()
     ensures { (events : List Event) → All IsTold (judged_after [] (units_of events)) }
 {
-    // They do nothing: they carry the laws of verdicts.
+    // It does nothing: it carries a law of verdicts.
     numbering();
-    refusal();
 }

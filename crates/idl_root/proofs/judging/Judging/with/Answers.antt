@@ -11,5 +11,5 @@ returns-in_ok-with_spelled-in-Spelled c =
     let sites = c.in-Spelled.sites in
     let next = held c.in_ok-with_spelled-in-Spelled.field-0 in
     λ units. to_come-spelled before next text sites units
-    (c.in_ok-with_spelled-in-Spelled.ensures ∙ ap (λ s. with_judged before (judged_over c.args.self.env text s ∷ [])) c.as_slice.ensures)
+    (c.in_ok-with_spelled-in-Spelled.ensures ∙ ap (λ s. with_judged before (judged_over c.args.self.env text s)) c.as_slice.ensures)
     ∙ ap (λ u. to_come before (u ∷ units)) (sym c.in-Spelled.is)
