@@ -8,7 +8,7 @@ use Rattle.idl_event.specs.declared.code.Code.TheVariants.{OtherPrefix}
 use Rattle.idl_memo.specs.Query.{Done, Ask, and_then}
 use Rattle.idl_scope.specs.Facts.{identity_in, prefix_in, with_addition}
 use Rattle.idl_scope.specs.Identity.{fixed_eq}
-use Rattle.idl_scope.specs.Lookup.{Lookup}
+use Rattle.idl_scope.specs.Lookup.{Lookup, under}
 use Rattle.idl_scope.specs.Path.{path_eq, scope_of}
 use Rattle.idl_scope.specs.declared.addition.Addition.{Addition}
 use Rattle.idl_scope.specs.declared.addition.Addition.TheVariants.{Identifies}
@@ -82,7 +82,7 @@ abbrev pub is_id : List ℕ → Bool
 is_id text = is_visible text && list_any (nat_eq 58) text
 
 -- what a declared name that has an id is told of ids: the prefix in force, and its own id, which is
--- asked for where it may have been declared ahead
+-- asked for where it may have been declared ahead; before it these are added
 pub record Ids : Type 0 where
   pub prefix : Prefix
   pub before : Option Identity
@@ -92,10 +92,10 @@ id_before there e =
     if is_there there (λ old. may_be_ahead old.kind)
     then Ask (IdOf e.path) (λ answer. Done (identity_in answer)) else Done None
 
-abbrev pub ids_of : Option Entity → Entity → Lookup (Option Ids)
-ids_of there e =
+abbrev pub ids_of : List Addition → Option Entity → Entity → Lookup (Option Ids)
+ids_of own there e =
     if has_id e.kind
-    then Ask PrefixKey (λ answer. and_then (id_before there e)
+    then Ask PrefixKey (λ answer. and_then (under own (id_before there e))
     (λ before. Done (Some (record { prefix = prefix_in answer; before = before }))))
     else Done None
 

@@ -278,7 +278,7 @@ visit turns (item.Declared way name) w =
       | None ↦ Done (quiet (passed 1 w))
       | Some s ↦ let e = entity_of w.written way name s.path in
           and_then (under w.own (standing turns s (folded name)))
-          (λ standing. and_then (under w.own (ids_of standing.there e))
+          (λ standing. and_then (ids_of w.own standing.there e)
           (λ ids. Done (declared_visit w s e standing ids)))
     ]
 visit turns (item.Used way name) w =

@@ -167,7 +167,6 @@ module _ (keys : List Key) where
   step-inside w v (Opens path kind) inside h = ap (λ own. [] ∷ own) inside
   step-inside w v (OpensNameless kind) inside h = ap (λ own. [] ∷ own) inside
   step-inside w v Closes inside h = ap (λ o. (after_closing v (scopes_in o)).inside) (h Cursor (inl refl)) ∙ closing-inside w v (scopes_in (w.answers Cursor)) inside
-
   step-inside w v (Prefixes text) inside h = inside
   step-inside w v Enters inside h = inside
   step-inside w v Leaves inside h = inside
@@ -203,4 +202,4 @@ module _ (keys : List Key) where
       let read : (k : Key) → IsIn k (looked_at_by w f) → over f.additions k (v.answers k) ≡ over f.additions k (w.answers k) = λ k i. added k (apart k (Contains-IsIn k (looked_at_by w f) i)) in
       let grown = with_additions f.additions w in
       let other = with_additions f.additions v in
-      (step-outside grown other f.step added more before read, step-inside grown other f.step more read, step-before grown other f.step before read)
+      (step-outside grown other f.step added more before read, (step-inside grown other f.step more read, step-before grown other f.step before read))

@@ -3,7 +3,7 @@ use Rattle.std.proofs.Common.{◌≡◌, ℕ, ◌<◌, Bool, true, false, cond, 
 use Rattle.std.specs.Map.{lookup}
 use Rattle.std.proofs.lemmas.Option.{same_Some}
 use Rattle.std.proofs.lemmas.List.{append-nil, reverse-append}
-use Rattle.idl_scope.specs.Facts.{Before, World, addition_at, after_closing, after_opening, answer_of, closed, closing, count_in, entity_in, entity_key, given_back, is_operation, more_inside, operations_among, over, prefix_in, scopes_in, with_answer, with_prefix}
+use Rattle.idl_scope.specs.Facts.{Before, World, addition_at, after_closing, after_opening, answer_of, closed, closing, count_in, entity_in, entity_key, first_answer, given_back, global_scope, is_operation, more_inside, no_prefix, operations_among, over, prefix_in, scopes_in, with_answer, with_prefix}
 use Rattle.idl_scope.specs.Held.{closable, held}
 use Rattle.idl_scope.specs.Key.{key_eq}
 use Rattle.idl_scope.specs.Lookup.{inherits}
@@ -14,7 +14,7 @@ use Rattle.idl_scope.specs.declared.answer.Answer.TheVariants.{Open, Count}
 use Rattle.idl_scope.specs.declared.answer.Scope.{Scope}
 use Rattle.idl_scope.specs.declared.entity.Entity.{Entity}
 use Rattle.idl_scope.specs.declared.key.Key.{Key}
-use Rattle.idl_scope.specs.declared.key.Key.TheVariants.{Cursor, Opened, Prefix as PrefixKey}
+use Rattle.idl_scope.specs.declared.key.Key.TheVariants.{Cursor, Declared, Introduced, Opened, Nameless, Prefix as PrefixKey, IdOf}
 use Rattle.idl_scope.specs.declared.state.State.{State}
 
 -- the answers of a table
@@ -71,6 +71,16 @@ count-over additions k before n h = by (addition_at additions k)
     by (Some (Declares e)) = none
     by (Some (Uses m path body)) = none
     by (Some (Identifies path identity)) = none
+
+-- at first
+pub first-answers : (k : Key) → with_prefix no_prefix (with_answer Cursor (Open (global_scope ∷ [])) (λ q. None)) k ≡ first_answer k
+first-answers Cursor = refl
+first-answers (Declared n path) = refl
+first-answers (Introduced n path body) = refl
+first-answers (Opened path) = refl
+first-answers Nameless = refl
+first-answers PrefixKey = refl
+first-answers (IdOf path) = refl
 
 -- an interface that closes
 pub closing_is : (w : World) (s : Scope) (e : Entity) → inherits s.kind ≡ true → entity_in (w.answers (entity_key s.path)) ≡ Some e → closing w s ≡ Declares (closed w e) ∷ []

@@ -1,13 +1,16 @@
 //! Repository ids, and the prefixes that they begin with.
 
 ghost use Rattle.std.specs.Cmp.{on_equiv, on_per, partial_equiv_from_equiv, nat_eq_equiv};
-ghost use Rattle.std.specs.Prelude.{◌≡◌};
+ghost use Rattle.std.specs.Prelude.{◌≡◌, IfOk};
+ghost use Rattle.idl_scope.specs.Facts.{no_prefix};
 ghost use Rattle.idl_scope.specs.Identity.{fixed_number, fixed_eq, same_fixed};
 
+use crate::name::shared_name;
 use crate::path::Path;
+use crate::shared::Shared;
 use idl_base::Datum;
 use idl_lex::Spelling;
-use std::alloc::AllocError;
+use std::alloc::{AllocError, Global};
 
 /// A prefix of repository ids: its text, and the path of the scope in which it was met.
 #[derive(Clone, PartialEq, Eq)]
@@ -52,6 +55,17 @@ impl Drop for Identity {
             prefix: _prefix,
             fixed: _fixed,
         } = self;
+    }
+}
+
+impl Prefix {
+    /// The empty prefix, met in the global scope.
+    pub fn none(alloc: Global) -> Result<Shared<Prefix>, AllocError>
+        ensures { IfOk result (λ prefix. prefix ≡ no_prefix) }
+    {
+        let text = shared_name(alloc, b"")?;
+        let scope = Path::global(alloc)?;
+        Shared::new(alloc, Prefix { text, scope })
     }
 }
 

@@ -2,7 +2,7 @@
 //! is closed.
 
 ghost use Rattle.std.specs.Prelude.{◌≡◌, ◌∷◌, ◌++◌, [], IfOk, OnOk, drop, reverse};
-ghost use Rattle.idl_scope.specs.Facts.{entity_in, entity_key, inherited, innermost, more_inside, operations_among, operations_of};
+ghost use Rattle.idl_scope.specs.Facts.{entity_in, entity_key, inherited, innermost, joined, more_inside, operations_among, operations_of};
 ghost use Rattle.idl_scope.specs.Key.{key_eq};
 ghost use Rattle.std.specs.Map.{keys_of, lookup};
 

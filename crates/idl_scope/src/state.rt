@@ -2,7 +2,7 @@
 
 ghost use Rattle.std.specs.Prelude.{◌≡◌, ◌<◌, ◌∷◌, ◌++◌, [], IfOk, drop, map, OnOk, option_to_list, reverse};
 ghost use Rattle.std.specs.Option.{option_map};
-ghost use Rattle.idl_scope.specs.Facts.{after, after_step, closing, count_in, first_world, given_back, inherited, innermost, nameless, next_body, no_prefix, over, path_around, prefix_in, with_additions};
+ghost use Rattle.idl_scope.specs.Facts.{after, after_closing, after_nameless, after_opening, after_step, closed, closing, entity_key, first_world, given_back, inherited, innermost, joined, more_inside, nameless, next_body, no_prefix, operations_among, operations_of, path_around, prefix_in, with_additions, with_answer, count_in, entity_in, scopes_in, over};
 ghost use Rattle.idl_scope.specs.Held.{closable, held};
 ghost use Rattle.idl_scope.specs.Key.{key_eq};
 ghost use Rattle.idl_scope.specs.declared.addition.Addition.TheVariants.{Declares};
@@ -76,7 +76,7 @@ impl State {
         let scopes = opened(alloc, Scope::global(alloc)?, &[])?;
         let mut answers = Map::new();
         answers.insert(alloc, Key::Cursor, scopes)?;
-        answers.insert(alloc, Key::Prefix, Answer::InForce(no_prefix(alloc)?))?;
+        answers.insert(alloc, Key::Prefix, Answer::InForce(Prefix::none(alloc)?))?;
         let mut inside = SharedList::new();
         inside.push(alloc, SharedList::new())?;
         Ok(State {
@@ -202,7 +202,7 @@ impl State {
     {
         match prefix_in(self.answers.get(&Key::Prefix)) {
             Some(prefix) => prefix.clone(),
-            None => no_prefix(alloc),
+            None => Prefix::none(alloc),
         }
     }
 
@@ -223,7 +223,7 @@ impl State {
         ensures { OnOk result (held self.new ≡ after_step (held self.old) Enters) }
     {
         let prefix = self.prefix(alloc)?;
-        let none = no_prefix(alloc)?;
+        let none = Prefix::none(alloc)?;
         self.answers
             .insert(alloc, Key::Prefix, Answer::InForce(none))?;
         self.entered.push(alloc, prefix)?;
@@ -303,15 +303,6 @@ fn put_closing(
     Ok(())
 }
 
-// The empty prefix, met in the global scope.
-fn no_prefix(alloc: Global) -> Result<Shared<Prefix>, AllocError>
-    ensures { IfOk result (λ prefix. prefix ≡ no_prefix) }
-{
-    let text = shared_name(alloc, b"")?;
-    let scope = Path::global(alloc)?;
-    Shared::new(alloc, Prefix { text, scope })
-}
-
 // The prefix that was put there last, taken off.
 fn taken_last(
     alloc: Global,
@@ -321,7 +312,7 @@ fn taken_last(
     ensures others { IfOk result (λ prefix. reverse before.new ≡ drop 1 (reverse before.old)) }
 {
     let Some((earlier, last)) = before.split_last()? else {
-        return no_prefix(alloc);
+        return Prefix::none(alloc);
     };
     let prefix = last.clone()?;
     *before = earlier;

@@ -1,8 +1,9 @@
 use Rattle.std.proofs.Common.{◌≡◌, ap, ◌∙◌, ◌++◌, ◌∷◌, [], refl}
-use Rattle.idl_scope.specs.Facts.{after_opening, prefix_in, scopes_in, with_answer}
+use Rattle.idl_scope.specs.Facts.{after_opening, scopes_in, with_answer}
 use Rattle.idl_scope.specs.Held.{held}
 use Rattle.idl_scope.specs.declared.answer.Answer.TheVariants.{Open, Count}
-use Rattle.idl_scope.specs.declared.key.Key.TheVariants.{Cursor, Opened, Prefix as PrefixKey}
+use Rattle.idl_scope.specs.declared.key.Key.TheVariants.{Cursor, Opened}
+use Rattle.idl_scope.specs.declared.state.State.{State}
 use Rattle.idl_scope.proofs.StateLemmas.{held-opening, kept}
 use Rattle.idl_scope.proofs.state.State.open.Goals as goal
 
@@ -19,6 +20,6 @@ returns c =
     let opened = c.in_ok-scopes.ensures ∙ ap (λ scopes. Open (scope ∷ scopes)) outer in
     let within = c.in_ok-push.ensures.items ∙ ap (λ own. state.inside ++ own ∷ []) c.new.ensures in
     let before = c.in_ok-push-2.ensures.items ∙ ap (λ prefix. state.opened ++ prefix ∷ []) c.in_ok-prefix.ensures in
-    let after = record { answers = c.insert-2.new.self; inside = c.push.new.self; opened = c.push-2.new.self; entered = state.entered } in
+    let after : State = record { answers = c.insert-2.new.self; inside = c.push.new.self; opened = c.push-2.new.self; entered = state.entered } in
     held-opening state after scope c.in_ok-scopes.scopes opened both within before refl
     ∙ ap (after_opening (held state)) c.in_ok-scope.ensures
