@@ -257,8 +257,8 @@ pub fn array_of(alloc: Global, alias: &Entity) -> Result<Shared<Entity>, AllocEr
     Shared::new(alloc, entity)
 }
 
-// Whether it may be declared ahead.
-fn may_be_ahead(kind: Kind) -> bool
+/// Whether it may be declared ahead.
+pub fn may_be_ahead(kind: Kind) -> bool
     ensures { result ≡ may_be_ahead kind }
 {
     kind == Kind::Interface || kind == Kind::Structure || kind == Kind::Union

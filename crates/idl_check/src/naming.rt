@@ -65,7 +65,8 @@ impl<'a> Walker<'a> {
         let entity = self.written.entity(alloc, way, &spelled, &scope.path)?;
         let folded = entity.get().path.folded(alloc)?;
         let standing = standing_of(self.view(), log, &scope, &folded)?;
-        self.declare_as(&scope, entity, &standing)?;
+        let ids = ids_of(self.view(), log, &standing.there, entity.get())?;
+        self.declare_as(&scope, entity, (&standing, &ids))?;
         Ok(())
     }
 

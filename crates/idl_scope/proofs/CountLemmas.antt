@@ -1,6 +1,6 @@
 -- No count is greater than the number of units.
 use Rattle.std.proofs.Common.{◌≡◌, ℕ, suc, ◌+◌, ◌≤◌, Bool, true, false, cond, List, [], ◌∷◌, ◌++◌, Option, Some, None, length, refl, arith}
-use Rattle.idl_scope.specs.Facts.{UnitFacts, World, addition_at, after, after_all, after_closing, after_nameless, after_opening, after_step, answer_of, closing, count_in, first_world, given_back, nameless, next_body, path_around, scopes_in, with_additions, with_prefix, world}
+use Rattle.idl_scope.specs.Facts.{UnitFacts, World, addition_at, after, after_all, after_closing, after_nameless, after_opening, after_step, answer_of, closing, count_in, first_world, given_back, nameless, next_body, no_prefix, over, path_around, scopes_in, with_additions, with_answer, with_prefix, world}
 use Rattle.idl_scope.specs.Key.{key_eq}
 use Rattle.idl_scope.specs.declared.addition.Addition.{Addition}
 use Rattle.idl_scope.specs.declared.addition.Addition.TheVariants.{Declares, Uses, Identifies}
@@ -57,8 +57,8 @@ AtMost-closing w n [] h k = h k
 AtMost-closing w n (s ∷ []) h k = h k
 AtMost-closing w n (s ∷ t ∷ outer) h k =
     let none : 0 ≤ n = omega arith in
-    prefix_counts (given_back w.before.opened) _ n k
-    (with_counts (Open (t ∷ outer)) _ n none (over_counts (w.answers k) n (h k) (addition_at (closing w s) k)) (key_eq k Cursor))
+    prefix_counts (given_back w.before.opened) (with_answer Cursor (Open (t ∷ outer)) (λ q. over (closing w s) q (w.answers q))) n k
+    (with_counts (Open (t ∷ outer)) (over (closing w s) k (w.answers k)) n none (over_counts (w.answers k) n (h k) (addition_at (closing w s) k)) (key_eq k Cursor))
 
 AtMost-step : (w : World) (n : ℕ) (step : Step) → AtMost w n → AtMost (after_step w step) (suc n)
 AtMost-step w n Stays h = AtMost-more w n h
@@ -70,9 +70,11 @@ AtMost-step w n (OpensNameless kind) h =
     let body : next_body w path ≤ suc n = (let at = h (Opened path) in omega arith) in
     AtMost-opening (after_nameless w) (suc n) (record { path = path; kind = kind; body = next_body w path }) body (AtMost-nameless w n h)
 AtMost-step w n Closes h = AtMost-more (after_closing w (scopes_in (w.answers Cursor))) n (AtMost-closing w n (scopes_in (w.answers Cursor)) h)
-AtMost-step w n (Prefixes text) h k = prefix_counts _ w.answers (suc n) k (AtMost-more w n h k)
-AtMost-step w n Enters h k = prefix_counts _ w.answers (suc n) k (AtMost-more w n h k)
-AtMost-step w n Leaves h k = prefix_counts _ w.answers (suc n) k (AtMost-more w n h k)
+AtMost-step w n (Prefixes text) h =
+    let prefix : Prefix = record { text = text; scope = path_around (scopes_in (w.answers Cursor)) } in
+    λ k. prefix_counts prefix w.answers (suc n) k (AtMost-more w n h k)
+AtMost-step w n Enters h = λ k. prefix_counts no_prefix w.answers (suc n) k (AtMost-more w n h k)
+AtMost-step w n Leaves h = λ k. prefix_counts (given_back w.before.entered) w.answers (suc n) k (AtMost-more w n h k)
 
 AtMost-after_all : (facts : List UnitFacts) (w : World) (n : ℕ) → AtMost w n → AtMost (after_all w facts) (n + length facts)
 AtMost-after_all [] w n h k = let at = h k in omega arith

@@ -62,10 +62,14 @@ impl<'a> View<'a> {
         }
     }
 
-    /// The prefix in force.
+    /// The prefix in force, which no addition changes.
+    #[tactic(auto, using(crate::proofs::AnswerLemmas::over_prefix))]
     pub fn prefix(self, log: &mut Log<Env>) -> Result<Shared<Prefix>, AllocError>
         ensures prefix { IfOk result (λ prefix.
-            prefix ≡ prefix_in (answers self.entry.env.now PrefixKey)) }
+            prefix
+            ≡ prefix_in
+            (over self.entry.own.now.additions PrefixKey
+            (answers self.entry.env.now PrefixKey))) }
         ensures logged { OnOk result
             (log.new ≡ noted key_eq (answers self.entry.env.now) log.old PrefixKey) }
     {

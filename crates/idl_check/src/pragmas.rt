@@ -1,0 +1,184 @@
+//! Pragmas: what they say of prefixes and ids.
+
+ghost use Rattle.std.specs.Prelude.{◌≡◌, ◌≤◌, ℕ, IfOk};
+ghost use Rattle.idl_check.specs.Pragmas.{about_name, id_faults, prefix_faults, said, version_faults};
+ghost use Rattle.idl_check.specs.Verdict.{pragma_verdict};
+ghost use Rattle.idl_memo.specs.Query.{Done, and_then, run};
+ghost use Rattle.idl_scope.specs.Facts.{answers};
+ghost use Rattle.idl_scope.specs.Key.{key_eq};
+ghost use Rattle.idl_scope.specs.declared.lookup.TheConstants.{TURNS};
+
+use crate::identifying::{given, has_id, id_text, is_fixed, is_given, versioned, visible};
+use crate::using::{last_at, name_code, part_at};
+use crate::verdict::{Verdict, adding};
+use idl_event::Code;
+use idl_memo::Log;
+use idl_scope::{
+    Addition, Env, Facts, Identity, NameFault, Path, Scope, Shared, Standpoint, Step, View, resolve,
+};
+use idl_tree::{Pragma, ScopedName};
+use idl_unit::Fault;
+use std::alloc::{AllocError, Global};
+
+/// A pragma, in the scopes that are open around it.
+#[derive(Clone, Copy)]
+pub struct Speaker<'a> {
+    pub env: &'a Env,
+    pub scopes: &'a [Scope],
+}
+
+// What a pragma speaks of: a path, and what identifies the name there.
+struct Named {
+    path: Path,
+    identity: Shared<Identity>,
+}
+
+impl Drop for Named {
+    fn drop(self) {
+        let Named {
+            path: _path,
+            identity: _identity,
+        } = self;
+    }
+}
+
+// The number of the token at which what a pragma speaks of begins.
+const OPERANDS: usize = 2;
+
+impl<'a> Speaker<'a> {
+    /// The verdict of a pragma.
+    pub fn verdict(self, log: &mut Log<Env>, pragma: &Pragma) -> Result<Verdict, AllocError>
+        ensures { IfOk result (λ v. (turns : ℕ) → TURNS ≤ turns →
+            (v, log.new)
+            ≡ run key_eq
+            (and_then (said turns self.entry.scopes.now pragma.now) (λ s. Done (pragma_verdict s)))
+            (answers self.entry.env.now) log.old) }
+    {
+        match pragma {
+            Pragma::Prefix(text) => prefix(self.env.alloc(), text.as_slice()),
+            Pragma::Id(name, text) => self.id(log, name, text.as_slice()),
+            Pragma::Version(name, major, minor) => self.version(log, name, (*major, *minor)),
+        }
+    }
+
+    // The verdict of an id that is given.
+    fn id(
+        self,
+        log: &mut Log<Env>,
+        name: &ScopedName,
+        text: &[u16],
+    ) -> Result<Verdict, AllocError> {
+        let alloc = self.env.alloc();
+        let named = match self.named(log, name)? {
+            Ok(Some(named)) => named,
+            Ok(None) => return adding(alloc, None, Step::Stays),
+            Err(fault) => return adding(alloc, Some(fault), Step::Stays),
+        };
+        let at = last_at(OPERANDS, name);
+        if is_given(text, named.identity.get()) {
+            return refused(alloc, at, Code::RepeatedId);
+        }
+        match id_text(alloc, text)? {
+            Some(id) => {
+                let identity = given(alloc, named.identity.get(), id)?;
+                identifying(alloc, &named.path, identity)
+            }
+            None => refused(alloc, at + 1, Code::BadIdText),
+        }
+    }
+
+    // The verdict of a version that is given.
+    fn version(
+        self,
+        log: &mut Log<Env>,
+        name: &ScopedName,
+        version: (u16, u16),
+    ) -> Result<Verdict, AllocError> {
+        let alloc = self.env.alloc();
+        let named = match self.named(log, name)? {
+            Ok(Some(named)) => named,
+            Ok(None) => return adding(alloc, None, Step::Stays),
+            Err(fault) => return adding(alloc, Some(fault), Step::Stays),
+        };
+        if is_fixed(named.identity.get()) {
+            return refused(alloc, last_at(OPERANDS, name), Code::RepeatedVersion);
+        }
+        let identity = versioned(alloc, named.identity.get(), version)?;
+        identifying(alloc, &named.path, identity)
+    }
+
+    // What a name denotes that has an id, or the fault at the name.
+    fn named(
+        self,
+        log: &mut Log<Env>,
+        name: &ScopedName,
+    ) -> Result<Result<Option<Named>, Fault>, AllocError> {
+        let own = Facts::new(self.env.alloc());
+        let place = Standpoint {
+            own: &own,
+            cursor: self.scopes,
+        };
+        match resolve(self.env, log, place, name) {
+            Ok(found) => {
+                let entity = found.entity.get();
+                if !has_id(entity.kind) {
+                    return Ok(Err(Fault {
+                        index: last_at(OPERANDS, name),
+                        code: Code::NoRepositoryId,
+                    }));
+                }
+                Ok(Ok(self.identified(log, &entity.path)?))
+            }
+            Err(NameFault::Memory) => Err(AllocError),
+            Err(NameFault::At(code, part)) => Ok(Err(Fault {
+                index: part_at(OPERANDS, name, part),
+                code: name_code(code),
+            })),
+        }
+    }
+
+    // What identifies the name at a path, if it has an id.
+    fn identified(self, log: &mut Log<Env>, path: &Path) -> Result<Option<Named>, AllocError> {
+        let own = Facts::new(self.env.alloc());
+        let view = View {
+            env: self.env,
+            own: &own,
+        };
+        match view.identity(log, path)? {
+            Some(identity) => Ok(Some(Named {
+                path: path.clone()?,
+                identity: identity.clone()?,
+            })),
+            None => Ok(None),
+        }
+    }
+}
+
+// The verdict of a prefix.
+fn prefix(alloc: Global, text: &[u16]) -> Result<Verdict, AllocError> {
+    match visible(alloc, text)? {
+        Some(spelled) => adding(alloc, None, Step::Prefixes(spelled)),
+        None => refused(alloc, OPERANDS, Code::BadIdText),
+    }
+}
+
+// The verdict of a pragma with a fault at the token with this number.
+fn refused(alloc: Global, index: usize, code: Code) -> Result<Verdict, AllocError> {
+    adding(alloc, Some(Fault { index, code }), Step::Stays)
+}
+
+// The verdict of a pragma by which what is declared at a path is identified so.
+fn identifying(
+    alloc: Global,
+    path: &Path,
+    identity: Shared<Identity>,
+) -> Result<Verdict, AllocError> {
+    let mut facts = Facts::new(alloc);
+    facts.add(Addition::Identifies(path.clone()?, identity))?;
+    let writes = Shared::new(alloc, facts)?;
+    Ok(Verdict {
+        fault: None,
+        writes,
+        row: None,
+    })
+}
