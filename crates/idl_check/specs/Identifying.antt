@@ -2,13 +2,12 @@
 use Rattle.std.specs.Prelude.{ℕ, ◌+◌, ◌-◌, Bool, true, false, ◌&&◌, ◌||◌, List, [], ◌∷◌, ◌++◌, codes, decimal, drop, length, nat_eq, nat_le, not, take, Option, None, Some, if◌then◌else◌}
 use Rattle.std.specs.List.{list_all, list_any}
 use Rattle.std.specs.Str.{bytes_eq}
-use Rattle.idl_check.specs.Codes.{Table}
-use Rattle.idl_check.specs.Declaring.{is_there, may_be_ahead}
-use Rattle.idl_event.specs.declared.code.Code.TheVariants.{OtherPrefix}
+use Rattle.idl_check.specs.declared.identifying.Ids.{Ids}
 use Rattle.idl_memo.specs.Query.{Done, Ask, and_then}
 use Rattle.idl_scope.specs.Facts.{identity_in, prefix_in, with_addition}
 use Rattle.idl_scope.specs.Identity.{fixed_eq}
-use Rattle.idl_scope.specs.Lookup.{Lookup, under}
+use Rattle.idl_scope.specs.Kind.{kind_eq}
+use Rattle.idl_scope.specs.Lookup.{Lookup}
 use Rattle.idl_scope.specs.Path.{path_eq, scope_of}
 use Rattle.idl_scope.specs.declared.addition.Addition.{Addition}
 use Rattle.idl_scope.specs.declared.addition.Addition.TheVariants.{Identifies}
@@ -18,7 +17,7 @@ use Rattle.idl_scope.specs.declared.identity.Identity.{Identity}
 use Rattle.idl_scope.specs.declared.identity.Prefix.{Prefix}
 use Rattle.idl_scope.specs.declared.key.Key.TheVariants.{Prefix as PrefixKey, IdOf}
 use Rattle.idl_scope.specs.declared.kind.Kind.{Kind}
-use Rattle.idl_scope.specs.declared.kind.Kind.TheVariants.{Enumerator, Parameter, Member}
+use Rattle.idl_scope.specs.declared.kind.Kind.TheVariants.{Interface, Structure, Union, Enumerator, Parameter, Member}
 
 -- members, parameters and enumerators have no id
 abbrev pub has_id : Kind → Bool
@@ -81,21 +80,22 @@ is_visible text = list_all (λ c. nat_le 33 c && nat_le c 126) text
 abbrev pub is_id : List ℕ → Bool
 is_id text = is_visible text && list_any (nat_eq 58) text
 
--- what a declared name that has an id is told of ids: the prefix in force, and its own id, which is
--- asked for where it may have been declared ahead; before it these are added
-pub record Ids : Type 0 where
-  pub prefix : Prefix
-  pub before : Option Identity
+-- interfaces, structs and unions may be declared ahead
+abbrev pub may_be_ahead : Kind → Bool
+may_be_ahead kind = kind_eq kind Interface || (kind_eq kind Structure || kind_eq kind Union)
 
+-- the id of a name that was declared before as this, which may have been ahead
 abbrev pub id_before : Option Entity → Entity → Lookup (Option Identity)
-id_before there e =
-    if is_there there (λ old. may_be_ahead old.kind)
-    then Ask (IdOf e.path) (λ answer. Done (identity_in answer)) else Done None
+id_before None e = Done None
+id_before (Some old) e =
+    if may_be_ahead old.kind then Ask (IdOf e.path) (λ answer. Done (identity_in answer))
+    else Done None
 
-abbrev pub ids_of : List Addition → Option Entity → Entity → Lookup (Option Ids)
-ids_of own there e =
+-- what a declared name that has an id is told of ids: the prefix in force, and its own id
+abbrev pub ids_of : Option Entity → Entity → Lookup (Option Ids)
+ids_of there e =
     if has_id e.kind
-    then Ask PrefixKey (λ answer. and_then (under own (id_before there e))
+    then Ask PrefixKey (λ answer. and_then (id_before there e)
     (λ before. Done (Some (record { prefix = prefix_in answer; before = before }))))
     else Done None
 
@@ -104,9 +104,6 @@ abbrev pub has_other_prefix : Option Ids → Bool
 has_other_prefix None = false
 has_other_prefix (Some ids) =
     elim ids.before [ None ↦ false | Some d ↦ not (bytes_eq d.prefix ids.prefix.text) ]
-
-abbrev pub prefix_table : Option Ids → Table
-prefix_table ids = (has_other_prefix ids, OtherPrefix) ∷ []
 
 -- what is declared first is identified
 abbrev pub with_identity : Option Entity → Option Ids → Entity → List Addition → List Addition

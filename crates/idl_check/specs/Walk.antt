@@ -4,7 +4,6 @@ use Rattle.std.specs.Prelude.{ℕ, ◌+◌, Bool, true, false, ◌&&◌, List, [
 use Rattle.std.specs.List.{list_any}
 use Rattle.idl_check.specs.Codes.{faults_by}
 use Rattle.idl_check.specs.Declaring.{Written, declared_table, entity_of, kind_of, standing, with_declared, written_after}
-use Rattle.idl_check.specs.Identifying.{Ids, ids_of, prefix_table, with_identity}
 use Rattle.idl_check.specs.Labels.{Labels, is_idle, is_labelled, no_labels, with_default, with_label}
 use Rattle.idl_check.specs.Types.{looked_through, target_in, written_as}
 use Rattle.idl_check.specs.Using.{Bases, bases_after, last_at, meaning_after, name_code, part_at, unions_after, used_table, values_after, with_uses}
@@ -105,13 +104,13 @@ faulty_if is_faulty why w after = record {
   after = after;
 }
 
--- a declared name, by what stands under it in its scope and what it is told of ids
-abbrev pub declared_visit : Walk → Scope → Entity → Standing → Option Ids → Visit
-declared_visit w s e standing ids = record {
-  faults = faults_by w.at (declared_table s standing e ++ prefix_table ids);
+-- a declared name, by what stands under it in its scope
+abbrev pub declared_visit : Walk → Scope → Entity → Standing → Visit
+declared_visit w s e standing = record {
+  faults = faults_by w.at (declared_table s standing e);
   after = record w {
     at = w.at + 1;
-    own = with_declared standing.there e (with_identity standing.there ids e w.own);
+    own = with_declared standing e w.own;
     begun = w.begun ++ (if stage_eq e.stage Begun then e ∷ [] else []);
     written = written_after w.written e;
     alias = if kind_eq e.kind Alias then Some e else w.alias;
@@ -277,9 +276,7 @@ visit turns (item.Declared way name) w =
     elim (first w.cursor) [
       | None ↦ Done (quiet (passed 1 w))
       | Some s ↦ let e = entity_of w.written way name s.path in
-          and_then (under w.own (standing turns s (folded name)))
-          (λ standing. and_then (ids_of w.own standing.there e)
-          (λ ids. Done (declared_visit w s e standing ids)))
+          and_then (under w.own (standing turns s e)) (λ there. Done (declared_visit w s e there))
     ]
 visit turns (item.Used way name) w =
     if w.gives_back then given_back turns way name w else used turns way name w

@@ -9,6 +9,7 @@ ghost use Rattle.idl_scope.specs.Path.{path_eq};
 ghost use Rattle.idl_unit.specs.TokenRules.{first};
 
 use crate::codes::first_code;
+use crate::identifying::{is_of_other_prefix, may_be_ahead};
 use crate::standing::Standing;
 use crate::types::names_of;
 use idl_base::Seq;
@@ -257,13 +258,6 @@ pub fn array_of(alloc: Global, alias: &Entity) -> Result<Shared<Entity>, AllocEr
     Shared::new(alloc, entity)
 }
 
-/// Whether it may be declared ahead.
-pub fn may_be_ahead(kind: Kind) -> bool
-    ensures { result ≡ may_be_ahead kind }
-{
-    kind == Kind::Interface || kind == Kind::Structure || kind == Kind::Union
-}
-
 // Whether one of them is declared ahead, and both may be.
 fn come_ahead(old: &Entity, new: &Entity) -> bool
     ensures { result ≡ come_ahead old.now new.now }
@@ -330,6 +324,7 @@ pub fn declared_code(
         (standing.is_used, Code::DeclaredAfterUse),
         (is_other, Code::OtherForward),
         (standing.is_inherited, Code::InheritedTwice),
+        (is_of_other_prefix(&standing.ids), Code::OtherPrefix),
     ]))
 }
 

@@ -2,13 +2,12 @@
 
 ghost use Rattle.std.specs.Prelude.{◌≡◌, ◌++◌, IfOk, None, OnOk, Some, decimal, if◌then◌else◌};
 ghost use Rattle.std.specs.Str.{bytes_eq};
-ghost use Rattle.idl_check.specs.Identifying.{first_identity, given, has_id, has_other_prefix, id_before, ids_of, is_fixed, is_given, is_id, is_visible, prefixed, relative, slashed, versioned};
+ghost use Rattle.idl_check.specs.Identifying.{first_identity, given, has_id, has_other_prefix, id_before, ids_of, is_fixed, is_given, is_id, is_visible, may_be_ahead, prefixed, relative, slashed, versioned};
 ghost use Rattle.idl_memo.specs.Query.{run};
 ghost use Rattle.idl_scope.specs.Facts.{answers};
 ghost use Rattle.idl_scope.specs.Key.{key_eq};
 ghost use Rattle.idl_scope.specs.Lookup.{under};
 
-use crate::declaring::may_be_ahead;
 use idl_lex::Spelling;
 use idl_memo::Log;
 use idl_scope::{Entity, Env, Fixed, Identity, Kind, Path, Prefix, Shared, View, shared_name};
@@ -32,18 +31,24 @@ impl Drop for Ids {
     }
 }
 
-impl Ids {
-    /// Whether the name was declared first under another prefix.
-    pub fn is_of_other_prefix(&self) -> bool
-        ensures { result ≡ has_other_prefix (Some self.now) }
-    {
-        match &self.before {
-            Some(identity) => {
-                identity.get().prefix.as_bytes() != self.prefix.get().text.as_bytes()
-            }
-            None => false,
-        }
+/// Whether a name was declared first under another prefix.
+pub fn is_of_other_prefix(ids: &Option<Ids>) -> bool
+    ensures { result ≡ has_other_prefix ids.now }
+{
+    let Some(ids) = ids else {
+        return false;
+    };
+    match &ids.before {
+        Some(identity) => identity.get().prefix != ids.prefix.get().text,
+        None => false,
     }
+}
+
+/// Whether it may be declared ahead.
+pub fn may_be_ahead(kind: Kind) -> bool
+    ensures { result ≡ may_be_ahead kind }
+{
+    kind == Kind::Interface || kind == Kind::Structure || kind == Kind::Union
 }
 
 /// Whether what is of this kind has an id.
@@ -65,7 +70,7 @@ pub fn ids_of(
 ) -> Result<Option<Ids>, AllocError>
     ensures { IfOk result (λ ids.
         (ids, log.new)
-        ≡ run key_eq (ids_of view.entry.own.now.additions there.now new.now)
+        ≡ run key_eq (under view.entry.own.now.additions (ids_of there.now new.now))
         (answers view.entry.env.now) log.old) }
 {
     if !has_id(new.kind) {

@@ -16,6 +16,7 @@ use idl_memo::Log;
 use idl_scope::{
     Addition, Env, Facts, Identity, NameFault, Path, Scope, Shared, Standpoint, Step, View, resolve,
 };
+use idl_syntax::UnitTree;
 use idl_tree::{Pragma, ScopedName};
 use idl_unit::Fault;
 use std::alloc::{AllocError, Global};
@@ -46,8 +47,16 @@ impl Drop for Named {
 const OPERANDS: usize = 2;
 
 impl<'a> Speaker<'a> {
-    /// The verdict of a pragma.
-    pub fn verdict(self, log: &mut Log<Env>, pragma: &Pragma) -> Result<Verdict, AllocError>
+    /// The verdict of a unit whose tree this is, a pragma.
+    pub fn verdict(self, log: &mut Log<Env>, tree: &UnitTree) -> Result<Verdict, AllocError> {
+        match tree {
+            UnitTree::Pragma(pragma) => self.said(log, pragma),
+            UnitTree::Tokens(_tree) => Err(AllocError),
+        }
+    }
+
+    // The verdict of a pragma.
+    fn said(self, log: &mut Log<Env>, pragma: &Pragma) -> Result<Verdict, AllocError>
         ensures { IfOk result (λ v. (turns : ℕ) → TURNS ≤ turns →
             (v, log.new)
             ≡ run key_eq

@@ -14,7 +14,7 @@ use crate::pragmas::Speaker;
 use crate::verdict::{Verdict, adding};
 use idl_memo::{Log, Task, TaskKind};
 use idl_scope::{Env, Key, Step, scopes_in};
-use idl_syntax::{SyntaxFault, UnitTree, parse};
+use idl_syntax::{SyntaxFault, parse};
 use idl_unit::UnitText;
 use std::alloc::{AllocError, Global};
 
@@ -88,8 +88,7 @@ fn pragma_verdict(
 {
     let alloc = speaker.env.alloc();
     match parse(alloc, text) {
-        Ok(UnitTree::Pragma(pragma)) => speaker.verdict(log, &pragma),
-        Ok(UnitTree::Tokens(_tree)) => Err(AllocError),
+        Ok(tree) => speaker.verdict(log, &tree),
         Err(SyntaxFault::Rule(fault)) => adding(alloc, Some(fault), Step::Stays),
         Err(SyntaxFault::Memory) | Err(SyntaxFault::NoTree(_)) => Err(AllocError),
     }
