@@ -9,7 +9,7 @@ use Rattle.idl_scope.proofs.state.State.new.Goals as goal
 
 pub returns : goal.returns
 returns c =
-    let none : kept c.new-answers.answers ≡ (λ q. None) = ap kept c.new-answers.ensures in
+    let none : kept c.new-answers.result ≡ (λ q. None) = ap kept c.new-answers.ensures in
     let scopes = c.in_ok-scopes.ensures ∙ ap (λ s. Open (s ∷ [])) c.in_ok-global.ensures in
     let global : kept c.insert.new.self ≡ with_answer Cursor (Open (global_scope ∷ [])) (λ q. None) =
     (λ i k. c.in_ok-insert.ensures.each_key k i) ∙ (λ i. with_answer Cursor (scopes i) (none i)) in
