@@ -59,10 +59,10 @@ about at faults change e =
     then Ask (IdOf e.path) (λ answer. Done (elim (identity_in answer) [
       | None ↦ refused_for []
       | Some d ↦ record {
-          faults = faults d;
-          additions = Identifies e.path (change d) ∷ [];
-          step = Stays;
-        }
+        faults = faults d;
+        additions = Identifies e.path (change d) ∷ [];
+        step = Stays;
+      }
     ]))
     else Done (refused_for (fault_at at NoRepositoryId ∷ []))
 

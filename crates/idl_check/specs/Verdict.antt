@@ -135,10 +135,10 @@ pragma_verdict s =
     elim (least_fault s.faults) [
       | Some fault ↦ faulty fault Stays
       | None ↦ record {
-          fault = None;
-          writes = record { additions = s.additions; step = s.step };
-          row = None;
-        }
+        fault = None;
+        writes = record { additions = s.additions; step = s.step };
+        row = None;
+      }
     ]
 
 -- a pragma inside a unit of tokens or outside, in these scopes

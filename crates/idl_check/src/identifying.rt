@@ -116,11 +116,14 @@ pub fn first_identity(
     push_prefix(&mut id, prefix.text.as_bytes())?;
     push_slashed(&mut id, relative(path.as_slice(), prefix.scope.as_slice()))?;
     id.extend_from_slice(b":1.0")?;
-    Shared::new(alloc, Identity {
-        id: shared_name(alloc, id.as_slice())?,
-        prefix: prefix.text.clone()?,
-        fixed: Fixed::Nothing,
-    })
+    Shared::new(
+        alloc,
+        Identity {
+            id: shared_name(alloc, id.as_slice())?,
+            prefix: prefix.text.clone()?,
+            fixed: Fixed::Nothing,
+        },
+    )
 }
 
 // A prefix with the `/` behind it.
@@ -178,11 +181,14 @@ pub fn versioned(
     push_number(&mut id, version.0)?;
     id.push(b'.')?;
     push_number(&mut id, version.1)?;
-    Shared::new(alloc, Identity {
-        id: shared_name(alloc, id.as_slice())?,
-        prefix: before.prefix.clone()?,
-        fixed: Fixed::Version,
-    })
+    Shared::new(
+        alloc,
+        Identity {
+            id: shared_name(alloc, id.as_slice())?,
+            prefix: before.prefix.clone()?,
+            fixed: Fixed::Version,
+        },
+    )
 }
 
 // A number in decimal.
@@ -199,11 +205,14 @@ pub fn given(alloc: Global, before: &Identity, id: Spelling) -> Result<Shared<Id
     ensures { IfOk result (λ d. d ≡ given id before.now) }
 {
     let prefix = before.prefix.clone()?;
-    Shared::new(alloc, Identity {
-        id,
-        prefix,
-        fixed: Fixed::Id,
-    })
+    Shared::new(
+        alloc,
+        Identity {
+            id,
+            prefix,
+            fixed: Fixed::Id,
+        },
+    )
 }
 
 /// Whether an id was given, or another one than this told with its version.
@@ -222,7 +231,10 @@ fn is_spelled(text: &[u16], id: &[u8]) -> bool
     ensures { result ≡ bytes_eq text.now id.now }
 {
     text.len() == id.len()
-        && text.iter().zip(id.iter()).all(|(character, byte)| *character == u16::from(*byte))
+        && text
+            .iter()
+            .zip(id.iter())
+            .all(|(character, byte)| *character == u16::from(*byte))
 }
 
 /// Whether an id was given, or told with its version.

@@ -63,7 +63,10 @@ fn listed(alloc: Global, found: &Table<Path, ()>) -> Result<Vec<Path>, AllocErro
 }
 
 /// The innermost ones.
-pub fn innermost(alloc: Global, inside: &SharedList<SharedList<Path>>) -> Result<Vec<Path>, AllocError>
+pub fn innermost(
+    alloc: Global,
+    inside: &SharedList<SharedList<Path>>,
+) -> Result<Vec<Path>, AllocError>
     ensures { IfOk result (λ paths. paths.items ≡ innermost (reverse inside.now)) }
 {
     match inside.split_last()? {
