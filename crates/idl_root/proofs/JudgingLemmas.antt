@@ -18,7 +18,7 @@ use Rattle.idl_unit.specs.declared.unit.UnitText.{UnitText}
 pub to_come-cons : (o next : Outcome) (u : RootUnit) (units : List RootUnit)
     → next ≡ record { facts = o.facts ++ added o.facts u; found = o.found ++ flat_map unit_finding (judged_at o.facts u); rows = o.rows ++ flat_map row_in (judged_at o.facts u) }
     → to_come next units ≡ to_come o (u ∷ units)
-unfolding judged_after, facts_after
+unfolding judged_after facts_after
 to_come-cons o next u units is =
     let facts = o.facts ++ added o.facts u in
     let own = judged_at o.facts u in
@@ -55,7 +55,7 @@ to_come-over o units = to_come-quiet o o End units refl (λ i. record o { facts 
 
 -- nothing is to come any more
 pub to_come-end : (o : Outcome) → to_come o [] ≡ o
-unfolding judged_after, facts_after
+unfolding judged_after facts_after
 to_come-end o = λ i. record { facts = o.facts; found = append-nil o.found i; rows = append-nil o.rows i }
 
 -- all is to come
