@@ -1,12 +1,18 @@
 //! Pragmas: what they say of prefixes and ids.
 
-ghost use Rattle.std.specs.Prelude.{◌≡◌, ◌≤◌, ℕ, IfOk};
-ghost use Rattle.idl_check.specs.Pragmas.{about_name, id_faults, prefix_faults, said, version_faults};
-ghost use Rattle.idl_check.specs.Verdict.{pragma_verdict};
+ghost use Rattle.std.specs.Prelude.{◌≡◌, ◌≤◌, ◌∷◌, [], ℕ, IfOk, None};
+ghost use Rattle.idl_check.specs.Pragmas.{about, about_name, id_faults, prefix_faults, refused_for, said, unnamed_faults, version_faults};
+ghost use Rattle.idl_check.specs.Verdict.{faulty, pragma_verdict};
 ghost use Rattle.idl_memo.specs.Query.{Done, and_then, run};
 ghost use Rattle.idl_scope.specs.Facts.{answers};
 ghost use Rattle.idl_scope.specs.Key.{key_eq};
+ghost use Rattle.idl_scope.specs.declared.addition.Addition.TheVariants.{Identifies};
+ghost use Rattle.idl_scope.specs.declared.addition.Step.TheVariants.{Prefixes, Stays};
 ghost use Rattle.idl_scope.specs.declared.lookup.TheConstants.{TURNS};
+ghost use Rattle.idl_syntax.specs.declared.unit_tree.UnitTree.TheVariants as trees;
+ghost use Rattle.idl_tree.specs.declared.pragma.Pragma.{Pragma as UnitsPragma};
+ghost use Rattle.idl_tree.specs.declared.pragma.Pragma.TheVariants as pragma;
+ghost use Rattle.idl_unit.specs.TokenRules.{fault_at};
 
 use crate::identifying::{given, has_id, id_text, is_fixed, is_given, versioned, visible};
 use crate::using::{last_at, name_code, part_at};
@@ -48,7 +54,14 @@ const OPERANDS: usize = 2;
 
 impl<'a> Speaker<'a> {
     /// The verdict of a unit whose tree this is, a pragma.
-    pub fn verdict(self, log: &mut Log<Env>, tree: &UnitTree) -> Result<Verdict, AllocError> {
+    pub fn verdict(self, log: &mut Log<Env>, tree: &UnitTree) -> Result<Verdict, AllocError>
+        ensures { IfOk result (λ v. (turns : ℕ) → TURNS ≤ turns →
+            (pragma : UnitsPragma) → tree.now ≡ trees.Pragma pragma →
+            (v, log.new)
+            ≡ run key_eq
+            (and_then (said turns self.entry.scopes.now pragma) (λ s. Done (pragma_verdict s)))
+            (answers self.entry.env.now) log.old) }
+    {
         match tree {
             UnitTree::Pragma(pragma) => self.said(log, pragma),
             UnitTree::Tokens(_tree) => Err(AllocError),
@@ -71,12 +84,14 @@ impl<'a> Speaker<'a> {
     }
 
     // The verdict of an id that is given.
-    fn id(
-        self,
-        log: &mut Log<Env>,
-        name: &ScopedName,
-        text: &[u16],
-    ) -> Result<Verdict, AllocError> {
+    fn id(self, log: &mut Log<Env>, name: &ScopedName, text: &[u16]) -> Result<Verdict, AllocError>
+        ensures { IfOk result (λ v. (turns : ℕ) → TURNS ≤ turns →
+            (v, log.new)
+            ≡ run key_eq
+            (and_then (said turns self.entry.scopes.now (pragma.Id name.now text.now))
+            (λ s. Done (pragma_verdict s)))
+            (answers self.entry.env.now) log.old) }
+    {
         let alloc = self.env.alloc();
         let named = match self.named(log, name)? {
             Ok(Some(named)) => named,
@@ -102,7 +117,15 @@ impl<'a> Speaker<'a> {
         log: &mut Log<Env>,
         name: &ScopedName,
         version: (u16, u16),
-    ) -> Result<Verdict, AllocError> {
+    ) -> Result<Verdict, AllocError>
+        ensures { IfOk result (λ v. (turns : ℕ) → TURNS ≤ turns →
+            (v, log.new)
+            ≡ run key_eq
+            (and_then
+            (said turns self.entry.scopes.now (pragma.Version name.now version.0 version.1))
+            (λ s. Done (pragma_verdict s)))
+            (answers self.entry.env.now) log.old) }
+    {
         let alloc = self.env.alloc();
         let named = match self.named(log, name)? {
             Ok(Some(named)) => named,
@@ -164,7 +187,15 @@ impl<'a> Speaker<'a> {
 }
 
 // The verdict of a prefix.
-fn prefix(alloc: Global, text: &[u16]) -> Result<Verdict, AllocError> {
+fn prefix(alloc: Global, text: &[u16]) -> Result<Verdict, AllocError>
+    ensures { IfOk result (λ v.
+        v
+        ≡ pragma_verdict (record {
+          faults = prefix_faults text.now;
+          additions = [];
+          step = Prefixes text.now;
+        })) }
+{
     match visible(alloc, text)? {
         Some(spelled) => adding(alloc, None, Step::Prefixes(spelled)),
         None => refused(alloc, OPERANDS, Code::BadIdText),
@@ -172,7 +203,9 @@ fn prefix(alloc: Global, text: &[u16]) -> Result<Verdict, AllocError> {
 }
 
 // The verdict of a pragma with a fault at the token with this number.
-fn refused(alloc: Global, index: usize, code: Code) -> Result<Verdict, AllocError> {
+fn refused(alloc: Global, index: usize, code: Code) -> Result<Verdict, AllocError>
+    ensures { IfOk result (λ v. v ≡ faulty (fault_at index code) Stays) }
+{
     adding(alloc, Some(Fault { index, code }), Step::Stays)
 }
 
@@ -181,7 +214,15 @@ fn identifying(
     alloc: Global,
     path: &Path,
     identity: Shared<Identity>,
-) -> Result<Verdict, AllocError> {
+) -> Result<Verdict, AllocError>
+    ensures { IfOk result (λ v.
+        v
+        ≡ record {
+          fault = None;
+          writes = record { additions = Identifies path.now identity ∷ []; step = Stays };
+          row = None;
+        }) }
+{
     let mut facts = Facts::new(alloc);
     facts.add(Addition::Identifies(path.clone()?, identity))?;
     let writes = Shared::new(alloc, facts)?;
