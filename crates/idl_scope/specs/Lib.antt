@@ -1,5 +1,6 @@
 pub mod Answer
 pub mod Bases
+pub mod DataType
 pub mod Digest
 pub mod Entity
 pub mod Facts
@@ -12,3 +13,4 @@ pub mod Mark
 pub mod Meaning
 pub mod Outside
 pub mod Path
+pub mod Signature

@@ -326,19 +326,23 @@ fn closed(interface: &Entity, operations: Vec<Path>) -> Result<Entity, AllocErro
 {
     let path = interface.path.clone()?;
     let bases = interface.bases.clone()?;
-    let meaning = interface.meaning.clone()?;
+    let data_type = interface.data_type.clone()?;
     let value = interface.value.clone()?;
     let enumerators = interface.enumerators.clone()?;
+    let signature = interface.signature.clone()?;
     Ok(Entity {
         path,
         kind: interface.kind,
         is_local: interface.is_local,
+        is_readonly: interface.is_readonly,
+        is_oneway: interface.is_oneway,
         stage: Stage::Complete,
         bases,
         operations: Seq::from_vec(operations),
-        meaning,
+        data_type,
         value,
         enumerators,
+        signature,
     })
 }
 

@@ -145,10 +145,14 @@ pub fn push_declarator<'a>(
         (declarator_parts declaration declarator.now)) }
 {
     sites.push(Site::Declared(declaration, &declarator.name))?;
+    if declarator.lengths.is_empty() {
+        return Ok(());
+    }
     for length in declarator.lengths.as_slice() {
         sites.push(Site::Tokens(1))?;
         push_value(sites, Target::Length, length)?;
         sites.push(Site::Tokens(1))?;
     }
+    sites.push(Site::ArrayEnds)?;
     Ok(())
 }

@@ -1,0 +1,127 @@
+-- Types: when two are one, what constants are of them, and what they are another name for.
+use Rattle.std.specs.Prelude.{◌≡◌, ℕ, Bool, true, List, [], ◌∷◌, ◌++◌, map, reverse, Option, None, Some, ◌==◌, ◌&&◌, if◌then◌else◌, nat_eq, refl}
+use Rattle.std.specs.Cmp.Lexicographic.{pointwise}
+use Rattle.std.proofs.Common.{ap, sym, ◌∙◌}
+use Rattle.idl_base.specs.Exact.{both, same_list, same_number}
+use Rattle.idl_scope.specs.Path.{path_eq, same_path}
+use Rattle.idl_scope.specs.contracts.data_type.ElementPartialEq.TheImpl.{ghosts as element_ghosts}
+use Rattle.idl_scope.specs.contracts.data_type.LayerPartialEq.TheImpl.{ghosts as layer_ghosts}
+use Rattle.idl_scope.specs.declared.data_type.DataType.{DataType}
+use Rattle.idl_scope.specs.declared.data_type.Element.{Element}
+use Rattle.idl_scope.specs.declared.data_type.Element.TheVariants.{Constants, Named, Unvalued as Other}
+use Rattle.idl_scope.specs.declared.data_type.Layer.{Layer}
+use Rattle.idl_scope.specs.declared.data_type.Layer.TheVariants.{Sequence, Array}
+use Rattle.idl_scope.specs.declared.data_type.Unvalued.{Unvalued}
+use Rattle.idl_scope.specs.declared.data_type.Unvalued.TheVariants.{Float, Double, LongDouble, Any, Object}
+use Rattle.idl_value.specs.Exact.{same_target}
+use Rattle.idl_value.specs.declared.target.Target.{Target}
+
+-- a type without sequences and arrays
+abbrev pub plain_type : Element → DataType
+plain_type element = record { element = element; layers = [] }
+
+-- with one layer more around it
+abbrev pub with_layer : Layer → DataType → DataType
+with_layer layer t = record t { layers = t.layers ++ layer ∷ [] }
+
+-- as what arrays are of that have these lengths, the outermost first
+abbrev pub with_arrays : List ℕ → DataType → DataType
+with_arrays lengths t = record t { layers = t.layers ++ map Array (reverse lengths) }
+
+-- the type that its constants have, if it is one of keywords that has any
+abbrev pub constants_by : Element → List Layer → Option Target
+constants_by (Constants t) [] = Some t
+constants_by element layers = None
+
+abbrev pub constants_in : DataType → Option Target
+constants_in t = constants_by t.element t.layers
+
+-- the path of what it is another name for, if it is one
+abbrev pub named_by : Element → List Layer → Option (List (List ℕ))
+named_by (Named path) [] = Some path
+named_by element layers = None
+
+abbrev pub named_in : DataType → Option (List (List ℕ))
+named_in t = named_by t.element t.layers
+
+-- a number for each
+abbrev pub unvalued_number : Unvalued → ℕ
+unvalued_number Float = 0
+unvalued_number Double = 1
+unvalued_number LongDouble = 2
+unvalued_number Any = 3
+unvalued_number Object = 4
+
+-- the one with a number
+abbrev pub unvalued_of : ℕ → Unvalued
+unvalued_of n =
+    if n == 0 then Float
+    else if n == 1 then Double
+    else if n == 2 then LongDouble
+    else if n == 3 then Any
+    else Object
+
+unvalued_of-number : (x : Unvalued) → unvalued_of (unvalued_number x) ≡ x
+unvalued_of-number Float = refl
+unvalued_of-number Double = refl
+unvalued_of-number LongDouble = refl
+unvalued_of-number Any = refl
+unvalued_of-number Object = refl
+
+-- whether two are one
+abbrev pub unvalued_eq : Unvalued → Unvalued → Bool
+unvalued_eq x y = nat_eq (unvalued_number x) (unvalued_number y)
+
+pub same_unvalued : (x y : Unvalued) → unvalued_eq x y ≡ true → x ≡ y
+same_unvalued x y h =
+    sym (unvalued_of-number x)
+    ∙ ap unvalued_of (same_number (unvalued_number x) (unvalued_number y) h)
+    ∙ unvalued_of-number y
+
+-- whether two elements are one
+abbrev pub element_eq : Element → Element → Bool
+element_eq = element_ghosts.eq
+
+pub same_element : (e f : Element) → element_eq e f ≡ true → e ≡ f
+same_element (Constants t) (Constants u) h = ap Constants (same_target t u h)
+same_element (Constants t) (Named q) h = cc
+same_element (Constants t) (Other y) h = cc
+same_element (Named p) (Constants u) h = cc
+same_element (Named p) (Named q) h = ap Named (same_path p q h)
+same_element (Named p) (Other y) h = cc
+same_element (Other x) (Constants u) h = cc
+same_element (Other x) (Named q) h = cc
+same_element (Other x) (Other y) h = ap Other (same_unvalued x y h)
+
+-- whether two layers are one
+abbrev pub layer_eq : Layer → Layer → Bool
+layer_eq = layer_ghosts.eq
+
+pub same_layer : (k l : Layer) → layer_eq k l ≡ true → k ≡ l
+same_layer (Sequence m) (Sequence n) h = ap Sequence (same_number m n h)
+same_layer (Sequence m) (Array n) h = cc
+same_layer (Array m) (Sequence n) h = cc
+same_layer (Array m) (Array n) h = ap Array (same_number m n h)
+
+-- a copied layer is its source
+abbrev pub IsLayerCopy : Layer → Layer → Type 0
+IsLayerCopy (Sequence m) (Sequence n) = n ≡ m
+IsLayerCopy (Array m) (Array n) = n ≡ m
+IsLayerCopy layer copy = ⊥
+
+pub copied_layer : (l copy : Layer) → IsLayerCopy l copy → copy ≡ l
+copied_layer (Sequence m) (Sequence n) h = ap Sequence h
+copied_layer (Sequence m) (Array n) h = absurd h
+copied_layer (Array m) (Sequence n) h = absurd h
+copied_layer (Array m) (Array n) h = ap Array h
+
+-- whether two types are one
+abbrev pub data_type_eq : DataType → DataType → Bool
+data_type_eq t u = element_eq t.element u.element && pointwise layer_eq t.layers u.layers
+
+pub same_data_type : (t u : DataType) → data_type_eq t u ≡ true → t ≡ u
+same_data_type t u h =
+    let a = both _ _ h in
+    let element = same_element t.element u.element a.0 in
+    let layers = same_list layer_eq same_layer t.layers u.layers a.1 in
+    λ i. record { element = element i; layers = layers i }
