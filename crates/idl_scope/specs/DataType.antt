@@ -103,18 +103,6 @@ same_layer (Sequence m) (Array n) h = cc
 same_layer (Array m) (Sequence n) h = cc
 same_layer (Array m) (Array n) h = ap Array (same_number m n h)
 
--- a copied layer is its source
-abbrev pub IsLayerCopy : Layer → Layer → Type 0
-IsLayerCopy (Sequence m) (Sequence n) = n ≡ m
-IsLayerCopy (Array m) (Array n) = n ≡ m
-IsLayerCopy layer copy = ⊥
-
-pub copied_layer : (l copy : Layer) → IsLayerCopy l copy → copy ≡ l
-copied_layer (Sequence m) (Sequence n) h = ap Sequence h
-copied_layer (Sequence m) (Array n) h = absurd h
-copied_layer (Array m) (Sequence n) h = absurd h
-copied_layer (Array m) (Array n) h = ap Array h
-
 -- whether two types are one
 abbrev pub data_type_eq : DataType → DataType → Bool
 data_type_eq t u = element_eq t.element u.element && pointwise layer_eq t.layers u.layers

@@ -33,7 +33,7 @@ pub enum Element {
 }
 
 /// What is around a type.
-#[derive(Clone, PartialEq, Eq)]
+#[derive(Clone, Copy, PartialEq, Eq)]
 pub enum Layer {
     /// A sequence of it, with its bound, or 0 if it has none.
     Sequence(u32),
@@ -193,11 +193,11 @@ impl Datum for Element {
 }
 
 impl Datum for Layer {
-    ghost use Rattle.idl_scope.specs.DataType.{same_layer, copied_layer};
+    ghost use Rattle.idl_scope.specs.DataType.{same_layer};
 
     ghost same = { same_layer };
 
-    ghost copy = { copied_layer };
+    ghost copy = { λ x y h. h };
 }
 
 impl Datum for DataType {

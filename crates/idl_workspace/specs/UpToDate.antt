@@ -31,6 +31,10 @@ compiled_of project name =
 abbrev pub diagnostics_of : Project → List ℕ → Option (List (List ℕ))
 diagnostics_of project name = option_map (λ root. root.rows.diagnostics) (compiled_of project name)
 
+-- the listing that is answered for a name
+abbrev pub listing_of : Project → List ℕ → Option (List (List ℕ))
+listing_of project name = option_map (λ root. root.rows.listing) (compiled_of project name)
+
 -- the dump that is answered for a name
 abbrev pub dump_of : Project → List ℕ → Option (List (List ℕ))
 dump_of project name = option_map (λ root. root.rows.dump) (compiled_of project name)
