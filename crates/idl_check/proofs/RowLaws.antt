@@ -119,7 +119,7 @@ module _ (turns : ℕ) (answers : Key → Option Answer) where
   declared-found way name w None = refl
   declared-found way name w (Some s) =
       ap (λ (v : Visit). v.after.found)
-      (outcome-and_then (under w.own (standing turns s (folded name))) (λ there. Done (declared_visit w s (entity_of w.written way name s.path) there)) answers)
+      (outcome-and_then (under w.own (standing turns s (entity_of w.written way name s.path))) (λ there. Done (declared_visit w s (entity_of w.written way name s.path) there)) answers)
 
   -- after a used name a path more is found, where nothing is wrong with it
   abbrev FindsOne : Walk → Visit → Type 0
