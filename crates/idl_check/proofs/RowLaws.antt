@@ -12,7 +12,6 @@ use Rattle.idl_check.specs.Row.{Rest, spaced, token_text, unit_text}
 use Rattle.idl_check.specs.Types.{looked_through}
 use Rattle.idl_check.specs.Walk.{Visit, Walk, declared_visit, given_back, head_of, head_visit, outcome_at, unfound_visit, used, used_visit, value_visit, visit, with_oneway}
 use Rattle.idl_event.specs.declared.code.Code.TheVariants.{BadOneway}
-use Rattle.idl_lex.specs.Keywords.{folded}
 use Rattle.idl_lex.specs.Kind.{kind_of}
 use Rattle.idl_lex.specs.Marks.{marks}
 use Rattle.idl_lex.specs.Tokens.{Token}
