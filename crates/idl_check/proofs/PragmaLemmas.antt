@@ -1,5 +1,6 @@
 -- What a pragma says, run, and its fault.
 use Rattle.std.proofs.Common.{◌≡◌, ◌∙◌, ℕ, ◌+◌, Bool, true, false, cond, List, [], ◌∷◌, ◌++◌, Option, None, Some, Result, Ok, Err, refl, sym, ap, arith}
+use Rattle.std.proofs.lemmas.Option.{same_Some}
 use Rattle.std.specs.Option.{option_map}
 use Rattle.std.specs.Prelude.{not}
 use Rattle.idl_check.specs.Codes.{faults_by}
@@ -55,6 +56,15 @@ id-bad at text d h bad = λ i. least_fault (id_faults_by at (h i) (bad i))
 
 pub id-sound : (at : ℕ) (text : List ℕ) (d : Identity) → is_given text d ≡ false → is_id text ≡ true → least_fault (id_faults at text d) ≡ None
 id-sound at text d h good = λ i. least_fault (id_faults_by at (h i) (good i))
+
+-- a text that there is where a test holds
+pub text-there : (b : Bool) (x y : List ℕ) → Some y ≡ cond b (Some x) None → (b ≡ true) × (y ≡ x)
+text-there true x y h = (refl, same_Some y x h)
+text-there false x y h = (cc, cc)
+
+pub text-none : (b : Bool) (x : List ℕ) → None ≡ cond b (Some x) None → b ≡ false
+text-none true x h = cc
+text-none false x h = refl
 
 -- and that of a version
 pub version-fixed : (at : ℕ) (d : Identity) → is_fixed d ≡ true → least_fault (version_faults at d) ≡ Some (fault_at at RepeatedVersion)

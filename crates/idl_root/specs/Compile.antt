@@ -14,7 +14,8 @@ use Rattle.idl_scope.specs.Facts.{UnitFacts, answers, scopes_in}
 use Rattle.idl_scope.specs.declared.key.Key.TheVariants.{Cursor}
 use Rattle.idl_unit.specs.Units.{units_of}
 
--- what comes of a root: the facts that its units and file boundaries add, what is found, and the rows of the dump
+-- what comes of a root: the facts that its units and file boundaries add, what is found, and the
+-- rows of the dump
 pub record Outcome : Type 0 where
   pub facts : List UnitFacts
   pub found : List Finding
