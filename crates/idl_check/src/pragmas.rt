@@ -72,11 +72,10 @@ impl<'a> Speaker<'a> {
             (pragma_judged turns self.entry.tokens.now self.entry.inside self.entry.scopes.now)
             (answers self.entry.env.now) log.old) }
     {
-        match parse(self.env.alloc(), text) {
+        let alloc = self.env.alloc();
+        match parse(alloc, text) {
             Ok(tree) => self.with_tree(log, &tree),
-            Err(SyntaxFault::Rule(fault)) => {
-                adding(self.env.alloc(), Some(fault), Step::Stays)
-            }
+            Err(SyntaxFault::Rule(fault)) => adding(alloc, Some(fault), Step::Stays),
             Err(SyntaxFault::Memory) | Err(SyntaxFault::NoTree(_)) => Err(AllocError),
         }
     }
