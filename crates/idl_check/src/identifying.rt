@@ -142,12 +142,14 @@ fn push_prefix(id: &mut Vec<u8>, text: &[u8]) -> Result<(), AllocError>
 fn push_slashed(id: &mut Vec<u8>, path: &[Spelling]) -> Result<(), AllocError>
     ensures { OnOk result (id.new.items ≡ id.old.items ++ slashed path.now) }
 {
-    for (index, name) in path.iter().rev().enumerate() {
-        if index > 0 {
-            id.push(b'/')?;
-        }
-        id.extend_from_slice(name.as_bytes())?;
+    let [name, outer @ ..] = path else {
+        return Ok(());
+    };
+    if !outer.is_empty() {
+        push_slashed(id, outer)?;
+        id.push(b'/')?;
     }
+    id.extend_from_slice(name.as_bytes())?;
     Ok(())
 }
 
@@ -230,11 +232,17 @@ pub fn is_given(text: &[u16], before: &Identity) -> bool
 fn is_spelled(text: &[u16], id: &[u8]) -> bool
     ensures { result ≡ bytes_eq text.now id.now }
 {
-    text.len() == id.len()
-        && text
-            .iter()
-            .zip(id.iter())
-            .all(|(character, byte)| *character == u16::from(*byte))
+    let mut left = id;
+    for character in text {
+        let [byte, rest @ ..] = left else {
+            return false;
+        };
+        if *character != u16::from(*byte) {
+            return false;
+        }
+        left = rest;
+    }
+    left.is_empty()
 }
 
 /// Whether an id was given, or told with its version.

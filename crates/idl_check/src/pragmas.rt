@@ -1,36 +1,46 @@
 //! Pragmas: what they say of prefixes and ids.
 
-ghost use Rattle.std.specs.Prelude.{◌≡◌, ◌≤◌, ◌∷◌, [], ℕ, IfOk, None};
-ghost use Rattle.idl_check.specs.Pragmas.{about, about_name, id_faults, prefix_faults, refused_for, said, unnamed_faults, version_faults};
-ghost use Rattle.idl_check.specs.Verdict.{faulty, pragma_verdict};
-ghost use Rattle.idl_memo.specs.Query.{Done, and_then, run};
-ghost use Rattle.idl_scope.specs.Facts.{answers};
+ghost use Rattle.std.specs.Prelude.{◌≡◌, ◌≤◌, ◌+◌, ◌∷◌, [], ℕ, IfOk, List, None, OnOk};
+ghost use Rattle.std.specs.Option.{option_map};
+ghost use Rattle.idl_check.specs.Held.{said_of, spoken};
+ghost use Rattle.idl_check.specs.Pragmas.{about_name, prefix_faults};
+ghost use Rattle.idl_check.specs.Using.{last_at};
+ghost use Rattle.idl_check.specs.Verdict.{faulty, pragma_judged, pragma_verdict};
+ghost use Rattle.idl_memo.specs.Query.{noted, run};
+ghost use Rattle.idl_scope.specs.Facts.{answers, identity_in};
 ghost use Rattle.idl_scope.specs.Key.{key_eq};
 ghost use Rattle.idl_scope.specs.declared.addition.Addition.TheVariants.{Identifies};
 ghost use Rattle.idl_scope.specs.declared.addition.Step.TheVariants.{Prefixes, Stays};
+ghost use Rattle.idl_scope.specs.declared.identity.Identity.{Identity as UnitIdentity};
+ghost use Rattle.idl_scope.specs.declared.key.Key.TheVariants.{IdOf};
 ghost use Rattle.idl_scope.specs.declared.lookup.TheConstants.{TURNS};
-ghost use Rattle.idl_syntax.specs.declared.unit_tree.UnitTree.TheVariants as trees;
-ghost use Rattle.idl_tree.specs.declared.pragma.Pragma.{Pragma as UnitsPragma};
+ghost use Rattle.idl_syntax.specs.Parse.{IsTreeOf, pragma_faults};
+ghost use Rattle.idl_tree.specs.Pragma.{pragma_of};
 ghost use Rattle.idl_tree.specs.declared.pragma.Pragma.TheVariants as pragma;
+ghost use Rattle.idl_unit.specs.Faults.{least_fault};
 ghost use Rattle.idl_unit.specs.TokenRules.{fault_at};
+ghost use Rattle.idl_unit.specs.declared.fault.Fault.{Fault as UnitFault};
+ghost use Rattle.idl_unit.specs.declared.unit.UnitText.TheVariants as unit;
 
 use crate::identifying::{given, has_id, id_text, is_fixed, is_given, versioned, visible};
 use crate::using::{last_at, name_code, part_at};
 use crate::verdict::{Verdict, adding};
-use idl_event::Code;
+use idl_event::{Code, TokenRange};
 use idl_memo::Log;
 use idl_scope::{
     Addition, Env, Facts, Identity, NameFault, Path, Scope, Shared, Standpoint, Step, View, resolve,
 };
-use idl_syntax::UnitTree;
+use idl_syntax::{SyntaxFault, UnitTree, parse};
 use idl_tree::{Pragma, ScopedName};
-use idl_unit::Fault;
+use idl_unit::{Fault, UnitText};
 use std::alloc::{AllocError, Global};
 
-/// A pragma, in the scopes that are open around it.
+/// A pragma inside a unit of tokens or outside, in the scopes that are open around it.
 #[derive(Clone, Copy)]
 pub struct Speaker<'a> {
     pub env: &'a Env,
+    pub tokens: &'a TokenRange,
+    pub inside: bool,
     pub scopes: &'a [Scope],
 }
 
@@ -53,13 +63,31 @@ impl Drop for Named {
 const OPERANDS: usize = 2;
 
 impl<'a> Speaker<'a> {
-    /// The verdict of a unit whose tree this is, a pragma.
-    pub fn verdict(self, log: &mut Log<Env>, tree: &UnitTree) -> Result<Verdict, AllocError>
+    /// The verdict of the pragma, whose text this is.
+    pub fn verdict(self, log: &mut Log<Env>, text: &UnitText) -> Result<Verdict, AllocError>
+        requires { text.now ≡ unit.Pragma self.tokens.now self.inside }
         ensures { IfOk result (λ v. (turns : ℕ) → TURNS ≤ turns →
-            (pragma : UnitsPragma) → tree.now ≡ trees.Pragma pragma →
             (v, log.new)
             ≡ run key_eq
-            (and_then (said turns self.entry.scopes.now pragma) (λ s. Done (pragma_verdict s)))
+            (pragma_judged turns self.entry.tokens.now self.entry.inside self.entry.scopes.now)
+            (answers self.entry.env.now) log.old) }
+    {
+        let alloc = self.env.alloc();
+        match parse(alloc, text) {
+            Ok(tree) => self.with_tree(log, &tree),
+            Err(SyntaxFault::Rule(fault)) => adding(alloc, Some(fault), Step::Stays),
+            Err(SyntaxFault::Memory) | Err(SyntaxFault::NoTree(_)) => Err(AllocError),
+        }
+    }
+
+    // The verdict of a pragma that has a tree, and that no rule refuses.
+    fn with_tree(self, log: &mut Log<Env>, tree: &UnitTree) -> Result<Verdict, AllocError>
+        requires rules { least_fault (pragma_faults self.tokens.now self.inside) ≡ None }
+        requires tree { IsTreeOf (unit.Pragma self.tokens.now self.inside) tree.now }
+        ensures { IfOk result (λ v. (turns : ℕ) → TURNS ≤ turns →
+            (v, log.new)
+            ≡ run key_eq
+            (pragma_judged turns self.entry.tokens.now self.entry.inside self.entry.scopes.now)
             (answers self.entry.env.now) log.old) }
     {
         match tree {
@@ -68,14 +96,15 @@ impl<'a> Speaker<'a> {
         }
     }
 
-    // The verdict of a pragma.
+    // The verdict of a pragma without fault so far.
     fn said(self, log: &mut Log<Env>, pragma: &Pragma) -> Result<Verdict, AllocError>
+        requires { pragma_of self.tokens.now ≡ Some pragma.now }
         ensures { IfOk result (λ v. (turns : ℕ) → TURNS ≤ turns →
             (v, log.new)
-            ≡ run key_eq
-            (and_then (said turns self.entry.scopes.now pragma.now) (λ s. Done (pragma_verdict s)))
+            ≡ run key_eq (spoken turns self.entry.scopes.now pragma.now)
             (answers self.entry.env.now) log.old) }
     {
+        let _tokens = self.tokens.as_slice();
         match pragma {
             Pragma::Prefix(text) => prefix(self.env.alloc(), text.as_slice()),
             Pragma::Id(name, text) => self.id(log, name, text.as_slice()),
@@ -85,11 +114,10 @@ impl<'a> Speaker<'a> {
 
     // The verdict of an id that is given.
     fn id(self, log: &mut Log<Env>, name: &ScopedName, text: &[u16]) -> Result<Verdict, AllocError>
+        requires { last_at 2 name.now + 1 ≤ 18446744073709551615 }
         ensures { IfOk result (λ v. (turns : ℕ) → TURNS ≤ turns →
             (v, log.new)
-            ≡ run key_eq
-            (and_then (said turns self.entry.scopes.now (pragma.Id name.now text.now))
-            (λ s. Done (pragma_verdict s)))
+            ≡ run key_eq (spoken turns self.entry.scopes.now (pragma.Id name.now text.now))
             (answers self.entry.env.now) log.old) }
     {
         let alloc = self.env.alloc();
@@ -118,12 +146,11 @@ impl<'a> Speaker<'a> {
         name: &ScopedName,
         version: (u16, u16),
     ) -> Result<Verdict, AllocError>
+        requires { last_at 2 name.now ≤ 18446744073709551615 }
         ensures { IfOk result (λ v. (turns : ℕ) → TURNS ≤ turns →
             (v, log.new)
             ≡ run key_eq
-            (and_then
-            (said turns self.entry.scopes.now (pragma.Version name.now version.0 version.1))
-            (λ s. Done (pragma_verdict s)))
+            (spoken turns self.entry.scopes.now (pragma.Version name.now version.0 version.1))
             (answers self.entry.env.now) log.old) }
     {
         let alloc = self.env.alloc();
@@ -144,7 +171,14 @@ impl<'a> Speaker<'a> {
         self,
         log: &mut Log<Env>,
         name: &ScopedName,
-    ) -> Result<Result<Option<Named>, Fault>, AllocError> {
+    ) -> Result<Result<Option<Named>, Fault>, AllocError>
+        requires { last_at 2 name.now ≤ 18446744073709551615 }
+        ensures { IfOk result (λ r. (turns : ℕ) → TURNS ≤ turns →
+            (faults : UnitIdentity → List UnitFault) → (change : UnitIdentity → UnitIdentity) →
+            (said_of faults change r, log.new)
+            ≡ run key_eq (about_name turns self.entry.scopes.now name.now faults change)
+            (answers self.entry.env.now) log.old) }
+    {
         let own = Facts::new(self.env.alloc());
         let place = Standpoint {
             own: &own,
@@ -170,7 +204,14 @@ impl<'a> Speaker<'a> {
     }
 
     // What identifies the name at a path, if it has an id.
-    fn identified(self, log: &mut Log<Env>, path: &Path) -> Result<Option<Named>, AllocError> {
+    fn identified(self, log: &mut Log<Env>, path: &Path) -> Result<Option<Named>, AllocError>
+        ensures named { IfOk result (λ named.
+            named
+            ≡ option_map (λ d. record { path = path.now; identity = d })
+            (identity_in (answers self.entry.env.now (IdOf path.now)))) }
+        ensures logged { OnOk result
+            (log.new ≡ noted key_eq (answers self.entry.env.now) log.old (IdOf path.now)) }
+    {
         let own = Facts::new(self.env.alloc());
         let view = View {
             env: self.env,

@@ -1,4 +1,5 @@
--- The units of a root, each with its verdict over what the units and file boundaries before it added.
+-- The units of a root, each with its verdict over what the units and file boundaries before it
+-- added.
 use Rattle.std.specs.Prelude.{List, [], ◌∷◌, ◌++◌}
 use Rattle.idl_check.specs.Verdict.{verdict}
 use Rattle.idl_check.specs.declared.verdict.Verdict.{Verdict}
