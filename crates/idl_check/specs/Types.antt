@@ -9,7 +9,7 @@ use Rattle.idl_scope.specs.declared.data_type.DataType.{DataType}
 use Rattle.idl_scope.specs.declared.data_type.Element.{Element}
 use Rattle.idl_scope.specs.declared.data_type.Element.TheVariants.{Constants, Unvalued}
 use Rattle.idl_scope.specs.declared.data_type.Layer.TheVariants.{Sequence}
-use Rattle.idl_scope.specs.declared.data_type.Unvalued.TheVariants.{Float, Double, LongDouble, Any, Object}
+use Rattle.idl_scope.specs.declared.unvalued.Unvalued.TheVariants.{Float, Double, LongDouble, Any, Object}
 use Rattle.idl_scope.specs.declared.entity.Entity.{Entity}
 use Rattle.idl_scope.specs.declared.kind.Kind.TheVariants.{Structure, Union, Enumeration, Alias}
 use Rattle.idl_scope.specs.declared.kind.Stage.TheVariants.{Complete}

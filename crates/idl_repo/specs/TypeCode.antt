@@ -9,8 +9,8 @@ use Rattle.idl_scope.specs.declared.data_type.Element.{Element}
 use Rattle.idl_scope.specs.declared.data_type.Element.TheVariants as element
 use Rattle.idl_scope.specs.declared.data_type.Layer.{Layer}
 use Rattle.idl_scope.specs.declared.data_type.Layer.TheVariants.{Sequence, Array}
-use Rattle.idl_scope.specs.declared.data_type.Unvalued.{Unvalued}
-use Rattle.idl_scope.specs.declared.data_type.Unvalued.TheVariants as unvalued
+use Rattle.idl_scope.specs.declared.unvalued.Unvalued.{Unvalued}
+use Rattle.idl_scope.specs.declared.unvalued.Unvalued.TheVariants as unvalued
 use Rattle.idl_scope.specs.declared.entity.Entity.{Entity}
 use Rattle.idl_scope.specs.declared.kind.Kind.{Kind}
 use Rattle.idl_scope.specs.declared.kind.Kind.TheVariants as kind

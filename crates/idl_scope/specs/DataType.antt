@@ -1,9 +1,10 @@
 -- Types: when two are one, what constants are of them, and what they are another name for.
-use Rattle.std.specs.Prelude.{◌≡◌, ℕ, Bool, true, List, [], ◌∷◌, ◌++◌, map, reverse, Option, None, Some, ◌==◌, ◌&&◌, if◌then◌else◌, nat_eq, refl}
+use Rattle.std.specs.Prelude.{◌≡◌, ℕ, Bool, true, List, [], ◌∷◌, ◌++◌, Option, None, Some, ◌&&◌}
 use Rattle.std.specs.Cmp.Lexicographic.{pointwise}
-use Rattle.std.proofs.Common.{ap, sym, ◌∙◌}
+use Rattle.std.proofs.Common.{ap}
 use Rattle.idl_base.specs.Exact.{both, same_list, same_number}
 use Rattle.idl_scope.specs.Path.{path_eq, same_path}
+use Rattle.idl_scope.specs.Unvalued.{same_unvalued}
 use Rattle.idl_scope.specs.contracts.data_type.ElementPartialEq.TheImpl.{ghosts as element_ghosts}
 use Rattle.idl_scope.specs.contracts.data_type.LayerPartialEq.TheImpl.{ghosts as layer_ghosts}
 use Rattle.idl_scope.specs.declared.data_type.DataType.{DataType}
@@ -11,8 +12,6 @@ use Rattle.idl_scope.specs.declared.data_type.Element.{Element}
 use Rattle.idl_scope.specs.declared.data_type.Element.TheVariants.{Constants, Named, Unvalued as Other}
 use Rattle.idl_scope.specs.declared.data_type.Layer.{Layer}
 use Rattle.idl_scope.specs.declared.data_type.Layer.TheVariants.{Sequence, Array}
-use Rattle.idl_scope.specs.declared.data_type.Unvalued.{Unvalued}
-use Rattle.idl_scope.specs.declared.data_type.Unvalued.TheVariants.{Float, Double, LongDouble, Any, Object}
 use Rattle.idl_value.specs.Exact.{same_target}
 use Rattle.idl_value.specs.declared.target.Target.{Target}
 
@@ -24,9 +23,14 @@ plain_type element = record { element = element; layers = [] }
 abbrev pub with_layer : Layer → DataType → DataType
 with_layer layer t = record t { layers = t.layers ++ layer ∷ [] }
 
--- as what arrays are of that have these lengths, the outermost first
+-- arrays of these lengths, the outermost first
+abbrev pub arrays_of : List ℕ → List Layer
+arrays_of [] = []
+arrays_of (length ∷ lengths) = arrays_of lengths ++ Array length ∷ []
+
+-- with arrays of these lengths around it
 abbrev pub with_arrays : List ℕ → DataType → DataType
-with_arrays lengths t = record t { layers = t.layers ++ map Array (reverse lengths) }
+with_arrays lengths t = record t { layers = t.layers ++ arrays_of lengths }
 
 -- the type that its constants have, if it is one of keywords that has any
 abbrev pub constants_by : Element → List Layer → Option Target
@@ -43,40 +47,6 @@ named_by element layers = None
 
 abbrev pub named_in : DataType → Option (List (List ℕ))
 named_in t = named_by t.element t.layers
-
--- a number for each
-abbrev pub unvalued_number : Unvalued → ℕ
-unvalued_number Float = 0
-unvalued_number Double = 1
-unvalued_number LongDouble = 2
-unvalued_number Any = 3
-unvalued_number Object = 4
-
--- the one with a number
-abbrev pub unvalued_of : ℕ → Unvalued
-unvalued_of n =
-    if n == 0 then Float
-    else if n == 1 then Double
-    else if n == 2 then LongDouble
-    else if n == 3 then Any
-    else Object
-
-unvalued_of-number : (x : Unvalued) → unvalued_of (unvalued_number x) ≡ x
-unvalued_of-number Float = refl
-unvalued_of-number Double = refl
-unvalued_of-number LongDouble = refl
-unvalued_of-number Any = refl
-unvalued_of-number Object = refl
-
--- whether two are one
-abbrev pub unvalued_eq : Unvalued → Unvalued → Bool
-unvalued_eq x y = nat_eq (unvalued_number x) (unvalued_number y)
-
-pub same_unvalued : (x y : Unvalued) → unvalued_eq x y ≡ true → x ≡ y
-same_unvalued x y h =
-    sym (unvalued_of-number x)
-    ∙ ap unvalued_of (same_number (unvalued_number x) (unvalued_number y) h)
-    ∙ unvalued_of-number y
 
 -- whether two elements are one
 abbrev pub element_eq : Element → Element → Bool

@@ -14,3 +14,4 @@ pub mod Meaning
 pub mod Outside
 pub mod Path
 pub mod Signature
+pub mod Unvalued

@@ -1,25 +1,15 @@
 //! Types, as they are written where a name is declared.
 
-ghost use Rattle.std.specs.Cmp.{on_equiv, on_per, partial_equiv_from_equiv, nat_eq_equiv};
 ghost use Rattle.std.specs.Option.{option_copied};
-ghost use Rattle.std.specs.Prelude.{◌≡◌, ◌∷◌, ◌++◌, [], IfOk};
-ghost use Rattle.idl_scope.specs.DataType.{constants_in, named_in, plain_type, unvalued_number, unvalued_eq, same_unvalued, with_arrays, with_layer};
+ghost use Rattle.std.specs.Prelude.{◌≡◌, IfOk};
+ghost use Rattle.idl_scope.specs.DataType.{constants_in, named_in, plain_type, with_arrays, with_layer};
 
 use crate::path::Path;
 use crate::shared::Shared;
+use crate::unvalued::Unvalued;
 use idl_base::{Datum, Seq};
 use idl_value::Target;
 use std::alloc::{AllocError, Global};
-
-/// A type of keywords of which there are no constants.
-#[derive(Clone, Copy)]
-pub enum Unvalued {
-    Float,
-    Double,
-    LongDouble,
-    Any,
-    Object,
-}
 
 /// What a type is of, without the sequences and arrays around it.
 #[derive(PartialEq, Eq)]
@@ -67,21 +57,6 @@ impl Drop for DataType {
     }
 }
 
-impl Unvalued {
-    // A number for each.
-    fn number(self) -> u8
-        ensures { result ≡ unvalued_number self }
-    {
-        match self {
-            Unvalued::Float => 0,
-            Unvalued::Double => 1,
-            Unvalued::LongDouble => 2,
-            Unvalued::Any => 3,
-            Unvalued::Object => 4,
-        }
-    }
-}
-
 impl DataType {
     /// A type without sequences and arrays.
     pub fn plain(alloc: Global, element: Element) -> Result<Shared<DataType>, AllocError>
@@ -112,8 +87,9 @@ impl DataType {
     {
         let element = self.element.clone()?;
         let mut layers = Vec::from_clones(alloc, self.layers.as_slice())?;
-        for length in lengths.iter().rev() {
-            layers.push(Layer::Array(*length))?;
+        let count = lengths.len();
+        for back in 0..count {
+            layers.push(Layer::Array(lengths[count - 1 - back]))?;
         }
         let layers = Seq::from_vec(layers);
         Shared::new(alloc, DataType { element, layers })
@@ -140,22 +116,6 @@ impl DataType {
     }
 }
 
-impl PartialEq for Unvalued {
-    ghost eq = { unvalued_eq };
-
-    ghost laws = { on_per unvalued_number (partial_equiv_from_equiv nat_eq_equiv) };
-
-    fn eq(&self, other: &Unvalued) -> bool
-        ensures { result ≡ unvalued_eq self.now other.now }
-    {
-        self.number() == other.number()
-    }
-}
-
-impl Eq for Unvalued {
-    ghost laws = { on_equiv unvalued_number nat_eq_equiv };
-}
-
 impl Clone for Element {
     ghost is_clone = { λ element copy. copy ≡ element };
 
@@ -176,12 +136,6 @@ impl Clone for DataType {
         let layers = self.layers.clone()?;
         Ok(DataType { element, layers })
     }
-}
-
-impl Datum for Unvalued {
-    ghost same = { same_unvalued };
-
-    ghost copy = { λ x y h. h };
 }
 
 impl Datum for Element {

@@ -27,10 +27,11 @@ mod queue;
 mod shared;
 mod signature;
 mod state;
+mod unvalued;
 
 pub use addition::{Addition, Step};
 pub use answer::{Answer, Scope, count_in, entity_in, identity_in, prefix_in, scopes_in};
-pub use data_type::{DataType, Element, Layer, Unvalued};
+pub use data_type::{DataType, Element, Layer};
 pub use entity::Entity;
 pub use env::Env;
 pub use facts::Facts;
@@ -46,3 +47,4 @@ pub use naming::{Standpoint, resolve};
 pub use path::Path;
 pub use shared::Shared;
 pub use signature::{Member, Signature};
+pub use unvalued::Unvalued;
