@@ -1,5 +1,5 @@
 -- TypeCodes, and how they and types are written: one equation for each line of the format.
-use Rattle.std.specs.Prelude.{ℕ, ◌+◌, Bool, true, false, List, [], ◌∷◌, ◌++◌, codes, decimal, flat_map, reverse, Option, None, Some}
+use Rattle.std.specs.Prelude.{ℕ, ◌+◌, Bool, true, false, List, [], ◌∷◌, ◌++◌, codes, decimal, flat_map, Option, None, Some}
 use Rattle.idl_repo.specs.Pieces.{Pieces, IdOf, Says, says}
 use Rattle.idl_repo.specs.declared.type_code.TypeCodeKind.{TypeCodeKind}
 use Rattle.idl_repo.specs.declared.type_code.TypeCodeKind.TheVariants as code
@@ -73,6 +73,11 @@ abbrev pub layer_word : Layer → List ℕ
 layer_word (Sequence bound) = codes "tk_sequence("
 layer_word (Array length) = codes "tk_array("
 
+-- those of layers, the outermost of which, the last, begins first
+abbrev pub layers_begin : List Layer → List ℕ
+layers_begin [] = []
+layers_begin (layer ∷ layers) = layers_begin layers ++ layer_word layer
+
 abbrev pub size_of : Layer → ℕ
 size_of (Sequence bound) = bound
 size_of (Array length) = length
@@ -80,11 +85,10 @@ size_of (Array length) = length
 abbrev pub layer_end : Layer → List ℕ
 layer_end layer = codes "," ++ (decimal (size_of layer) ++ codes ")")
 
--- A type: a named one is told by its id, and another one is written in place. The outermost layer
--- begins first.
+-- A type: a named one is told by its id, and another one is written in place.
 abbrev pub written_type : DataType → Pieces
 written_type t =
-    Says (flat_map layer_word (reverse t.layers))
+    Says (layers_begin t.layers)
     ∷ (element_pieces t.element ++ says (flat_map layer_end t.layers))
 
 abbrev pub type_pieces : Option DataType → Pieces

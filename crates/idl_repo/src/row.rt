@@ -1,11 +1,9 @@
 //! Rows of a listing.
 
 ghost use Rattle.std.specs.Prelude.{◌≡◌, ◌++◌, OnOk};
-ghost use Rattle.idl_memo.specs.Query.{run};
-ghost use Rattle.idl_repo.specs.Pieces.{commas, written};
+ghost use Rattle.idl_repo.specs.Pieces.{Writes, commas};
 ghost use Rattle.idl_repo.specs.Row.{attribute_pieces, behind_id, coded_pieces, constant_pieces, context_word, contexts_of, contexts_word, direction_word, flag, kind_word, operation_pieces, parameter_pieces, path_text, raised_by_set_of, raised_of, references, row_pieces};
 ghost use Rattle.idl_scope.specs.Facts.{answers};
-ghost use Rattle.idl_scope.specs.Key.{key_eq};
 
 use crate::type_code::{TypeCode, members_of, signature_of, write_reference, write_type, write_typed};
 use crate::writer::Writer;
@@ -23,9 +21,8 @@ pub fn write_row(
     entity: &Entity,
 ) -> Result<(), AllocError>
     ensures text { OnOk result
-        ((writer.new.text.items, log.new)
-        ≡ run key_eq (written writer.old.text.items (row_pieces entity.now))
-        (answers writer.old.env.now) log.old) }
+        (Writes (answers writer.old.env.now) (row_pieces entity.now)
+        (writer.old.text.items, log.old) (writer.new.text.items, log.new)) }
     ensures env { OnOk result (writer.new.env.now ≡ writer.old.env.now) }
 {
     writer.say(kind_word(entity.kind))?;
@@ -62,13 +59,14 @@ fn write_path(writer: &mut Writer<'_>, names: &[Spelling]) -> Result<(), AllocEr
         (writer.new.text.items ≡ writer.old.text.items ++ path_text names.now) }
     ensures env { OnOk result (writer.new.env.now ≡ writer.old.env.now) }
 {
-    for (index, name) in names.iter().rev().enumerate() {
-        if index > 0 {
-            writer.say(b"::")?;
-        }
-        writer.say(name.as_bytes())?;
+    let [name, outer @ ..] = names else {
+        return Ok(());
+    };
+    if !outer.is_empty() {
+        write_path(writer, outer)?;
+        writer.say(b"::")?;
     }
-    Ok(())
+    writer.say(name.as_bytes())
 }
 
 // What stands behind the id.
@@ -78,9 +76,8 @@ fn write_behind_id(
     entity: &Entity,
 ) -> Result<(), AllocError>
     ensures text { OnOk result
-        ((writer.new.text.items, log.new)
-        ≡ run key_eq (written writer.old.text.items (behind_id entity.now))
-        (answers writer.old.env.now) log.old) }
+        (Writes (answers writer.old.env.now) (behind_id entity.now)
+        (writer.old.text.items, log.old) (writer.new.text.items, log.new)) }
     ensures env { OnOk result (writer.new.env.now ≡ writer.old.env.now) }
 {
     match entity.kind {
@@ -98,9 +95,8 @@ fn write_coded(
     entity: &Entity,
 ) -> Result<(), AllocError>
     ensures text { OnOk result
-        ((writer.new.text.items, log.new)
-        ≡ run key_eq (written writer.old.text.items (coded_pieces entity.now))
-        (answers writer.old.env.now) log.old) }
+        (Writes (answers writer.old.env.now) (coded_pieces entity.now)
+        (writer.old.text.items, log.old) (writer.new.text.items, log.new)) }
     ensures env { OnOk result (writer.new.env.now ≡ writer.old.env.now) }
 {
     let Some(code) = TypeCode::of(entity) else {
@@ -123,9 +119,8 @@ fn write_constant(
     entity: &Entity,
 ) -> Result<(), AllocError>
     ensures text { OnOk result
-        ((writer.new.text.items, log.new)
-        ≡ run key_eq (written writer.old.text.items (constant_pieces entity.now))
-        (answers writer.old.env.now) log.old) }
+        (Writes (answers writer.old.env.now) (constant_pieces entity.now)
+        (writer.old.text.items, log.old) (writer.new.text.items, log.new)) }
     ensures env { OnOk result (writer.new.env.now ≡ writer.old.env.now) }
 {
     writer.say(b" ")?;
@@ -144,9 +139,8 @@ fn write_attribute(
     entity: &Entity,
 ) -> Result<(), AllocError>
     ensures text { OnOk result
-        ((writer.new.text.items, log.new)
-        ≡ run key_eq (written writer.old.text.items (attribute_pieces entity.now))
-        (answers writer.old.env.now) log.old) }
+        (Writes (answers writer.old.env.now) (attribute_pieces entity.now)
+        (writer.old.text.items, log.old) (writer.new.text.items, log.new)) }
     ensures env { OnOk result (writer.new.env.now ≡ writer.old.env.now) }
 {
     writer.say(flag(entity.is_readonly, b" readonly "))?;
@@ -165,9 +159,8 @@ fn write_operation(
     entity: &Entity,
 ) -> Result<(), AllocError>
     ensures text { OnOk result
-        ((writer.new.text.items, log.new)
-        ≡ run key_eq (written writer.old.text.items (operation_pieces entity.now))
-        (answers writer.old.env.now) log.old) }
+        (Writes (answers writer.old.env.now) (operation_pieces entity.now)
+        (writer.old.text.items, log.old) (writer.new.text.items, log.new)) }
     ensures env { OnOk result (writer.new.env.now ≡ writer.old.env.now) }
 {
     writer.say(flag(entity.is_oneway, b" oneway "))?;
@@ -225,9 +218,8 @@ fn write_references(
     paths: &[Path],
 ) -> Result<(), AllocError>
     ensures text { OnOk result
-        ((writer.new.text.items, log.new)
-        ≡ run key_eq (written writer.old.text.items (references paths.now))
-        (answers writer.old.env.now) log.old) }
+        (Writes (answers writer.old.env.now) (references paths.now)
+        (writer.old.text.items, log.old) (writer.new.text.items, log.new)) }
     ensures env { OnOk result (writer.new.env.now ≡ writer.old.env.now) }
 {
     let [first, rest @ ..] = paths else {
@@ -248,9 +240,8 @@ fn write_parameters(
     parameters: &[Member],
 ) -> Result<(), AllocError>
     ensures text { OnOk result
-        ((writer.new.text.items, log.new)
-        ≡ run key_eq (written writer.old.text.items (commas parameter_pieces parameters.now))
-        (answers writer.old.env.now) log.old) }
+        (Writes (answers writer.old.env.now) (commas parameter_pieces parameters.now)
+        (writer.old.text.items, log.old) (writer.new.text.items, log.new)) }
     ensures env { OnOk result (writer.new.env.now ≡ writer.old.env.now) }
 {
     let [first, rest @ ..] = parameters else {
@@ -271,9 +262,8 @@ fn write_parameter(
     parameter: &Member,
 ) -> Result<(), AllocError>
     ensures text { OnOk result
-        ((writer.new.text.items, log.new)
-        ≡ run key_eq (written writer.old.text.items (parameter_pieces parameter.now))
-        (answers writer.old.env.now) log.old) }
+        (Writes (answers writer.old.env.now) (parameter_pieces parameter.now)
+        (writer.old.text.items, log.old) (writer.new.text.items, log.new)) }
     ensures env { OnOk result (writer.new.env.now ≡ writer.old.env.now) }
 {
     writer.say(direction_word(parameter.goes_in, parameter.comes_out))?;

@@ -1,12 +1,10 @@
 //! TypeCodes, and how they and types are written.
 
-ghost use Rattle.std.specs.Prelude.{◌≡◌, ◌∷◌, ◌++◌, [], OnOk, flat_map, reverse};
+ghost use Rattle.std.specs.Prelude.{◌≡◌, ◌∷◌, ◌++◌, [], OnOk, flat_map};
 ghost use Rattle.std.specs.Option.{option_copied, option_map};
-ghost use Rattle.idl_memo.specs.Query.{run};
-ghost use Rattle.idl_repo.specs.Pieces.{Says, written};
-ghost use Rattle.idl_repo.specs.TypeCode.{code_pieces, code_word, default_at, element_pieces, entries_of, entry_pieces, integer_word, kind_in, label_word, layer_end, layer_word, member_pieces, members_of, part_pieces, reference, size_of, string_word, target_word, type_pieces, typed_pieces, unvalued_word};
+ghost use Rattle.idl_repo.specs.Pieces.{Says, Writes};
+ghost use Rattle.idl_repo.specs.TypeCode.{code_pieces, code_word, default_at, element_pieces, entries_of, entry_pieces, integer_word, kind_in, label_word, layer_end, layer_word, layers_begin, member_pieces, members_of, part_pieces, reference, size_of, string_word, target_word, type_pieces, typed_pieces, unvalued_word};
 ghost use Rattle.idl_scope.specs.Facts.{answers};
-ghost use Rattle.idl_scope.specs.Key.{key_eq};
 
 use crate::writer::Writer;
 use idl_lex::Spelling;
@@ -78,10 +76,8 @@ impl<'a> TypeCode<'a> {
     /// Writes it: its word, and in parentheses its id, its name and its parts.
     pub fn write(self, writer: &mut Writer<'_>, log: &mut Log<Env>) -> Result<(), AllocError>
         ensures text { OnOk result
-            ((writer.new.text.items, log.new)
-            ≡ run key_eq
-            (written writer.old.text.items (code_pieces self.entry.kind self.entry.entity.now))
-            (answers writer.old.env.now) log.old) }
+            (Writes (answers writer.old.env.now) (code_pieces self.entry.kind self.entry.entity.now)
+            (writer.old.text.items, log.old) (writer.new.text.items, log.new)) }
         ensures env { OnOk result (writer.new.env.now ≡ writer.old.env.now) }
     {
         writer.say(self.kind.word())?;
@@ -96,10 +92,8 @@ impl<'a> TypeCode<'a> {
     // What stands behind the name.
     fn write_parts(self, writer: &mut Writer<'_>, log: &mut Log<Env>) -> Result<(), AllocError>
         ensures text { OnOk result
-            ((writer.new.text.items, log.new)
-            ≡ run key_eq
-            (written writer.old.text.items (part_pieces self.entry.kind self.entry.entity.now))
-            (answers writer.old.env.now) log.old) }
+            (Writes (answers writer.old.env.now) (part_pieces self.entry.kind self.entry.entity.now)
+            (writer.old.text.items, log.old) (writer.new.text.items, log.new)) }
         ensures env { OnOk result (writer.new.env.now ≡ writer.old.env.now) }
     {
         match self.kind {
@@ -148,9 +142,8 @@ fn write_members(
     members: &[Member],
 ) -> Result<(), AllocError>
     ensures text { OnOk result
-        ((writer.new.text.items, log.new)
-        ≡ run key_eq (written writer.old.text.items (flat_map member_pieces members.now))
-        (answers writer.old.env.now) log.old) }
+        (Writes (answers writer.old.env.now) (flat_map member_pieces members.now)
+        (writer.old.text.items, log.old) (writer.new.text.items, log.new)) }
     ensures env { OnOk result (writer.new.env.now ≡ writer.old.env.now) }
 {
     for member in members {
@@ -167,9 +160,8 @@ pub fn write_typed(
     member: &Member,
 ) -> Result<(), AllocError>
     ensures text { OnOk result
-        ((writer.new.text.items, log.new)
-        ≡ run key_eq (written writer.old.text.items (typed_pieces member.now))
-        (answers writer.old.env.now) log.old) }
+        (Writes (answers writer.old.env.now) (typed_pieces member.now)
+        (writer.old.text.items, log.old) (writer.new.text.items, log.new)) }
     ensures env { OnOk result (writer.new.env.now ≡ writer.old.env.now) }
 {
     writer.say(member.name.as_bytes())?;
@@ -184,9 +176,8 @@ fn write_entries(
     members: &[Member],
 ) -> Result<(), AllocError>
     ensures text { OnOk result
-        ((writer.new.text.items, log.new)
-        ≡ run key_eq (written writer.old.text.items (entries_of members.now))
-        (answers writer.old.env.now) log.old) }
+        (Writes (answers writer.old.env.now) (entries_of members.now)
+        (writer.old.text.items, log.old) (writer.new.text.items, log.new)) }
     ensures env { OnOk result (writer.new.env.now ≡ writer.old.env.now) }
 {
     writer.say(b",")?;
@@ -223,11 +214,8 @@ fn write_labelled(
     member: &Member,
 ) -> Result<(), AllocError>
     ensures text { OnOk result
-        ((writer.new.text.items, log.new)
-        ≡ run key_eq
-        (written writer.old.text.items
-        (flat_map (λ label. entry_pieces label member.now) member.now.labels))
-        (answers writer.old.env.now) log.old) }
+        (Writes (answers writer.old.env.now) (flat_map (λ label. entry_pieces label member.now) member.now.labels)
+        (writer.old.text.items, log.old) (writer.new.text.items, log.new)) }
     ensures env { OnOk result (writer.new.env.now ≡ writer.old.env.now) }
 {
     for label in member.labels.as_slice() {
@@ -272,10 +260,8 @@ fn write_type_behind(
     data_type: &Option<Shared<DataType>>,
 ) -> Result<(), AllocError>
     ensures text { OnOk result
-        ((writer.new.text.items, log.new)
-        ≡ run key_eq
-        (written writer.old.text.items (Says (44 ∷ []) ∷ type_pieces data_type.now))
-        (answers writer.old.env.now) log.old) }
+        (Writes (answers writer.old.env.now) (Says (44 ∷ []) ∷ type_pieces data_type.now)
+        (writer.old.text.items, log.old) (writer.new.text.items, log.new)) }
     ensures env { OnOk result (writer.new.env.now ≡ writer.old.env.now) }
 {
     writer.say(b",")?;
@@ -289,9 +275,8 @@ pub fn write_type(
     data_type: &Option<Shared<DataType>>,
 ) -> Result<(), AllocError>
     ensures text { OnOk result
-        ((writer.new.text.items, log.new)
-        ≡ run key_eq (written writer.old.text.items (type_pieces data_type.now))
-        (answers writer.old.env.now) log.old) }
+        (Writes (answers writer.old.env.now) (type_pieces data_type.now)
+        (writer.old.text.items, log.old) (writer.new.text.items, log.new)) }
     ensures env { OnOk result (writer.new.env.now ≡ writer.old.env.now) }
 {
     let Some(data_type) = data_type else {
@@ -306,17 +291,24 @@ pub fn write_type(
 // Where the layers around a type begin, from the outermost on.
 fn begin_layers(writer: &mut Writer<'_>, layers: &[Layer]) -> Result<(), AllocError>
     ensures text { OnOk result
-        (writer.new.text.items
-        ≡ writer.old.text.items ++ flat_map layer_word (reverse layers.now)) }
+        (writer.new.text.items ≡ writer.old.text.items ++ layers_begin layers.now) }
     ensures env { OnOk result (writer.new.env.now ≡ writer.old.env.now) }
 {
-    for layer in layers.iter().rev() {
-        match layer {
-            Layer::Sequence(_) => writer.say(b"tk_sequence(")?,
-            Layer::Array(_) => writer.say(b"tk_array(")?,
-        }
+    let count = layers.len();
+    for back in 0..count {
+        writer.say(layer_word(layers[count - 1 - back]))?;
     }
     Ok(())
+}
+
+// How a sequence or an array begins.
+fn layer_word(layer: Layer) -> &'static [u8]
+    ensures { result.now ≡ layer_word layer }
+{
+    match layer {
+        Layer::Sequence(_bound) => b"tk_sequence(",
+        Layer::Array(_length) => b"tk_array(",
+    }
 }
 
 // Where they end, from the innermost on: with the bound of each, or its length.
@@ -350,9 +342,8 @@ fn write_element(
     element: &Element,
 ) -> Result<(), AllocError>
     ensures text { OnOk result
-        ((writer.new.text.items, log.new)
-        ≡ run key_eq (written writer.old.text.items (element_pieces element.now))
-        (answers writer.old.env.now) log.old) }
+        (Writes (answers writer.old.env.now) (element_pieces element.now)
+        (writer.old.text.items, log.old) (writer.new.text.items, log.new)) }
     ensures env { OnOk result (writer.new.env.now ≡ writer.old.env.now) }
 {
     match element {
@@ -369,9 +360,8 @@ pub fn write_reference(
     path: &Path,
 ) -> Result<(), AllocError>
     ensures text { OnOk result
-        ((writer.new.text.items, log.new)
-        ≡ run key_eq (written writer.old.text.items (reference path.now))
-        (answers writer.old.env.now) log.old) }
+        (Writes (answers writer.old.env.now) (reference path.now)
+        (writer.old.text.items, log.old) (writer.new.text.items, log.new)) }
     ensures env { OnOk result (writer.new.env.now ≡ writer.old.env.now) }
 {
     writer.say(b"@")?;

@@ -1,11 +1,9 @@
 //! A text in which repository ids stand, each of which is asked where it is told.
 
 ghost use Rattle.std.specs.Prelude.{◌≡◌, ◌∷◌, ◌++◌, [], IfOk, OnOk, decimal};
-ghost use Rattle.idl_memo.specs.Query.{run};
 ghost use Rattle.idl_repo.specs.TypeCode.{listed_value};
-ghost use Rattle.idl_repo.specs.Pieces.{IdOf, written};
+ghost use Rattle.idl_repo.specs.Pieces.{IdOf, Writes};
 ghost use Rattle.idl_scope.specs.Facts.{answers};
-ghost use Rattle.idl_scope.specs.Key.{key_eq};
 
 use idl_memo::Log;
 use idl_scope::{Env, Key, Path, identity_in};
@@ -74,9 +72,8 @@ impl<'a> Writer<'a> {
     /// Says the id of what is declared at a path, which it asks for.
     pub fn say_id(&mut self, log: &mut Log<Env>, path: &Path) -> Result<(), AllocError>
         ensures text { OnOk result
-            ((self.new.text.items, log.new)
-            ≡ run key_eq (written self.old.text.items (IdOf path.now ∷ []))
-            (answers self.old.env.now) log.old) }
+            (Writes (answers self.old.env.now) (IdOf path.now ∷ [])
+            (self.old.text.items, log.old) (self.new.text.items, log.new)) }
         ensures env { OnOk result (self.new.env.now ≡ self.old.env.now) }
     {
         let key = Key::IdOf(path.clone()?);
