@@ -40,19 +40,6 @@ same_member m n h =
       comes_out = comes_out i;
     }
 
-pub copied_member : (m copy : Member)
-    → (copy.name ≡ m.name)
-    × ((copy.data_type ≡ m.data_type)
-    × ((copy.labels ≡ m.labels)
-    × ((copy.goes_in ≡ m.goes_in) × (copy.comes_out ≡ m.comes_out)))) → copy ≡ m
-copied_member m copy h = λ i. record {
-  name = h.0 i;
-  data_type = h.1.0 i;
-  labels = h.1.1.0 i;
-  goes_in = h.1.1.1.0 i;
-  comes_out = h.1.1.1.1 i;
-}
-
 -- whether two texts are one
 abbrev pub text_eq : List ℕ → List ℕ → Bool
 text_eq = pointwise nat_eq
@@ -82,14 +69,3 @@ same_signature s t h =
       raised_by_set = raised_by_set i;
       contexts = contexts i;
     }
-
-pub copied_signature : (s copy : Signature)
-    → (copy.members ≡ s.members)
-    × ((copy.raised ≡ s.raised)
-    × ((copy.raised_by_set ≡ s.raised_by_set) × (copy.contexts ≡ s.contexts))) → copy ≡ s
-copied_signature s copy h = λ i. record {
-  members = h.0 i;
-  raised = h.1.0 i;
-  raised_by_set = h.1.1.0 i;
-  contexts = h.1.1.1 i;
-}

@@ -6,7 +6,7 @@ ghost use Rattle.idl_scope.specs.Facts.{is_operation};
 use crate::data_type::DataType;
 use crate::kind::{Kind, Stage};
 use crate::path::Path;
-use crate::shared::Shared;
+use crate::shared::{Shared, copied};
 use crate::signature::Signature;
 use idl_base::{Datum, Seq};
 use idl_lex::Spelling;
@@ -67,10 +67,10 @@ impl Clone for Entity {
         let path = self.path.clone()?;
         let bases = self.bases.clone()?;
         let operations = self.operations.clone()?;
-        let data_type = self.data_type.clone()?;
-        let value = self.value.clone()?;
+        let data_type = copied(&self.data_type)?;
+        let value = copied(&self.value)?;
         let enumerators = self.enumerators.clone()?;
-        let signature = self.signature.clone()?;
+        let signature = copied(&self.signature)?;
         Ok(Entity {
             path,
             kind: self.kind,

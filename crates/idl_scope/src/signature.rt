@@ -4,13 +4,14 @@ ghost use Rattle.std.specs.Prelude.{◌≡◌};
 
 use crate::data_type::DataType;
 use crate::path::Path;
-use crate::shared::Shared;
+use crate::shared::{Shared, copied};
 use idl_base::{Datum, Seq};
 use idl_lex::Spelling;
 use idl_value::Value;
+use std::alloc::AllocError;
 
 /// A member, or a parameter of an operation.
-#[derive(Clone, PartialEq, Eq)]
+#[derive(PartialEq, Eq)]
 pub struct Member {
     pub name: Spelling,
     pub data_type: Option<Shared<DataType>>,
@@ -23,7 +24,7 @@ pub struct Member {
 }
 
 /// What a declared name shows behind itself.
-#[derive(Clone, PartialEq, Eq)]
+#[derive(PartialEq, Eq)]
 pub struct Signature {
     /// The members, or the parameters of an operation, in order.
     pub members: Seq<Member>,
@@ -58,18 +59,52 @@ impl Drop for Signature {
     }
 }
 
+impl Clone for Member {
+    ghost is_clone = { λ member copy. copy ≡ member };
+
+    fn clone(&self) -> Result<Member, AllocError> {
+        let name = self.name.clone()?;
+        let data_type = copied(&self.data_type)?;
+        let labels = self.labels.clone()?;
+        Ok(Member {
+            name,
+            data_type,
+            labels,
+            goes_in: self.goes_in,
+            comes_out: self.comes_out,
+        })
+    }
+}
+
+impl Clone for Signature {
+    ghost is_clone = { λ signature copy. copy ≡ signature };
+
+    fn clone(&self) -> Result<Signature, AllocError> {
+        let members = self.members.clone()?;
+        let raised = self.raised.clone()?;
+        let raised_by_set = self.raised_by_set.clone()?;
+        let contexts = self.contexts.clone()?;
+        Ok(Signature {
+            members,
+            raised,
+            raised_by_set,
+            contexts,
+        })
+    }
+}
+
 impl Datum for Member {
-    ghost use Rattle.idl_scope.specs.Signature.{same_member, copied_member};
+    ghost use Rattle.idl_scope.specs.Signature.{same_member};
 
     ghost same = { same_member };
 
-    ghost copy = { copied_member };
+    ghost copy = { λ x y h. h };
 }
 
 impl Datum for Signature {
-    ghost use Rattle.idl_scope.specs.Signature.{same_signature, copied_signature};
+    ghost use Rattle.idl_scope.specs.Signature.{same_signature};
 
     ghost same = { same_signature };
 
-    ghost copy = { copied_signature };
+    ghost copy = { λ x y h. h };
 }

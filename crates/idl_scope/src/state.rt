@@ -23,7 +23,7 @@ use crate::kind::{Kind, Stage};
 use crate::name::shared_name;
 use crate::operations::{add_inside, append, inherited, innermost, leave, operations_among};
 use crate::path::Path;
-use crate::shared::Shared;
+use crate::shared::{Shared, copied};
 use idl_base::Seq;
 use idl_lex::Spelling;
 use idl_map::{Map, SharedList};
@@ -326,10 +326,10 @@ fn closed(interface: &Entity, operations: Vec<Path>) -> Result<Entity, AllocErro
 {
     let path = interface.path.clone()?;
     let bases = interface.bases.clone()?;
-    let data_type = interface.data_type.clone()?;
-    let value = interface.value.clone()?;
+    let data_type = copied(&interface.data_type)?;
+    let value = copied(&interface.value)?;
     let enumerators = interface.enumerators.clone()?;
-    let signature = interface.signature.clone()?;
+    let signature = copied(&interface.signature)?;
     Ok(Entity {
         path,
         kind: interface.kind,
