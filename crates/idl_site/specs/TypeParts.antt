@@ -76,11 +76,12 @@ abbrev pub length_parts : Expression → Parts
 length_parts e =
     punctuation mark.OpenBracket ∷ (value_parts Length e ++ punctuation mark.CloseBracket ∷ [])
 
--- ( "[" expr "]" )*
-abbrev pub lengths_parts : List Expression → Parts
-lengths_parts [] = []
-lengths_parts (e ∷ lengths) = flat_map length_parts (e ∷ lengths) ++ ArrayEnds ∷ []
+-- behind the lengths of an array, if it is one
+abbrev pub array_end : List Expression → Parts
+array_end [] = []
+array_end (e ∷ lengths) = ArrayEnds ∷ []
 
 -- declr = ID ( "[" expr "]" )*
 abbrev pub declarator_parts : Declaration → Declarator → Parts
-declarator_parts declaration d = Declares declaration d.name ∷ lengths_parts d.lengths
+declarator_parts declaration d =
+    Declares declaration d.name ∷ (flat_map length_parts d.lengths ++ array_end d.lengths)
