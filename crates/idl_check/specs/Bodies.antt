@@ -131,12 +131,17 @@ with_last_type t [] = []
 with_last_type t (m ∷ []) = record m { data_type = t } ∷ []
 with_last_type t (m ∷ n ∷ members) = m ∷ with_last_type t (n ∷ members)
 
-abbrev pub with_array_member : Entity → List Body → List Body
-with_array_member e [] = []
-with_array_member e (b ∷ bodies) =
-    (if kind_eq e.kind MemberKind
-    then record b { members = with_last_type e.data_type b.members } else b)
-    ∷ bodies
+abbrev pub with_array_type : Entity → Body → Body
+with_array_type e b =
+    if kind_eq e.kind MemberKind
+    then record b { members = with_last_type e.data_type b.members } else b
+
+-- the innermost body, where what was declared last is an array of these lengths
+abbrev pub with_array_member : List ℕ → Option Entity → List Body → List Body
+with_array_member lengths None bodies = bodies
+with_array_member lengths (Some e) [] = []
+with_array_member lengths (Some e) (b ∷ bodies) =
+    with_array_type (array_of lengths e) b ∷ bodies
 
 -- what a body is of, once it ends: of a union the type of its labels is that before it
 abbrev pub told_body : Clauses → Body → List Entity

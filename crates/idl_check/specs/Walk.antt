@@ -251,14 +251,16 @@ label_target [] = None
 label_target (labels ∷ unions) = labels.target
 
 -- what was declared last is an array of the lengths that were told
-abbrev pub with_array : Option Entity → Walk → Walk
-with_array None w = w
-with_array (Some e) w =
-    let array = array_of w.values.lengths e in record w {
-      own = with_addition w.own (Declares array);
-      bodies = with_array_member array w.bodies;
-      values = record w.values { lengths = [] };
-    }
+abbrev pub with_array : List ℕ → Option Entity → List Addition → List Addition
+with_array lengths None own = own
+with_array lengths (Some e) own = with_addition own (Declares (array_of lengths e))
+
+abbrev pub ended_array : Walk → Walk
+ended_array w = record w {
+  own = with_array w.values.lengths w.last w.own;
+  bodies = with_array_member w.values.lengths w.last w.bodies;
+  values = record w.values { lengths = [] };
+}
 
 -- an expression that is for this and has this value
 abbrev pub valued_after : Walk → Purpose → Value → Walk
@@ -320,7 +322,7 @@ visit turns (item.TypeEnds shape) w =
     Done (quiet (record w {
       written = record w.written { data_type = t; constants = target_in t };
     }))
-visit turns item.ArrayEnds w = Done (quiet (with_array w.last w))
+visit turns item.ArrayEnds w = Done (quiet (ended_array w))
 visit turns (item.Enumerates names) w =
     Done (quiet (record w {
       written = record w.written { enumerators = names.first ∷ names.rest };

@@ -2,7 +2,7 @@
 
 ghost use Rattle.std.specs.Prelude.{◌≡◌, ◌∷◌, [], IfOk, OnOk, option_to_list};
 ghost use Rattle.std.specs.Option.{option_copied};
-ghost use Rattle.idl_check.specs.Bodies.{begun_body, comes_out, goes_in, is_member, joined_text, no_clauses, raising, signature_of, told_body, with_array_member, with_body_label, with_context, with_member, with_raised};
+ghost use Rattle.idl_check.specs.Bodies.{begun_body, comes_out, goes_in, is_member, joined_text, no_clauses, raising, signature_of, told_body, with_array_type, with_body_label, with_context, with_member, with_raised};
 
 use idl_base::Seq;
 use idl_scope::{DataType, Entity, Kind, Member, Path, Shared, Signature};
@@ -212,7 +212,7 @@ impl Body {
 
     /// What was declared last is this array.
     pub fn make_array(&mut self, array: &Entity) -> Result<(), AllocError>
-        ensures { OnOk result (self.new ∷ [] ≡ with_array_member array.now (self.old ∷ [])) }
+        ensures { OnOk result (self.new ≡ with_array_type array.now self.old) }
     {
         if array.kind != Kind::Member {
             return Ok(());

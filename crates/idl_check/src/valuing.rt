@@ -9,7 +9,7 @@ ghost use Rattle.idl_check.specs.Types.{target_in, written_as};
 ghost use Rattle.idl_scope.specs.DataType.{plain_type};
 ghost use Rattle.idl_scope.specs.declared.data_type.Element.TheVariants.{Constants};
 ghost use Rattle.idl_check.specs.Values.{begun_at, code_of};
-ghost use Rattle.idl_check.specs.Walk.{begin_of, faulty_if, is_repeated, noted, noted_in, outcome_at, token_of, value_visit, valued_after, with_array, with_labels};
+ghost use Rattle.idl_check.specs.Walk.{begin_of, faulty_if, is_repeated, noted, noted_in, outcome_at, token_of, ended_array, value_visit, valued_after, with_labels};
 ghost use Rattle.idl_event.specs.declared.code.Code.TheVariants.{BadDiscriminator, RepeatedLabel};
 ghost use Rattle.idl_site.specs.declared.site.Target.TheVariants as purpose;
 ghost use Rattle.idl_unit.specs.TokenRules.{fault_at};
@@ -29,6 +29,7 @@ use idl_site::{Shape, Target as Purpose};
 use idl_tree::{DiscreteType, Expression, Several};
 use idl_value::{Fault, Outcome, Target, Value};
 use std::alloc::{AllocError, Global};
+use std::mem::replace;
 
 impl<'a> Walker<'a> {
     /// An expression begins.
@@ -159,16 +160,16 @@ impl<'a> Walker<'a> {
     /// The lengths of the array that was declared last are told.
     pub fn end_array(&mut self) -> Result<(), AllocError>
         ensures visit { OnOk result
-            (held self.new ≡ with_array self.old.last (held self.old)) }
+            (held self.new ≡ ended_array (held self.old)) }
         ensures at { OnOk result (self.new.at ≡ self.old.at) }
         ensures env { OnOk result (self.new.env.now ≡ self.old.env.now) }
     {
+        let alloc = self.env.alloc();
+        let lengths = replace(&mut self.values.lengths, Vec::new(alloc));
         let Some(entity) = &self.last else {
             return Ok(());
         };
-        let lengths = self.values.lengths.as_slice();
-        let array = array_of(self.env.alloc(), entity.get(), lengths)?;
-        self.values.lengths.clear();
+        let array = array_of(alloc, entity.get(), lengths.as_slice())?;
         if let Some(body) = self.bodies.first_mut() {
             body.make_array(array.get())?;
         }
