@@ -136,12 +136,14 @@ with_array_type e b =
     if kind_eq e.kind MemberKind
     then record b { members = with_last_type e.data_type b.members } else b
 
+abbrev pub with_array_body : Entity → List Body → List Body
+with_array_body e [] = []
+with_array_body e (b ∷ bodies) = with_array_type e b ∷ bodies
+
 -- the innermost body, where what was declared last is an array of these lengths
 abbrev pub with_array_member : List ℕ → Option Entity → List Body → List Body
 with_array_member lengths None bodies = bodies
-with_array_member lengths (Some e) [] = []
-with_array_member lengths (Some e) (b ∷ bodies) =
-    with_array_type (array_of lengths e) b ∷ bodies
+with_array_member lengths (Some e) bodies = with_array_body (array_of lengths e) bodies
 
 -- what a body is of, once it ends: of a union the type of its labels is that before it
 abbrev pub told_body : Clauses → Body → List Entity

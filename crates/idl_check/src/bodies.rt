@@ -2,7 +2,7 @@
 
 ghost use Rattle.std.specs.Prelude.{◌≡◌, ◌∷◌, [], IfOk, OnOk, option_to_list};
 ghost use Rattle.std.specs.Option.{option_copied};
-ghost use Rattle.idl_check.specs.Bodies.{begun_body, comes_out, goes_in, is_member, joined_text, no_clauses, raising, signature_of, told_body, with_array_type, with_body_label, with_context, with_member, with_raised};
+ghost use Rattle.idl_check.specs.Bodies.{begun_body, comes_out, goes_in, is_member, joined_text, no_clauses, raising, signature_of, told_body, with_array_body, with_array_type, with_body_label, with_context, with_member, with_raised};
 
 use idl_base::Seq;
 use idl_scope::{DataType, Entity, Kind, Member, Path, Shared, Signature};
@@ -173,8 +173,8 @@ impl Body {
         })
     }
 
-    /// A declared name, if it is a member.
-    pub fn declare(
+    // A declared name, if it is a member.
+    fn declare(
         &mut self,
         alloc: Global,
         way: Declaration,
@@ -202,16 +202,16 @@ impl Body {
         Ok(())
     }
 
-    /// A label.
-    pub fn label(&mut self, label: Option<Value>) -> Result<(), AllocError>
+    // A label.
+    fn label(&mut self, label: Option<Value>) -> Result<(), AllocError>
         ensures { OnOk result (self.new ∷ [] ≡ with_body_label label (self.old ∷ [])) }
     {
         self.labels.push(label)?;
         Ok(())
     }
 
-    /// What was declared last is this array.
-    pub fn make_array(&mut self, array: &Entity) -> Result<(), AllocError>
+    // What was declared last is this array.
+    fn make_array(&mut self, array: &Entity) -> Result<(), AllocError>
         ensures { OnOk result (self.new ≡ with_array_type array.now self.old) }
     {
         if array.kind != Kind::Member {
@@ -243,6 +243,41 @@ impl Body {
         }
         told.signature = Some(clauses.signature(alloc, members)?);
         Ok(Some(Shared::new(alloc, told)?))
+    }
+}
+
+/// Puts a declared name into the innermost of these scopes, if it is a member.
+pub fn declare_member(
+    alloc: Global,
+    bodies: &mut Vec<Body>,
+    way: Declaration,
+    entity: &Entity,
+) -> Result<(), AllocError>
+    ensures { OnOk result (bodies.new.items ≡ with_member way entity.now bodies.old.items) }
+{
+    match bodies.first_mut() {
+        Some(body) => body.declare(alloc, way, entity),
+        None => Ok(()),
+    }
+}
+
+/// Puts a label into the innermost of these scopes.
+pub fn label_member(bodies: &mut Vec<Body>, label: Option<Value>) -> Result<(), AllocError>
+    ensures { OnOk result (bodies.new.items ≡ with_body_label label bodies.old.items) }
+{
+    match bodies.first_mut() {
+        Some(body) => body.label(label),
+        None => Ok(()),
+    }
+}
+
+/// What was declared last in the innermost of these scopes is this array.
+pub fn make_array(bodies: &mut Vec<Body>, array: &Entity) -> Result<(), AllocError>
+    ensures { OnOk result (bodies.new.items ≡ with_array_body array.now bodies.old.items) }
+{
+    match bodies.first_mut() {
+        Some(body) => body.make_array(array),
+        None => Ok(()),
     }
 }
 

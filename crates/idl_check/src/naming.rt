@@ -17,6 +17,7 @@ ghost use Rattle.idl_site.specs.Item.{Item as item};
 ghost use Rattle.idl_unit.specs.TokenRules.{fault_at};
 
 use crate::bases::Bases;
+use crate::bodies::declare_member;
 use crate::declaring::{declared_code, stays};
 use crate::identifying::first_identity;
 use crate::labels::Labels;
@@ -88,10 +89,8 @@ impl<'a> Walker<'a> {
         self.at += 1;
         keep_begun(&mut self.begun, &entity)?;
         self.written.declare(self.env.alloc(), entity.get())?;
-        if let Some(body) = self.bodies.first_mut() {
-            body.declare(self.env.alloc(), way, entity.get())?;
-        }
-        self.last = Some(entity.clone()?);
+        declare_member(self.env.alloc(), &mut self.bodies, way, entity.get())?;
+        keep_last(&mut self.last, &entity)?;
         add_identity(self.env.alloc(), &mut self.own, standing, entity.get())?;
         add_declared(&mut self.own, &standing.there, entity)?;
         Ok(())
@@ -341,6 +340,14 @@ impl<'a> Walker<'a> {
             Use::Raised | Use::RaisedBySet => Ok(()),
         }
     }
+}
+
+// What was declared last.
+fn keep_last(last: &mut Option<Shared<Entity>>, entity: &Shared<Entity>) -> Result<(), AllocError>
+    ensures { OnOk result (last.new ≡ Some entity.now) }
+{
+    *last = Some(entity.clone()?);
+    Ok(())
 }
 
 // Whether the unit's end finishes it.

@@ -16,6 +16,7 @@ ghost use Rattle.idl_unit.specs.TokenRules.{fault_at};
 ghost use Rattle.idl_value.specs.Target.{discriminates, target_of};
 ghost use Rattle.idl_value.specs.declared.outcome.Outcome.TheVariants as outcome;
 
+use crate::bodies::{label_member, make_array};
 use crate::declaring::array_of;
 use crate::labels::Labels;
 use crate::types::{target_in, written_as};
@@ -144,9 +145,7 @@ impl<'a> Walker<'a> {
         ensures env { OnOk result (self.new.env.now ≡ self.old.env.now) }
     {
         let begin = self.begin_of();
-        if let Some(body) = self.bodies.first_mut() {
-            body.label(Some(value.clone()?))?;
-        }
+        label_member(&mut self.bodies, Some(value.clone()?))?;
         let Some(labels) = self.unions.first_mut() else {
             return Ok(());
         };
@@ -170,9 +169,7 @@ impl<'a> Walker<'a> {
             return Ok(());
         };
         let array = array_of(alloc, entity.get(), lengths.as_slice())?;
-        if let Some(body) = self.bodies.first_mut() {
-            body.make_array(array.get())?;
-        }
+        make_array(&mut self.bodies, array.get())?;
         self.own.add(Addition::Declares(array))
     }
 
@@ -257,9 +254,7 @@ impl<'a> Walker<'a> {
         ensures at { OnOk result (self.new.at ≡ self.old.at) }
         ensures env { OnOk result (self.new.env.now ≡ self.old.env.now) }
     {
-        if let Some(body) = self.bodies.first_mut() {
-            body.label(None)?;
-        }
+        label_member(&mut self.bodies, None)?;
         let Some(labels) = self.unions.first_mut() else {
             return Ok(());
         };

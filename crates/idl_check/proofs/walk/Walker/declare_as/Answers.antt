@@ -37,7 +37,8 @@ returns-clause-visit c =
       own = (c.in_ok-add_declared.ensures i).additions;
       begun = c.in_ok-keep_begun.ensures i;
       written = c.in_ok-declare.ensures i;
-      -- the member of the innermost body, and what was declared last, are still to be put in here
+      last = c.in_ok-keep_last.ensures i;
+      bodies = c.in_ok-declare_member.ensures i;
     })
     ∙ (λ i. record (after noted) {
       own = adds (c.in_ok-add_identity.ensures i).additions;
