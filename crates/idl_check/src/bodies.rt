@@ -2,10 +2,12 @@
 
 ghost use Rattle.std.specs.Prelude.{◌≡◌, ◌∷◌, [], IfOk, OnOk, option_to_list};
 ghost use Rattle.std.specs.Option.{option_copied};
+ghost use Rattle.idl_scope.specs.Path.{name_of};
 ghost use Rattle.idl_check.specs.Bodies.{begun_body, comes_out, goes_in, is_member, joined_text, no_clauses, raising, signature_of, told_body, with_array_body, with_array_type, with_body_label, with_context, with_member, with_raised};
 
 use idl_base::Seq;
-use idl_scope::{DataType, Entity, Kind, Member, Path, Shared, Signature};
+use idl_lex::Spelling;
+use idl_scope::{DataType, Entity, Kind, Member, Path, Shared, Signature, shared_name};
 use idl_site::{Declaration, Use};
 use idl_tree::{Direction, Several};
 use idl_value::Value;
@@ -183,13 +185,10 @@ impl Body {
         ensures { OnOk result
             (self.new ∷ [] ≡ with_member way entity.now (self.old ∷ [])) }
     {
-        let [name, ..] = entity.path.as_slice() else {
-            return Ok(());
-        };
         if !is_member(entity.kind) {
             return Ok(());
         }
-        let name = name.clone()?;
+        let name = name_at(alloc, &entity.path)?;
         let data_type = entity.data_type.clone()?;
         let labels = replace(&mut self.labels, Vec::new(alloc));
         self.members.push(Member {
@@ -278,6 +277,16 @@ pub fn make_array(bodies: &mut Vec<Body>, array: &Entity) -> Result<(), AllocErr
     match bodies.first_mut() {
         Some(body) => body.make_array(array),
         None => Ok(()),
+    }
+}
+
+// The name of what stands at a path.
+fn name_at(alloc: Global, path: &Path) -> Result<Spelling, AllocError>
+    ensures { IfOk result (λ name. name ≡ name_of path.now) }
+{
+    match path.as_slice() {
+        [] => shared_name(alloc, &[]),
+        [name, ..] => name.clone(),
     }
 }
 
