@@ -4,6 +4,7 @@ pub mod HeaderLemmas
 pub mod LineLemmas
 pub mod LiteralLemmas
 pub mod LogicalLemmas
+pub mod MovedLemmas
 pub mod NumberLemmas
 pub mod PieceLemmas
 pub mod TableLemmas

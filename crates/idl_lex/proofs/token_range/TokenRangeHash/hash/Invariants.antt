@@ -2,7 +2,7 @@ use Rattle.std.proofs.Common.{◌≡◌, length}
 use Rattle.std.specs.Hash as fed
 use Rattle.std.specs.List.{flat_map, fold}
 use Rattle.idl_lex.specs.Tokens.{tokens_in}
-use Rattle.idl_event.proofs.token_range.TokenRangeHash.hash.Given as goal
+use Rattle.idl_lex.proofs.token_range.TokenRangeHash.hash.Given as goal
 
 abbrev pub invariant-loop-left : goal.invariant-loop-left
 invariant-loop-left g l =

@@ -2,7 +2,7 @@ use Rattle.std.proofs.Common.{◌≡◌, drop}
 use Rattle.std.specs.Cmp.Lexicographic.{pointwise}
 use Rattle.std.specs.Str.{bytes_eq}
 use Rattle.idl_lex.specs.Tokens.{tokens_in}
-use Rattle.idl_event.proofs.token_range.have_same_tokens.Given as goal
+use Rattle.idl_lex.proofs.token_range.have_same_tokens.Given as goal
 
 abbrev pub invariant-loop-placed : goal.invariant-loop-placed
 invariant-loop-placed l =

@@ -1,7 +1,7 @@
 use Rattle.std.proofs.Common.{◌≡◌, ◌∙◌, sym, rules}
 use Rattle.std.specs.Cmp.Lexicographic.{pointwise, pointwise_decides, bytes_decides}
 use Rattle.std.specs.Str.{bytes_eq}
-use Rattle.idl_event.proofs.token_range.TokenRangePartialEq.eq.Goals as goal
+use Rattle.idl_lex.proofs.token_range.TokenRangePartialEq.eq.Goals as goal
 
 pub returns-clause-exact : goal.returns-clause-exact
 returns-clause-exact c =

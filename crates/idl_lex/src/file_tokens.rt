@@ -1,0 +1,107 @@
+//! Tokens of a file that are lent.
+
+ghost use Rattle.std.specs.Prelude.{◌≡◌, ◌≤◌, ◌<◌, drop, length, map, take, get_or, IfOk};
+ghost use Rattle.idl_lex.specs.Moved.{AreElsewhere};
+ghost use Rattle.idl_lex.specs.Tokens.{tokens_in};
+
+use crate::block::Block;
+use crate::token::PlacedToken;
+use crate::token_range::TokenRange;
+use std::alloc::AllocError;
+use std::marker::Model;
+use std::rc::Rc;
+
+/// Tokens of a block from one place up to another, where they stand in a file. To every contract they are their list.
+#[derive(Drop)]
+pub struct FileTokens<'a> {
+    block: &'a Rc<Block>,
+    lines_before: u32,
+    from: usize,
+    tokens: &'a [PlacedToken],
+}
+
+impl<'a> Model for FileTokens<'a> {
+    ghost use Rattle.std.specs.Prelude.{◌≡◌, ◌≤◌, ◌+◌, List, drop, length, take};
+    ghost use Rattle.std.specs.List.{All};
+    ghost use Rattle.idl_lex.specs.Moved.{moved_tokens};
+    ghost use Rattle.idl_lex.specs.declared.token.PlacedToken.{PlacedToken};
+
+    ghost Value = { List PlacedToken };
+
+    ghost view = { λ range. moved_tokens range.lines_before range.tokens.now };
+
+    ghost invariant = { λ range. let all = range.block.now.value.tokens.items in
+        (range.from + length range.tokens.now ≤ length all)
+        × (range.tokens.now ≡ take (length range.tokens.now) (drop range.from all))
+        × (range.lines_before ≤ 200000)
+        × All (λ (t : PlacedToken). t.line ≤ 200000) range.tokens.now };
+}
+
+impl<'a> FileTokens<'a> {
+    /// The tokens of a block from a place on, where so many lines of the file are before the block.
+    pub(crate) fn new(block: &'a Rc<Block>, lines_before: u32, from: usize) -> FileTokens<'a> {
+        FileTokens {
+            block,
+            lines_before,
+            from,
+            tokens: &block.tokens[from..],
+        }
+    }
+
+    /// The same tokens again. It takes no memory.
+    pub fn copied(&self) -> FileTokens<'a>
+        ensures { result ≡ self.now }
+    {
+        FileTokens {
+            block: self.block,
+            lines_before: self.lines_before,
+            from: self.from,
+            tokens: self.tokens,
+        }
+    }
+
+    /// The tokens in order, with the lines that they have in a block of their own: [`line_at`](Self::line_at) tells where they stand.
+    pub fn as_slice(&self) -> &'a [PlacedToken]
+        ensures { AreElsewhere result.now self.now }
+    {
+        self.tokens
+    }
+
+    /// The number of the line in the file on which a token stands.
+    pub fn line_at(&self, i: usize) -> u32
+        requires { i < length self.now }
+        ensures { result ≡ get_or (map (λ t. t.line) self.now) i 0 }
+    {
+        self.lines_before + self.tokens[i].line
+    }
+
+    /// The first `count` tokens, and those after them.
+    pub fn split_at(&self, count: usize) -> (FileTokens<'a>, FileTokens<'a>)
+        requires { count ≤ length self.now }
+        ensures front { result.0 ≡ take count self.now }
+        ensures back { result.1 ≡ drop count self.now }
+    {
+        let (front, back) = self.tokens.split_at(count);
+        let first = FileTokens {
+            block: self.block,
+            lines_before: self.lines_before,
+            from: self.from,
+            tokens: front,
+        };
+        let rest = FileTokens {
+            block: self.block,
+            lines_before: self.lines_before,
+            from: self.from + count,
+            tokens: back,
+        };
+        (first, rest)
+    }
+
+    /// The tokens, shared with their block from now on.
+    pub fn shared(&self) -> Result<TokenRange, AllocError>
+        ensures { IfOk result (λ range. range ≡ tokens_in self.now) }
+    {
+        let to = self.from + self.tokens.len();
+        Ok(TokenRange::new(self.block.clone()?, self.from, to))
+    }
+}
