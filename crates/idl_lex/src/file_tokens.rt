@@ -1,15 +1,64 @@
-//! Tokens of a file that are lent.
+//! Tokens that are lent, where they stand in a file.
 
-ghost use Rattle.std.specs.Prelude.{◌≡◌, ◌≤◌, ◌<◌, drop, length, map, take, get_or, IfOk};
+ghost use Rattle.std.specs.Prelude.{◌≡◌, ◌≤◌, ◌∷◌, [], drop, length, take, IfOk, MatchOption};
 ghost use Rattle.idl_lex.specs.Moved.{AreElsewhere};
 ghost use Rattle.idl_lex.specs.Tokens.{tokens_in};
 
 use crate::block::Block;
-use crate::token::PlacedToken;
+use crate::token::{PlacedToken, Token};
 use crate::token_range::TokenRange;
 use std::alloc::AllocError;
 use std::marker::Model;
 use std::rc::Rc;
+
+/// A token of a block, where it stands in a file.
+#[derive(Drop)]
+pub struct FileToken<'a> {
+    placed: &'a PlacedToken,
+    lines_before: u32,
+}
+
+impl<'a> Model for FileToken<'a> {
+    ghost use Rattle.std.specs.Prelude.{◌≤◌};
+    ghost use Rattle.idl_lex.specs.Moved.{moved_token};
+    ghost use Rattle.idl_lex.specs.declared.token.PlacedToken as spec;
+
+    ghost Value = { spec.PlacedToken };
+
+    ghost view = { λ it. moved_token it.lines_before it.placed.now };
+
+    ghost invariant = { λ it. (it.lines_before ≤ 200000) × (it.placed.now.line ≤ 200000) };
+}
+
+impl<'a> FileToken<'a> {
+    /// The token.
+    pub fn token(&self) -> &'a Token
+        ensures { result.now ≡ self.now.token }
+    {
+        &self.placed.token
+    }
+
+    /// The number of its line in the file.
+    pub fn line(&self) -> u32
+        ensures { result ≡ self.now.line }
+    {
+        self.lines_before + self.placed.line
+    }
+
+    /// Whether a word ends where it begins.
+    pub fn follows_word(&self) -> bool
+        ensures { result ≡ self.now.follows_word }
+    {
+        self.placed.follows_word
+    }
+
+    /// It as a token of a file of its block alone.
+    pub fn placed(&self) -> &'a PlacedToken
+        ensures { result.now.token ≡ self.now.token }
+    {
+        self.placed
+    }
+}
 
 /// Tokens of a block from one place up to another, where they stand in a file. To every contract they are their list.
 #[derive(Drop)]
@@ -60,19 +109,29 @@ impl<'a> FileTokens<'a> {
         }
     }
 
-    /// The tokens in order, with the lines that they have in a block of their own: [`line_at`](Self::line_at) tells where they stand.
+    /// The tokens in order, with the lines that they have in a file of their block alone.
     pub fn as_slice(&self) -> &'a [PlacedToken]
         ensures { AreElsewhere result.now self.now }
     {
         self.tokens
     }
 
-    /// The number of the line in the file on which a token stands.
-    pub fn line_at(&self, i: usize) -> u32
-        requires { i < length self.now }
-        ensures { result ≡ get_or (map (λ t. t.line) self.now) i 0 }
+    /// The first token, and those after it.
+    pub fn split_first(&self) -> Option<(FileToken<'a>, FileTokens<'a>)>
+        ensures { MatchOption result (self.now ≡ []) (λ parts. self.now ≡ parts.0 ∷ parts.1) }
     {
-        self.lines_before + self.tokens[i].line
+        let (placed, tokens) = self.tokens.split_first()?;
+        let first = FileToken {
+            placed,
+            lines_before: self.lines_before,
+        };
+        let rest = FileTokens {
+            block: self.block,
+            lines_before: self.lines_before,
+            from: self.from + 1,
+            tokens,
+        };
+        Some((first, rest))
     }
 
     /// The first `count` tokens, and those after them.

@@ -29,7 +29,7 @@ mod word_table;
 
 pub use keyword::Keyword;
 pub use kind::{Defect, Kind, is_like_keyword, kind_of};
-pub use file_tokens::FileTokens;
+pub use file_tokens::{FileToken, FileTokens};
 pub use lexed::{Lexed, lex, longest_pieces};
 pub use literal::decode;
 pub use mark::{Mark, PreprocessorMark};
