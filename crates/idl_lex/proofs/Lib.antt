@@ -1,3 +1,4 @@
+pub mod BlockLemmas
 pub mod CountLemmas
 pub mod CutLemmas
 pub mod HeaderLemmas

@@ -1,6 +1,6 @@
 //! Blocks: lines of a file that are cut into tokens as if they were a file of their own.
 
-ghost use Rattle.std.specs.Prelude.{◌≡◌, ◌≤◌, ◌<◌, ◌++◌, [], None, IfOk, IsTrue, OnOk, length};
+ghost use Rattle.std.specs.Prelude.{◌≡◌, ◌≤◌, ◌<◌, ◌++◌, [], None, IfOk, IsSome, IsTrue, OnOk, length};
 ghost use Rattle.idl_lex.specs.Block.{IsBlock};
 ghost use Rattle.idl_lex.specs.Lexer.{coming};
 
@@ -51,7 +51,7 @@ impl<'a> Ends<'a> {
 
 // Whether a block of an earlier text begins so many lines before its end.
 fn begins_block(old: Option<&Blocks>, left: usize) -> bool
-    ensures { IsTrue result → old ≢ None }
+    ensures { IsTrue result → IsSome old }
 {
     match old {
         Some(old) => old.begins_block(left),
@@ -64,7 +64,7 @@ pub fn cut_block(alloc: Global, lines: &[Line], ends: Ends<'_>) -> Result<Block,
     requires some { 0 < length lines.now }
     requires room { length lines.now ≤ 200000 }
     ensures block { IfOk result (λ block. IsBlock lines.now block) }
-    ensures whole { ends.old ≡ None → length lines.now ≤ ends.lines
+    ensures whole { ends.entry.old ≡ None → length lines.now ≤ ends.entry.lines
         → IfOk result (λ block. block.lines ≡ length lines.now) }
 {
     let mut tokens = Vec::new(alloc);
