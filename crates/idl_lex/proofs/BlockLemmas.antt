@@ -2,7 +2,7 @@
 use Rattle.std.proofs.Common.{◌≡◌, ◌∙◌, ◌⊎◌, inl, inr, ◌+◌, ◌-◌, ◌<◌, ◌≤◌, ◌++◌, ◌∷◌, ℕ, zero, suc, Bool, true, false, if◌then◌else◌, List, [], append_assoc, append-nil, drop, length, length-append, length-drop, map, take, refl, sym, ap, subst, arith}
 use Rattle.std.proofs.Math.Seq.{drop-append_seam, take-add, take-append_seam, take-length}
 use Rattle.std.proofs.lemmas.Grind.{flat_map-append}
-use Rattle.std.proofs.lemmas.List.{drop-drop, drop_all, length-take-le, map-append, take-append-drop}
+use Rattle.std.proofs.lemmas.List.{drop-drop, drop_all, length-map, length-take-le, map-append, take-append-drop}
 use Rattle.std.proofs.lemmas.Simd.{map-map}
 use Rattle.std.specs.List.{flat_map}
 use Rattle.idl_source.specs.Line.{newline}
@@ -22,7 +22,7 @@ use Rattle.idl_lex.specs.declared.token.PlacedToken.{PlacedToken}
 -- ---- tokens of lines
 
 pub tokens_of-nil : tokens_of [] ≡ []
-unfolding tokens_of, joined, tokens_after
+unfolding tokens_of joined tokens_after
 tokens_of-nil = refl
 
 pub tokens_of-joined : (lines : List (List ℕ)) → tokens_of lines ≡ tokens_after line_start 0 (joined 1 lines)
@@ -66,17 +66,18 @@ joined_count-none rest (inr none) = ap joined_count none
 -- as many lines are joined, whatever is behind them
 pub joined_count-front : (lines rest : List (List ℕ)) → IsClosed lines (joined_count lines) rest → joined_count (take (joined_count lines) lines ++ rest) ≡ joined_count lines
 joined_count-front [] rest closed = joined_count-none rest closed
-joined_count-front (bytes ∷ lines) rest closed = by (is_continued bytes) refl closed
+joined_count-front (bytes ∷ lines) rest closed = by (is_continued bytes) refl closed (λ h. joined_count-front lines rest h)
   where
     tail : IsClosed (bytes ∷ lines) (suc (joined_count lines)) rest → IsClosed lines (joined_count lines) rest
     tail (inl more) = inl (omega (arith, more))
     tail (inr none) = inr none
     by : (b : Bool) → is_continued bytes ≡ b → IsClosed (bytes ∷ lines) (if b then suc (joined_count lines) else 1) rest
+        → (IsClosed lines (joined_count lines) rest → joined_count (take (joined_count lines) lines ++ rest) ≡ joined_count lines)
         → joined_count (take (if b then suc (joined_count lines) else 1) (bytes ∷ lines) ++ rest) ≡ (if b then suc (joined_count lines) else 1)
-    by true e h =
+    by true e h later =
         ap (λ b. if b then suc (joined_count (take (joined_count lines) lines ++ rest)) else 1) e
-        ∙ ap (λ n. suc n) (joined_count-front lines rest (tail h))
-    by false e h = ap (λ b. if b then suc (joined_count (take 0 lines ++ rest)) else 1) e
+        ∙ ap (λ n. suc n) (later (tail h))
+    by false e h later = ap (λ b. if b then suc (joined_count (take 0 lines ++ rest)) else 1) e
 
 -- The first lines that are joined, before others.
 pub record BeginsWith (lines rest : List (List ℕ)) (number : ℕ) : Type 0 where
@@ -118,7 +119,7 @@ pub record CutMore (lines rest : List (List ℕ)) (start end : ℕ) : Type 0 whe
   pub text :
       joined (start + 1) (take (end - start) (drop start lines) ++ rest)
       ≡ continued (start + 1) (take (end - start) (drop start lines)) ++ ended last_number (joined (end + 1) rest)
-  pub lines : take start lines ++ (take (end - start) (drop start lines) ++ rest) ≡ take end lines ++ rest
+  pub same : take start lines ++ (take (end - start) (drop start lines) ++ rest) ≡ take end lines ++ rest
 
 closed-drop : (lines rest : List (List ℕ)) (start n : ℕ) → IsClosed lines (start + n) rest → IsClosed (drop start lines) n rest
 closed-drop lines rest start n (inl more) = inl (omega (arith, more, length-drop start lines))
@@ -137,7 +138,7 @@ CutMore-joined lines rest start end here is within closed =
           ap (λ k. joined (start + 1) (take k left ++ rest)) (sym size)
           ∙ begins.text
           ∙ (λ i. continued (start + 1) (take (size i) left) ++ ended begins.last_number (joined (number i) rest));
-      lines =
+      same =
           sym (append_assoc (take start lines) (take (end - start) left) rest)
           ∙ ap (λ ls. ls ++ rest) (ap (λ k. take start lines ++ take k left) (sym size) ∙ sym (take-add start n lines) ∙ ap (λ k. take k lines) (sym is));
     }
@@ -148,18 +149,18 @@ CutMore-joined lines rest start end here is within closed =
 pub IsBlock-tokens : (lines : List (List ℕ)) (block : Block) → IsBlock lines block → tokens_of lines ≡ block.tokens.items ++ moved_tokens block.lines (tokens_of (drop block.lines lines))
 IsBlock-tokens lines block is = by is.apart
   where
-    n = block.lines
-    front = take block.lines lines
-    later = drop block.lines lines
-    by : (block.lines ≡ length lines) ⊎ IsApart front → tokens_of lines ≡ block.tokens.items ++ moved_tokens n (tokens_of later)
+    by : (block.lines ≡ length lines) ⊎ IsApart (take block.lines lines) → tokens_of lines ≡ block.tokens.items ++ moved_tokens block.lines (tokens_of (drop block.lines lines))
     by (inl all) =
-        let whole : take n lines ≡ lines = ap (λ k. take k lines) all ∙ take-length lines in
-        let none : later ≡ [] = drop_all n lines (omega (arith, all)) in
+        let whole : take block.lines lines ≡ lines = ap (λ k. take k lines) all ∙ take-length lines in
+        let none : drop block.lines lines ≡ [] = drop_all block.lines lines (omega (arith, all)) in
         ap tokens_of (sym whole) ∙ sym is.own ∙ sym (append-nil block.tokens.items)
-        ∙ ap (λ ts. block.tokens.items ++ moved_tokens n ts) (sym (ap tokens_of none ∙ tokens_of-nil))
+        ∙ ap (λ ts. block.tokens.items ++ moved_tokens block.lines ts) (sym (ap tokens_of none ∙ tokens_of-nil))
     by (inr apart) =
-        ap tokens_of (sym (take-append-drop n lines)) ∙ apart later
-        ∙ (λ i. sym is.own i ++ moved_tokens (length-take-le n lines is.within i) (tokens_of later))
+        ap tokens_of (sym (take-append-drop block.lines lines)) ∙ apart (drop block.lines lines)
+        ∙ (λ i. sym is.own i ++ moved_tokens (length-take-le block.lines lines is.within i) (tokens_of (drop block.lines lines)))
+
+lines-there : (b : PlacedBlock) (blocks : List PlacedBlock) → lines_in_blocks (b ∷ blocks) ≡ b.block.value.lines + lines_in_blocks blocks
+lines-there b blocks = refl
 
 no_lines : (lines : List (List ℕ)) → 0 ≡ length lines → tokens_of lines ≡ []
 no_lines [] e = tokens_of-nil
@@ -172,7 +173,7 @@ AreBlocks-tokens lines lb tb [] are all = sym (ap (moved_tokens lb) (no_lines li
 AreBlocks-tokens lines lb tb (b ∷ blocks) are all =
     let block = b.block.value in
     let later = drop block.lines lines in
-    let rest = AreBlocks-tokens later (lb + block.lines) (tb + length block.tokens.items) blocks are.3 (omega (arith, all, length-drop block.lines lines)) in
+    let rest = AreBlocks-tokens later (lb + block.lines) (tb + length block.tokens.items) blocks are.3 (omega (arith, all, lines-there b blocks, length-drop block.lines lines)) in
     (λ i. moved_tokens (are.0 i) block.tokens.items ++ (rest ∙ sym (moved_tokens-twice lb block.lines (tokens_of later))) i)
     ∙ sym (map-append (moved_token lb) block.tokens.items (moved_tokens block.lines (tokens_of later)))
     ∙ ap (moved_tokens lb) (sym (IsBlock-tokens lines block are.2))
@@ -184,7 +185,7 @@ AreBlocksOf-tokens lines blocks are = AreBlocks-tokens lines 0 0 blocks are.0 ar
 -- how many tokens a block and those after it have
 length-there : (b : PlacedBlock) (blocks : List PlacedBlock) → length (tokens_in_blocks (b ∷ blocks)) ≡ length b.block.value.tokens.items + length (tokens_in_blocks blocks)
 length-there b blocks =
-    length-append (tokens_there b) (tokens_in_blocks blocks) ∙ ap (λ n. n + length (tokens_in_blocks blocks)) (length-map (moved_token b.lines_before) b.block.value.tokens.items)
+    length-append (tokens_there b) (tokens_in_blocks blocks) ∙ ap (λ n. n + length (tokens_in_blocks blocks)) (length-map b.block.value.tokens.items (moved_token b.lines_before))
 
 -- one more block behind the others
 pub AreBlocks-push : (lines : List (List ℕ)) (lines_before tokens_before : ℕ) (blocks : List PlacedBlock) (b : PlacedBlock) → AreBlocks lines lines_before tokens_before blocks
@@ -197,8 +198,8 @@ AreBlocks-push lines lb tb (x ∷ blocks) b are line token is =
     let sum : n + k ≡ k + n = omega arith in
     (are.0, are.1, are.2,
     AreBlocks-push (drop n lines) (lb + n) (tb + length x.block.value.tokens.items) blocks b are.3
-    (omega (arith, line)) (omega (arith, token, length-there x blocks))
-    (subst (λ ls. IsBlock ls b.block.value) (ap (λ m. drop m lines) sum ∙ sym (drop-drop k n lines)) is))
+    (omega (arith, line, lines-there x blocks)) (omega (arith, token, length-there x blocks))
+    (subst (λ ls. IsBlock ls b.block.value) (ap (λ m. drop m lines) (lines-there x blocks ∙ sum) ∙ sym (drop-drop k n lines)) is))
 
 -- a block begins other lines too, where these begin with its lines
 pub IsBlock-same : (own lines : List (List ℕ)) (block : Block) → IsBlock own block → take block.lines lines ≡ take block.lines own → block.lines ≤ length lines

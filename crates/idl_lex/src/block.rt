@@ -51,7 +51,7 @@ impl<'a> Ends<'a> {
 
 // Whether a block of an earlier text begins so many lines before its end.
 fn begins_block(old: Option<&Blocks>, left: usize) -> bool
-    ensures { IsTrue result → IsSome old }
+    ensures { IsTrue result → IsSome old.entry }
 {
     match old {
         Some(old) => old.begins_block(left),
