@@ -3,8 +3,8 @@ use Rattle.std.proofs.Common.{◌≡◌, ◌∙◌, ◌⊎◌, inl, inr, ◌+◌
 use Rattle.std.proofs.Math.Seq.{drop-append_seam, take-add, take-append_seam, take-length}
 use Rattle.std.proofs.lemmas.Grind.{flat_map-append}
 use Rattle.std.proofs.lemmas.List.{drop-drop, drop_all, length-map, length-take-le, map-append, take-append-drop}
-use Rattle.std.proofs.lemmas.Simd.{map-map}
-use Rattle.std.specs.List.{flat_map}
+use Rattle.std.proofs.lemmas.List.Sums.{sum_by-cons}
+use Rattle.std.specs.List.{Contains, flat_map, slice_index_or}
 use Rattle.idl_source.specs.Line.{newline}
 use Rattle.idl_lex.proofs.LogicalLemmas.{Begins, Begins-some, first_then, joined_count-some}
 use Rattle.idl_lex.proofs.MovedLemmas.{joined-moved, tokens_after-moved}
@@ -160,7 +160,7 @@ IsBlock-tokens lines block is = by is.apart
         ∙ (λ i. sym is.own i ++ moved_tokens (length-take-le block.lines lines is.within i) (tokens_of (drop block.lines lines)))
 
 lines-there : (b : PlacedBlock) (blocks : List PlacedBlock) → lines_in_blocks (b ∷ blocks) ≡ b.block.value.lines + lines_in_blocks blocks
-lines-there b blocks = refl
+lines-there b blocks = sum_by-cons (λ (x : PlacedBlock). x.block.value.lines) b blocks
 
 no_lines : (lines : List (List ℕ)) → 0 ≡ length lines → tokens_of lines ≡ []
 no_lines [] e = tokens_of-nil
@@ -195,11 +195,10 @@ AreBlocks-push lines lb tb [] b are line token is = (omega (arith, line), omega 
 AreBlocks-push lines lb tb (x ∷ blocks) b are line token is =
     let n = x.block.value.lines in
     let k = lines_in_blocks blocks in
-    let sum : n + k ≡ k + n = omega arith in
     (are.0, are.1, are.2,
     AreBlocks-push (drop n lines) (lb + n) (tb + length x.block.value.tokens.items) blocks b are.3
     (omega (arith, line, lines-there x blocks)) (omega (arith, token, length-there x blocks))
-    (subst (λ ls. IsBlock ls b.block.value) (ap (λ m. drop m lines) (lines-there x blocks ∙ sum) ∙ sym (drop-drop k n lines)) is))
+    (subst (λ ls. IsBlock ls b.block.value) (ap (λ m. drop m lines) (lines-there x blocks) ∙ sym (drop-drop k n lines)) is))
 
 -- a block begins other lines too, where these begin with its lines
 pub IsBlock-same : (own lines : List (List ℕ)) (block : Block) → IsBlock own block → take block.lines lines ≡ take block.lines own → block.lines ≤ length lines
@@ -216,3 +215,27 @@ IsBlock-same own lines block is same within end =
     by (inr all) h = inl all
     by (inl more) (inl none) = absurd (omega (arith, more, none))
     by (inl more) (inr apart) = inr (subst IsApart (sym same) apart)
+
+-- where a block of a file stands
+pub record StandsAt (lines : List (List ℕ)) (lines_before : ℕ) (b : PlacedBlock) : Type 0 where
+  pub behind : ℕ
+  pub is : b.lines_before ≡ lines_before + behind
+  pub block : IsBlock (drop behind lines) b.block.value
+
+pub AreBlocks-at : (lines : List (List ℕ)) (lines_before tokens_before : ℕ) (blocks : List PlacedBlock) (k : ℕ) (b : PlacedBlock) → AreBlocks lines lines_before tokens_before blocks → k < length blocks → StandsAt lines lines_before (slice_index_or blocks k b)
+AreBlocks-at lines lb tb [] k b are lt = absurd (omega (arith, lt))
+AreBlocks-at lines lb tb (x ∷ blocks) zero b are lt = record { behind = 0; is = omega (arith, are.0); block = are.2 }
+AreBlocks-at lines lb tb (x ∷ blocks) (suc k) b are lt =
+    let n = x.block.value.lines in
+    let rest = AreBlocks-at (drop n lines) (lb + n) (tb + length x.block.value.tokens.items) blocks k b are.3 (omega (arith, lt)) in
+    record {
+      behind = n + rest.behind;
+      is = omega (arith, rest.is);
+      block = subst (λ ls. IsBlock ls (slice_index_or blocks k b).block.value) (drop-drop rest.behind n lines) rest.block;
+    }
+
+pub AreBlocksOf-Contains : (lines : List (List ℕ)) (blocks : List PlacedBlock) (b : PlacedBlock) → AreBlocksOf lines blocks → Contains blocks b → IsBlock (drop b.lines_before lines) b.block.value
+AreBlocksOf-Contains lines blocks b are there =
+    let at = subst (StandsAt lines 0) there.2 (AreBlocks-at lines 0 0 blocks there.0 b are.0 there.1) in
+    let e : at.behind ≡ b.lines_before = omega (arith, at.is) in
+    subst (λ n. IsBlock (drop n lines) b.block.value) e at.block

@@ -1,6 +1,6 @@
 -- A file in blocks: lines that are cut into tokens as if they were a file of their own.
-use Rattle.std.specs.Prelude.{◌≡◌, ◌⊎◌, ◌≤◌, ◌<◌, ◌+◌, ℕ, List, [], ◌∷◌, ◌++◌, drop, get_or, length, map, sum, take}
-use Rattle.std.specs.List.{flat_map}
+use Rattle.std.specs.Prelude.{◌≡◌, ◌⊎◌, ◌≤◌, ◌<◌, ◌+◌, ℕ, List, [], ◌∷◌, ◌++◌, drop, length, take}
+use Rattle.std.specs.List.{flat_map, sum_by}
 use Rattle.idl_lex.specs.Moved.{moved_tokens}
 use Rattle.idl_lex.specs.Tokens.{tokens_of}
 use Rattle.idl_lex.specs.declared.block.Block.{Block}
@@ -33,7 +33,7 @@ tokens_in_blocks blocks = flat_map tokens_there blocks
 
 -- how many lines blocks have
 abbrev pub lines_in_blocks : List PlacedBlock → ℕ
-lines_in_blocks blocks = sum (map (λ b. b.block.value.lines) blocks)
+lines_in_blocks blocks = sum_by (λ b. b.block.value.lines) blocks
 
 -- blocks of these lines, from the first line on, behind so many lines and tokens of a file
 abbrev pub AreBlocks : List (List ℕ) → ℕ → ℕ → List PlacedBlock → Type 0
