@@ -239,3 +239,11 @@ AreBlocksOf-Contains lines blocks b are there =
     let at = subst (StandsAt lines 0) there.2 (AreBlocks-at lines 0 0 blocks there.0 b are.0 there.1) in
     let e : at.behind ≡ b.lines_before = omega (arith, at.is) in
     subst (λ n. IsBlock (drop n lines) b.block.value) e at.block
+
+pub lines_in-push : (blocks : List PlacedBlock) (b : PlacedBlock) → lines_in_blocks (blocks ++ b ∷ []) ≡ lines_in_blocks blocks + b.block.value.lines
+lines_in-push [] b = omega (arith, lines-there b [])
+lines_in-push (x ∷ blocks) b = omega (arith, lines-there x (blocks ++ b ∷ []), lines-there x blocks, lines_in-push blocks b)
+
+pub tokens_in-push : (blocks : List PlacedBlock) (b : PlacedBlock) → length (tokens_in_blocks (blocks ++ b ∷ [])) ≡ length (tokens_in_blocks blocks) + length b.block.value.tokens.items
+tokens_in-push [] b = omega (arith, length-there b [])
+tokens_in-push (x ∷ blocks) b = omega (arith, length-there x (blocks ++ b ∷ []), length-there x blocks, tokens_in-push blocks b)

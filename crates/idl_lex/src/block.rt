@@ -4,7 +4,7 @@ ghost use Rattle.std.specs.Prelude.{◌≡◌, ◌≤◌, ◌<◌, ◌++◌, [],
 ghost use Rattle.idl_lex.specs.Block.{IsBlock};
 ghost use Rattle.idl_lex.specs.Lexer.{coming};
 
-use crate::blocks::Blocks;
+use crate::lexed::Lexed;
 use crate::lexer::{Before, push_line};
 use crate::logical::{Logical, joined_count};
 use crate::token::PlacedToken;
@@ -33,7 +33,7 @@ pub struct PlacedBlock {
 #[derive(Clone, Copy)]
 pub struct Ends<'a> {
     pub lines: usize,
-    pub old: Option<&'a Blocks>,
+    pub old: Option<&'a Lexed>,
 }
 
 impl<'a> Ends<'a> {
@@ -50,7 +50,7 @@ impl<'a> Ends<'a> {
 }
 
 // Whether a block of an earlier text begins so many lines before its end.
-fn begins_block(old: Option<&Blocks>, left: usize) -> bool
+fn begins_block(old: Option<&Lexed>, left: usize) -> bool
     ensures { IsTrue result → IsSome old.entry }
 {
     match old {

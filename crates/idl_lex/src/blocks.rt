@@ -57,13 +57,12 @@ impl Blocks {
         requires { AreBlocksOf self.now.file self.now.placed.items }
         ensures { IfSome result (λ block. IsBlock lines.now block.now.value) }
     {
-        let block = &self.block_behind(before)?.block;
-        let own = &self.file.lines()[before..];
-        if begin_alike(block.lines, lines, own) {
-            Some(block)
-        } else {
-            None
+        let placed = self.block_behind(before)?;
+        let (_before, own) = self.file.lines().split_at(before);
+        if !begin_alike(placed.block.lines, lines, own) {
+            return None;
         }
+        Some(&placed.block)
     }
 }
 

@@ -59,6 +59,18 @@ impl Lexed {
         };
         TokensLeft::new(&self.blocks.placed, block, place, before)
     }
+
+    /// Whether a block begins so many lines before the end.
+    pub(crate) fn begins_block(&self, left: usize) -> bool {
+        self.blocks.begins_block(left)
+    }
+
+    // The block with which these lines begin too, if they stand behind as many lines, or as far from the end.
+    fn block_for(&self, before: usize, lines: &[Line]) -> Option<&Rc<Block>>
+        ensures { IfSome result (λ block. IsBlock lines.now block.now.value) }
+    {
+        self.blocks.block_for(before, lines)
+    }
 }
 
 /// The tokens of a file. Blocks of `old`, the tokens of an earlier text, are taken over where their lines are the same,
@@ -66,7 +78,6 @@ impl Lexed {
 pub fn lex(alloc: Global, file: &File, old: Option<&Lexed>) -> Result<Lexed, AllocError>
     ensures { IfOk result (λ lexed. lexed ≡ tokens_of file.now) }
 {
-    let old = old.map(|lexed| &lexed.blocks);
     let mut placed = Vec::new(alloc);
     let lines = file.lines();
     let mut count = 0;
@@ -96,14 +107,14 @@ fn next_block(
     alloc: Global,
     before: usize,
     lines: &[Line],
-    old: Option<&Blocks>,
+    old: Option<&Lexed>,
 ) -> Result<Rc<Block>, AllocError>
     requires some { 0 < length lines.now }
     requires room { length lines.now ≤ 200000 }
     ensures { IfOk result (λ block. IsBlock lines.now block.value) }
 {
-    if let Some(blocks) = old {
-        if let Some(block) = blocks.block_for(before, lines) {
+    if let Some(lexed) = old {
+        if let Some(block) = lexed.block_for(before, lines) {
             return block.clone();
         }
     }
