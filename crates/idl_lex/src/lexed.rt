@@ -1,6 +1,6 @@
 //! The tokens of a file.
 
-ghost use Rattle.std.specs.Prelude.{◌≡◌, ◌≤◌, ◌+◌, ◌<◌, ◌++◌, ◌∷◌, ◌↔◌, [], ℕ, List, drop, length, IfOk, IfSome, OnOk};
+ghost use Rattle.std.specs.Prelude.{◌≡◌, ◌≤◌, ◌+◌, ◌<◌, ◌^◌, ◌++◌, ◌∷◌, ◌↔◌, [], ℕ, List, drop, length, IfOk, IfSome, OnOk};
 ghost use Rattle.idl_lex.specs.Block.{AreBlocks, IsBlock, lines_in_blocks};
 ghost use Rattle.idl_lex.specs.Context.{line_start};
 ghost use Rattle.idl_lex.specs.Cut.{AreTokensOf};
@@ -80,14 +80,15 @@ pub fn lex(alloc: Global, file: &File, old: Option<&Lexed>) -> Result<Lexed, All
 {
     let mut placed = Vec::new(alloc);
     let lines = file.lines();
+    let total = file.line_count();
     let mut count = 0;
-    let mut tokens: usize = 0;
-    'blocks: while count < lines.len() {
+    let mut tokens = 0;
+    'cut: while count < total {
         let block = next_block(alloc, count, &lines[count..], old)?;
         let lines_before = count;
         let tokens_before = tokens;
         count += block.lines;
-        tokens = tokens.checked_add(block.tokens.len()).ok_or(AllocError)?;
+        tokens = tokens_behind(tokens, &block)?;
         placed.push(PlacedBlock {
             block,
             lines_before,
@@ -100,6 +101,18 @@ pub fn lex(alloc: Global, file: &File, old: Option<&Lexed>) -> Result<Lexed, All
             placed,
         },
     })
+}
+
+// How many tokens of a file are before what comes after a block, where so many are before the block. No place has a number
+// that is too large.
+fn tokens_behind(before: usize, block: &Block) -> Result<usize, AllocError>
+    ensures sum { IfOk result (λ sum. sum ≡ before + length block.now.tokens.items) }
+    ensures fits { IfOk result (λ sum. sum < 2 ^ 64) }
+{
+    match before.checked_add(block.tokens.len()) {
+        Some(sum) => Ok(sum),
+        None => Err(AllocError),
+    }
 }
 
 // The block with which these lines begin, which stand behind so many: one that is taken over, or a new one.

@@ -1,4 +1,4 @@
-use Rattle.std.proofs.Common.{◌≡◌, ◌∙◌, ◌⊎◌, ◌<◌, ◌≤◌, ap, arith, drop, length, length-drop, subst, sym, take}
+use Rattle.std.proofs.Common.{◌≡◌, ◌∙◌, ◌⊎◌, ◌<◌, ◌≤◌, ap, arith, drop, length, length-drop, refl, subst, sym, take}
 use Rattle.idl_lex.specs.Block.{IsBlock}
 use Rattle.idl_lex.specs.declared.block.Block.{Block}
 use Rattle.idl_lex.specs.declared.block.PlacedBlock.{PlacedBlock}
@@ -32,6 +32,6 @@ returns c =
     let count : c.deref.result.now.lines ≡ block.lines = ap (λ (x : Block). x.lines) c.deref.ensures in
     let alike = c.if-not-begin_alike.ensures in
     IsBlock-same c.split_at.result.1.now c.args.lines.now block (subst (λ ls. IsBlock ls block) (sym own) is)
-    (subst (λ n. take n c.args.lines.now ≡ take n c.split_at.result.1.now) count alike.same)
-    (subst (λ n. n ≤ length c.args.lines.now) count alike.within)
-    (subst (λ n. (n < length c.split_at.result.1.now) ⊎ (n ≡ length c.args.lines.now)) count alike.end)
+    (subst (λ n. take n c.args.lines.now ≡ take n c.split_at.result.1.now) count (alike.same refl))
+    (subst (λ n. n ≤ length c.args.lines.now) count (alike.within refl))
+    (subst (λ n. (n < length c.split_at.result.1.now) ⊎ (n ≡ length c.args.lines.now)) count (alike.end refl))
