@@ -1,8 +1,8 @@
 -- Blocks of a file: their tokens, end to end, are those of the file.
-use Rattle.std.proofs.Common.{◌≡◌, ◌∙◌, ◌⊎◌, inl, inr, ◌+◌, ◌-◌, ◌<◌, ◌≤◌, ◌++◌, ◌∷◌, ℕ, zero, suc, Bool, true, false, if◌then◌else◌, List, [], append_assoc, append-nil, drop, length, length-append, length-drop, map, take, refl, sym, ap, subst, arith}
+use Rattle.std.proofs.Common.{◌≡◌, ◌∙◌, ◌⊎◌, inl, inr, ◌+◌, ◌-◌, ◌<◌, ◌≤◌, ◌++◌, ◌∷◌, ℕ, zero, suc, Bool, true, false, if◌then◌else◌, List, [], append_assoc, append-nil, drop, get_or, length, length-append, length-drop, map, take, refl, sym, ap, subst, arith}
 use Rattle.std.proofs.Math.Seq.{drop-append_seam, take-add, take-append_seam, take-length}
 use Rattle.std.proofs.lemmas.Grind.{flat_map-append}
-use Rattle.std.proofs.lemmas.List.{drop-drop, drop_all, length-map, length-take-le, map-append, take-append-drop}
+use Rattle.std.proofs.lemmas.List.{drop-drop, drop_all, length-map, length-take-le, map-append, take-append-drop, take_all, take_more}
 use Rattle.std.proofs.lemmas.List.Sums.{sum_by-cons}
 use Rattle.std.specs.List.{Contains, flat_map, slice_index_or}
 use Rattle.idl_source.specs.Line.{newline}
@@ -247,3 +247,12 @@ lines_in-push (x ∷ blocks) b = omega (arith, lines-there x (blocks ++ b ∷ []
 pub tokens_in-push : (blocks : List PlacedBlock) (b : PlacedBlock) → length (tokens_in_blocks (blocks ++ b ∷ [])) ≡ length (tokens_in_blocks blocks) + length b.block.value.tokens.items
 tokens_in-push [] b = omega (arith, length-there b [])
 tokens_in-push (x ∷ blocks) b = omega (arith, length-there x (blocks ++ b ∷ []), length-there x blocks, tokens_in-push blocks b)
+
+-- the tokens up to the next block
+pub tokens_in-more : (blocks : List PlacedBlock) (k : ℕ) (b : PlacedBlock) → k < length blocks
+    → length (tokens_in_blocks (take (k + 1) blocks)) ≡ length (tokens_in_blocks (take k blocks)) + length (get_or blocks k b).block.value.tokens.items
+tokens_in-more blocks k b lt = ap (λ bs. length (tokens_in_blocks bs)) (take_more blocks k b lt) ∙ tokens_in-push (take k blocks) (get_or blocks k b)
+
+-- and up to the last one
+pub tokens_in-all : (blocks : List PlacedBlock) (k : ℕ) → length blocks ≤ k → tokens_in_blocks (take k blocks) ≡ tokens_in_blocks blocks
+tokens_in-all blocks k le = ap tokens_in_blocks (take_all k blocks le)

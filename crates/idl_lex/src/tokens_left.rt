@@ -37,18 +37,18 @@ impl<'a> TokensLeft<'a> {
     /// The tokens from a place of a block on, or of those behind it where it has fewer.
     pub(crate) fn new(
         blocks: &'a [PlacedBlock],
-        block: usize,
-        place: usize,
+        near: usize,
+        from: usize,
         before: usize,
     ) -> TokensLeft<'a>
         requires blocks { AreOfSomeFile blocks.now }
-        requires place { before ≡ length (tokens_in_blocks (take block blocks.now)) + place }
+        requires place { before ≡ length (tokens_in_blocks (take near blocks.now)) + from }
         requires within { before ≤ length (tokens_in_blocks blocks.now) }
         ensures { result ≡ drop before (tokens_in_blocks blocks.now) }
     {
-        let mut block = block;
-        let mut place = place;
-        'blocks: while block < blocks.len() && blocks[block].block.tokens.len() <= place {
+        let mut block = near;
+        let mut place = from;
+        'on: while block < blocks.len() && blocks[block].block.tokens.len() <= place {
             place -= blocks[block].block.tokens.len();
             block += 1;
         }
