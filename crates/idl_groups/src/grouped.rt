@@ -63,6 +63,7 @@ impl GroupedTokens {
     {
         LinesLeft {
             file: self,
+            before: 0,
             tokens: self.lexed.all(),
         }
     }
@@ -72,18 +73,21 @@ impl GroupedTokens {
 #[derive(Drop)]
 pub struct LinesLeft<'a> {
     file: &'a GroupedTokens,
+    // How many tokens of the file are before them.
+    before: usize,
     tokens: TokensLeft<'a>,
 }
 
 impl<'a> Model for LinesLeft<'a> {
-    ghost use Rattle.std.specs.Prelude.{◌≡◌, List};
+    ghost use Rattle.std.specs.Prelude.{◌≡◌, ◌≤◌, ◌<◌, ◌^◌, List, drop, length};
     ghost use Rattle.idl_lex.specs.declared.token.PlacedToken.{PlacedToken};
 
     ghost Value = { List PlacedToken };
 
     ghost view = { λ left. left.tokens };
 
-    ghost invariant = { λ left. left.file.now ≡ left.tokens };
+    ghost invariant = { λ left. (left.tokens ≡ drop left.before left.file.now)
+        × (left.before ≤ length left.file.now) × (length left.file.now < 2 ^ 64) };
 }
 
 impl<'a> LinesLeft<'a> {
@@ -104,6 +108,7 @@ impl<'a> LinesLeft<'a> {
         let (line, tokens) = self.tokens.first_line();
         let rest = LinesLeft {
             file: self.file,
+            before: self.before + line.len(),
             tokens,
         };
         (line, rest)
@@ -116,12 +121,13 @@ impl<'a> LinesLeft<'a> {
             × IsJump has_else (lines_from self.now) (lines_from jump.0) jump.1.now) }
     {
         let table = &self.file.table;
-        let span = table.branch_from(self.tokens.before())?;
+        let span = table.branch_from(self.before)?;
         if span.has_else != has_else {
             return None;
         }
         let rest = LinesLeft {
             file: self.file,
+            before: span.to,
             tokens: self.file.lexed.behind(span.to),
         };
         Some((rest, &table.faults[span.first_fault..span.end_fault]))
@@ -134,13 +140,15 @@ fn match_groups(alloc: Global, lexed: &Lexed) -> Result<BranchTable, AllocError>
 {
     let mut matching = Matching::new(alloc);
     let mut left = lexed.all();
+    let mut at = 0;
     'lines: while !left.is_empty() {
-        let at = left.before();
         let (line, rest) = left.first_line();
+        let after = at + line.len();
         if let Some(directive) = directive_on(&line) {
-            matching.step(&directive, at, rest.before())?;
+            matching.step(&directive, at, after)?;
         }
         left = rest;
+        at = after;
     }
-    matching.finish(left.before())
+    matching.finish(at)
 }

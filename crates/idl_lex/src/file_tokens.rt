@@ -1,8 +1,10 @@
 //! Tokens that are lent, where they stand in a file.
 
 ghost use Rattle.std.specs.Prelude.{◌≡◌, ◌≤◌, ◌∷◌, [], drop, length, take, IfOk, MatchOption};
-ghost use Rattle.idl_lex.specs.Moved.{AreElsewhere};
+ghost use Rattle.std.specs.List.{All};
+ghost use Rattle.idl_lex.specs.Moved.{AreElsewhere, moved_tokens};
 ghost use Rattle.idl_lex.specs.Tokens.{tokens_in};
+ghost use Rattle.idl_lex.specs.declared.token.PlacedToken as spec;
 
 use crate::block::Block;
 use crate::token::{PlacedToken, Token};
@@ -43,6 +45,13 @@ impl<'a> FileToken<'a> {
         ensures { result ≡ self.now.line }
     {
         self.lines_before + self.placed.line
+    }
+
+    /// Whether it is the first token of its line.
+    pub fn starts_line(&self) -> bool
+        ensures { result ≡ self.now.starts_line }
+    {
+        self.placed.starts_line
     }
 
     /// Whether a word ends where it begins.
@@ -88,13 +97,27 @@ impl<'a> Model for FileTokens<'a> {
 
 impl<'a> FileTokens<'a> {
     /// The tokens of a block from a place on, where so many lines of the file are before the block.
-    pub(crate) fn new(block: &'a Rc<Block>, lines_before: u32, from: usize) -> FileTokens<'a> {
+    pub(crate) fn new(block: &'a Rc<Block>, lines_before: u32, from: usize) -> FileTokens<'a>
+        requires within { from ≤ length block.now.value.tokens.items }
+        requires lines { lines_before ≤ 200000 }
+        requires numbers { All (λ (t : spec.PlacedToken). t.line ≤ 200000)
+            block.now.value.tokens.items }
+        ensures { result ≡ moved_tokens lines_before (drop from block.now.value.tokens.items) }
+    {
+        let (_before, tokens) = block.tokens.split_at(from);
         FileTokens {
             block,
             lines_before,
             from,
-            tokens: &block.tokens[from..],
+            tokens,
         }
+    }
+
+    /// How many tokens there are.
+    pub fn len(&self) -> usize
+        ensures { result ≡ length self.now }
+    {
+        self.tokens.len()
     }
 
     /// The same tokens again. It takes no memory.

@@ -41,7 +41,8 @@ impl Model for Lexed {
 impl Lexed {
     /// All tokens.
     pub fn all(&self) -> TokensLeft<'_>
-        ensures { result ≡ self.now }
+        ensures tokens { result ≡ self.now }
+        ensures room { length self.now < 2 ^ 64 }
     {
         TokensLeft::new(&self.blocks.placed, 0, 0, 0)
     }

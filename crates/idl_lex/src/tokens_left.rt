@@ -67,11 +67,6 @@ impl<'a> TokensLeft<'a> {
         self.blocks.len() <= self.block
     }
 
-    /// How many tokens of the file are before those that are left.
-    pub fn before(&self) -> usize {
-        self.before
-    }
-
     /// The tokens of the first line, and those after it.
     pub fn first_line(&self) -> (FileTokens<'a>, TokensLeft<'a>)
         requires { 0 < length self.now }
