@@ -7,6 +7,7 @@ pub mod LiteralLemmas
 pub mod LogicalLemmas
 pub mod MovedLemmas
 pub mod NumberLemmas
+pub mod PartLemmas
 pub mod PieceLemmas
 pub mod TableLemmas
 pub mod TokensLemmas
