@@ -13,7 +13,7 @@ invariant_of-rest c =
     let tokens = it.tokens.now in
     let all = it.block.now.value.tokens.items in
     let here = c.self.invariant in
-    let parts = c.in_ok-placed.ensures.cases in
+    let parts = c.in_ok-placed.ensures.cases.0 in
     let back : c.in_ok-placed.tokens.now ≡ drop 1 tokens = sym (ap (drop 1) parts) in
     let within : 1 ≤ length tokens = omega (arith, ap length parts) in
     (omega (arith, here.0, ap length parts),
