@@ -18,4 +18,4 @@ returns c =
     ∙ ap (λ n. tokens_in (take n (drop it.from all))) count
     ∙ ap tokens_in (sym c.self.invariant.1)
     ∙ sym (map-map (λ (t : PlacedToken). t.token) (moved_token it.lines_before) tokens)
-    ∙ ap tokens_in (sym c.self.view_is)
+    ∙ ap tokens_in c.self.view_is
