@@ -210,8 +210,7 @@ impl<B: RootBank> Root<B> {
         let definitions = &self.definitions;
         let bank = site.bank;
         let macros = Macros { definitions, bank };
-        let tokens = directive.operands().as_slice();
-        let operand = operand_of(&macros, &place, tokens, &mut self.progress)?;
+        let operand = operand_of(&macros, &place, directive.operands(), &mut self.progress)?;
         Ok(operand)
     }
 
