@@ -1,11 +1,11 @@
 -- A walk over the tokens of a file, line by line: which lines they stand on, and where the first line of them ends.
-use Rattle.std.proofs.Common.{◌≡◌, ◌∙◌, ◌⊎◌, inl, inr, ◌+◌, ◌<◌, ◌≤◌, ◌↔◌, ◌++◌, ◌∷◌, ℕ, zero, suc, Bool, true, false, if◌then◌else◌, cond, not, List, [], drop, get_or, length, length-append, length-drop, map, take, refl, sym, ap, subst, arith}
+use Rattle.std.proofs.Common.{◌≡◌, ◌∙◌, ◌⊎◌, inl, inr, ◌+◌, ◌-◌, ◌<◌, ◌≤◌, leb, leb-true, leb-false, ◌++◌, ◌∷◌, ℕ, zero, suc, Bool, true, false, if◌then◌else◌, cond, not, List, [], drop, get_or, length, length-append, length-drop, map, take, refl, sym, ap, subst, arith}
 use Rattle.std.proofs.Math.Seq.{drop-append_seam}
 use Rattle.std.proofs.lemmas.Grind.{flat_map-append}
-use Rattle.std.proofs.lemmas.List.{drop-append-le, drop-drop, drop-map, drop_all, drop_more, length-map, take-append-drop, take-append-le}
+use Rattle.std.proofs.lemmas.List.{drop-append-le, drop-drop, drop_all, drop_more, length-map, length-take-le, take-append-drop, take-append-le}
 use Rattle.std.proofs.lemmas.List.Elements.{All-append, All-cons, All-head, All-map, All-nil, All-tail}
 use Rattle.std.proofs.lemmas.List.Sums.{prefix_len-le-length}
-use Rattle.std.specs.List.{All, slice_index_or}
+use Rattle.std.specs.List.{All, drop-map}
 use Rattle.idl_source.specs.Line.{newline}
 use Rattle.idl_lex.proofs.BlockLemmas.{AreBlocks-at, tokens_in-all, tokens_in-more}
 use Rattle.idl_lex.proofs.TokensLemmas.{after_gap, after_token}
@@ -149,19 +149,27 @@ tokens_in-first blocks k =
 
 -- the place of a token is in a block that there is
 pub IsPlace-some : (blocks : List PlacedBlock) (block place before : ℕ) → IsPlace blocks block place before → before < length (tokens_in_blocks blocks) → block < length blocks
-IsPlace-some blocks block place before is some = by (omega arith) is.within
+IsPlace-some blocks block place before is some = by (leb (length blocks) block) refl
   where
-    by : (length blocks ≤ block) ⊎ (block < length blocks) → (before < length (tokens_in_blocks (take (block + 1) blocks))) ⊎ ((length blocks ≤ block) × (before ≡ length (tokens_in_blocks blocks))) → block < length blocks
-    by (inr less) h = less
-    by (inl past) h = absurd (omega (arith, some, is.is, ap length (tokens_in-all blocks block past)))
+    by : (b : Bool) → leb (length blocks) block ≡ b → block < length blocks
+    by true past = absurd (omega (arith, some, is.is, ap length (tokens_in-all blocks block (leb-true (length blocks) block past))))
+    by false less = leb-false (length blocks) block less
 
--- no token is left exactly where there is no such block
+-- where there is no such block no token is left
 pub IsPlace-none : (blocks : List PlacedBlock) (block place before : ℕ) → IsPlace blocks block place before → length blocks ≤ block → before ≡ length (tokens_in_blocks blocks)
 IsPlace-none blocks block place before is past = by is.within
   where
     by : (before < length (tokens_in_blocks (take (block + 1) blocks))) ⊎ ((length blocks ≤ block) × (before ≡ length (tokens_in_blocks blocks))) → before ≡ length (tokens_in_blocks blocks)
     by (inl less) = absurd (omega (arith, less, is.is, ap length (tokens_in-all blocks block past), tokens_in-first blocks (block + 1)))
     by (inr none) = none.1
+
+-- and where no token is left there is none
+pub IsPlace-past : (blocks : List PlacedBlock) (block place before : ℕ) → IsPlace blocks block place before → length (tokens_in_blocks blocks) ≤ before → length blocks ≤ block
+IsPlace-past blocks block place before is past = by is.within
+  where
+    by : (before < length (tokens_in_blocks (take (block + 1) blocks))) ⊎ ((length blocks ≤ block) × (before ≡ length (tokens_in_blocks blocks))) → length blocks ≤ block
+    by (inl less) = absurd (omega (arith, less, past, tokens_in-first blocks (block + 1)))
+    by (inr none) = none.0
 
 -- A place in a block: the tokens from it on, those of the block and those behind it.
 pub record IsHere (lines : List (List ℕ)) (blocks : List PlacedBlock) (block place before : ℕ) (b : PlacedBlock) : Type 0 where
@@ -171,3 +179,63 @@ pub record IsHere (lines : List (List ℕ)) (blocks : List PlacedBlock) (block p
   pub all : drop before (tokens_in_blocks blocks) ≡ moved_tokens b.lines_before (drop place b.block.value.tokens.items) ++ tokens_in_blocks (drop (block + 1) blocks)
   pub begins : BeginsLine (tokens_in_blocks (drop (block + 1) blocks))
   pub end : before + (length b.block.value.tokens.items - place) ≤ length (tokens_in_blocks blocks)
+
+-- a place in a file is one in a block, where a token is left
+pub IsHere-place : (lines : List (List ℕ)) (blocks : List PlacedBlock) (block place before : ℕ) (b : PlacedBlock) → AreBlocksOf lines blocks → IsPlace blocks block place before
+    → block < length blocks → IsHere lines blocks block place before (get_or blocks block b)
+IsHere-place lines blocks block place before b are is some =
+    let here = get_or blocks block b in
+    let tokens = here.block.value.tokens.items in
+    let front = tokens_in_blocks (take block blocks) in
+    let later = tokens_in_blocks (drop (block + 1) blocks) in
+    let at = AreBlocks-at lines 0 0 blocks block b are.each some in
+    let more = tokens_in-more blocks block b some in
+    let within : place < length tokens = by is.within more in
+    let parts : tokens_in_blocks blocks ≡ front ++ (tokens_there here ++ later) =
+        ap tokens_in_blocks (sym (take-append-drop block blocks))
+        ∙ flat_map-append tokens_there (take block blocks) (drop block blocks)
+        ∙ ap (λ bs. front ++ tokens_in_blocks bs) (drop_more blocks block b some) in
+    let size : length (tokens_there here) ≡ length tokens = length-map tokens (moved_token here.lines_before) in
+    record {
+      lines_before = omega (arith, at.is, at.block.some, at.block.within, length-drop at.behind lines, are.few);
+      numbers = subst (All (TokenWithin 200000)) (sym at.block.own)
+          (tokens_of-within 200000 (take here.block.value.lines (drop at.behind lines)) (omega (arith, length-take-le here.block.value.lines (drop at.behind lines) at.block.within, at.block.within, length-drop at.behind lines, are.few)));
+      within = within;
+      all = ap (drop before) parts ∙ ap (λ n. drop n (front ++ (tokens_there here ++ later))) is.is
+          ∙ sym (drop-drop place (length front) (front ++ (tokens_there here ++ later)))
+          ∙ ap (drop place) (drop-append_seam front (tokens_there here ++ later))
+          ∙ drop-append-le place (tokens_there here) later (omega (arith, within, size))
+          ∙ ap (λ ts. ts ++ later) (drop-map (moved_token here.lines_before) place tokens);
+      begins = AreBlocks-behind lines 0 0 blocks (block + 1) are.each;
+      end = omega (arith, is.is, within, more, tokens_in-first blocks (block + 1));
+    }
+  where
+    by : (before < length (tokens_in_blocks (take (block + 1) blocks))) ⊎ ((length blocks ≤ block) × (before ≡ length (tokens_in_blocks blocks)))
+        → length (tokens_in_blocks (take (block + 1) blocks)) ≡ length (tokens_in_blocks (take block blocks)) + length (get_or blocks block b).block.value.tokens.items
+        → place < length (get_or blocks block b).block.value.tokens.items
+    by (inl less) more = omega (arith, less, is.is, more)
+    by (inr none) more = absurd (omega (arith, some, none.0))
+
+-- The first line from a place on: so many tokens, of its block alone.
+pub record IsFirstLine (lines : List (List ℕ)) (blocks : List PlacedBlock) (block place before : ℕ) (b : PlacedBlock) (count : ℕ) : Type 0 where
+  pub within : count ≤ length (drop place b.block.value.tokens.items)
+  pub first : count ≡ 1 + followers_on_line (drop 1 (drop before (tokens_in_blocks blocks)))
+  pub line : take count (drop before (tokens_in_blocks blocks)) ≡ take count (moved_tokens b.lines_before (drop place b.block.value.tokens.items))
+
+pub IsFirstLine-here : (lines : List (List ℕ)) (blocks : List PlacedBlock) (block place before count : ℕ) (b : PlacedBlock) → IsHere lines blocks block place before b
+    → count ≡ 1 + followers_on_line (drop 1 (moved_tokens b.lines_before (drop place b.block.value.tokens.items))) → IsFirstLine lines blocks block place before b count
+IsFirstLine-here lines blocks block place before count b here is =
+    let tokens = drop place b.block.value.tokens.items in
+    let left = moved_tokens b.lines_before tokens in
+    let later = tokens_in_blocks (drop (block + 1) blocks) in
+    let size : length left ≡ length tokens = length-map tokens (moved_token b.lines_before) in
+    let some : 0 < length tokens = omega (arith, here.within, length-drop place b.block.value.tokens.items) in
+    let one : drop 1 (left ++ later) ≡ drop 1 left ++ later = drop-append-le 1 left later (omega (arith, some, size)) in
+    let same : followers_on_line (drop 1 (drop before (tokens_in_blocks blocks))) ≡ followers_on_line (drop 1 left) =
+        ap (λ ts. followers_on_line (drop 1 ts)) here.all ∙ ap followers_on_line one ∙ followers-front (drop 1 left) later here.begins in
+    let within : count ≤ length tokens = omega (arith, is, some, size, prefix_len-le-length (λ (t : PlacedToken). not t.starts_line) (drop 1 left), length-drop 1 left) in
+    record {
+      within = within;
+      first = omega (arith, is, same);
+      line = ap (take count) here.all ∙ take-append-le count left later (omega (arith, within, size));
+    }
