@@ -2,10 +2,11 @@
 use Rattle.std.proofs.Common.{◌≡◌, ◌∙◌, ◌⊎◌, inl, inr, ◌+◌, ◌-◌, ◌^◌, ◌<◌, ◌≤◌, leb, leb-true, leb-false, ◌++◌, ◌∷◌, ℕ, zero, suc, Bool, true, false, if◌then◌else◌, cond, not, List, [], drop, get_or, length, length-append, length-drop, map, take, refl, sym, ap, subst, arith}
 use Rattle.std.proofs.Math.Seq.{drop-append_seam}
 use Rattle.std.proofs.lemmas.Grind.{flat_map-append}
-use Rattle.std.proofs.lemmas.List.{drop-append-le, drop-drop, drop_all, drop_more, length-map, length-take-le, take-append-drop, take-append-le}
+use Rattle.std.proofs.lemmas.List.{drop-append-le, drop-drop, drop_more, length-map, length-take-le, take-append-drop, take-append-le, take-take}
 use Rattle.std.proofs.lemmas.List.Elements.{All-append, All-cons, All-head, All-map, All-nil, All-tail}
 use Rattle.std.proofs.lemmas.List.Sums.{prefix_len-le-length}
-use Rattle.std.specs.List.{All, drop-map}
+use Rattle.std.specs.List.{All, AllWithin, drop-map, slice_index_or}
+use Rattle.std.specs.List.Sorted.{IsNonDecreasingBy}
 use Rattle.idl_source.specs.Line.{newline}
 use Rattle.idl_lex.proofs.BlockLemmas.{AreBlocks-at, tokens_in-all, tokens_in-more}
 use Rattle.idl_lex.proofs.TokensLemmas.{after_gap, after_token, lines_of-first}
@@ -274,3 +275,33 @@ IsParted-first blocks before place b count left here line rest first e some same
       lines = lines_of-first left count some (first.first ∙ ap (λ ts. 1 + followers_on_line (drop 1 ts)) e) ∙ (λ i. line_is i ∷ lines_of (rest_is i));
       all = sym (take-append-drop count left) ∙ (λ i. line_is i ++ rest_is i);
     }
+
+-- ---- the block of a token
+
+-- further blocks have no fewer tokens before them
+pub tokens_before-rises : (lines : List (List ℕ)) (blocks : List PlacedBlock) → AreBlocksOf lines blocks → IsNonDecreasingBy (λ (b : PlacedBlock). b.tokens_before) blocks
+tokens_before-rises lines blocks are = λ i j d le lt.
+    let first = AreBlocks-at lines 0 0 blocks i d are.each (omega (arith, le, lt)) in
+    let second = AreBlocks-at lines 0 0 blocks j d are.each lt in
+    omega (arith, first.tokens, second.tokens, tokens_in-first (take j blocks) i, ap (λ bs. length (tokens_in_blocks bs)) (take-take i j blocks le))
+
+-- The place of a token: its block is the last of those that have so few tokens before them.
+pub record IsNear (blocks : List PlacedBlock) (before block : ℕ) (b : PlacedBlock) : Type 0 where
+  pub few : b.tokens_before ≤ before
+  pub is : b.tokens_before ≡ length (tokens_in_blocks (take block blocks))
+
+pub IsNear-point : (lines : List (List ℕ)) (blocks : List PlacedBlock) (before count block : ℕ) (b : PlacedBlock) → AreBlocksOf lines blocks
+    → AllWithin (λ (x : PlacedBlock). leb x.tokens_before before ≡ true) blocks 0 count → block ≡ count - 1 → block < length blocks → b ≡ get_or blocks block b → IsNear blocks before block b
+IsNear-point lines blocks before count block b are few is lt same =
+    let at = AreBlocks-at lines 0 0 blocks block b are.each lt in
+    let tokens = ap (λ (x : PlacedBlock). x.tokens_before) same in
+    record { few = omega (arith, tokens, by block few is lt); is = omega (arith, tokens, at.tokens) }
+  where
+    by : (k : ℕ) → AllWithin (λ (x : PlacedBlock). leb x.tokens_before before ≡ true) blocks 0 count → k ≡ count - 1 → k < length blocks → (get_or blocks k b).tokens_before ≤ before
+    by zero few is lt = omega (arith, (AreBlocks-at lines 0 0 blocks 0 b are.each lt).tokens)
+    by (suc k) few is lt = leb-true (get_or blocks (suc k) b).tokens_before before (few (suc k) b (omega arith) (omega (arith, is)))
+
+-- no block has no token
+pub no_tokens : (blocks : List PlacedBlock) → length blocks ≡ 0 → length (tokens_in_blocks blocks) ≡ 0
+no_tokens [] none = refl
+no_tokens (b ∷ blocks) none = absurd (omega (arith, none))
