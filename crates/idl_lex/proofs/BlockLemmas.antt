@@ -1,12 +1,10 @@
 -- Blocks of a file: their tokens, end to end, are those of the file.
-use Rattle.std.proofs.Common.{◌≡◌, ◌∙◌, ◌⊎◌, inl, inr, ◌+◌, ◌-◌, ◌<◌, ◌≤◌, ◌++◌, ◌∷◌, ℕ, zero, suc, Bool, true, false, if◌then◌else◌, List, [], append_assoc, append-nil, drop, get_or, length, length-append, length-drop, map, take, refl, sym, ap, subst, arith}
+use Rattle.std.proofs.Common.{◌≡◌, ◌∙◌, ◌⊎◌, inl, inr, ◌+◌, ◌-◌, ◌<◌, ◌≤◌, ◌++◌, ◌∷◌, ℕ, zero, suc, Bool, true, false, if◌then◌else◌, List, [], append_assoc, append-nil, drop, get_or, length, length-append, length-drop, take, refl, sym, ap, subst, arith}
 use Rattle.std.proofs.Math.Seq.{drop-append_seam, take-add, take-append_seam, take-length}
-use Rattle.std.proofs.lemmas.Grind.{flat_map-append}
 use Rattle.std.proofs.lemmas.List.{drop-drop, drop_all, length-map, length-take-le, map-append, take-append-drop, take_all, take_more}
 use Rattle.std.proofs.lemmas.List.Sums.{sum_by-cons}
-use Rattle.std.specs.List.{Contains, flat_map, slice_index_or}
-use Rattle.idl_source.specs.Line.{newline}
-use Rattle.idl_lex.proofs.LogicalLemmas.{Begins, Begins-some, first_then, joined_count-some}
+use Rattle.std.specs.List.{Contains, slice_index_or}
+use Rattle.idl_lex.proofs.LogicalLemmas.{Begins-some, first_then, joined_count-some}
 use Rattle.idl_lex.proofs.MovedLemmas.{joined-moved, tokens_after-moved}
 use Rattle.idl_lex.specs.Block.{AreBlocks, AreBlocksOf, IsApart, IsBlock, lines_in_blocks, tokens_in_blocks, tokens_there}
 use Rattle.idl_lex.specs.Context.{line_start}

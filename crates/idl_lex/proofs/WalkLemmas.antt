@@ -1,11 +1,11 @@
 -- A walk over the tokens of a file, line by line: which lines they stand on, and where the first line of them ends.
-use Rattle.std.proofs.Common.{◌≡◌, ◌∙◌, ◌⊎◌, inl, inr, ◌+◌, ◌-◌, ◌^◌, ◌<◌, ◌≤◌, leb, leb-true, leb-false, ◌++◌, ◌∷◌, ℕ, zero, suc, Bool, true, false, if◌then◌else◌, cond, not, List, [], drop, get_or, length, length-append, length-drop, map, take, refl, sym, ap, subst, arith}
+use Rattle.std.proofs.Common.{◌≡◌, ◌∙◌, ◌⊎◌, inl, inr, ◌+◌, ◌-◌, ◌^◌, ◌<◌, ◌≤◌, leb, leb-true, leb-false, ◌++◌, ◌∷◌, ℕ, zero, suc, Bool, true, false, if◌then◌else◌, cond, not, List, [], drop, get_or, length, length-append, length-drop, take, refl, sym, ap, subst, arith}
 use Rattle.std.proofs.Math.Seq.{drop-append_seam}
 use Rattle.std.proofs.lemmas.Grind.{flat_map-append}
 use Rattle.std.proofs.lemmas.List.{drop-append-le, drop-drop, drop_more, length-map, length-take-le, take-append-drop, take-append-le, take-take}
-use Rattle.std.proofs.lemmas.List.Elements.{All-append, All-cons, All-head, All-map, All-nil, All-tail}
+use Rattle.std.proofs.lemmas.List.Elements.{All-append, All-cons, All-head, All-nil, All-tail}
 use Rattle.std.proofs.lemmas.List.Sums.{prefix_len-le-length}
-use Rattle.std.specs.List.{All, AllWithin, drop-map, slice_index_or}
+use Rattle.std.specs.List.{All, AllWithin, drop-map}
 use Rattle.std.specs.List.Sorted.{IsNonDecreasingBy}
 use Rattle.idl_source.specs.Line.{newline}
 use Rattle.idl_lex.proofs.BlockLemmas.{AreBlocks-at, tokens_in-all, tokens_in-more}
@@ -15,7 +15,6 @@ use Rattle.idl_lex.specs.Context.{context_after, is_gap, is_newline, is_nothing,
 use Rattle.idl_lex.specs.Moved.{AreElsewhere, moved_token, moved_tokens}
 use Rattle.idl_lex.specs.Text.{Placed, bytes_of, front, is_continued, joined, numbered}
 use Rattle.idl_lex.specs.Tokens.{followers_on_line, lines_of, piece_rest, spelled, token_if, token_of, tokens_after, tokens_of}
-use Rattle.idl_lex.specs.declared.block.Block.{Block}
 use Rattle.idl_lex.specs.declared.block.PlacedBlock.{PlacedBlock}
 use Rattle.idl_lex.specs.declared.context.Context.{Context}
 use Rattle.idl_lex.specs.declared.token.PlacedToken.{PlacedToken}

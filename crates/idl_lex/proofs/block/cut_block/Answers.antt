@@ -1,14 +1,13 @@
-use Rattle.std.proofs.Common.{◌≡◌, ◌∙◌, ◌++◌, ◌+◌, ◌-◌, ◌≤◌, ◌<◌, ℕ, List, [], inl, inr, ap, append-nil, arith, drop, length, length-drop, refl, subst, sym, take}
-use Rattle.std.proofs.Math.Seq.{take-length}
+use Rattle.std.proofs.Common.{◌≡◌, ◌∙◌, ◌++◌, ◌+◌, ◌-◌, ◌≤◌, ◌<◌, [], inl, inr, ap, append-nil, arith, drop, length, length-drop, refl, subst, sym, take}
 use Rattle.std.proofs.lemmas.List.{length-take-le, take_rest}
-use Rattle.idl_lex.specs.Block.{IsApart, IsBlock}
+use Rattle.idl_lex.specs.Block.{IsApart}
 use Rattle.idl_lex.specs.Context.{line_start}
 use Rattle.idl_lex.specs.Lexer.{coming, ended}
-use Rattle.idl_lex.specs.Logical.{continued, joined_count}
+use Rattle.idl_lex.specs.Logical.{joined_count}
 use Rattle.idl_lex.specs.Moved.{moved_tokens}
 use Rattle.idl_lex.specs.Text.{joined}
 use Rattle.idl_lex.specs.Tokens.{tokens_after, tokens_of}
-use Rattle.idl_lex.proofs.BlockLemmas.{CutMore-joined, IsClosed, tokens_of-behind, tokens_of-joined}
+use Rattle.idl_lex.proofs.BlockLemmas.{CutMore-joined, tokens_of-behind, tokens_of-joined}
 use Rattle.idl_lex.proofs.LogicalLemmas.{joined-nil}
 use Rattle.idl_lex.proofs.TokensLemmas.{tokens_after-nil}
 use Rattle.idl_lex.proofs.block.cut_block.Goals.{else-lines-test, then-lines-test+then-is_fresh+then-is_end}

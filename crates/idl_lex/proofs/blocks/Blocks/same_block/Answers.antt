@@ -1,7 +1,6 @@
 use Rattle.std.proofs.Common.{◌≡◌, ◌∙◌, ◌⊎◌, ◌<◌, ◌≤◌, ap, arith, drop, length, length-drop, refl, subst, sym, take}
 use Rattle.idl_lex.specs.Block.{IsBlock}
 use Rattle.idl_lex.specs.declared.block.Block.{Block}
-use Rattle.idl_lex.specs.declared.block.PlacedBlock.{PlacedBlock}
 use Rattle.idl_lex.proofs.BlockLemmas.{AreBlocksOf-Contains, IsBlock-same}
 use Rattle.idl_lex.proofs.blocks.Blocks.same_block.Goals as goal
 

@@ -1,4 +1,4 @@
-use Rattle.std.proofs.Common.{◌≡◌, ◌∙◌, ◌-◌, ◌≤◌, ◌<◌, ap, arith, get_or, length, sym, rules, leb, take}
+use Rattle.std.proofs.Common.{◌≡◌, ◌≤◌, ◌<◌, ap, arith, get_or, length, sym, rules, leb, take}
 use Rattle.std.proofs.lemmas.Bool.{ltb-false}
 use Rattle.std.proofs.lemmas.List.Sorted.{IsPartitionPoint-from_clause, IsPartitionedBy-leb}
 use Rattle.idl_lex.specs.Block.{tokens_in_blocks}

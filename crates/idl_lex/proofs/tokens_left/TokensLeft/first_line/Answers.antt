@@ -1,6 +1,5 @@
-use Rattle.std.proofs.Common.{◌≡◌, ◌∙◌, ◌+◌, ◌<◌, ◌≤◌, ap, arith, drop, get_or, length, length-drop}
+use Rattle.std.proofs.Common.{◌≡◌, ◌∙◌, ◌+◌, ap, arith, drop, get_or, length, length-drop}
 use Rattle.std.proofs.lemmas.List.{length-map}
-use Rattle.idl_lex.specs.Block.{tokens_in_blocks}
 use Rattle.idl_lex.specs.Moved.{moved_token, moved_tokens}
 use Rattle.idl_lex.specs.Tokens.{followers_on_line}
 use Rattle.idl_lex.proofs.WalkLemmas.{IsFirstLine-here, IsHere-some, IsParted-first, followers-elsewhere}

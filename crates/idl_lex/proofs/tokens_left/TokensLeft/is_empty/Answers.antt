@@ -1,4 +1,4 @@
-use Rattle.std.proofs.Common.{◌≡◌, ◌∙◌, ◌≤◌, ap, arith, drop, leb-true, length, length-drop, sym, []}
+use Rattle.std.proofs.Common.{◌≡◌, ◌∙◌, ap, arith, drop, leb-true, length, length-drop, sym, []}
 use Rattle.std.proofs.lemmas.Bool.{le-leb}
 use Rattle.std.proofs.lemmas.List.{drop_all}
 use Rattle.idl_lex.specs.Block.{tokens_in_blocks}
