@@ -69,6 +69,7 @@ joined_count-front (bytes ∷ lines) rest closed = by (is_continued bytes) refl 
     tail : IsClosed (bytes ∷ lines) (suc (joined_count lines)) rest → IsClosed lines (joined_count lines) rest
     tail (inl more) = inl (omega (arith, more))
     tail (inr none) = inr none
+
     by : (b : Bool) → is_continued bytes ≡ b → IsClosed (bytes ∷ lines) (if b then suc (joined_count lines) else 1) rest
         → (IsClosed lines (joined_count lines) rest → joined_count (take (joined_count lines) lines ++ rest) ≡ joined_count lines)
         → joined_count (take (if b then suc (joined_count lines) else 1) (bytes ∷ lines) ++ rest) ≡ (if b then suc (joined_count lines) else 1)
@@ -192,11 +193,14 @@ pub AreBlocks-push : (lines : List (List ℕ)) (lines_before tokens_before : ℕ
 AreBlocks-push lines lb tb [] b are line token is = (omega (arith, line), omega (arith, token), is, tt)
 AreBlocks-push lines lb tb (x ∷ blocks) b are line token is =
     let n = x.block.value.lines in
-    let k = lines_in_blocks blocks in
-    (are.0, are.1, are.2,
-    AreBlocks-push (drop n lines) (lb + n) (tb + length x.block.value.tokens.items) blocks b are.3
-    (omega (arith, line, lines-there x blocks)) (omega (arith, token, length-there x blocks))
-    (subst (λ ls. IsBlock ls b.block.value) (ap (λ m. drop m lines) (lines-there x blocks) ∙ sym (drop-drop k n lines)) is))
+    let k = lines_in_blocks blocks in (
+      are.0,
+      are.1,
+      are.2,
+      AreBlocks-push (drop n lines) (lb + n) (tb + length x.block.value.tokens.items) blocks b are.3
+          (omega (arith, line, lines-there x blocks)) (omega (arith, token, length-there x blocks))
+          (subst (λ ls. IsBlock ls b.block.value) (ap (λ m. drop m lines) (lines-there x blocks) ∙ sym (drop-drop k n lines)) is),
+    )
 
 -- a block begins other lines too, where these begin with its lines
 pub IsBlock-same : (own lines : List (List ℕ)) (block : Block) → IsBlock own block → take block.lines lines ≡ take block.lines own → block.lines ≤ length lines

@@ -41,6 +41,7 @@ joined-within most number (bytes ∷ next ∷ lines) le = by (is_continued bytes
   where
     here : number ≤ most
     here = omega (arith, le)
+
     by : (b : Bool) → All (ByteWithin most) (joined (number + 1) (next ∷ lines))
         → All (ByteWithin most) (if b then numbered number (front bytes) ++ joined (number + 1) (next ∷ lines) else numbered number (bytes ++ newline ∷ []) ++ joined (number + 1) (next ∷ lines))
     by true later = All-append (ByteWithin most) (numbered number (front bytes)) (joined (number + 1) (next ∷ lines)) (numbered-within most number (front bytes) here) later
@@ -144,7 +145,7 @@ followers-front (t ∷ front) behind begins = ap (λ n. cond (not t.starts_line)
 pub tokens_in-first : (blocks : List PlacedBlock) (k : ℕ) → length (tokens_in_blocks (take k blocks)) ≤ length (tokens_in_blocks blocks)
 tokens_in-first blocks k =
     let parts : tokens_in_blocks blocks ≡ tokens_in_blocks (take k blocks) ++ tokens_in_blocks (drop k blocks) =
-        ap tokens_in_blocks (sym (take-append-drop k blocks)) ∙ flat_map-append tokens_there (take k blocks) (drop k blocks) in
+    ap tokens_in_blocks (sym (take-append-drop k blocks)) ∙ flat_map-append tokens_there (take k blocks) (drop k blocks) in
     omega (arith, ap length parts, length-append (tokens_in_blocks (take k blocks)) (tokens_in_blocks (drop k blocks)))
 
 -- the place of a token is in a block that there is
@@ -192,9 +193,9 @@ IsHere-place lines blocks block place before b are is some =
     let more = tokens_in-more blocks block b some in
     let within : place < length tokens = by is.within more in
     let parts : tokens_in_blocks blocks ≡ front ++ (tokens_there here ++ later) =
-        ap tokens_in_blocks (sym (take-append-drop block blocks))
-        ∙ flat_map-append tokens_there (take block blocks) (drop block blocks)
-        ∙ ap (λ bs. front ++ tokens_in_blocks bs) (drop_more blocks block b some) in
+    ap tokens_in_blocks (sym (take-append-drop block blocks))
+    ∙ flat_map-append tokens_there (take block blocks) (drop block blocks)
+    ∙ ap (λ bs. front ++ tokens_in_blocks bs) (drop_more blocks block b some) in
     let size : length (tokens_there here) ≡ length tokens = length-map tokens (moved_token here.lines_before) in
     record {
       lines_before = omega (arith, at.is, at.block.some, at.block.within, length-drop at.behind lines, are.few);
@@ -249,7 +250,7 @@ IsFirstLine-here blocks block place before b here count at same is =
     let some : 0 < length tokens = omega (arith, at.within, length-drop place b.block.value.tokens.items) in
     let one : drop 1 (left ++ later) ≡ drop 1 left ++ later = drop-append-le 1 left later (omega (arith, some, size)) in
     let alike : followers_on_line (drop 1 (drop before (tokens_in_blocks blocks))) ≡ followers_on_line (drop 1 left) =
-        ap (λ ts. followers_on_line (drop 1 ts)) at.all ∙ ap followers_on_line one ∙ followers-front (drop 1 left) later at.begins in
+    ap (λ ts. followers_on_line (drop 1 ts)) at.all ∙ ap followers_on_line one ∙ followers-front (drop 1 left) later at.begins in
     let is_here : count ≡ 1 + followers_on_line (drop 1 left) = is ∙ ap (λ ts. 1 + followers_on_line (drop 1 ts)) same in
     let within : count ≤ length tokens = omega (arith, is_here, some, size, prefix_len-le-length (λ (t : PlacedToken). not t.starts_line) (drop 1 left), length-drop 1 left) in
     record {

@@ -17,7 +17,7 @@ begin_alike-requires c =
     let b = c.in_ok-placed.placed.now in
     let is = AreBlocksOf-Contains blocks.file blocks.placed.items b c.requires c.in_ok-placed.ensures.0 in
     let own : c.split_at.result.1.now ≡ drop b.lines_before blocks.file =
-        c.split_at.ensures.back ∙ (λ i. drop (sym c.in_ok-placed.ensures.1 i) (c.lines.ensures i)) in
+    c.split_at.ensures.back ∙ (λ i. drop (sym c.in_ok-placed.ensures.1 i) (c.lines.ensures i)) in
     omega (arith, is.within, ap length own, ap (λ (x : Block). x.lines) c.deref.ensures)
 
 pub returns : goal.returns
@@ -27,7 +27,7 @@ returns c =
     let block = b.block.value in
     let is = AreBlocksOf-Contains blocks.file blocks.placed.items b c.requires c.in_ok-placed.ensures.0 in
     let own : c.split_at.result.1.now ≡ drop b.lines_before blocks.file =
-        c.split_at.ensures.back ∙ (λ i. drop (sym c.in_ok-placed.ensures.1 i) (c.lines.ensures i)) in
+    c.split_at.ensures.back ∙ (λ i. drop (sym c.in_ok-placed.ensures.1 i) (c.lines.ensures i)) in
     let count : c.deref.result.now.lines ≡ block.lines = ap (λ (x : Block). x.lines) c.deref.ensures in
     let alike = c.if-not-begin_alike.ensures in
     IsBlock-same c.split_at.result.1.now c.args.lines.now block (subst (λ ls. IsBlock ls block) (sym own) is)

@@ -48,7 +48,7 @@ overflow_add-self-inside-2 c =
     let count = 1 + c.line_rest-count.result in
     let there : c.new-here.result ≡ moved_tokens b.lines_before (drop it.place b.block.value.tokens.items) = c.new-here.ensures in
     let first = IsFirstLine-here blocks it.block it.place it.before b c.new-here.result count at there
-        (ap (λ n. 1 + n) (c.line_rest-count.ensures.len ∙ ap followers_on_line c.split_at.ensures.back ∙ followers-elsewhere c.as_slice.result.now c.new-here.result c.as_slice.ensures.place)) in
+    (ap (λ n. 1 + n) (c.line_rest-count.ensures.len ∙ ap followers_on_line c.split_at.ensures.back ∙ followers-elsewhere c.as_slice.result.now c.new-here.result c.as_slice.ensures.place)) in
     omega (arith, first.end, at.countable)
 
 pub new-rest-requires-clause-within : goal.new-rest-requires-clause-within
@@ -60,7 +60,7 @@ new-rest-requires-clause-within c =
     let count = 1 + c.line_rest-count.result in
     let there : c.new-here.result ≡ moved_tokens b.lines_before (drop it.place b.block.value.tokens.items) = c.new-here.ensures in
     let first = IsFirstLine-here blocks it.block it.place it.before b c.new-here.result count at there
-        (ap (λ n. 1 + n) (c.line_rest-count.ensures.len ∙ ap followers_on_line c.split_at.ensures.back ∙ followers-elsewhere c.as_slice.result.now c.new-here.result c.as_slice.ensures.place)) in
+    (ap (λ n. 1 + n) (c.line_rest-count.ensures.len ∙ ap followers_on_line c.split_at.ensures.back ∙ followers-elsewhere c.as_slice.result.now c.new-here.result c.as_slice.ensures.place)) in
     first.end
 
 pub returns-clause-lines : goal.returns-clause-lines
@@ -72,7 +72,7 @@ returns-clause-lines c =
     let count = 1 + c.line_rest-count.result in
     let there : c.new-here.result ≡ moved_tokens b.lines_before (drop it.place b.block.value.tokens.items) = c.new-here.ensures in
     let first = IsFirstLine-here blocks it.block it.place it.before b c.new-here.result count at there
-        (ap (λ n. 1 + n) (c.line_rest-count.ensures.len ∙ ap followers_on_line c.split_at.ensures.back ∙ followers-elsewhere c.as_slice.result.now c.new-here.result c.as_slice.ensures.place)) in
+    (ap (λ n. 1 + n) (c.line_rest-count.ensures.len ∙ ap followers_on_line c.split_at.ensures.back ∙ followers-elsewhere c.as_slice.result.now c.new-here.result c.as_slice.ensures.place)) in
     (IsParted-first blocks it.before it.place b count c.args.self.now c.new-here.result c.split_at-line.result.0 c.new-rest.result first c.self.view_is c.requires there c.split_at-line.ensures.front c.new-rest.ensures).lines
 
 pub returns-clause-all : goal.returns-clause-all
@@ -84,5 +84,5 @@ returns-clause-all c =
     let count = 1 + c.line_rest-count.result in
     let there : c.new-here.result ≡ moved_tokens b.lines_before (drop it.place b.block.value.tokens.items) = c.new-here.ensures in
     let first = IsFirstLine-here blocks it.block it.place it.before b c.new-here.result count at there
-        (ap (λ n. 1 + n) (c.line_rest-count.ensures.len ∙ ap followers_on_line c.split_at.ensures.back ∙ followers-elsewhere c.as_slice.result.now c.new-here.result c.as_slice.ensures.place)) in
+    (ap (λ n. 1 + n) (c.line_rest-count.ensures.len ∙ ap followers_on_line c.split_at.ensures.back ∙ followers-elsewhere c.as_slice.result.now c.new-here.result c.as_slice.ensures.place)) in
     (IsParted-first blocks it.before it.place b count c.args.self.now c.new-here.result c.split_at-line.result.0 c.new-rest.result first c.self.view_is c.requires there c.split_at-line.ensures.front c.new-rest.ensures).all

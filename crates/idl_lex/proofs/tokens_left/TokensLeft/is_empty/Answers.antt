@@ -10,8 +10,9 @@ returns c =
     let it = c.self.inside in
     let blocks = it.blocks.now in
     let all = tokens_in_blocks blocks in
-    let is = c.self.invariant.1 in
-    (λ past. sym c.self.view_is ∙ drop_all it.before all (omega (arith, IsPlace-none blocks it.block it.place it.before is (leb-true (length blocks) it.block past))),
-    λ none.
-        let e : drop it.before all ≡ [] = c.self.view_is ∙ none in
-        le-leb (length blocks) it.block (IsPlace-past blocks it.block it.place it.before is (omega (arith, ap length e, length-drop it.before all))))
+    let is = c.self.invariant.1 in (
+      λ past. sym c.self.view_is ∙ drop_all it.before all (omega (arith, IsPlace-none blocks it.block it.place it.before is (leb-true (length blocks) it.block past))),
+      λ none.
+          let e : drop it.before all ≡ [] = c.self.view_is ∙ none in
+          le-leb (length blocks) it.block (IsPlace-past blocks it.block it.place it.before is (omega (arith, ap length e, length-drop it.before all))),
+    )
