@@ -1,12 +1,10 @@
 -- Blocks of a file: their tokens, end to end, are those of the file.
-use Rattle.std.proofs.Common.{◌≡◌, ◌∙◌, ◌⊎◌, inl, inr, ◌+◌, ◌-◌, ◌<◌, ◌≤◌, ◌++◌, ◌∷◌, ℕ, zero, suc, Bool, true, false, if◌then◌else◌, List, [], append_assoc, append-nil, drop, get_or, length, length-append, length-drop, map, take, refl, sym, ap, subst, arith}
+use Rattle.std.proofs.Common.{◌≡◌, ◌∙◌, ◌⊎◌, inl, inr, ◌+◌, ◌-◌, ◌<◌, ◌≤◌, ◌++◌, ◌∷◌, ℕ, zero, suc, Bool, true, false, if◌then◌else◌, List, [], append_assoc, append-nil, drop, get_or, length, length-append, length-drop, take, refl, sym, ap, subst, arith}
 use Rattle.std.proofs.Math.Seq.{drop-append_seam, take-add, take-append_seam, take-length}
-use Rattle.std.proofs.lemmas.Grind.{flat_map-append}
 use Rattle.std.proofs.lemmas.List.{drop-drop, drop_all, length-map, length-take-le, map-append, take-append-drop, take_all, take_more}
 use Rattle.std.proofs.lemmas.List.Sums.{sum_by-cons}
-use Rattle.std.specs.List.{Contains, flat_map, slice_index_or}
-use Rattle.idl_source.specs.Line.{newline}
-use Rattle.idl_lex.proofs.LogicalLemmas.{Begins, Begins-some, first_then, joined_count-some}
+use Rattle.std.specs.List.{Contains, slice_index_or}
+use Rattle.idl_lex.proofs.LogicalLemmas.{Begins-some, first_then, joined_count-some}
 use Rattle.idl_lex.proofs.MovedLemmas.{joined-moved, tokens_after-moved}
 use Rattle.idl_lex.specs.Block.{AreBlocks, AreBlocksOf, IsApart, IsBlock, lines_in_blocks, tokens_in_blocks, tokens_there}
 use Rattle.idl_lex.specs.Context.{line_start}
@@ -71,6 +69,7 @@ joined_count-front (bytes ∷ lines) rest closed = by (is_continued bytes) refl 
     tail : IsClosed (bytes ∷ lines) (suc (joined_count lines)) rest → IsClosed lines (joined_count lines) rest
     tail (inl more) = inl (omega (arith, more))
     tail (inr none) = inr none
+
     by : (b : Bool) → is_continued bytes ≡ b → IsClosed (bytes ∷ lines) (if b then suc (joined_count lines) else 1) rest
         → (IsClosed lines (joined_count lines) rest → joined_count (take (joined_count lines) lines ++ rest) ≡ joined_count lines)
         → joined_count (take (if b then suc (joined_count lines) else 1) (bytes ∷ lines) ++ rest) ≡ (if b then suc (joined_count lines) else 1)
@@ -194,11 +193,14 @@ pub AreBlocks-push : (lines : List (List ℕ)) (lines_before tokens_before : ℕ
 AreBlocks-push lines lb tb [] b are line token is = (omega (arith, line), omega (arith, token), is, tt)
 AreBlocks-push lines lb tb (x ∷ blocks) b are line token is =
     let n = x.block.value.lines in
-    let k = lines_in_blocks blocks in
-    (are.0, are.1, are.2,
-    AreBlocks-push (drop n lines) (lb + n) (tb + length x.block.value.tokens.items) blocks b are.3
-    (omega (arith, line, lines-there x blocks)) (omega (arith, token, length-there x blocks))
-    (subst (λ ls. IsBlock ls b.block.value) (ap (λ m. drop m lines) (lines-there x blocks) ∙ sym (drop-drop k n lines)) is))
+    let k = lines_in_blocks blocks in (
+      are.0,
+      are.1,
+      are.2,
+      AreBlocks-push (drop n lines) (lb + n) (tb + length x.block.value.tokens.items) blocks b are.3
+          (omega (arith, line, lines-there x blocks)) (omega (arith, token, length-there x blocks))
+          (subst (λ ls. IsBlock ls b.block.value) (ap (λ m. drop m lines) (lines-there x blocks) ∙ sym (drop-drop k n lines)) is),
+    )
 
 -- a block begins other lines too, where these begin with its lines
 pub IsBlock-same : (own lines : List (List ℕ)) (block : Block) → IsBlock own block → take block.lines lines ≡ take block.lines own → block.lines ≤ length lines

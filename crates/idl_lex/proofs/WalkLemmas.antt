@@ -1,20 +1,20 @@
 -- A walk over the tokens of a file, line by line: which lines they stand on, and where the first line of them ends.
-use Rattle.std.proofs.Common.{◌≡◌, ◌∙◌, ◌⊎◌, inl, inr, ◌+◌, ◌-◌, ◌<◌, ◌≤◌, leb, leb-true, leb-false, ◌++◌, ◌∷◌, ℕ, zero, suc, Bool, true, false, if◌then◌else◌, cond, not, List, [], drop, get_or, length, length-append, length-drop, map, take, refl, sym, ap, subst, arith}
+use Rattle.std.proofs.Common.{◌≡◌, ◌∙◌, ◌⊎◌, inl, inr, ◌+◌, ◌-◌, ◌^◌, ◌<◌, ◌≤◌, leb, leb-true, leb-false, ◌++◌, ◌∷◌, ℕ, zero, suc, Bool, true, false, if◌then◌else◌, cond, not, List, [], drop, get_or, length, length-append, length-drop, take, refl, sym, ap, subst, arith}
 use Rattle.std.proofs.Math.Seq.{drop-append_seam}
 use Rattle.std.proofs.lemmas.Grind.{flat_map-append}
-use Rattle.std.proofs.lemmas.List.{drop-append-le, drop-drop, drop_all, drop_more, length-map, length-take-le, take-append-drop, take-append-le}
-use Rattle.std.proofs.lemmas.List.Elements.{All-append, All-cons, All-head, All-map, All-nil, All-tail}
+use Rattle.std.proofs.lemmas.List.{drop-append-le, drop-drop, drop_more, length-map, length-take-le, take-append-drop, take-append-le, take-take}
+use Rattle.std.proofs.lemmas.List.Elements.{All-append, All-cons, All-head, All-nil, All-tail}
 use Rattle.std.proofs.lemmas.List.Sums.{prefix_len-le-length}
-use Rattle.std.specs.List.{All, drop-map}
+use Rattle.std.specs.List.{All, AllWithin, drop-map}
+use Rattle.std.specs.List.Sorted.{IsNonDecreasingBy}
 use Rattle.idl_source.specs.Line.{newline}
 use Rattle.idl_lex.proofs.BlockLemmas.{AreBlocks-at, tokens_in-all, tokens_in-more}
-use Rattle.idl_lex.proofs.TokensLemmas.{after_gap, after_token}
-use Rattle.idl_lex.specs.Block.{AreBlocks, AreBlocksOf, IsBlock, IsPlace, tokens_in_blocks, tokens_there}
+use Rattle.idl_lex.proofs.TokensLemmas.{after_gap, after_token, lines_of-first}
+use Rattle.idl_lex.specs.Block.{AreBlocks, AreBlocksOf, AreOfSomeFile, IsPlace, tokens_in_blocks, tokens_there}
 use Rattle.idl_lex.specs.Context.{context_after, is_gap, is_newline, is_nothing, line_start}
-use Rattle.idl_lex.specs.Moved.{moved_token, moved_tokens}
+use Rattle.idl_lex.specs.Moved.{AreElsewhere, moved_token, moved_tokens}
 use Rattle.idl_lex.specs.Text.{Placed, bytes_of, front, is_continued, joined, numbered}
-use Rattle.idl_lex.specs.Tokens.{followers_on_line, piece_rest, spelled, token_if, token_of, tokens_after, tokens_of}
-use Rattle.idl_lex.specs.declared.block.Block.{Block}
+use Rattle.idl_lex.specs.Tokens.{followers_on_line, lines_of, piece_rest, spelled, token_if, token_of, tokens_after, tokens_of}
 use Rattle.idl_lex.specs.declared.block.PlacedBlock.{PlacedBlock}
 use Rattle.idl_lex.specs.declared.context.Context.{Context}
 use Rattle.idl_lex.specs.declared.token.PlacedToken.{PlacedToken}
@@ -41,6 +41,7 @@ joined-within most number (bytes ∷ next ∷ lines) le = by (is_continued bytes
   where
     here : number ≤ most
     here = omega (arith, le)
+
     by : (b : Bool) → All (ByteWithin most) (joined (number + 1) (next ∷ lines))
         → All (ByteWithin most) (if b then numbered number (front bytes) ++ joined (number + 1) (next ∷ lines) else numbered number (bytes ++ newline ∷ []) ++ joined (number + 1) (next ∷ lines))
     by true later = All-append (ByteWithin most) (numbered number (front bytes)) (joined (number + 1) (next ∷ lines)) (numbered-within most number (front bytes) here) later
@@ -144,7 +145,7 @@ followers-front (t ∷ front) behind begins = ap (λ n. cond (not t.starts_line)
 pub tokens_in-first : (blocks : List PlacedBlock) (k : ℕ) → length (tokens_in_blocks (take k blocks)) ≤ length (tokens_in_blocks blocks)
 tokens_in-first blocks k =
     let parts : tokens_in_blocks blocks ≡ tokens_in_blocks (take k blocks) ++ tokens_in_blocks (drop k blocks) =
-        ap tokens_in_blocks (sym (take-append-drop k blocks)) ∙ flat_map-append tokens_there (take k blocks) (drop k blocks) in
+    ap tokens_in_blocks (sym (take-append-drop k blocks)) ∙ flat_map-append tokens_there (take k blocks) (drop k blocks) in
     omega (arith, ap length parts, length-append (tokens_in_blocks (take k blocks)) (tokens_in_blocks (drop k blocks)))
 
 -- the place of a token is in a block that there is
@@ -172,17 +173,17 @@ IsPlace-past blocks block place before is past = by is.within
     by (inr none) = none.0
 
 -- A place in a block: the tokens from it on, those of the block and those behind it.
-pub record IsHere (lines : List (List ℕ)) (blocks : List PlacedBlock) (block place before : ℕ) (b : PlacedBlock) : Type 0 where
+pub record IsHere (blocks : List PlacedBlock) (block place before : ℕ) (b : PlacedBlock) : Type 0 where
   pub lines_before : b.lines_before ≤ 200000
   pub numbers : All (λ (t : PlacedToken). t.line ≤ 200000) b.block.value.tokens.items
   pub within : place < length b.block.value.tokens.items
   pub all : drop before (tokens_in_blocks blocks) ≡ moved_tokens b.lines_before (drop place b.block.value.tokens.items) ++ tokens_in_blocks (drop (block + 1) blocks)
   pub begins : BeginsLine (tokens_in_blocks (drop (block + 1) blocks))
   pub end : before + (length b.block.value.tokens.items - place) ≤ length (tokens_in_blocks blocks)
+  pub countable : length (tokens_in_blocks blocks) < 2 ^ 64
 
--- a place in a file is one in a block, where a token is left
-pub IsHere-place : (lines : List (List ℕ)) (blocks : List PlacedBlock) (block place before : ℕ) (b : PlacedBlock) → AreBlocksOf lines blocks → IsPlace blocks block place before
-    → block < length blocks → IsHere lines blocks block place before (get_or blocks block b)
+IsHere-place : (lines : List (List ℕ)) (blocks : List PlacedBlock) (block place before : ℕ) (b : PlacedBlock) → AreBlocksOf lines blocks → IsPlace blocks block place before
+    → block < length blocks → IsHere blocks block place before (get_or blocks block b)
 IsHere-place lines blocks block place before b are is some =
     let here = get_or blocks block b in
     let tokens = here.block.value.tokens.items in
@@ -192,9 +193,9 @@ IsHere-place lines blocks block place before b are is some =
     let more = tokens_in-more blocks block b some in
     let within : place < length tokens = by is.within more in
     let parts : tokens_in_blocks blocks ≡ front ++ (tokens_there here ++ later) =
-        ap tokens_in_blocks (sym (take-append-drop block blocks))
-        ∙ flat_map-append tokens_there (take block blocks) (drop block blocks)
-        ∙ ap (λ bs. front ++ tokens_in_blocks bs) (drop_more blocks block b some) in
+    ap tokens_in_blocks (sym (take-append-drop block blocks))
+    ∙ flat_map-append tokens_there (take block blocks) (drop block blocks)
+    ∙ ap (λ bs. front ++ tokens_in_blocks bs) (drop_more blocks block b some) in
     let size : length (tokens_there here) ≡ length tokens = length-map tokens (moved_token here.lines_before) in
     record {
       lines_before = omega (arith, at.is, at.block.some, at.block.within, length-drop at.behind lines, are.few);
@@ -208,6 +209,7 @@ IsHere-place lines blocks block place before b are is some =
           ∙ ap (λ ts. ts ++ later) (drop-map (moved_token here.lines_before) place tokens);
       begins = AreBlocks-behind lines 0 0 blocks (block + 1) are.each;
       end = omega (arith, is.is, within, more, tokens_in-first blocks (block + 1));
+      countable = are.countable;
     }
   where
     by : (before < length (tokens_in_blocks (take (block + 1) blocks))) ⊎ ((length blocks ≤ block) × (before ≡ length (tokens_in_blocks blocks)))
@@ -216,26 +218,90 @@ IsHere-place lines blocks block place before b are is some =
     by (inl less) more = omega (arith, less, is.is, more)
     by (inr none) more = absurd (omega (arith, some, none.0))
 
--- The first line from a place on: so many tokens, of its block alone.
-pub record IsFirstLine (lines : List (List ℕ)) (blocks : List PlacedBlock) (block place before : ℕ) (b : PlacedBlock) (count : ℕ) : Type 0 where
+-- where a token is left, its place is one in a block
+pub IsHere-some : (blocks : List PlacedBlock) (block place before : ℕ) (b : PlacedBlock) (left : List PlacedToken) → AreOfSomeFile blocks → IsPlace blocks block place before
+    → drop before (tokens_in_blocks blocks) ≡ left → 0 < length left → IsHere blocks block place before (get_or blocks block b)
+IsHere-some blocks block place before b left file is e some =
+    IsHere-place file.0 blocks block place before b file.1 is
+    (IsPlace-some blocks block place before is (omega (arith, some, ap length e, length-drop before (tokens_in_blocks blocks))))
+
+-- ---- the first line
+
+pub followers-elsewhere : (tokens there : List PlacedToken) → AreElsewhere tokens there → followers_on_line (drop 1 tokens) ≡ followers_on_line (drop 1 there)
+followers-elsewhere tokens there is =
+    sym (followers-moved is.down (drop 1 tokens))
+    ∙ ap followers_on_line (sym (drop-map (moved_token is.down) 1 tokens))
+    ∙ ap (λ ts. followers_on_line (drop 1 ts)) is.same
+
+-- The first line from a place on, which is within the place's block.
+pub record IsFirstLine (blocks : List PlacedBlock) (before place : ℕ) (b : PlacedBlock) (count : ℕ) : Type 0 where
   pub within : count ≤ length (drop place b.block.value.tokens.items)
   pub first : count ≡ 1 + followers_on_line (drop 1 (drop before (tokens_in_blocks blocks)))
   pub line : take count (drop before (tokens_in_blocks blocks)) ≡ take count (moved_tokens b.lines_before (drop place b.block.value.tokens.items))
+  pub end : before + count ≤ length (tokens_in_blocks blocks)
 
-pub IsFirstLine-here : (lines : List (List ℕ)) (blocks : List PlacedBlock) (block place before count : ℕ) (b : PlacedBlock) → IsHere lines blocks block place before b
-    → count ≡ 1 + followers_on_line (drop 1 (moved_tokens b.lines_before (drop place b.block.value.tokens.items))) → IsFirstLine lines blocks block place before b count
-IsFirstLine-here lines blocks block place before count b here is =
+pub IsFirstLine-here : (blocks : List PlacedBlock) (block place before : ℕ) (b : PlacedBlock) (here : List PlacedToken) (count : ℕ) → IsHere blocks block place before b
+    → here ≡ moved_tokens b.lines_before (drop place b.block.value.tokens.items) → count ≡ 1 + followers_on_line (drop 1 here) → IsFirstLine blocks before place b count
+IsFirstLine-here blocks block place before b here count at same is =
     let tokens = drop place b.block.value.tokens.items in
     let left = moved_tokens b.lines_before tokens in
     let later = tokens_in_blocks (drop (block + 1) blocks) in
     let size : length left ≡ length tokens = length-map tokens (moved_token b.lines_before) in
-    let some : 0 < length tokens = omega (arith, here.within, length-drop place b.block.value.tokens.items) in
+    let some : 0 < length tokens = omega (arith, at.within, length-drop place b.block.value.tokens.items) in
     let one : drop 1 (left ++ later) ≡ drop 1 left ++ later = drop-append-le 1 left later (omega (arith, some, size)) in
-    let same : followers_on_line (drop 1 (drop before (tokens_in_blocks blocks))) ≡ followers_on_line (drop 1 left) =
-        ap (λ ts. followers_on_line (drop 1 ts)) here.all ∙ ap followers_on_line one ∙ followers-front (drop 1 left) later here.begins in
-    let within : count ≤ length tokens = omega (arith, is, some, size, prefix_len-le-length (λ (t : PlacedToken). not t.starts_line) (drop 1 left), length-drop 1 left) in
+    let alike : followers_on_line (drop 1 (drop before (tokens_in_blocks blocks))) ≡ followers_on_line (drop 1 left) =
+    ap (λ ts. followers_on_line (drop 1 ts)) at.all ∙ ap followers_on_line one ∙ followers-front (drop 1 left) later at.begins in
+    let is_here : count ≡ 1 + followers_on_line (drop 1 left) = is ∙ ap (λ ts. 1 + followers_on_line (drop 1 ts)) same in
+    let within : count ≤ length tokens = omega (arith, is_here, some, size, prefix_len-le-length (λ (t : PlacedToken). not t.starts_line) (drop 1 left), length-drop 1 left) in
     record {
       within = within;
-      first = omega (arith, is, same);
-      line = ap (take count) here.all ∙ take-append-le count left later (omega (arith, within, size));
+      first = omega (arith, is_here, alike);
+      line = ap (take count) at.all ∙ take-append-le count left later (omega (arith, within, size));
+      end = omega (arith, within, at.end, at.within, length-drop place b.block.value.tokens.items);
     }
+
+-- tokens are those of their first line and those behind it
+pub record IsParted (left line rest : List PlacedToken) : Type 0 where
+  pub lines : lines_of left ≡ line ∷ lines_of rest
+  pub all : left ≡ line ++ rest
+
+pub IsParted-first : (blocks : List PlacedBlock) (before place : ℕ) (b : PlacedBlock) (count : ℕ) (left here line rest : List PlacedToken) → IsFirstLine blocks before place b count
+    → drop before (tokens_in_blocks blocks) ≡ left → 0 < length left → here ≡ moved_tokens b.lines_before (drop place b.block.value.tokens.items)
+    → line ≡ take count here → rest ≡ drop (before + count) (tokens_in_blocks blocks) → IsParted left line rest
+IsParted-first blocks before place b count left here line rest first e some same front back =
+    let line_is : take count left ≡ line = ap (take count) (sym e) ∙ first.line ∙ ap (take count) (sym same) ∙ sym front in
+    let rest_is : drop count left ≡ rest = ap (drop count) (sym e) ∙ drop-drop count before (tokens_in_blocks blocks) ∙ sym back in
+    record {
+      lines = lines_of-first left count some (first.first ∙ ap (λ ts. 1 + followers_on_line (drop 1 ts)) e) ∙ (λ i. line_is i ∷ lines_of (rest_is i));
+      all = sym (take-append-drop count left) ∙ (λ i. line_is i ++ rest_is i);
+    }
+
+-- ---- the block of a token
+
+-- further blocks have no fewer tokens before them
+pub tokens_before-rises : (lines : List (List ℕ)) (blocks : List PlacedBlock) → AreBlocksOf lines blocks → IsNonDecreasingBy (λ (b : PlacedBlock). b.tokens_before) blocks
+tokens_before-rises lines blocks are = λ i j d le lt.
+    let first = AreBlocks-at lines 0 0 blocks i d are.each (omega (arith, le, lt)) in
+    let second = AreBlocks-at lines 0 0 blocks j d are.each lt in
+    omega (arith, first.tokens, second.tokens, tokens_in-first (take j blocks) i, ap (λ bs. length (tokens_in_blocks bs)) (take-take i j blocks le))
+
+-- The place of a token: its block is the last of those that have so few tokens before them.
+pub record IsNear (blocks : List PlacedBlock) (before block : ℕ) (b : PlacedBlock) : Type 0 where
+  pub few : b.tokens_before ≤ before
+  pub is : b.tokens_before ≡ length (tokens_in_blocks (take block blocks))
+
+pub IsNear-point : (lines : List (List ℕ)) (blocks : List PlacedBlock) (before count block : ℕ) (b : PlacedBlock) → AreBlocksOf lines blocks
+    → AllWithin (λ (x : PlacedBlock). leb x.tokens_before before ≡ true) blocks 0 count → block ≡ count - 1 → block < length blocks → b ≡ get_or blocks block b → IsNear blocks before block b
+IsNear-point lines blocks before count block b are few is lt same =
+    let at = AreBlocks-at lines 0 0 blocks block b are.each lt in
+    let tokens = ap (λ (x : PlacedBlock). x.tokens_before) same in
+    record { few = omega (arith, tokens, by block few is lt); is = omega (arith, tokens, at.tokens) }
+  where
+    by : (k : ℕ) → AllWithin (λ (x : PlacedBlock). leb x.tokens_before before ≡ true) blocks 0 count → k ≡ count - 1 → k < length blocks → (get_or blocks k b).tokens_before ≤ before
+    by zero few is lt = omega (arith, (AreBlocks-at lines 0 0 blocks 0 b are.each lt).tokens)
+    by (suc k) few is lt = leb-true (get_or blocks (suc k) b).tokens_before before (few (suc k) b (omega arith) (omega (arith, is)))
+
+-- no block has no token
+pub no_tokens : (blocks : List PlacedBlock) → length blocks ≡ 0 → length (tokens_in_blocks blocks) ≡ 0
+no_tokens [] none = refl
+no_tokens (b ∷ blocks) none = absurd (omega (arith, none))

@@ -51,7 +51,10 @@ impl Lexed {
         requires { before ≤ length self.now }
         ensures { result ≡ drop before self.now }
     {
-        let count = self.blocks.placed.partition_point(|placed| placed.tokens_before <= before);
+        let count = self
+            .blocks
+            .placed
+            .partition_point(|placed| placed.tokens_before <= before);
         let block = count.saturating_sub(1);
         let place = match self.blocks.placed.get(block) {
             Some(placed) => before - placed.tokens_before,

@@ -79,7 +79,12 @@ impl<'a> TokensLeft<'a> {
         let (_first, followers) = here.as_slice().split_at(1);
         let count = 1 + line_rest(followers);
         let (line, _rest) = here.split_at(count);
-        let rest = TokensLeft::new(self.blocks, self.block, self.place + count, self.before + count);
+        let rest = TokensLeft::new(
+            self.blocks,
+            self.block,
+            self.place + count,
+            self.before + count,
+        );
         (line, rest)
     }
 }
