@@ -60,7 +60,7 @@ pub fn undef<B: RootBank>(
         (undef directive.now.place directive.now.word.now definitions.old
         directive.now.operands) progress.old) }
 {
-    match first_word(directive.operands.as_slice()) {
+    match first_word(&directive.operands) {
         Some(word) => {
             definitions.remove(word)?;
             Ok(())
@@ -116,7 +116,7 @@ fn is_macro_there<B: RootBank>(
         (is_macro_there directive.now.place directive.now.word.now macros.now.definitions.now
         directive.now.operands) progress.old) }
 {
-    match first_word(directive.operands.as_slice()) {
+    match first_word(&directive.operands) {
         Some(word) => {
             let body = macros.definitions.macro_of(word, macros.bank, progress)?;
             Ok(Some(body.is_some()))
@@ -159,13 +159,14 @@ fn other_definition<B: RootBank>(
 }
 
 // The word at which the operands begin, if they do.
-fn first_word(operands: &[PlacedToken]) -> Option<&Spelling>
-    ensures { option_copied result ≡ first_word operands.entry.now }
+fn first_word<'a>(operands: &FileTokens<'a>) -> Option<&'a Spelling>
+    ensures { option_copied result ≡ first_word operands.now }
 {
-    match operands {
-        [first, ..] if first.token.is_word() => Some(first.token.spelling()),
-        _ => None,
+    let (first, _rest) = operands.split_first()?;
+    if !first.token().is_word() {
+        return None;
     }
+    Some(first.token().spelling())
 }
 
 // The word and the body of a well-formed definition.
