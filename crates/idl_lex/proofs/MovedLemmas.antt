@@ -2,13 +2,12 @@
 use Rattle.std.proofs.Common.{◌≡◌, ◌∙◌, ◌+◌, ◌-◌, ◌++◌, ◌∷◌, ℕ, zero, suc, Bool, true, false, List, [], map, take, refl, sym, ap, arith}
 use Rattle.std.specs.Prelude.{if◌then◌else◌}
 use Rattle.std.proofs.lemmas.List.{map-append, take-map}
-use Rattle.std.proofs.lemmas.Simd.{map-map}
 use Rattle.idl_source.specs.Line.{newline}
 use Rattle.idl_lex.specs.Context.{context_after, is_gap, is_include}
-use Rattle.idl_lex.specs.Moved.{AreElsewhere, moved_byte, moved_text, moved_token, moved_tokens}
+use Rattle.idl_lex.specs.Moved.{moved_byte, moved_text, moved_token, moved_tokens}
 use Rattle.idl_lex.specs.Piece.{is_piece, longest}
 use Rattle.idl_lex.specs.Text.{Placed, bytes_of, front, is_continued, joined, numbered}
-use Rattle.idl_lex.specs.Tokens.{piece_rest, spelled, token_if, token_of, tokens_after, tokens_in}
+use Rattle.idl_lex.specs.Tokens.{piece_rest, spelled, token_if, token_of, tokens_after}
 use Rattle.idl_lex.specs.declared.context.Context.{Context}
 use Rattle.idl_lex.specs.declared.token.PlacedToken.{PlacedToken}
 
@@ -73,7 +72,3 @@ tokens_after-moved down c zero (p ∷ text) =
     (λ i. from_piece_of c (p.line + down) (moved_text down text) (same i) (rest i))
     ∙ (λ i. token_if-moved down c piece p.line i ++ tokens_after-moved down (context_after c piece) here text i)
     ∙ sym (map-append (moved_token down) (token_if c piece p.line) (tokens_after (context_after c piece) here text))
-
--- tokens that stand elsewhere are the same
-pub tokens_in-elsewhere : {tokens there : List PlacedToken} → AreElsewhere tokens there → tokens_in tokens ≡ tokens_in there
-tokens_in-elsewhere {tokens = tokens} h = sym (map-map (λ (t : PlacedToken). t.token) (moved_token h.down) tokens) ∙ ap tokens_in h.same
