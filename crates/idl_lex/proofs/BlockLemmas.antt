@@ -1,12 +1,10 @@
 -- Blocks of a file: their tokens, end to end, are those of the file.
-use Rattle.std.proofs.Common.{◌≡◌, ◌∙◌, ◌⊎◌, inl, inr, ◌+◌, ◌-◌, ◌<◌, ◌≤◌, ◌++◌, ◌∷◌, ℕ, zero, suc, Bool, true, false, if◌then◌else◌, List, [], append_assoc, append-nil, drop, get_or, length, length-append, length-drop, map, take, refl, sym, ap, subst, arith}
+use Rattle.std.proofs.Common.{◌≡◌, ◌∙◌, ◌⊎◌, inl, inr, ◌+◌, ◌-◌, ◌<◌, ◌≤◌, ◌++◌, ◌∷◌, ℕ, zero, suc, Bool, true, false, if◌then◌else◌, List, [], append_assoc, append-nil, drop, get_or, length, length-append, length-drop, take, refl, sym, ap, subst, arith}
 use Rattle.std.proofs.Math.Seq.{drop-append_seam, take-add, take-append_seam, take-length}
-use Rattle.std.proofs.lemmas.Grind.{flat_map-append}
 use Rattle.std.proofs.lemmas.List.{drop-drop, drop_all, length-map, length-take-le, map-append, take-append-drop, take_all, take_more}
 use Rattle.std.proofs.lemmas.List.Sums.{sum_by-cons}
-use Rattle.std.specs.List.{Contains, flat_map, slice_index_or}
-use Rattle.idl_source.specs.Line.{newline}
-use Rattle.idl_lex.proofs.LogicalLemmas.{Begins, Begins-some, first_then, joined_count-some}
+use Rattle.std.specs.List.{Contains, slice_index_or}
+use Rattle.idl_lex.proofs.LogicalLemmas.{Begins-some, first_then, joined_count-some}
 use Rattle.idl_lex.proofs.MovedLemmas.{joined-moved, tokens_after-moved}
 use Rattle.idl_lex.specs.Block.{AreBlocks, AreBlocksOf, IsApart, IsBlock, lines_in_blocks, tokens_in_blocks, tokens_there}
 use Rattle.idl_lex.specs.Context.{line_start}
@@ -71,6 +69,7 @@ joined_count-front (bytes ∷ lines) rest closed = by (is_continued bytes) refl 
     tail : IsClosed (bytes ∷ lines) (suc (joined_count lines)) rest → IsClosed lines (joined_count lines) rest
     tail (inl more) = inl (omega (arith, more))
     tail (inr none) = inr none
+
     by : (b : Bool) → is_continued bytes ≡ b → IsClosed (bytes ∷ lines) (if b then suc (joined_count lines) else 1) rest
         → (IsClosed lines (joined_count lines) rest → joined_count (take (joined_count lines) lines ++ rest) ≡ joined_count lines)
         → joined_count (take (if b then suc (joined_count lines) else 1) (bytes ∷ lines) ++ rest) ≡ (if b then suc (joined_count lines) else 1)
@@ -179,8 +178,8 @@ AreBlocks-tokens lines lb tb (b ∷ blocks) are all =
     ∙ ap (moved_tokens lb) (sym (IsBlock-tokens lines block are.2))
 
 -- the tokens of the blocks of a file are those of the file
-pub AreBlocksOf-tokens : (lines : List (List ℕ)) (blocks : List PlacedBlock) → AreBlocksOf lines blocks → tokens_in_blocks blocks ≡ tokens_of lines
-AreBlocksOf-tokens lines blocks are = AreBlocks-tokens lines 0 0 blocks are.0 are.1 ∙ moved_tokens-zero (tokens_of lines)
+pub AreBlocks-all : (lines : List (List ℕ)) (blocks : List PlacedBlock) → AreBlocks lines 0 0 blocks → lines_in_blocks blocks ≡ length lines → tokens_in_blocks blocks ≡ tokens_of lines
+AreBlocks-all lines blocks are all = AreBlocks-tokens lines 0 0 blocks are all ∙ moved_tokens-zero (tokens_of lines)
 
 -- how many tokens a block and those after it have
 length-there : (b : PlacedBlock) (blocks : List PlacedBlock) → length (tokens_in_blocks (b ∷ blocks)) ≡ length b.block.value.tokens.items + length (tokens_in_blocks blocks)
@@ -194,11 +193,14 @@ pub AreBlocks-push : (lines : List (List ℕ)) (lines_before tokens_before : ℕ
 AreBlocks-push lines lb tb [] b are line token is = (omega (arith, line), omega (arith, token), is, tt)
 AreBlocks-push lines lb tb (x ∷ blocks) b are line token is =
     let n = x.block.value.lines in
-    let k = lines_in_blocks blocks in
-    (are.0, are.1, are.2,
-    AreBlocks-push (drop n lines) (lb + n) (tb + length x.block.value.tokens.items) blocks b are.3
-    (omega (arith, line, lines-there x blocks)) (omega (arith, token, length-there x blocks))
-    (subst (λ ls. IsBlock ls b.block.value) (ap (λ m. drop m lines) (lines-there x blocks) ∙ sym (drop-drop k n lines)) is))
+    let k = lines_in_blocks blocks in (
+      are.0,
+      are.1,
+      are.2,
+      AreBlocks-push (drop n lines) (lb + n) (tb + length x.block.value.tokens.items) blocks b are.3
+          (omega (arith, line, lines-there x blocks)) (omega (arith, token, length-there x blocks))
+          (subst (λ ls. IsBlock ls b.block.value) (ap (λ m. drop m lines) (lines-there x blocks) ∙ sym (drop-drop k n lines)) is),
+    )
 
 -- a block begins other lines too, where these begin with its lines
 pub IsBlock-same : (own lines : List (List ℕ)) (block : Block) → IsBlock own block → take block.lines lines ≡ take block.lines own → block.lines ≤ length lines
@@ -217,26 +219,30 @@ IsBlock-same own lines block is same within end =
     by (inl more) (inr apart) = inr (subst IsApart (sym same) apart)
 
 -- where a block of a file stands
-pub record StandsAt (lines : List (List ℕ)) (lines_before : ℕ) (b : PlacedBlock) : Type 0 where
+pub record StandsAt (lines : List (List ℕ)) (lines_before tokens_before : ℕ) (blocks : List PlacedBlock) (k : ℕ) (b : PlacedBlock) : Type 0 where
   pub behind : ℕ
   pub is : b.lines_before ≡ lines_before + behind
+  pub tokens : b.tokens_before ≡ tokens_before + length (tokens_in_blocks (take k blocks))
   pub block : IsBlock (drop behind lines) b.block.value
 
-pub AreBlocks-at : (lines : List (List ℕ)) (lines_before tokens_before : ℕ) (blocks : List PlacedBlock) (k : ℕ) (b : PlacedBlock) → AreBlocks lines lines_before tokens_before blocks → k < length blocks → StandsAt lines lines_before (slice_index_or blocks k b)
+pub AreBlocks-at : (lines : List (List ℕ)) (lines_before tokens_before : ℕ) (blocks : List PlacedBlock) (k : ℕ) (b : PlacedBlock) → AreBlocks lines lines_before tokens_before blocks → k < length blocks
+    → StandsAt lines lines_before tokens_before blocks k (slice_index_or blocks k b)
 AreBlocks-at lines lb tb [] k b are lt = absurd (omega (arith, lt))
-AreBlocks-at lines lb tb (x ∷ blocks) zero b are lt = record { behind = 0; is = omega (arith, are.0); block = are.2 }
+AreBlocks-at lines lb tb (x ∷ blocks) zero b are lt = record { behind = 0; is = omega (arith, are.0); tokens = omega (arith, are.1); block = are.2 }
 AreBlocks-at lines lb tb (x ∷ blocks) (suc k) b are lt =
     let n = x.block.value.lines in
-    let rest = AreBlocks-at (drop n lines) (lb + n) (tb + length x.block.value.tokens.items) blocks k b are.3 (omega (arith, lt)) in
+    let m = length x.block.value.tokens.items in
+    let rest = AreBlocks-at (drop n lines) (lb + n) (tb + m) blocks k b are.3 (omega (arith, lt)) in
     record {
       behind = n + rest.behind;
       is = omega (arith, rest.is);
+      tokens = omega (arith, rest.tokens, length-there x (take k blocks));
       block = subst (λ ls. IsBlock ls (slice_index_or blocks k b).block.value) (drop-drop rest.behind n lines) rest.block;
     }
 
 pub AreBlocksOf-Contains : (lines : List (List ℕ)) (blocks : List PlacedBlock) (b : PlacedBlock) → AreBlocksOf lines blocks → Contains blocks b → IsBlock (drop b.lines_before lines) b.block.value
 AreBlocksOf-Contains lines blocks b are there =
-    let at = subst (StandsAt lines 0) there.2 (AreBlocks-at lines 0 0 blocks there.0 b are.0 there.1) in
+    let at = subst (StandsAt lines 0 0 blocks there.0) there.2 (AreBlocks-at lines 0 0 blocks there.0 b are.each there.1) in
     let e : at.behind ≡ b.lines_before = omega (arith, at.is) in
     subst (λ n. IsBlock (drop n lines) b.block.value) e at.block
 

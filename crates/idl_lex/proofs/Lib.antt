@@ -11,3 +11,4 @@ pub mod PartLemmas
 pub mod PieceLemmas
 pub mod TableLemmas
 pub mod TokensLemmas
+pub mod WalkLemmas

@@ -1,13 +1,14 @@
 -- Tokens don't depend on the numbers of lines but for the number that each has.
-use Rattle.std.proofs.Common.{◌≡◌, ◌∙◌, ◌+◌, ◌-◌, ◌++◌, ◌∷◌, ℕ, zero, suc, Bool, true, false, List, [], map, take, refl, sym, ap, arith}
+use Rattle.std.proofs.Common.{◌≡◌, ◌∙◌, ◌+◌, ◌-◌, ◌++◌, ◌∷◌, ℕ, zero, suc, Bool, true, false, List, [], take, refl, sym, ap, arith}
 use Rattle.std.specs.Prelude.{if◌then◌else◌}
 use Rattle.std.proofs.lemmas.List.{map-append, take-map}
+use Rattle.std.proofs.lemmas.Simd.{map-map}
 use Rattle.idl_source.specs.Line.{newline}
 use Rattle.idl_lex.specs.Context.{context_after, is_gap, is_include}
-use Rattle.idl_lex.specs.Moved.{moved_byte, moved_text, moved_token, moved_tokens}
+use Rattle.idl_lex.specs.Moved.{AreElsewhere, moved_byte, moved_text, moved_token, moved_tokens}
 use Rattle.idl_lex.specs.Piece.{is_piece, longest}
 use Rattle.idl_lex.specs.Text.{Placed, bytes_of, front, is_continued, joined, numbered}
-use Rattle.idl_lex.specs.Tokens.{piece_rest, spelled, token_if, token_of, tokens_after}
+use Rattle.idl_lex.specs.Tokens.{piece_rest, spelled, token_if, token_of, tokens_after, tokens_in}
 use Rattle.idl_lex.specs.declared.context.Context.{Context}
 use Rattle.idl_lex.specs.declared.token.PlacedToken.{PlacedToken}
 
@@ -65,10 +66,19 @@ tokens_after-moved down c (suc n) (p ∷ text) = tokens_after-moved down c n tex
 tokens_after-moved down c zero (p ∷ text) =
     let here : ℕ = piece_rest c p text in
     let rest : piece_rest c (moved_byte down p) (moved_text down text) ≡ here =
-        ap (λ bytes. longest (is_piece (is_include c.beginning)) (p.byte ∷ bytes) - 1) (bytes_of-moved down text) in
+    ap (λ bytes. longest (is_piece (is_include c.beginning)) (p.byte ∷ bytes) - 1) (bytes_of-moved down text) in
     let piece : List ℕ = p.byte ∷ bytes_of (take here text) in
     let same : p.byte ∷ bytes_of (take (piece_rest c (moved_byte down p) (moved_text down text)) (moved_text down text)) ≡ piece =
-        ap (λ k. p.byte ∷ bytes_of (take k (moved_text down text))) rest ∙ ap (λ bytes. p.byte ∷ bytes) (bytes_of-take-moved down here text) in
+    ap (λ k. p.byte ∷ bytes_of (take k (moved_text down text))) rest ∙ ap (λ bytes. p.byte ∷ bytes) (bytes_of-take-moved down here text) in
     (λ i. from_piece_of c (p.line + down) (moved_text down text) (same i) (rest i))
     ∙ (λ i. token_if-moved down c piece p.line i ++ tokens_after-moved down (context_after c piece) here text i)
     ∙ sym (map-append (moved_token down) (token_if c piece p.line) (tokens_after (context_after c piece) here text))
+
+-- ---- tokens elsewhere
+
+-- they are the same
+pub tokens_in-moved : (down : ℕ) (tokens : List PlacedToken) → tokens_in (moved_tokens down tokens) ≡ tokens_in tokens
+tokens_in-moved down tokens = map-map (λ (t : PlacedToken). t.token) (moved_token down) tokens
+
+pub tokens_in-AreElsewhere : (tokens there : List PlacedToken) → AreElsewhere tokens there → tokens_in tokens ≡ tokens_in there
+tokens_in-AreElsewhere tokens there is = sym (tokens_in-moved is.down tokens) ∙ ap tokens_in is.same

@@ -1,5 +1,5 @@
 -- A file in blocks: lines that are cut into tokens as if they were a file of their own.
-use Rattle.std.specs.Prelude.{◌≡◌, ◌⊎◌, ◌≤◌, ◌<◌, ◌+◌, ℕ, List, [], ◌∷◌, ◌++◌, drop, length, take}
+use Rattle.std.specs.Prelude.{◌≡◌, ◌⊎◌, ◌≤◌, ◌<◌, ◌+◌, ◌^◌, ℕ, List, [], ◌∷◌, ◌++◌, drop, length, take}
 use Rattle.std.specs.List.{flat_map, sum_by}
 use Rattle.idl_lex.specs.Moved.{moved_tokens}
 use Rattle.idl_lex.specs.Tokens.{tokens_of}
@@ -44,9 +44,13 @@ AreBlocks lines lines_before tokens_before (b ∷ blocks) =
     × AreBlocks (drop block.lines lines) (lines_before + block.lines)
     (tokens_before + length block.tokens.items) blocks
 
--- blocks of a whole file
-abbrev pub AreBlocksOf : List (List ℕ) → List PlacedBlock → Type 0
-AreBlocksOf lines blocks = AreBlocks lines 0 0 blocks × (lines_in_blocks blocks ≡ length lines)
+-- blocks of a whole file: all its lines, as many as a file may have, and no more tokens than can be
+-- counted
+pub record AreBlocksOf (lines : List (List ℕ)) (blocks : List PlacedBlock) : Type 0 where
+  pub each : AreBlocks lines 0 0 blocks
+  pub whole : lines_in_blocks blocks ≡ length lines
+  pub few : length lines ≤ 200000
+  pub countable : length (tokens_in_blocks blocks) < 2 ^ 64
 
 -- blocks of some whole file
 abbrev pub AreOfSomeFile : List PlacedBlock → Type 0

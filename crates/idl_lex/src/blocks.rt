@@ -29,7 +29,10 @@ impl Blocks {
         ensures { IfSome result
             (λ b. Contains self.now.placed.items b.now × (b.now.lines_before ≡ before)) }
     {
-        match self.placed.binary_search_by_key(&before, |placed| placed.lines_before) {
+        match self
+            .placed
+            .binary_search_by_key(&before, |placed| placed.lines_before)
+        {
             Ok(place) => Some(&self.placed[place]),
             Err(_) => None,
         }

@@ -134,7 +134,8 @@ impl<'a> FileTokens<'a> {
 
     /// The tokens in order, with the lines that they have in a file of their block alone.
     pub fn as_slice(&self) -> &'a [PlacedToken]
-        ensures { AreElsewhere result.now self.now }
+        ensures place { AreElsewhere result.now self.now }
+        ensures tokens { tokens_in result.now ≡ tokens_in self.now }
     {
         self.tokens
     }

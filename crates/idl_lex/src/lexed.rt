@@ -26,7 +26,7 @@ pub struct Lexed {
 }
 
 impl Model for Lexed {
-    ghost use Rattle.std.specs.Prelude.{◌<◌, ◌^◌, List, length};
+    ghost use Rattle.std.specs.Prelude.{List};
     ghost use Rattle.idl_lex.specs.Block.{AreBlocksOf, tokens_in_blocks};
     ghost use Rattle.idl_lex.specs.declared.token.PlacedToken.{PlacedToken};
 
@@ -34,8 +34,7 @@ impl Model for Lexed {
 
     ghost view = { λ lexed. tokens_in_blocks lexed.blocks.placed.items };
 
-    ghost invariant = { λ lexed. AreBlocksOf lexed.blocks.file lexed.blocks.placed.items
-        × (length (tokens_in_blocks lexed.blocks.placed.items) < 2 ^ 64) };
+    ghost invariant = { λ lexed. AreBlocksOf lexed.blocks.file lexed.blocks.placed.items };
 }
 
 impl Lexed {
@@ -52,7 +51,10 @@ impl Lexed {
         requires { before ≤ length self.now }
         ensures { result ≡ drop before self.now }
     {
-        let count = self.blocks.placed.partition_point(|placed| placed.tokens_before <= before);
+        let count = self
+            .blocks
+            .placed
+            .partition_point(|placed| placed.tokens_before <= before);
         let block = count.saturating_sub(1);
         let place = match self.blocks.placed.get(block) {
             Some(placed) => before - placed.tokens_before,

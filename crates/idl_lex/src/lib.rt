@@ -27,9 +27,9 @@ mod tokens_left;
 mod word;
 mod word_table;
 
+pub use file_tokens::{FileToken, FileTokens};
 pub use keyword::Keyword;
 pub use kind::{Defect, Kind, is_like_keyword, kind_of};
-pub use file_tokens::{FileToken, FileTokens};
 pub use lexed::{Lexed, lex, longest_pieces};
 pub use literal::decode;
 pub use mark::{Mark, PreprocessorMark};

@@ -76,9 +76,15 @@ impl<'a> TokensLeft<'a> {
     {
         let placed = &self.blocks[self.block];
         let here = FileTokens::new(&placed.block, placed.lines_before as u32, self.place);
-        let count = 1 + line_rest(&here.as_slice()[1..]);
+        let (_first, followers) = here.as_slice().split_at(1);
+        let count = 1 + line_rest(followers);
         let (line, _rest) = here.split_at(count);
-        let rest = TokensLeft::new(self.blocks, self.block, self.place + count, self.before + count);
+        let rest = TokensLeft::new(
+            self.blocks,
+            self.block,
+            self.place + count,
+            self.before + count,
+        );
         (line, rest)
     }
 }

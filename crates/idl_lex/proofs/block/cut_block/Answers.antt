@@ -1,14 +1,13 @@
-use Rattle.std.proofs.Common.{◌≡◌, ◌∙◌, ◌++◌, ◌+◌, ◌-◌, ◌≤◌, ◌<◌, ℕ, List, [], inl, inr, ap, append-nil, arith, drop, length, length-drop, refl, subst, sym, take}
-use Rattle.std.proofs.Math.Seq.{take-length}
+use Rattle.std.proofs.Common.{◌≡◌, ◌∙◌, ◌++◌, ◌+◌, ◌-◌, ◌≤◌, ◌<◌, [], inl, inr, ap, append-nil, arith, drop, length, length-drop, refl, subst, sym, take}
 use Rattle.std.proofs.lemmas.List.{length-take-le, take_rest}
-use Rattle.idl_lex.specs.Block.{IsApart, IsBlock}
+use Rattle.idl_lex.specs.Block.{IsApart}
 use Rattle.idl_lex.specs.Context.{line_start}
 use Rattle.idl_lex.specs.Lexer.{coming, ended}
-use Rattle.idl_lex.specs.Logical.{continued, joined_count}
+use Rattle.idl_lex.specs.Logical.{joined_count}
 use Rattle.idl_lex.specs.Moved.{moved_tokens}
 use Rattle.idl_lex.specs.Text.{joined}
 use Rattle.idl_lex.specs.Tokens.{tokens_after, tokens_of}
-use Rattle.idl_lex.proofs.BlockLemmas.{CutMore-joined, IsClosed, tokens_of-behind, tokens_of-joined}
+use Rattle.idl_lex.proofs.BlockLemmas.{CutMore-joined, tokens_of-behind, tokens_of-joined}
 use Rattle.idl_lex.proofs.LogicalLemmas.{joined-nil}
 use Rattle.idl_lex.proofs.TokensLemmas.{tokens_after-nil}
 use Rattle.idl_lex.proofs.block.cut_block.Goals.{else-lines-test, then-lines-test+then-is_fresh+then-is_end}
@@ -48,21 +47,21 @@ returns-clause-block c =
     let count = c.lines.count in
     let front = take count lines in
     let cut : c.finish.new.tokens.items ≡ tokens_of front =
-        c.in_ok-finish.ensures
-        ∙ ap (λ ps. c.lines.tokens.items ++ coming c.lines.before ps) (sym (joined-nil (count + 1)))
-        ∙ c.lines.invariant.tokens [] (inr refl)
-        ∙ ap tokens_of (append-nil front) in
+    c.in_ok-finish.ensures
+    ∙ ap (λ ps. c.lines.tokens.items ++ coming c.lines.before ps) (sym (joined-nil (count + 1)))
+    ∙ c.lines.invariant.tokens [] (inr refl)
+    ∙ ap tokens_of (append-nil front) in
     elim c.lines-test.branch [
       | else-lines-test w ↦
-        let all : count ≡ length lines = omega (arith, w.lines-test, c.lines.invariant.within) in
-        record { some = omega (arith, all, c.requires.some); within = c.lines.invariant.within; own = cut; apart = inl all }
+          let all : count ≡ length lines = omega (arith, w.lines-test, c.lines.invariant.within) in
+          record { some = omega (arith, all, c.requires.some); within = c.lines.invariant.within; own = cut; apart = inl all }
       | then-lines-test+then-is_fresh+then-is_end w ↦
-        let here : count < length lines = omega (arith, w.lines-test) in
-        let fresh = w.is_fresh.ensures w.if-is_fresh.true in
-        let apart : IsApart front = λ rest.
-            sym (c.lines.invariant.tokens rest (inl here))
-            ∙ ap (λ b. c.lines.tokens.items ++ coming b (joined (count + 1) rest)) fresh
-            ∙ (λ i. (sym (append-nil c.lines.tokens.items) ∙ ap (λ ts. c.lines.tokens.items ++ ts) (sym (tokens_after-nil line_start)) ∙ ap (λ b. c.lines.tokens.items ++ coming b []) (sym fresh)
-                ∙ sym c.in_ok-finish.ensures ∙ cut) i ++ (tokens_of-behind count rest ∙ ap (λ n. moved_tokens n (tokens_of rest)) (sym (length-take-le count lines c.lines.invariant.within))) i) in
-        record { some = w.is_end.ensures.some w.if-is_end.true; within = c.lines.invariant.within; own = cut; apart = inr apart }
+          let here : count < length lines = omega (arith, w.lines-test) in
+          let fresh = w.is_fresh.ensures w.if-is_fresh.true in
+          let apart : IsApart front = λ rest.
+          sym (c.lines.invariant.tokens rest (inl here))
+          ∙ ap (λ b. c.lines.tokens.items ++ coming b (joined (count + 1) rest)) fresh
+          ∙ (λ i. (sym (append-nil c.lines.tokens.items) ∙ ap (λ ts. c.lines.tokens.items ++ ts) (sym (tokens_after-nil line_start)) ∙ ap (λ b. c.lines.tokens.items ++ coming b []) (sym fresh)
+          ∙ sym c.in_ok-finish.ensures ∙ cut) i ++ (tokens_of-behind count rest ∙ ap (λ n. moved_tokens n (tokens_of rest)) (sym (length-take-le count lines c.lines.invariant.within))) i) in
+          record { some = w.is_end.ensures.some w.if-is_end.true; within = c.lines.invariant.within; own = cut; apart = inr apart }
     ]

@@ -1,10 +1,10 @@
-use Rattle.std.proofs.Common.{◌≡◌, ◌∙◌, ◌+◌, ◌-◌, ◌<◌, ◌≤◌, ◌++◌, ◌∷◌, [], ap, arith, drop, length, length-drop, rules, subst, sym, take}
+use Rattle.std.proofs.Common.{◌≡◌, ◌∙◌, ◌+◌, ◌≤◌, ◌++◌, ◌∷◌, [], ap, arith, drop, length, length-drop, rules, subst, sym}
 use Rattle.std.proofs.lemmas.List.{take_rest}
 use Rattle.idl_lex.specs.Block.{AreBlocks, IsBlock, lines_in_blocks, tokens_in_blocks}
 use Rattle.idl_lex.specs.Tokens.{tokens_of}
 use Rattle.idl_lex.specs.declared.block.Block.{Block}
 use Rattle.idl_lex.specs.declared.block.PlacedBlock.{PlacedBlock}
-use Rattle.idl_lex.proofs.BlockLemmas.{AreBlocks-push, AreBlocksOf-tokens, lines_in-push, tokens_in-push}
+use Rattle.idl_lex.proofs.BlockLemmas.{AreBlocks-push, AreBlocks-all, lines_in-push, tokens_in-push}
 use Rattle.idl_lex.proofs.lexed.lex.Goals as goal
 
 pub next_block-requires-clause-room : goal.next_block-requires-clause-room
@@ -39,11 +39,16 @@ invariant_of-result c =
     let file = c.in_ok-clone.field-0 in
     let same : lines ≡ file = c.lines-lines.ensures ∙ sym c.in_ok-clone.ensures.cases in
     let here = c.cut.invariant in
-    ((subst (λ ls. AreBlocks ls 0 0 c.cut.placed.items) same here.blocks,
-    omega (arith, here.lines, here.within, c.cut-test.false, c.line_count-total.ensures.count, ap length c.lines-lines.ensures, ap length same)), omega (arith, here.tokens, here.room))
+    let size : length lines ≡ c.line_count-total.result = omega (arith, c.line_count-total.ensures.count, ap length c.lines-lines.ensures) in
+    record {
+      each = subst (λ ls. AreBlocks ls 0 0 c.cut.placed.items) same here.blocks;
+      whole = omega (arith, here.lines, here.within, c.cut-test.false, size, ap length same);
+      few = omega (arith, size, c.line_count-total.ensures.within, ap length same);
+      countable = omega (arith, here.tokens, here.room);
+    }
 
 pub returns : goal.returns
 returns c =
     let lines = c.lines-lines.result.now in
     let here = c.cut.invariant in
-    AreBlocksOf-tokens lines c.cut.placed.items (here.blocks, omega (arith, here.lines, here.within, c.cut-test.false, c.line_count-total.ensures.count, ap length c.lines-lines.ensures)) ∙ ap tokens_of c.lines-lines.ensures
+    AreBlocks-all lines c.cut.placed.items here.blocks (omega (arith, here.lines, here.within, c.cut-test.false, c.line_count-total.ensures.count, ap length c.lines-lines.ensures)) ∙ ap tokens_of c.lines-lines.ensures

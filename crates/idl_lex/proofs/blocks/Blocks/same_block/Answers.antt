@@ -1,7 +1,6 @@
 use Rattle.std.proofs.Common.{◌≡◌, ◌∙◌, ◌⊎◌, ◌<◌, ◌≤◌, ap, arith, drop, length, length-drop, refl, subst, sym, take}
 use Rattle.idl_lex.specs.Block.{IsBlock}
 use Rattle.idl_lex.specs.declared.block.Block.{Block}
-use Rattle.idl_lex.specs.declared.block.PlacedBlock.{PlacedBlock}
 use Rattle.idl_lex.proofs.BlockLemmas.{AreBlocksOf-Contains, IsBlock-same}
 use Rattle.idl_lex.proofs.blocks.Blocks.same_block.Goals as goal
 
@@ -18,7 +17,7 @@ begin_alike-requires c =
     let b = c.in_ok-placed.placed.now in
     let is = AreBlocksOf-Contains blocks.file blocks.placed.items b c.requires c.in_ok-placed.ensures.0 in
     let own : c.split_at.result.1.now ≡ drop b.lines_before blocks.file =
-        c.split_at.ensures.back ∙ (λ i. drop (sym c.in_ok-placed.ensures.1 i) (c.lines.ensures i)) in
+    c.split_at.ensures.back ∙ (λ i. drop (sym c.in_ok-placed.ensures.1 i) (c.lines.ensures i)) in
     omega (arith, is.within, ap length own, ap (λ (x : Block). x.lines) c.deref.ensures)
 
 pub returns : goal.returns
@@ -28,7 +27,7 @@ returns c =
     let block = b.block.value in
     let is = AreBlocksOf-Contains blocks.file blocks.placed.items b c.requires c.in_ok-placed.ensures.0 in
     let own : c.split_at.result.1.now ≡ drop b.lines_before blocks.file =
-        c.split_at.ensures.back ∙ (λ i. drop (sym c.in_ok-placed.ensures.1 i) (c.lines.ensures i)) in
+    c.split_at.ensures.back ∙ (λ i. drop (sym c.in_ok-placed.ensures.1 i) (c.lines.ensures i)) in
     let count : c.deref.result.now.lines ≡ block.lines = ap (λ (x : Block). x.lines) c.deref.ensures in
     let alike = c.if-not-begin_alike.ensures in
     IsBlock-same c.split_at.result.1.now c.args.lines.now block (subst (λ ls. IsBlock ls block) (sym own) is)
