@@ -120,17 +120,18 @@ impl<'a> LinesLeft<'a> {
         ensures { IfSome result (λ jump. (length jump.0 ≤ length self.now)
             × IsJump has_else (lines_from self.now) (lines_from jump.0) jump.1.now) }
     {
-        let table = &self.file.table;
-        let span = table.branch_from(self.before)?;
+        let file = self.file;
+        let span = file.table.branch_from(self.before)?;
         if span.has_else != has_else {
             return None;
         }
+        let faults = &file.table.faults[span.first_fault..span.end_fault];
         let rest = LinesLeft {
-            file: self.file,
+            file,
             before: span.to,
-            tokens: self.file.lexed.behind(span.to),
+            tokens: file.lexed.behind(span.to),
         };
-        Some((rest, &table.faults[span.first_fault..span.end_fault]))
+        Some((rest, faults))
     }
 }
 

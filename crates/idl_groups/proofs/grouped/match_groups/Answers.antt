@@ -13,12 +13,12 @@ use Rattle.idl_groups.proofs.MatchedLemmas.{matched-alone}
 use Rattle.idl_groups.proofs.grouped.match_groups.Goals as goal
 
 -- the first line at a place, and those after it
-lines_at-first : (tokens left line rest : List PlacedToken) (at : ℕ) → left ≡ drop at tokens → lines_of left ≡ line ∷ lines_of rest → left ≡ line ++ rest
-    → lines_at tokens at ≡ read line ∷ lines_at tokens (at + length line)
-lines_at-first tokens left line rest at is first all =
+lines_at-first : (tokens left line rest : List PlacedToken) (at count : ℕ) → left ≡ drop at tokens → lines_of left ≡ line ∷ lines_of rest → left ≡ line ++ rest → count ≡ length line
+    → lines_at tokens at ≡ read line ∷ lines_at tokens (at + count)
+lines_at-first tokens left line rest at count is first all size =
     ap (λ (ts : List PlacedToken). map read (lines_of ts)) (sym is)
     ∙ ap (map read) first
-    ∙ ap (λ (ts : List PlacedToken). read line ∷ map read (lines_of ts)) (behind-first tokens left line rest at is all)
+    ∙ ap (λ (ts : List PlacedToken). read line ∷ map read (lines_of ts)) (behind-first tokens left line rest at count is all size)
 
 lines_at-end : (tokens : List PlacedToken) (at : ℕ) → length tokens ≤ at → lines_at tokens at ≡ []
 unfolding lines_of
@@ -27,38 +27,54 @@ lines_at-end tokens at end = ap (λ (ts : List PlacedToken). map read (lines_of 
 pub lines-init : goal.lines-init
 lines-init c = record { within = omega arith; left = c.all-left.ensures.tokens; matched = c.new-matching.ensures (lines_at c.args.lexed.now) }
 
+pub overflow_add-after : goal.overflow_add-after
+overflow_add-after c =
+    let tokens = c.args.lexed.now in
+    let left = c.lines.left in
+    let line = c.first_line-line.result.0 in
+    let rest = c.first_line-line.result.1 in
+    let at = c.lines.at in
+    let count = c.len.result in
+    let first = c.first_line-line.ensures in
+    let here = c.lines.invariant in
+    omega (arith, within-first tokens left line rest at count here.left first.all c.len.ensures here.within, c.all-left.ensures.room)
+
 pub lines-preserved-in_ok-step : goal.lines-preserved-in_ok-step
 lines-preserved-in_ok-step c =
     let tokens = c.args.lexed.now in
-    let line = c.first_line.result.0 in
-    let rest = c.first_line.result.1 in
+    let left = c.lines.left in
+    let line = c.first_line-line.result.0 in
+    let rest = c.first_line-line.result.1 in
     let at = c.lines.at in
-    let first = c.first_line.ensures in
+    let count = c.len.result in
+    let first = c.first_line-line.ensures in
     let here = c.lines.invariant in
     record {
-      within = within-first tokens c.lines.left line rest at here.left first.all here.within;
-      left = behind-first tokens c.lines.left line rest at here.left first.all;
+      within = within-first tokens left line rest at count here.left first.all c.len.ensures here.within;
+      left = behind-first tokens left line rest at count here.left first.all c.len.ensures;
       matched =
           c.in_ok-step.ensures (lines_at tokens)
-          (lines_at-first tokens c.lines.left line rest at here.left first.lines first.all ∙ ap (λ (l : Line). l ∷ lines_at tokens (at + length line)) c.in-Some.ensures)
+          (lines_at-first tokens left line rest at count here.left first.lines first.all c.len.ensures ∙ ap (λ (l : Line). l ∷ lines_at tokens (at + count)) c.in-Some.ensures)
           here.matched;
     }
 
 pub lines-preserved : goal.lines-preserved
 lines-preserved c =
     let tokens = c.args.lexed.now in
-    let line = c.first_line.result.0 in
-    let rest = c.first_line.result.1 in
+    let left = c.lines.left in
+    let line = c.first_line-line.result.0 in
+    let rest = c.first_line-line.result.1 in
     let at = c.lines.at in
-    let first = c.first_line.ensures in
+    let count = c.len.result in
+    let first = c.first_line-line.ensures in
     let here = c.lines.invariant in
     let m = c.lines.matching in
     record {
-      within = within-first tokens c.lines.left line rest at here.left first.all here.within;
-      left = behind-first tokens c.lines.left line rest at here.left first.all;
+      within = within-first tokens left line rest at count here.left first.all c.len.ensures here.within;
+      left = behind-first tokens left line rest at count here.left first.all c.len.ensures;
       matched =
-          matched-alone (lines_at tokens) at (at + length line) (read line) m.branches m.spans.items m.faults.items c.in_default.ensures (omega arith)
-          (lines_at-first tokens c.lines.left line rest at here.left first.lines first.all) here.matched;
+          matched-alone (lines_at tokens) at (at + count) (read line) m.branches m.spans.items m.faults.items c.in_default.ensures (omega arith)
+          (lines_at-first tokens left line rest at count here.left first.lines first.all c.len.ensures) here.matched;
     }
 
 -- the table of a file whose lines were all read
@@ -74,5 +90,5 @@ pub returns : goal.returns
 returns c =
     let tokens = c.args.lexed.now in
     let here = c.lines.invariant in
-    let none : drop c.lines.at tokens ≡ [] = sym here.left ∙ ? in
+    let none : drop c.lines.at tokens ≡ [] = sym here.left ∙ c.is_empty.ensures.0 c.lines-test.false in
     table-whole tokens c.lines.at c.lines.matching c.finish.result here.within (omega (arith, ap length none, length-drop c.lines.at tokens)) here.matched c.finish.ensures
