@@ -35,11 +35,7 @@ impl Model for LexedFile {
 
 impl LexedFile {
     /// The file with its tokens, of which those of an earlier text are taken over that are the same.
-    pub fn new(
-        alloc: Global,
-        file: File,
-        old: Option<&LexedFile>,
-    ) -> Result<LexedFile, AllocError>
+    pub fn new(alloc: Global, file: File, old: Option<&LexedFile>) -> Result<LexedFile, AllocError>
         ensures { IfOk result (λ it. it ≡ file) }
     {
         let old = old.map(|old| old.tokens.lexed());

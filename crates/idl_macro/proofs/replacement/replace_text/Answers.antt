@@ -18,7 +18,7 @@ tokens-preserved g c =
     let one : tokens_in c.from_ref.result.now ≡ t.token ∷ [] = ap tokens_in c.from_ref.ensures.value ∙ ap (λ u. u ∷ []) c.placed.ensures in
     record {
       progress = c.tokens.invariant.progress
-          ∙ ap (λ (ts : List PlacedToken). reached bank (text file definitions ts) c.tokens.progress) c.in-Some.ensures.cases
+          ∙ ap (λ (ts : List PlacedToken). reached bank (text file definitions ts) c.tokens.progress) c.in-Some.ensures
           ∙ reached-text-first bank file definitions t c.in-Some.rest c.tokens.output place (tokens_in c.from_ref.result.now) c.tokens.progress c.replace.new.progress
           c.tokens.invariant.item here one c.in_ok-replace.ensures.progress;
       item = c.in_ok-replace.ensures.item ∙ c.tokens.invariant.item;
@@ -29,5 +29,5 @@ returns g c =
     let bank = g.B.Bank.at c.args.macros.now.bank.now in
     let definitions = c.args.macros.now.definitions.now in
     sym (c.tokens.invariant.progress
-    ∙ ap (λ (ts : List PlacedToken). reached bank (text c.args.file.now definitions ts) c.tokens.progress) c.in_default.ensures.cases
+    ∙ ap (λ (ts : List PlacedToken). reached bank (text c.args.file.now definitions ts) c.tokens.progress) c.in_default.ensures
     ∙ reached-text-nil bank c.args.file.now definitions c.tokens.progress)
