@@ -155,11 +155,7 @@ impl<B: RootBank> Root<B> {
     }
 
     /// The tokens of a text, in which macros are replaced.
-    pub fn emit(
-        &mut self,
-        site: &Site<'_, B>,
-        tokens: &FileTokens<'_>,
-    ) -> Result<(), AllocError>
+    pub fn emit(&mut self, site: &Site<'_, B>, tokens: &FileTokens<'_>) -> Result<(), AllocError>
         ensures { let query = text site.now.file.now self.old.state.definitions tokens.now in
             let reached = reached (B.at site.now.bank.now) query self.old.progress in
             OnOk result (self.new ≡ record self.old { progress = reached }) }
