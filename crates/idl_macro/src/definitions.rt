@@ -11,8 +11,8 @@ ghost use Rattle.idl_macro.specs.Macros.{body_in, macro_of};
 
 use crate::marks::Marks;
 use idl_base::Table;
-use idl_event::{Answer, Key, Progress, RootBank, TokenRange};
-use idl_lex::{PlacedToken, Spelling};
+use idl_event::{Answer, Key, Progress, RootBank};
+use idl_lex::{PlacedToken, Spelling, TokenRange};
 use std::alloc::{AllocError, Global};
 use std::marker::Model;
 
