@@ -1,5 +1,5 @@
 -- The steps of a replacement: what the words in whose replacement it stands still stand for, and what a step makes of it.
-use Rattle.std.proofs.Common.{◌≡◌, ℕ, suc, ◌+◌, ◌-◌, ◌<◌, List, [], ◌∷◌, ◌++◌, length, Option, None, Some, Bor, refl, sym, ◌∙◌, ap, arith, append_assoc}
+use Rattle.std.proofs.Common.{◌≡◌, ℕ, suc, ◌-◌, ◌<◌, List, [], ◌∷◌, ◌++◌, length, Option, None, Some, Bor, refl, sym, ◌∙◌, ap, arith, append_assoc}
 use Rattle.std.specs.Map.{keys_of}
 use Rattle.idl_memo.specs.Progress.{after_item}
 use Rattle.idl_memo.proofs.ProgressLaws.{progress_after-and_then}
