@@ -7,14 +7,14 @@ pub id-requires : goal.id-requires
 id-requires c =
     let tokens = c.args.self.tokens.now in
     let count = pragma-length tokens _ (c.requires ∙ ap Some c.in-Id.is) in
-    let range = length-map c.as_slice.result.now (λ t. t.token) in
-    let same = ap length c.as_slice.ensures in
+    let range = length-map c.as_slice-tokens.result.now (λ t. t.token) in
+    let same = ap length c.as_slice-tokens.ensures in
     omega (arith, count, range, same)
 
 pub version-requires : goal.version-requires
 version-requires c =
     let tokens = c.args.self.tokens.now in
     let count = pragma-length tokens _ (c.requires ∙ ap Some c.in-Version.is) in
-    let range = length-map c.as_slice.result.now (λ t. t.token) in
-    let same = ap length c.as_slice.ensures in
+    let range = length-map c.as_slice-tokens.result.now (λ t. t.token) in
+    let same = ap length c.as_slice-tokens.ensures in
     omega (arith, count, range, same)
