@@ -2,7 +2,7 @@ use Rattle.std.proofs.Common.{sym, subst}
 use Rattle.std.specs.Map.{keys_of}
 use Rattle.idl_macro.specs.Marks.{AreMarked, word_number}
 use Rattle.idl_macro.proofs.MarkLemmas.{AreMarked-more, AreMarked-put}
-use Rattle.idl_macro.proofs.definitions.Definitions.define.Goals as goal
+use Rattle.idl_macro.proofs.definitions.Definitions.say.Goals as goal
 
 pub invariant_of-self : goal.invariant_of-self
 invariant_of-self c =
