@@ -2,7 +2,7 @@ use Rattle.std.proofs.Common.{◌≡◌, [], drop}
 use Rattle.std.specs.Map.{keys_of, lookup}
 use Rattle.idl_scope.specs.Facts.{inherited}
 use Rattle.idl_scope.specs.Key.{key_eq}
-use Rattle.idl_scope.proofs.state.inherited.Given as goal
+use Rattle.idl_scope.proofs.operations.inherited.Given as goal
 
 -- those of the rest of the bases, put behind those so far, are all
 abbrev pub invariant-loop-base : goal.invariant-loop-base

@@ -2,7 +2,7 @@ use Rattle.std.proofs.Common.{sym, ap, ◌∙◌, ◌++◌, ◌+◌, ◌∷◌, 
 use Rattle.idl_scope.specs.Facts.{operations_among}
 use Rattle.idl_scope.proofs.PlaceLemmas.{drop-at1}
 use Rattle.idl_scope.proofs.StateLemmas.{operations_among-cons}
-use Rattle.idl_scope.proofs.state.operations_among.Goals as goal
+use Rattle.idl_scope.proofs.operations.operations_among.Goals as goal
 
 pub loop-index-preserved : goal.loop-index-preserved
 loop-index-preserved c =

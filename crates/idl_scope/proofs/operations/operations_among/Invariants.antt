@@ -1,6 +1,6 @@
 use Rattle.std.proofs.Common.{◌≡◌, ◌++◌, drop}
 use Rattle.idl_scope.specs.Facts.{operations_among}
-use Rattle.idl_scope.proofs.state.operations_among.Given as goal
+use Rattle.idl_scope.proofs.operations.operations_among.Given as goal
 
 -- those so far and those among the rest are all
 abbrev pub invariant-loop-index : goal.invariant-loop-index

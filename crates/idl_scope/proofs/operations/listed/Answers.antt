@@ -1,7 +1,7 @@
 use Rattle.std.proofs.Common.{sym, ap, ◌∙◌, ◌++◌, ◌+◌, ◌∷◌, [], drop, append_assoc}
 use Rattle.std.specs.Map.{keys_of}
 use Rattle.idl_scope.proofs.PlaceLemmas.{drop-at1}
-use Rattle.idl_scope.proofs.state.listed.Goals as goal
+use Rattle.idl_scope.proofs.operations.listed.Goals as goal
 
 pub loop-index-preserved : goal.loop-index-preserved
 loop-index-preserved c =
