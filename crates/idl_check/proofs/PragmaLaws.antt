@@ -1,14 +1,14 @@
 -- What comes of a pragma: its least fault, or what it says.
 use Rattle.std.proofs.Common.{◌≡◌, ◌∙◌, ℕ, suc, ◌+◌, ◌<◌, Bool, true, false, cond, List, [], ◌∷◌, ◌++◌, length, Option, None, Some, Result, Ok, Err, is_some, refl, sym, ap, subst, arith}
 use Rattle.std.proofs.lemmas.List.Elements.{All-append, All-cons, All-nil}
-use Rattle.std.specs.Prelude.{◌≢◌, ◌*◌, All, not}
+use Rattle.std.specs.Prelude.{◌≢◌, All, fold, not}
 use Rattle.idl_check.specs.AllFaults.{or_else, unit_faults}
 use Rattle.idl_check.specs.Codes.{faults_by}
 use Rattle.idl_check.specs.Identifying.{has_id, is_fixed, is_given, is_id, is_visible}
 use Rattle.idl_check.specs.Judging.{IsSpoken}
-use Rattle.idl_check.specs.Pragmas.{Said, about, about_name, id_faults, prefix_faults, refused_for, said, said_by, unnamed_faults, version_faults}
+use Rattle.idl_check.specs.Pragmas.{Said, about, about_name, id_faults, refused_for, said, said_by, unnamed_faults, version_faults}
 use Rattle.idl_check.specs.Using.{last_at, name_code, part_at}
-use Rattle.idl_check.specs.Verdict.{faulty, pragma_judged, pragma_verdict, verdict}
+use Rattle.idl_check.specs.Verdict.{faulty, pragma_verdict, verdict}
 use Rattle.idl_check.specs.declared.verdict.Verdict.{Verdict}
 use Rattle.idl_event.specs.declared.code.Code.{Code}
 use Rattle.idl_event.specs.declared.code.Code.TheVariants.{BadIdText, MalformedPragma, NoRepositoryId, PragmaInside, RepeatedId, RepeatedVersion}
@@ -43,7 +43,6 @@ use Rattle.idl_check.proofs.LeastFault.{least-none}
 use Rattle.idl_check.proofs.PartLemmas.{IsUpTo, denoted-IsUpTo}
 use Rattle.idl_check.proofs.PragmaTokens.{end_of, pragma-length}
 use Rattle.idl_check.proofs.VerdictLaws.{least-tokens}
-use Rattle.std.specs.Prelude.{fold}
 
 -- the verdict of what is said, by its least fault
 abbrev verdict_by : Said → Option Fault → Verdict

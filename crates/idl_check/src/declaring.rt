@@ -3,7 +3,7 @@
 ghost use Rattle.std.specs.Prelude.{◌≡◌, ◌∷◌, [], IfOk, IfSome, OnOk, Some};
 ghost use Rattle.idl_check.specs.Declaring.{are_modules, come_ahead, declared_table, differs, entity_of, enumerators_in, finished, is_local_in, is_name_of_scope, kind_of, may_follow, meaning_in, stage_of, stays, value_in, written_after};
 ghost use Rattle.idl_check.specs.Held.{held_written};
-ghost use Rattle.idl_check.specs.Identifying.{has_other_prefix, may_be_ahead};
+ghost use Rattle.idl_check.specs.Identifying.{may_be_ahead};
 ghost use Rattle.idl_scope.specs.declared.entity.Meaning.TheVariants as meaning;
 ghost use Rattle.idl_check.specs.Codes.{codes_in};
 ghost use Rattle.idl_scope.specs.Path.{path_eq};

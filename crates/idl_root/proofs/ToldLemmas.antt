@@ -1,5 +1,5 @@
 -- The faults of a root's units are all told: each token of a unit stands somewhere.
-use Rattle.std.proofs.Common.{◌≡◌, ◌≢◌, ℕ, zero, suc, ◌<◌, Bool, true, false, List, [], ◌∷◌, ◌++◌, length, Option, None, Some, slice_get, is_some, if◌then◌else◌, flat_map, refl, sym, ap, ◌∙◌, arith}
+use Rattle.std.proofs.Common.{◌≡◌, ◌≢◌, ℕ, zero, suc, ◌<◌, Bool, List, [], ◌∷◌, ◌++◌, length, Option, Some, slice_get, flat_map, refl, ap, ◌∙◌, arith}
 use Rattle.std.specs.List.{AllByRecursion, enumerate_from}
 use Rattle.idl_check.specs.Verdict.{verdict}
 use Rattle.idl_check.specs.declared.verdict.Verdict.{Verdict}
@@ -8,7 +8,7 @@ use Rattle.idl_event.specs.declared.event.Event.TheVariants as event
 use Rattle.idl_lex.specs.Tokens.{Token}
 use Rattle.idl_memo.specs.Query.{outcome}
 use Rattle.idl_root.specs.Findings.{fault_finding, finding_at, site_of, tokens_of}
-use Rattle.idl_root.specs.Judged.{boundary, judged_after, judged_over, verdict_over}
+use Rattle.idl_root.specs.Judged.{boundary, judged_after, verdict_over}
 use Rattle.idl_root.specs.Told.{IsTold}
 use Rattle.idl_scope.specs.Facts.{UnitFacts, answers}
 use Rattle.idl_scope.specs.declared.addition.Step.TheVariants.{Enters, Leaves}

@@ -1,4 +1,4 @@
-use Rattle.std.proofs.Common.{Some, length, sym, ap, ◌∙◌, arith}
+use Rattle.std.proofs.Common.{Some, length, ap, ◌∙◌, arith}
 use Rattle.std.proofs.lemmas.List.{length-map}
 use Rattle.idl_check.proofs.PragmaTokens.{pragma-length}
 use Rattle.idl_check.proofs.pragmas.Speaker.said.Goals as goal

@@ -1,4 +1,4 @@
-use Rattle.std.proofs.Common.{◌∷◌, [], ◌∙◌, ap, sym}
+use Rattle.std.proofs.Common.{◌∷◌, ◌∙◌, ap, sym}
 use Rattle.idl_root.specs.Held.{held, to_come, with_judged}
 use Rattle.idl_root.specs.Judged.{judged_over}
 use Rattle.idl_root.proofs.JudgingLemmas.{to_come-entered, to_come-left, to_come-over, to_come-spelled}
