@@ -1,7 +1,7 @@
 //! The tokens of whole files.
 
 use super::support::{Telling, are_told, file_of};
-use idl_lex::{FileToken, Lexed, lex};
+use idl_lex::{FileToken, FileTokens, Lexed, lex};
 use std::alloc::{AllocError, Global};
 use std::test::Fail;
 
@@ -19,16 +19,27 @@ impl Telling for Tokens {
 fn printed(alloc: Global, lexed: &Lexed) -> Result<String, AllocError> {
     let mut text = String::new(alloc);
     let mut left = lexed.all();
-    while !left.is_empty() {
-        let (line, rest) = left.first_line();
-        let mut tokens = line;
-        while let Some((token, others)) = tokens.split_first() {
-            print(alloc, &mut text, &token)?;
-            tokens = others;
+    for _ in 0..u64::MAX {
+        if left.is_empty() {
+            break;
         }
+        let (line, rest) = left.first_line();
+        print_line(alloc, &mut text, line)?;
         left = rest;
     }
     Ok(text)
+}
+
+fn print_line(alloc: Global, text: &mut String, line: FileTokens<'_>) -> Result<(), AllocError> {
+    let mut tokens = line;
+    for _ in 0..u64::MAX {
+        let Some((token, others)) = tokens.split_first() else {
+            break;
+        };
+        print(alloc, text, &token)?;
+        tokens = others;
+    }
+    Ok(())
 }
 
 fn print(alloc: Global, text: &mut String, token: &FileToken<'_>) -> Result<(), AllocError> {
