@@ -38,9 +38,9 @@ pub fn row_of(
     requires { items_length (map item_at sites.now) ≤ 18446744073709551615 }
     ensures { IfOk result (λ row. row ≡ row_of depth (map item_at sites.now) (rest_at unit.entry)) }
 {
-    let mut text = Vec::with_capacity(alloc, 64)?;
+    let mut text = Vec::new(alloc);
     push_sites(&mut text, sites, unit)?;
-    let mut row = Vec::with_capacity(alloc, text.len())?;
+    let mut row = Vec::new(alloc);
     push_blanks(&mut row, depth)?;
     row.extend_from_slice(behind(text.as_slice(), 1))?;
     Shared::new(alloc, Text::from_vec(row))
