@@ -11,7 +11,7 @@ use crate::compiled::Row;
 use crate::finding::{Finding, Spelled, push_fault};
 use idl_check::{DeclarationTask, Verdict};
 use idl_memo::{Bank, Log, Task};
-use idl_scope::{Env, Facts, Key, Shared, Step, scopes_in};
+use idl_scope::{Env, Facts, Key, Step, scopes_in};
 use idl_unit::{Unit, UnitText};
 use std::alloc::{AllocError, Global};
 
@@ -87,7 +87,6 @@ impl Judging {
     {
         let mut facts = Facts::new(alloc);
         facts.then(step);
-        let facts = Shared::new(alloc, facts)?;
         let Judging {
             env,
             findings,
@@ -139,7 +138,7 @@ impl Judging {
         } = self;
         push_fault(alloc, &mut findings, unit, verdict.fault)?;
         push_row(&mut rows, &verdict.row)?;
-        let env = env.add(&verdict.writes)?;
+        let env = env.add(verdict.writes.get())?;
         Ok(Judging {
             env,
             findings,

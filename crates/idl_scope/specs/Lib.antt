@@ -11,4 +11,5 @@ pub mod Lookup
 pub mod Mark
 pub mod Meaning
 pub mod Outside
+pub mod Past
 pub mod Path
