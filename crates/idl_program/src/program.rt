@@ -1,0 +1,76 @@
+//! The program over its words and devices.
+
+use crate::compiling::{load_all, prepared, show_dump, show_errors};
+use crate::failure::{Failure, Status};
+use crate::loader::Loader;
+use crate::request::{Options, Request, request_of};
+use idl_session::{Session, Sink, Source, run, write_all};
+use std::alloc::Global;
+
+/// What the program reads and writes.
+#[derive(Drop)]
+pub struct Devices<L, S, O, E> {
+    /// Where files come from.
+    pub loader: L,
+    /// Where commands come from.
+    pub source: S,
+    /// Where dumps, listings and replies go.
+    pub output: O,
+    /// Where errors go, and why the program fails.
+    pub errors: E,
+}
+
+/// Does what the words behind the program's name ask for, and answers how the program ends.
+pub fn run_program<L: Loader, S: Source, O: Sink, E: Sink>(
+    alloc: Global,
+    words: &[&str],
+    devices: &mut Devices<L, S, O, E>,
+) -> Status {
+    match perform(alloc, words, devices) {
+        Ok(status) => status,
+        Err(failure) => {
+            // Where this can't be written either, the status tells.
+            let _ = failure.tell(&mut devices.errors);
+            Status::Failed
+        }
+    }
+}
+
+fn perform<'a, L: Loader, S: Source, O: Sink, E: Sink>(
+    alloc: Global,
+    words: &'a [&'a str],
+    devices: &mut Devices<L, S, O, E>,
+) -> Result<Status, Failure<'a>> {
+    match request_of(alloc, words)? {
+        Request::Show(text) => {
+            write_all(&mut devices.output, text.as_bytes())?;
+            Ok(Status::Sound)
+        }
+        Request::Serve => {
+            let mut session = Session::new(alloc);
+            run(&mut session, &mut devices.source, &mut devices.output)?;
+            Ok(Status::Sound)
+        }
+        Request::Compile(options) => compile(alloc, &options, devices),
+    }
+}
+
+fn compile<'a, L: Loader, S: Source, O: Sink, E: Sink>(
+    alloc: Global,
+    options: &Options<'a>,
+    devices: &mut Devices<L, S, O, E>,
+) -> Result<Status, Failure<'a>> {
+    let (mut session, roots) = prepared(alloc, options)?;
+    load_all(&mut session, &roots, &mut devices.loader)?;
+    let mut status = Status::Sound;
+    for root in roots.iter() {
+        let of_root = show_errors(&session, root, &mut devices.errors)?;
+        if of_root == Status::Faulty {
+            status = of_root;
+        }
+        if options.shows_dump {
+            show_dump(&session, root, &mut devices.output)?;
+        }
+    }
+    Ok(status)
+}
