@@ -1,5 +1,7 @@
 //! Files that are compiled and shown.
 
+ghost use Rattle.std.specs.Prelude.{◌≡◌, ◌≤◌, ◌<◌, ◌+◌, ◌-◌, ◌^◌, OnOk};
+
 use crate::failure::{Failure, Status, Subject};
 use crate::loader::Loader;
 use crate::loading::Loading;
@@ -45,7 +47,11 @@ pub fn show_errors<K: Sink>(
     session: &Session,
     root: &Name,
     errors: &mut K,
-) -> Result<Status, WriteFailed> {
+) -> Result<Status, WriteFailed>
+    requires counts { K.failures errors.old < 2 ^ 64 - 1 }
+    ensures ok { OnOk result (K.failures errors.new ≡ K.failures errors.old) }
+    ensures most { K.failures errors.new ≤ K.failures errors.old + 1 }
+{
     let Some(rows) = session.diagnostics(root.as_bytes()) else {
         return Ok(Status::Sound);
     };
@@ -62,7 +68,10 @@ pub fn show_dump<K: Sink>(
     session: &Session,
     root: &Name,
     output: &mut K,
-) -> Result<(), WriteFailed> {
+) -> Result<(), WriteFailed>
+    requires counts { K.failures output.old < 2 ^ 64 - 1 }
+    ensures ok { OnOk result (K.failures output.new ≡ K.failures output.old) }
+{
     match session.dump(root.as_bytes()) {
         Some(rows) => write_lines(output, rows),
         None => Ok(()),

@@ -1,5 +1,7 @@
 //! How the program ends.
 
+ghost use Rattle.std.specs.Prelude.{◌≡◌, ◌≤◌, ◌<◌, ◌+◌, ◌-◌, ◌^◌};
+
 use idl_session::{ReadFailed, Sink, Stop, WriteFailed, write_all};
 use idl_source::{Name, Refusal};
 use itoa::Buffer;
@@ -47,7 +49,9 @@ pub enum Failure<'a> {
 
 impl<'a> Failure<'a> {
     /// Writes the one line that tells of it.
-    pub fn tell<K: Sink>(&self, errors: &mut K) -> Result<(), WriteFailed> {
+    pub fn tell<K: Sink>(&self, errors: &mut K) -> Result<(), WriteFailed>
+        requires counts { K.failures errors.old < 2 ^ 64 - 1 }
+    {
         match self {
             Failure::BadArguments => write_all(errors, b"idlc: bad arguments\n"),
             Failure::Refused(Subject::Word(word), refusal) => {
@@ -67,7 +71,9 @@ impl<'a> Failure<'a> {
     }
 }
 
-fn tell_refusal<K: Sink>(errors: &mut K, word: &[u8], refusal: Refusal) -> Result<(), WriteFailed> {
+fn tell_refusal<K: Sink>(errors: &mut K, word: &[u8], refusal: Refusal) -> Result<(), WriteFailed>
+    requires counts { K.failures errors.old < 2 ^ 64 - 1 }
+{
     let mut number = Buffer::new();
     write_all(errors, b"idlc: ")?;
     write_all(errors, word)?;

@@ -1,5 +1,7 @@
 //! The program over its words and devices.
 
+ghost use Rattle.std.specs.Prelude.{◌≡◌, ◌≤◌, ◌<◌, ◌+◌, ◌-◌, ◌^◌, OnOk};
+
 use crate::compiling::{load_all, prepared, show_dump, show_errors};
 use crate::failure::{Failure, Status};
 use crate::loader::Loader;
@@ -25,7 +27,12 @@ pub fn run_program<L: Loader, S: Source, O: Sink, E: Sink>(
     alloc: Global,
     words: &[&str],
     devices: &mut Devices<L, S, O, E>,
-) -> Status {
+) -> Status
+    // A device that counts its failures from 0 can't come near.
+    requires reads { S.failures devices.old.source < 2 ^ 64 - 1 }
+    requires writes { O.failures devices.old.output < 2 ^ 64 - 1 }
+    requires tells { E.failures devices.old.errors < 2 ^ 64 - 2 }
+{
     match perform(alloc, words, devices) {
         Ok(status) => status,
         Err(failure) => {
@@ -40,7 +47,12 @@ fn perform<'a, L: Loader, S: Source, O: Sink, E: Sink>(
     alloc: Global,
     words: &'a [&'a str],
     devices: &mut Devices<L, S, O, E>,
-) -> Result<Status, Failure<'a>> {
+) -> Result<Status, Failure<'a>>
+    requires reads { S.failures devices.old.source < 2 ^ 64 - 1 }
+    requires writes { O.failures devices.old.output < 2 ^ 64 - 1 }
+    requires tells { E.failures devices.old.errors < 2 ^ 64 - 2 }
+    ensures most { E.failures devices.new.errors ≤ E.failures devices.old.errors + 1 }
+{
     match request_of(alloc, words)? {
         Request::Show(text) => {
             write_all(&mut devices.output, text.as_bytes())?;
@@ -59,7 +71,11 @@ fn compile<'a, L: Loader, S: Source, O: Sink, E: Sink>(
     alloc: Global,
     options: &Options<'a>,
     devices: &mut Devices<L, S, O, E>,
-) -> Result<Status, Failure<'a>> {
+) -> Result<Status, Failure<'a>>
+    requires writes { O.failures devices.old.output < 2 ^ 64 - 1 }
+    requires tells { E.failures devices.old.errors < 2 ^ 64 - 2 }
+    ensures most { E.failures devices.new.errors ≤ E.failures devices.old.errors + 1 }
+{
     let (mut session, roots) = prepared(alloc, options)?;
     load_all(&mut session, &roots, &mut devices.loader)?;
     let mut status = Status::Sound;
