@@ -4,7 +4,6 @@ use Rattle.idl_check.specs.AllFaults.{site_faults}
 use Rattle.idl_check.specs.Declaring.{entity_of, standing}
 use Rattle.idl_check.specs.Types.{looked_through}
 use Rattle.idl_check.specs.Walk.{Visit, Walk, declared_visit, given_back, head_of, head_visit, outcome_at, unfound_visit, used, used_visit, value_visit, visit, with_oneway}
-use Rattle.idl_lex.specs.Keywords.{folded}
 use Rattle.idl_memo.specs.Query.{Done, outcome}
 use Rattle.idl_memo.proofs.QueryLaws.{outcome-and_then}
 use Rattle.idl_scope.specs.Kind.{kind_eq}
@@ -61,7 +60,7 @@ module _ (turns : ℕ) (answers : Key → Option Answer) where
   declared-apart f way name w None = refl
   declared-apart f way name w (Some s) =
       let e = entity_of w.written way name s.path in
-      let query = under w.own (standing turns s (folded name)) in
+      let query = under w.own (standing turns s e) in
       outcome-and_then query (λ there. Done (declared_visit (with_fault f w) s e there)) answers
       ∙ sym (ap (with_fault_after f) (outcome-and_then query (λ there. Done (declared_visit w s e there)) answers))
 

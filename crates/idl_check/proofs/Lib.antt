@@ -2,6 +2,8 @@ mod JudgeLemmas
 mod NameLemmas
 mod NotedLemmas
 mod PartLemmas
+mod PragmaLemmas
+mod PragmaTokens
 mod RowLaws
 mod RowLemmas
 mod StandingLemmas
@@ -16,3 +18,4 @@ pub mod WalkLaws
 pub mod NumberLaws
 pub mod StepLaws
 pub mod LeastFault
+pub mod PragmaLaws

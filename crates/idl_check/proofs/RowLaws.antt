@@ -12,7 +12,6 @@ use Rattle.idl_check.specs.Row.{Rest, spaced, token_text, unit_text}
 use Rattle.idl_check.specs.Types.{looked_through}
 use Rattle.idl_check.specs.Walk.{Visit, Walk, declared_visit, given_back, head_of, head_visit, outcome_at, unfound_visit, used, used_visit, value_visit, visit, with_oneway}
 use Rattle.idl_event.specs.declared.code.Code.TheVariants.{BadOneway}
-use Rattle.idl_lex.specs.Keywords.{folded}
 use Rattle.idl_lex.specs.Kind.{kind_of}
 use Rattle.idl_lex.specs.Marks.{marks}
 use Rattle.idl_lex.specs.Tokens.{Token}
@@ -119,7 +118,7 @@ module _ (turns : ℕ) (answers : Key → Option Answer) where
   declared-found way name w None = refl
   declared-found way name w (Some s) =
       ap (λ (v : Visit). v.after.found)
-      (outcome-and_then (under w.own (standing turns s (folded name))) (λ there. Done (declared_visit w s (entity_of w.written way name s.path) there)) answers)
+      (outcome-and_then (under w.own (standing turns s (entity_of w.written way name s.path))) (λ there. Done (declared_visit w s (entity_of w.written way name s.path) there)) answers)
 
   -- after a used name a path more is found, where nothing is wrong with it
   abbrev FindsOne : Walk → Visit → Type 0

@@ -16,7 +16,6 @@ use Rattle.idl_check.specs.declared.standing.Standing.{Standing}
 use Rattle.idl_event.specs.Code.{number_of}
 use Rattle.idl_event.specs.declared.code.Code.{Code}
 use Rattle.idl_event.specs.declared.code.Code.TheVariants.{BadDiscriminator, BadOneway, NoScope, RepeatedLabel, UselessDefault}
-use Rattle.idl_lex.specs.Keywords.{folded}
 use Rattle.idl_memo.specs.Query.{Done, and_then, outcome}
 use Rattle.idl_memo.proofs.QueryLaws.{outcome-and_then}
 use Rattle.idl_scope.specs.Facts.{over}
@@ -313,7 +312,7 @@ module _ (turns : ℕ) (answers : Key → Option Answer) where
   declared_by way name w o =
       elim o [
         | None ↦ Done (quiet (passed 1 w))
-        | Some s ↦ and_then (under w.own (standing turns s (folded name)))
+        | Some s ↦ and_then (under w.own (standing turns s (entity_of w.written way name s.path)))
             (λ there. Done (declared_visit w s (entity_of w.written way name s.path) there))
       ]
 
@@ -346,7 +345,7 @@ module _ (turns : ℕ) (answers : Key → Option Answer) where
   declared-by-placed way name w None = quiet-placed (item.Declared way name) w (passed 1 w) refl refl refl
   declared-by-placed way name w (Some s) =
       let e = entity_of w.written way name s.path in
-      let query = under w.own (standing turns s (folded name)) in
+      let query = under w.own (standing turns s e) in
       subst (IsPlaced (item.Declared way name) w) (sym (outcome-and_then query (λ there. Done (declared_visit w s e there)) answers)) (declared-placed way name w s e (outcome query answers))
 
   used-by-placed : (way : Use) (name : ScopedName) (w : Walk) (r : Result Found NameFault) → IsUpTo (length name.rest) r → IsPlaced (item.Used way name) w (outcome (used_by way name w r) answers)

@@ -3,10 +3,15 @@ use Rattle.std.proofs.Common.{◌≡◌, ℕ, Bool, true, false, cond, List, [],
 use Rattle.std.specs.List.{list_any}
 use Rattle.idl_memo.specs.Query.{Ask, Done, and_then, noted}
 use Rattle.idl_check.specs.Declaring.{inherited, standing}
+use Rattle.idl_check.specs.Identifying.{ids_of}
+use Rattle.idl_check.specs.declared.identifying.Ids.{Ids}
+use Rattle.idl_check.specs.declared.standing.Standing.{Standing}
+use Rattle.idl_lex.specs.Keywords.{folded}
 use Rattle.idl_scope.proofs.RunLemmas.{runs, runs-and_then, seen_at}
 use Rattle.idl_scope.specs.Facts.{entity_in, entity_key, is_operation}
 use Rattle.idl_scope.specs.Key.{key_eq}
 use Rattle.idl_scope.specs.Lookup.{Lookup, bases_of, inherits, reached}
+use Rattle.idl_scope.specs.Path.{name_of}
 use Rattle.idl_scope.specs.declared.addition.Addition.{Addition}
 use Rattle.idl_scope.specs.declared.answer.Answer.{Answer}
 use Rattle.idl_scope.specs.declared.answer.Scope.{Scope}
@@ -19,13 +24,13 @@ abbrev pub counted : List Entity → Lookup Bool
 counted found = Done (list_any is_operation found)
 
 module _ (own : List Addition) (bank : Key → Option Answer) where
-  -- what is made of an outcome, by what is made of it first
-  made_of : {A B C : Type 0} (q : Lookup A) (f : A → B) (g : B → C) (log : List (Key × Option Answer)) (b : B) (after : List (Key × Option Answer))
+  -- what follows on an outcome, by what is made of it first
+  made_of : {A B C : Type 0} (q : Lookup A) (f : A → B) (g : B → Lookup C) (log : List (Key × Option Answer)) (b : B) (after : List (Key × Option Answer))
       → (b, after) ≡ runs own bank (and_then q (λ a. Done (f a))) log
-      → runs own bank (and_then q (λ a. Done (g (f a)))) log ≡ (g b, after)
+      → runs own bank (and_then q (λ a. g (f a))) log ≡ runs own bank (g b) after
   made_of {A} {B} {C} q f g log b after h =
-      runs-and_then own bank q (λ a. Done (g (f a))) log (runs own bank q log).0 (runs own bank q log).1 refl
-      ∙ ap (λ (p : B × List (Key × Option Answer)). (g p.0, p.1))
+      runs-and_then own bank q (λ a. g (f a)) log (runs own bank q log).0 (runs own bank q log).1 refl
+      ∙ ap (λ (p : B × List (Key × Option Answer)). runs own bank (g p.0) p.1)
       (sym (h ∙ runs-and_then own bank q (λ a. Done (f a)) log (runs own bank q log).0 (runs own bank q log).1 refl))
 
   -- a scope that inherits nothing
@@ -42,23 +47,29 @@ module _ (own : List Addition) (bank : Key → Option Answer) where
       ap (λ b. runs own bank (and_then (cond b (Ask (entity_key s.path) (λ scope. reached turns n (bases_of (entity_in scope)))) (Done [])) counted) log) h
       ∙ runs-and_then own bank (reached turns n (bases_of (entity_in (seen_at own bank (entity_key s.path))))) counted (noted key_eq bank log (entity_key s.path)) found after gives
 
-  -- all that stands under a name
-  pub standing_by : (turns : ℕ) (s : Scope) (n : List ℕ) (log : List (Key × Option Answer)) (b : Bool) (after : List (Key × Option Answer))
-      → (b, after) ≡ runs own bank (and_then (inherited turns s n) counted) (noted key_eq bank (noted key_eq bank log (Declared n s.path)) (Introduced n s.path s.body))
-      → runs own bank (standing turns s n) log
+  -- all that stands under the name of an entity
+  pub standing_by : (turns : ℕ) (s : Scope) (e : Entity) (log : List (Key × Option Answer)) (b : Bool) (middle : List (Key × Option Answer)) (ids : Option Ids) (after : List (Key × Option Answer))
+      → (b, middle) ≡ runs own bank (and_then (inherited turns s (folded (name_of e.path))) counted) (noted key_eq bank (noted key_eq bank log (Declared (folded (name_of e.path)) s.path)) (Introduced (folded (name_of e.path)) s.path s.body))
+      → (ids, after) ≡ runs own bank (ids_of (entity_in (seen_at own bank (Declared (folded (name_of e.path)) s.path))) e) middle
+      → runs own bank (standing turns s e) log
       ≡ (
         record {
-          there = entity_in (seen_at own bank (Declared n s.path));
-          is_used = is_some (seen_at own bank (Introduced n s.path s.body));
+          there = entity_in (seen_at own bank (Declared (folded (name_of e.path)) s.path));
+          is_used = is_some (seen_at own bank (Introduced (folded (name_of e.path)) s.path s.body));
           is_inherited = b;
+          ids = ids;
         },
         after,
       )
-  standing_by turns s n log b after h =
-      made_of (inherited turns s n) (list_any is_operation)
-      (λ is_inherited. record {
-        there = entity_in (seen_at own bank (Declared n s.path));
+  standing_by turns s e log b middle ids after h told =
+      let n = folded (name_of e.path) in
+      let there = entity_in (seen_at own bank (Declared n s.path)) in
+      let found : Bool → Option Ids → Standing = λ is_inherited ids. record {
+        there = there;
         is_used = is_some (seen_at own bank (Introduced n s.path s.body));
         is_inherited = is_inherited;
-      })
-      (noted key_eq bank (noted key_eq bank log (Declared n s.path)) (Introduced n s.path s.body)) b after h
+        ids = ids;
+      } in
+      made_of (inherited turns s n) (list_any is_operation) (λ is_inherited. and_then (ids_of there e) (λ ids. Done (found is_inherited ids)))
+      (noted key_eq bank (noted key_eq bank log (Declared n s.path)) (Introduced n s.path s.body)) b middle h
+      ∙ runs-and_then own bank (ids_of there e) (λ ids. Done (found b ids)) middle ids after told

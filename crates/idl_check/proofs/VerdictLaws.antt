@@ -17,7 +17,7 @@ use Rattle.idl_memo.proofs.QueryLaws.{outcome-and_then}
 use Rattle.idl_scope.specs.Facts.{path_around, scopes_in}
 use Rattle.idl_scope.specs.Lookup.{Lookup, outward}
 use Rattle.idl_scope.specs.declared.addition.Step.{Step}
-use Rattle.idl_scope.specs.declared.addition.Step.TheVariants.{Stays, Opens, OpensNameless, Closes}
+use Rattle.idl_scope.specs.declared.addition.Step.TheVariants.{Stays, Opens, OpensNameless, Closes, Prefixes, Enters, Leaves}
 use Rattle.idl_scope.specs.declared.answer.Answer.{Answer}
 use Rattle.idl_scope.specs.declared.answer.Scope.{Scope}
 use Rattle.idl_scope.specs.declared.entity.Entity.{Entity}
@@ -35,7 +35,6 @@ use Rattle.idl_tree.proofs.UnitWhole.{unit_found}
 use Rattle.idl_unit.specs.Faults.{least_fault, lesser_fault}
 use Rattle.idl_unit.specs.TokenRules.{fault_at, token_faults}
 use Rattle.idl_unit.specs.declared.fault.Fault.{Fault}
-use Rattle.idl_unit.specs.declared.unit.UnitText.{UnitText}
 use Rattle.idl_unit.specs.declared.unit.UnitText.TheVariants as unit
 use Rattle.idl_check.proofs.FaultOrder.{Leads, fold-led, leads-beside}
 use Rattle.idl_check.proofs.SiteLaws.{IsFrom, faults-from}
@@ -91,6 +90,9 @@ module _ (turns : ℕ) (answers : Key → Option Answer) (tokens : List Token) w
   asking-is (Opens path kind) v = refl
   asking-is (OpensNameless kind) v = refl
   asking-is Closes v = refl
+  asking-is (Prefixes text) v = refl
+  asking-is Enters v = refl
+  asking-is Leaves v = refl
 
   -- by the fault of a walk
   abbrev judged_by : List Scope → Tree → Walk → Option Fault → Lookup Verdict
@@ -229,8 +231,3 @@ no-tree tokens none (Some tree) h = absurd (none tree (tree-spelled tokens tree 
 
 pub none-spelled : (tokens : List Token) → ((tree : Tree) → lexemes tokens ≢ spell tree) → tree_of tokens ≡ None
 none-spelled tokens none = no-tree tokens none (tree_of tokens) refl
-
-pub least-is : (turns : ℕ) (text : UnitText) (answers : Key → Option Answer) → (outcome (verdict turns text) answers).fault ≡ least_fault (unit_faults turns answers text)
-unfolding verdict
-least-is turns (unit.Tokens tokens) answers = least-tokens turns answers tokens
-least-is turns (unit.Pragma tokens inside) answers = refl

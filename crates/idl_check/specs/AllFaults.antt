@@ -1,6 +1,7 @@
 -- All faults of a unit, as if none ended the search for others. The one that is told is the least.
 use Rattle.std.specs.Prelude.{ℕ, List, [], ◌∷◌, ◌++◌, Option, None, Some, if◌then◌else◌}
 use Rattle.idl_check.specs.Placing.{is_misplaced}
+use Rattle.idl_check.specs.Pragmas.{said_by}
 use Rattle.idl_check.specs.Verdict.{first_faults, tree_of}
 use Rattle.idl_check.specs.Walk.{Walk, first_walk, visit}
 use Rattle.idl_event.specs.declared.code.Code.TheVariants.{NoTree, MisplacedUnit}
@@ -14,6 +15,7 @@ use Rattle.idl_scope.specs.declared.key.Key.TheVariants.{Cursor}
 use Rattle.idl_site.specs.Item.{Item, items}
 use Rattle.idl_site.specs.UnitParts.{unit_parts}
 use Rattle.idl_syntax.specs.Parse.{pragma_faults}
+use Rattle.idl_tree.specs.Pragma.{pragma_of}
 use Rattle.idl_tree.specs.declared.unit.Tree.{Tree}
 use Rattle.idl_unit.specs.TokenRules.{fault_at}
 use Rattle.idl_unit.specs.declared.fault.Fault.{Fault}
@@ -47,4 +49,6 @@ module _ (turns : ℕ) (answers : Key → Option Answer) where
   unit_faults (unit.Tokens tokens) =
       let scopes = scopes_in (answers Cursor) in
       or_else (first_faults tokens scopes) (further_faults tokens scopes)
-  unit_faults (unit.Pragma tokens inside) = pragma_faults tokens inside
+  unit_faults (unit.Pragma tokens inside) =
+      or_else (pragma_faults tokens inside)
+      (outcome (said_by turns (scopes_in (answers Cursor)) (pragma_of tokens)) answers).faults

@@ -4,8 +4,9 @@ use Rattle.std.specs.Bool.{beq}
 use Rattle.std.specs.List.{list_any}
 use Rattle.std.specs.Str.{bytes_eq}
 use Rattle.idl_check.specs.Codes.{Table}
+use Rattle.idl_check.specs.Identifying.{has_other_prefix, ids_of, may_be_ahead, with_identity}
 use Rattle.idl_check.specs.declared.standing.Standing.{Standing}
-use Rattle.idl_event.specs.declared.code.Code.TheVariants.{AlreadyDeclared, NameOfScope, DeclaredAfterUse, OtherForward, InheritedTwice}
+use Rattle.idl_event.specs.declared.code.Code.TheVariants.{AlreadyDeclared, NameOfScope, DeclaredAfterUse, OtherForward, InheritedTwice, OtherPrefix}
 use Rattle.idl_lex.specs.Keywords.{folded}
 use Rattle.idl_memo.specs.Query.{Done, Ask, and_then}
 use Rattle.idl_scope.specs.Facts.{entity_in, entity_key, is_operation, with_addition}
@@ -123,21 +124,20 @@ inherited turns s n =
     then Ask (entity_key s.path) (λ scope. reached turns n (bases_of (entity_in scope)))
     else Done []
 
--- what stands under a folded name in the scope in which it is declared
-abbrev pub standing : ℕ → Scope → List ℕ → Lookup Standing
-standing turns s n =
+-- what stands under the name of an entity in the scope in which it is declared
+abbrev pub standing : ℕ → Scope → Entity → Lookup Standing
+standing turns s e =
+    let n = folded (name_of e.path) in
     Ask (Declared n s.path) (λ there.
     Ask (Introduced n s.path s.body) (λ used.
     and_then (inherited turns s n) (λ found.
+    and_then (ids_of (entity_in there) e) (λ ids.
     Done (record {
       there = entity_in there;
       is_used = is_some used;
       is_inherited = list_any is_operation found;
-    }))))
-
--- interfaces, structs and unions may be declared ahead
-abbrev pub may_be_ahead : Kind → Bool
-may_be_ahead kind = kind_eq kind Interface || (kind_eq kind Structure || kind_eq kind Union)
+      ids = ids;
+    })))))
 
 abbrev pub is_ahead : Entity → Bool
 is_ahead e = stage_eq e.stage Ahead
@@ -176,13 +176,16 @@ declared_table s standing e =
     ∷ (is_name_of_scope s e, NameOfScope)
     ∷ (standing.is_used, DeclaredAfterUse)
     ∷ (is_there standing.there (λ old. may_follow old e && differs old e), OtherForward)
-    ∷ (standing.is_inherited, InheritedTwice) ∷ []
+    ∷ (standing.is_inherited, InheritedTwice)
+    ∷ (has_other_prefix standing.ids, OtherPrefix) ∷ []
 
 -- what is there already stays as it is where a module is opened again, or where it is declared
 -- ahead
 abbrev pub stays : Option Entity → Entity → Bool
 stays there e = is_there there (λ old. may_follow old e && (kind_eq e.kind Module || is_ahead e))
 
--- what a declared name adds
-abbrev pub with_declared : Option Entity → Entity → List Addition → List Addition
-with_declared there e own = if stays there e then own else with_addition own (Declares e)
+-- what a declared name adds: its id, where it is declared first, and the entity
+abbrev pub with_declared : Standing → Entity → List Addition → List Addition
+with_declared standing e own =
+    let identified = with_identity standing.there standing.ids e own in
+    if stays standing.there e then identified else with_addition identified (Declares e)

@@ -1,16 +1,26 @@
--- How a walk is kept, and one site of it.
-use Rattle.std.specs.Prelude.{ℕ, ◌+◌, ◌≤◌, List, [], ◌∷◌, if◌then◌else◌}
+-- How a walk is kept, and one site of it; and what a pragma says.
+use Rattle.std.specs.Prelude.{ℕ, ◌+◌, ◌≤◌, List, [], ◌∷◌, Option, None, Some, Result, Ok, Err, if◌then◌else◌}
 use Rattle.idl_check.specs.Declaring.{Written}
+use Rattle.idl_check.specs.Pragmas.{Said, refused_for, said}
 use Rattle.idl_check.specs.Values.{Values}
 use Rattle.idl_check.specs.Walk.{Walk, past_name, head_of, head_visit, noted_in, used, visit}
 use Rattle.idl_check.specs.declared.declaring.Written.{Written as LastWritten}
+use Rattle.idl_check.specs.Verdict.{pragma_verdict}
+use Rattle.idl_check.specs.declared.pragmas.Named.{Named}
 use Rattle.idl_check.specs.declared.values.Values.{Values as ToldValues}
+use Rattle.idl_check.specs.declared.verdict.Verdict.{Verdict}
 use Rattle.idl_check.specs.declared.walk.Walker.{Walker}
 use Rattle.idl_memo.specs.Query.{Done, and_then}
 use Rattle.idl_scope.specs.Lookup.{Lookup, denoted, under}
+use Rattle.idl_scope.specs.declared.addition.Addition.TheVariants.{Identifies}
+use Rattle.idl_scope.specs.declared.addition.Step.TheVariants.{Stays}
+use Rattle.idl_scope.specs.declared.answer.Scope.{Scope}
+use Rattle.idl_scope.specs.declared.identity.Identity.{Identity}
 use Rattle.idl_site.specs.Item.{Item, items_length}
 use Rattle.idl_site.specs.declared.site.Use.{Use}
 use Rattle.idl_tree.specs.declared.name.ScopedName.{ScopedName}
+use Rattle.idl_tree.specs.declared.pragma.Pragma.{Pragma}
+use Rattle.idl_unit.specs.declared.fault.Fault.{Fault}
 
 abbrev pub held_values : ToldValues → Values
 held_values values = record {
@@ -67,3 +77,18 @@ given_noted turns way name w =
 -- the numbers of the tokens of these sites fit into a word
 abbrev pub HasRoomFor : Walk → List Item → Type 0
 HasRoomFor w sites = w.at + items_length sites ≤ 18446744073709551615
+
+-- a pragma, by what it says
+abbrev pub spoken : ℕ → List Scope → Pragma → Lookup Verdict
+spoken turns scopes p = and_then (said turns scopes p) (λ s. Done (pragma_verdict s))
+
+-- what a pragma says of what its name denotes, or of the name's fault
+abbrev pub said_of : (Identity → List Fault) → (Identity → Identity)
+    → Result (Option Named) Fault → Said
+said_of faults change (Ok None) = refused_for []
+said_of faults change (Ok (Some n)) = record {
+  faults = faults n.identity;
+  additions = Identifies n.path (change n.identity) ∷ [];
+  step = Stays;
+}
+said_of faults change (Err fault) = refused_for (fault ∷ [])

@@ -1,24 +1,28 @@
 -- What the laws of verdicts speak of.
-use Rattle.std.specs.Prelude.{◌≡◌, ◌<◌, ◌≤◌, ◌⊎◌, ◌+◌, ℕ, max, false, List, [], ◌∷◌, flat_map, Option, None, Some}
+use Rattle.std.specs.Prelude.{◌≡◌, ◌<◌, ◌≤◌, ◌⊎◌, ◌+◌, ℕ, max, Bool, false, List, [], ◌∷◌, flat_map, Option, None, Some}
 use Rattle.idl_check.specs.AllFaults.{site_faults}
 use Rattle.idl_check.specs.Placing.{is_misplaced, opened_kind, opening_faults}
+use Rattle.idl_check.specs.Pragmas.{said}
 use Rattle.idl_check.specs.Verdict.{sound}
 use Rattle.idl_check.specs.Walk.{Walk, begin_of, first_walk, visit}
 use Rattle.idl_check.specs.declared.verdict.Verdict.{Verdict}
 use Rattle.idl_event.specs.Code.{number_of}
 use Rattle.idl_lex.specs.Tokens.{Token}
 use Rattle.idl_memo.specs.Query.{outcome}
+use Rattle.idl_scope.specs.Facts.{scopes_in}
 use Rattle.idl_scope.specs.declared.addition.Step.{Step}
 use Rattle.idl_scope.specs.declared.addition.Step.TheVariants.{Opens, OpensNameless}
 use Rattle.idl_scope.specs.declared.answer.Answer.{Answer}
 use Rattle.idl_scope.specs.declared.answer.Scope.{Scope}
 use Rattle.idl_scope.specs.declared.key.Key.{Key}
-use Rattle.idl_scope.specs.declared.key.Key.TheVariants.{Nameless}
+use Rattle.idl_scope.specs.declared.key.Key.TheVariants.{Cursor, Nameless}
 use Rattle.idl_site.specs.Item.{Item, item_length, items, Item as item}
 use Rattle.idl_site.specs.UnitParts.{unit_parts}
 use Rattle.idl_tree.specs.Lexeme.{lexemes}
+use Rattle.idl_tree.specs.Pragma.{pragma_of}
 use Rattle.idl_tree.specs.Unit.{spell}
 use Rattle.idl_tree.specs.declared.name.ScopedName.{ScopedName}
+use Rattle.idl_tree.specs.declared.pragma.Pragma.{Pragma}
 use Rattle.idl_tree.specs.declared.unit.Tree.{Tree}
 use Rattle.idl_unit.specs.TokenRules.{token_faults}
 use Rattle.idl_unit.specs.declared.fault.Fault.{Fault}
@@ -77,3 +81,20 @@ pub record IsSound (turns : ℕ) (answers : Key → Option Answer) (scopes : Lis
       verdict
       ≡ sound tokens scopes tree
       (walked turns answers (items (unit_parts tree)) (first_walk scopes))
+
+-- No rule refuses the pragma that the tokens are, and nothing is wrong with what it says; and that
+-- is what it adds.
+pub record IsSpoken (turns : ℕ) (answers : Key → Option Answer) (tokens : List Token)
+    (inside : Bool) (verdict : Verdict) : Type 0 where
+  pub pragma : Pragma
+  pub outside : inside ≡ false
+  pub formed : pragma_of tokens ≡ Some pragma
+  pub sound : (outcome (said turns (scopes_in (answers Cursor)) pragma) answers).faults ≡ []
+  pub is :
+      let s = outcome (said turns (scopes_in (answers Cursor)) pragma) answers in
+      verdict
+      ≡ record {
+        fault = None;
+        writes = record { additions = s.additions; step = s.step };
+        row = None;
+      }

@@ -3,6 +3,8 @@ pub mod Types
 pub mod Labels
 pub mod Values
 pub mod Declaring
+pub mod Identifying
+pub mod Pragmas
 pub mod Using
 pub mod Walk
 pub mod Placing

@@ -1,8 +1,9 @@
 -- The verdict of a unit: its fault, what it adds, and its row in the dump. A fault is found in
 -- three steps: the rules of tokens, the tree, and the rules over tree and names.
-use Rattle.std.specs.Prelude.{ℕ, suc, ◌-◌, List, [], ◌∷◌, ◌++◌, length, false, Option, None, Some, Result, Ok, if◌then◌else◌}
+use Rattle.std.specs.Prelude.{ℕ, Bool, suc, ◌-◌, List, [], ◌∷◌, ◌++◌, length, false, Option, None, Some, Result, Ok, if◌then◌else◌}
 use Rattle.idl_check.specs.Declaring.{with_finished}
 use Rattle.idl_check.specs.Placing.{depth, faulty_step, is_misplaced, opened_kind, opening_faults, step_of}
+use Rattle.idl_check.specs.Pragmas.{Said, said_by}
 use Rattle.idl_check.specs.Row.{Rest, row_of}
 use Rattle.idl_check.specs.Walk.{Walk, first_walk, walk}
 use Rattle.idl_check.specs.declared.verdict.Verdict.{Verdict}
@@ -20,6 +21,7 @@ use Rattle.idl_site.specs.Item.{Item, items, Item as item}
 use Rattle.idl_site.specs.UnitParts.{unit_parts}
 use Rattle.idl_syntax.specs.Parse.{pragma_faults}
 use Rattle.idl_tree.specs.Lexeme.{Lexeme, lexemes}
+use Rattle.idl_tree.specs.Pragma.{pragma_of}
 use Rattle.idl_tree.specs.ReadUnit.{unit_at}
 use Rattle.idl_tree.specs.declared.unit.Tree.{Tree}
 use Rattle.idl_tree.specs.declared.unit.Tree.TheVariants as tree
@@ -127,17 +129,29 @@ token_verdict turns tokens scopes =
       | None ↦ by_tree turns tokens scopes
     ]
 
--- a pragma, which adds nothing as yet
-abbrev pub pragma_verdict : Option Fault → Verdict
-pragma_verdict fault = record {
-  fault = fault;
-  writes = record { additions = []; step = Stays };
-  row = None;
-}
+-- a pragma that says this
+abbrev pub pragma_verdict : Said → Verdict
+pragma_verdict s =
+    elim (least_fault s.faults) [
+      | Some fault ↦ faulty fault Stays
+      | None ↦ record {
+        fault = None;
+        writes = record { additions = s.additions; step = s.step };
+        row = None;
+      }
+    ]
+
+-- a pragma inside a unit of tokens or outside, in these scopes
+abbrev pub pragma_judged : ℕ → List Token → Bool → List Scope → Lookup Verdict
+pragma_judged turns tokens inside scopes =
+    elim (least_fault (pragma_faults tokens inside)) [
+      | Some fault ↦ Done (faulty fault Stays)
+      | None ↦ and_then (said_by turns scopes (pragma_of tokens)) (λ s. Done (pragma_verdict s))
+    ]
 
 -- a unit
 unfoldable pub verdict : ℕ → UnitText → Lookup Verdict
 verdict turns (unit.Tokens tokens) =
     Ask Cursor (λ cursor. token_verdict turns tokens (scopes_in cursor))
 verdict turns (unit.Pragma tokens inside) =
-    Ask Cursor (λ cursor. Done (pragma_verdict (least_fault (pragma_faults tokens inside))))
+    Ask Cursor (λ cursor. pragma_judged turns tokens inside (scopes_in cursor))

@@ -110,7 +110,7 @@ declared_visit w s e standing = record {
   faults = faults_by w.at (declared_table s standing e);
   after = record w {
     at = w.at + 1;
-    own = with_declared standing.there e w.own;
+    own = with_declared standing e w.own;
     begun = w.begun ++ (if stage_eq e.stage Begun then e ∷ [] else []);
     written = written_after w.written e;
     alias = if kind_eq e.kind Alias then Some e else w.alias;
@@ -275,9 +275,8 @@ unfoldable pub visit : ℕ → Item → Walk → Lookup Visit
 visit turns (item.Declared way name) w =
     elim (first w.cursor) [
       | None ↦ Done (quiet (passed 1 w))
-      | Some s ↦ and_then (under w.own (standing turns s (folded name)))
-          (λ there.
-          Done (declared_visit w s (entity_of w.written way name s.path) there))
+      | Some s ↦ let e = entity_of w.written way name s.path in
+          and_then (under w.own (standing turns s e)) (λ there. Done (declared_visit w s e there))
     ]
 visit turns (item.Used way name) w =
     if w.gives_back then given_back turns way name w else used turns way name w

@@ -1,14 +1,16 @@
 //! Declared names: what they are declared as, and what is wrong with that.
 
 ghost use Rattle.std.specs.Prelude.{◌≡◌, ◌∷◌, [], IfOk, IfSome, OnOk, Some};
-ghost use Rattle.idl_check.specs.Declaring.{are_modules, come_ahead, declared_table, differs, entity_of, enumerators_in, finished, is_local_in, is_name_of_scope, kind_of, may_be_ahead, may_follow, meaning_in, stage_of, stays, value_in, written_after};
+ghost use Rattle.idl_check.specs.Declaring.{are_modules, come_ahead, declared_table, differs, entity_of, enumerators_in, finished, is_local_in, is_name_of_scope, kind_of, may_follow, meaning_in, stage_of, stays, value_in, written_after};
 ghost use Rattle.idl_check.specs.Held.{held_written};
+ghost use Rattle.idl_check.specs.Identifying.{may_be_ahead};
 ghost use Rattle.idl_scope.specs.declared.entity.Meaning.TheVariants as meaning;
 ghost use Rattle.idl_check.specs.Codes.{codes_in};
 ghost use Rattle.idl_scope.specs.Path.{path_eq};
 ghost use Rattle.idl_unit.specs.TokenRules.{first};
 
 use crate::codes::first_code;
+use crate::identifying::{is_of_other_prefix, may_be_ahead};
 use crate::standing::Standing;
 use crate::types::names_of;
 use idl_base::Seq;
@@ -257,13 +259,6 @@ pub fn array_of(alloc: Global, alias: &Entity) -> Result<Shared<Entity>, AllocEr
     Shared::new(alloc, entity)
 }
 
-// Whether it may be declared ahead.
-fn may_be_ahead(kind: Kind) -> bool
-    ensures { result ≡ may_be_ahead kind }
-{
-    kind == Kind::Interface || kind == Kind::Structure || kind == Kind::Union
-}
-
 // Whether one of them is declared ahead, and both may be.
 fn come_ahead(old: &Entity, new: &Entity) -> bool
     ensures { result ≡ come_ahead old.now new.now }
@@ -330,6 +325,7 @@ pub fn declared_code(
         (standing.is_used, Code::DeclaredAfterUse),
         (is_other, Code::OtherForward),
         (standing.is_inherited, Code::InheritedTwice),
+        (is_of_other_prefix(&standing.ids), Code::OtherPrefix),
     ]))
 }
 

@@ -234,7 +234,12 @@ impl<'a> Judge<'a> {
                 log.ask(&key, self.env)?;
                 Ok(())
             }
-            Step::Stays | Step::OpensNameless(_) | Step::Closes => Ok(()),
+            Step::Stays
+            | Step::OpensNameless(_)
+            | Step::Closes
+            | Step::Prefixes(_)
+            | Step::Enters
+            | Step::Leaves => Ok(()),
         }
     }
 }

@@ -6,13 +6,14 @@
 ghost use Rattle.std.specs.Prelude.{◌≡◌, ◌≢◌, ◌↔◌, ◌+◌, ◌<◌, ◌≤◌, Bool, ℕ, List, [], ◌∷◌, All, Contains, codes, false, length, take, None, Option, Some};
 ghost use Rattle.idl_check.specs.AllFaults.{site_faults, unit_faults};
 ghost use Rattle.idl_check.specs.Placing.{faulty_step, step_of};
-ghost use Rattle.idl_check.specs.Judging.{IsNotAfter, IsSound, refused_keys, spoken_from, spoken_till, used_names, walked, without_name};
+ghost use Rattle.idl_check.specs.Judging.{IsNotAfter, IsSound, IsSpoken, refused_keys, spoken_from, spoken_till, used_names, walked, without_name};
 ghost use Rattle.idl_check.specs.Row.{Rest, unit_text};
-ghost use Rattle.idl_check.specs.Verdict.{faulty, first_faults, pragma_verdict, tree_of, verdict};
+ghost use Rattle.idl_check.specs.Verdict.{faulty, first_faults, tree_of, verdict};
 ghost use Rattle.idl_check.specs.Walk.{Walk, visit};
 ghost use Rattle.idl_lex.specs.Tokens.{Token};
 ghost use Rattle.idl_memo.specs.Query.{asked, outcome};
 ghost use Rattle.idl_scope.specs.Facts.{scopes_in};
+ghost use Rattle.idl_scope.specs.declared.addition.Step.TheVariants.{Stays};
 ghost use Rattle.idl_scope.specs.declared.answer.Answer.{Answer};
 ghost use Rattle.idl_scope.specs.declared.key.Key.{Key};
 ghost use Rattle.idl_scope.specs.declared.key.Key.TheVariants.{Cursor};
@@ -20,7 +21,9 @@ ghost use Rattle.idl_site.specs.Item.{Item, items, items_length};
 ghost use Rattle.idl_site.specs.UnitParts.{unit_parts};
 ghost use Rattle.idl_syntax.specs.Parse.{pragma_faults};
 ghost use Rattle.idl_tree.specs.Lexeme.{lexemes};
+ghost use Rattle.idl_tree.specs.Pragma.{pragma_of};
 ghost use Rattle.idl_tree.specs.Unit.{spell};
+ghost use Rattle.idl_tree.specs.declared.pragma.Pragma.TheVariants as pragma;
 ghost use Rattle.idl_tree.specs.declared.unit.Tree.{Tree};
 ghost use Rattle.idl_unit.specs.Faults.{least_fault};
 ghost use Rattle.idl_unit.specs.declared.fault.Fault.{Fault};
@@ -48,7 +51,7 @@ pub fn least()
 
 /// A faulty unit of tokens adds nothing but its step, which its tokens alone tell: an opening opens
 /// a nameless scope, a closing closes, and any other changes no open scope. That is what it would
-/// do without fault, but for the name. It has no row. A pragma adds nothing in any case.
+/// do without fault, but for the name. It has no row. A faulty pragma adds nothing at all.
 pub fn refusal()
     ensures tokens { (turns : ℕ) (tokens : List Token) (answers : Key → Option Answer)
         (fault : Fault)
@@ -58,14 +61,14 @@ pub fn refusal()
     ensures step { (tokens : List Token) (tree : Tree) (scope : List (List ℕ))
         → lexemes tokens ≡ spell tree → faulty_step tokens ≡ without_name (step_of tree scope) }
     ensures pragma { (turns : ℕ) (tokens : List Token) (inside : Bool)
-        (answers : Key → Option Answer)
-        → outcome (verdict turns (unit.Pragma tokens inside)) answers
-        ≡ pragma_verdict (least_fault (pragma_faults tokens inside)) }
+        (answers : Key → Option Answer) (fault : Fault)
+        → (outcome (verdict turns (unit.Pragma tokens inside)) answers).fault ≡ Some fault
+        → outcome (verdict turns (unit.Pragma tokens inside)) answers ≡ faulty fault Stays }
 {}
 
 /// Where a unit of tokens has no fault, no rule of tokens refuses it, and it is the spelling of a
 /// tree, which stands where it may. At none of its sites is a fault, and what it adds is what all
-/// of these come to.
+/// of these come to. A pragma without fault stands outside, and adds what it says.
 pub fn acceptance()
     ensures sound { (turns : ℕ) (tokens : List Token) (answers : Key → Option Answer)
         → (outcome (verdict turns (unit.Tokens tokens)) answers).fault ≡ None
@@ -73,6 +76,11 @@ pub fn acceptance()
         (outcome (verdict turns (unit.Tokens tokens)) answers) }
     ensures tree { (tokens : List Token) (tree : Tree)
         → (tree_of tokens ≡ Some tree) ↔ (lexemes tokens ≡ spell tree) }
+    ensures pragma { (turns : ℕ) (tokens : List Token) (inside : Bool)
+        (answers : Key → Option Answer)
+        → (outcome (verdict turns (unit.Pragma tokens inside)) answers).fault ≡ None
+        → IsSpoken turns answers tokens inside
+        (outcome (verdict turns (unit.Pragma tokens inside)) answers) }
 {}
 
 /// At a site a walk has come to the number of its first token, whatever is wrong before, and the
@@ -88,6 +96,11 @@ pub fn numbering()
         (fault : Fault)
         → tokens ≢ []
         → (outcome (verdict turns (unit.Tokens tokens)) answers).fault ≡ Some fault
+        → fault.index < length tokens }
+    ensures pragma { (turns : ℕ) (tokens : List Token) (inside : Bool)
+        (answers : Key → Option Answer) (fault : Fault)
+        → tokens ≢ []
+        → (outcome (verdict turns (unit.Pragma tokens inside)) answers).fault ≡ Some fault
         → fault.index < length tokens }
 {}
 
@@ -106,7 +119,8 @@ pub fn wording()
 {}
 
 /// A unit that the rules of tokens refuse, or that no tree spells, asks for the open scopes, and as
-/// an opening for the nameless ones; nothing else.
+/// an opening for the nameless ones; nothing else. A pragma that is refused by its form or place
+/// asks for the open scopes alone, and so does one of a prefix.
 pub fn questions()
     ensures rules { (turns : ℕ) (tokens : List Token) (answers : Key → Option Answer)
         → first_faults tokens (scopes_in (answers Cursor)) ≢ []
@@ -116,5 +130,10 @@ pub fn questions()
         → asked (verdict turns (unit.Tokens tokens)) answers ≡ Cursor ∷ refused_keys tokens }
     ensures pragma { (turns : ℕ) (tokens : List Token) (inside : Bool)
         (answers : Key → Option Answer)
+        → pragma_faults tokens inside ≢ []
+        → asked (verdict turns (unit.Pragma tokens inside)) answers ≡ Cursor ∷ [] }
+    ensures prefix { (turns : ℕ) (tokens : List Token) (inside : Bool)
+        (answers : Key → Option Answer) (text : List ℕ)
+        → pragma_of tokens ≡ Some (pragma.Prefix text)
         → asked (verdict turns (unit.Pragma tokens inside)) answers ≡ Cursor ∷ [] }
 {}

@@ -9,12 +9,14 @@
 mod bases;
 mod codes;
 mod declaring;
+mod identifying;
 mod judge;
 mod labels;
 mod laws;
 mod naming;
 mod part;
 mod placing;
+mod pragmas;
 mod row;
 mod standing;
 mod task;

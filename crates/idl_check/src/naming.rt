@@ -1,13 +1,15 @@
 //! The walk over declared and used names.
 
 ghost use Rattle.std.specs.Prelude.{◌≡◌, ◌≤◌, ◌+◌, ◌∷◌, ◌++◌, [], ℕ, IfOk, None, OnOk, Some, false, length, if◌then◌else◌};
-ghost use Rattle.idl_check.specs.Declaring.{with_declared};
+ghost use Rattle.idl_check.specs.Declaring.{stays};
+ghost use Rattle.idl_check.specs.Identifying.{with_identity};
+ghost use Rattle.idl_scope.specs.declared.addition.Addition.TheVariants.{Declares};
 ghost use Rattle.idl_check.specs.Held.{HasRoomFor, given_noted, head_noted, held, held_values, held_written, used_noted, visited};
 ghost use Rattle.idl_check.specs.Types.{constants_of};
 ghost use Rattle.idl_check.specs.Using.{bases_after, last_at, meaning_after, name_code, part_at, unions_after, values_after};
 ghost use Rattle.idl_check.specs.Walk.{declared_visit, noted, noted_in, unions_without, used_visit};
 ghost use Rattle.idl_memo.specs.Query.{run};
-ghost use Rattle.idl_scope.specs.Facts.{answers};
+ghost use Rattle.idl_scope.specs.Facts.{answers, with_addition};
 ghost use Rattle.idl_scope.specs.Key.{key_eq};
 ghost use Rattle.idl_scope.specs.Kind.{kind_eq, stage_eq};
 ghost use Rattle.idl_scope.specs.declared.kind.Kind.TheVariants.{Alias};
@@ -19,6 +21,7 @@ ghost use Rattle.idl_unit.specs.TokenRules.{fault_at};
 
 use crate::bases::Bases;
 use crate::declaring::{declared_code, stays};
+use crate::identifying::first_identity;
 use crate::labels::Labels;
 use crate::part::front;
 use crate::standing::{Standing, standing_of};
@@ -63,8 +66,7 @@ impl<'a> Walker<'a> {
         let scope = innermost.clone()?;
         let spelled = shared_name(alloc, name.as_bytes())?;
         let entity = self.written.entity(alloc, way, &spelled, &scope.path)?;
-        let folded = entity.get().path.folded(alloc)?;
-        let standing = standing_of(self.view(), log, &scope, &folded)?;
+        let standing = standing_of(self.view(), log, &scope, entity.get())?;
         self.declare_as(&scope, entity, &standing)?;
         Ok(())
     }
@@ -89,6 +91,7 @@ impl<'a> Walker<'a> {
         keep_begun(&mut self.begun, &entity)?;
         self.written.declare(self.env.alloc(), entity.get())?;
         keep_alias(&mut self.alias, &entity)?;
+        add_identity(self.env.alloc(), &mut self.own, standing, entity.get())?;
         add_declared(&mut self.own, &standing.there, entity)?;
         Ok(())
     }
@@ -361,6 +364,27 @@ fn keep_alias(alias: &mut Option<Shared<Entity>>, entity: &Shared<Entity>) -> Re
     Ok(())
 }
 
+// Puts in the id of what is declared first.
+fn add_identity(
+    alloc: Global,
+    own: &mut Facts,
+    standing: &Standing,
+    entity: &Entity,
+) -> Result<(), AllocError>
+    ensures { OnOk result
+        (own.new
+        ≡ record own.old {
+          additions =
+              with_identity standing.now.there standing.now.ids entity.now own.old.additions;
+        }) }
+{
+    let (None, Some(ids)) = (&standing.there, &standing.ids) else {
+        return Ok(());
+    };
+    let identity = first_identity(alloc, ids.prefix.get(), &entity.path)?;
+    own.add(Addition::Identifies(entity.path.clone()?, identity))
+}
+
 // Puts in what a declared name adds.
 fn add_declared(
     own: &mut Facts,
@@ -369,7 +393,11 @@ fn add_declared(
 ) -> Result<(), AllocError>
     ensures { OnOk result
         (own.new
-        ≡ record own.old { additions = with_declared there.now entity own.old.additions }) }
+        ≡ record own.old {
+          additions =
+              if stays there.now entity then own.old.additions
+              else with_addition own.old.additions (Declares entity);
+        }) }
 {
     if stays(there, entity.get()) {
         return Ok(());

@@ -11,6 +11,7 @@ ghost use Rattle.idl_scope.specs.Lookup.{bases_of, under};
 ghost use Rattle.idl_scope.specs.declared.key.Key.TheVariants.{Declared, Introduced};
 ghost use Rattle.idl_scope.specs.declared.lookup.TheConstants.{TURNS};
 
+use crate::identifying::{Ids, ids_of};
 use idl_lex::Spelling;
 use idl_memo::Log;
 use idl_scope::{Entity, Env, Key, Path, Scope, Shared, View};
@@ -24,6 +25,8 @@ pub struct Standing {
     pub is_used: bool,
     /// Whether an operation or attribute is inherited under it.
     pub is_inherited: bool,
+    /// What is told of its id, if it has one.
+    pub ids: Option<Ids>,
 }
 
 impl Drop for Standing {
@@ -32,29 +35,33 @@ impl Drop for Standing {
             there: _there,
             is_used: _is_used,
             is_inherited: _is_inherited,
+            ids: _ids,
         } = self;
     }
 }
 
-/// What stands under a folded name in a scope.
+/// What stands under the name of an entity in the scope in which it is declared.
 pub fn standing_of(
     view: View<'_>,
     log: &mut Log<Env>,
     scope: &Scope,
-    name: &Spelling,
+    new: &Entity,
 ) -> Result<Standing, AllocError>
     ensures { IfOk result (λ found. (turns : ℕ) → TURNS ≤ turns →
         (found, log.new)
-        ≡ run key_eq (under view.entry.own.now.additions (standing turns scope.now name.now))
+        ≡ run key_eq (under view.entry.own.now.additions (standing turns scope.now new.now))
         (answers view.entry.env.now) log.old) }
 {
-    let there = there(view, log, scope, name)?;
-    let is_used = is_used(view, log, scope, name)?;
-    let is_inherited = is_inherited(view, log, scope, name)?;
+    let name = new.path.folded(view.env.alloc())?;
+    let there = there(view, log, scope, &name)?;
+    let is_used = is_used(view, log, scope, &name)?;
+    let is_inherited = is_inherited(view, log, scope, &name)?;
+    let ids = ids_of(view, log, &there, new)?;
     Ok(Standing {
         there,
         is_used,
         is_inherited,
+        ids,
     })
 }
 

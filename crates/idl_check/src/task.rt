@@ -1,21 +1,17 @@
 //! The task: the verdict of a unit.
 
-ghost use Rattle.std.specs.Prelude.{◌≡◌, ◌≤◌, ℕ, Bool, IfOk, List};
-ghost use Rattle.idl_check.specs.Verdict.{pragma_verdict, verdict};
+ghost use Rattle.std.specs.Prelude.{◌≡◌, ◌≤◌, ℕ, IfOk};
+ghost use Rattle.idl_check.specs.Verdict.{verdict};
 ghost use Rattle.idl_memo.specs.Query.{run};
 ghost use Rattle.idl_scope.specs.Facts.{answers};
 ghost use Rattle.idl_scope.specs.Key.{key_eq};
 ghost use Rattle.idl_scope.specs.declared.lookup.TheConstants.{TURNS};
-ghost use Rattle.idl_syntax.specs.Parse.{rule_faults};
-ghost use Rattle.idl_lex.specs.Tokens.{Token};
-ghost use Rattle.idl_unit.specs.Faults.{least_fault};
-ghost use Rattle.idl_unit.specs.declared.unit.UnitText.TheVariants as unit;
 
 use crate::judge::Judge;
-use crate::verdict::{Verdict, adding};
+use crate::pragmas::Speaker;
+use crate::verdict::Verdict;
 use idl_memo::{Log, Task, TaskKind};
-use idl_scope::{Env, Key, Step, scopes_in};
-use idl_syntax::{SyntaxFault, parse};
+use idl_scope::{Env, Key, scopes_in};
 use idl_unit::UnitText;
 use std::alloc::{AllocError, Global};
 
@@ -67,18 +63,14 @@ fn verdict_of(env: &Env, log: &mut Log<Env>, text: &UnitText) -> Result<Verdict,
             };
             judge.verdict(log, text)
         }
-        UnitText::Pragma(_tokens, _inside) => pragma_verdict(env.alloc(), text),
-    }
-}
-
-// The verdict of a pragma.
-fn pragma_verdict(alloc: Global, text: &UnitText) -> Result<Verdict, AllocError>
-    requires { (tokens : List Token) × (inside : Bool) × (text.now ≡ unit.Pragma tokens inside) }
-    ensures { IfOk result (λ v. v ≡ pragma_verdict (least_fault (rule_faults text.now))) }
-{
-    match parse(alloc, text) {
-        Ok(_tree) => adding(alloc, None, Step::Stays),
-        Err(SyntaxFault::Rule(fault)) => adding(alloc, Some(fault), Step::Stays),
-        Err(SyntaxFault::Memory) | Err(SyntaxFault::NoTree(_)) => Err(AllocError),
+        UnitText::Pragma(tokens, inside) => {
+            let speaker = Speaker {
+                env,
+                tokens,
+                inside: *inside,
+                scopes,
+            };
+            speaker.verdict(log, text)
+        }
     }
 }

@@ -1,39 +1,62 @@
 -- What comes of a root, unit by unit.
-use Rattle.std.proofs.Common.{◌≡◌, List, [], ◌∷◌, ◌++◌, flat_map, ap, ◌∙◌, append-nil, append_assoc}
+use Rattle.std.proofs.Common.{◌≡◌, ℕ, List, [], ◌∷◌, ◌++◌, flat_map, refl, ap, sym, ◌∙◌, append-nil, append_assoc}
 use Rattle.std.specs.List.{enumerate_from}
+use Rattle.std.proofs.lemmas.Grind.{flat_map-append}
 use Rattle.idl_event.specs.declared.event.Event.{Event}
 use Rattle.idl_root.specs.Compile.{Outcome, outcome_of, row_in}
 use Rattle.idl_root.specs.Findings.{event_finding, unit_finding}
 use Rattle.idl_root.specs.Held.{to_come, with_judged}
-use Rattle.idl_root.specs.Judged.{Judged, facts_of, judged_after, judged_over}
+use Rattle.idl_root.specs.Judged.{added, boundary, facts_after, judged_after, judged_at, judged_over}
+use Rattle.idl_scope.specs.declared.addition.Step.TheVariants.{Enters, Leaves}
 use Rattle.idl_unit.specs.Units.{units_of}
 use Rattle.idl_unit.specs.declared.unit.Site.{Site}
 use Rattle.idl_unit.specs.declared.unit.Unit.{Unit as RootUnit}
-use Rattle.idl_unit.specs.declared.unit.Unit.TheVariants.{Spelled}
+use Rattle.idl_unit.specs.declared.unit.Unit.TheVariants.{Spelled, Entered, Left, End}
 use Rattle.idl_unit.specs.declared.unit.UnitText.{UnitText}
 
--- a unit that is judged, and then those behind it
-with_judged-cons : (o : Outcome) (j : Judged) (judged : List Judged) → with_judged (with_judged o (j ∷ [])) judged ≡ with_judged o (j ∷ judged)
-with_judged-cons o j judged =
-    let facts = append_assoc o.facts (j.verdict.writes ∷ []) (facts_of judged) in
-    let found : (o.found ++ flat_map unit_finding (j ∷ [])) ++ flat_map unit_finding judged ≡ o.found ++ flat_map unit_finding (j ∷ judged) =
-    ap (λ l. (o.found ++ l) ++ flat_map unit_finding judged) (append-nil (unit_finding j)) ∙ append_assoc o.found (unit_finding j) (flat_map unit_finding judged) in
-    let rows : (o.rows ++ flat_map row_in (j ∷ [])) ++ flat_map row_in judged ≡ o.rows ++ flat_map row_in (j ∷ judged) =
-    ap (λ l. (o.rows ++ l) ++ flat_map row_in judged) (append-nil (row_in j)) ∙ append_assoc o.rows (row_in j) (flat_map row_in judged) in
-    λ i. record { facts = facts i; found = found i; rows = rows i }
+-- what comes of one unit, and then of those behind it
+pub to_come-cons : (o next : Outcome) (u : RootUnit) (units : List RootUnit)
+    → next ≡ record { facts = o.facts ++ added o.facts u; found = o.found ++ flat_map unit_finding (judged_at o.facts u); rows = o.rows ++ flat_map row_in (judged_at o.facts u) }
+    → to_come next units ≡ to_come o (u ∷ units)
+unfolding judged_after facts_after
+to_come-cons o next u units is =
+    let facts = o.facts ++ added o.facts u in
+    let own = judged_at o.facts u in
+    let judged = judged_after facts units in
+    let found = append_assoc o.found (flat_map unit_finding own) (flat_map unit_finding judged) ∙ ap (λ l. o.found ++ l) (sym (flat_map-append unit_finding own judged)) in
+    let rows = append_assoc o.rows (flat_map row_in own) (flat_map row_in judged) ∙ ap (λ l. o.rows ++ l) (sym (flat_map-append row_in own judged)) in
+    ap (λ n. to_come n units) is ∙ (λ i. record { facts = facts_after facts units; found = found i; rows = rows i })
 
--- what comes of a unit with tokens, and then of those behind it
-pub to_come-spelled : (o next : Outcome) (text : UnitText) (sites : List Site) (units : List RootUnit) → next ≡ with_judged o (judged_over o.facts text sites ∷ [])
+-- a unit with tokens
+pub to_come-spelled : (o next : Outcome) (text : UnitText) (sites : List Site) (units : List RootUnit) → next ≡ with_judged o (judged_over o.facts text sites)
     → to_come next units ≡ to_come o (Spelled text sites ∷ units)
-unfolding judged_after
 to_come-spelled o next text sites units is =
     let j = judged_over o.facts text sites in
-    ap (λ n. to_come n units) is ∙ with_judged-cons o j (judged_after (o.facts ++ j.verdict.writes ∷ []) units)
+    to_come-cons o next (Spelled text sites) units
+    (is ∙ (λ i. record { facts = o.facts ++ j.verdict.writes ∷ []; found = o.found ++ sym (append-nil (unit_finding j)) i; rows = o.rows ++ sym (append-nil (row_in j)) i }))
+
+-- a unit of which nothing is found
+pub to_come-quiet : (o next : Outcome) (u : RootUnit) (units : List RootUnit) → judged_at o.facts u ≡ [] → next ≡ record o { facts = o.facts ++ added o.facts u }
+    → to_come next units ≡ to_come o (u ∷ units)
+to_come-quiet o next u units none is =
+    let found = sym (append-nil o.found) ∙ ap (λ js. o.found ++ flat_map unit_finding js) (sym none) in
+    let rows = sym (append-nil o.rows) ∙ ap (λ js. o.rows ++ flat_map row_in js) (sym none) in
+    to_come-cons o next u units (is ∙ (λ i. record { facts = o.facts ++ added o.facts u; found = found i; rows = rows i }))
+
+-- a file boundary, and the end
+pub to_come-entered : (o next : Outcome) (file : List ℕ) (units : List RootUnit) → next ≡ record o { facts = o.facts ++ boundary Enters ∷ [] } → to_come next units ≡ to_come o (Entered file ∷ units)
+to_come-entered o next file units is = to_come-quiet o next (Entered file) units refl is
+
+pub to_come-left : (o next : Outcome) (file : List ℕ) (units : List RootUnit) → next ≡ record o { facts = o.facts ++ boundary Leaves ∷ [] } → to_come next units ≡ to_come o (Left file ∷ units)
+to_come-left o next file units is = to_come-quiet o next (Left file) units refl is
+
+pub to_come-over : (o : Outcome) (units : List RootUnit) → to_come o units ≡ to_come o (End ∷ units)
+to_come-over o units = to_come-quiet o o End units refl (λ i. record o { facts = sym (append-nil o.facts) i })
 
 -- nothing is to come any more
 pub to_come-end : (o : Outcome) → to_come o [] ≡ o
-unfolding judged_after
-to_come-end o = λ i. record { facts = append-nil o.facts i; found = append-nil o.found i; rows = append-nil o.rows i }
+unfolding judged_after facts_after
+to_come-end o = λ i. record { facts = o.facts; found = append-nil o.found i; rows = append-nil o.rows i }
 
 -- all is to come
 pub to_come-start : (events : List Event) (o : Outcome)

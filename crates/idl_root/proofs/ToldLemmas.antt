@@ -1,25 +1,22 @@
 -- The faults of a root's units are all told: each token of a unit stands somewhere.
-use Rattle.std.proofs.Common.{◌≡◌, ◌≢◌, ℕ, zero, suc, ◌<◌, Bool, true, false, List, [], ◌∷◌, ◌++◌, length, Option, None, Some, slice_get, is_some, if◌then◌else◌, flat_map, refl, sym, ap, ◌∙◌, arith}
+use Rattle.std.proofs.Common.{◌≡◌, ◌≢◌, ℕ, zero, suc, ◌<◌, Bool, List, [], ◌∷◌, ◌++◌, length, Option, Some, slice_get, flat_map, refl, ap, ◌∙◌, arith}
 use Rattle.std.specs.List.{AllByRecursion, enumerate_from}
 use Rattle.idl_check.specs.Verdict.{verdict}
 use Rattle.idl_check.specs.declared.verdict.Verdict.{Verdict}
-use Rattle.idl_event.specs.declared.code.Code.TheVariants.{MalformedPragma, PragmaInside}
 use Rattle.idl_event.specs.declared.event.Event.{Event}
 use Rattle.idl_event.specs.declared.event.Event.TheVariants as event
 use Rattle.idl_lex.specs.Tokens.{Token}
 use Rattle.idl_memo.specs.Query.{outcome}
-use Rattle.idl_root.specs.Findings.{fault_finding, finding_at, tokens_of}
-use Rattle.idl_root.specs.Judged.{judged_after, judged_over, verdict_over}
+use Rattle.idl_root.specs.Findings.{fault_finding, finding_at, site_of, tokens_of}
+use Rattle.idl_root.specs.Judged.{boundary, judged_after, verdict_over}
 use Rattle.idl_root.specs.Told.{IsTold}
 use Rattle.idl_scope.specs.Facts.{UnitFacts, answers}
+use Rattle.idl_scope.specs.declared.addition.Step.TheVariants.{Enters, Leaves}
 use Rattle.idl_scope.specs.declared.answer.Answer.{Answer}
 use Rattle.idl_scope.specs.declared.key.Key.{Key}
 use Rattle.idl_scope.specs.declared.lookup.TheConstants.{TURNS}
-use Rattle.idl_syntax.specs.Parse.{pragma_faults}
-use Rattle.idl_tree.specs.Pragma.{pragma_of}
 use Rattle.idl_unit.specs.Cut.{parts}
-use Rattle.idl_unit.specs.TokenRules.{fault_at}
-use Rattle.idl_unit.specs.Faults.{least_fault}
+use Rattle.idl_unit.specs.TokenRules.{first}
 use Rattle.idl_unit.specs.Units.{Numbered, sites_in, spelled, stretch_ends, stretch_units, tokens_in, unit_in, units_of}
 use Rattle.idl_unit.specs.declared.fault.Fault.{Fault}
 use Rattle.idl_unit.specs.declared.unit.Site.{Site}
@@ -27,20 +24,6 @@ use Rattle.idl_unit.specs.declared.unit.Unit.{Unit as RootUnit}
 use Rattle.idl_unit.specs.declared.unit.Unit.TheVariants.{Spelled, Entered, Left, End}
 use Rattle.idl_unit.specs.declared.unit.UnitText.{UnitText}
 use Rattle.idl_unit.specs.declared.unit.UnitText.TheVariants.{Tokens, Pragma}
-
-abbrev index_in : Option Fault → ℕ
-index_in None = 0
-index_in (Some fault) = fault.index
-
--- the fault of a pragma stands at its first token
-pub pragma-first : (tokens : List Token) (inside : Bool) (fault : Fault) → least_fault (pragma_faults tokens inside) ≡ Some fault → fault.index ≡ 0
-pragma-first tokens inside fault = by inside (is_some (pragma_of tokens))
-  where
-    by : (a b : Bool) → least_fault ((if a then fault_at 0 PragmaInside ∷ [] else []) ++ (if b then [] else fault_at 0 MalformedPragma ∷ [])) ≡ Some fault → fault.index ≡ 0
-    by true true h = ap index_in (sym h)
-    by true false h = ap index_in (sym h)
-    by false true h = ap index_in (sym h)
-    by false false h = ap index_in (sym h)
 
 -- each token has a site, and the word of a pragma has one
 abbrev AreSited : UnitText → List Site → Type 0
@@ -93,31 +76,33 @@ site-there [] i lt = absurd (omega arith)
 site-there (s ∷ sites) zero lt = (s, refl)
 site-there (s ∷ sites) (suc i) lt = site-there sites i (omega arith)
 
-told-at : (text : UnitText) (sites : List Site) (v : Verdict) → ((fault : Fault) → v.fault ≡ Some fault → fault.index < length sites)
+first-there : (sites : List Site) → 1 ≡ length sites → (site : Site) × (first sites ≡ Some site)
+first-there [] e = absurd (omega arith)
+first-there (s ∷ sites) e = (s, refl)
+
+told-at : (text : UnitText) (sites : List Site) (v : Verdict) → ((fault : Fault) → v.fault ≡ Some fault → (site : Site) × (site_of text sites fault.index ≡ Some site))
     → IsTold (record { text = text; sites = sites; verdict = v })
-told-at text sites v within fault is =
-    let there = site-there sites fault.index (within fault is) in
+told-at text sites v there fault is =
     let token = slice_get (tokens_of text) fault.index in
-    (_, (ap (fault_finding text sites) is ∙ ap (λ s. finding_at fault.code s token) there.1, refl))
+    (_, (ap (fault_finding text sites) is ∙ ap (λ s. finding_at fault.code s token) (there fault is).1, refl))
 
 module _
     (numbered : (turns : ℕ) (tokens : List Token) (answers : Key → Option Answer) (fault : Fault) → tokens ≢ []
     → (outcome (verdict turns (Tokens tokens)) answers).fault ≡ Some fault → fault.index < length tokens)
-    (pragmas : (turns : ℕ) (tokens : List Token) (inside : Bool) (answers : Key → Option Answer) (fault : Fault)
-    → (outcome (verdict turns (Pragma tokens inside)) answers).fault ≡ Some fault → fault.index ≡ 0)
   where
-    within : (facts : List UnitFacts) (text : UnitText) (sites : List Site) → AreSited text sites → (fault : Fault) → (verdict_over facts text).fault ≡ Some fault → fault.index < length sites
-    within facts (Tokens tokens) sites are fault is = omega (arith, are.1, numbered TURNS tokens (answers facts) fault are.0 is)
-    within facts (Pragma tokens inside) sites are fault is = omega (arith, are, pragmas TURNS tokens inside (answers facts) fault is)
+    there : (facts : List UnitFacts) (text : UnitText) (sites : List Site) → AreSited text sites → (fault : Fault) → (verdict_over facts text).fault ≡ Some fault
+        → (site : Site) × (site_of text sites fault.index ≡ Some site)
+    there facts (Tokens tokens) sites are fault is = site-there sites fault.index (omega (arith, are.1, numbered TURNS tokens (answers facts) fault are.0 is))
+    there facts (Pragma tokens inside) sites are fault is = first-there sites are
 
     judged-told : (facts : List UnitFacts) (units : List RootUnit) → AllByRecursion IsSited units → AllByRecursion IsTold (judged_after facts units)
     unfolding judged_after
     judged-told facts [] are = tt
     judged-told facts (Spelled text sites ∷ units) are =
-        (told-at text sites (verdict_over facts text) (within facts text sites are.0), judged-told (facts ++ (verdict_over facts text).writes ∷ []) units are.1)
-    judged-told facts (Entered file ∷ units) are = judged-told facts units are.1
-    judged-told facts (Left file ∷ units) are = judged-told facts units are.1
-    judged-told facts (End ∷ units) are = judged-told facts units are.1
+        (told-at text sites (verdict_over facts text) (there facts text sites are.0), judged-told (facts ++ (verdict_over facts text).writes ∷ []) units are.1)
+    judged-told facts (Entered file ∷ units) are = judged-told (facts ++ boundary Enters ∷ []) units are.1
+    judged-told facts (Left file ∷ units) are = judged-told (facts ++ boundary Leaves ∷ []) units are.1
+    judged-told facts (End ∷ units) are = judged-told (facts ++ []) units are.1
 
     pub units-told : (events : List Event) → AllByRecursion IsTold (judged_after [] (units_of events))
     units-told events = judged-told [] (units_of events) (units-sited events)

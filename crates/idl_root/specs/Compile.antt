@@ -7,14 +7,15 @@ use Rattle.idl_event.specs.declared.code.Code.TheVariants.{OpenScope}
 use Rattle.idl_event.specs.declared.event.Event.{Event}
 use Rattle.idl_event.specs.declared.place.Place.{Place}
 use Rattle.idl_root.specs.Findings.{event_finding, in_order, unit_finding}
-use Rattle.idl_root.specs.Judged.{Judged, facts_of, judged_units}
+use Rattle.idl_root.specs.Judged.{Judged, facts_after, judged_after}
 use Rattle.idl_root.specs.declared.compiled.Compiled.{Compiled}
 use Rattle.idl_root.specs.declared.finding.Finding.{Finding}
 use Rattle.idl_scope.specs.Facts.{UnitFacts, answers, scopes_in}
 use Rattle.idl_scope.specs.declared.key.Key.TheVariants.{Cursor}
 use Rattle.idl_unit.specs.Units.{units_of}
 
--- what comes of a root: the facts that its units add, what is found, and the rows of the dump
+-- what comes of a root: the facts that its units and file boundaries add, what is found, and the
+-- rows of the dump
 pub record Outcome : Type 0 where
   pub facts : List UnitFacts
   pub found : List Finding
@@ -32,9 +33,9 @@ findings events judged =
 -- what comes of these events
 abbrev pub outcome_of : List Event → Outcome
 outcome_of events =
-    let judged = judged_units (units_of events) in
+    let judged = judged_after [] (units_of events) in
     record {
-      facts = facts_of judged;
+      facts = facts_after [] (units_of events);
       found = findings events judged;
       rows = flat_map row_in judged;
     }

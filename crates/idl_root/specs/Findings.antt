@@ -1,11 +1,12 @@
 -- What is found in a root, and the order in which it is told.
-use Rattle.std.specs.Prelude.{List, [], ◌∷◌, nat_le, slice_get, Option, None, Some, if◌then◌else◌}
+use Rattle.std.specs.Prelude.{ℕ, List, [], ◌∷◌, nat_le, slice_get, Option, None, Some, if◌then◌else◌}
 use Rattle.idl_event.specs.Diagnostic.{diagnostic_row}
 use Rattle.idl_event.specs.declared.code.Code.{Code}
 use Rattle.idl_event.specs.declared.event.Event.TheVariants as event
 use Rattle.idl_lex.specs.Tokens.{Token}
 use Rattle.idl_root.specs.Judged.{Judged}
 use Rattle.idl_root.specs.declared.finding.Finding.{Finding}
+use Rattle.idl_unit.specs.TokenRules.{first}
 use Rattle.idl_unit.specs.Units.{Numbered}
 use Rattle.idl_unit.specs.declared.fault.Fault.{Fault}
 use Rattle.idl_unit.specs.declared.unit.Site.{Site}
@@ -17,6 +18,11 @@ abbrev pub tokens_of : UnitText → List Token
 tokens_of (Tokens tokens) = tokens
 tokens_of (Pragma tokens inside) = tokens
 
+-- where the token with a number stands; of a pragma there is one place, that of its first word
+abbrev pub site_of : UnitText → List Site → ℕ → Option Site
+site_of (Tokens tokens) sites index = slice_get sites index
+site_of (Pragma tokens inside) sites index = first sites
+
 -- what is told where a token stands: its row shows the token
 abbrev pub finding_at : Code → Option Site → Option Token → List Finding
 finding_at code None token = []
@@ -27,7 +33,8 @@ finding_at code (Some site) token =
 abbrev pub fault_finding : UnitText → List Site → Option Fault → List Finding
 fault_finding text sites None = []
 fault_finding text sites (Some fault) =
-    finding_at fault.code (slice_get sites fault.index) (slice_get (tokens_of text) fault.index)
+    finding_at fault.code (site_of text sites fault.index)
+    (slice_get (tokens_of text) fault.index)
 
 abbrev pub unit_finding : Judged → List Finding
 unit_finding j = fault_finding j.text j.sites j.verdict.fault

@@ -1,8 +1,8 @@
 -- What has come of a root so far, and what is still to come.
-use Rattle.std.specs.Prelude.{List, ◌++◌, flat_map}
+use Rattle.std.specs.Prelude.{List, [], ◌∷◌, ◌++◌, flat_map}
 use Rattle.idl_root.specs.Compile.{Outcome, row_in}
 use Rattle.idl_root.specs.Findings.{unit_finding}
-use Rattle.idl_root.specs.Judged.{Judged, facts_of, judged_after}
+use Rattle.idl_root.specs.Judged.{Judged, facts_after, judged_after}
 use Rattle.idl_root.specs.declared.judging.Judging.{Judging}
 use Rattle.idl_unit.specs.declared.unit.Unit.{Unit as RootUnit}
 
@@ -14,14 +14,20 @@ held j = record {
   rows = j.rows.items;
 }
 
--- with what comes of more units
-abbrev pub with_judged : Outcome → List Judged → Outcome
-with_judged o judged = record {
-  facts = o.facts ++ facts_of judged;
-  found = o.found ++ flat_map unit_finding judged;
-  rows = o.rows ++ flat_map row_in judged;
+-- with what comes of one unit more
+abbrev pub with_judged : Outcome → Judged → Outcome
+with_judged o j = record {
+  facts = o.facts ++ j.verdict.writes ∷ [];
+  found = o.found ++ unit_finding j;
+  rows = o.rows ++ row_in j;
 }
 
 -- what comes of it with these units
 abbrev pub to_come : Outcome → List RootUnit → Outcome
-to_come o units = with_judged o (judged_after o.facts units)
+to_come o units =
+    let judged = judged_after o.facts units in
+    record {
+      facts = facts_after o.facts units;
+      found = o.found ++ flat_map unit_finding judged;
+      rows = o.rows ++ flat_map row_in judged;
+    }

@@ -1,9 +1,12 @@
--- The units of a root, each with its verdict over what the units before it added.
-use Rattle.std.specs.Prelude.{List, [], ◌∷◌, ◌++◌, map}
+-- The units of a root, each with its verdict over what the units and file boundaries before it
+-- added.
+use Rattle.std.specs.Prelude.{List, [], ◌∷◌, ◌++◌}
 use Rattle.idl_check.specs.Verdict.{verdict}
 use Rattle.idl_check.specs.declared.verdict.Verdict.{Verdict}
 use Rattle.idl_memo.specs.Query.{outcome}
 use Rattle.idl_scope.specs.Facts.{UnitFacts, answers}
+use Rattle.idl_scope.specs.declared.addition.Step.{Step}
+use Rattle.idl_scope.specs.declared.addition.Step.TheVariants.{Enters, Leaves}
 use Rattle.idl_scope.specs.declared.lookup.TheConstants.{TURNS}
 use Rattle.idl_unit.specs.declared.unit.Site.{Site}
 use Rattle.idl_unit.specs.declared.unit.Unit.{Unit as RootUnit}
@@ -25,21 +28,29 @@ abbrev pub judged_over : List UnitFacts → UnitText → List Site → Judged
 judged_over facts text sites =
     record { text = text; sites = sites; verdict = verdict_over facts text }
 
--- units in order, before the first of which these facts stand; a faulty unit adds facts too: an
--- opening opens a scope, and a closing closes one
+-- what a file boundary adds
+abbrev pub boundary : Step → UnitFacts
+boundary step = record { additions = []; step = step }
+
+-- What a unit adds over facts. A faulty one adds facts too: an opening opens a scope, and a closing
+-- closes one.
+abbrev pub added : List UnitFacts → RootUnit → List UnitFacts
+added facts (Spelled text sites) = (verdict_over facts text).writes ∷ []
+added facts (Entered file) = boundary Enters ∷ []
+added facts (Left file) = boundary Leaves ∷ []
+added facts End = []
+
+-- it with its verdict, if it has tokens
+abbrev pub judged_at : List UnitFacts → RootUnit → List Judged
+judged_at facts (Spelled text sites) = judged_over facts text sites ∷ []
+judged_at facts other = []
+
+-- those of units in order, before the first of which these facts stand
 unfoldable pub judged_after : List UnitFacts → List RootUnit → List Judged
 judged_after facts [] = []
-judged_after facts (Spelled text sites ∷ units) =
-    let judged = judged_over facts text sites in
-    judged ∷ judged_after (facts ++ judged.verdict.writes ∷ []) units
-judged_after facts (Entered file ∷ units) = judged_after facts units
-judged_after facts (Left file ∷ units) = judged_after facts units
-judged_after facts (End ∷ units) = judged_after facts units
+judged_after facts (u ∷ units) = judged_at facts u ++ judged_after (facts ++ added facts u) units
 
--- the units of a root
-abbrev pub judged_units : List RootUnit → List Judged
-judged_units units = judged_after [] units
-
--- what they added
-abbrev pub facts_of : List Judged → List UnitFacts
-facts_of judged = map (λ j. j.verdict.writes) judged
+-- these facts and those that the units add
+unfoldable pub facts_after : List UnitFacts → List RootUnit → List UnitFacts
+facts_after facts [] = facts
+facts_after facts (u ∷ units) = facts_after (facts ++ added facts u) units

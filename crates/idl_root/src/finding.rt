@@ -4,7 +4,7 @@ ghost use Rattle.std.specs.Prelude.{◌≡◌, ◌++◌, IfOk, OnOk, Some, flat_
 ghost use Rattle.std.specs.List.{enumerate_from};
 ghost use Rattle.std.specs.Option.{option_copied, option_to_list};
 ghost use Rattle.idl_root.specs.Compile.{has_error};
-ghost use Rattle.idl_root.specs.Findings.{event_finding, fault_finding, finding_at, in_order, tokens_of};
+ghost use Rattle.idl_root.specs.Findings.{event_finding, fault_finding, finding_at, in_order, site_of, tokens_of};
 
 use idl_base::Text;
 use idl_event::{Code, Event, Expansion, Place, diagnostic_row};
@@ -20,7 +20,7 @@ pub struct Finding {
     pub row: Shared<Text>,
 }
 
-/// A unit with tokens: its text, and where each token stands.
+/// A unit with tokens: its text, and where each token stands, or of a pragma its first word.
 #[derive(Clone, Copy)]
 pub struct Spelled<'a> {
     pub text: &'a UnitText,
@@ -95,9 +95,13 @@ impl<'a> Spelled<'a> {
 
     // Where the token with this number stands.
     fn site(self, index: usize) -> Option<&'a Site>
-        ensures { option_copied result ≡ slice_get self.entry.sites.now index }
+        ensures { option_copied result
+            ≡ site_of self.entry.text.now self.entry.sites.now index }
     {
-        self.sites.get(index)
+        match self.text {
+            UnitText::Tokens(_run) => self.sites.get(index),
+            UnitText::Pragma(_tokens, _inside) => self.sites.first(),
+        }
     }
 
     // The bytes of the token with this number.

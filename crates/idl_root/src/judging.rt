@@ -4,14 +4,14 @@ ghost use Rattle.std.specs.Prelude.{◌≡◌, ◌∷◌, ◌++◌, [], IfOk, Li
 ghost use Rattle.idl_check.specs.declared.verdict.Verdict.{Verdict as UnitVerdict};
 ghost use Rattle.idl_root.specs.Compile.{is_open};
 ghost use Rattle.idl_root.specs.Held.{held, to_come, with_judged};
-ghost use Rattle.idl_root.specs.Judged.{judged_over, verdict_over};
+ghost use Rattle.idl_root.specs.Judged.{boundary, judged_over, verdict_over};
 ghost use Rattle.idl_unit.specs.declared.unit.Unit.{Unit as RootUnit};
 
 use crate::compiled::Row;
 use crate::finding::{Finding, Spelled, push_fault};
 use idl_check::{DeclarationTask, Verdict};
 use idl_memo::{Bank, Log, Task};
-use idl_scope::{Env, Key, scopes_in};
+use idl_scope::{Env, Facts, Key, Shared, Step, scopes_in};
 use idl_unit::{Unit, UnitText};
 use std::alloc::{AllocError, Global};
 
@@ -60,7 +60,7 @@ impl Judging {
     }
 
     // After one unit more, which takes the memory of the log for what it asks.
-    #[tactic(auto, unfolding(crate::specs::Judged::judged_after))]
+    #[tactic(auto, unfolding(crate::specs::Judged::judged_after, crate::specs::Judged::facts_after))]
     fn with(self, alloc: Global, unit: &Unit, log: &mut Log<Env>) -> Result<Judging, AllocError>
         ensures { IfOk result (λ judging. (units : List RootUnit)
             → to_come (held judging) units ≡ to_come (held self) (unit.now ∷ units)) }
@@ -73,10 +73,32 @@ impl Judging {
                 };
                 Ok(self.with_spelled(alloc, unit, log)?)
             }
-            Unit::Entered(_file) => Ok(self),
-            Unit::Left(_file) => Ok(self),
+            Unit::Entered(_file) => Ok(self.with_boundary(alloc, Step::Enters)?),
+            Unit::Left(_file) => Ok(self.with_boundary(alloc, Step::Leaves)?),
             Unit::End => Ok(self),
         }
+    }
+
+    // After a file boundary.
+    fn with_boundary(self, alloc: Global, step: Step) -> Result<Judging, AllocError>
+        ensures { IfOk result (λ judging.
+            held judging
+            ≡ record (held self) { facts = self.env ++ boundary step ∷ [] }) }
+    {
+        let mut facts = Facts::new(alloc);
+        facts.then(step);
+        let facts = Shared::new(alloc, facts)?;
+        let Judging {
+            env,
+            findings,
+            rows,
+        } = self;
+        let env = env.add(&facts)?;
+        Ok(Judging {
+            env,
+            findings,
+            rows,
+        })
     }
 
     // After a unit with tokens.
@@ -89,7 +111,7 @@ impl Judging {
         ensures { IfOk result (λ judging.
             held judging
             ≡ with_judged (held self)
-            (judged_over self.env unit.entry.text.now unit.entry.sites.now ∷ [])) }
+            (judged_over self.env unit.entry.text.now unit.entry.sites.now)) }
     {
         let verdict = verdict_over(alloc, &self.env, unit.text, log)?;
         Ok(self.with_verdict(alloc, unit, &verdict)?)
@@ -108,7 +130,7 @@ impl Judging {
               text = unit.entry.text.now;
               sites = unit.entry.sites.now;
               verdict = verdict.now;
-            } ∷ [])) }
+            })) }
     {
         let Judging {
             env,

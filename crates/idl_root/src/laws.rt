@@ -1,15 +1,15 @@
 //! The laws of what is told.
 
-ghost use Rattle.std.specs.Prelude.{◌≡◌, ℕ, All, List, filter, nat_eq};
+ghost use Rattle.std.specs.Prelude.{◌≡◌, [], ℕ, All, List, filter, nat_eq};
 ghost use Rattle.idl_event.specs.declared.event.Event.{Event};
-ghost use Rattle.idl_root.specs.Judged.{judged_units};
+ghost use Rattle.idl_root.specs.Judged.{judged_after};
 ghost use Rattle.idl_root.specs.Told.{IsTold};
 ghost use Rattle.idl_unit.specs.Units.{units_of};
 ghost use Rattle.std.specs.List.Sorted.{IsNonDecreasingBy};
 ghost use Rattle.idl_root.specs.Findings.{in_order};
 ghost use Rattle.idl_root.specs.declared.finding.Finding.{Finding};
 
-use idl_check::{numbering, refusal};
+use idl_check::numbering;
 
 /// What is found is told in the order of events: no finding names an event before that of an earlier one, and each event has
 /// the findings that it had, in their order. This does nothing: it carries the law.
@@ -21,9 +21,8 @@ pub fn ordering()
 
 /// The fault of each unit of a root is told: it is found once, with its code. This does nothing: it carries the law.
 pub fn telling()
-    ensures { (events : List Event) → All IsTold (judged_units (units_of events)) }
+    ensures { (events : List Event) → All IsTold (judged_after [] (units_of events)) }
 {
-    // They do nothing: they carry the laws of verdicts.
+    // It does nothing: it carries a law of verdicts.
     numbering();
-    refusal();
 }

@@ -6,8 +6,10 @@ use Rattle.idl_scope.specs.Facts.{addition_at, answer_of, key_of, over, with_add
 use Rattle.idl_scope.specs.Held.{HaveOwnKeys}
 use Rattle.idl_scope.specs.Key.{key_eq, same_key}
 use Rattle.idl_scope.specs.declared.addition.Addition.{Addition}
+use Rattle.idl_scope.specs.declared.addition.Addition.TheVariants.{Declares, Uses, Identifies}
 use Rattle.idl_scope.specs.declared.answer.Answer.{Answer}
 use Rattle.idl_scope.specs.declared.key.Key.{Key}
+use Rattle.idl_scope.specs.declared.key.Key.TheVariants.{Prefix as PrefixKey}
 
 -- the addition at a key, as it is kept
 pub lookup-addition_at : (entries : List (Key × Addition)) (k : Key) → HaveOwnKeys entries → lookup (key_eq k) entries ≡ addition_at (map (λ e. e.1) entries) k
@@ -45,3 +47,10 @@ over-cons a additions k before = by (key_eq k (key_of a))
     by : (b : Bool) → elim (cond b (Some a) (addition_at additions k)) [ None ↦ before | Some a ↦ Some (answer_of a) ] ≡ cond b (Some (answer_of a)) (over additions k before)
     by true = refl
     by false = refl
+
+-- additions change no prefix
+pub over_prefix : (additions : List Addition) (before : Option Answer) → over additions PrefixKey before ≡ before
+over_prefix [] before = refl
+over_prefix (Declares e ∷ additions) before = over_prefix additions before
+over_prefix (Uses n path body ∷ additions) before = over_prefix additions before
+over_prefix (Identifies path identity ∷ additions) before = over_prefix additions before

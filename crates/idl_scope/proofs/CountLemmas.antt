@@ -1,22 +1,24 @@
 -- No count is greater than the number of units.
 use Rattle.std.proofs.Common.{◌≡◌, ℕ, suc, ◌+◌, ◌≤◌, Bool, true, false, cond, List, [], ◌∷◌, ◌++◌, Option, Some, None, length, refl, arith}
-use Rattle.idl_scope.specs.Facts.{UnitFacts, World, addition_at, after, after_all, after_closing, after_nameless, after_opening, after_step, answer_of, closing, count_in, first_world, nameless, next_body, path_around, scopes_in, with_additions, world}
+use Rattle.idl_scope.specs.Facts.{UnitFacts, World, addition_at, after, after_all, after_closing, after_nameless, after_opening, after_step, answer_of, closing, count_in, first_world, given_back, nameless, next_body, no_prefix, over, path_around, scopes_in, with_additions, with_answer, with_prefix, world}
 use Rattle.idl_scope.specs.Key.{key_eq}
 use Rattle.idl_scope.specs.declared.addition.Addition.{Addition}
-use Rattle.idl_scope.specs.declared.addition.Addition.TheVariants.{Declares, Uses}
+use Rattle.idl_scope.specs.declared.addition.Addition.TheVariants.{Declares, Uses, Identifies}
 use Rattle.idl_scope.specs.declared.addition.Step.{Step}
-use Rattle.idl_scope.specs.declared.addition.Step.TheVariants.{Stays, Opens, OpensNameless, Closes}
+use Rattle.idl_scope.specs.declared.addition.Step.TheVariants.{Stays, Opens, OpensNameless, Closes, Prefixes, Enters, Leaves}
 use Rattle.idl_scope.specs.declared.answer.Answer.{Answer}
-use Rattle.idl_scope.specs.declared.answer.Answer.TheVariants.{Open, Count}
+use Rattle.idl_scope.specs.declared.answer.Answer.TheVariants.{Open, Count, InForce}
 use Rattle.idl_scope.specs.declared.answer.Scope.{Scope}
+use Rattle.idl_scope.specs.declared.identity.Prefix.{Prefix}
 use Rattle.idl_scope.specs.declared.key.Key.{Key}
-use Rattle.idl_scope.specs.declared.key.Key.TheVariants.{Cursor, Declared, Introduced, Opened, Nameless}
+use Rattle.idl_scope.specs.declared.key.Key.TheVariants.{Cursor, Declared, Introduced, Opened, Nameless, Prefix as PrefixKey, IdOf}
 
 -- additions count nothing
 over_counts : (before : Option Answer) (n : ℕ) → count_in before ≤ n → (o : Option Addition) → count_in (elim o [ None ↦ before | Some a ↦ Some (answer_of a) ]) ≤ n
 over_counts before n h None = h
 over_counts before n h (Some (Declares e)) = omega arith
 over_counts before n h (Some (Uses m path body)) = omega arith
+over_counts before n h (Some (Identifies path identity)) = omega arith
 
 -- nor does more than that of one answer
 with_counts : (a : Answer) (o : Option Answer) (n : ℕ) → count_in (Some a) ≤ n → count_in o ≤ n → (b : Bool) → count_in (cond b (Some a) o) ≤ n
@@ -44,12 +46,19 @@ AtMost-nameless w n h k =
     let one : count_in (w.answers Nameless) + 1 ≤ suc n = (let at = h Nameless in omega arith) in
     with_counts (Count (count_in (w.answers Nameless) + 1)) (w.answers k) (suc n) one (AtMost-more w n h k) (key_eq k Nameless)
 
+-- a prefix counts nothing
+prefix_counts : (prefix : Prefix) (answers : Key → Option Answer) (n : ℕ) (k : Key) → count_in (answers k) ≤ n → count_in (with_prefix prefix answers k) ≤ n
+prefix_counts prefix answers n k h =
+    let none : 0 ≤ n = omega arith in
+    with_counts (InForce prefix) (answers k) n none h (key_eq k PrefixKey)
+
 AtMost-closing : (w : World) (n : ℕ) (scopes : List Scope) → AtMost w n → AtMost (after_closing w scopes) n
 AtMost-closing w n [] h k = h k
 AtMost-closing w n (s ∷ []) h k = h k
 AtMost-closing w n (s ∷ t ∷ outer) h k =
     let none : 0 ≤ n = omega arith in
-    with_counts (Open (t ∷ outer)) _ n none (over_counts (w.answers k) n (h k) (addition_at (closing w s) k)) (key_eq k Cursor)
+    prefix_counts (given_back w.before.opened) (with_answer Cursor (Open (t ∷ outer)) (λ q. over (closing w s) q (w.answers q))) n k
+    (with_counts (Open (t ∷ outer)) (over (closing w s) k (w.answers k)) n none (over_counts (w.answers k) n (h k) (addition_at (closing w s) k)) (key_eq k Cursor))
 
 AtMost-step : (w : World) (n : ℕ) (step : Step) → AtMost w n → AtMost (after_step w step) (suc n)
 AtMost-step w n Stays h = AtMost-more w n h
@@ -61,6 +70,11 @@ AtMost-step w n (OpensNameless kind) h =
     let body : next_body w path ≤ suc n = (let at = h (Opened path) in omega arith) in
     AtMost-opening (after_nameless w) (suc n) (record { path = path; kind = kind; body = next_body w path }) body (AtMost-nameless w n h)
 AtMost-step w n Closes h = AtMost-more (after_closing w (scopes_in (w.answers Cursor))) n (AtMost-closing w n (scopes_in (w.answers Cursor)) h)
+AtMost-step w n (Prefixes text) h =
+    let prefix : Prefix = record { text = text; scope = path_around (scopes_in (w.answers Cursor)) } in
+    λ k. prefix_counts prefix w.answers (suc n) k (AtMost-more w n h k)
+AtMost-step w n Enters h = λ k. prefix_counts no_prefix w.answers (suc n) k (AtMost-more w n h k)
+AtMost-step w n Leaves h = λ k. prefix_counts (given_back w.before.entered) w.answers (suc n) k (AtMost-more w n h k)
 
 AtMost-after_all : (facts : List UnitFacts) (w : World) (n : ℕ) → AtMost w n → AtMost (after_all w facts) (n + length facts)
 AtMost-after_all [] w n h k = let at = h k in omega arith
@@ -74,6 +88,8 @@ first_counts (Declared n path) = omega arith
 first_counts (Introduced n path body) = omega arith
 first_counts (Opened path) = omega arith
 first_counts Nameless = omega arith
+first_counts PrefixKey = omega arith
+first_counts (IdOf path) = omega arith
 
 count-after_all : (facts : List UnitFacts) (k : Key) → count_in ((after_all first_world facts).answers k) ≤ length facts
 count-after_all facts k = let at = AtMost-after_all facts first_world 0 first_counts k in omega arith

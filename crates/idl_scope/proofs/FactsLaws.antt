@@ -3,7 +3,7 @@ use Rattle.std.proofs.Common.{◌≡◌, ℕ, ◌+◌, Bool, true, false, cond, 
 use Rattle.std.specs.Prelude.{Contains, drop}
 use Rattle.std.proofs.lemmas.List.Elements.{All-weaker, All-contains_itself}
 use Rattle.idl_memo.specs.Query.{Done, Ask, Tell, outcome, asked, Agree}
-use Rattle.idl_scope.specs.Facts.{UnitFacts, World, entity_key, entity_in, scopes_in, count_in, over, operations_of, joined, inherited, innermost, closed, closing, with_answer, with_additions, after_opening, after_closing, after_nameless, after_step, after, after_all, first_world, world, answers, nameless, path_around, next_body, more_inside, operations_among}
+use Rattle.idl_scope.specs.Facts.{UnitFacts, World, given_back, prefix_in, with_prefix, entity_key, entity_in, scopes_in, count_in, over, operations_of, joined, inherited, innermost, closed, closing, with_answer, with_additions, after_opening, after_closing, after_nameless, after_step, after, after_all, first_world, world, answers, nameless, path_around, next_body, more_inside, operations_among}
 use Rattle.idl_scope.specs.Key.{key_eq}
 use Rattle.idl_scope.specs.Kind.{kind_eq}
 use Rattle.idl_scope.specs.Lookup.{Lookup, under}
@@ -12,13 +12,14 @@ use Rattle.idl_scope.specs.Outside.{AgreeOutside, WorldsAgreeOutside, gathered_a
 use Rattle.idl_scope.specs.declared.addition.Addition.{Addition}
 use Rattle.idl_scope.specs.declared.addition.Addition.TheVariants.{Declares}
 use Rattle.idl_scope.specs.declared.addition.Step.{Step}
-use Rattle.idl_scope.specs.declared.addition.Step.TheVariants.{Stays, Opens, OpensNameless, Closes}
+use Rattle.idl_scope.specs.declared.addition.Step.TheVariants.{Stays, Opens, OpensNameless, Closes, Prefixes, Enters, Leaves}
 use Rattle.idl_scope.specs.declared.answer.Answer.{Answer}
-use Rattle.idl_scope.specs.declared.answer.Answer.TheVariants.{Open, Count}
+use Rattle.idl_scope.specs.declared.answer.Answer.TheVariants.{Open, Count, InForce}
 use Rattle.idl_scope.specs.declared.answer.Scope.{Scope}
 use Rattle.idl_scope.specs.declared.entity.Entity.{Entity}
+use Rattle.idl_scope.specs.declared.identity.Prefix.{Prefix}
 use Rattle.idl_scope.specs.declared.key.Key.{Key}
-use Rattle.idl_scope.specs.declared.key.Key.TheVariants.{Cursor, Opened, Nameless}
+use Rattle.idl_scope.specs.declared.key.Key.TheVariants.{Cursor, Opened, Nameless, Prefix as PrefixKey}
 use Rattle.idl_scope.specs.declared.kind.Kind.{Kind}
 use Rattle.idl_scope.specs.declared.kind.Kind.TheVariants.{Interface}
 use Rattle.idl_scope.specs.declared.kind.Stage.TheVariants.{Complete}
@@ -65,6 +66,10 @@ module _ (keys : List Key) where
   with_answer-outside : (q : Key) (a b : Answer) (bank other : Key → Option Answer) → b ≡ a → AgreeOutside keys bank other → AgreeOutside keys (with_answer q a bank) (with_answer q b other)
   with_answer-outside q a b bank other h same k out = ap (λ x. cond (key_eq k q) (Some x) (other k)) h ∙ ap (λ v. cond (key_eq k q) (Some a) v) (same k out)
 
+  -- with the same prefix in force
+  with_prefix-outside : (p q : Prefix) (bank other : Key → Option Answer) → q ≡ p → AgreeOutside keys bank other → AgreeOutside keys (with_prefix p bank) (with_prefix q other)
+  with_prefix-outside p q bank other h same = with_answer-outside PrefixKey (InForce p) (InForce q) bank other (ap InForce h) same
+
   module _ (w v : World) (same : AgreeOutside keys w.answers v.answers) (inside : v.inside ≡ w.inside) where
     -- after one more body is opened
     opening-outside : (s t : Scope) → t ≡ s → v.answers Cursor ≡ w.answers Cursor → AgreeOutside keys (after_opening w s).answers (after_opening v t).answers
@@ -108,12 +113,13 @@ module _ (keys : List Key) where
         by_kind true g = ap (λ o. declares v (entity_in o)) (g (entity_key s.path) (inl refl)) ∙ by_entity (entity_in (w.answers (entity_key s.path))) (λ k i. g k (inr i))
         by_kind false g = refl
 
-    closing-outside : (scopes : List Scope) → ((k : Key) → IsIn k (gathered_at w scopes) → v.answers k ≡ w.answers k) → AgreeOutside keys (after_closing w scopes).answers (after_closing v scopes).answers
-    closing-outside [] h = same
-    closing-outside (s ∷ []) h = same
-    closing-outside (s ∷ t ∷ outer) h =
-        with_answer-outside Cursor (Open (t ∷ outer)) (Open (t ∷ outer)) (λ k. over (closing w s) k (w.answers k)) (λ k. over (closing v s) k (v.answers k)) refl
-        (λ k out. ap (λ c. over c k (v.answers k)) (closing-same s t outer h) ∙ ap (over (closing w s) k) (same k out))
+    closing-outside : v.before ≡ w.before → (scopes : List Scope) → ((k : Key) → IsIn k (gathered_at w scopes) → v.answers k ≡ w.answers k) → AgreeOutside keys (after_closing w scopes).answers (after_closing v scopes).answers
+    closing-outside before [] h = same
+    closing-outside before (s ∷ []) h = same
+    closing-outside before (s ∷ t ∷ outer) h =
+        with_prefix-outside (given_back w.before.opened) (given_back v.before.opened) _ _ (ap (λ b. given_back b.opened) before)
+        (with_answer-outside Cursor (Open (t ∷ outer)) (Open (t ∷ outer)) (λ k. over (closing w s) k (w.answers k)) (λ k. over (closing v s) k (v.answers k)) refl
+        (λ k out. ap (λ c. over c k (v.answers k)) (closing-same s t outer h) ∙ ap (over (closing w s) k) (same k out)))
 
   -- after a nameless scope is opened
   nameless-outside : (w v : World) (kind : Kind) → AgreeOutside keys w.answers v.answers → v.inside ≡ w.inside → ((k : Key) → IsIn k (looked_at w (OpensNameless kind)) → v.answers k ≡ w.answers k)
@@ -136,14 +142,19 @@ module _ (keys : List Key) where
       body = ap (next_body v) path ∙ ap (λ o. count_in o + 1) (h (Opened (path_of w)) (inr (inr (inl refl))))
 
   -- after a change of the open scopes, where the keys that it looks at have the same answers
-  step-outside : (w v : World) (step : Step) → AgreeOutside keys w.answers v.answers → v.inside ≡ w.inside → ((k : Key) → IsIn k (looked_at w step) → v.answers k ≡ w.answers k) → AgreeOutside keys (after_step w step).answers (after_step v step).answers
-  step-outside w v Stays same inside h = same
-  step-outside w v (Opens path kind) same inside h =
+  step-outside : (w v : World) (step : Step) → AgreeOutside keys w.answers v.answers → v.inside ≡ w.inside → v.before ≡ w.before → ((k : Key) → IsIn k (looked_at w step) → v.answers k ≡ w.answers k) → AgreeOutside keys (after_step w step).answers (after_step v step).answers
+  step-outside w v Stays same inside before h = same
+  step-outside w v (Opens path kind) same inside before h =
       opening-outside w v same inside (record { path = path; kind = kind; body = next_body w path }) (record { path = path; kind = kind; body = next_body v path })
       (ap (λ o. record { path = path; kind = kind; body = count_in o + 1 }) (h (Opened path) (inr (inl refl)))) (h Cursor (inl refl))
-  step-outside w v (OpensNameless kind) same inside h = nameless-outside w v kind same inside h
-  step-outside w v Closes same inside h =
-      λ k out. ap (λ o. (after_closing v (scopes_in o)).answers k) (h Cursor (inl refl)) ∙ closing-outside w v same inside (scopes_in (w.answers Cursor)) (λ q i. h q (inr i)) k out
+  step-outside w v (OpensNameless kind) same inside before h = nameless-outside w v kind same inside h
+  step-outside w v Closes same inside before h =
+      λ k out. ap (λ o. (after_closing v (scopes_in o)).answers k) (h Cursor (inl refl)) ∙ closing-outside w v same inside before (scopes_in (w.answers Cursor)) (λ q i. h q (inr i)) k out
+  step-outside w v (Prefixes text) same inside before h =
+      with_prefix-outside _ _ w.answers v.answers (ap (λ o. record { text = text; scope = path_around (scopes_in o) }) (h Cursor (inl refl))) same
+  step-outside w v Enters same inside before h = with_prefix-outside _ _ w.answers v.answers refl same
+  step-outside w v Leaves same inside before h =
+      with_prefix-outside (given_back w.before.entered) (given_back v.before.entered) w.answers v.answers (ap (λ b. given_back b.entered) before) same
 
   -- and the operations and attributes of the open scopes are the same
   closing-inside : (w v : World) (scopes : List Scope) → v.inside ≡ w.inside → (after_closing v scopes).inside ≡ (after_closing w scopes).inside
@@ -156,11 +167,39 @@ module _ (keys : List Key) where
   step-inside w v (Opens path kind) inside h = ap (λ own. [] ∷ own) inside
   step-inside w v (OpensNameless kind) inside h = ap (λ own. [] ∷ own) inside
   step-inside w v Closes inside h = ap (λ o. (after_closing v (scopes_in o)).inside) (h Cursor (inl refl)) ∙ closing-inside w v (scopes_in (w.answers Cursor)) inside
+  step-inside w v (Prefixes text) inside h = inside
+  step-inside w v Enters inside h = inside
+  step-inside w v Leaves inside h = inside
+
+  -- and so are the prefixes that come back
+  closing-before : (w v : World) (scopes : List Scope) → v.before ≡ w.before → (after_closing v scopes).before ≡ (after_closing w scopes).before
+  closing-before w v [] before = before
+  closing-before w v (s ∷ []) before = before
+  closing-before w v (s ∷ t ∷ outer) before = λ i. record (before i) { opened = drop 1 (before i).opened }
+
+  step-before : (w v : World) (step : Step) → v.before ≡ w.before → ((k : Key) → IsIn k (looked_at w step) → v.answers k ≡ w.answers k) → (after_step v step).before ≡ (after_step w step).before
+  step-before w v Stays before h = before
+  step-before w v (Opens path kind) before h =
+      let prefix = h PrefixKey (inr (inr (inl refl))) in
+      λ i. record (before i) { opened = prefix_in (prefix i) ∷ (before i).opened }
+  step-before w v (OpensNameless kind) before h =
+      let prefix = h PrefixKey (inr (inr (inr (inl refl)))) in
+      λ i. record (before i) { opened = prefix_in (prefix i) ∷ (before i).opened }
+  step-before w v Closes before h = ap (λ o. (after_closing v (scopes_in o)).before) (h Cursor (inl refl)) ∙ closing-before w v (scopes_in (w.answers Cursor)) before
+  step-before w v (Prefixes text) before h = before
+  step-before w v Enters before h =
+      let prefix = h PrefixKey (inl refl) in
+      λ i. record (before i) { entered = prefix_in (prefix i) ∷ (before i).entered }
+  step-before w v Leaves before h = λ i. record (before i) { entered = drop 1 (before i).entered }
 
   -- the facts of a unit, added to worlds that agree outside some keys, of which they look at none
   pub after-outside : (w v : World) (f : UnitFacts) → WorldsAgreeOutside keys w v → AreApart (looked_at_by w f) keys → WorldsAgreeOutside keys (after w f) (after v f)
-  after-outside w v f (same, inside) apart =
+  after-outside w v f (same, both) apart =
+      let inside = both.0 in
+      let before = both.1 in
       let added = over-outside f.additions keys w.answers v.answers same in
       let more = ap (λ x. more_inside x (operations_among f.additions)) inside in
       let read : (k : Key) → IsIn k (looked_at_by w f) → over f.additions k (v.answers k) ≡ over f.additions k (w.answers k) = λ k i. added k (apart k (Contains-IsIn k (looked_at_by w f) i)) in
-      (step-outside (with_additions f.additions w) (with_additions f.additions v) f.step added more read, step-inside (with_additions f.additions w) (with_additions f.additions v) f.step more read)
+      let grown = with_additions f.additions w in
+      let other = with_additions f.additions v in
+      (step-outside grown other f.step added more before read, (step-inside grown other f.step more read, step-before grown other f.step before read))

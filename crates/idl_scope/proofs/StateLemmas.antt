@@ -3,26 +3,31 @@ use Rattle.std.proofs.Common.{◌≡◌, ℕ, ◌<◌, Bool, true, false, cond, 
 use Rattle.std.specs.Map.{lookup}
 use Rattle.std.proofs.lemmas.Option.{same_Some}
 use Rattle.std.proofs.lemmas.List.{append-nil, reverse-append}
-use Rattle.idl_scope.specs.Facts.{World, addition_at, after_closing, after_opening, answer_of, closed, closing, count_in, entity_in, entity_key, is_operation, more_inside, operations_among, over, scopes_in, with_answer}
+use Rattle.idl_scope.specs.Facts.{Before, World, addition_at, after_closing, after_opening, answer_of, closed, closing, count_in, entity_in, entity_key, first_answer, given_back, global_scope, is_operation, more_inside, no_prefix, operations_among, over, prefix_in, scopes_in, with_answer, with_prefix}
 use Rattle.idl_scope.specs.Held.{closable, held}
 use Rattle.idl_scope.specs.Key.{key_eq}
 use Rattle.idl_scope.specs.Lookup.{inherits}
 use Rattle.idl_scope.specs.declared.addition.Addition.{Addition}
-use Rattle.idl_scope.specs.declared.addition.Addition.TheVariants.{Declares, Uses}
+use Rattle.idl_scope.specs.declared.addition.Addition.TheVariants.{Declares, Uses, Identifies}
 use Rattle.idl_scope.specs.declared.answer.Answer.{Answer}
 use Rattle.idl_scope.specs.declared.answer.Answer.TheVariants.{Open, Count}
 use Rattle.idl_scope.specs.declared.answer.Scope.{Scope}
 use Rattle.idl_scope.specs.declared.entity.Entity.{Entity}
 use Rattle.idl_scope.specs.declared.key.Key.{Key}
-use Rattle.idl_scope.specs.declared.key.Key.TheVariants.{Cursor, Opened}
+use Rattle.idl_scope.specs.declared.key.Key.TheVariants.{Cursor, Declared, Introduced, Opened, Nameless, Prefix as PrefixKey, IdOf}
+use Rattle.idl_scope.specs.declared.state.State.{State}
 
 -- the answers of a table
 abbrev pub kept : List (Key × Answer) → Key → Option Answer
 kept entries k = lookup (key_eq k) entries
 
--- worlds are one where their answers are and what is inside is
-pub world_is : (answers other : Key → Option Answer) (inside within : List (List (List (List ℕ)))) → answers ≡ other → inside ≡ within → ◌≡◌ {A = World} (record { answers = answers; inside = inside }) (record { answers = other; inside = within })
-world_is answers other inside within h g = λ i. record { answers = h i; inside = g i }
+-- worlds are one where their answers are, what is inside is, and the prefixes that come back are
+pub world_is : (w v : World) → w.answers ≡ v.answers → w.inside ≡ v.inside → w.before ≡ v.before → w ≡ v
+world_is w v h g f = λ i. record { answers = h i; inside = g i; before = f i }
+
+-- what is kept comes to one world where its parts are the same
+pub held_is : (state other : State) → kept state.answers ≡ kept other.answers → state.inside ≡ other.inside → state.opened ≡ other.opened → state.entered ≡ other.entered → held state ≡ held other
+held_is state other h g f e = λ i. record { answers = h i; inside = reverse (g i); before = record { opened = reverse (f i); entered = reverse (e i) } }
 
 -- scopes that are open, the innermost first, with one more, and which is the innermost of them
 pub reverse-push : {A : Type 0} (outer : List A) (own : A) → reverse (outer ++ own ∷ []) ≡ own ∷ reverse outer
@@ -34,13 +39,15 @@ more_inside-nothing [] = refl
 more_inside-nothing (own ∷ outer) = ap (λ l. l ∷ outer) (append-nil own)
 
 -- a body more
-pub held-opening : (entries after : List (Key × Answer)) (inside within : List (List (List (List ℕ)))) (s : Scope) (opened : Answer)
-    → opened ≡ Open (s ∷ scopes_in (kept entries Cursor)) → kept after ≡ with_answer Cursor opened (with_answer (Opened s.path) (Count s.body) (kept entries)) → within ≡ inside ++ [] ∷ []
-    → held after within ≡ after_opening (held entries inside) s
-held-opening entries after inside within s opened is_open put is_within =
-    world_is _ _ _ _
-    (put ∙ ap (λ a. with_answer Cursor a (with_answer (Opened s.path) (Count s.body) (kept entries))) is_open)
-    (ap reverse is_within ∙ reverse-push inside [])
+pub held-opening : (state after : State) (s : Scope) (opened : Answer)
+    → opened ≡ Open (s ∷ scopes_in (kept state.answers Cursor)) → kept after.answers ≡ with_answer Cursor opened (with_answer (Opened s.path) (Count s.body) (kept state.answers))
+    → after.inside ≡ state.inside ++ [] ∷ [] → after.opened ≡ state.opened ++ prefix_in (kept state.answers PrefixKey) ∷ [] → after.entered ≡ state.entered
+    → held after ≡ after_opening (held state) s
+held-opening state after s opened is_open put is_within is_before is_entered =
+    let answers = put ∙ ap (λ a. with_answer Cursor a (with_answer (Opened s.path) (Count s.body) (kept state.answers))) is_open in
+    let inside = ap reverse is_within ∙ reverse-push state.inside [] in
+    let before = ap reverse is_before ∙ reverse-push state.opened (prefix_in (kept state.answers PrefixKey)) in
+    λ i. record { answers = answers i; inside = inside i; before = record { opened = before i; entered = reverse (is_entered i) } }
 
 -- operations and attributes among additions of which this is the first
 pub operations_among-cons : (a : Addition) (additions : List Addition) → operations_among (a ∷ additions) ≡ operations_among (a ∷ []) ++ operations_among additions
@@ -50,6 +57,7 @@ operations_among-cons (Declares e) additions = by (is_operation e)
     by true = refl
     by false = refl
 operations_among-cons (Uses n path body) additions = refl
+operations_among-cons (Identifies path identity) additions = refl
 
 -- additions count nothing
 pub count-over : (additions : List Addition) (k : Key) (before : Option Answer) (n : ℕ) → count_in before < n → count_in (over additions k before) < n
@@ -62,6 +70,17 @@ count-over additions k before n h = by (addition_at additions k)
     by None = h
     by (Some (Declares e)) = none
     by (Some (Uses m path body)) = none
+    by (Some (Identifies path identity)) = none
+
+-- at first
+pub first-answers : (k : Key) → with_prefix no_prefix (with_answer Cursor (Open (global_scope ∷ [])) (λ q. None)) k ≡ first_answer k
+first-answers Cursor = refl
+first-answers (Declared n path) = refl
+first-answers (Introduced n path body) = refl
+first-answers (Opened path) = refl
+first-answers Nameless = refl
+first-answers PrefixKey = refl
+first-answers (IdOf path) = refl
 
 -- an interface that closes
 pub closing_is : (w : World) (s : Scope) (e : Entity) → inherits s.kind ≡ true → entity_in (w.answers (entity_key s.path)) ≡ Some e → closing w s ≡ Declares (closed w e) ∷ []
@@ -76,9 +95,18 @@ after_closing-none w (s ∷ []) h = refl
 after_closing-none w (s ∷ t ∷ outer) h = cc
 
 pub after_closing-some : (w : World) (scopes : List Scope) (s : Scope) (outer : List Scope) → closable scopes ≡ Some (s, outer)
-    → after_closing w scopes ≡ record { answers = with_answer Cursor (Open outer) (λ k. over (closing w s) k (w.answers k)); inside = drop 1 w.inside }
+    → after_closing w scopes
+    ≡ record {
+      answers = with_prefix (given_back w.before.opened) (with_answer Cursor (Open outer) (λ k. over (closing w s) k (w.answers k)));
+      inside = drop 1 w.inside;
+      before = record w.before { opened = drop 1 w.before.opened };
+    }
 after_closing-some w [] s outer h = cc
 after_closing-some w (x ∷ []) s outer h = cc
 after_closing-some w (x ∷ t ∷ more) s outer h =
     let same : (x, t ∷ more) ≡ (s, outer) = same_Some (x, t ∷ more) (s, outer) h in
-    λ i. record { answers = with_answer Cursor (Open (same i).1) (λ k. over (closing w (same i).0) k (w.answers k)); inside = drop 1 w.inside }
+    λ i. record {
+      answers = with_prefix (given_back w.before.opened) (with_answer Cursor (Open (same i).1) (λ k. over (closing w (same i).0) k (w.answers k)));
+      inside = drop 1 w.inside;
+      before = record w.before { opened = drop 1 w.before.opened };
+    }

@@ -4,22 +4,24 @@ use Rattle.std.proofs.Common.{◌≡◌, ◌⊎◌, ℕ, Bool, true, false, cond
 use Rattle.std.specs.Prelude.{flat_map}
 use Rattle.idl_lex.specs.Keywords.{folded}
 use Rattle.idl_scope.specs.Bases.{bases_in, bases_among, bases_named}
-use Rattle.idl_scope.specs.Facts.{UnitFacts, World, entity_key, entity_in, scopes_in, key_of, answer_of, addition_at, over, with_answer, with_additions, first_answer, first_world, closed, closing, after_closing, after_opening, after_nameless, after_step, after, after_all, world, answers}
+use Rattle.idl_scope.specs.Facts.{UnitFacts, World, entity_key, entity_in, scopes_in, key_of, answer_of, addition_at, over, with_answer, with_additions, first_answer, first_world, given_back, no_prefix, with_prefix, closed, closing, after_closing, after_opening, after_nameless, after_step, after, after_all, world, answers}
 use Rattle.idl_scope.specs.Key.{key_eq, same_key}
 use Rattle.idl_scope.specs.Kind.{kind_eq}
 use Rattle.idl_scope.specs.Lookup.{bases_of, has_bases}
 use Rattle.idl_scope.specs.Meaning.{own_at, bases_at}
 use Rattle.idl_scope.specs.Path.{name_of, scope_of}
 use Rattle.idl_scope.specs.declared.addition.Addition.{Addition}
-use Rattle.idl_scope.specs.declared.addition.Addition.TheVariants.{Declares, Uses}
+use Rattle.idl_scope.specs.declared.addition.Addition.TheVariants.{Declares, Uses, Identifies}
 use Rattle.idl_scope.specs.declared.addition.Step.{Step}
-use Rattle.idl_scope.specs.declared.addition.Step.TheVariants.{Stays, Opens, OpensNameless, Closes}
+use Rattle.idl_scope.specs.declared.addition.Step.TheVariants.{Stays, Opens, OpensNameless, Closes, Prefixes, Enters, Leaves}
 use Rattle.idl_scope.specs.declared.answer.Answer.{Answer}
-use Rattle.idl_scope.specs.declared.answer.Answer.TheVariants.{Open, Known, Used, Count}
+use Rattle.idl_scope.specs.declared.answer.Answer.TheVariants.{Open, Known, Used, Count, InForce, Identified}
 use Rattle.idl_scope.specs.declared.answer.Scope.{Scope}
 use Rattle.idl_scope.specs.declared.entity.Entity.{Entity}
+use Rattle.idl_scope.specs.declared.identity.Identity.{Identity}
+use Rattle.idl_scope.specs.declared.identity.Prefix.{Prefix}
 use Rattle.idl_scope.specs.declared.key.Key.{Key}
-use Rattle.idl_scope.specs.declared.key.Key.TheVariants.{Cursor, Declared, Introduced, Opened, Nameless}
+use Rattle.idl_scope.specs.declared.key.Key.TheVariants.{Cursor, Declared, Introduced, Opened, Nameless, Prefix as PrefixKey, IdOf}
 use Rattle.idl_scope.specs.declared.kind.Kind.TheVariants.{Interface}
 use Rattle.idl_scope.proofs.Membership.{IsIn, IsIn-left, IsIn-right}
 
@@ -38,6 +40,8 @@ entity_in-Some (Some (Known x)) e h = ap (λ y. Some (Known y)) (some_same h)
 entity_in-Some (Some (Open s)) e h = absurd (none_some h)
 entity_in-Some (Some Used) e h = absurd (none_some h)
 entity_in-Some (Some (Count n)) e h = absurd (none_some h)
+entity_in-Some (Some (InForce prefix)) e h = absurd (none_some h)
+entity_in-Some (Some (Identified identity)) e h = absurd (none_some h)
 
 -- ---- answers over additions
 
@@ -83,12 +87,19 @@ module _ (places : List (List (List ℕ))) where
   no_entity_count : (k : Key) (n : ℕ) → IsGrounded places k (Count n)
   no_entity_count k n e h = absurd (let z : Count n ≡ Known e = h in cc)
 
+  no_entity_prefix : (k : Key) (prefix : Prefix) → IsGrounded places k (InForce prefix)
+  no_entity_prefix k prefix e h = absurd (let z : InForce prefix ≡ Known e = h in cc)
+
+  no_entity_identity : (k : Key) (identity : Identity) → IsGrounded places k (Identified identity)
+  no_entity_identity k identity e h = absurd (let z : Identified identity ≡ Known e = h in cc)
+
   -- an addition whose bases are among these leaves such an answer
   pub addition-grounded : (a : Addition) → ((c : List (List ℕ)) → IsIn c (bases_in a) → IsIn c places) → IsGrounded places (key_of a) (answer_of a)
   addition-grounded (Declares d) within e h =
       let same = known_same d e h in
       (ap (λ x. entity_key x.path) same, λ c i. within c (let Q : Entity → Type 0 = λ x. IsIn c x.bases in subst Q (sym same) i))
   addition-grounded (Uses n path body) within e h = no_entity_used (Introduced n path body) e h
+  addition-grounded (Identifies path identity) within e h = no_entity_identity (IdOf path) identity e h
 
   pub over-grounded : (additions : List Addition) (answers : Key → Option Answer) → AreGrounded places answers → ((a : Addition) → IsIn a additions → IsGrounded places (key_of a) (answer_of a)) → AreGrounded places (λ k. over additions k (answers k))
   over-grounded additions answers before new k x h = elim (over-Some additions k (answers k) x h) as (λ _. IsGrounded places k x) [
@@ -109,6 +120,11 @@ module _ (places : List (List (List ℕ))) where
   first-grounded (Introduced n path body) x h = absurd (none_some h)
   first-grounded (Opened path) x h = absurd (none_some h)
   first-grounded Nameless x h = absurd (none_some h)
+  first-grounded PrefixKey x h = let R : Answer → Type 0 = IsGrounded places PrefixKey in subst R (some_same h) (no_entity_prefix PrefixKey no_prefix)
+  first-grounded (IdOf path) x h = absurd (none_some h)
+
+  with_prefix-grounded : (prefix : Prefix) (answers : Key → Option Answer) → AreGrounded places answers → AreGrounded places (with_prefix prefix answers)
+  with_prefix-grounded prefix answers g = with_answer-grounded PrefixKey (InForce prefix) answers (no_entity_prefix PrefixKey prefix) g
 
   after_opening-grounded : (w : World) (s : Scope) → AreGrounded places w.answers → AreGrounded places (after_opening w s).answers
   after_opening-grounded w s g = with_answer-grounded Cursor _ _ (no_entity_open Cursor _) (with_answer-grounded (Opened s.path) (Count s.body) w.answers (no_entity_count (Opened s.path) s.body) g)
@@ -131,13 +147,18 @@ module _ (places : List (List (List ℕ))) where
   after_closing-grounded : (w : World) (scopes : List Scope) → AreGrounded places w.answers → AreGrounded places (after_closing w scopes).answers
   after_closing-grounded w [] g = g
   after_closing-grounded w (s ∷ []) g = g
-  after_closing-grounded w (s ∷ t ∷ outer) g = with_answer-grounded Cursor _ _ (no_entity_open Cursor _) (over-grounded (closing w s) w.answers g (closing-grounded w s g))
+  after_closing-grounded w (s ∷ t ∷ outer) g =
+      with_prefix-grounded (given_back w.before.opened) _
+      (with_answer-grounded Cursor _ _ (no_entity_open Cursor _) (over-grounded (closing w s) w.answers g (closing-grounded w s g)))
 
   after_step-grounded : (w : World) (step : Step) → AreGrounded places w.answers → AreGrounded places (after_step w step).answers
   after_step-grounded w Stays g = g
   after_step-grounded w (Opens path kind) g = after_opening-grounded w _ g
   after_step-grounded w (OpensNameless kind) g = after_opening-grounded (after_nameless w) _ (with_answer-grounded Nameless _ w.answers (no_entity_count Nameless _) g)
   after_step-grounded w Closes g = after_closing-grounded w (scopes_in (w.answers Cursor)) g
+  after_step-grounded w (Prefixes text) g = with_prefix-grounded _ w.answers g
+  after_step-grounded w Enters g = with_prefix-grounded no_prefix w.answers g
+  after_step-grounded w Leaves g = with_prefix-grounded (given_back w.before.entered) w.answers g
 
   after-grounded : (w : World) (f : UnitFacts) → ((a : Addition) → IsIn a f.additions → (c : List (List ℕ)) → IsIn c (bases_in a) → IsIn c places) → AreGrounded places w.answers → AreGrounded places (after w f).answers
   after-grounded w f within g = after_step-grounded (with_additions f.additions w) f.step (over-grounded f.additions w.answers g (λ a i. addition-grounded a (within a i)))

@@ -6,20 +6,22 @@ use Rattle.idl_scope.specs.Key.{key_eq}
 use Rattle.idl_scope.specs.Kind.{kind_eq}
 use Rattle.idl_scope.specs.Path.{name_of, path_eq, scope_of}
 use Rattle.idl_scope.specs.declared.addition.Addition.{Addition}
-use Rattle.idl_scope.specs.declared.addition.Addition.TheVariants.{Declares, Uses}
+use Rattle.idl_scope.specs.declared.addition.Addition.TheVariants.{Declares, Uses, Identifies}
 use Rattle.idl_scope.specs.declared.addition.Step.{Step}
-use Rattle.idl_scope.specs.declared.addition.Step.TheVariants.{Stays, Opens, OpensNameless, Closes}
+use Rattle.idl_scope.specs.declared.addition.Step.TheVariants.{Stays, Opens, OpensNameless, Closes, Prefixes, Enters, Leaves}
 use Rattle.idl_scope.specs.declared.answer.Answer.{Answer}
-use Rattle.idl_scope.specs.declared.answer.Answer.TheVariants.{Open, Known, Used, Count}
+use Rattle.idl_scope.specs.declared.answer.Answer.TheVariants.{Open, Known, Used, Count, InForce, Identified}
 use Rattle.idl_scope.specs.declared.answer.Scope.{Scope}
 use Rattle.idl_scope.specs.declared.entity.Entity.{Entity}
+use Rattle.idl_scope.specs.declared.identity.Identity.{Identity}
+use Rattle.idl_scope.specs.declared.identity.Prefix.{Prefix}
 use Rattle.idl_scope.specs.declared.key.Key.{Key}
-use Rattle.idl_scope.specs.declared.key.Key.TheVariants.{Cursor, Declared, Introduced, Opened, Nameless}
+use Rattle.idl_scope.specs.declared.key.Key.TheVariants.{Cursor, Declared, Introduced, Opened, Nameless, Prefix as PrefixKey, IdOf}
 use Rattle.idl_scope.specs.declared.kind.Kind.TheVariants.{Module, Interface, Attribute, Operation}
 use Rattle.idl_scope.specs.declared.kind.Stage.TheVariants.{Complete}
 
--- what a unit adds, or its earlier tokens: names that are declared and introduced, no two at one
--- key, and then how the open scopes change
+-- what a unit adds, or its earlier tokens: names that are declared and introduced, and ids, no two
+-- at one key, and then how the open scopes, the files entered and the prefix change
 pub record UnitFacts : Type 0 where
   pub additions : List Addition
   pub step : Step
@@ -32,11 +34,13 @@ entity_key path = Declared (folded (name_of path)) (scope_of path)
 abbrev pub key_of : Addition → Key
 key_of (Declares e) = entity_key e.path
 key_of (Uses n path body) = Introduced n path body
+key_of (Identifies path identity) = IdOf path
 
 -- the answer that it leaves there
 abbrev pub answer_of : Addition → Answer
 answer_of (Declares e) = Known e
 answer_of (Uses n path body) = Used
+answer_of (Identifies path identity) = Identified identity
 
 -- the addition at a key, or nothing
 abbrev pub addition_at : List Addition → Key → Option Addition
@@ -55,23 +59,39 @@ with_addition [] a = a ∷ []
 with_addition (b ∷ additions) a =
     if key_eq (key_of a) (key_of b) then a ∷ additions else b ∷ with_addition additions a
 
+-- the prefixes that were in force before each open scope but the global one was opened, the innermost
+-- first, and before each file that isn't left was entered, the last first
+pub record Before : Type 0 where
+  pub opened : List Prefix
+  pub entered : List Prefix
+
 -- what the facts so far come to: the answer at each key, and beside it the operations and
--- attributes so far of each open scope, the innermost first
+-- attributes so far of each open scope, the innermost first, and the prefixes that were in force
 pub record World : Type 0 where
   pub answers : Key → Option Answer
   pub inside : List (List (List (List ℕ)))
+  pub before : Before
 
 -- the global scope: a module without name, and the last of the open scopes
 abbrev pub global_scope : Scope
 global_scope = record { path = []; kind = Module; body = 0 }
 
--- at first the global scope is open, and nothing is declared
+-- the empty prefix, met in the global scope: that of a file that is entered
+abbrev pub no_prefix : Prefix
+no_prefix = record { text = []; scope = [] }
+
+-- at first the global scope is open, no prefix is in force, and nothing is declared
 abbrev pub first_answer : Key → Option Answer
 first_answer Cursor = Some (Open (global_scope ∷ []))
+first_answer PrefixKey = Some (InForce no_prefix)
 first_answer key = None
 
 abbrev pub first_world : World
-first_world = record { answers = first_answer; inside = [] ∷ [] }
+first_world = record {
+  answers = first_answer;
+  inside = [] ∷ [];
+  before = record { opened = []; entered = [] };
+}
 
 -- answers with another one at a key
 abbrev pub with_answer : Key → Answer → (Key → Option Answer) → Key → Option Answer
@@ -90,6 +110,14 @@ abbrev pub count_in : Option Answer → ℕ
 count_in (Some (Count n)) = n
 count_in other = 0
 
+abbrev pub prefix_in : Option Answer → Prefix
+prefix_in (Some (InForce prefix)) = prefix
+prefix_in other = no_prefix
+
+abbrev pub identity_in : Option Answer → Option Identity
+identity_in (Some (Identified identity)) = Some identity
+identity_in other = None
+
 -- the paths of operations and attributes among what is declared
 abbrev pub is_operation : Entity → Bool
 is_operation e = if kind_eq e.kind Operation then true else kind_eq e.kind Attribute
@@ -99,6 +127,7 @@ operations_among [] = []
 operations_among (Declares e ∷ additions) =
     if is_operation e then e.path ∷ operations_among additions else operations_among additions
 operations_among (Uses n path body ∷ additions) = operations_among additions
+operations_among (Identifies path identity ∷ additions) = operations_among additions
 
 -- those of the innermost scope, with more
 abbrev pub more_inside : List (List (List (List ℕ))) → List (List (List ℕ))
@@ -112,7 +141,7 @@ innermost (own ∷ outer) = own
 
 -- after additions
 abbrev pub with_additions : List Addition → World → World
-with_additions additions w = record {
+with_additions additions w = record w {
   answers = λ k. over additions k (w.answers k);
   inside = more_inside w.inside (operations_among additions);
 }
@@ -147,13 +176,26 @@ closing w s =
     if kind_eq s.kind Interface then elim (entity_in (w.answers (entity_key s.path)))
     [ None ↦ [] | Some e ↦ Declares (closed w e) ∷ [] ] else []
 
--- after the innermost of these open scopes is closed; the global one never is
+-- the prefix that comes back where these were in force before, the last first
+abbrev pub given_back : List Prefix → Prefix
+given_back [] = no_prefix
+given_back (prefix ∷ earlier) = prefix
+
+-- with this prefix in force
+abbrev pub with_prefix : Prefix → (Key → Option Answer) → Key → Option Answer
+with_prefix prefix answers = with_answer PrefixKey (InForce prefix) answers
+
+-- after the innermost of these open scopes is closed; the global one never is. The prefix is again
+-- the one before it was opened
 abbrev pub after_closing : World → List Scope → World
 after_closing w [] = w
 after_closing w (s ∷ []) = w
 after_closing w (s ∷ t ∷ outer) = record {
-  answers = with_answer Cursor (Open (t ∷ outer)) (λ k. over (closing w s) k (w.answers k));
+  answers =
+      with_prefix (given_back w.before.opened)
+      (with_answer Cursor (Open (t ∷ outer)) (λ k. over (closing w s) k (w.answers k)));
   inside = drop 1 w.inside;
+  before = record w.before { opened = drop 1 w.before.opened };
 }
 
 -- after one more body of a scope is opened
@@ -163,6 +205,7 @@ after_opening w s = record {
       with_answer Cursor (Open (s ∷ scopes_in (w.answers Cursor)))
       (with_answer (Opened s.path) (Count s.body) w.answers);
   inside = [] ∷ w.inside;
+  before = record w.before { opened = prefix_in (w.answers PrefixKey) ∷ w.before.opened };
 }
 
 -- the number of the next body of the scope at a path
@@ -184,7 +227,29 @@ after_nameless w = record w {
   answers = with_answer Nameless (Count (count_in (w.answers Nameless) + 1)) w.answers;
 }
 
--- after a change of the open scopes
+-- after a prefix pragma: this text is in force, met in the innermost open scope
+abbrev pub after_prefix : World → List ℕ → World
+after_prefix w text = record w {
+  answers =
+      with_prefix (record { text = text; scope = path_around (scopes_in (w.answers Cursor)) })
+      w.answers;
+}
+
+-- after a file is entered: no prefix is in force
+abbrev pub after_entering : World → World
+after_entering w = record w {
+  answers = with_prefix no_prefix w.answers;
+  before = record w.before { entered = prefix_in (w.answers PrefixKey) ∷ w.before.entered };
+}
+
+-- after a file is left: the prefix is again the one before it was entered
+abbrev pub after_leaving : World → World
+after_leaving w = record w {
+  answers = with_prefix (given_back w.before.entered) w.answers;
+  before = record w.before { entered = drop 1 w.before.entered };
+}
+
+-- after a change of the open scopes, of the files entered, or of the prefix
 abbrev pub after_step : World → Step → World
 after_step w Stays = w
 after_step w (Opens path kind) =
@@ -195,6 +260,9 @@ after_step w (OpensNameless kind) =
     after_opening (after_nameless w)
     (record { path = path; kind = kind; body = next_body w path })
 after_step w Closes = after_closing w (scopes_in (w.answers Cursor))
+after_step w (Prefixes text) = after_prefix w text
+after_step w Enters = after_entering w
+after_step w Leaves = after_leaving w
 
 -- after what a unit adds
 abbrev pub after : World → UnitFacts → World

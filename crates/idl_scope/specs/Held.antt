@@ -7,16 +7,20 @@ use Rattle.idl_scope.specs.declared.addition.Addition.{Addition}
 use Rattle.idl_scope.specs.declared.answer.Answer.{Answer}
 use Rattle.idl_scope.specs.declared.answer.Scope.{Scope}
 use Rattle.idl_scope.specs.declared.key.Key.{Key}
+use Rattle.idl_scope.specs.declared.state.State.{State}
 
 -- each entry has the key of its addition
 abbrev pub HaveOwnKeys : List (Key × Addition) → Type 0
 HaveOwnKeys [] = Unit {0}
 HaveOwnKeys (e ∷ entries) = (e.0 ≡ key_of e.1) × HaveOwnKeys entries
 
--- what these answers, with the operations and attributes so far of open scopes, the innermost last,
--- hold
-abbrev pub held : List (Key × Answer) → List (List (List (List ℕ))) → World
-held entries inside = record { answers = λ k. lookup (key_eq k) entries; inside = reverse inside }
+-- what is kept comes to: the lists have the innermost scope, and the file that was entered last, last
+abbrev pub held : State → World
+held state = record {
+  answers = λ k. lookup (key_eq k) state.answers;
+  inside = reverse state.inside;
+  before = record { opened = reverse state.opened; entered = reverse state.entered };
+}
 
 -- the innermost of these open scopes, and those outward of it, where it is not the last
 abbrev pub closable : List Scope → Option (Scope × List Scope)

@@ -4,6 +4,7 @@ pub mod Digest
 pub mod Entity
 pub mod Facts
 pub mod Held
+pub mod Identity
 pub mod Key
 pub mod Kind
 pub mod Lookup

@@ -3,21 +3,23 @@ use Rattle.std.specs.Prelude.{◌≡◌, List, [], ◌∷◌, Option, Some, None
 use Rattle.idl_scope.specs.Facts.{UnitFacts, World, entity_key, scopes_in, entity_in, count_in, nameless, path_around, with_additions}
 use Rattle.idl_scope.specs.Kind.{kind_eq}
 use Rattle.idl_scope.specs.declared.addition.Step.{Step}
-use Rattle.idl_scope.specs.declared.addition.Step.TheVariants.{Stays, Opens, OpensNameless, Closes}
+use Rattle.idl_scope.specs.declared.addition.Step.TheVariants.{Stays, Opens, OpensNameless, Closes, Prefixes, Enters, Leaves}
 use Rattle.idl_scope.specs.declared.answer.Answer.{Answer}
 use Rattle.idl_scope.specs.declared.answer.Scope.{Scope}
 use Rattle.idl_scope.specs.declared.key.Key.{Key}
-use Rattle.idl_scope.specs.declared.key.Key.TheVariants.{Cursor, Opened, Nameless}
+use Rattle.idl_scope.specs.declared.key.Key.TheVariants.{Cursor, Opened, Nameless, Prefix as PrefixKey}
 use Rattle.idl_scope.specs.declared.kind.Kind.TheVariants.{Interface}
 
 -- at each key but these the answers are the same
 abbrev pub AgreeOutside : List Key → (Key → Option Answer) → (Key → Option Answer) → Type 0
 AgreeOutside keys answers other = (key : Key) → (Contains keys key → ⊥) → other key ≡ answers key
 
--- and so are two worlds, with the same operations and attributes of the open scopes
+-- and so are two worlds, with the same operations and attributes of the open scopes and the same
+-- prefixes that come back
 abbrev pub WorldsAgreeOutside : List Key → World → World → Type 0
 WorldsAgreeOutside keys w other =
-    AgreeOutside keys w.answers other.answers × (other.inside ≡ w.inside)
+    AgreeOutside keys w.answers other.answers
+    × ((other.inside ≡ w.inside) × (other.before ≡ w.before))
 
 -- the keys at which an interface's operations are gathered when it closes: its own and its bases'
 abbrev pub gathered_at : World → List Scope → List Key
@@ -29,14 +31,17 @@ gathered_at w (s ∷ t ∷ outer) =
     [ None ↦ [] | Some e ↦ map entity_key e.bases ]
     else []
 
--- the keys whose answers a change of the open scopes looks at
+-- the keys whose answers a change of the open scopes, of files or of the prefix looks at
 abbrev pub looked_at : World → Step → List Key
 looked_at w Stays = []
-looked_at w (Opens path kind) = Cursor ∷ Opened path ∷ []
+looked_at w (Opens path kind) = Cursor ∷ Opened path ∷ PrefixKey ∷ []
 looked_at w (OpensNameless kind) =
     let name = nameless (count_in (w.answers Nameless)) in
-    Nameless ∷ Cursor ∷ Opened (name ∷ path_around (scopes_in (w.answers Cursor))) ∷ []
+    Nameless ∷ Cursor ∷ Opened (name ∷ path_around (scopes_in (w.answers Cursor))) ∷ PrefixKey ∷ []
 looked_at w Closes = Cursor ∷ gathered_at w (scopes_in (w.answers Cursor))
+looked_at w (Prefixes text) = Cursor ∷ []
+looked_at w Enters = PrefixKey ∷ []
+looked_at w Leaves = []
 
 -- the keys that the facts of a unit look at
 abbrev pub looked_at_by : World → UnitFacts → List Key

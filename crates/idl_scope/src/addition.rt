@@ -5,6 +5,7 @@ ghost use Rattle.idl_scope.specs.Facts.{answer_of, key_of};
 
 use crate::answer::Answer;
 use crate::entity::Entity;
+use crate::identity::Identity;
 use crate::key::Key;
 use crate::kind::Kind;
 use crate::path::Path;
@@ -12,16 +13,18 @@ use crate::shared::Shared;
 use idl_lex::Spelling;
 use std::alloc::{AllocError, Global};
 
-/// What a declared name adds, or the use of one.
+/// What a declared name adds, the use of one, or a pragma about one.
 #[derive(Clone, Drop)]
 pub enum Addition {
     /// A name is declared as this entity, or is this from now on.
     Declares(Shared<Entity>),
     /// A folded name is introduced into the body with this number of the scope at a path.
     Uses(Spelling, Path, usize),
+    /// What is declared at a path has this id, or has it from now on.
+    Identifies(Path, Shared<Identity>),
 }
 
-/// How the open scopes change.
+/// How the open scopes, the files entered and the prefix of ids change.
 #[derive(Clone, Drop)]
 pub enum Step {
     /// They are as before.
@@ -32,6 +35,12 @@ pub enum Step {
     OpensNameless(Kind),
     /// The innermost scope is closed.
     Closes,
+    /// This prefix is in force from now on, met in the innermost open scope.
+    Prefixes(Spelling),
+    /// A file is entered.
+    Enters,
+    /// The file that was entered last is left.
+    Leaves,
 }
 
 impl Addition {
@@ -46,6 +55,7 @@ impl Addition {
                 let path = path.clone()?;
                 Ok(Key::Introduced(name, path, *body))
             }
+            Addition::Identifies(path, _) => Ok(Key::IdOf(path.clone()?)),
         }
     }
 
@@ -56,6 +66,7 @@ impl Addition {
         match self {
             Addition::Declares(entity) => Ok(Answer::Known(entity.clone()?)),
             Addition::Uses(_, _, _) => Ok(Answer::Used),
+            Addition::Identifies(_, identity) => Ok(Answer::Identified(identity.clone()?)),
         }
     }
 }

@@ -1,10 +1,12 @@
 //! What is answered about names.
 
-ghost use Rattle.std.specs.Prelude.{◌≡◌, IfOk};
+ghost use Rattle.std.specs.Prelude.{◌≡◌, IfOk, IfSome, None};
 ghost use Rattle.std.specs.Option.{option_copied};
-ghost use Rattle.idl_scope.specs.Facts.{count_in, entity_in, global_scope, scopes_in};
+ghost use Rattle.idl_scope.specs.Facts.{count_in, entity_in, global_scope, identity_in, no_prefix, prefix_in, scopes_in};
+ghost use Rattle.idl_scope.specs.declared.answer.Answer.TheVariants as answers;
 
 use crate::entity::Entity;
+use crate::identity::{Identity, Prefix};
 use crate::kind::Kind;
 use crate::path::Path;
 use crate::shared::Shared;
@@ -31,6 +33,10 @@ pub enum Answer {
     Used,
     /// So many were opened.
     Count(usize),
+    /// This prefix is in force.
+    InForce(Shared<Prefix>),
+    /// The name has this id.
+    Identified(Shared<Identity>),
 }
 
 impl Scope {
@@ -53,6 +59,8 @@ impl Drop for Answer {
             Answer::Open(_scopes) => {}
             Answer::Known(_entity) => {}
             Answer::Used | Answer::Count(_) => {}
+            Answer::InForce(_prefix) => {}
+            Answer::Identified(_identity) => {}
         }
     }
 }
@@ -100,5 +108,26 @@ pub fn count_in(answer: Option<&Answer>) -> usize
     match answer {
         Some(Answer::Count(count)) => *count,
         _ => 0,
+    }
+}
+
+/// The prefix that an answer tells is in force, if it does.
+pub fn prefix_in<'a>(answer: Option<&'a Answer>) -> Option<&'a Shared<Prefix>>
+    ensures none { result ≡ None → prefix_in (option_copied answer.entry) ≡ no_prefix }
+    ensures some { IfSome result (λ prefix. prefix_in (option_copied answer.entry) ≡ prefix.now) }
+{
+    match answer {
+        Some(Answer::InForce(prefix)) => Some(prefix),
+        _ => None,
+    }
+}
+
+/// The id that an answer tells, if it does.
+pub fn identity_in<'a>(answer: Option<&'a Answer>) -> Option<&'a Shared<Identity>>
+    ensures { option_copied result ≡ identity_in (option_copied answer.entry) }
+{
+    match answer {
+        Some(Answer::Identified(identity)) => Some(identity),
+        _ => None,
     }
 }

@@ -36,7 +36,7 @@ impl Model for Env {
     ghost view = { λ env. env.facts };
 
     ghost invariant = { λ env.
-        (env.count ≡ length env.facts) × (held env.state.answers env.state.inside ≡ world env.facts) };
+        (env.count ≡ length env.facts) × (held env.state ≡ world env.facts) };
 }
 
 impl Drop for Env {

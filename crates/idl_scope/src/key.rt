@@ -23,15 +23,20 @@ pub enum Key {
     Opened(Path),
     /// How many nameless scopes were opened.
     Nameless,
+    /// The prefix in force.
+    Prefix,
+    /// The id of what is declared at a path.
+    IdOf(Path),
 }
 
 impl Drop for Key {
     fn drop(self) {
         match self {
-            Key::Cursor | Key::Nameless => {}
+            Key::Cursor | Key::Nameless | Key::Prefix => {}
             Key::Declared(_name, _path) => {}
             Key::Introduced(_name, _path, _body) => {}
             Key::Opened(_path) => {}
+            Key::IdOf(_path) => {}
         }
     }
 }
@@ -74,6 +79,8 @@ impl Digest for Key {
             }
             Key::Opened(path) => { behind(path.outermost_digest(), mixed(path.digest(), 260)) }
             Key::Nameless => 261,
+            Key::Prefix => 262,
+            Key::IdOf(path) => behind(path.outermost_digest(), mixed(path.digest(), 263)),
         }
     }
 }

@@ -3,17 +3,18 @@
 ghost use Rattle.std.specs.Prelude.{◌≡◌, ◌≤◌, ◌++◌, ℕ, IfOk, OnOk, Some, map, option_to_list};
 ghost use Rattle.std.specs.Option.{option_copied};
 ghost use Rattle.idl_memo.specs.Query.{noted, run};
-ghost use Rattle.idl_scope.specs.Facts.{answer_of, answers, entity_in, over};
+ghost use Rattle.idl_scope.specs.Facts.{answer_of, answers, entity_in, identity_in, over, prefix_in};
 ghost use Rattle.idl_scope.specs.Key.{key_eq};
 ghost use Rattle.idl_scope.specs.Lookup.{bases_of, entered, has, outward, reached, under};
-ghost use Rattle.idl_scope.specs.declared.key.Key.TheVariants.{Declared};
+ghost use Rattle.idl_scope.specs.declared.key.Key.TheVariants.{Declared, IdOf, Prefix as PrefixKey};
 ghost use Rattle.idl_scope.specs.declared.lookup.TheConstants.{TURNS};
 
 use crate::addition::Addition;
-use crate::answer::{Answer, Scope, entity_in};
+use crate::answer::{Answer, Scope, entity_in, identity_in, prefix_in};
 use crate::entity::Entity;
 use crate::env::Env;
 use crate::facts::Facts;
+use crate::identity::{Identity, Prefix};
 use crate::key::Key;
 use crate::kind::Kind;
 use crate::path::Path;
@@ -58,6 +59,45 @@ impl<'a> View<'a> {
         match self.own.get(key) {
             Some(addition) => Ok(declared_by(addition)),
             None => Ok(entity_in(before)),
+        }
+    }
+
+    /// The prefix in force, which no addition changes.
+    #[tactic(auto, using(crate::proofs::AnswerLemmas::over_prefix))]
+    pub fn prefix(self, log: &mut Log<Env>) -> Result<Shared<Prefix>, AllocError>
+        ensures prefix { IfOk result (λ prefix.
+            prefix
+            ≡ prefix_in
+            (over self.entry.own.now.additions PrefixKey
+            (answers self.entry.env.now PrefixKey))) }
+        ensures logged { OnOk result
+            (log.new ≡ noted key_eq (answers self.entry.env.now) log.old PrefixKey) }
+    {
+        match prefix_in(log.ask(&Key::Prefix, self.env)?) {
+            Some(prefix) => prefix.clone(),
+            None => Prefix::none(self.env.alloc()),
+        }
+    }
+
+    /// The id of what is declared at a path.
+    pub fn identity(
+        self,
+        log: &mut Log<Env>,
+        path: &Path,
+    ) -> Result<Option<&'a Shared<Identity>>, AllocError>
+        ensures identity { IfOk result (λ d.
+            option_copied d
+            ≡ identity_in
+            (over self.entry.own.now.additions (IdOf path.now)
+            (answers self.entry.env.now (IdOf path.now)))) }
+        ensures logged { OnOk result
+            (log.new ≡ noted key_eq (answers self.entry.env.now) log.old (IdOf path.now)) }
+    {
+        let key = Key::IdOf(path.clone()?);
+        let before = log.ask(&key, self.env)?;
+        match self.own.get(&key) {
+            Some(addition) => Ok(identified_by(addition)),
+            None => Ok(identity_in(before)),
         }
     }
 
@@ -192,7 +232,17 @@ fn declared_by(addition: &Addition) -> Option<&Shared<Entity>>
 {
     match addition {
         Addition::Declares(entity) => Some(entity),
-        Addition::Uses(_, _, _) => None,
+        Addition::Uses(_, _, _) | Addition::Identifies(_, _) => None,
+    }
+}
+
+// The id that an addition tells, if it does.
+fn identified_by(addition: &Addition) -> Option<&Shared<Identity>>
+    ensures { option_copied result ≡ identity_in (Some (answer_of addition.now)) }
+{
+    match addition {
+        Addition::Identifies(_, identity) => Some(identity),
+        Addition::Declares(_) | Addition::Uses(_, _, _) => None,
     }
 }
 

@@ -1,39 +1,43 @@
 //! What the facts so far come to.
 
-ghost use Rattle.std.specs.Prelude.{◌≡◌, ◌<◌, ◌∷◌, ◌++◌, [], IfOk, OnOk, drop, map, option_to_list, reverse};
+ghost use Rattle.std.specs.Prelude.{◌≡◌, ◌<◌, ◌∷◌, ◌++◌, [], IfOk, drop, map, OnOk, option_to_list, reverse};
 ghost use Rattle.std.specs.Option.{option_map};
-ghost use Rattle.idl_scope.specs.Facts.{after, after_closing, after_nameless, after_opening, after_step, closed, closing, entity_key, first_world, inherited, innermost, joined, more_inside, nameless, next_body, operations_among, operations_of, path_around, with_additions, with_answer, count_in, entity_in, scopes_in, over};
+ghost use Rattle.idl_scope.specs.Facts.{after, after_closing, after_nameless, after_opening, after_step, closed, closing, entity_key, first_world, given_back, inherited, innermost, joined, more_inside, nameless, next_body, no_prefix, operations_among, operations_of, path_around, prefix_in, with_additions, with_answer, count_in, entity_in, scopes_in, over};
 ghost use Rattle.idl_scope.specs.Held.{closable, held};
 ghost use Rattle.idl_scope.specs.Key.{key_eq};
 ghost use Rattle.idl_scope.specs.declared.addition.Addition.TheVariants.{Declares};
-ghost use Rattle.idl_scope.specs.declared.addition.Step.TheVariants.{Closes, Opens, OpensNameless};
+ghost use Rattle.idl_scope.specs.declared.addition.Step.TheVariants.{Closes, Enters, Leaves, Opens, OpensNameless, Prefixes};
 ghost use Rattle.idl_scope.specs.declared.answer.Answer.TheVariants as answers;
 ghost use Rattle.idl_scope.specs.declared.key.Key.{Key};
-ghost use Rattle.idl_scope.specs.declared.key.Key.TheVariants.{Opened};
+ghost use Rattle.idl_scope.specs.declared.key.Key.TheVariants.{Opened, Prefix as PrefixKey};
 ghost use Rattle.idl_scope.specs.declared.kind.Stage.TheVariants as stages;
-ghost use Rattle.std.specs.Map.{keys_of, lookup};
+ghost use Rattle.std.specs.Map.{lookup};
 
 use crate::addition::{Addition, Step};
-use crate::answer::{Answer, Scope, count_in, entity_in, scopes_in};
+use crate::answer::{Answer, Scope, count_in, entity_in, prefix_in, scopes_in};
 use crate::entity::Entity;
 use crate::facts::Facts;
+use crate::identity::Prefix;
 use crate::key::Key;
 use crate::kind::{Kind, Stage};
 use crate::name::shared_name;
+use crate::operations::{add_inside, append, inherited, innermost, leave, operations_among};
 use crate::path::Path;
-use crate::queue::join;
 use crate::shared::Shared;
-use idl_base::{Seq, Table};
+use idl_base::Seq;
 use idl_lex::Spelling;
 use idl_map::{Map, SharedList};
 use itoa::Buffer;
 use std::alloc::{AllocError, Global};
 
-/// The answers at their keys, and beside them the paths of the operations and attributes so far of each open scope, the
-/// innermost last. Its copies share both.
+/// The answers at their keys, and beside them the paths of the operations and attributes so far of each open scope, and the
+/// prefixes that were in force before the open scopes were opened and before files were entered, the innermost last. Its
+/// copies share all of it.
 pub struct State {
     pub answers: Map<Key, Answer>,
     pub inside: SharedList<SharedList<Path>>,
+    pub opened: SharedList<Shared<Prefix>>,
+    pub entered: SharedList<Shared<Prefix>>,
 }
 
 impl Drop for State {
@@ -41,6 +45,8 @@ impl Drop for State {
         let State {
             answers: _answers,
             inside: _inside,
+            opened: _opened,
+            entered: _entered,
         } = self;
     }
 }
@@ -51,29 +57,41 @@ impl Clone for State {
     fn clone(&self) -> Result<State, AllocError> {
         let answers = self.answers.clone()?;
         let inside = self.inside.clone()?;
-        Ok(State { answers, inside })
+        let opened = self.opened.clone()?;
+        let entered = self.entered.clone()?;
+        Ok(State {
+            answers,
+            inside,
+            opened,
+            entered,
+        })
     }
 }
 
 impl State {
     /// The global scope is open, and nothing is declared.
     pub fn new(alloc: Global) -> Result<State, AllocError>
-        ensures { IfOk result (λ state. held state.answers state.inside ≡ first_world) }
+        ensures { IfOk result (λ state. held state ≡ first_world) }
     {
         let scopes = opened(alloc, Scope::global(alloc)?, &[])?;
         let mut answers = Map::new();
         answers.insert(alloc, Key::Cursor, scopes)?;
+        answers.insert(alloc, Key::Prefix, Answer::InForce(Prefix::none(alloc)?))?;
         let mut inside = SharedList::new();
         inside.push(alloc, SharedList::new())?;
-        Ok(State { answers, inside })
+        Ok(State {
+            answers,
+            inside,
+            opened: SharedList::new(),
+            entered: SharedList::new(),
+        })
     }
 
     /// What it comes to with what a unit adds.
     pub fn add(&mut self, alloc: Global, facts: &Facts) -> Result<(), AllocError>
         requires { (key : Key) → count_in (lookup (key_eq key) self.old.answers) < 18446744073709551615 }
         ensures { OnOk result
-            (held self.new.answers self.new.inside
-            ≡ after (held self.old.answers self.old.inside) facts.now) }
+            (held self.new ≡ after (held self.old) facts.now) }
     {
         self.add_all(alloc, facts)?;
         self.take(alloc, facts.step())
@@ -83,22 +101,23 @@ impl State {
     fn take(&mut self, alloc: Global, step: &Step) -> Result<(), AllocError>
         requires { (key : Key) → count_in (lookup (key_eq key) self.old.answers) < 18446744073709551615 }
         ensures { OnOk result
-            (held self.new.answers self.new.inside
-            ≡ after_step (held self.old.answers self.old.inside) step.now) }
+            (held self.new ≡ after_step (held self.old) step.now) }
     {
         match step {
             Step::Stays => Ok(()),
             Step::Opens(path, kind) => self.open(alloc, path, *kind),
             Step::OpensNameless(kind) => self.open_nameless(alloc, *kind),
             Step::Closes => self.close(alloc),
+            Step::Prefixes(text) => self.put_prefix(alloc, text),
+            Step::Enters => self.enter(alloc),
+            Step::Leaves => self.leave(alloc),
         }
     }
 
     // What it comes to with the additions.
     fn add_all(&mut self, alloc: Global, facts: &Facts) -> Result<(), AllocError>
         ensures { OnOk result
-            (held self.new.answers self.new.inside
-            ≡ with_additions facts.now.additions (held self.old.answers self.old.inside)) }
+            (held self.new ≡ with_additions facts.now.additions (held self.old)) }
     {
         put_all(alloc, &mut self.answers, facts)?;
         add_inside(
@@ -112,16 +131,17 @@ impl State {
     fn open(&mut self, alloc: Global, path: &Path, kind: Kind) -> Result<(), AllocError>
         requires { count_in (lookup (key_eq (Opened path.now)) self.old.answers) < 18446744073709551615 }
         ensures { OnOk result
-            (held self.new.answers self.new.inside
-            ≡ after_step (held self.old.answers self.old.inside) (Opens path.now kind)) }
+            (held self.new ≡ after_step (held self.old) (Opens path.now kind)) }
     {
         let scope = self.next_body(path, kind)?;
         let body = scope.body;
         let key = Key::Opened(scope.path.clone()?);
         let scopes = opened(alloc, scope, scopes_in(self.answers.get(&Key::Cursor)))?;
+        let prefix = self.prefix(alloc)?;
         self.answers.insert(alloc, key, Answer::Count(body))?;
         self.answers.insert(alloc, Key::Cursor, scopes)?;
         self.inside.push(alloc, SharedList::new())?;
+        self.opened.push(alloc, prefix)?;
         Ok(())
     }
 
@@ -133,7 +153,7 @@ impl State {
             ≡ record {
               path = path.now;
               kind = kind;
-              body = next_body (held self.now.answers self.now.inside) path.now;
+              body = next_body (held self.now) path.now;
             }) }
     {
         let key = Key::Opened(path.clone()?);
@@ -146,8 +166,7 @@ impl State {
     fn open_nameless(&mut self, alloc: Global, kind: Kind) -> Result<(), AllocError>
         requires { (key : Key) → count_in (lookup (key_eq key) self.old.answers) < 18446744073709551615 }
         ensures { OnOk result
-            (held self.new.answers self.new.inside
-            ≡ after_step (held self.old.answers self.old.inside) (OpensNameless kind)) }
+            (held self.new ≡ after_step (held self.old) (OpensNameless kind)) }
     {
         let number = count_in(self.answers.get(&Key::Nameless));
         let name = nameless_name(alloc, number)?;
@@ -160,8 +179,7 @@ impl State {
     // What it comes to with the innermost scope closed, if it isn't the global one.
     fn close(&mut self, alloc: Global) -> Result<(), AllocError>
         ensures { OnOk result
-            (held self.new.answers self.new.inside
-            ≡ after_step (held self.old.answers self.old.inside) Closes) }
+            (held self.new ≡ after_step (held self.old) Closes) }
     {
         let Some((scope, outer)) = closable(scopes_in(self.answers.get(&Key::Cursor))) else {
             return Ok(());
@@ -170,13 +188,62 @@ impl State {
         let closing = self.closing(alloc, scope)?;
         put_closing(alloc, &mut self.answers, &closing)?;
         self.answers.insert(alloc, Key::Cursor, scopes)?;
-        leave(&mut self.inside)
+        leave(&mut self.inside)?;
+        let prefix = taken_last(alloc, &mut self.opened)?;
+        self.answers
+            .insert(alloc, Key::Prefix, Answer::InForce(prefix))?;
+        Ok(())
+    }
+
+    // The prefix in force.
+    fn prefix(&self, alloc: Global) -> Result<Shared<Prefix>, AllocError>
+        ensures { IfOk result (λ prefix.
+            prefix ≡ prefix_in (lookup (key_eq PrefixKey) self.now.answers)) }
+    {
+        match prefix_in(self.answers.get(&Key::Prefix)) {
+            Some(prefix) => prefix.clone(),
+            None => Prefix::none(alloc),
+        }
+    }
+
+    // What it comes to with a prefix pragma.
+    fn put_prefix(&mut self, alloc: Global, text: &Spelling) -> Result<(), AllocError>
+        ensures { OnOk result (held self.new ≡ after_step (held self.old) (Prefixes text.now)) }
+    {
+        let text = text.clone()?;
+        let scope = path_of_first(alloc, scopes_in(self.answers.get(&Key::Cursor)))?;
+        let prefix = Shared::new(alloc, Prefix { text, scope })?;
+        self.answers
+            .insert(alloc, Key::Prefix, Answer::InForce(prefix))?;
+        Ok(())
+    }
+
+    // What it comes to with a file entered.
+    fn enter(&mut self, alloc: Global) -> Result<(), AllocError>
+        ensures { OnOk result (held self.new ≡ after_step (held self.old) Enters) }
+    {
+        let prefix = self.prefix(alloc)?;
+        let none = Prefix::none(alloc)?;
+        self.answers
+            .insert(alloc, Key::Prefix, Answer::InForce(none))?;
+        self.entered.push(alloc, prefix)?;
+        Ok(())
+    }
+
+    // What it comes to with a file left.
+    fn leave(&mut self, alloc: Global) -> Result<(), AllocError>
+        ensures { OnOk result (held self.new ≡ after_step (held self.old) Leaves) }
+    {
+        let prefix = taken_last(alloc, &mut self.entered)?;
+        self.answers
+            .insert(alloc, Key::Prefix, Answer::InForce(prefix))?;
+        Ok(())
     }
 
     // The interface that is closed with this scope, if it is of one.
     fn closing(&self, alloc: Global, scope: &Scope) -> Result<Option<Shared<Entity>>, AllocError>
         ensures { IfOk result (λ entity.
-            closing (held self.now.answers self.now.inside) scope.now
+            closing (held self.now) scope.now
             ≡ map Declares (option_to_list entity)) }
     {
         if !scope.kind.inherits() {
@@ -236,24 +303,20 @@ fn put_closing(
     Ok(())
 }
 
-// The innermost ones.
-fn innermost(alloc: Global, inside: &SharedList<SharedList<Path>>) -> Result<Vec<Path>, AllocError>
-    ensures { IfOk result (λ paths. paths.items ≡ innermost (reverse inside.now)) }
+// The prefix that was put there last, taken off.
+fn taken_last(
+    alloc: Global,
+    before: &mut SharedList<Shared<Prefix>>,
+) -> Result<Shared<Prefix>, AllocError>
+    ensures prefix { IfOk result (λ prefix. prefix ≡ given_back (reverse before.old)) }
+    ensures others { IfOk result (λ prefix. reverse before.new ≡ drop 1 (reverse before.old)) }
 {
-    match inside.split_last()? {
-        Some((_outer, own)) => own.to_vec(alloc),
-        None => Ok(Vec::new(alloc)),
-    }
-}
-
-// All but the innermost.
-fn leave(inside: &mut SharedList<SharedList<Path>>) -> Result<(), AllocError>
-    ensures { OnOk result (reverse inside.new ≡ drop 1 (reverse inside.old)) }
-{
-    if let Some((outer, _own)) = inside.split_last()? {
-        *inside = outer;
-    }
-    Ok(())
+    let Some((earlier, last)) = before.split_last()? else {
+        return Prefix::none(alloc);
+    };
+    let prefix = last.clone()?;
+    *before = earlier;
+    Ok(prefix)
 }
 
 // An interface as it is once it is closed, with these operations and attributes.
@@ -279,62 +342,6 @@ fn closed(interface: &Entity, operations: Vec<Path>) -> Result<Entity, AllocErro
     })
 }
 
-// The operations and attributes of the bases in their order, none twice.
-fn inherited(
-    alloc: Global,
-    answers: &Map<Key, Answer>,
-    bases: &[Path],
-) -> Result<Vec<Path>, AllocError>
-    ensures { IfOk result (λ paths.
-        paths.items ≡ inherited (λ k. lookup (key_eq k) answers.now) [] bases.now) }
-{
-    let mut found = Table::new(alloc);
-    for base in bases {
-        join(&mut found, operations_at(alloc, answers, base)?)?;
-    }
-    listed(alloc, &found)
-}
-
-// The operations and attributes of the closed interface at a path.
-fn operations_at<'a>(
-    alloc: Global,
-    answers: &'a Map<Key, Answer>,
-    path: &Path,
-) -> Result<&'a [Path], AllocError>
-    ensures { IfOk result (λ paths.
-        paths.now ≡ operations_of (entity_in (lookup (key_eq (entity_key path.now)) answers.now))) }
-{
-    let key = Key::of_entity(alloc, path)?;
-    match entity_in(answers.get(&key)) {
-        Some(entity) => Ok(entity.get().operations.as_slice()),
-        None => Ok(&[]),
-    }
-}
-
-// The paths of a queue in order.
-fn listed(alloc: Global, found: &Table<Path, ()>) -> Result<Vec<Path>, AllocError>
-    ensures { IfOk result (λ paths. paths.items ≡ keys_of found.now) }
-{
-    let mut paths = Vec::new(alloc);
-    for index in 0..found.len() {
-        let Some((path, ())) = found.get_index(index) else {
-            continue;
-        };
-        paths.push(path.clone()?)?;
-    }
-    Ok(paths)
-}
-
-// These paths, and copies of the others.
-fn append(paths: &mut Vec<Path>, others: &[Path]) -> Result<(), AllocError>
-    ensures { OnOk result (paths.new.items ≡ paths.old.items ++ others.now) }
-{
-    for path in others {
-        paths.push(path.clone()?)?;
-    }
-    Ok(())
-}
-
 // The answers with those of the additions.
 fn put_all(alloc: Global, answers: &mut Map<Key, Answer>, facts: &Facts) -> Result<(), AllocError>
     ensures { OnOk result
@@ -347,66 +354,6 @@ fn put_all(alloc: Global, answers: &mut Map<Key, Answer>, facts: &Facts) -> Resu
             continue;
         };
         answers.insert(alloc, addition.key(alloc)?, addition.answer()?)?;
-    }
-    Ok(())
-}
-
-// The paths of the operations and attributes among what is declared.
-fn operations_among(alloc: Global, facts: &Facts) -> Result<Vec<Path>, AllocError>
-    ensures { IfOk result (λ paths. paths.items ≡ operations_among facts.now.additions) }
-{
-    let mut paths = Vec::new(alloc);
-    for index in 0..facts.len() {
-        let Some(addition) = facts.addition(index) else {
-            continue;
-        };
-        keep_operation(&mut paths, addition)?;
-    }
-    Ok(paths)
-}
-
-// Keeps the path of what an addition declares, if it is an operation or attribute.
-fn keep_operation(paths: &mut Vec<Path>, addition: &Addition) -> Result<(), AllocError>
-    ensures { OnOk result
-        (paths.new.items ≡ paths.old.items ++ operations_among (addition.now ∷ [])) }
-{
-    let Addition::Declares(entity) = addition else {
-        return Ok(());
-    };
-    if !entity.get().is_operation() {
-        return Ok(());
-    }
-    paths.push(entity.get().path.clone()?)?;
-    Ok(())
-}
-
-// The innermost ones with more.
-fn add_inside(
-    alloc: Global,
-    inside: &mut SharedList<SharedList<Path>>,
-    paths: &[Path],
-) -> Result<(), AllocError>
-    ensures { OnOk result (reverse inside.new ≡ more_inside (reverse inside.old) paths.now) }
-{
-    if paths.is_empty() {
-        return Ok(());
-    }
-    let Some((mut outer, own)) = inside.split_last()? else {
-        return Ok(());
-    };
-    let mut own = own.clone()?;
-    put_last(alloc, &mut own, paths)?;
-    outer.push(alloc, own)?;
-    *inside = outer;
-    Ok(())
-}
-
-// Puts copies of the paths last.
-fn put_last(alloc: Global, own: &mut SharedList<Path>, paths: &[Path]) -> Result<(), AllocError>
-    ensures { OnOk result (own.new ≡ own.old ++ paths.now) }
-{
-    for path in paths {
-        own.push(alloc, path.clone()?)?;
     }
     Ok(())
 }
@@ -440,6 +387,16 @@ fn child_of_first(alloc: Global, scopes: &[Scope], name: &Spelling) -> Result<Pa
     match scopes {
         [] => Path::global(alloc)?.child(alloc, name),
         [innermost, ..] => innermost.path.child(alloc, name),
+    }
+}
+
+// The path of the innermost of the scopes.
+fn path_of_first(alloc: Global, scopes: &[Scope]) -> Result<Path, AllocError>
+    ensures { IfOk result (λ path. path ≡ path_around scopes.now) }
+{
+    match scopes {
+        [] => Path::global(alloc),
+        [innermost, ..] => innermost.path.clone(),
     }
 }
 

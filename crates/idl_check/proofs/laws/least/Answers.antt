@@ -1,7 +1,7 @@
 use Rattle.std.proofs.Common.{◌∙◌, sym}
 use Rattle.idl_check.specs.AllFaults.{unit_faults}
 use Rattle.idl_check.proofs.LeastFault.{least-among, least-before, least-none}
-use Rattle.idl_check.proofs.VerdictLaws.{least-is}
+use Rattle.idl_check.proofs.PragmaLaws.{least-is}
 use Rattle.idl_check.proofs.laws.least.Goals as goal
 
 pub returns-clause-is : goal.returns-clause-is

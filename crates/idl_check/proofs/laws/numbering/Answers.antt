@@ -1,4 +1,5 @@
 use Rattle.idl_check.proofs.NumberLaws.{told-within}
+use Rattle.idl_check.proofs.PragmaLaws.{pragma-within}
 use Rattle.idl_check.proofs.SiteLaws.{faults-within, walked-at}
 use Rattle.idl_check.proofs.laws.numbering.Goals as goal
 
@@ -10,3 +11,6 @@ returns-clause-site c = faults-within
 
 pub returns-clause-told : goal.returns-clause-told
 returns-clause-told c = told-within
+
+pub returns-clause-pragma : goal.returns-clause-pragma
+returns-clause-pragma c = pragma-within

@@ -1,5 +1,4 @@
-use Rattle.std.proofs.Common.{refl}
-use Rattle.idl_check.specs.Verdict.{verdict}
+use Rattle.idl_check.proofs.PragmaLaws.{asks-pragma, prefix-asks}
 use Rattle.idl_check.proofs.VerdictLaws.{none-spelled, verdict-asks}
 use Rattle.idl_check.proofs.laws.questions.Goals as goal
 
@@ -10,5 +9,7 @@ pub returns-clause-tree : goal.returns-clause-tree
 returns-clause-tree c = λ turns tokens answers no. verdict-asks turns answers tokens (λ none. none-spelled tokens no)
 
 pub returns-clause-pragma : goal.returns-clause-pragma
-unfolding verdict
-returns-clause-pragma c = λ turns tokens inside answers. refl
+returns-clause-pragma c = asks-pragma
+
+pub returns-clause-prefix : goal.returns-clause-prefix
+returns-clause-prefix c = prefix-asks

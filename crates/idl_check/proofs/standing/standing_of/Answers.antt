@@ -1,11 +1,13 @@
 use Rattle.std.proofs.Common.{sym, ap, ◌∙◌}
+use Rattle.std.specs.Prelude.{is_some}
 use Rattle.idl_memo.specs.Query.{and_then, noted}
 use Rattle.idl_check.proofs.StandingLemmas.{counted, standing_by}
 use Rattle.idl_check.specs.Declaring.{inherited}
-use Rattle.idl_scope.proofs.RunLemmas.{runs}
-use Rattle.idl_scope.specs.Facts.{answers}
+use Rattle.idl_check.specs.Identifying.{ids_of}
+use Rattle.idl_scope.proofs.RunLemmas.{runs, seen_at}
+use Rattle.idl_scope.specs.Facts.{answers, entity_in}
 use Rattle.idl_scope.specs.Key.{key_eq}
-use Rattle.idl_scope.specs.declared.key.Key.TheVariants.{Introduced}
+use Rattle.idl_scope.specs.declared.key.Key.TheVariants.{Declared, Introduced}
 use Rattle.idl_check.proofs.standing.standing_of.Goals as goal
 
 pub returns : goal.returns
@@ -13,16 +15,23 @@ returns c = λ turns h.
     let own = c.args.view.own.now.additions in
     let bank = answers c.args.view.env.now in
     let s = c.args.scope.now in
-    let n = c.args.name.now in
+    let e = c.args.new.now in
     let log = c.args.log.now in
-    let logs = c.in_ok-is_used.ensures.logged ∙ ap (λ l. noted key_eq bank l (Introduced n s.path s.body)) c.in_ok-there.ensures.logged in
-    let last = c.in_ok-is_inherited.ensures turns h ∙ ap (λ l. runs own bank (and_then (inherited turns s n) counted) l) logs in
+    let name = c.in_ok-name.ensures in
+    let there = c.in_ok-there.ensures.there ∙ ap (λ n. entity_in (seen_at own bank (Declared n s.path))) name in
+    let is_used = c.in_ok-is_used.ensures.used ∙ ap (λ n. is_some (seen_at own bank (Introduced n s.path s.body))) name in
+    let logs = c.in_ok-is_used.ensures.logged
+    ∙ ap (λ l. noted key_eq bank l (Introduced c.in_ok-name.name s.path s.body)) c.in_ok-there.ensures.logged
+    ∙ ap (λ n. noted key_eq bank (noted key_eq bank log (Declared n s.path)) (Introduced n s.path s.body)) name in
+    let last = c.in_ok-is_inherited.ensures turns h ∙ (λ i. runs own bank (and_then (inherited turns s (name i)) counted) (logs i)) in
+    let told = c.in_ok-ids.ensures ∙ ap (λ t. runs own bank (ids_of t e) c.is_inherited.new.log) there in
     (λ i. (
       record {
-        there = c.in_ok-there.ensures.there i;
-        is_used = c.in_ok-is_used.ensures.used i;
+        there = there i;
+        is_used = is_used i;
         is_inherited = c.in_ok-is_inherited.is_inherited;
+        ids = c.in_ok-ids.ids;
       },
-      c.is_inherited.new.log,
+      c.ids_of.new.log,
     ))
-    ∙ sym (standing_by own bank turns s n log c.in_ok-is_inherited.is_inherited c.is_inherited.new.log last)
+    ∙ sym (standing_by own bank turns s e log c.in_ok-is_inherited.is_inherited c.is_inherited.new.log c.in_ok-ids.ids c.ids_of.new.log last told)

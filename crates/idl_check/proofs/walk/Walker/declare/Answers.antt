@@ -4,11 +4,8 @@ use Rattle.idl_check.proofs.VisitLemmas.{declared_in, first-at, runs_over}
 use Rattle.idl_check.specs.Declaring.{entity_of, standing}
 use Rattle.idl_check.specs.Held.{held}
 use Rattle.idl_check.specs.Walk.{declared_visit, noted_in}
-use Rattle.idl_lex.specs.Keywords.{folded}
 use Rattle.idl_scope.specs.Facts.{answers}
 use Rattle.idl_scope.specs.Lookup.{under}
-use Rattle.idl_scope.specs.Path.{name_of}
-use Rattle.idl_scope.specs.declared.entity.Entity.{Entity}
 use Rattle.idl_unit.specs.TokenRules.{first}
 use Rattle.idl_check.proofs.walk.Walker.declare.Goals as goal
 
@@ -26,10 +23,10 @@ returns-clause-visited c = λ turns more.
     let scope : c.in_ok-scope.scope ≡ s = λ i. record { path = parts.0 i; kind = parts.1.0 i; body = parts.1.1 i } in
     let spelled = c.in_ok-spelled.ensures ∙ c.as_bytes.ensures in
     let entity = c.in_ok-entity.ensures ∙ (λ i. entity_of w.written way (spelled i) (scope i).path) in
-    let named = c.in_ok-folded.ensures ∙ ap (λ (e : Entity). folded (name_of e.path)) (c.get.ensures ∙ entity) in
+    let new = c.get.ensures ∙ entity in
     let innermost : first w.cursor ≡ Some s = first-at w.cursor ∙ ap (λ scopes. slice_get scopes 0) (sym c.deref.ensures.value) ∙ sym c.in-Some.ensures.value in
     let gives = c.in_ok-standing.ensures turns more
-    ∙ (λ i. runs_over (answers (c.view.ensures.env i)) (under (c.view.ensures.own i).additions (standing turns (scope i) (named i))) log) in
+    ∙ (λ i. runs_over (answers (c.view.ensures.env i)) (under (c.view.ensures.own i).additions (standing turns (scope i) (new i))) log) in
     (λ i. (c.in_ok-declare_as.ensures.visit i, after))
     ∙ (λ i. (noted_in (declared_visit w (scope i) (entity i) there) w.fault, after))
     ∙ sym (declared_in bank turns way name w log s there after innermost gives)

@@ -1,12 +1,16 @@
-use Rattle.std.proofs.Common.{◌+◌, ◌∷◌, ◌++◌, [], Some, cond, ◌∙◌}
+use Rattle.std.proofs.Common.{List, ◌+◌, ◌∷◌, ◌++◌, [], Some, cond, ◌∙◌}
 use Rattle.idl_check.proofs.NotedLemmas.{noted-by}
 use Rattle.idl_check.proofs.TableLaws.{declared-up}
 use Rattle.idl_check.specs.Codes.{codes_in}
-use Rattle.idl_check.specs.Declaring.{declared_table, with_declared, written_after}
+use Rattle.idl_check.specs.Declaring.{declared_table, stays, with_declared, written_after}
 use Rattle.idl_check.specs.Held.{held, held_written}
+use Rattle.idl_check.specs.Identifying.{with_identity}
 use Rattle.idl_check.specs.Walk.{Walk}
 use Rattle.idl_check.specs.declared.walk.Walker.{Walker}
+use Rattle.idl_scope.specs.Facts.{with_addition}
 use Rattle.idl_scope.specs.Kind.{kind_eq, stage_eq}
+use Rattle.idl_scope.specs.declared.addition.Addition.{Addition}
+use Rattle.idl_scope.specs.declared.addition.Addition.TheVariants.{Declares}
 use Rattle.idl_scope.specs.declared.kind.Kind.TheVariants.{Alias}
 use Rattle.idl_scope.specs.declared.kind.Stage.TheVariants.{Begun}
 use Rattle.idl_unit.specs.TokenRules.{first}
@@ -23,11 +27,12 @@ returns-clause-visit c =
     let fault = noted-by old.fault old.at (declared_table s there e) c.in_ok-code.code (declared-up s there e) code in
     let after : Walker → Walk = λ w. record (held w) {
       at = w.at + 1;
-      own = with_declared there.there e w.own.additions;
+      own = with_declared there e w.own.additions;
       begun = w.begun.items ++ cond (stage_eq e.stage Begun) (e ∷ []) [];
       written = written_after (held_written w.written) e;
       alias = cond (kind_eq e.kind Alias) (Some e) w.alias;
     } in
+    let adds : List Addition → List Addition = λ own. cond (stays there.there e) own (with_addition own (Declares e)) in
     (λ i. record (held noted) {
       at = noted.at + 1;
       own = (c.in_ok-add_declared.ensures i).additions;
@@ -35,6 +40,10 @@ returns-clause-visit c =
       written = c.in_ok-declare.ensures i;
       alias = c.in_ok-keep_alias.ensures i;
     })
-    ∙ (λ i. record (after noted) { written = written_after (held_written noted.written) (c.get-2.ensures i) })
+    ∙ (λ i. record (after noted) {
+      own = adds (c.in_ok-add_identity.ensures i).additions;
+      written = written_after (held_written noted.written) (c.get-2.ensures i);
+    })
+    ∙ (λ i. record (after noted) { own = adds (with_identity there.there there.ids (c.get-3.ensures i) noted.own.additions) })
     ∙ (λ i. after (c.note.ensures i))
     ∙ (λ i. record (after old) { fault = fault i })

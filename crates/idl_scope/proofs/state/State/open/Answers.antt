@@ -1,15 +1,16 @@
-use Rattle.std.proofs.Common.{◌≡◌, ap, ◌∙◌, ◌++◌, ◌∷◌, []}
+use Rattle.std.proofs.Common.{◌≡◌, ap, ◌∙◌, ◌++◌, ◌∷◌, [], refl}
 use Rattle.idl_scope.specs.Facts.{after_opening, scopes_in, with_answer}
 use Rattle.idl_scope.specs.Held.{held}
 use Rattle.idl_scope.specs.declared.answer.Answer.TheVariants.{Open, Count}
 use Rattle.idl_scope.specs.declared.key.Key.TheVariants.{Cursor, Opened}
+use Rattle.idl_scope.specs.declared.state.State.{State}
 use Rattle.idl_scope.proofs.StateLemmas.{held-opening, kept}
 use Rattle.idl_scope.proofs.state.State.open.Goals as goal
 
 pub returns : goal.returns
 returns c =
-    let entries = c.args.self.now.answers in
-    let inside = c.args.self.now.inside in
+    let state = c.args.self.now in
+    let entries = state.answers in
     let scope = c.in_ok-scope.scope in
     let put : kept c.insert.new.self ≡ with_answer (Opened scope.path) (Count scope.body) (kept entries) =
     (λ i k. c.in_ok-insert.ensures.each_key k i) ∙ ap (λ p. with_answer (Opened p) (Count scope.body) (kept entries)) c.in_ok-clone.ensures.cases in
@@ -17,6 +18,8 @@ returns c =
     (λ i k. c.in_ok-insert-2.ensures.each_key k i) ∙ ap (with_answer Cursor c.in_ok-scopes.scopes) put in
     let outer = c.scopes_in.ensures ∙ ap scopes_in c.get.ensures in
     let opened = c.in_ok-scopes.ensures ∙ ap (λ scopes. Open (scope ∷ scopes)) outer in
-    let within = c.in_ok-push.ensures.items ∙ ap (λ own. inside ++ own ∷ []) c.new.ensures in
-    held-opening entries c.insert-2.new.self inside c.push.new.self scope c.in_ok-scopes.scopes opened both within
-    ∙ ap (after_opening (held entries inside)) c.in_ok-scope.ensures
+    let within = c.in_ok-push.ensures.items ∙ ap (λ own. state.inside ++ own ∷ []) c.new.ensures in
+    let before = c.in_ok-push-2.ensures.items ∙ ap (λ prefix. state.opened ++ prefix ∷ []) c.in_ok-prefix.ensures in
+    let after : State = record { answers = c.insert-2.new.self; inside = c.push.new.self; opened = c.push-2.new.self; entered = state.entered } in
+    held-opening state after scope c.in_ok-scopes.scopes opened both within before refl
+    ∙ ap (after_opening (held state)) c.in_ok-scope.ensures

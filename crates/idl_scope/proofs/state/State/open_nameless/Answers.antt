@@ -1,4 +1,4 @@
-use Rattle.std.proofs.Common.{◌≡◌, ap, ◌∙◌, ◌+◌, ◌∷◌, reverse}
+use Rattle.std.proofs.Common.{◌≡◌, ap, ◌∙◌, ◌+◌, ◌∷◌}
 use Rattle.std.proofs.lemmas.Result.{IfOk-weaker}
 use Rattle.idl_scope.specs.Facts.{after_nameless, after_step, count_in, nameless, path_around, scopes_in, with_answer}
 use Rattle.idl_scope.specs.Held.{held}
@@ -16,12 +16,11 @@ open-requires c =
 
 pub returns : goal.returns
 returns c =
-    let entries = c.args.self.now.answers in
-    let inside = c.args.self.now.inside in
+    let state = c.args.self.now in
     let number = c.count_in-number.ensures ∙ ap count_in c.get.ensures in
-    let put : kept c.insert.new.self ≡ (after_nameless (held entries inside)).answers =
-    (λ i k. c.in_ok-insert.ensures.each_key k i) ∙ ap (λ n. with_answer Nameless (Count (n + 1)) (kept entries)) number in
-    let counted : held c.insert.new.self inside ≡ after_nameless (held entries inside) = λ i. record { answers = put i; inside = reverse inside } in
+    let put : kept c.insert.new.self ≡ (after_nameless (held state)).answers =
+    (λ i k. c.in_ok-insert.ensures.each_key k i) ∙ ap (λ n. with_answer Nameless (Count (n + 1)) (kept state.answers)) number in
+    let counted : held (record state { answers = c.insert.new.self }) ≡ after_nameless (held state) = λ i. record (held state) { answers = put i } in
     let name = c.in_ok-name.ensures ∙ ap nameless number in
     let outer = c.scopes_in.ensures ∙ ap scopes_in c.get-2.ensures in
     let path = c.in_ok-path.ensures ∙ (λ i. name i ∷ path_around (outer i)) in

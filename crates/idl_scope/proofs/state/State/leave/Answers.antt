@@ -1,0 +1,12 @@
+use Rattle.std.proofs.Common.{◌≡◌, ap, ◌∙◌}
+use Rattle.idl_scope.specs.Facts.{after_leaving, with_prefix}
+use Rattle.idl_scope.specs.Held.{held}
+use Rattle.idl_scope.proofs.StateLemmas.{kept}
+use Rattle.idl_scope.proofs.state.State.leave.Goals as goal
+
+pub returns : goal.returns
+returns c =
+    let state = c.args.self.now in
+    let put : kept c.insert.new.self ≡ (after_leaving (held state)).answers =
+    (λ i k. c.in_ok-insert.ensures.each_key k i) ∙ ap (λ p. with_prefix p (kept state.answers)) c.in_ok-prefix.ensures.prefix in
+    λ i. record (held state) { answers = put i; before = record (held state).before { entered = c.in_ok-prefix.ensures.others i } }

@@ -1,0 +1,64 @@
+-- When two prefixes, or two ids, are one.
+use Rattle.std.specs.Prelude.{◌≡◌, ℕ, Bool, true, ◌==◌, ◌&&◌, if◌then◌else◌, nat_eq, refl}
+use Rattle.std.proofs.Common.{ap, sym, ◌∙◌}
+use Rattle.std.specs.Cmp.Lexicographic.{bytes_decides}
+use Rattle.std.specs.Str.{bytes_eq}
+use Rattle.idl_base.specs.Exact.{both, same_number}
+use Rattle.idl_scope.specs.Path.{path_eq, same_path}
+use Rattle.idl_scope.specs.declared.identity.Fixed.{Fixed}
+use Rattle.idl_scope.specs.declared.identity.Fixed.TheVariants.{Nothing, Version, Id}
+use Rattle.idl_scope.specs.declared.identity.Identity.{Identity}
+use Rattle.idl_scope.specs.declared.identity.Prefix.{Prefix}
+
+-- a number for each
+abbrev pub fixed_number : Fixed → ℕ
+fixed_number Nothing = 0
+fixed_number Version = 1
+fixed_number Id = 2
+
+-- the one with a number
+abbrev pub fixed_of : ℕ → Fixed
+fixed_of n = if n == 0 then Nothing else if n == 1 then Version else Id
+
+fixed_of-number : (x : Fixed) → fixed_of (fixed_number x) ≡ x
+fixed_of-number Nothing = refl
+fixed_of-number Version = refl
+fixed_of-number Id = refl
+
+-- whether two are one
+abbrev pub fixed_eq : Fixed → Fixed → Bool
+fixed_eq x y = nat_eq (fixed_number x) (fixed_number y)
+
+pub same_fixed : (x y : Fixed) → fixed_eq x y ≡ true → x ≡ y
+same_fixed x y h = sym (fixed_of-number x) ∙ ap fixed_of (same_number (fixed_number x) (fixed_number y) h) ∙ fixed_of-number y
+
+-- whether two prefixes are one
+abbrev pub prefix_eq : Prefix → Prefix → Bool
+prefix_eq p q = bytes_eq p.text q.text && path_eq p.scope q.scope
+
+pub same_prefix : (p q : Prefix) → prefix_eq p q ≡ true → p ≡ q
+same_prefix p q h =
+    let a = both _ _ h in
+    let text = (bytes_decides p.text q.text).0 a.0 in
+    let scope = same_path p.scope q.scope a.1 in
+    λ i. record { text = text i; scope = scope i }
+
+pub copied_prefix : (p copy : Prefix) → (copy.text ≡ p.text) × (copy.scope ≡ p.scope) → copy ≡ p
+copied_prefix p copy h = λ i. record { text = h.0 i; scope = h.1 i }
+
+-- whether two ids are one, with the prefix and what fixed them
+abbrev pub identity_eq : Identity → Identity → Bool
+identity_eq d e = bytes_eq d.id e.id && (bytes_eq d.prefix e.prefix && fixed_eq d.fixed e.fixed)
+
+pub same_identity : (d e : Identity) → identity_eq d e ≡ true → d ≡ e
+same_identity d e h =
+    let a = both _ _ h in
+    let b = both _ _ a.1 in
+    let id = (bytes_decides d.id e.id).0 a.0 in
+    let prefix = (bytes_decides d.prefix e.prefix).0 b.0 in
+    let fixed = same_fixed d.fixed e.fixed b.1 in
+    λ i. record { id = id i; prefix = prefix i; fixed = fixed i }
+
+pub copied_identity : (d copy : Identity)
+    → (copy.id ≡ d.id) × ((copy.prefix ≡ d.prefix) × (copy.fixed ≡ d.fixed)) → copy ≡ d
+copied_identity d copy h = λ i. record { id = h.0 i; prefix = h.1.0 i; fixed = h.1.1 i }
