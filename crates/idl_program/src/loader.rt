@@ -1,5 +1,8 @@
 //! Where files come from.
 
+ghost use Rattle.std.specs.Prelude.{◌≡◌, ℕ, List};
+ghost use Rattle.idl_program.specs.Holding.{Holding, IsLoadedBy};
+
 use idl_source::Name;
 
 /// What came of loading a file.
@@ -17,6 +20,11 @@ pub enum Loaded {
 
 /// Where the files come from that a root names.
 pub trait Loader {
+    /// What the loader tells of each name.
+    ghost told: { Self → List ℕ → Holding };
+
     /// Loads the file of this name.
-    fn load(&mut self, name: &Name) -> Loaded;
+    fn load(&mut self, name: &Name) -> Loaded
+        ensures gives { IsLoadedBy (told self.old name.now) result }
+        ensures stays { told self.new ≡ told self.old };
 }

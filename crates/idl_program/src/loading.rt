@@ -1,12 +1,52 @@
 //! The files that roots ask for, until none is asked for that wasn't tried.
 
+ghost use Rattle.std.specs.Prelude.{◌≡◌, ◌∷◌, ℕ, List, [], All, Contains, None, true, IfErr, IfNone, IfOk, IfSome, OnOk};
+ghost use Rattle.idl_workspace.specs.Project.{is_root};
+ghost use Rattle.idl_program.specs.Holding.{Holding, NoFile, Allows};
+ghost use Rattle.idl_program.specs.Loading.{AreLoaded, AreComplete, AreRoots, IsFileOf, StaysAsked};
+ghost use Rattle.idl_program.specs.Tried.{AreTrue, AreMissing, IsLoadedFile, trouble_of};
+
 use crate::failure::{Failure, Subject};
 use crate::loader::{Loaded, Loader};
 use idl_session::Session;
 use idl_source::{Line, Name, Refusal, cut};
 use std::collections::BTreeMap;
 
-/// What came of a name that was tried and has no file in the session.
+/// Loads what roots ask for.
+///
+/// All names that one compilation of a root asks for are tried together, and then the root is compiled again over what came of
+/// them: so often as its includes are deep, and not so often as they are many. What that tries too early, since it isn't asked
+/// for any more once the files before it are there, does no harm: a file that nobody asks for changes no answer, and trouble with
+/// a name ends the program only once the name is the first one that is asked for and isn't there.
+pub fn load_all<'a, L: Loader>(
+    session: &mut Session,
+    roots: &[Name],
+    loader: &mut L,
+) -> Result<(), Failure<'a>>
+    requires roots { AreRoots session.old.project roots.now }
+    requires loaded { AreLoaded (L.told loader.old) session.old.project.inputs.files }
+
+    ensures loaded { OnOk result (AreLoaded (L.told loader.old) session.new.project.inputs.files) }
+    ensures complete { OnOk result
+        (AreComplete (L.told loader.old) session.new.project.inputs roots.now) }
+    ensures stays { OnOk result (StaysAsked session.old.project session.new.project) }
+    ensures roots { OnOk result (AreRoots session.new.project roots.now) }
+{
+    let mut tried = Tried::new(session);
+    'rounds: for _ in 0..u64::MAX {
+        let Some((root, names)) = tried.first_untried(session, roots)? else {
+            return Ok(());
+        };
+        let files = tried.load(session, loader, &names)?;
+        if !files.is_empty() {
+            tried.put(session, root, files)?;
+        }
+    }
+    // So many names nobody asks for.
+    Err(Failure::ReadFailed)
+}
+
+// What came of a name that was tried and has no file in the session.
 #[derive(Clone, Copy)]
 enum Trouble {
     Missing,
@@ -14,50 +54,60 @@ enum Trouble {
     Refused(Refusal),
 }
 
-/// Files that are loaded for roots, each name once.
-///
-/// All names that one compilation of a root asks for are tried together, and then the root is compiled again over what came of
-/// them: so often as its includes are deep, and not so often as they are many. What that tries too early, since it isn't asked
-/// for any more once the files before it are there, does no harm: a file that nobody asks for changes no answer, and trouble with
-/// a name ends the program only once the name is the first one that is asked for and isn't there.
+// A file that was loaded.
 #[derive(Drop)]
-pub struct Loading<'l, L> {
-    loader: &'l mut L,
+struct LoadedFile {
+    name: Name,
+    lines: Vec<Line>,
+}
+
+// Names that were tried, each once.
+#[derive(Drop)]
+struct Tried {
     troubles: BTreeMap<Name, Trouble>,
 }
 
-impl<'l, L: Loader> Loading<'l, L> {
-    /// Nothing was tried.
-    pub fn new(session: &Session, loader: &'l mut L) -> Loading<'l, L> {
-        Loading {
-            loader,
+impl Tried {
+    // Nothing was tried.
+    fn new(session: &Session) -> Tried
+        ensures { (name : List ℕ) → trouble_of result name ≡ None }
+    {
+        Tried {
             troubles: BTreeMap::new(session.allocator()),
         }
     }
 
-    /// Loads what a root asks for.
-    pub fn load_for<'a>(
-        &mut self,
-        session: &mut Session,
-        root: &Name,
-    ) -> Result<(), Failure<'a>> {
-        for _ in 0..u64::MAX {
-            let untried = self.untried(session, root)?;
-            if untried.is_empty() {
-                break;
+    // The first root that asks for names that weren't tried, with these.
+    fn first_untried<'r, 'a>(
+        &self,
+        session: &Session,
+        roots: &'r [Name],
+    ) -> Result<Option<(&'r Name, Vec<Name>)>, Failure<'a>>
+        requires { AreRoots session.now.project roots.entry.now }
+        ensures none { IfOk result (λ found. IfNone found
+            (AreMissing self.now session.now.project.inputs roots.entry.now)) }
+        ensures some { IfOk result (λ found. IfSome found (λ f. Contains roots.entry.now f.0.now)) }
+    {
+        'roots: for root in roots {
+            let names = self.untried(session, root)?;
+            if !names.is_empty() {
+                return Ok(Some((root, names)));
             }
-            self.load_together(session, root, &untried)?;
         }
-        Ok(())
+        Ok(None)
     }
 
-    // The names that the root asks for, that aren't there, and that weren't tried.
-    fn untried<'a>(&self, session: &Session, root: &Name) -> Result<Vec<Name>, Failure<'a>> {
+    // The names that the root asks for, that aren't there, and that weren't tried, up to the first one that is in trouble.
+    fn untried<'a>(&self, session: &Session, root: &Name) -> Result<Vec<Name>, Failure<'a>>
+        requires { is_root session.now.project root.now ≡ true }
+        ensures { IfOk result (λ names. names.items ≡ []
+            → AreMissing self.now session.now.project.inputs (root.now ∷ [])) }
+    {
         let mut untried = Vec::new(session.allocator());
         let Some(absent) = session.absent(root.as_bytes()) else {
             return Ok(untried);
         };
-        for name in absent {
+        'absent: for name in absent {
             match self.troubles.get(name) {
                 None => untried
                     .push(name.copied())
@@ -67,38 +117,62 @@ impl<'l, L: Loader> Loading<'l, L> {
                     if untried.is_empty() {
                         return Err(failure(name, *trouble));
                     }
-                    break;
+                    return Ok(untried);
                 }
             }
         }
         Ok(untried)
     }
 
-    // Loads these, and compiles the root again where there is one of them.
-    fn load_together<'a>(
+    // Loads files of these names.
+    fn load<'a, L: Loader>(
         &mut self,
-        session: &mut Session,
-        root: &Name,
+        session: &Session,
+        loader: &mut L,
         names: &[Name],
-    ) -> Result<(), Failure<'a>> {
+    ) -> Result<Vec<LoadedFile>, Failure<'a>>
+        requires { AreTrue (L.told loader.old) self.old }
+        ensures files { IfOk result (λ files. All (IsLoadedFile (L.told loader.old)) files.items) }
+        ensures stays { OnOk result (L.told loader.new ≡ L.told loader.old) }
+        ensures tried { OnOk result (AreTrue (L.told loader.old) self.new) }
+    {
         let mut files = Vec::new(session.allocator());
-        for name in names {
-            match self.load(session, name) {
+        'names: for name in names {
+            match loaded(session, loader, name) {
                 Ok(lines) => files
-                    .push((name.copied(), lines))
+                    .push(LoadedFile {
+                        name: name.copied(),
+                        lines,
+                    })
                     .map_err(|_| no_memory(name))?,
                 Err(trouble) => self.note(name, trouble)?,
             }
         }
-        if files.is_empty() {
-            return Ok(());
-        }
+        Ok(files)
+    }
+
+    // Puts files that were loaded, and compiles the root once over all of them.
+    fn put<'a>(
+        &mut self,
+        session: &mut Session,
+        root: &Name,
+        files: Vec<LoadedFile>,
+    ) -> Result<(), Failure<'a>>
+        ensures loaded { (told : List ℕ → Holding) → AreLoaded told session.old.project.inputs.files
+            → All (IsLoadedFile told) files.items
+            → OnOk result (AreLoaded told session.new.project.inputs.files) }
+        ensures tried { (told : List ℕ → Holding) → AreTrue told self.old
+            → OnOk result (AreTrue told self.new) }
+        ensures stays { OnOk result (StaysAsked session.old.project session.new.project) }
+        ensures roots { (names : List (List ℕ)) → AreRoots session.old.project names
+            → OnOk result (AreRoots session.new.project names) }
+    {
         session
             .drop_root(root.as_bytes())
             .map_err(|refusal| refused(root, refusal))?;
-        for (name, lines) in files {
-            if let Err(refusal) = session.put(name.as_bytes(), lines) {
-                self.note(&name, Trouble::Refused(refusal))?;
+        'files: for file in files {
+            if let Err(refusal) = session.put(file.name.as_bytes(), file.lines) {
+                self.note(&file.name, Trouble::Refused(refusal))?;
             }
         }
         session
@@ -107,21 +181,34 @@ impl<'l, L: Loader> Loading<'l, L> {
         Ok(())
     }
 
-    fn load(&mut self, session: &Session, name: &Name) -> Result<Vec<Line>, Trouble> {
-        match self.loader.load(name) {
-            Loaded::Bytes(bytes) => cut(session.allocator(), &bytes)
-                .map_err(|_| Trouble::Refused(Refusal::NoMemory)),
-            Loaded::Missing => Err(Trouble::Missing),
-            Loaded::Failed => Err(Trouble::CannotRead),
-            Loaded::NoMemory => Err(Trouble::Refused(Refusal::NoMemory)),
-        }
-    }
-
-    fn note<'a>(&mut self, name: &Name, trouble: Trouble) -> Result<(), Failure<'a>> {
+    // Notes what came of a name.
+    fn note<'a>(&mut self, name: &Name, trouble: Trouble) -> Result<(), Failure<'a>>
+        ensures { (told : List ℕ → Holding) → AreTrue told self.old
+            → (trouble ≡ Trouble.Missing → Allows (told name.now) NoFile)
+            → OnOk result (AreTrue told self.new) }
+    {
         self.troubles
             .insert(name.copied(), trouble)
             .map_err(|_| no_memory(name))?;
         Ok(())
+    }
+}
+
+// The lines of the file of this name.
+fn loaded<L: Loader>(session: &Session, loader: &mut L, name: &Name) -> Result<Vec<Line>, Trouble>
+    ensures lines { IfOk result (λ lines. IsFileOf (L.told loader.old) name.now lines.items) }
+    ensures trouble { IfErr result (λ trouble.
+        trouble ≡ Trouble.Missing → Allows (L.told loader.old name.now) NoFile) }
+    ensures stays { L.told loader.new ≡ L.told loader.old }
+{
+    match loader.load(name) {
+        Loaded::Bytes(bytes) => match cut(session.allocator(), &bytes) {
+            Ok(lines) => Ok(lines),
+            Err(_) => Err(Trouble::Refused(Refusal::NoMemory)),
+        },
+        Loaded::Missing => Err(Trouble::Missing),
+        Loaded::Failed => Err(Trouble::CannotRead),
+        Loaded::NoMemory => Err(Trouble::Refused(Refusal::NoMemory)),
     }
 }
 

@@ -1,12 +1,16 @@
 //! The program over its words and devices.
 
-ghost use Rattle.std.specs.Prelude.{◌≡◌, ◌≤◌, ◌<◌, ◌+◌, ◌-◌, ◌^◌, OnOk};
+ghost use Rattle.std.specs.Prelude.{◌≡◌, ◌≤◌, ◌<◌, ◌+◌, ◌-◌, ◌^◌, IfOk, OnOk};
+ghost use Rattle.idl_program.specs.Compiled.{IsCompiled, IsShown};
+ghost use Rattle.idl_program.specs.Loading.{AreRoots};
 
-use crate::compiling::{load_all, prepared, show_dump, show_errors};
+use crate::compiling::{prepared, show_dump, show_errors};
 use crate::failure::{Failure, Status};
 use crate::loader::Loader;
+use crate::loading::load_all;
 use crate::request::{Options, Request, request_of};
-use idl_session::{Session, Sink, Source, run, write_all};
+use idl_session::{Session, Sink, Source, WriteFailed, run, write_all};
+use idl_source::Name;
 use std::alloc::Global;
 
 /// What the program reads and writes.
@@ -74,19 +78,48 @@ fn compile<'a, L: Loader, S: Source, O: Sink, E: Sink>(
 ) -> Result<Status, Failure<'a>>
     requires writes { O.failures devices.old.output < 2 ^ 64 - 1 }
     requires tells { E.failures devices.old.errors < 2 ^ 64 - 2 }
+
+    ensures compiled { IfOk result (λ status. IsCompiled (L.told devices.old.loader) options.now
+        (record { errors = E.written devices.old.errors; output = O.written devices.old.output })
+        (record { errors = E.written devices.new.errors; output = O.written devices.new.output })
+        status) }
     ensures most { E.failures devices.new.errors ≤ E.failures devices.old.errors + 1 }
 {
     let (mut session, roots) = prepared(alloc, options)?;
     load_all(&mut session, &roots, &mut devices.loader)?;
-    let mut status = Status::Sound;
-    for root in roots.iter() {
-        let of_root = show_errors(&session, root, &mut devices.errors)?;
-        if of_root == Status::Faulty {
-            status = of_root;
+    let status = show_all(&session, &roots, options.shows_dump, devices)?;
+    Ok(status)
+}
+
+// Writes what goes out of these roots, each in turn.
+fn show_all<L: Loader, S: Source, O: Sink, E: Sink>(
+    session: &Session,
+    roots: &[Name],
+    shows_dump: bool,
+    devices: &mut Devices<L, S, O, E>,
+) -> Result<Status, WriteFailed>
+    requires writes { O.failures devices.old.output < 2 ^ 64 - 1 }
+    requires tells { E.failures devices.old.errors < 2 ^ 64 - 2 }
+    requires roots { AreRoots session.now.project roots.now }
+
+    ensures shown { IfOk result (λ status. IsShown shows_dump session.now.project.inputs roots.now
+        (record { errors = E.written devices.old.errors; output = O.written devices.old.output })
+        (record { errors = E.written devices.new.errors; output = O.written devices.new.output })
+        status) }
+    ensures most { E.failures devices.new.errors ≤ E.failures devices.old.errors + 1 }
+{
+    let mut is_faulty = false;
+    'roots: for root in roots {
+        if show_errors(session, root, &mut devices.errors)? {
+            is_faulty = true;
         }
-        if options.shows_dump {
-            show_dump(&session, root, &mut devices.output)?;
+        if shows_dump {
+            show_dump(session, root, &mut devices.output)?;
         }
     }
-    Ok(status)
+    if is_faulty {
+        Ok(Status::Faulty)
+    } else {
+        Ok(Status::Sound)
+    }
 }
