@@ -53,7 +53,7 @@ fn an_editor_holds_a_project(rt: HostRuntime) -> Result<(), Fail> {
     let errors = told(rt.alloc(), session.diagnostics(b"shop.idl"))?;
     assert_eq!(rt; errors.as_str(), "");
     let dump = told(rt.alloc(), session.dump(b"shop.idl"))?;
-    assert_eq!(rt; dump.as_str(), "typedef long Money;\ninterface Shop {\n  ::Money price();\n};\n");
+    assert_eq!(rt; dump.as_str(), "typedef long Money;\ninterface Shop {\n  ::Money price ( );\n};\n");
 
     // A refused edit changes nothing.
     assert_eq!(rt; open(&mut session, "no name", "").err(), Some(Refusal::BadName));
