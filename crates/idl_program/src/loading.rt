@@ -171,8 +171,9 @@ impl Tried {
             .drop_root(root.as_bytes())
             .map_err(|refusal| refused(root, refusal))?;
         'files: for file in files {
-            if let Err(refusal) = session.put(file.name.as_bytes(), file.lines) {
-                self.note(&file.name, Trouble::Refused(refusal))?;
+            let LoadedFile { name, lines } = file;
+            if let Err(refusal) = session.put(name.as_bytes(), lines) {
+                self.note(&name, Trouble::Refused(refusal))?;
             }
         }
         session

@@ -1,0 +1,46 @@
+-- Files that are put and roots that are taken out and put back.
+use Rattle.std.proofs.Common.{◌≡◌, ◌||◌, ℕ, Bool, true, false, cond, List, [], ◌∷◌, ◌++◌, Option, Some, sym, subst, ap, ◌∙◌, refl}
+use Rattle.std.proofs.lemmas.List.Folds.{list_any-append}
+use Rattle.std.proofs.lemmas.Map.Text.{is_eq-slice_cmp}
+use Rattle.std.specs.Cmp.Lexicographic.{bytes_decides, nat_list_cmp_total, nat_list_eq_equiv, slice_cmp}
+use Rattle.std.specs.FinMap as finite
+use Rattle.std.specs.FinMap.{get-insert}
+use Rattle.std.specs.List.{list_any}
+use Rattle.std.specs.Ordering.{eq_by_cmp, nat_cmp}
+use Rattle.std.specs.Set.{remove_key}
+use Rattle.std.specs.Str.{bytes_eq}
+use Rattle.idl_source.specs.Texts.{Texts}
+use Rattle.idl_program.specs.Holding.{Holding}
+use Rattle.idl_program.specs.Loading.{AreLoaded, IsFileOf}
+
+-- one file more
+pub AreLoaded-insert : (told : List ℕ → Holding) (files : Texts) (name : List ℕ) (lines : List (List ℕ)) → AreLoaded told files
+    → IsFileOf told name lines → AreLoaded told (finite.insert files name lines)
+AreLoaded-insert told files name lines are is other found there =
+    by (eq_by_cmp (slice_cmp nat_cmp) other name) refl (sym (get-insert nat_list_cmp_total files name lines other) ∙ there)
+  where
+    by : (same : Bool) → eq_by_cmp (slice_cmp nat_cmp) other name ≡ same → cond same (Some lines) (finite.get files other) ≡ Some found → IsFileOf told other found
+    by true same e =
+        let names : other ≡ name = (bytes_decides other name).0 (sym (is_eq-slice_cmp other name) ∙ same) in
+        let texts : lines ≡ found = cc in
+        subst (λ (n : List ℕ). IsFileOf told n found) (sym names) (subst (λ (ls : List (List ℕ)). IsFileOf told name ls) texts is)
+    by false same e = are other found e
+
+-- a name that is there is there still, once another one was taken out and put last
+pub list_any-moved : (name root : List ℕ) (roots : List (List ℕ)) → list_any (bytes_eq name) roots ≡ true
+    → list_any (bytes_eq name) (remove_key (bytes_eq root) roots ++ root ∷ []) ≡ true
+list_any-moved name root [] there = absurd (cc)
+list_any-moved name root (r ∷ roots) there =
+    by (bytes_eq root r) (bytes_eq name r) refl refl there
+  where
+    by : (gone same : Bool) → bytes_eq root r ≡ gone → bytes_eq name r ≡ same → (same || list_any (bytes_eq name) roots) ≡ true
+        → list_any (bytes_eq name) (cond gone roots (r ∷ remove_key (bytes_eq root) roots) ++ root ∷ []) ≡ true
+    by true true at is e =
+        let here : bytes_eq name root ≡ true = ap (bytes_eq name) ((bytes_decides root r).0 at) ∙ is in
+        list_any-append (bytes_eq name) roots (root ∷ []) ∙ last (list_any (bytes_eq name) roots) (bytes_eq name root) here
+    by true false at is e = list_any-append (bytes_eq name) roots (root ∷ []) ∙ ap (λ b. b || list_any (bytes_eq name) (root ∷ [])) e
+    by false true at is e = ap (λ b. b || list_any (bytes_eq name) (remove_key (bytes_eq root) roots ++ root ∷ [])) is
+    by false false at is e = ap (λ b. b || list_any (bytes_eq name) (remove_key (bytes_eq root) roots ++ root ∷ [])) is ∙ list_any-moved name root roots e
+    last : (a b : Bool) → b ≡ true → (a || (b || false)) ≡ true
+    last true b h = refl
+    last false b h = ap (λ x. x || false) h
