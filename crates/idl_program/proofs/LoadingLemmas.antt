@@ -10,8 +10,15 @@ use Rattle.std.specs.Ordering.{eq_by_cmp, nat_cmp}
 use Rattle.std.specs.Set.{remove_key}
 use Rattle.std.specs.Str.{bytes_eq}
 use Rattle.idl_source.specs.Texts.{Texts}
-use Rattle.idl_program.specs.Holding.{Holding}
-use Rattle.idl_program.specs.Loading.{AreLoaded, IsFileOf}
+use Rattle.std.proofs.Common.{All}
+use Rattle.std.specs.Ordering.{is_eq}
+use Rattle.idl_workspace.specs.Project.{Project, is_root}
+use Rattle.idl_program.specs.Holding.{Allows, Holding, NoFile}
+use Rattle.idl_program.specs.Loading.{AreLoaded, AreRoots, IsFileOf}
+use Rattle.idl_program.specs.Tried.{AreTrue, trouble_of}
+use Rattle.idl_program.specs.declared.loading.Tried.{Tried}
+use Rattle.idl_program.specs.declared.loading.Trouble.{Trouble}
+use Rattle.idl_program.specs.declared.loading.Trouble.TheVariants.{Missing}
 
 -- one file more
 pub AreLoaded-insert : (told : List ℕ → Holding) (files : Texts) (name : List ℕ) (lines : List (List ℕ)) → AreLoaded told files
@@ -44,3 +51,16 @@ list_any-moved name root (r ∷ roots) there =
     last : (a b : Bool) → b ≡ true → (a || (b || false)) ≡ true
     last true b h = refl
     last false b h = ap (λ x. x || false) h
+
+-- one name more that was tried
+pub AreTrue-note : (told : List ℕ → Holding) (old new : Tried) (name : List ℕ) (trouble : Trouble) → AreTrue told old → (trouble ≡ Missing → Allows (told name) NoFile)
+    → ((other : List ℕ) → trouble_of new other ≡ cond (is_eq (slice_cmp nat_cmp name other)) (Some trouble) (trouble_of old other)) → AreTrue told new
+AreTrue-note told old new name trouble are is changes other there =
+    by (is_eq (slice_cmp nat_cmp name other)) refl (sym (changes other) ∙ there)
+  where
+    by : (same : Bool) → is_eq (slice_cmp nat_cmp name other) ≡ same → cond same (Some trouble) (trouble_of old other) ≡ Some Missing → Allows (told other) NoFile
+    by true same e =
+        let names : name ≡ other = (bytes_decides name other).0 (sym (is_eq-slice_cmp name other) ∙ same) in
+        let missing : trouble ≡ Missing = cc in
+        subst (λ (n : List ℕ). Allows (told n) NoFile) names (is missing)
+    by false same e = are other e

@@ -1,5 +1,5 @@
 -- The files of a project, beside those of a loader.
-use Rattle.std.specs.Prelude.{◌≡◌, ◌×◌, ℕ, List, All, IsTrue, Option, Some}
+use Rattle.std.specs.Prelude.{◌≡◌, ℕ, List, All, Some, true}
 use Rattle.std.specs.FinMap as map
 use Rattle.idl_source.specs.Cut.{cut_lines}
 use Rattle.idl_source.specs.Texts.{Texts}

@@ -1,7 +1,9 @@
 //! The files that roots ask for, until none is asked for that wasn't tried.
 
-ghost use Rattle.std.specs.Prelude.{◌≡◌, ◌∷◌, ℕ, List, [], All, Contains, None, true, IfErr, IfNone, IfOk, IfSome, OnOk};
-ghost use Rattle.idl_workspace.specs.Project.{is_root};
+ghost use Rattle.std.specs.Prelude.{◌≡◌, ◌∷◌, ◌++◌, ℕ, List, [], All, Contains, None, true, IfErr, IfNone, IfOk, IfSome, OnOk};
+ghost use Rattle.std.specs.Set.{remove_key};
+ghost use Rattle.std.specs.Str.{bytes_eq};
+ghost use Rattle.idl_workspace.specs.Project.{is_root, with_files, with_roots};
 ghost use Rattle.idl_program.specs.Holding.{Holding, NoFile, Allows};
 ghost use Rattle.idl_program.specs.Loading.{AreLoaded, AreComplete, AreRoots, IsFileOf, StaysAsked};
 ghost use Rattle.idl_program.specs.Tried.{AreTrue, AreMissing, IsLoadedFile, trouble_of};
@@ -10,6 +12,7 @@ use crate::failure::{Failure, Subject};
 use crate::loader::{Loaded, Loader};
 use idl_session::Session;
 use idl_source::{Line, Name, Refusal, cut};
+use std::alloc::Global;
 use std::collections::BTreeMap;
 
 /// Loads what roots ask for.
@@ -83,7 +86,7 @@ impl Tried {
         session: &Session,
         roots: &'r [Name],
     ) -> Result<Option<(&'r Name, Vec<Name>)>, Failure<'a>>
-        requires { AreRoots session.now.project roots.entry.now }
+        requires { AreRoots session.now.project roots.now }
         ensures none { IfOk result (λ found. IfNone found
             (AreMissing self.now session.now.project.inputs roots.entry.now)) }
         ensures some { IfOk result (λ found. IfSome found (λ f. Contains roots.entry.now f.0.now)) }
@@ -97,16 +100,24 @@ impl Tried {
         Ok(None)
     }
 
-    // The names that the root asks for, that aren't there, and that weren't tried, up to the first one that is in trouble.
+    // The names that the root asks for, that aren't there, and that weren't tried.
     fn untried<'a>(&self, session: &Session, root: &Name) -> Result<Vec<Name>, Failure<'a>>
         requires { is_root session.now.project root.now ≡ true }
         ensures { IfOk result (λ names. names.items ≡ []
             → AreMissing self.now session.now.project.inputs (root.now ∷ [])) }
     {
-        let mut untried = Vec::new(session.allocator());
-        let Some(absent) = session.absent(root.as_bytes()) else {
-            return Ok(untried);
-        };
+        match session.absent(root.as_bytes()) {
+            Some(absent) => self.untried_among(session.allocator(), absent),
+            None => Ok(Vec::new(session.allocator())),
+        }
+    }
+
+    // Those of these names that weren't tried, up to the first one that is in trouble.
+    fn untried_among<'a>(&self, alloc: Global, absent: &[Name]) -> Result<Vec<Name>, Failure<'a>>
+        ensures { IfOk result (λ names. names.items ≡ []
+            → All (λ name. trouble_of self.now name ≡ Some Trouble.Missing) absent.now) }
+    {
+        let mut untried = Vec::new(alloc);
         'absent: for name in absent {
             match self.troubles.get(name) {
                 None => untried
@@ -132,19 +143,18 @@ impl Tried {
         names: &[Name],
     ) -> Result<Vec<LoadedFile>, Failure<'a>>
         requires { AreTrue (L.told loader.old) self.old }
-        ensures files { IfOk result (λ files. All (IsLoadedFile (L.told loader.old)) files.items) }
+        ensures files { IfOk result (λ files.
+            All (IsLoadedFile (L.told loader.old)) files.items) }
         ensures stays { OnOk result (L.told loader.new ≡ L.told loader.old) }
         ensures tried { OnOk result (AreTrue (L.told loader.old) self.new) }
     {
         let mut files = Vec::new(session.allocator());
         'names: for name in names {
             match loaded(session, loader, name) {
-                Ok(lines) => files
-                    .push(LoadedFile {
-                        name: name.copied(),
-                        lines,
-                    })
-                    .map_err(|_| no_memory(name))?,
+                Ok(lines) => {
+                    let name = name.copied();
+                    keep(&mut files, LoadedFile { name, lines })?;
+                }
                 Err(trouble) => self.note(name, trouble)?,
             }
         }
@@ -158,7 +168,8 @@ impl Tried {
         root: &Name,
         files: Vec<LoadedFile>,
     ) -> Result<(), Failure<'a>>
-        ensures loaded { (told : List ℕ → Holding) → AreLoaded told session.old.project.inputs.files
+        ensures loaded { (told : List ℕ → Holding)
+            → AreLoaded told session.old.project.inputs.files
             → All (IsLoadedFile told) files.items
             → OnOk result (AreLoaded told session.new.project.inputs.files) }
         ensures tried { (told : List ℕ → Holding) → AreTrue told self.old
@@ -167,19 +178,47 @@ impl Tried {
         ensures roots { (names : List (List ℕ)) → AreRoots session.old.project names
             → OnOk result (AreRoots session.new.project names) }
     {
-        session
-            .drop_root(root.as_bytes())
-            .map_err(|refusal| refused(root, refusal))?;
+        take_out(session, root)?;
+        self.put_all(session, files)?;
+        put_back(session, root)
+    }
+
+    // Puts files that were loaded.
+    fn put_all<'a>(
+        &mut self,
+        session: &mut Session,
+        files: Vec<LoadedFile>,
+    ) -> Result<(), Failure<'a>>
+        ensures loaded { (told : List ℕ → Holding)
+            → AreLoaded told session.old.project.inputs.files
+            → All (IsLoadedFile told) files.items
+            → OnOk result (AreLoaded told session.new.project.inputs.files) }
+        ensures tried { (told : List ℕ → Holding) → AreTrue told self.old
+            → OnOk result (AreTrue told self.new) }
+        ensures others { OnOk result (session.new.project
+            ≡ with_files session.old.project session.new.project.inputs.files) }
+    {
         'files: for file in files {
-            let LoadedFile { name, lines } = file;
-            if let Err(refusal) = session.put(name.as_bytes(), lines) {
-                self.note(&name, Trouble::Refused(refusal))?;
-            }
+            self.put_one(session, file)?;
         }
-        session
-            .add_root(root.as_bytes())
-            .map_err(|refusal| refused(root, refusal))?;
         Ok(())
+    }
+
+    // Puts a file that was loaded, or notes why it isn't put.
+    fn put_one<'a>(&mut self, session: &mut Session, file: LoadedFile) -> Result<(), Failure<'a>>
+        ensures loaded { (told : List ℕ → Holding)
+            → AreLoaded told session.old.project.inputs.files
+            → IsLoadedFile told file → AreLoaded told session.new.project.inputs.files }
+        ensures tried { (told : List ℕ → Holding) → AreTrue told self.old
+            → OnOk result (AreTrue told self.new) }
+        ensures others { session.new.project
+            ≡ with_files session.old.project session.new.project.inputs.files }
+    {
+        let LoadedFile { name, lines } = file;
+        match session.put(name.as_bytes(), lines) {
+            Ok(_) => Ok(()),
+            Err(refusal) => self.note(&name, Trouble::Refused(refusal)),
+        }
     }
 
     // Notes what came of a name.
@@ -188,10 +227,41 @@ impl Tried {
             → (trouble ≡ Trouble.Missing → Allows (told name.now) NoFile)
             → OnOk result (AreTrue told self.new) }
     {
-        self.troubles
-            .insert(name.copied(), trouble)
-            .map_err(|_| no_memory(name))?;
-        Ok(())
+        match self.troubles.insert(name.copied(), trouble) {
+            Ok(_) => Ok(()),
+            Err(_) => Err(no_memory(name)),
+        }
+    }
+}
+
+// Puts a file behind others that were loaded.
+fn keep<'a>(files: &mut Vec<LoadedFile>, file: LoadedFile) -> Result<(), Failure<'a>>
+    ensures { OnOk result (files.new.items ≡ files.old.items ++ file ∷ []) }
+{
+    match files.push(file) {
+        Ok(()) => Ok(()),
+        Err(failed) => Err(no_memory(&failed.value.name)),
+    }
+}
+
+// Has the root out, so that it isn't compiled for each file.
+fn take_out<'a>(session: &mut Session, root: &Name) -> Result<(), Failure<'a>>
+    ensures { let roots = remove_key (bytes_eq root.now) session.old.project.roots in
+        OnOk result (session.new.project ≡ with_roots session.old.project roots) }
+{
+    match session.drop_root(root.as_bytes()) {
+        Ok(_) => Ok(()),
+        Err(refusal) => Err(refused(root, refusal)),
+    }
+}
+
+fn put_back<'a>(session: &mut Session, root: &Name) -> Result<(), Failure<'a>>
+    ensures { let roots = session.old.project.roots ++ root.now ∷ [] in
+        OnOk result (session.new.project ≡ with_roots session.old.project roots) }
+{
+    match session.add_root(root.as_bytes()) {
+        Ok(_) => Ok(()),
+        Err(refusal) => Err(refused(root, refusal)),
     }
 }
 
