@@ -1,6 +1,6 @@
 -- What the options ask for: macros, directories and roots.
-use Rattle.std.specs.Prelude.{◌≡◌, ℕ, Bool, List, [], ◌∷◌, ◌++◌, map, nat_eq, codes, Option, Some, option_map, option_and_then, if◌then◌else◌}
-use Rattle.std.specs.List.{list_any, before_first, after_first}
+use Rattle.std.specs.Prelude.{◌≡◌, ℕ, List, [], ◌∷◌, ◌++◌, map, nat_eq, codes, Option, None, Some, option_and_then, unwrap_or, if◌then◌else◌}
+use Rattle.std.specs.List.{list_any}
 use Rattle.std.specs.Map.{remove_entry}
 use Rattle.std.specs.Str.{bytes_eq}
 use Rattle.indexmap.specs.IndexMap.{insert_entry}
@@ -8,22 +8,25 @@ use Rattle.idl_source.specs.Path.{directory_path, joined_path}
 use Rattle.idl_workspace.specs.Project.{Inputs, Macros}
 use Rattle.idl_program.specs.declared.request.Options.{Options}
 
-abbrev pub is_equals : ℕ → Bool
-is_equals b = nat_eq b 61
+-- what stands before the first `=`
+abbrev pub before_equals : List ℕ → List ℕ
+before_equals [] = []
+before_equals (b ∷ bytes) = if nat_eq b 61 then [] else b ∷ before_equals bytes
 
--- what `NAME` or `NAME=VALUE` defines
-abbrev pub macro_name : List ℕ → List ℕ
-macro_name word = before_first is_equals word
+-- what stands behind it, if there is one
+abbrev pub after_equals : List ℕ → Option (List ℕ)
+after_equals [] = None
+after_equals (b ∷ bytes) = if nat_eq b 61 then Some bytes else after_equals bytes
 
--- its body: without a value `1`
+-- the body of the macro that `NAME` or `NAME=VALUE` defines: without a value `1`
 abbrev pub macro_body : List ℕ → List ℕ
-macro_body word = if list_any is_equals word then after_first is_equals word else codes "1"
+macro_body word = unwrap_or (after_equals word) (codes "1")
 
 -- macros, and then those that words define, one after the other
 abbrev pub defined_by : Macros → List (List ℕ) → Macros
 defined_by macros [] = macros
 defined_by macros (word ∷ words) =
-    defined_by (insert_entry bytes_eq macros (macro_name word) (macro_body word)) words
+    defined_by (insert_entry bytes_eq macros (before_equals word) (macro_body word)) words
 
 -- macros without those of these names
 abbrev pub undefined_by : Macros → List (List ℕ) → Macros
