@@ -10,7 +10,13 @@ use Rattle.std.specs.Ordering.{eq_by_cmp, nat_cmp}
 use Rattle.std.specs.Set.{remove_key}
 use Rattle.std.specs.Str.{bytes_eq}
 use Rattle.idl_source.specs.Texts.{Texts}
-use Rattle.std.proofs.Common.{All}
+use Rattle.std.proofs.Common.{All, None, ◌+◌, ◌<◌, get_or, length, take}
+use Rattle.std.proofs.lemmas.List.{take_more}
+use Rattle.std.proofs.lemmas.List.Elements.{All-push}
+use Rattle.std.specs.Option.{option_map}
+use Rattle.idl_workspace.specs.Compile.{compiled_root}
+use Rattle.idl_workspace.specs.UpToDate.{absent_of, diagnostics_of, dump_of}
+use Rattle.idl_workspace.specs.declared.compile.CompiledRoot.{CompiledRoot}
 use Rattle.std.specs.Ordering.{is_eq}
 use Rattle.idl_workspace.specs.Project.{Project, is_root}
 use Rattle.idl_program.specs.Holding.{Allows, Holding, NoFile}
@@ -64,3 +70,20 @@ AreTrue-note told old new name trouble are is changes other there =
         let missing : trouble ≡ Missing = cc in
         subst (λ (n : List ℕ). Allows (told n) NoFile) names (is missing)
     by false same e = are other e
+
+-- what holds of the first elements and of the next one
+pub All-take_more : {X : Type 0} (P : X → Type 0) (xs : List X) (i : ℕ) (x : X) → i < length xs → x ≡ get_or xs i x → All P (take i xs) → P x
+    → All P (take (i + 1) xs)
+All-take_more {X} P xs i x within is all holds =
+    subst (λ (ys : List X). All P ys) (sym (take_more xs i x within)) (All-push P (take i xs) (get_or xs i x) all (subst P is holds))
+
+-- the rows of a root
+pub absent-root : (project : Project) (root : List ℕ) → is_root project root ≡ true → absent_of project root ≡ Some (compiled_root project.inputs root).absent
+absent-root project root is = ap (λ b. option_map (λ (r : CompiledRoot). r.absent) (cond b (Some (compiled_root project.inputs root)) None)) is
+
+pub diagnostics-root : (project : Project) (root : List ℕ) → is_root project root ≡ true
+    → diagnostics_of project root ≡ Some (compiled_root project.inputs root).rows.diagnostics
+diagnostics-root project root is = ap (λ b. option_map (λ (r : CompiledRoot). r.rows.diagnostics) (cond b (Some (compiled_root project.inputs root)) None)) is
+
+pub dump-root : (project : Project) (root : List ℕ) → is_root project root ≡ true → dump_of project root ≡ Some (compiled_root project.inputs root).rows.dump
+dump-root project root is = ap (λ b. option_map (λ (r : CompiledRoot). r.rows.dump) (cond b (Some (compiled_root project.inputs root)) None)) is
