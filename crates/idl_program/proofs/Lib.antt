@@ -1,3 +1,2 @@
 pub mod EditLemmas
 pub mod LoadingLemmas
-pub mod WordLemmas

@@ -54,6 +54,7 @@ list_any-moved name root (r ∷ roots) there =
     by true false at is e = list_any-append (bytes_eq name) roots (root ∷ []) ∙ ap (λ b. b || list_any (bytes_eq name) (root ∷ [])) e
     by false true at is e = ap (λ b. b || list_any (bytes_eq name) (remove_key (bytes_eq root) roots ++ root ∷ [])) is
     by false false at is e = ap (λ b. b || list_any (bytes_eq name) (remove_key (bytes_eq root) roots ++ root ∷ [])) is ∙ list_any-moved name root roots e
+
     last : (a b : Bool) → b ≡ true → (a || (b || false)) ≡ true
     last true b h = refl
     last false b h = ap (λ x. x || false) h

@@ -57,11 +57,7 @@ pub fn show_errors<K: Sink>(
 }
 
 /// Writes what a root declares.
-pub fn show_dump<K: Sink>(
-    session: &Session,
-    root: &Name,
-    output: &mut K,
-) -> Result<(), WriteFailed>
+pub fn show_dump<K: Sink>(session: &Session, root: &Name, output: &mut K) -> Result<(), WriteFailed>
     requires counts { K.failures output.old < 2 ^ 64 - 1 }
     requires root { is_root session.now.project root.now ≡ true }
 
@@ -130,8 +126,10 @@ fn search_all<'a>(session: &mut Session, words: &[&'a str]) -> Result<(), Failur
 {
     let mut directories: Vec<Directory> = Vec::new(session.allocator());
     'words: for word in words {
-        search_in(session, &mut directories, word.as_bytes())
-            .map_err(|refusal| Failure::Refused(Subject::Word(word), refusal))?;
+        search_in(session, &mut directories, word.as_bytes()).map_err(|refusal| Failure::Refused(
+            Subject::Word(word),
+            refusal,
+        ))?;
     }
     Ok(())
 }
@@ -173,8 +171,10 @@ fn add_all<'a>(session: &mut Session, words: &[&'a str]) -> Result<Vec<Name>, Fa
 {
     let mut roots = Vec::new(session.allocator());
     'words: for word in words {
-        add(session, &mut roots, word.as_bytes())
-            .map_err(|refusal| Failure::Refused(Subject::Word(word), refusal))?;
+        add(session, &mut roots, word.as_bytes()).map_err(|refusal| Failure::Refused(
+            Subject::Word(word),
+            refusal,
+        ))?;
     }
     Ok(roots)
 }

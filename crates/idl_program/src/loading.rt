@@ -120,9 +120,7 @@ impl Tried {
         let mut untried = Vec::new(alloc);
         'absent: for name in absent {
             match self.troubles.get(name) {
-                None => untried
-                    .push(name.copied())
-                    .map_err(|_| no_memory(name))?,
+                None => untried.push(name.copied()).map_err(|_| no_memory(name))?,
                 Some(Trouble::Missing) => {}
                 Some(trouble) => {
                     if untried.is_empty() {

@@ -68,11 +68,23 @@ fn command<'a>(alloc: Global) -> Result<Command<'a>, AllocError> {
         .version("0.1.0")
         .about("Compiles OMG IDL: tells the errors of each FILE, and shows what it declares.")
         .override_usage("idlc [OPTIONS] FILE..\n       idlc --session")
-        .arg(valued(alloc, "define", 'D', "NAME[=VALUE]").help("Defines a macro, with the body 1 where there is no =VALUE"))?
+        .arg(valued(alloc, "define", 'D', "NAME[=VALUE]").help(
+            "Defines a macro, with the body 1 where there is no =VALUE",
+        ))?
         .arg(valued(alloc, "undefine", 'U', "NAME").help("Takes a macro of -D out"))?
-        .arg(valued(alloc, "directory", 'I', "DIRECTORY").help("Searches included files there, too"))?
-        .arg(flag(alloc, "dump").short('d').help("Writes the declarations of each FILE to standard output"))?
-        .arg(flag(alloc, "session").long("session").help("Serves commands of standard input, and excludes all else"))?
+        .arg(valued(alloc, "directory", 'I', "DIRECTORY").help(
+            "Searches included files there, too",
+        ))?
+        .arg(
+            flag(alloc, "dump")
+                .short('d')
+                .help("Writes the declarations of each FILE to standard output"),
+        )?
+        .arg(
+            flag(alloc, "session")
+                .long("session")
+                .help("Serves commands of standard input, and excludes all else"),
+        )?
         .arg(
             Arg::new(alloc, "file")
                 .value_name("FILE")
@@ -84,7 +96,10 @@ fn command<'a>(alloc: Global) -> Result<Command<'a>, AllocError> {
 
 // An option with a value, which may stand again.
 fn valued<'a>(alloc: Global, id: &'a str, short: char, value: &'a str) -> Arg<'a> {
-    Arg::new(alloc, id).short(short).value_name(value).action(ArgAction::Append)
+    Arg::new(alloc, id)
+        .short(short)
+        .value_name(value)
+        .action(ArgAction::Append)
 }
 
 // An option without value, which may stand again.
@@ -102,10 +117,16 @@ fn options_of<'a>(alloc: Global, matches: &ArgMatches<'a>) -> Result<Options<'a>
     })
 }
 
-fn values_of<'a>(alloc: Global, matches: &ArgMatches<'a>, id: &str) -> Result<Vec<&'a str>, Failure<'a>> {
+fn values_of<'a>(
+    alloc: Global,
+    matches: &ArgMatches<'a>,
+    id: &str,
+) -> Result<Vec<&'a str>, Failure<'a>> {
     let mut values = Vec::new(alloc);
     if let Some(given) = matches.get_strs(id) {
-        values.extend_from_slice(given).map_err(|_| Failure::BadArguments)?;
+        values
+            .extend_from_slice(given)
+            .map_err(|_| Failure::BadArguments)?;
     }
     Ok(values)
 }

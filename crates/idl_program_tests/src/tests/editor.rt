@@ -1,9 +1,8 @@
 //! The example of docs/EMBEDDING.md: an editor's server that holds a project and tells what an edit changes.
 
-use idl_session::{Line, Row, Session, Span};
+use idl_session::{Row, Session, Span};
 use idl_source::{Refusal, cut};
-use std::alloc::{AllocError, AllocGlobal, Global};
-use std::process::Abort;
+use std::alloc::{AllocError, Global};
 use std::test::Fail;
 
 // A file as the editor opens it.
@@ -36,7 +35,14 @@ fn told(alloc: Global, rows: Option<&[Row]>) -> Result<String, AllocError> {
 fn an_editor_holds_a_project(rt: HostRuntime) -> Result<(), Fail> {
     let mut session = Session::new(rt.alloc());
     assert!(rt; session.add_root(b"shop.idl").is_ok());
-    assert!(rt; open(&mut session, "shop.idl", "#include \"money.idl\"\ninterface Shop { Money price(); };\n").is_ok());
+    assert!(rt;
+        open(
+            &mut session,
+            "shop.idl",
+            "#include \"money.idl\"\ninterface Shop { Money price(); };\n"
+        )
+        .is_ok()
+    );
 
     // What isn't there yet is asked for, and is opened next.
     let absent = session.absent(b"shop.idl").unwrap_or(&[]);
@@ -53,9 +59,15 @@ fn an_editor_holds_a_project(rt: HostRuntime) -> Result<(), Fail> {
     let errors = told(rt.alloc(), session.diagnostics(b"shop.idl"))?;
     assert_eq!(rt; errors.as_str(), "");
     let dump = told(rt.alloc(), session.dump(b"shop.idl"))?;
-    assert_eq!(rt; dump.as_str(), "typedef long Money;\ninterface Shop {\n  ::Money price ( );\n};\n");
+    assert_eq!(rt;
+        dump.as_str(),
+        "typedef long Money;\ninterface Shop {\n  ::Money price ( );\n};\n"
+    );
 
     // A refused edit changes nothing.
-    assert_eq!(rt; open(&mut session, "no name", "").err(), Some(Refusal::BadName));
+    assert_eq!(rt;
+        open(&mut session, "no name", "").err(),
+        Some(Refusal::BadName)
+    );
     Ok(())
 }

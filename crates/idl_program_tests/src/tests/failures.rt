@@ -9,13 +9,33 @@ use std::test::Fail;
 static ROWS: [(&str, &str, &str); 7] = [
     ("a.idl", "a.idl!", "2 err idlc: a.idl: cannot read /"),
     ("a.idl", "a.idl?", "2 err idlc: a.idl: refused 9 /"),
-    ("a.idl", "a.idl: #include \"b.idl\" ¶ b.idl!", "2 err idlc: b.idl: cannot read /"),
+    (
+        "a.idl",
+        "a.idl: #include \"b.idl\" ¶ b.idl!",
+        "2 err idlc: b.idl: cannot read /",
+    ),
     // A file that isn't asked for any more once those before it are there ends nothing.
-    ("-d a.idl", "a.idl: #include \"m.idl\" | #ifdef M | #include \"b.idl\" | #endif ¶ b.idl!", "1 err a.idl:1: E10 \"m.idl\" /"),
-    ("-d a.idl", "a.idl: #include \"m.idl\" | #ifndef M | #include \"b.idl\" | #endif ¶ m.idl: #define M ¶ b.idl!", "0"),
+    (
+        "-d a.idl",
+        "a.idl: #include \"m.idl\" | #ifdef M | #include \"b.idl\" | #endif ¶ b.idl!",
+        "1 err a.idl:1: E10 \"m.idl\" /",
+    ),
+    (
+        "-d a.idl",
+        "a.idl: #include \"m.idl\" | #ifndef M | #include \"b.idl\" | #endif ¶ m.idl: #define M ¶ b.idl!",
+        "0",
+    ),
     // The first trouble in the order of asking is told.
-    ("a.idl", "a.idl: #include \"b.idl\" | #include \"c.idl\" ¶ b.idl! ¶ c.idl?", "2 err idlc: b.idl: cannot read /"),
-    ("a.idl b.idl", "a.idl: typedef T X; ¶ b.idl!", "2 err idlc: b.idl: cannot read /"),
+    (
+        "a.idl",
+        "a.idl: #include \"b.idl\" | #include \"c.idl\" ¶ b.idl! ¶ c.idl?",
+        "2 err idlc: b.idl: cannot read /",
+    ),
+    (
+        "a.idl b.idl",
+        "a.idl: typedef T X; ¶ b.idl!",
+        "2 err idlc: b.idl: cannot read /",
+    ),
 ];
 
 #[test]
@@ -24,7 +44,12 @@ fn loaders_fail_so(rt: HostRuntime) -> Result<(), Fail> {
 }
 
 // The status, where standard output takes so many bytes and standard error so many.
-fn status_with(alloc: Global, words: &[&str], output: usize, errors: usize) -> Result<(Status, Vec<u8>), AllocError> {
+fn status_with(
+    alloc: Global,
+    words: &[&str],
+    output: usize,
+    errors: usize,
+) -> Result<(Status, Vec<u8>), AllocError> {
     let mut devices = Devices {
         loader: Files::new(alloc, "a.idl: typedef long X; ¶ b.idl: typedef T X;"),
         source: SliceSource::new(b"work\n"),

@@ -39,10 +39,16 @@ impl<'a> Loader for Files<'a> {
                     Err(_) => Loaded::NoMemory,
                 };
             }
-            if title.strip_suffix('!').is_some_and(|title| title.as_bytes() == wanted) {
+            if title
+                .strip_suffix('!')
+                .is_some_and(|title| title.as_bytes() == wanted)
+            {
                 return Loaded::Failed;
             }
-            if title.strip_suffix('?').is_some_and(|title| title.as_bytes() == wanted) {
+            if title
+                .strip_suffix('?')
+                .is_some_and(|title| title.as_bytes() == wanted)
+            {
                 return Loaded::NoMemory;
             }
         }
