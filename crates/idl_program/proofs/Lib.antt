@@ -1,2 +1,3 @@
 pub mod EditLemmas
 pub mod LoadingLemmas
+pub mod WordLemmas
