@@ -25,7 +25,8 @@ ghost use Rattle.idl_unit.specs.declared.unit.UnitText.TheVariants as unit;
 use crate::identifying::{given, has_id, id_text, is_fixed, is_given, versioned, visible};
 use crate::using::{last_at, name_code, part_at};
 use crate::verdict::{Verdict, adding};
-use idl_event::{Code, TokenRange};
+use idl_event::Code;
+use idl_lex::TokenRange;
 use idl_memo::Log;
 use idl_scope::{
     Addition, Env, Facts, Identity, NameFault, Path, Scope, Shared, Standpoint, Step, View, resolve,

@@ -6,8 +6,7 @@ ghost use Rattle.idl_event.specs.Items.{event_of, last, place_of, place_of_event
 use crate::code::Code;
 use crate::file_name::FileName;
 use crate::place::Place;
-use crate::token_range::TokenRange;
-use idl_lex::{Spelling, Token};
+use idl_lex::{Spelling, Token, TokenRange};
 
 /// What is kept of the expansion of a root.
 #[derive(Drop)]

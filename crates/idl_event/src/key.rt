@@ -7,6 +7,7 @@ ghost use Rattle.idl_event.specs.Key.{key_cmp, key_code, key_eq};
 
 use crate::file_name::FileName;
 use crate::lexed_file::LexedFile;
+use crate::lexed_line::LexedLine;
 use idl_base::{Datum, Seq};
 use idl_lex::Spelling;
 use idl_source::Directory;
@@ -27,7 +28,7 @@ pub enum Key {
 #[derive(Clone, PartialEq, Eq, Drop)]
 pub enum Answer {
     /// A macro's body: a file of that one line.
-    Macro(LexedFile),
+    Macro(LexedLine),
     /// A file.
     File(LexedFile),
     /// The directories, in the order in which they are searched.

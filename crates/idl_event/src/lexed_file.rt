@@ -6,9 +6,8 @@ ghost use Rattle.std.specs.Cmp.Lexicographic.{pointwise, pointwise_decides, byte
 ghost use Rattle.std.specs.Str.{bytes_eq};
 ghost use Rattle.idl_lex.specs.Tokens.{tokens_of};
 
-use crate::token_range::FileTokens;
 use idl_base::Datum;
-use idl_groups::GroupedTokens;
+use idl_groups::{GroupedTokens, LinesLeft};
 use idl_lex::lex;
 use idl_source::File;
 use std::alloc::{AllocError, Global};
@@ -35,11 +34,12 @@ impl Model for LexedFile {
 }
 
 impl LexedFile {
-    /// The file with its tokens.
-    pub fn new(alloc: Global, file: File) -> Result<LexedFile, AllocError>
+    /// The file with its tokens, of which those of an earlier text are taken over that are the same.
+    pub fn new(alloc: Global, file: File, old: Option<&LexedFile>) -> Result<LexedFile, AllocError>
         ensures { IfOk result (λ it. it ≡ file) }
     {
-        let tokens = GroupedTokens::new(alloc, lex(alloc, &file, None)?)?;
+        let old = old.map(|old| old.tokens.lexed());
+        let tokens = GroupedTokens::new(alloc, lex(alloc, &file, old)?)?;
         Ok(LexedFile {
             tokens: Rc::new(alloc, tokens)?,
             file,
@@ -53,11 +53,11 @@ impl LexedFile {
         &self.file
     }
 
-    /// Its tokens in order.
-    pub fn tokens(&self) -> FileTokens<'_>
+    /// Its lines.
+    pub fn lines(&self) -> LinesLeft<'_>
         ensures { result ≡ tokens_of self.now }
     {
-        FileTokens::all(&self.tokens)
+        self.tokens.all()
     }
 }
 

@@ -1,3 +1,4 @@
+pub mod LeftLemmas
 pub mod MatchedLemmas
 pub mod MatchingLemmas
 pub mod TreeLawLemmas

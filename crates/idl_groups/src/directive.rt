@@ -5,7 +5,7 @@ ghost use Rattle.idl_groups.specs.Line.{Directed, read};
 ghost use Rattle.idl_groups.specs.TreeLaw.{IsLineAlone};
 
 use crate::kind::DirectiveKind;
-use idl_lex::PlacedToken;
+use idl_lex::{FileToken, FileTokens};
 use std::marker::Model;
 
 /// A directive: its kind, the number of its line, its word, and the tokens after that.
@@ -13,8 +13,8 @@ use std::marker::Model;
 pub struct Directive<'t> {
     pub kind: DirectiveKind,
     pub line: u32,
-    pub word: &'t PlacedToken,
-    pub operands: &'t [PlacedToken],
+    pub word: FileToken<'t>,
+    pub operands: FileTokens<'t>,
 }
 
 impl<'t> Model for Directive<'t> {
@@ -25,25 +25,25 @@ impl<'t> Model for Directive<'t> {
     ghost view = { λ d. record {
       kind = d.kind;
       line = d.line;
-      word = d.word.now;
-      operands = d.operands.now;
+      word = d.word;
+      operands = d.operands;
     } };
 }
 
 /// The directive on a line of these tokens; `None` of text, and of a `#` alone.
-pub fn directive_on<'t>(line: &'t [PlacedToken]) -> Option<Directive<'t>>
+pub fn directive_on<'t>(line: &FileTokens<'t>) -> Option<Directive<'t>>
     ensures { MatchOption result (IsLineAlone (read line.now))
         (λ directive. read line.now ≡ Directed directive) }
 {
-    match line {
-        [hash, word, operands @ ..] if hash.token.as_bytes() == b"#".as_slice() => {
-            Some(Directive {
-                kind: DirectiveKind::of(word.token.as_bytes()),
-                line: hash.line,
-                word,
-                operands,
-            })
-        }
-        _ => None,
+    let (hash, rest) = line.split_first()?;
+    if hash.token().as_bytes() != b"#".as_slice() {
+        return None;
     }
+    let (word, operands) = rest.split_first()?;
+    Some(Directive {
+        kind: DirectiveKind::of(word.token().as_bytes()),
+        line: hash.line(),
+        word,
+        operands,
+    })
 }

@@ -32,7 +32,7 @@ impl GroupFault {
         Ok(GroupFault {
             what,
             line: directive.line,
-            word: directive.word.token.spelling().clone()?,
+            word: directive.word.token().spelling().clone()?,
         })
     }
 }

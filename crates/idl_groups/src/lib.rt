@@ -14,6 +14,6 @@ mod table;
 mod tree;
 
 pub use fault::{GroupFault, Misplaced};
-pub use grouped::{GroupedTokens, Jump};
+pub use grouped::{GroupedTokens, LinesLeft};
 pub use kind::{DirectiveKind, Plain, Test};
 pub use tree::tree_of_lines;

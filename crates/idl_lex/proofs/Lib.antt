@@ -1,10 +1,14 @@
+pub mod BlockLemmas
 pub mod CountLemmas
 pub mod CutLemmas
 pub mod HeaderLemmas
 pub mod LineLemmas
 pub mod LiteralLemmas
 pub mod LogicalLemmas
+pub mod MovedLemmas
 pub mod NumberLemmas
+pub mod PartLemmas
 pub mod PieceLemmas
 pub mod TableLemmas
 pub mod TokensLemmas
+pub mod WalkLemmas

@@ -123,7 +123,7 @@ pub record BeginsAt (lines : List (List ℕ)) (i end : ℕ) : Type 0 where
   pub last_number : ℕ
   pub text : joined (i + 1) (drop i lines) ≡ continued (i + 1) (take (end - i) (drop i lines)) ++ record { byte = newline; line = last_number } ∷ joined (end + 1) (drop end lines)
 
-Begins-some : (number : ℕ) (lines : List (List ℕ)) → 0 < length lines → Begins number lines
+pub Begins-some : (number : ℕ) (lines : List (List ℕ)) → 0 < length lines → Begins number lines
 Begins-some number [] some = absurd (omega arith)
 Begins-some number (bytes ∷ lines) some = Begins-joined number bytes lines
 

@@ -15,3 +15,5 @@ pub mod Logical
 pub mod Tokens
 pub mod Cut
 pub mod Lexer
+pub mod Moved
+pub mod Block

@@ -1,12 +1,13 @@
 //! Cutting a text into tokens, line by line of the joined text.
 
-ghost use Rattle.std.specs.Prelude.{◌≡◌, ◌≤◌, ◌<◌, ◌+◌, ◌++◌, ◌-◌, false, ℕ, List, drop, length, slice_index, take, IfOk, OnOk};
+ghost use Rattle.std.specs.Prelude.{◌≡◌, ◌≤◌, ◌<◌, ◌+◌, ◌++◌, ◌-◌, false, ℕ, List, drop, length, slice_index, take, IfOk, IsTrue, OnOk};
 ghost use Rattle.idl_lex.specs.Context.{is_include};
 ghost use Rattle.idl_lex.specs.Lexer.{coming, ended, is_open};
 ghost use Rattle.idl_lex.specs.Logical.{line_at};
 ghost use Rattle.idl_lex.specs.Scan.{closing_end, further};
 ghost use Rattle.idl_lex.specs.Text.{Placed, bytes_of};
 ghost use Rattle.idl_lex.specs.Tokens.{token_if, tokens_after};
+ghost use Rattle.idl_lex.specs.declared.lexer.Before.TheVariants.{Fresh};
 
 use crate::context::{Context, ends_block, is_gap};
 use crate::logical::Logical;
@@ -22,6 +23,18 @@ pub enum Before {
     Fresh,
     /// In a comment, which is this token if it isn't closed. Where it is closed this stands before what comes after it.
     Comment(PlacedToken, Context),
+}
+
+impl Before {
+    /// Whether nothing is open.
+    pub fn is_fresh(&self) -> bool
+        ensures { IsTrue result → self.now ≡ Fresh }
+    {
+        match self {
+            Before::Fresh => true,
+            Before::Comment(_, _) => false,
+        }
+    }
 }
 
 /// Puts in the tokens of a line that begins in this, and answers what the next line begins in.

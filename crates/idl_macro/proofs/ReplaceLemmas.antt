@@ -1,5 +1,5 @@
 -- The steps of a replacement: what the words in whose replacement it stands still stand for, and what a step makes of it.
-use Rattle.std.proofs.Common.{◌≡◌, ℕ, suc, ◌+◌, ◌-◌, ◌<◌, List, [], ◌∷◌, ◌++◌, length, Option, None, Some, Bor, sym, ◌∙◌, ap, arith, append_assoc, get_or, drop, add-one, drop-cons}
+use Rattle.std.proofs.Common.{◌≡◌, ℕ, suc, ◌-◌, ◌<◌, List, [], ◌∷◌, ◌++◌, length, Option, None, Some, Bor, refl, sym, ◌∙◌, ap, arith, append_assoc}
 use Rattle.std.specs.Map.{keys_of}
 use Rattle.idl_memo.specs.Progress.{after_item}
 use Rattle.idl_memo.proofs.ProgressLaws.{progress_after-and_then}
@@ -133,15 +133,17 @@ module _ (bank : Key → Option Answer) where
 
 module _ (bank : Key → Option Answer) (file : List ℕ) (definitions : Definitions) where
   -- a text is replaced token by token, each at its own place
-  pub reached-text-drop : (tokens : List PlacedToken) (i : ℕ) (d : PlacedToken) (output : Output) (place : Place) (part : List Token) (p q : Reached) → i < length tokens
-      → item_of output ≡ item_of Text → place ≡ place_at file (get_or tokens i d) → part ≡ (get_or tokens i d).token ∷ []
+  pub reached-text-first : (t : PlacedToken) (tokens : List PlacedToken) (output : Output) (place : Place) (part : List Token) (p q : Reached)
+      → item_of output ≡ item_of Text → place ≡ place_at file t → part ≡ t.token ∷ []
       → q ≡ reached bank (replaced_at (item_of output place) place definitions part) p
-      → reached bank (text file definitions (drop i tokens)) p ≡ reached bank (text file definitions (drop (i + 1) tokens)) q
+      → reached bank (text file definitions (t ∷ tokens)) p ≡ reached bank (text file definitions tokens) q
   unfolding text
-  reached-text-drop tokens i d output place part p q lt same here one made =
-      let t = get_or tokens i d in
-      let rest = drop (i + 1) tokens in
+  reached-text-first t tokens output place part p q same here one made =
       let first = replaced_at (item_of Text (place_at file t)) (place_at file t) definitions (t.token ∷ []) in
-      ap (λ (ts : List PlacedToken). reached bank (text file definitions ts) p) (drop-cons tokens i d lt ∙ ap (λ (n : ℕ). t ∷ drop n tokens) (sym (add-one i)))
-      ∙ reached-followed_by bank first (text file definitions rest) p
-      ∙ ap (reached bank (text file definitions rest)) (sym (made ∙ (λ j. reached bank (replaced_at (same j (here j)) (here j) definitions (one j)) p)))
+      reached-followed_by bank first (text file definitions tokens) p
+      ∙ ap (reached bank (text file definitions tokens)) (sym (made ∙ (λ j. reached bank (replaced_at (same j (here j)) (here j) definitions (one j)) p)))
+
+  -- and where none is left, nothing is told
+  pub reached-text-nil : (p : Reached) → reached bank (text file definitions []) p ≡ p
+  unfolding text
+  reached-text-nil p = refl

@@ -11,8 +11,8 @@ ghost use Rattle.idl_macro.specs.Macros.{body_in, macro_of};
 
 use crate::marks::Marks;
 use idl_base::Table;
-use idl_event::{Answer, Key, Progress, RootBank, TokenRange};
-use idl_lex::{PlacedToken, Spelling};
+use idl_event::{Answer, Key, Progress, RootBank};
+use idl_lex::{PlacedToken, Spelling, TokenRange};
 use std::alloc::{AllocError, Global};
 use std::marker::Model;
 
@@ -92,9 +92,7 @@ impl Definitions {
         ensures ok { OnOk result (self.new ≡ insert_entry bytes_eq self.old word.now (Some body)) }
         ensures err { OnErr result (self.new ≡ self.old) }
     {
-        self.marks.mark(word);
-        self.entries.insert(word.clone()?, Some(body))?;
-        Ok(())
+        self.say(word, Some(body))
     }
 
     /// There is no macro with this word from now on. Want of memory leaves what was said as it was.
@@ -102,8 +100,16 @@ impl Definitions {
         ensures ok { OnOk result (self.new ≡ insert_entry bytes_eq self.old word.now None) }
         ensures err { OnErr result (self.new ≡ self.old) }
     {
+        self.say(word, None)
+    }
+
+    // This is said of the word from now on.
+    fn say(&mut self, word: &Spelling, body: Option<TokenRange>) -> Result<(), AllocError>
+        ensures ok { OnOk result (self.new ≡ insert_entry bytes_eq self.old word.now body) }
+        ensures err { OnErr result (self.new ≡ self.old) }
+    {
         self.marks.mark(word);
-        self.entries.insert(word.clone()?, None)?;
+        self.entries.insert(word.clone()?, body)?;
         Ok(())
     }
 }

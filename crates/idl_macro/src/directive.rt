@@ -13,8 +13,8 @@ ghost use Rattle.idl_macro.specs.Directives.{define, undef, ifdef, ifndef, is_ma
 
 use crate::definitions::{Definitions, Macros};
 use crate::word::is_macro_word;
-use idl_event::{Answer, Code, Event, FileTokens, Item, Key, Place, Progress, RootBank};
-use idl_lex::{PlacedToken, Spelling};
+use idl_event::{Answer, Code, Event, Item, Key, Place, Progress, RootBank};
+use idl_lex::{FileToken, FileTokens, PlacedToken, Spelling};
 use std::alloc::AllocError;
 
 /// A directive where it stands: its word, and the tokens after that.
@@ -60,7 +60,7 @@ pub fn undef<B: RootBank>(
         (undef directive.now.place directive.now.word.now definitions.old
         directive.now.operands) progress.old) }
 {
-    match first_word(directive.operands.as_slice()) {
+    match first_word(&directive.operands) {
         Some(word) => {
             definitions.remove(word)?;
             Ok(())
@@ -116,7 +116,7 @@ fn is_macro_there<B: RootBank>(
         (is_macro_there directive.now.place directive.now.word.now macros.now.definitions.now
         directive.now.operands) progress.old) }
 {
-    match first_word(directive.operands.as_slice()) {
+    match first_word(&directive.operands) {
         Some(word) => {
             let body = macros.definitions.macro_of(word, macros.bank, progress)?;
             Ok(Some(body.is_some()))
@@ -159,37 +159,35 @@ fn other_definition<B: RootBank>(
 }
 
 // The word at which the operands begin, if they do.
-fn first_word(operands: &[PlacedToken]) -> Option<&Spelling>
-    ensures { option_copied result ≡ first_word operands.entry.now }
+fn first_word<'a>(operands: &FileTokens<'a>) -> Option<&'a Spelling>
+    ensures { option_copied result ≡ first_word operands.now }
 {
-    match operands {
-        [first, ..] if first.token.is_word() => Some(first.token.spelling()),
-        _ => None,
+    let (first, _rest) = operands.split_first()?;
+    if !first.token().is_word() {
+        return None;
     }
+    Some(first.token().spelling())
 }
 
 // The word and the body of a well-formed definition.
 fn definition_in<'a>(operands: &FileTokens<'a>) -> Option<(&'a Spelling, FileTokens<'a>)>
     ensures { option_map (λ d. (d.0.now, tokens_in d.1)) result ≡ definition_in operands.now }
 {
-    let (first, rest) = operands.as_slice().split_first()?;
-    if !is_macro_word(first.token.as_bytes()) {
+    let (first, body) = operands.split_first()?;
+    if !is_macro_word(first.token().as_bytes()) {
         return None;
     }
-    match rest {
-        [next, ..] if opens_parameters(next) => None,
-        _ => {
-            let (_word, body) = operands.split_at(1);
-            Some((first.token.spelling(), body))
-        }
+    match body.split_first() {
+        Some((next, _rest)) if opens_parameters(&next) => None,
+        _ => Some((first.token().spelling(), body)),
     }
 }
 
 // Whether the token is a `(` that a word ends before, so that a list of parameters would begin.
-fn opens_parameters(token: &PlacedToken) -> bool
+fn opens_parameters(token: &FileToken<'_>) -> bool
     ensures { result ≡ opens_parameters token.now }
 {
-    token.follows_word && token.token.as_bytes() == b"(".as_slice()
+    token.follows_word() && token.token().as_bytes() == b"(".as_slice()
 }
 
 // Whether there is a macro with other tokens.

@@ -18,7 +18,7 @@ ghost use Rattle.idl_macro.specs.Replace.{operand, replaced, replaced_at, replac
 use crate::definitions::{Definitions, Macros};
 use idl_base::Table;
 use idl_event::{Answer, Event, FileName, Item, Key, Place, Progress, RootBank};
-use idl_lex::{PlacedToken, Spelling, Token};
+use idl_lex::{FileTokens, PlacedToken, Spelling, Token};
 use std::alloc::{AllocError, Global};
 use std::slice::from_ref;
 
@@ -36,7 +36,7 @@ pub enum Output {
 pub fn replace_text<B: RootBank>(
     macros: &Macros<'_, B>,
     file: &FileName,
-    tokens: &[PlacedToken],
+    tokens: &FileTokens<'_>,
     progress: &mut Progress<B>,
 ) -> Result<(), AllocError>
     ensures { OnOk result (progress.new
@@ -44,16 +44,18 @@ pub fn replace_text<B: RootBank>(
         (text file.now macros.now.definitions.now tokens.now) progress.old) }
 {
     let mut output = Output::Text;
-    'tokens: for token in tokens {
+    let mut left = tokens.copied();
+    'tokens: while let Some((token, rest)) = left.split_first() {
         let place = Place {
             file: file.clone()?,
-            line: token.line,
+            line: token.line(),
         };
         let tokens = TokensAt {
             place: &place,
-            tokens: from_ref(token),
+            tokens: from_ref(token.placed()),
         };
         replace(macros, tokens, progress, &mut output)?;
+        left = rest;
     }
     Ok(())
 }

@@ -1,5 +1,6 @@
 -- What directives of one line come to.
-use Rattle.std.proofs.Common.{◌≡◌, ℕ, Bool, true, false, List, ◌∷◌, Option, None, Some, codes, if◌then◌else◌, ap, sym, ◌∙◌}
+use Rattle.std.proofs.Common.{◌≡◌, ℕ, Bool, true, false, List, ◌∷◌, Option, None, Some, codes, drop, flat_map, if◌then◌else◌, ap, sym, ◌∙◌}
+use Rattle.std.proofs.lemmas.List.Folds.{flat_map-map}
 use Rattle.std.specs.List.{list_any}
 use Rattle.std.specs.Str.{bytes_eq}
 use Rattle.indexmap.specs.IndexSet.{insert_key}
@@ -10,17 +11,25 @@ use Rattle.idl_event.specs.declared.event.Event.TheVariants.{Pragma}
 use Rattle.idl_event.specs.declared.event.Item.TheVariants as item
 use Rattle.idl_event.specs.declared.key.Answer.{Answer}
 use Rattle.idl_event.specs.declared.key.Key.{Key}
-use Rattle.idl_lex.specs.Tokens.{tokens_in}
+use Rattle.idl_lex.specs.Tokens.{Token, tokens_in}
+use Rattle.idl_lex.specs.declared.token.PlacedToken.{PlacedToken}
 use Rattle.idl_macro.specs.Replace.{place_at}
 use Rattle.idl_groups.specs.Line.{Directive, Directed}
 use Rattle.idl_groups.specs.declared.kind.DirectiveKind.{DirectiveKind}
 use Rattle.idl_groups.specs.declared.kind.DirectiveKind.TheVariants.{Alone}
 use Rattle.idl_groups.specs.declared.kind.Plain.{Plain}
-use Rattle.idl_prep.specs.Directive.{Enter, effect, entering, first_spelling, include, including, is_of_idl, plain_effect, plain_or, pragma, pragma_by}
+use Rattle.idl_prep.specs.Directive.{Enter, effect, entering, first_spelling, include, including, is_of_idl, parted, plain_effect, plain_or, pragma, pragma_by}
 use Rattle.idl_prep.specs.Include.{Found, Operand, file_of, operand_of}
 use Rattle.idl_prep.specs.Place.{place_in}
 use Rattle.idl_prep.specs.State.{Said, Way, ended, onward, telling}
 use Rattle.idl_prep.proofs.WayLemmas.{arrival-then}
+
+-- a text of tokens is that of the same tokens elsewhere
+pub parted-same : (tokens others : List PlacedToken) → tokens_in tokens ≡ tokens_in others → parted tokens ≡ parted others
+parted-same tokens others same =
+    let with_blank : Token → List ℕ = λ t. 32 ∷ t in
+    let token : PlacedToken → Token = λ t. t.token in
+    ap (drop 1) (sym (flat_map-map with_blank token tokens) ∙ ap (flat_map with_blank) same ∙ flat_map-map with_blank token others)
 
 module _ (bank : Key → Option Answer) (enter : Enter) (file : FileName) (d : Directive) where
   -- a directive of one line: a turn, and what it does

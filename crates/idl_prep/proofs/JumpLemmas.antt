@@ -1,6 +1,6 @@
 -- A branch that isn't taken is jumped over.
-use Rattle.std.proofs.Common.{◌≡◌, Bool, true, false, List, [], ◌∷◌, ◌++◌, if◌then◌else◌, Option, None, Some, ◌⊎◌, inl, inr, refl, ap, sym, subst, ◌∙◌}
-use Rattle.idl_memo.specs.Query.{Done, Tell, and_then}
+use Rattle.std.proofs.Common.{◌≡◌, Bool, false, List, [], ◌∷◌, ◌++◌, Option, None, Some, ◌⊎◌, inl, inr, refl, ap, sym, subst, ◌∙◌}
+use Rattle.idl_memo.specs.Query.{Tell, and_then}
 use Rattle.idl_event.specs.Expanding.{Expanding}
 use Rattle.idl_event.specs.declared.file_name.FileName.{FileName}
 use Rattle.idl_event.specs.declared.key.Answer.{Answer}
@@ -18,7 +18,7 @@ use Rattle.idl_prep.specs.Directive.{Enter}
 use Rattle.idl_prep.specs.Pass.{coming, innermost, to_come, visit, visit_branches}
 use Rattle.idl_prep.specs.State.{Said, Way, ended, onward}
 use Rattle.idl_prep.specs.Told.{item_of, told}
-use Rattle.idl_prep.specs.Walk.{opener_of, skip, skip_branches, skip_tree, walk}
+use Rattle.idl_prep.specs.Walk.{opener_of, skip, skip_branches, skip_tree}
 use Rattle.idl_prep.specs.declared.groups.Group.{Group}
 use Rattle.idl_prep.proofs.WalkLemmas.{onward-then}
 

@@ -8,7 +8,6 @@ ghost use Rattle.idl_prep.specs.State.{ended, onward};
 use crate::groups::Groups;
 use crate::inclusion::Inclusion;
 use crate::jump::jump;
-use crate::line::first_line;
 use crate::pass::{end_file, walk_line};
 use crate::root::Root;
 use crate::site::Site;
@@ -27,12 +26,12 @@ pub fn walk_file<B: RootBank>(
         OnOk result (ended root.new ≡ onward (B.at site.now.bank.now) walk root.old) }
 {
     let mut groups = Groups::new(root.allocator());
-    let mut left = file.tokens();
-    'lines: while !left.as_slice().is_empty() {
+    let mut left = file.lines();
+    'lines: while !left.is_empty() {
         if root.is_over() {
             return Ok(());
         }
-        let (line, rest) = first_line(&left);
+        let (line, rest) = left.first_line();
         let inclusion = walk_line(root, &mut groups, site, &line)?;
         enter_file(root, room, inclusion, site.bank)?;
         left = jump(root, &groups, site.file, rest)?;

@@ -9,8 +9,8 @@ ghost use Rattle.idl_prep.specs.Told.{code_of, told};
 
 use crate::groups::Groups;
 use crate::root::Root;
-use idl_event::{Answer, Code, FileName, FileTokens, Key, Place, RootBank};
-use idl_groups::{GroupFault, Misplaced};
+use idl_event::{Answer, Code, FileName, Key, Place, RootBank};
+use idl_groups::{GroupFault, LinesLeft, Misplaced};
 use std::alloc::AllocError;
 
 /// What is left of a file's lines once the branch that they begin with is jumped over, if it isn't taken: of what is in it,
@@ -19,8 +19,8 @@ pub fn jump<'t, B: RootBank>(
     root: &mut Root<B>,
     groups: &Groups,
     file: &FileName,
-    left: FileTokens<'t>,
-) -> Result<FileTokens<'t>, AllocError>
+    left: LinesLeft<'t>,
+) -> Result<LinesLeft<'t>, AllocError>
     ensures to_come { let file = file.now in let groups = groups.now in
         IfOk result (λ rest. (bank : Key → Option Answer) (enter : Enter)
         → to_come bank enter file groups (lines_from rest) root.new

@@ -7,9 +7,9 @@ ghost use Rattle.idl_groups.specs.Line.{after_hash, read};
 ghost use Rattle.idl_prep.specs.Place.{place_in};
 ghost use Rattle.idl_prep.specs.Read.{line_of};
 
-use idl_event::{FileName, FileTokens, Place};
+use idl_event::{FileName, Place};
 use idl_groups::DirectiveKind;
-use idl_lex::{PlacedToken, Spelling};
+use idl_lex::{FileToken, FileTokens, Spelling};
 use std::alloc::AllocError;
 use std::marker::Model;
 
@@ -18,7 +18,7 @@ use std::marker::Model;
 pub struct Directive<'t> {
     pub kind: DirectiveKind,
     pub line: u32,
-    pub word: &'t PlacedToken,
+    pub word: FileToken<'t>,
     pub operands: FileTokens<'t>,
     pub tokens: FileTokens<'t>,
 }
@@ -32,11 +32,11 @@ impl<'t> Model for Directive<'t> {
     ghost view = { λ d. record {
       kind = d.kind;
       line = d.line;
-      word = d.word.now;
+      word = d.word;
       operands = d.operands;
     } };
 
-    ghost invariant = { λ d. d.tokens ≡ d.word.now ∷ d.operands };
+    ghost invariant = { λ d. d.tokens ≡ d.word ∷ d.operands };
 }
 
 impl<'t> Directive<'t> {
@@ -44,7 +44,7 @@ impl<'t> Directive<'t> {
     pub fn word(&self) -> &'t Spelling
         ensures { result.now ≡ self.now.word.token }
     {
-        self.word.token.spelling()
+        self.word.token().spelling()
     }
 
     /// The tokens after its word.
@@ -77,7 +77,7 @@ impl<'t> Directive<'t> {
     {
         Ok(Place {
             file: file.clone()?,
-            line: self.word.line,
+            line: self.word.line(),
         })
     }
 
@@ -103,25 +103,13 @@ pub enum Line<'t> {
     Directed(Directive<'t>),
 }
 
-/// The tokens of the first line, and those after it.
-pub fn first_line<'t>(tokens: &FileTokens<'t>) -> (FileTokens<'t>, FileTokens<'t>)
-    requires { 0 < length tokens.now }
-    ensures lines { lines_of tokens.now ≡ result.0 ∷ lines_of result.1 }
-    ensures all { tokens.now ≡ result.0 ++ result.1 }
-    ensures some { 0 < length result.0 }
-{
-    let (line, _rest) = idl_lex::first_line(tokens.as_slice());
-    tokens.split_at(line.len())
-}
-
 /// The line that these tokens are: a directive where the first is `#`.
 pub fn read<'t>(tokens: &FileTokens<'t>) -> Line<'t>
     ensures { line_of result ≡ read tokens.now }
 {
-    match tokens.as_slice() {
-        [hash, ..] if hash.token.as_bytes() == b"#".as_slice() => {
-            let (_hash, rest) = tokens.split_at(1);
-            after_hash(hash.line, rest)
+    match tokens.split_first() {
+        Some((hash, rest)) if hash.token().as_bytes() == b"#".as_slice() => {
+            after_hash(hash.line(), rest)
         }
         _ => Line::Text(tokens.copied()),
     }
@@ -131,17 +119,14 @@ pub fn read<'t>(tokens: &FileTokens<'t>) -> Line<'t>
 fn after_hash<'t>(line: u32, tokens: FileTokens<'t>) -> Line<'t>
     ensures { line_of result ≡ after_hash line tokens.entry }
 {
-    match tokens.as_slice() {
-        [word, ..] => {
-            let (_word, operands) = tokens.split_at(1);
-            Line::Directed(Directive {
-                kind: DirectiveKind::of(word.token.as_bytes()),
-                line,
-                word,
-                operands,
-                tokens,
-            })
-        }
-        [] => Line::NullDirective(line),
+    match tokens.split_first() {
+        Some((word, operands)) => Line::Directed(Directive {
+            kind: DirectiveKind::of(word.token().as_bytes()),
+            line,
+            word,
+            operands,
+            tokens,
+        }),
+        None => Line::NullDirective(line),
     }
 }

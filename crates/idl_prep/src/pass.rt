@@ -18,8 +18,9 @@ use crate::perform::{act_bare, act_directive, act_text};
 use crate::root::Root;
 use crate::site::Site;
 use crate::stray::{stray_inside, stray_outside};
-use idl_event::{Answer, Code, FileName, FileTokens, Key, Place, RootBank};
+use idl_event::{Answer, Code, FileName, Key, Place, RootBank};
 use idl_groups::DirectiveKind;
+use idl_lex::FileTokens;
 use std::alloc::AllocError;
 
 /// The next line of a file: gives the file that is to be entered, if there is one.

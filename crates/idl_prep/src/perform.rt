@@ -18,8 +18,9 @@ use crate::pragma::pragma;
 use crate::root::Root;
 use crate::site::Site;
 use crate::text::parted;
-use idl_event::{Answer, Code, FileName, FileTokens, Item, Key, Place, RootBank};
+use idl_event::{Answer, Code, FileName, Item, Key, Place, RootBank};
 use idl_groups::Plain;
+use idl_lex::FileTokens;
 use std::alloc::AllocError;
 
 /// A line of text, which isn't skipped.
@@ -33,7 +34,7 @@ pub fn act_text<B: RootBank>(
         → ended root.new
         ≡ onward bank (effect enter site.now.file.now (Text tokens.now)) root.old) }
 {
-    root.emit(site, tokens.as_slice())?;
+    root.emit(site, tokens)?;
     Ok(())
 }
 

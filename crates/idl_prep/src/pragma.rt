@@ -9,7 +9,7 @@ ghost use Rattle.idl_prep.specs.State.{ended, onward};
 use crate::line::Directive;
 use crate::root::Root;
 use idl_event::{Answer, Event, FileName, Item, Key, RootBank};
-use idl_lex::{PlacedToken, Spelling};
+use idl_lex::{FileTokens, Spelling};
 use std::alloc::AllocError;
 
 /// `pragma`: `once` says that the file isn't to be entered again, and those that mean something to IDL are told.
@@ -21,7 +21,7 @@ pub fn pragma<B: RootBank>(
     ensures { OnOk result ((bank : Key → Option Answer)
         → ended root.new ≡ onward bank (λ s. pragma file.now directive.now s) root.old) }
 {
-    let Some(word) = first_spelling(directive.operands().as_slice()) else {
+    let Some(word) = first_spelling(directive.operands()) else {
         return Ok(());
     };
     let word = word.as_bytes();
@@ -38,13 +38,11 @@ pub fn pragma<B: RootBank>(
 }
 
 // How the first of the tokens is spelled.
-fn first_spelling(tokens: &[PlacedToken]) -> Option<&Spelling>
+fn first_spelling<'t>(tokens: &FileTokens<'t>) -> Option<&'t Spelling>
     ensures { option_copied result ≡ first_spelling tokens.now }
 {
-    match tokens {
-        [token, ..] => Some(token.token.spelling()),
-        [] => None,
-    }
+    let (first, _rest) = tokens.split_first()?;
+    Some(first.token().spelling())
 }
 
 // Whether it says that the file isn't to be entered again.

@@ -6,7 +6,7 @@ ghost use Rattle.idl_event.specs.Expanding.{arrival, arrived};
 
 use crate::operand::{Operand, operand_given, operand_in};
 use idl_event::{Item, Place, Progress, RootBank};
-use idl_lex::PlacedToken;
+use idl_lex::{FileTokens, PlacedToken};
 use idl_macro::{Macros, replace_operand};
 use std::alloc::AllocError;
 use std::slice::from_ref;
@@ -16,15 +16,15 @@ use std::slice::from_ref;
 pub fn operand_of<B: RootBank>(
     macros: &Macros<'_, B>,
     place: &Place,
-    tokens: &[PlacedToken],
+    tokens: &FileTokens<'_>,
     progress: &mut Progress<B>,
 ) -> Result<Option<Operand>, AllocError>
     ensures { let query = operand_of place.now macros.now.definitions.now tokens.now in
         IfOk result (λ operand. arrived operand progress.new
         ≡ arrival (B.at macros.now.bank.now) query progress.old) }
 {
-    match tokens.first() {
-        Some(placed) => Ok(operand_at(macros, place, placed, progress)?),
+    match tokens.split_first() {
+        Some((first, _rest)) => Ok(operand_at(macros, place, first.placed(), progress)?),
         None => Ok(None),
     }
 }

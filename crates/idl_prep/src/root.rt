@@ -28,7 +28,7 @@ use crate::replaced_operand::operand_of;
 use crate::site::Site;
 use idl_event::{Answer, Code, Event, FileName, Item, Key, LexedFile, Place, Progress, RootBank};
 use idl_groups::Test;
-use idl_lex::{PlacedToken, Spelling};
+use idl_lex::{FileTokens, Spelling};
 use idl_macro::{Definitions, Macros, condition, define, ifdef, ifndef, replace_text, undef};
 use idl_memo::Log;
 use indexmap::IndexSet;
@@ -155,7 +155,7 @@ impl<B: RootBank> Root<B> {
     }
 
     /// The tokens of a text, in which macros are replaced.
-    pub fn emit(&mut self, site: &Site<'_, B>, tokens: &[PlacedToken]) -> Result<(), AllocError>
+    pub fn emit(&mut self, site: &Site<'_, B>, tokens: &FileTokens<'_>) -> Result<(), AllocError>
         ensures { let query = text site.now.file.now self.old.state.definitions tokens.now in
             let reached = reached (B.at site.now.bank.now) query self.old.progress in
             OnOk result (self.new ≡ record self.old { progress = reached }) }
@@ -206,8 +206,7 @@ impl<B: RootBank> Root<B> {
         let definitions = &self.definitions;
         let bank = site.bank;
         let macros = Macros { definitions, bank };
-        let tokens = directive.operands().as_slice();
-        let operand = operand_of(&macros, &place, tokens, &mut self.progress)?;
+        let operand = operand_of(&macros, &place, directive.operands(), &mut self.progress)?;
         Ok(operand)
     }
 

@@ -13,7 +13,7 @@ use crate::finding::{Finding, Spelled, push_fault};
 use crate::printing::{Listed, Printed, print_all, push_listed};
 use idl_check::{DeclarationTask, Verdict};
 use idl_memo::{Bank, Log, Task};
-use idl_scope::{Env, Facts, Key, Shared, Step, scopes_in};
+use idl_scope::{Env, Facts, Key, Step, scopes_in};
 use idl_unit::{Unit, UnitText};
 use std::alloc::{AllocError, Global};
 
@@ -99,7 +99,6 @@ impl<'a> Judging<'a> {
     {
         let mut facts = Facts::new(alloc);
         facts.then(step);
-        let facts = Shared::new(alloc, facts)?;
         let Judging {
             env,
             findings,
@@ -155,7 +154,7 @@ impl<'a> Judging<'a> {
         push_fault(alloc, &mut findings, unit, verdict.fault)?;
         push_row(&mut rows, &verdict.row)?;
         push_listed(&mut listed, unit, verdict.writes.get())?;
-        let env = env.add(&verdict.writes)?;
+        let env = env.add(verdict.writes.get())?;
         Ok(Judging {
             env,
             findings,

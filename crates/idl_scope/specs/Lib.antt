@@ -12,6 +12,7 @@ pub mod Lookup
 pub mod Mark
 pub mod Meaning
 pub mod Outside
+pub mod Past
 pub mod Path
 pub mod Signature
 pub mod Unvalued

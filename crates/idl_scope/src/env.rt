@@ -7,20 +7,17 @@ ghost use Rattle.idl_scope.specs.Facts.{answers};
 use crate::answer::Answer;
 use crate::facts::Facts;
 use crate::key::Key;
-use crate::shared::Shared;
+use crate::past::Past;
 use crate::state::State;
-use idl_map::SharedList;
 use idl_memo::Bank;
 use std::alloc::{AllocError, Global};
 use std::marker::Model;
 
-/// The facts that units added so far, and the answers over them. To every contract it is the list of these facts.
-///
-/// A copy costs three pointers. What is added to an environment that shares nothing changes it in place; where its parts
-/// are shared, the entries on the way to each key that changes are copied, logarithmically many.
+/// The answers over the facts that units added so far. To every contract it is the list of these facts, none of which is
+/// kept once it is answered by.
 pub struct Env {
     alloc: Global,
-    facts: SharedList<Shared<Facts>>,
+    facts: Past<Facts>,
     // How many facts there are, since no count among the answers is larger.
     count: usize,
     state: State,
@@ -58,7 +55,7 @@ impl Env {
         let state = State::new(alloc)?;
         Ok(Env {
             alloc,
-            facts: SharedList::new(),
+            facts: Past::new(),
             count: 0,
             state,
         })
@@ -70,39 +67,23 @@ impl Env {
     }
 
     /// The facts so far and these. Refused, this environment is given up.
-    pub fn add(self, facts: &Shared<Facts>) -> Result<Env, AllocError>
+    pub fn add(self, facts: &Facts) -> Result<Env, AllocError>
         ensures { IfOk result (λ env. env ≡ self ++ facts.now ∷ []) }
     {
         let Env {
             alloc,
-            facts: mut before,
+            facts: before,
             count,
             mut state,
         } = self;
         let Some(count) = count.checked_add(1) else {
             return Err(AllocError);
         };
-        state.add(alloc, facts.get())?;
-        before.push(alloc, facts.clone()?)?;
+        state.add(alloc, facts)?;
         Ok(Env {
             alloc,
-            facts: before,
+            facts: before.and(facts),
             count,
-            state,
-        })
-    }
-}
-
-impl Clone for Env {
-    ghost is_clone = { λ env copy. copy ≡ env };
-
-    fn clone(&self) -> Result<Env, AllocError> {
-        let facts = self.facts.clone()?;
-        let state = self.state.clone()?;
-        Ok(Env {
-            alloc: self.alloc,
-            facts,
-            count: self.count,
             state,
         })
     }

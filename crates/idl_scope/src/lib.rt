@@ -22,6 +22,7 @@ mod mark;
 mod name;
 mod naming;
 mod operations;
+mod past;
 mod path;
 mod queue;
 mod shared;

@@ -6,8 +6,8 @@ ghost use Rattle.idl_unit.specs.declared.unit.UnitText.TheVariants.{Tokens, Prag
 
 use crate::run::Run;
 use idl_base::Datum;
-use idl_event::{FileName, Place, TokenRange};
-use idl_lex::Token;
+use idl_event::{FileName, Place};
+use idl_lex::{Token, TokenRange};
 use std::hash::Hash;
 use std::marker::Model;
 

@@ -100,6 +100,25 @@ impl SessionBank {
         self.macros.len() >= MAX_MACROS && !self.macros.contains_key(word)
     }
 
+    /// What is answered of a file, by what these files say of it. The file is cut into tokens here, and what is the same as in
+    /// the bank's file of this name is taken over.
+    pub fn file_answer(
+        &self,
+        alloc: Global,
+        files: &Files,
+        name: &FileName,
+    ) -> Result<Option<Answer>, AllocError>
+        ensures { IfOk result (λ answer.
+            answer ≡ option_map answers.File (finite.get files.now name.now)) }
+    {
+        let Some(file) = files.get(name.as_bytes()) else {
+            return Ok(None);
+        };
+        let old = file_in(self.texts.get(name));
+        let text = LexedFile::new(alloc, file.clone()?, old)?;
+        Ok(Some(Answer::File(text)))
+    }
+
     /// Puts other files in place, of which the one of this name alone may be another, with the answer about it.
     pub fn set_files(
         &mut self,
@@ -187,20 +206,10 @@ pub fn answers_come_from_inputs()
     ensures { (inputs : Inputs) → AnswersFrom inputs.files inputs.search (bank_of inputs) }
 {}
 
-/// What is answered of a file, by what these files say of it. A file is cut into tokens here.
-pub fn file_answer(
-    alloc: Global,
-    files: &Files,
-    name: &FileName,
-) -> Result<Option<Answer>, AllocError>
-    ensures { IfOk result (λ answer.
-        answer ≡ option_map answers.File (finite.get files.now name.now)) }
-{
-    match files.get(name.as_bytes()) {
-        Some(file) => {
-            let text = LexedFile::new(alloc, file.clone()?)?;
-            Ok(Some(Answer::File(text)))
-        }
-        None => Ok(None),
+// The file that an answer is, if it is one.
+fn file_in(answer: Option<&Answer>) -> Option<&LexedFile> {
+    match answer? {
+        Answer::File(text) => Some(text),
+        Answer::Macro(_) | Answer::Search(_) => None,
     }
 }

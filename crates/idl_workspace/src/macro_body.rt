@@ -3,8 +3,8 @@
 ghost use Rattle.std.specs.Prelude.{◌≡◌, ◌∷◌, [], IfOk};
 ghost use Rattle.idl_event.specs.declared.key.Answer.TheVariants as answers;
 
-use idl_event::{Answer, LexedFile};
-use idl_source::{File, Line};
+use idl_event::{Answer, LexedLine};
+use idl_source::Line;
 use std::alloc::{AllocError, Global};
 use std::marker::Model;
 
@@ -39,10 +39,7 @@ impl MacroBody {
     pub fn new(alloc: Global, line: Line) -> Result<MacroBody, AllocError>
         ensures { IfOk result (λ body. body ≡ line) }
     {
-        let mut lines = Vec::new(alloc);
-        lines.push(line.clone()?)?;
-        let file = File::new(alloc, lines)?;
-        let text = LexedFile::new(alloc, file)?;
+        let text = LexedLine::new(alloc, line.clone()?)?;
         Ok(MacroBody {
             line,
             answer: Answer::Macro(text),

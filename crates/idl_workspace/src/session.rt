@@ -13,7 +13,7 @@ ghost use Rattle.idl_workspace.specs.Edits.{Edit, Put, Splice, Remove, Define, U
 ghost use Rattle.idl_workspace.specs.Renewed.{IsRenewed};
 ghost use Rattle.idl_workspace.specs.UpToDate.{compiled_of, diagnostics_of, listing_of, dump_of, absent_of};
 
-use crate::bank::{SessionBank, file_answer};
+use crate::bank::SessionBank;
 use crate::compile::CompiledRoot;
 use crate::directories::directories;
 use crate::kept_root::KeptRoot;
@@ -328,7 +328,7 @@ impl Session {
             → IsEdited edit self.old self.new result }
     {
         let name = FileName::new(self.alloc, &Name::new(name).unwrap())?;
-        let answer = file_answer(self.alloc, &files, &name)?;
+        let answer = self.bank.file_answer(self.alloc, &files, &name)?;
         let renewed = self.renewed_with(&Key::File(name.clone()?), answer.as_ref())?;
         self.bank.set_files(name, files, answer)?;
         self.roots = renewed.0;

@@ -1,61 +1,51 @@
-//! The program: an IDL compiler that serves commands.
+//! The program: an IDL compiler for files and for commands.
 //!
-//! `idlc --session` serves the commands of standard input, and writes the replies to standard output.
+//! `idlc FILE..` compiles files of the disk. `idlc --session` serves the commands of standard input, and writes the replies to
+//! standard output.
 #![tactic(auto)]
 
+mod disk;
 mod standard;
 
+use crate::disk::Disk;
 use crate::standard::{StandardInput, StandardOutput};
-use idl_session::{Session, Stop, run};
+use idl_program::{Devices, Status, run_program};
 use std::env::args;
 use std::process::ExitCode;
-use thiserror::Error;
-
-/// Why the program ends with status 2: the one line that it writes on standard error.
-#[derive(Clone, Copy, Debug, Error)]
-enum Failure {
-    #[error("idlc: bad arguments")]
-    BadArguments,
-    #[error("idlc: read failed")]
-    ReadFailed,
-    #[error("idlc: write failed")]
-    WriteFailed,
-}
 
 fn main(rt: HostRuntime) -> ExitCode {
-    match serve(&rt) {
-        Ok(()) => ExitCode::SUCCESS,
-        Err(failure) => {
+    match words(&rt) {
+        Ok(words) => ExitCode::from(run(&rt, &words).code()),
+        Err(_) => {
             // Where standard error can't be written either, the status tells.
-            let _ = rt.eprintln(failure);
+            let _ = rt.eprintln("idlc: bad arguments");
             ExitCode::from(2)
         }
     }
 }
 
-fn serve(rt: &HostRuntime) -> Result<(), Failure> {
-    if !is_session(rt) {
-        return Err(Failure::BadArguments);
+// Does what the words behind the program's name ask for.
+fn run(rt: &HostRuntime, words: &[String]) -> Status {
+    let mut texts: Vec<&str> = Vec::new(rt.alloc());
+    for word in words {
+        if texts.push(word.as_str()).is_err() {
+            return Status::Failed;
+        }
     }
-    let mut session = Session::new(rt.alloc());
-    let mut source = StandardInput::new(rt.reader());
-    let mut sink = StandardOutput::new(std::io::writer(rt));
-    run(&mut session, &mut source, &mut sink).map_err(|stop| match stop {
-        Stop::ReadFailed => Failure::ReadFailed,
-        Stop::WriteFailed => Failure::WriteFailed,
-    })
+    let mut devices = Devices {
+        loader: Disk::new(rt),
+        source: StandardInput::new(rt.reader()),
+        output: StandardOutput::new(std::io::writer(rt)),
+        errors: StandardOutput::new(rt.stderr()),
+    };
+    run_program(rt.alloc(), &texts, &mut devices)
 }
 
-// Whether the program's words are the one word `--session`.
-fn is_session(rt: &HostRuntime) -> bool {
-    let Ok(mut words) = args(rt) else {
-        return false;
-    };
-    let _program = words.next();
-    let first = words.next();
-    let second = words.next();
-    match (first, second) {
-        (Some(word), None) => word.as_str() == "--session",
-        _ => false,
+// The words behind the program's name.
+fn words(rt: &HostRuntime) -> std::io::Result<Vec<String>> {
+    let mut words = Vec::new(rt.alloc());
+    for word in args(rt)?.skip(1) {
+        words.push(word)?;
     }
+    Ok(words)
 }

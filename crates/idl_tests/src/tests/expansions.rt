@@ -57,7 +57,7 @@ fn expanded(alloc: Global, name: Name, text: &str) -> Result<Expansion, AllocErr
 
 // The one file of this name and text.
 fn answers_of(alloc: Global, name: &Name, text: &str) -> Result<Answers, AllocError> {
-    let file = LexedFile::new(alloc, file_of(alloc, text)?)?;
+    let file = LexedFile::new(alloc, file_of(alloc, text)?, None)?;
     let mut entries = Table::new(alloc);
     entries.insert(Key::File(FileName::new(alloc, name)?), Answer::File(file))?;
     Ok(Answers { entries })

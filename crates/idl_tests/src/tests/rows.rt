@@ -33,7 +33,7 @@ static ROWS: [&str; 13] = [
      =a:5: E14 undef\n=a:6: E14 undef\n=a:10: E20 typedef ¶ #\n#warning a\n#ident \"b\"\n  #  /* */ // c\ntypedef\n\
      # warning d\nlong\n#\nX;\n/*\n*/ #error  a\t\"b  c\" // d\n=a:11: E16 error a \"b  c\"",
     // Pragmas.
-    "#pragma prefix \"P\"\ntypedef long X;\n#pragma ID X \"IDL:x:1.0\"\n#pragma\n\
+    "#pragma prefix \"P\"\ntypedef long X;\n#pragma version X 1.1\n#pragma ID X \"IDL:P/X:1.1\"\n#pragma\n\
      #pragma hdrstop\n#pragma Prefix 1\n#define once\n#pragma once\n#if 0\n#pragma version\n#endif\ntypedef short Y;\n\
      =typedef long X;\n=typedef short Y; ¶ typedef\n#pragma version X 1.1\nlong X;\n#pragma prefix\n#pragma ID 1\n\
      #pragma version X 65536.0\n=a:2: E25 pragma\n=a:4: E26 pragma\n=a:5: E26 pragma\n=a:6: E26 pragma",

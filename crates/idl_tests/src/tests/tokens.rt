@@ -1,7 +1,7 @@
 //! The tokens of whole files.
 
 use super::support::{Telling, are_told, file_of};
-use idl_lex::{PlacedToken, lex};
+use idl_lex::{FileToken, FileTokens, Lexed, lex};
 use std::alloc::{AllocError, Global};
 use std::test::Fail;
 
@@ -12,24 +12,42 @@ struct Tokens;
 impl Telling for Tokens {
     fn told(alloc: Global, text: &str) -> Result<String, AllocError> {
         let lexed = lex(alloc, &file_of(alloc, text)?, None)?;
-        printed(alloc, lexed.tokens())
+        printed(alloc, &lexed)
     }
 }
 
-fn printed(alloc: Global, tokens: &[PlacedToken]) -> Result<String, AllocError> {
+fn printed(alloc: Global, lexed: &Lexed) -> Result<String, AllocError> {
     let mut text = String::new(alloc);
-    for token in tokens {
-        print(alloc, &mut text, token)?;
+    let mut left = lexed.all();
+    for _ in 0..u64::MAX {
+        if left.is_empty() {
+            break;
+        }
+        let (line, rest) = left.first_line();
+        print_line(alloc, &mut text, line)?;
+        left = rest;
     }
     Ok(text)
 }
 
-fn print(alloc: Global, text: &mut String, token: &PlacedToken) -> Result<(), AllocError> {
+fn print_line(alloc: Global, text: &mut String, line: FileTokens<'_>) -> Result<(), AllocError> {
+    let mut tokens = line;
+    for _ in 0..u64::MAX {
+        let Some((token, others)) = tokens.split_first() else {
+            break;
+        };
+        print(alloc, text, &token)?;
+        tokens = others;
+    }
+    Ok(())
+}
+
+fn print(alloc: Global, text: &mut String, token: &FileToken<'_>) -> Result<(), AllocError> {
     let between = if text.is_empty() { "" } else { " " };
-    let start = if token.starts_line { "^" } else { ":" };
-    let after = if token.follows_word { "~" } else { "" };
-    let bytes = String::from_utf8_lossy(alloc, token.token.as_bytes())?;
-    write!(text, "{between}{}{start}{after}{bytes}", token.line)
+    let start = if token.starts_line() { "^" } else { ":" };
+    let after = if token.follows_word() { "~" } else { "" };
+    let bytes = String::from_utf8_lossy(alloc, token.token().as_bytes())?;
+    write!(text, "{between}{}{start}{after}{bytes}", token.line())
 }
 
 static TOKENS: [&str; 9] = [

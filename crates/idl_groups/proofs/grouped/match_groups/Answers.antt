@@ -1,6 +1,5 @@
-use Rattle.std.proofs.Common.{◌≡◌, ◌≤◌, ◌+◌, ◌++◌, ◌∷◌, List, ℕ, ap, sym, subst, ◌∙◌, ◌-◌, IfOk, Result, Ok, Err, [], arith, drop, length, length-append, map, take}
-use Rattle.std.proofs.Math.Seq.{drop-append_seam}
-use Rattle.std.proofs.lemmas.List.{drop-drop, drop_all, length-drop, take_all}
+use Rattle.std.proofs.Common.{◌≡◌, ◌≤◌, ◌+◌, ◌++◌, ◌∷◌, List, ℕ, ap, sym, subst, ◌∙◌, IfOk, Result, Ok, Err, [], arith, drop, length, map}
+use Rattle.std.proofs.lemmas.List.{drop_all, length-drop}
 use Rattle.idl_lex.specs.Tokens.{lines_of}
 use Rattle.idl_lex.specs.declared.token.PlacedToken.{PlacedToken}
 use Rattle.idl_groups.specs.Line.{Line, read}
@@ -9,62 +8,73 @@ use Rattle.idl_groups.specs.declared.matching.Matching.{Matching}
 use Rattle.idl_groups.specs.declared.table.BranchTable.{BranchTable}
 use Rattle.std.specs.List.{All}
 use Rattle.std.specs.declared.alloc.AllocError.{AllocError}
+use Rattle.idl_groups.proofs.LeftLemmas.{behind-first, within-first}
 use Rattle.idl_groups.proofs.MatchedLemmas.{matched-alone}
 use Rattle.idl_groups.proofs.grouped.match_groups.Goals as goal
 
--- the tokens from a place to the last one
-take-rest : (tokens : List PlacedToken) (at : ℕ) → take (length tokens - at) (drop at tokens) ≡ drop at tokens
-take-rest tokens at = take_all (length tokens - at) (drop at tokens) (omega (arith, length-drop at tokens))
-
 -- the first line at a place, and those after it
-lines_at-first : (tokens line rest : List PlacedToken) (at : ℕ) → lines_of (take (length tokens - at) (drop at tokens)) ≡ line ∷ lines_of rest
-    → take (length tokens - at) (drop at tokens) ≡ line ++ rest → lines_at tokens at ≡ read line ∷ lines_at tokens (at + length line)
-lines_at-first tokens line rest at first all =
-    let after : rest ≡ drop (at + length line) tokens =
-    sym (drop-append_seam line rest) ∙ ap (drop (length line)) (sym all ∙ take-rest tokens at) ∙ drop-drop (length line) at tokens in
-    ap (λ (ts : List PlacedToken). map read (lines_of ts)) (sym (take-rest tokens at))
+lines_at-first : (tokens left line rest : List PlacedToken) (at count : ℕ) → left ≡ drop at tokens → lines_of left ≡ line ∷ lines_of rest → left ≡ line ++ rest → count ≡ length line
+    → lines_at tokens at ≡ read line ∷ lines_at tokens (at + count)
+lines_at-first tokens left line rest at count is first all size =
+    ap (λ (ts : List PlacedToken). map read (lines_of ts)) (sym is)
     ∙ ap (map read) first
-    ∙ ap (λ (ts : List PlacedToken). read line ∷ map read (lines_of ts)) after
-
-within-first : (tokens line rest : List PlacedToken) (at : ℕ) → take (length tokens - at) (drop at tokens) ≡ line ++ rest → at ≤ length tokens → at + length line ≤ length tokens
-within-first tokens line rest at all within =
-    omega (arith, ap length (take-rest tokens at), ap length all, length-append line rest, length-drop at tokens)
+    ∙ ap (λ (ts : List PlacedToken). read line ∷ map read (lines_of ts)) (behind-first tokens left line rest at count is all size)
 
 lines_at-end : (tokens : List PlacedToken) (at : ℕ) → length tokens ≤ at → lines_at tokens at ≡ []
 unfolding lines_of
 lines_at-end tokens at end = ap (λ (ts : List PlacedToken). map read (lines_of ts)) (drop_all at tokens end)
 
 pub lines-init : goal.lines-init
-lines-init c = record { within = omega arith; matched = c.new-matching.ensures (lines_at c.args.tokens.now) }
+lines-init c = record { within = omega arith; left = c.all-left.ensures.tokens; matched = c.new-matching.ensures (lines_at c.args.lexed.now) }
+
+pub overflow_add-after : goal.overflow_add-after
+overflow_add-after c =
+    let tokens = c.args.lexed.now in
+    let left = c.lines.left in
+    let line = c.first_line-line.result.0 in
+    let rest = c.first_line-line.result.1 in
+    let at = c.lines.at in
+    let count = c.len.result in
+    let first = c.first_line-line.ensures in
+    let here = c.lines.invariant in
+    omega (arith, within-first tokens left line rest at count here.left first.all c.len.ensures here.within, c.all-left.ensures.room)
 
 pub lines-preserved-in_ok-step : goal.lines-preserved-in_ok-step
 lines-preserved-in_ok-step c =
-    let tokens = c.args.tokens.now in
-    let line = c.first_line.result.0.now in
-    let rest = c.first_line.result.1.now in
+    let tokens = c.args.lexed.now in
+    let left = c.lines.left in
+    let line = c.first_line-line.result.0 in
+    let rest = c.first_line-line.result.1 in
     let at = c.lines.at in
-    let first = c.first_line.ensures in
+    let count = c.len.result in
+    let first = c.first_line-line.ensures in
+    let here = c.lines.invariant in
     record {
-      within = within-first tokens line rest at first.all c.lines.invariant.within;
+      within = within-first tokens left line rest at count here.left first.all c.len.ensures here.within;
+      left = behind-first tokens left line rest at count here.left first.all c.len.ensures;
       matched =
           c.in_ok-step.ensures (lines_at tokens)
-          (lines_at-first tokens line rest at first.lines first.all ∙ ap (λ (l : Line). l ∷ lines_at tokens (at + length line)) c.in-Some.ensures)
-          c.lines.invariant.matched;
+          (lines_at-first tokens left line rest at count here.left first.lines first.all c.len.ensures ∙ ap (λ (l : Line). l ∷ lines_at tokens (at + count)) c.in-Some.ensures)
+          here.matched;
     }
 
 pub lines-preserved : goal.lines-preserved
 lines-preserved c =
-    let tokens = c.args.tokens.now in
-    let line = c.first_line.result.0.now in
-    let rest = c.first_line.result.1.now in
+    let tokens = c.args.lexed.now in
+    let left = c.lines.left in
+    let line = c.first_line-line.result.0 in
+    let rest = c.first_line-line.result.1 in
     let at = c.lines.at in
-    let first = c.first_line.ensures in
+    let count = c.len.result in
+    let first = c.first_line-line.ensures in
+    let here = c.lines.invariant in
     let m = c.lines.matching in
     record {
-      within = within-first tokens line rest at first.all c.lines.invariant.within;
+      within = within-first tokens left line rest at count here.left first.all c.len.ensures here.within;
+      left = behind-first tokens left line rest at count here.left first.all c.len.ensures;
       matched =
-          matched-alone (lines_at tokens) at (at + length line) (read line) m.branches m.spans.items m.faults.items c.in_default.ensures (omega arith)
-          (lines_at-first tokens line rest at first.lines first.all) c.lines.invariant.matched;
+          matched-alone (lines_at tokens) at (at + count) (read line) m.branches m.spans.items m.faults.items c.in_default.ensures (omega arith)
+          (lines_at-first tokens left line rest at count here.left first.lines first.all c.len.ensures) here.matched;
     }
 
 -- the table of a file whose lines were all read
@@ -77,4 +87,8 @@ table-whole tokens at m (Ok table) within end matched told =
     subst (λ n. All (IsSpan (lines_at tokens) n table.faults.items) table.spans.items) whole (told (lines_at tokens) (lines_at-end tokens at end) matched)
 
 pub returns : goal.returns
-returns c = table-whole c.args.tokens.now c.lines.at c.lines.matching c.finish.result c.lines.invariant.within c.lines-test.false c.lines.invariant.matched c.finish.ensures
+returns c =
+    let tokens = c.args.lexed.now in
+    let here = c.lines.invariant in
+    let none : drop c.lines.at tokens ≡ [] = sym here.left ∙ c.is_empty.ensures.0 c.lines-test.false in
+    table-whole tokens c.lines.at c.lines.matching c.finish.result here.within (omega (arith, ap length none, length-drop c.lines.at tokens)) here.matched c.finish.ensures

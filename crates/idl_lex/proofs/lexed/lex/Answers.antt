@@ -1,45 +1,54 @@
-use Rattle.std.proofs.Common.{◌∙◌, ◌++◌, ◌+◌, ◌≤◌, ◌<◌, ap, arith, drop, length, length-drop, subst, sym}
-use Rattle.std.proofs.lemmas.List.{drop_all, take_rest}
-use Rattle.idl_lex.specs.Context.{line_start}
-use Rattle.idl_lex.specs.Lexer.{coming, ended}
-use Rattle.idl_lex.specs.Logical.{joined_count}
-use Rattle.idl_lex.specs.Text.{joined}
-use Rattle.idl_lex.specs.Tokens.{tokens_after, tokens_of}
-use Rattle.idl_lex.proofs.LogicalLemmas.{BeginsAt-joined, joined-nil}
+use Rattle.std.proofs.Common.{◌≡◌, ◌∙◌, ◌+◌, ◌≤◌, ◌++◌, ◌∷◌, [], ap, arith, drop, length, length-drop, rules, subst, sym}
+use Rattle.std.proofs.lemmas.List.{take_rest}
+use Rattle.idl_lex.specs.Block.{AreBlocks, IsBlock, lines_in_blocks, tokens_in_blocks}
+use Rattle.idl_lex.specs.Tokens.{tokens_of}
+use Rattle.idl_lex.specs.declared.block.Block.{Block}
+use Rattle.idl_lex.specs.declared.block.PlacedBlock.{PlacedBlock}
+use Rattle.idl_lex.proofs.BlockLemmas.{AreBlocks-push, AreBlocks-all, lines_in-push, tokens_in-push}
 use Rattle.idl_lex.proofs.lexed.lex.Goals as goal
 
-pub lines-init : goal.lines-init
-unfolding tokens_of
-lines-init c =
+pub next_block-requires-clause-room : goal.next_block-requires-clause-room
+next_block-requires-clause-room c =
     let lines = c.lines-lines.result.now in
+    subst (λ ls. length ls ≤ 200000) (sym (take_rest lines c.cut.count)) (omega (arith, length-drop c.cut.count lines, ap length c.lines-lines.ensures, c.line_count-total.ensures.count, c.line_count-total.ensures.within))
+
+pub cut-preserved : goal.cut-preserved
+cut-preserved c =
+    let lines = c.lines-lines.result.now in
+    let count = c.cut.count in
+    let blocks = c.cut.placed.items in
+    let block = c.in_ok-block.block.value in
+    let b : PlacedBlock = record { block = c.in_ok-block.block; lines_before = count; tokens_before = c.cut.tokens } in
+    let is : IsBlock (drop count lines) block = subst (λ ls. IsBlock ls block) (take_rest lines count) c.in_ok-block.ensures in
+    let there : c.push.new.self.items ≡ blocks ++ b ∷ [] = search rules in
+    let same : c.deref.result.now.lines ≡ block.lines = ap (λ (x : Block). x.lines) c.deref.ensures in
+    let more : c.in_ok-tokens.tokens ≡ c.cut.tokens + length block.tokens.items = c.in_ok-tokens.ensures.sum ∙ ap (λ (x : Block). c.cut.tokens + length x.tokens.items) c.deref-in-cut.ensures in
+    let here = c.cut.invariant in
     record {
-      within = omega arith;
-      tokens = ap (λ ts. ts ++ tokens_after line_start 0 (joined 1 lines)) c.new-tokens.ensures.items;
+      within = omega (arith, same, is.within, length-drop count lines, here.within);
+      blocks = subst (AreBlocks lines 0 0) (sym there)
+          (AreBlocks-push lines 0 0 blocks b here.blocks (omega (arith, here.lines)) (omega (arith, here.tokens)) (subst (λ n. IsBlock (drop n lines) block) here.lines is));
+      lines = omega (arith, same, here.lines, lines_in-push blocks b, ap lines_in_blocks there);
+      room = c.in_ok-tokens.ensures.fits;
+      tokens = omega (arith, more, here.tokens, tokens_in-push blocks b, ap (λ bs. length (tokens_in_blocks bs)) there);
     }
 
-pub lines-preserved : goal.lines-preserved
-lines-preserved c =
+pub invariant_of-result : goal.invariant_of-result
+invariant_of-result c =
     let lines = c.lines-lines.result.now in
-    let i = c.lines.i in
-    let count = c.joined_count.result in
-    let left = take_rest lines i in
-    let here : i < length lines = omega (arith, c.lines-test.true, c.line_count-count.ensures.count, ap length c.lines-lines.ensures) in
-    let at = BeginsAt-joined lines i (i + count) here (ap (λ n. i + n) (c.joined_count.ensures.count ∙ ap joined_count left)) in
-    let rest = joined (i + count + 1) (drop (i + count) lines) in
-    let within : count ≤ length (drop i lines) = subst (λ ls. count ≤ length ls) left c.joined_count.ensures.within in
+    let file = c.in_ok-clone.field-0 in
+    let same : lines ≡ file = c.lines-lines.ensures ∙ sym c.in_ok-clone.ensures.cases in
+    let here = c.cut.invariant in
+    let size : length lines ≡ c.line_count-total.result = omega (arith, c.line_count-total.ensures.count, ap length c.lines-lines.ensures) in
     record {
-      within = omega (arith, within, length-drop i lines, c.lines.invariant.within);
-      tokens = c.in_ok-before.ensures at.last_number rest
-          ∙ ap (λ ps. c.lines.tokens.items ++ coming c.lines.before (ps ++ ended at.last_number rest)) c.in_ok-line.ensures
-          ∙ ap (λ ps. c.lines.tokens.items ++ coming c.lines.before ps) (sym at.text)
-          ∙ c.lines.invariant.tokens;
+      each = subst (λ ls. AreBlocks ls 0 0 c.cut.placed.items) same here.blocks;
+      whole = omega (arith, here.lines, here.within, c.cut-test.false, size, ap length same);
+      few = omega (arith, size, c.line_count-total.ensures.within, ap length same);
+      countable = omega (arith, here.tokens, here.room);
     }
 
 pub returns : goal.returns
 returns c =
     let lines = c.lines-lines.result.now in
-    let past : length lines ≤ c.lines.i = omega (arith, c.lines-test.false, c.line_count-count.ensures.count, ap length c.lines-lines.ensures) in
-    c.in_ok-finish.ensures
-    ∙ ap (λ ps. c.lines.tokens.items ++ coming c.lines.before ps) (sym (ap (joined (c.lines.i + 1)) (drop_all c.lines.i lines past) ∙ joined-nil (c.lines.i + 1)))
-    ∙ c.lines.invariant.tokens
-    ∙ ap tokens_of c.lines-lines.ensures
+    let here = c.cut.invariant in
+    AreBlocks-all lines c.cut.placed.items here.blocks (omega (arith, here.lines, here.within, c.cut-test.false, c.line_count-total.ensures.count, ap length c.lines-lines.ensures)) ∙ ap tokens_of c.lines-lines.ensures

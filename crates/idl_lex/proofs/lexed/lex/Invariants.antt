@@ -1,14 +1,15 @@
-use Rattle.std.proofs.Common.{◌≡◌, ◌≤◌, ◌++◌, ◌+◌, ◌-◌, drop, length}
-use Rattle.idl_lex.specs.Lexer.{coming}
-use Rattle.idl_lex.specs.Text.{joined}
-use Rattle.idl_lex.specs.Tokens.{tokens_of}
+use Rattle.std.proofs.Common.{◌≡◌, ◌≤◌, ◌<◌, ◌-◌, length}
+use Rattle.idl_lex.specs.Block.{AreBlocks, lines_in_blocks, tokens_in_blocks}
 use Rattle.idl_lex.proofs.lexed.lex.Given as goal
 
-abbrev pub invariant-lines : goal.invariant-lines
-invariant-lines l = record {
-  within : l.i ≤ length l.lines;
-  tokens : l.tokens.items ++ coming l.before (joined (l.i + 1) (drop l.i l.lines)) ≡ tokens_of l.lines;
+abbrev pub invariant-cut : goal.invariant-cut
+invariant-cut l = record {
+  within : l.count ≤ length l.lines;
+  blocks : AreBlocks l.lines 0 0 l.placed.items;
+  lines : l.count ≡ lines_in_blocks l.placed.items;
+  room : l.tokens < 18446744073709551616;
+  tokens : l.tokens ≡ length (tokens_in_blocks l.placed.items);
 }
 
-abbrev pub decreases-lines : goal.decreases-lines
-decreases-lines l = length l.lines - l.i
+abbrev pub decreases-cut : goal.decreases-cut
+decreases-cut l = length l.lines - l.count

@@ -13,7 +13,7 @@ returns-in-Some g c =
     let it = c.args.directive.now in
     let q = c.read_defined.new.progress in
     let r = c.replace_operand.new.progress in
-    let is_read = ap (λ read. arrived (tokens_in read) q) c.deref.ensures.value ∙ c.in_ok-read.ensures ∙ ap (λ ts. arrival bank (defined_read definitions (tokens_in ts)) c.args.progress.now) c.as_slice.ensures in
+    let is_read = ap (λ read. arrived (tokens_in read) q) c.deref.ensures.value ∙ c.in_ok-read.ensures ∙ ap (λ ts. arrival bank (defined_read definitions ts) c.args.progress.now) c.as_slice.ensures.tokens in
     let is_given = ap (λ given. arrived given r) c.deref-2.ensures.value ∙ c.in_ok-given.ensures in
     let fits : SFits w64 c.in-Some.value = search in
     ap (λ taken. arrived taken r) (rw (to_z-of_z w64 c.in-Some.value fits) at c.holds.ensures)
@@ -27,7 +27,7 @@ returns g c =
     let it = c.args.directive.now in
     let q = c.read_defined.new.progress in
     let r = c.replace_operand.new.progress in
-    let is_read = ap (λ read. arrived (tokens_in read) q) c.deref.ensures.value ∙ c.in_ok-read.ensures ∙ ap (λ ts. arrival bank (defined_read definitions (tokens_in ts)) c.args.progress.now) c.as_slice.ensures in
+    let is_read = ap (λ read. arrived (tokens_in read) q) c.deref.ensures.value ∙ c.in_ok-read.ensures ∙ ap (λ ts. arrival bank (defined_read definitions ts) c.args.progress.now) c.as_slice.ensures.tokens in
     let is_given = ap (λ given. arrived given r) c.deref-2.ensures.value ∙ c.in_ok-given.ensures in
     ap (arrived false) c.in_ok-bad_condition-in-None.ensures
     ∙ ap (λ found. arrival bank (judged it.place it.word.now found) r) (sym c.in-None.is)

@@ -22,7 +22,7 @@ returns-then-differs g c =
     on_ok_weaker c.other_definition.result
     (λ told. ap (arrived c.args.definitions.now) told
     ∙ arrival-define it.place it.word.now c.args.definitions.now it.operands (g.B.Bank.at c.args.bank.now) c.args.progress.now c.macro_of.new.progress
-    c.in-Some.word.now (tokens_in c.in-Some.body) old c.in-Some.ensures c.in_ok-old.ensures true (c.if-differs.ensures ∙ ap (λ body. differs old (tokens_in body)) c.as_slice.ensures))
+    c.in-Some.word.now (tokens_in c.in-Some.body) old c.in-Some.ensures c.in_ok-old.ensures true (c.if-differs.ensures ∙ ap (differs old) c.as_slice.ensures.tokens))
     c.other_definition.ensures
 
 pub returns : goal.returns
@@ -31,4 +31,4 @@ returns g c =
     let old = option_map tokens_in (option_copied c.in_ok-old.old) in
     ap (λ definitions. arrived definitions c.macro_of.new.progress) (c.in_ok-define.ensures.ok ∙ ap (λ body. saying c.args.definitions.now c.in-Some.word.now (Some body)) c.in_ok-shared.ensures)
     ∙ arrival-define it.place it.word.now c.args.definitions.now it.operands (g.B.Bank.at c.args.bank.now) c.args.progress.now c.macro_of.new.progress
-    c.in-Some.word.now (tokens_in c.in-Some.body) old c.in-Some.ensures c.in_ok-old.ensures false (c.if-differs.ensures ∙ ap (λ body. differs old (tokens_in body)) c.as_slice.ensures)
+    c.in-Some.word.now (tokens_in c.in-Some.body) old c.in-Some.ensures c.in_ok-old.ensures false (c.if-differs.ensures ∙ ap (differs old) c.as_slice.ensures.tokens)

@@ -1,4 +1,4 @@
-use Rattle.std.proofs.Common.{◌≡◌, drop}
+use Rattle.std.proofs.Common.{◌≡◌, length}
 use Rattle.idl_event.specs.Expanding.{reached}
 use Rattle.idl_macro.specs.Output.{item_of}
 use Rattle.idl_macro.specs.Replace.{text}
@@ -11,6 +11,9 @@ invariant-tokens g l =
     let definitions = l.macros.definitions.now in
     record {
       progress : reached bank (text l.file definitions l.tokens) l.fn.progress
-          ≡ reached bank (text l.file definitions (drop l.token-index l.tokens)) l.progress;
+          ≡ reached bank (text l.file definitions l.left) l.progress;
       item : item_of l.output ≡ item_of output.Text;
     }
+
+abbrev pub decreases-tokens : goal.decreases-tokens
+decreases-tokens g l = length l.left

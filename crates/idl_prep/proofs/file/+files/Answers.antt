@@ -1,7 +1,6 @@
 use Rattle.idl_memo.specs.Query.{and_then}
 use Rattle.std.proofs.Common.{◌≡◌, ◌-◌, [], suc, length, ◌+◌, map, refl, ap, sym, ◌∙◌, arith}
-use Rattle.std.proofs.lemmas.Bool.{eqb-true}
-use Rattle.std.proofs.lemmas.List.{length-append, nil_from_length}
+use Rattle.std.proofs.lemmas.List.{length-append}
 use Rattle.idl_lex.specs.Tokens.{lines_of}
 use Rattle.idl_event.specs.declared.event.Event.TheVariants.{Entered, Left}
 use Rattle.idl_event.specs.declared.event.Item.TheVariants.{Kept}
@@ -41,8 +40,8 @@ walk_file-lines-init g t c =
     let next = enter c.args.room in
     let file = c.args.site.now.file.now in
     let way = c.args.root.now in
-    ap (λ gs. to_come bank next file gs (map read (lines_of c.tokens-left.result)) way) c.new-groups.ensures
-    ∙ ap (λ ts. to_come bank next file [] (map read (lines_of ts)) way) c.tokens-left.ensures
+    ap (λ gs. to_come bank next file gs (map read (lines_of c.lines-left.result)) way) c.new-groups.ensures
+    ∙ ap (λ ts. to_come bank next file [] (map read (lines_of ts)) way) c.lines-left.ensures
     ∙ to_come-file bank next file c.args.file.now way
 
 pub walk_file-returns-then-is_over : goal.walk_file-returns-then-is_over
@@ -80,5 +79,5 @@ walk_file-returns g t c =
     let bank = g.B.Bank.at c.args.site.now.bank.now in
     let next = enter c.args.room in
     c.in_ok-end_file.ensures next bank
-    ∙ sym (to_come-no_line bank next c.args.site.now.file.now c.lines.groups c.lines.left c.lines.root (sym c.as_slice.ensures ∙ nil_from_length c.as_slice.result.now (eqb-true (length c.as_slice.result.now) 0 (sym c.lines-test.ensures))))
+    ∙ sym (to_come-no_line bank next c.args.site.now.file.now c.lines.groups c.lines.left c.lines.root (c.lines-test.ensures.0 refl))
     ∙ c.lines.invariant

@@ -1,7 +1,5 @@
-use Rattle.std.proofs.Common.{List, ap, sym, ◌∙◌}
+use Rattle.std.proofs.Common.{ap, sym, ◌∙◌}
 use Rattle.idl_memo.specs.Query.{Done}
-use Rattle.idl_event.specs.Expanding.{reached}
-use Rattle.idl_lex.specs.declared.token.PlacedToken.{PlacedToken}
 use Rattle.idl_macro.specs.Replace.{text}
 use Rattle.idl_prep.specs.Directive.{effect}
 use Rattle.idl_prep.specs.State.{ended}
@@ -14,5 +12,4 @@ returns g c = λ enter.
     let way = c.args.root.now in
     let bank = g.B.Bank.at c.args.site.now.bank.now in
     ap ended c.in_ok-emit.ensures
-    ∙ ap (λ (ts : List PlacedToken). ended (record way { progress = reached bank (text c.args.site.now.file.now way.state.definitions ts) way.progress })) c.as_slice.ensures
     ∙ sym (arrival-and_then bank (text c.args.site.now.file.now way.state.definitions c.args.tokens.now) (λ _. Done way.state) way.progress)

@@ -12,19 +12,19 @@ use Rattle.idl_prep.proofs.pragma.pragma.Goals as goal
 
 pub returns-in_default : goal.returns-in_default
 returns-in_default g c = λ bank.
-    pragma-nothing bank c.args.file.now c.args.directive.now c.args.root.now (ap first_spelling (sym (c.as_slice.ensures ∙ c.operands.ensures)) ∙ sym c.in_default.ensures)
+    pragma-nothing bank c.args.file.now c.args.directive.now c.args.root.now (ap first_spelling (sym c.operands.ensures) ∙ sym c.in_default.ensures)
 
 pub returns-then-is_once : goal.returns-then-is_once
 returns-then-is_once g c = λ bank.
     let way = c.args.root.now in
-    let first = ap first_spelling (sym (c.as_slice.ensures ∙ c.operands.ensures)) ∙ sym c.in-Some.ensures in
+    let first = ap first_spelling (sym c.operands.ensures) ∙ sym c.in-Some.ensures in
     ap ended c.in_ok-mark_once.ensures
     ∙ pragma-once bank c.args.file.now c.args.directive.now way c.in-Some.word.now first (ap (λ (w : List ℕ). bytes_eq w (codes "once")) (sym c.as_bytes-word.ensures) ∙ sym c.is_once.ensures ∙ c.if-is_once.true)
 
 pub returns-then-is_of_idl : goal.returns-then-is_of_idl
 returns-then-is_of_idl g c = λ bank.
     let way = c.args.root.now in
-    let first = ap first_spelling (sym (c.as_slice.ensures ∙ c.operands.ensures)) ∙ sym c.in-Some.ensures in
+    let first = ap first_spelling (sym c.operands.ensures) ∙ sym c.in-Some.ensures in
     let means = ap is_of_idl (sym c.as_bytes-word.ensures) ∙ sym c.is_of_idl.ensures ∙ c.if-is_of_idl.true in
     let d = c.args.directive.now in
     ap ended c.in_ok-tell.ensures
@@ -34,6 +34,6 @@ returns-then-is_of_idl g c = λ bank.
 
 pub returns : goal.returns
 returns g c = λ bank.
-    let first = ap first_spelling (sym (c.as_slice.ensures ∙ c.operands.ensures)) ∙ sym c.in-Some.ensures in
+    let first = ap first_spelling (sym c.operands.ensures) ∙ sym c.in-Some.ensures in
     let means = ap is_of_idl (sym c.as_bytes-word.ensures) ∙ sym c.is_of_idl.ensures ∙ c.if-is_of_idl.false in
     pragma-other bank c.args.file.now c.args.directive.now c.args.root.now c.in-Some.word.now first (ap (λ (w : List ℕ). bytes_eq w (codes "once")) (sym c.as_bytes-word.ensures) ∙ sym c.is_once.ensures ∙ c.if-is_once.false) means

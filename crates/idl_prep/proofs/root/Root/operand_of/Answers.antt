@@ -13,6 +13,6 @@ returns-clause-arrival g c =
     let s = c.self.inside in
     let at = place_in c.args.site.now.file.now c.args.directive.now in
     c.in_ok-operand.ensures
-    ∙ ap (λ (place : Place). arrival bank (operand_of place s.definitions c.as_slice-tokens.result.now) s.progress) c.in_ok-place.ensures
-    ∙ ap (λ (ts : List PlacedToken). arrival bank (operand_of at s.definitions ts) s.progress) (c.as_slice-tokens.ensures ∙ c.operands.ensures)
+    ∙ ap (λ (place : Place). arrival bank (operand_of place s.definitions c.operands.result.now) s.progress) c.in_ok-place.ensures
+    ∙ ap (λ (ts : List PlacedToken). arrival bank (operand_of at s.definitions ts) s.progress) c.operands.ensures
     ∙ ap (λ (way : Way). arrival bank (operand_of at way.state.definitions c.args.directive.now.operands) way.progress) c.self.view_is

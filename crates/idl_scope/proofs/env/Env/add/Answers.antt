@@ -1,4 +1,4 @@
-use Rattle.std.proofs.Common.{◌≡◌, ◌<◌, ◌++◌, ◌∷◌, [], length, sym, ap, ◌∙◌, arith, length-append}
+use Rattle.std.proofs.Common.{◌<◌, ◌∷◌, [], length, sym, ap, ◌∙◌, arith, length-append}
 use Rattle.idl_scope.specs.Facts.{World, after, count_in, world}
 use Rattle.idl_scope.proofs.CountLemmas.{count-world, world-push}
 use Rattle.idl_scope.proofs.env.Env.add.Goals as goal
@@ -14,11 +14,10 @@ add-requires c = λ key.
 pub invariant_of-result : goal.invariant_of-result
 invariant_of-result c =
     let before = c.self.inside.facts in
-    let f = c.args.facts.now in
-    let grown : c.push.new.self ≡ before ++ f ∷ [] = c.in_ok-push.ensures.items ∙ ap (λ g. before ++ g ∷ []) c.in_ok-clone.ensures.cases in (
-      grind (arith, c.self.invariant.0, c.in-Some.ensures, ap length grown, length-append before (f ∷ [])),
+    let f = c.args.facts.now in (
+      grind (arith, c.self.invariant.0, c.in-Some.ensures, ap length c.and.ensures, length-append before (f ∷ [])),
       c.in_ok-add.ensures
-          ∙ (λ i. after (c.self.invariant.1 i) (c.get.ensures i))
+          ∙ ap (λ (w : World). after w f) c.self.invariant.1
           ∙ sym (world-push before f)
-          ∙ sym (ap world grown),
+          ∙ sym (ap world c.and.ensures),
     )

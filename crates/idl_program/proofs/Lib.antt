@@ -1,0 +1,3 @@
+pub mod EditLemmas
+pub mod LoadingLemmas
+pub mod WordLemmas

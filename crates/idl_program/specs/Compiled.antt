@@ -1,0 +1,52 @@
+-- The claim: what goes out is what compiling the loaded files tells, and the status says whether
+-- they have errors.
+use Rattle.std.specs.Prelude.{◌≡◌, ℕ, Bool, List, [], Option, is_empty, not, if◌then◌else◌}
+use Rattle.std.specs.List.{flat_map, list_any}
+use Rattle.idl_session.specs.Replies.{whole_line}
+use Rattle.idl_source.specs.Device.{append}
+use Rattle.idl_workspace.specs.Compile.{compiled_root}
+use Rattle.idl_workspace.specs.Project.{Inputs}
+use Rattle.idl_program.specs.Holding.{Holding}
+use Rattle.idl_program.specs.Loading.{AreLoaded, AreComplete}
+use Rattle.idl_program.specs.Options.{AreAsked}
+use Rattle.idl_program.specs.declared.failure.Status.{Status}
+use Rattle.idl_program.specs.declared.failure.Status.TheVariants.{Sound, Faulty}
+use Rattle.idl_program.specs.declared.request.Options.{Options}
+
+-- what a root is told of
+abbrev pub errors_in : Inputs → List ℕ → List (List ℕ)
+errors_in inputs root = (compiled_root inputs root).rows.diagnostics
+
+-- what it declares
+abbrev pub dump_in : Inputs → List ℕ → List (List ℕ)
+dump_in inputs root = (compiled_root inputs root).rows.dump
+
+-- rows of roots, each on a line of its own
+abbrev pub lines_of : (List ℕ → List (List ℕ)) → List (List ℕ) → List ℕ
+lines_of rows roots = flat_map (λ root. flat_map whole_line (rows root)) roots
+
+abbrev pub is_faulty : Inputs → List (List ℕ) → Bool
+is_faulty inputs roots = list_any (λ root. not (is_empty (errors_in inputs root))) roots
+
+-- bytes that went out, to errors and to output
+pub record Written : Type 0 where
+  pub errors : Option (List ℕ)
+  pub output : Option (List ℕ)
+
+-- what goes out of the roots over these inputs, and how the program ends
+pub record IsShown (shows_dump : Bool) (inputs : Inputs) (roots : List (List ℕ))
+    (before after : Written) (status : Status) : Type 0 where
+  pub errors : after.errors ≡ append before.errors (lines_of (errors_in inputs) roots)
+  pub output : after.output
+      ≡ append before.output (if shows_dump then lines_of (dump_in inputs) roots else [])
+  pub status : status ≡ (if is_faulty inputs roots then Faulty else Sound)
+
+-- the options are served, over the files that the loader tells of
+pub record IsCompiled (told : List ℕ → Holding) (options : Options) (before after : Written)
+    (status : Status) : Type 0 where
+  pub inputs : Inputs
+  pub roots : List (List ℕ)
+  pub asked : AreAsked options inputs roots
+  pub loaded : AreLoaded told inputs.files
+  pub complete : AreComplete told inputs roots
+  pub shown : IsShown options.shows_dump inputs roots before after status

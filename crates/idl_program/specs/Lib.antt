@@ -1,0 +1,5 @@
+pub mod Compiled
+pub mod Holding
+pub mod Loading
+pub mod Options
+pub mod Tried

@@ -1,0 +1,98 @@
+//! How the program ends.
+
+ghost use Rattle.std.specs.Prelude.{◌≡◌, ◌≤◌, ◌<◌, ◌+◌, ◌-◌, ◌^◌};
+
+use idl_session::{ReadFailed, Sink, Stop, WriteFailed, write_all};
+use idl_source::{Name, Refusal};
+use itoa::Buffer;
+
+/// How the program ends, as its exit status tells.
+#[derive(Clone, Copy, Debug, PartialEq, Eq)]
+pub enum Status {
+    /// No source has an error.
+    Sound,
+    /// A source has errors.
+    Faulty,
+    /// The words, a file, memory or a device failed, of which standard error has one line.
+    Failed,
+}
+
+impl Status {
+    /// The exit status: 0, 1 or 2.
+    pub fn code(self) -> u8 {
+        match self {
+            Status::Sound => 0,
+            Status::Faulty => 1,
+            Status::Failed => 2,
+        }
+    }
+}
+
+/// What a refusal is about.
+#[derive(Drop)]
+pub enum Subject<'a> {
+    /// A word as it was given.
+    Word(&'a str),
+    /// A file that was to be loaded.
+    File(Name),
+}
+
+/// Why the program ends with [`Status::Failed`].
+#[derive(Drop)]
+pub enum Failure<'a> {
+    BadArguments,
+    Refused(Subject<'a>, Refusal),
+    CannotRead(Name),
+    ReadFailed,
+    WriteFailed,
+}
+
+impl<'a> Failure<'a> {
+    /// Writes the one line that tells of it.
+    pub fn tell<K: Sink>(&self, errors: &mut K) -> Result<(), WriteFailed>
+        requires counts { K.failures errors.old < 2 ^ 64 - 1 }
+    {
+        match self {
+            Failure::BadArguments => write_all(errors, b"idlc: bad arguments\n"),
+            Failure::Refused(Subject::Word(word), refusal) => {
+                tell_refusal(errors, word.as_bytes(), *refusal)
+            }
+            Failure::Refused(Subject::File(name), refusal) => {
+                tell_refusal(errors, name.as_bytes(), *refusal)
+            }
+            Failure::CannotRead(name) => {
+                write_all(errors, b"idlc: ")?;
+                write_all(errors, name.as_bytes())?;
+                write_all(errors, b": cannot read\n")
+            }
+            Failure::ReadFailed => write_all(errors, b"idlc: read failed\n"),
+            Failure::WriteFailed => write_all(errors, b"idlc: write failed\n"),
+        }
+    }
+}
+
+fn tell_refusal<K: Sink>(errors: &mut K, word: &[u8], refusal: Refusal) -> Result<(), WriteFailed>
+    requires counts { K.failures errors.old < 2 ^ 64 - 1 }
+{
+    let mut number = Buffer::new();
+    write_all(errors, b"idlc: ")?;
+    write_all(errors, word)?;
+    write_all(errors, b": refused ")?;
+    write_all(errors, number.format(refusal.number()).as_bytes())?;
+    write_all(errors, b"\n")
+}
+
+impl<'a> From<WriteFailed> for Failure<'a> {
+    fn from(_failed: WriteFailed) -> Failure<'a> {
+        Failure::WriteFailed
+    }
+}
+
+impl<'a> From<Stop> for Failure<'a> {
+    fn from(stop: Stop) -> Failure<'a> {
+        match stop {
+            Stop::ReadFailed => Failure::ReadFailed,
+            Stop::WriteFailed => Failure::WriteFailed,
+        }
+    }
+}

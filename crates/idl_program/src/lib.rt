@@ -1,0 +1,15 @@
+//! The program's work: words, files that a loader gives, and what goes out.
+//!
+//! Nothing here opens a disk or a terminal: a caller hands in the words, where files and commands come from, and where the rows go.
+#![tactic(auto)]
+
+mod compiling;
+mod failure;
+mod loader;
+mod loading;
+mod program;
+mod request;
+
+pub use failure::Status;
+pub use loader::{Loaded, Loader};
+pub use program::{Devices, run_program};

@@ -1,0 +1,125 @@
+//! The program over its words and devices.
+
+ghost use Rattle.std.specs.Prelude.{◌≡◌, ◌≤◌, ◌<◌, ◌+◌, ◌-◌, ◌^◌, IfOk, OnOk};
+ghost use Rattle.idl_program.specs.Compiled.{IsCompiled, IsShown};
+ghost use Rattle.idl_program.specs.Loading.{AreRoots};
+
+use crate::compiling::{prepared, show_dump, show_errors};
+use crate::failure::{Failure, Status};
+use crate::loader::Loader;
+use crate::loading::load_all;
+use crate::request::{Options, Request, request_of};
+use idl_session::{Session, Sink, Source, WriteFailed, run, write_all};
+use idl_source::Name;
+use std::alloc::Global;
+
+/// What the program reads and writes.
+#[derive(Drop)]
+pub struct Devices<L, S, O, E> {
+    /// Where files come from.
+    pub loader: L,
+    /// Where commands come from.
+    pub source: S,
+    /// Where dumps, listings and replies go.
+    pub output: O,
+    /// Where errors go, and why the program fails.
+    pub errors: E,
+}
+
+/// Does what the words behind the program's name ask for, and answers how the program ends.
+pub fn run_program<L: Loader, S: Source, O: Sink, E: Sink>(
+    alloc: Global,
+    words: &[&str],
+    devices: &mut Devices<L, S, O, E>,
+) -> Status
+    // A device that counts its failures from 0 can't come near.
+    requires reads { S.failures devices.old.source < 2 ^ 64 - 1 }
+    requires writes { O.failures devices.old.output < 2 ^ 64 - 1 }
+    requires tells { E.failures devices.old.errors < 2 ^ 64 - 2 }
+{
+    match perform(alloc, words, devices) {
+        Ok(status) => status,
+        Err(failure) => {
+            // Where this can't be written either, the status tells.
+            let _ = failure.tell(&mut devices.errors);
+            Status::Failed
+        }
+    }
+}
+
+fn perform<'a, L: Loader, S: Source, O: Sink, E: Sink>(
+    alloc: Global,
+    words: &'a [&'a str],
+    devices: &mut Devices<L, S, O, E>,
+) -> Result<Status, Failure<'a>>
+    requires reads { S.failures devices.old.source < 2 ^ 64 - 1 }
+    requires writes { O.failures devices.old.output < 2 ^ 64 - 1 }
+    requires tells { E.failures devices.old.errors < 2 ^ 64 - 2 }
+    ensures most { E.failures devices.new.errors ≤ E.failures devices.old.errors + 1 }
+{
+    match request_of(alloc, words)? {
+        Request::Show(text) => {
+            write_all(&mut devices.output, text.as_bytes())?;
+            Ok(Status::Sound)
+        }
+        Request::Serve => {
+            let mut session = Session::new(alloc);
+            run(&mut session, &mut devices.source, &mut devices.output)?;
+            Ok(Status::Sound)
+        }
+        Request::Compile(options) => compile(alloc, &options, devices),
+    }
+}
+
+fn compile<'a, L: Loader, S: Source, O: Sink, E: Sink>(
+    alloc: Global,
+    options: &Options<'a>,
+    devices: &mut Devices<L, S, O, E>,
+) -> Result<Status, Failure<'a>>
+    requires writes { O.failures devices.old.output < 2 ^ 64 - 1 }
+    requires tells { E.failures devices.old.errors < 2 ^ 64 - 2 }
+
+    ensures compiled { IfOk result (λ status. IsCompiled (L.told devices.old.loader) options.now
+        (record { errors = E.written devices.old.errors; output = O.written devices.old.output })
+        (record { errors = E.written devices.new.errors; output = O.written devices.new.output })
+        status) }
+    ensures most { E.failures devices.new.errors ≤ E.failures devices.old.errors + 1 }
+{
+    let (mut session, roots) = prepared(alloc, options)?;
+    load_all(&mut session, &roots, &mut devices.loader)?;
+    let status = show_all(&session, &roots, options.shows_dump, devices)?;
+    Ok(status)
+}
+
+// Writes what goes out of these roots, each in turn.
+fn show_all<L: Loader, S: Source, O: Sink, E: Sink>(
+    session: &Session,
+    roots: &[Name],
+    shows_dump: bool,
+    devices: &mut Devices<L, S, O, E>,
+) -> Result<Status, WriteFailed>
+    requires writes { O.failures devices.old.output < 2 ^ 64 - 1 }
+    requires tells { E.failures devices.old.errors < 2 ^ 64 - 2 }
+    requires roots { AreRoots session.now.project roots.now }
+
+    ensures shown { IfOk result (λ status. IsShown shows_dump session.now.project.inputs roots.now
+        (record { errors = E.written devices.old.errors; output = O.written devices.old.output })
+        (record { errors = E.written devices.new.errors; output = O.written devices.new.output })
+        status) }
+    ensures most { E.failures devices.new.errors ≤ E.failures devices.old.errors + 1 }
+{
+    let mut is_faulty = false;
+    'roots: for root in roots {
+        if show_errors(session, root, &mut devices.errors)? {
+            is_faulty = true;
+        }
+        if shows_dump {
+            show_dump(session, root, &mut devices.output)?;
+        }
+    }
+    if is_faulty {
+        Ok(Status::Faulty)
+    } else {
+        Ok(Status::Sound)
+    }
+}

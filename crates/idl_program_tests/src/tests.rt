@@ -1,0 +1,6 @@
+//! The tests, by subject.
+
+mod editor;
+mod failures;
+mod options;
+mod support;

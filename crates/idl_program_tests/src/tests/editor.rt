@@ -1,0 +1,73 @@
+//! The example of docs/EMBEDDING.md: an editor's server that holds a project and tells what an edit changes.
+
+use idl_session::{Row, Session, Span};
+use idl_source::{Refusal, cut};
+use std::alloc::{AllocError, Global};
+use std::test::Fail;
+
+// A file as the editor opens it.
+fn open(session: &mut Session, name: &str, text: &str) -> Result<(), Refusal> {
+    let lines = cut(session.allocator(), text.as_bytes())?;
+    session.put(name.as_bytes(), lines)?;
+    Ok(())
+}
+
+// A line that is typed in the place of another one, the first being 1.
+fn type_line(session: &mut Session, name: &str, at: usize, text: &str) -> Result<(), Refusal> {
+    let lines = cut(session.allocator(), text.as_bytes())?;
+    session.splice(name.as_bytes(), Span { from: at, del: 1 }, lines)?;
+    Ok(())
+}
+
+// The rows of a root, one on a line.
+fn told(alloc: Global, rows: Option<&[Row]>) -> Result<String, AllocError> {
+    let mut text = String::new(alloc);
+    for row in rows.unwrap_or(&[]) {
+        if let Ok(row) = str::from_utf8(row.get().as_bytes()) {
+            text.push_str(row)?;
+            text.push('\n')?;
+        }
+    }
+    Ok(text)
+}
+
+#[test]
+fn an_editor_holds_a_project(rt: HostRuntime) -> Result<(), Fail> {
+    let mut session = Session::new(rt.alloc());
+    assert!(rt; session.add_root(b"shop.idl").is_ok());
+    assert!(rt;
+        open(
+            &mut session,
+            "shop.idl",
+            "#include \"money.idl\"\ninterface Shop { Money price(); };\n"
+        )
+        .is_ok()
+    );
+
+    // What isn't there yet is asked for, and is opened next.
+    let absent = session.absent(b"shop.idl").unwrap_or(&[]);
+    assert_eq!(rt; absent.len(), 1);
+    assert_eq!(rt; absent[0].as_bytes(), b"money.idl");
+    assert!(rt; open(&mut session, "money.idl", "typedef long Mony;\n").is_ok());
+
+    let errors = told(rt.alloc(), session.diagnostics(b"shop.idl"))?;
+    assert_eq!(rt; errors.as_str(), "shop.idl:2: E30 Money\n");
+
+    // An edit of the other file, and the work that it was.
+    assert!(rt; type_line(&mut session, "money.idl", 1, "typedef long Money;").is_ok());
+    assert_eq!(rt; session.work().expanded, 1);
+    let errors = told(rt.alloc(), session.diagnostics(b"shop.idl"))?;
+    assert_eq!(rt; errors.as_str(), "");
+    let dump = told(rt.alloc(), session.dump(b"shop.idl"))?;
+    assert_eq!(rt;
+        dump.as_str(),
+        "typedef long Money;\ninterface Shop {\n  ::Money price ( );\n};\n"
+    );
+
+    // A refused edit changes nothing.
+    assert_eq!(rt;
+        open(&mut session, "no name", "").err(),
+        Some(Refusal::BadName)
+    );
+    Ok(())
+}

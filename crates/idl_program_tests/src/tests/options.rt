@@ -1,0 +1,105 @@
+//! Words and files with what the program writes of them.
+
+use super::support::{are_given, given};
+use std::test::Fail;
+
+// The rules of the options, each with the least files that show it.
+static ROWS: [(&str, &str, &str); 22] = [
+    (
+        "-DN=long -d a.idl",
+        "a.idl: typedef N X;",
+        "0 out typedef long X; /",
+    ),
+    (
+        "-d ./r.idl",
+        "r.idl: #include \"s/b.idl\" | typedef B C; ¶ s/b.idl: typedef long B;¬",
+        "0 out typedef long B; /typedef ::B C; /",
+    ),
+    ("z.idl", "", "1 err z.idl:0: E10 z.idl /"),
+    ("-U1x a.idl", "", "2 err idlc: 1x: refused 6 /"),
+    ("--session a.idl", "", "2 err idlc: bad arguments /"),
+    ("", "", "2 err idlc: bad arguments /"),
+    ("-d", "", "2 err idlc: bad arguments /"),
+    ("--no-such a.idl", "", "2 err idlc: bad arguments /"),
+    // A body is 1 without a value, empty behind a `=`, and the last of one name stands. All -U come after all -D.
+    (
+        "-DN -d a.idl",
+        "a.idl: const long X = N;",
+        "0 out const long X = 1; /",
+    ),
+    (
+        "-DN= -d a.idl",
+        "a.idl: N typedef N long X;",
+        "0 out typedef long X; /",
+    ),
+    (
+        "-DN=short -D N=long -d a.idl",
+        "a.idl: typedef N X;",
+        "0 out typedef long X; /",
+    ),
+    (
+        "-UN -DN=long a.idl",
+        "a.idl: typedef N X;",
+        "1 err a.idl:1: E30 N /",
+    ),
+    ("-UM a.idl", "a.idl: typedef long X;", "0"),
+    ("-D1x=2 a.idl", "", "2 err idlc: 1x=2: refused 6 /"),
+    // Directories are searched in order, behind that of the file itself.
+    (
+        "-Ip -I q/ -d a.idl",
+        "a.idl: #include <b.idl> ¶ q/b.idl: typedef long Q; ¶ p/b.idl: typedef long P;",
+        "0 out typedef long P; /",
+    ),
+    (
+        "-I./q/. -d d/a.idl",
+        "d/a.idl: #include \"b.idl\" ¶ q/b.idl: typedef long Q; ¶ d/b.idl: typedef long D;",
+        "0 out typedef long D; /",
+    ),
+    // A FILE named twice, in whatever form, counts once, and each is a root of its own.
+    (
+        "-d a.idl ./a.idl b.idl x/../a.idl",
+        "a.idl: typedef long A; ¶ b.idl: typedef long A;",
+        "0 out typedef long A; /typedef long A; /",
+    ),
+    (
+        "../a.idl",
+        "../a.idl: typedef T X;",
+        "1 err ../a.idl:1: E30 T /",
+    ),
+    ("a.idl/", "a.idl: typedef long X;", "0"),
+    (".. a.idl", "", "2 err idlc: ..: refused 2 /"),
+    ("a.idl é.idl", "", "2 err idlc: é.idl: refused 2 /"),
+    // Errors of each root in order, and a file that two of them include is loaded once.
+    (
+        "b.idl a.idl",
+        "a.idl: #include \"c.idl\" ¶ b.idl: #include \"c.idl\" ¶ c.idl: typedef T C;",
+        "1 err c.idl:1: E30 T /c.idl:1: E30 T /",
+    ),
+];
+
+#[test]
+fn words_give_these_rows(rt: HostRuntime) -> Result<(), Fail> {
+    are_given(&rt, &ROWS)
+}
+
+#[test]
+fn help_and_version_are_told(rt: HostRuntime) -> Result<(), Fail> {
+    let version = given(rt.alloc(), "--version", "", "")?;
+    assert_eq!(rt; version.as_str(), "0 out idlc 0.1.0 /");
+    let help = given(rt.alloc(), "--help", "", "")?;
+    assert!(rt; help.contains("-I <DIRECTORY>"));
+    assert!(rt; help.starts_with("0 out "));
+    Ok(())
+}
+
+#[test]
+fn a_session_is_served(rt: HostRuntime) -> Result<(), Fail> {
+    let replies = given(
+        rt.alloc(),
+        "--session",
+        "",
+        "root a.idl\nabsent a.idl\nroot a.idl\n",
+    )?;
+    assert_eq!(rt; replies.as_str(), "0 out ok /rows 1 /a.idl /refused 8 /");
+    Ok(())
+}

@@ -1,0 +1,124 @@
+//! What the tests share: the program over files of a text, and rows of what it gives.
+
+ghost use Rattle.idl_program.specs.Holding.{Untold};
+
+use idl_program::{Devices, Loaded, Loader, run_program};
+use idl_session::{BufferSink, SliceSource};
+use idl_source::Name;
+use std::alloc::{AllocError, AllocGlobal, Global};
+use std::process::Abort;
+use std::test::Fail;
+
+// Bytes that each of the two sinks takes.
+const ROOM: usize = 100_000;
+
+/// Files in a text: each is `NAME: LINE | LINE`, and ` ¶ ` stands between two. `¬` in a line is a carriage return. A file `NAME!` can't be
+/// read, and there is no memory for a file `NAME?`.
+#[derive(Drop)]
+pub struct Files<'a> {
+    alloc: Global,
+    text: &'a str,
+}
+
+impl<'a> Files<'a> {
+    pub fn new(alloc: Global, text: &'a str) -> Files<'a> {
+        Files { alloc, text }
+    }
+}
+
+impl<'a> Loader for Files<'a> {
+    ghost told = { λ _ _. Untold };
+
+    fn load(&mut self, name: &Name) -> Loaded {
+        for file in self.text.split(" ¶ ") {
+            let (title, lines) = file.split_once(": ").unwrap_or((file, ""));
+            let wanted = name.as_bytes();
+            if title.as_bytes() == wanted {
+                return match file_bytes(self.alloc, lines) {
+                    Ok(bytes) => Loaded::Bytes(bytes),
+                    Err(_) => Loaded::NoMemory,
+                };
+            }
+            if title
+                .strip_suffix('!')
+                .is_some_and(|title| title.as_bytes() == wanted)
+            {
+                return Loaded::Failed;
+            }
+            if title
+                .strip_suffix('?')
+                .is_some_and(|title| title.as_bytes() == wanted)
+            {
+                return Loaded::NoMemory;
+            }
+        }
+        Loaded::Missing
+    }
+}
+
+// The bytes of a file.
+fn file_bytes(alloc: Global, lines: &str) -> Result<Vec<u8>, AllocError> {
+    let mut bytes = Vec::new(alloc);
+    if lines.is_empty() {
+        return Ok(bytes);
+    }
+    for line in lines.split(" | ") {
+        for part in line.split_inclusive('¬') {
+            match part.strip_suffix('¬') {
+                Some(part) => {
+                    bytes.extend_from_slice(part.as_bytes())?;
+                    bytes.push(b'\r')?;
+                }
+                None => bytes.extend_from_slice(part.as_bytes())?,
+            }
+        }
+        bytes.push(b'\n')?;
+    }
+    Ok(bytes)
+}
+
+/// What the program gives: its status, what it wrote to standard output, and what to standard error, with ` / ` for a newline.
+pub fn given(alloc: Global, words: &str, files: &str, input: &str) -> Result<String, AllocError> {
+    let mut list: Vec<&str> = Vec::new(alloc);
+    for word in words.split(' ') {
+        if !word.is_empty() {
+            list.push(word)?;
+        }
+    }
+    let mut devices = Devices {
+        loader: Files::new(alloc, files),
+        source: SliceSource::new(input.as_bytes()),
+        output: BufferSink::new(alloc, ROOM)?,
+        errors: BufferSink::new(alloc, ROOM)?,
+    };
+    let status = run_program(alloc, &list, &mut devices);
+    let mut text = format!(in alloc; "{}", status.code())?;
+    push_lines(&mut text, " out ", devices.output.as_bytes())?;
+    push_lines(&mut text, " err ", devices.errors.as_bytes())?;
+    Ok(text)
+}
+
+fn push_lines(text: &mut String, title: &str, bytes: &[u8]) -> Result<(), AllocError> {
+    let Ok(lines) = str::from_utf8(bytes) else {
+        return Ok(());
+    };
+    if !lines.is_empty() {
+        text.push_str(title)?;
+        for c in lines.chars() {
+            match c {
+                '\n' => text.push_str(" /")?,
+                c => text.push(c)?,
+            }
+        }
+    }
+    Ok(())
+}
+
+/// Each row: words, files, and what the program gives.
+pub fn are_given(rt: &(impl Abort + AllocGlobal), rows: &[(&str, &str, &str)]) -> Result<(), Fail> {
+    for (words, files, want) in rows {
+        let got = given(rt.alloc(), words, files, "")?;
+        assert_eq!(rt; got.as_str(), *want, "{words} over {files}");
+    }
+    Ok(())
+}
