@@ -4,7 +4,7 @@ ghost use Rattle.std.specs.Prelude.{◌≡◌, ◌++◌, ◌&&◌, IfOk, OnOk, f
 ghost use Rattle.idl_scope.specs.Kind.{kind_eq};
 ghost use Rattle.idl_scope.specs.Path.{name_of};
 ghost use Rattle.idl_scope.specs.declared.kind.Kind.TheVariants.{Attribute};
-ghost use Rattle.idl_check.specs.Bodies.{begun_body, comes_out, goes_in, is_member, is_nothing, joined_text, no_clauses, raises, raising, signature_of, told_body, with_array_body, with_array_type, with_body_label, with_context, with_member, with_name, with_next_label, with_raised};
+ghost use Rattle.idl_check.specs.Bodies.{begun_body, comes_out, goes_in, is_member, is_nothing, joined_text, no_clauses, raises, raising, signature_of, told_body, with_array_body, with_array_type, with_body_label, with_context, with_last_type, with_member, with_name, with_next_label, with_raised};
 
 use idl_base::Seq;
 use idl_lex::Spelling;
@@ -226,10 +226,7 @@ impl Body {
         if array.kind != Kind::Member {
             return Ok(());
         }
-        let data_type = array.data_type.clone()?;
-        if let Some(member) = self.members.last_mut() {
-            member.data_type = data_type;
-        }
+        set_last_type(&mut self.members, array.data_type.clone()?);
         Ok(())
     }
 
@@ -287,6 +284,15 @@ pub fn make_array(bodies: &mut Vec<Body>, array: &Entity) -> Result<(), AllocErr
     match bodies.first_mut() {
         Some(body) => body.make_array(array),
         None => Ok(()),
+    }
+}
+
+// The last of these members has this type.
+fn set_last_type(members: &mut Vec<Member>, data_type: Option<Shared<DataType>>)
+    ensures { members.new.items ≡ with_last_type data_type members.old.items }
+{
+    if let Some(member) = members.last_mut() {
+        member.data_type = data_type;
     }
 }
 
