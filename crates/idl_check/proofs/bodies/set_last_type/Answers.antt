@@ -1,4 +1,4 @@
-use Rattle.std.proofs.Common.{◌≡◌, ℕ, zero, suc, List, [], ◌∷◌, length, get_or, set, Option, ap, refl, arith}
+use Rattle.std.proofs.Common.{◌≡◌, ℕ, zero, suc, ◌-◌, List, [], ◌∷◌, length, get_or, set, Option, ap, refl, arith}
 use Rattle.idl_check.specs.Bodies.{with_last_type}
 use Rattle.idl_scope.specs.declared.data_type.DataType.{DataType}
 use Rattle.idl_scope.specs.declared.signature.Member.{Member}
