@@ -162,3 +162,8 @@ told_body clauses b =
         signature = Some (signature_of b.members clauses);
       } ∷ []
     ]
+
+-- what the innermost of these is of
+abbrev pub told_innermost : Clauses → List Body → List Entity
+told_innermost clauses [] = []
+told_innermost clauses (b ∷ bodies) = told_body clauses b

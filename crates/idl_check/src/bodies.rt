@@ -1,10 +1,10 @@
 //! What is told inside a unit of what it declares: the members of scopes, and what clauses say.
 
-ghost use Rattle.std.specs.Prelude.{◌≡◌, ◌++◌, ◌&&◌, IfOk, OnOk, flat_map, option_to_list};
+ghost use Rattle.std.specs.Prelude.{◌≡◌, ◌++◌, ◌&&◌, [], IfNone, IfOk, OnOk, drop, flat_map, option_to_list};
 ghost use Rattle.idl_scope.specs.Kind.{kind_eq};
 ghost use Rattle.idl_scope.specs.Path.{name_of};
 ghost use Rattle.idl_scope.specs.declared.kind.Kind.TheVariants.{Attribute};
-ghost use Rattle.idl_check.specs.Bodies.{begun_body, comes_out, goes_in, is_member, is_nothing, joined_text, no_clauses, raises, raising, signature_of, told_body, with_array_body, with_array_type, with_body_label, with_context, with_last_type, with_member, with_name, with_next_label, with_raised};
+ghost use Rattle.idl_check.specs.Bodies.{begun_body, comes_out, goes_in, is_member, is_nothing, joined_text, no_clauses, raises, raising, signature_of, told_body, told_innermost, with_array_body, with_array_type, with_body_label, with_context, with_last_type, with_member, with_name, with_next_label, with_raised};
 
 use idl_base::Seq;
 use idl_lex::Spelling;
@@ -230,8 +230,8 @@ impl Body {
         Ok(())
     }
 
-    /// What it is of, once it ends.
-    pub fn told(self, alloc: Global, clauses: &Clauses) -> Result<Option<Shared<Entity>>, AllocError>
+    // What it is of, once it ends.
+    fn told(self, alloc: Global, clauses: &Clauses) -> Result<Option<Shared<Entity>>, AllocError>
         ensures { IfOk result (λ entity. option_to_list entity ≡ told_body clauses.now self) }
     {
         let Body {
@@ -285,6 +285,39 @@ pub fn make_array(bodies: &mut Vec<Body>, array: &Entity) -> Result<(), AllocErr
         Some(body) => body.make_array(array),
         None => Ok(()),
     }
+}
+
+/// The innermost of these scopes ends: what it is of has begun.
+pub fn end_innermost(
+    alloc: Global,
+    bodies: &mut Vec<Body>,
+    clauses: &Clauses,
+    begun: &mut Vec<Shared<Entity>>,
+) -> Result<(), AllocError>
+    ensures begun { OnOk result
+        (begun.new.items
+        ≡ begun.old.items ++ told_innermost clauses.now bodies.old.items) }
+    ensures bodies { OnOk result (bodies.new.items ≡ drop 1 bodies.old.items) }
+{
+    let Some(body) = take_innermost(bodies) else {
+        return Ok(());
+    };
+    let Some(told) = body.told(alloc, clauses)? else {
+        return Ok(());
+    };
+    begun.push(told)?;
+    Ok(())
+}
+
+// Takes out the innermost of these scopes, if there is one.
+fn take_innermost(bodies: &mut Vec<Body>) -> Option<Body>
+    ensures some { bodies.old.items ≡ option_to_list result ++ bodies.new.items }
+    ensures none { IfNone result (bodies.old.items ≡ []) }
+{
+    if bodies.is_empty() {
+        return None;
+    }
+    Some(bodies.remove(0))
 }
 
 // The last of these members has this type.
