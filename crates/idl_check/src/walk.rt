@@ -12,7 +12,7 @@ ghost use Rattle.idl_memo.specs.Query.{run};
 ghost use Rattle.idl_scope.specs.Facts.{answers};
 ghost use Rattle.idl_scope.specs.Key.{key_eq};
 ghost use Rattle.idl_scope.specs.declared.lookup.TheConstants.{TURNS};
-ghost use Rattle.idl_site.specs.Item.{item_at, item_length, items_length};
+ghost use Rattle.idl_site.specs.Item.{Item as item, item_at, item_length, items_length};
 ghost use Rattle.idl_unit.specs.TokenRules.{fault_at};
 
 use crate::bases::Bases;
@@ -203,15 +203,16 @@ impl<'a> Walker<'a> {
 
     // String literals, which are joined: a text of a context.
     fn join(&mut self, text: &Several<Seq<u16>>) -> Result<(), AllocError>
-        requires { self.old.at + (length text.now.rest + 1) ≤ 18446744073709551615 }
+        requires { HasRoomFor (held self.old) (item.Joined text.now ∷ []) }
         ensures visit { OnOk result
             (held self.new
             ≡ noted_in
             (faulty_if self.old.gives_back BadOneway (held self.old)
-            (record (passed (length text.now.rest + 1) (held self.old)) {
+            (record (passed (item_length (item.Joined text.now)) (held self.old)) {
               clauses = with_context text.now self.old.clauses;
             })) self.old.fault) }
-        ensures at { OnOk result (self.new.at ≡ self.old.at + (length text.now.rest + 1)) }
+        ensures at { OnOk result
+            (self.new.at ≡ self.old.at + item_length (item.Joined text.now)) }
         ensures env { OnOk result (self.new.env.now ≡ self.old.env.now) }
     {
         self.clauses.add_context(self.env.alloc(), text)?;
@@ -359,9 +360,7 @@ impl<'a> Walker<'a> {
             values,
             fault: _fault,
         } = self;
-        if let Some(attribute) = clauses.raising(last.as_ref()) {
-            begun.push(attribute.clone()?)?;
-        }
+        clauses.add_raising(&mut begun, &last)?;
         if begun.is_empty() {
             own.then(step);
             return Ok(own);
