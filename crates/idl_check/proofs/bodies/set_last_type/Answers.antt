@@ -1,4 +1,4 @@
-use Rattle.std.proofs.Common.{◌≡◌, ℕ, zero, suc, ◌-◌, List, [], ◌∷◌, length, get_or, set, Option, sym, ap, ◌∙◌, arith}
+use Rattle.std.proofs.Common.{◌≡◌, ℕ, zero, suc, ◌-◌, List, [], ◌∷◌, length, get_or, set, Option, ap, refl, arith}
 use Rattle.idl_check.specs.Bodies.{with_last_type}
 use Rattle.idl_scope.specs.declared.data_type.DataType.{DataType}
 use Rattle.idl_scope.specs.declared.signature.Member.{Member}
@@ -16,4 +16,4 @@ last-place t (x ∷ y ∷ members) (suc at) m count is = ap (λ l. x ∷ l) (las
 pub returns-in-Some : goal.returns-in-Some
 returns-in-Some c =
     let members = c.args.members.now in
-    last-place c.args.data_type members.items (members.len - 1) c.in-Some.member.now (omega (arith, c.in-Some.ensures.variant.0 tt, members.ok.0)) c.in-Some.ensures.value
+    last-place c.args.data_type members.items (members.len - 1) c.in-Some.member.now (omega (arith, c.in-Some.ensures.variant.0 refl, members.ok.0)) c.in-Some.ensures.value
