@@ -1,6 +1,6 @@
 -- Runs of a walk and of its sites.
 use Rattle.std.proofs.Common.{◌≡◌, ◌∙◌, ℕ, true, false, cond, List, [], ◌∷◌, Option, None, Some, Result, Ok, Err, refl, sym, ap}
-use Rattle.std.specs.Prelude.{Bool, slice_get}
+use Rattle.std.specs.Prelude.{Bool, OnOk, slice_get}
 use Rattle.idl_memo.specs.Query.{Done, and_then, run}
 use Rattle.idl_memo.proofs.QueryLaws.{run-and_then, run-and_then_at}
 use Rattle.idl_check.specs.Held.{given_noted, head_noted, used_noted, visited}
@@ -28,6 +28,11 @@ use Rattle.idl_check.proofs.NotedLemmas.{noted_in-one_way, noted_in-quiet, one_w
 pub first-at : {A : Type 0} (xs : List A) → first xs ≡ slice_get xs 0
 first-at [] = refl
 first-at (x ∷ xs) = refl
+
+-- what always holds, holds on success
+pub OnOk-always : {T E P : Type 0} (r : Result T E) → P → OnOk r P
+OnOk-always (Ok x) p = p
+OnOk-always (Err e) p = tt
 
 module _ (bank : Key → Option Answer) where
   -- a run over a bank
