@@ -109,11 +109,7 @@ impl Clauses {
     }
 
     /// A text of a context: string literals, which are joined.
-    pub fn add_context(
-        &mut self,
-        alloc: Global,
-        text: &Several<Seq<u16>>,
-    ) -> Result<(), AllocError>
+    pub fn add_context(&mut self, alloc: Global, text: &Several<Seq<u16>>) -> Result<(), AllocError>
         ensures { OnOk result (self.new ≡ with_context text.now self.old) }
     {
         self.contexts.push(joined_text(alloc, text)?)?;
