@@ -1,6 +1,6 @@
 -- The claim: what goes out is what compiling the loaded files tells, and the status says whether
 -- they have errors.
-use Rattle.std.specs.Prelude.{◌≡◌, ℕ, Bool, List, [], Option, is_empty, not, if◌then◌else◌}
+use Rattle.std.specs.Prelude.{◌≡◌, ℕ, Bool, List, [], Option, length, nat_lt, if◌then◌else◌}
 use Rattle.std.specs.List.{flat_map, list_any}
 use Rattle.idl_session.specs.Replies.{whole_line}
 use Rattle.idl_source.specs.Device.{append}
@@ -25,8 +25,11 @@ dump_in inputs root = (compiled_root inputs root).rows.dump
 abbrev pub lines_of : (List ℕ → List (List ℕ)) → List (List ℕ) → List ℕ
 lines_of rows roots = flat_map (λ root. flat_map whole_line (rows root)) roots
 
+abbrev pub has_errors : Inputs → List ℕ → Bool
+has_errors inputs root = nat_lt 0 (length (errors_in inputs root))
+
 abbrev pub is_faulty : Inputs → List (List ℕ) → Bool
-is_faulty inputs roots = list_any (λ root. not (is_empty (errors_in inputs root))) roots
+is_faulty inputs roots = list_any (λ root. has_errors inputs root) roots
 
 -- bytes that went out, to errors and to output
 pub record Written : Type 0 where
@@ -39,7 +42,7 @@ pub record IsShown (shows_dump : Bool) (inputs : Inputs) (roots : List (List ℕ
   pub errors : after.errors ≡ append before.errors (lines_of (errors_in inputs) roots)
   pub output : after.output
       ≡ append before.output (if shows_dump then lines_of (dump_in inputs) roots else [])
-  pub status : status ≡ (if is_faulty inputs roots then Faulty else Sound)
+  pub ending : status ≡ (if is_faulty inputs roots then Faulty else Sound)
 
 -- the options are served, over the files that the loader tells of
 pub record IsCompiled (told : List ℕ → Holding) (options : Options) (before after : Written)

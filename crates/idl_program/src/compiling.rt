@@ -1,12 +1,12 @@
 //! What options ask a session for, and what goes out of it.
 
-ghost use Rattle.std.specs.Prelude.{◌≡◌, ◌≤◌, ◌<◌, ◌+◌, ◌-◌, ◌^◌, ◌∷◌, [], Some, true, map, not, is_empty, IfOk, OnOk};
+ghost use Rattle.std.specs.Prelude.{◌≡◌, ◌≤◌, ◌<◌, ◌+◌, ◌-◌, ◌^◌, ◌∷◌, [], Some, true, map, IfOk, OnOk};
 ghost use Rattle.std.specs.FinMap as finite;
 ghost use Rattle.std.specs.List.{flat_map};
 ghost use Rattle.idl_source.specs.Device.{append};
 ghost use Rattle.idl_session.specs.Replies.{whole_line};
 ghost use Rattle.idl_workspace.specs.Project.{is_root, with_macros, with_roots, with_search};
-ghost use Rattle.idl_program.specs.Compiled.{dump_in, errors_in};
+ghost use Rattle.idl_program.specs.Compiled.{dump_in, errors_in, has_errors};
 ghost use Rattle.idl_program.specs.Loading.{AreRoots};
 ghost use Rattle.idl_program.specs.Options.{AreAsked, defined_by, named_by, searched_by, undefined_by};
 
@@ -44,8 +44,7 @@ pub fn show_errors<K: Sink>(
 
     ensures written { OnOk result (K.written errors.new ≡ append (K.written errors.old)
         (flat_map whole_line (errors_in session.now.project.inputs root.now))) }
-    ensures any { IfOk result (λ any.
-        any ≡ not (is_empty (errors_in session.now.project.inputs root.now))) }
+    ensures any { IfOk result (λ any. any ≡ has_errors session.now.project.inputs root.now) }
     ensures ok { OnOk result (K.failures errors.new ≡ K.failures errors.old) }
     ensures most { K.failures errors.new ≤ K.failures errors.old + 1 }
 {
