@@ -1,6 +1,6 @@
 -- Options that are carried out word by word.
 use Rattle.std.proofs.Common.{◌≡◌, ◌∷◌, ◌++◌, ◌+◌, ◌<◌, ◌≤◌, ◌∙◌, ◌||◌, ℕ, Bool, true, false, List, [], All, Option, None, Some, codes, drop, get_or, length, map, refl, sym, ap, subst, arith}
-use Rattle.std.proofs.lemmas.List.{drop_all, drop_more, get_or-map, length-map}
+use Rattle.std.proofs.lemmas.List.{drop_more, get_or-map, length-map}
 use Rattle.std.proofs.lemmas.List.Elements.{All-cons, All-nil, All-weaker}
 use Rattle.std.specs.Cmp.Lexicographic.{bytes_decides}
 use Rattle.std.specs.List.{list_any}
@@ -12,13 +12,10 @@ use Rattle.idl_program.specs.Loading.{AreRoots}
 use Rattle.idl_program.specs.Options.{defined_by, named_by, searched_by, undefined_by, with_name}
 
 -- what is left of a list, at its next element
-pub drop-map-more : {A B : Type 0} (f : A → B) (xs : List A) (i : ℕ) (x : A) → i < length xs → x ≡ get_or xs i x → drop i (map f xs) ≡ f x ∷ drop (i + 1) (map f xs)
-drop-map-more f xs i x within is =
-    drop_more (map f xs) i (f x) (omega (arith, within, length-map xs f))
-    ∙ ap (λ y. y ∷ drop (i + 1) (map f xs)) (get_or-map f xs i x (f x) within ∙ ap f (sym is))
-
-pub drop-map-all : {A B : Type 0} (f : A → B) (xs : List A) (i : ℕ) → length xs ≤ i → drop i (map f xs) ≡ []
-drop-map-all f xs i past = drop_all i (map f xs) (omega (arith, past, length-map xs f))
+pub drop-map-next : {A B : Type 0} (f : A → B) (xs : List A) (i : ℕ) (d : A) (y : B) → i < length xs → y ≡ f (get_or xs i d) → drop i (map f xs) ≡ y ∷ drop (i + 1) (map f xs)
+drop-map-next f xs i d y within is =
+    drop_more (map f xs) i y (omega (arith, within, length-map xs f))
+    ∙ ap (λ z. z ∷ drop (i + 1) (map f xs)) (get_or-map f xs i d y within ∙ sym is)
 
 -- one word more
 pub searched-more : (old new : List (List ℕ)) (word : List ℕ) (rest : List (List ℕ)) → searched_by old (word ∷ []) ≡ Some new
@@ -43,13 +40,17 @@ named-more old new word rest e = by (joined_path (codes ".") word) e
         let same : new ≡ with_name old n = cc in
         ap (λ ns. named_by ns rest) same
 
--- a directory that a word names
-pub searched-one : (old : List (List ℕ)) (word directory : List ℕ) → directory_path word ≡ Some directory → searched_by old (word ∷ []) ≡ Some (old ++ directory ∷ [])
-searched-one old word directory e = ap (λ to. option_and_then (λ d. searched_by (old ++ d ∷ []) []) to) e
+pub defined-next : {A : Type 0} (text : A → List ℕ) (words : List A) (i : ℕ) (d : A) (old new : Macros) → i < length words → new ≡ defined_by old (text (get_or words i d) ∷ [])
+    → defined_by new (drop (i + 1) (map text words)) ≡ defined_by old (drop i (map text words))
+defined-next text words i d old new within made =
+    ap (λ ms. defined_by ms (drop (i + 1) (map text words))) made
+    ∙ ap (defined_by old) (sym (drop-map-next text words i d (text (get_or words i d)) within refl))
 
--- a name that a word leads to
-pub named-one : (old : List (List ℕ)) (word name : List ℕ) → joined_path (codes ".") word ≡ Some name → named_by old (word ∷ []) ≡ Some (with_name old name)
-named-one old word name e = ap (λ to. option_and_then (λ n. named_by (with_name old n) []) to) e
+pub undefined-next : {A : Type 0} (text : A → List ℕ) (words : List A) (i : ℕ) (d : A) (old new : Macros) → i < length words → new ≡ undefined_by old (text (get_or words i d) ∷ [])
+    → undefined_by new (drop (i + 1) (map text words)) ≡ undefined_by old (drop i (map text words))
+undefined-next text words i d old new within made =
+    ap (λ ms. undefined_by ms (drop (i + 1) (map text words))) made
+    ∙ ap (undefined_by old) (sym (drop-map-next text words i d (text (get_or words i d)) within refl))
 
 or-last : (a b : Bool) → b ≡ true → (a || b) ≡ true
 or-last true b e = refl

@@ -8,7 +8,7 @@ ghost use Rattle.idl_session.specs.Replies.{whole_line};
 ghost use Rattle.idl_workspace.specs.Project.{is_root, with_macros, with_roots, with_search};
 ghost use Rattle.idl_program.specs.Compiled.{dump_in, errors_in, has_errors};
 ghost use Rattle.idl_program.specs.Loading.{AreRoots};
-ghost use Rattle.idl_program.specs.Options.{AreAsked, defined_by, named_by, searched_by, undefined_by};
+ghost use Rattle.idl_program.specs.Options.{AreAsked, before_equals, defined_by, macro_body, named_by, searched_by, undefined_by};
 
 use crate::failure::{Failure, Subject};
 use crate::request::Options;
@@ -87,18 +87,28 @@ fn define<'a>(session: &mut Session, word: &'a str) -> Result<(), Failure<'a>>
     ensures { OnOk result (session.new.project ≡ with_macros session.old.project
         (defined_by session.old.project.inputs.macros (word.entry.now ∷ []))) }
 {
-    let refused = |refusal| Failure::Refused(Subject::Word(word), refusal);
-    let (name, value) = first_part(word.as_bytes(), b'=');
-    let body = match value {
-        Some(value) => value,
-        None => b"1",
+    let (name, body) = macro_of(word.as_bytes());
+    let line = match Line::new(session.allocator(), body) {
+        Ok(Some(line)) => line,
+        Ok(None) => return Err(Failure::BadArguments),
+        Err(_) => return Err(refused(word, Refusal::NoMemory)),
     };
-    let line = Line::new(session.allocator(), body).map_err(|_| refused(Refusal::NoMemory))?;
-    let Some(line) = line else {
-        return Err(Failure::BadArguments);
-    };
-    session.define(name, line).map_err(refused)?;
-    Ok(())
+    match session.define(name, line) {
+        Ok(_) => Ok(()),
+        Err(refusal) => Err(refused(word, refusal)),
+    }
+}
+
+// The name of the macro that a word defines, and its body.
+fn macro_of(word: &[u8]) -> (&[u8], &[u8])
+    ensures name { result.0.now ≡ before_equals word.entry.now }
+    ensures body { result.1.now ≡ macro_body word.entry.now }
+{
+    let (name, value) = first_part(word, b'=');
+    match value {
+        Some(value) => (name, value),
+        None => (name, b"1"),
+    }
 }
 
 // Takes the macro of each name out.
@@ -108,11 +118,20 @@ fn undefine_all<'a>(session: &mut Session, words: &[&'a str]) -> Result<(), Fail
         (undefined_by session.old.project.inputs.macros texts)) }
 {
     'words: for word in words {
-        session
-            .undef(word.as_bytes())
-            .map_err(|refusal| Failure::Refused(Subject::Word(word), refusal))?;
+        undefine(session, word)?;
     }
     Ok(())
+}
+
+// Takes the macro of a name out, if there is one.
+fn undefine<'a>(session: &mut Session, word: &'a str) -> Result<(), Failure<'a>>
+    ensures { OnOk result (session.new.project ≡ with_macros session.old.project
+        (undefined_by session.old.project.inputs.macros (word.entry.now ∷ []))) }
+{
+    match session.undef(word.as_bytes()) {
+        Ok(_) => Ok(()),
+        Err(refusal) => Err(refused(word, refusal)),
+    }
 }
 
 // Has included files searched in each of these directories, too.
@@ -125,10 +144,8 @@ fn search_all<'a>(session: &mut Session, words: &[&'a str]) -> Result<(), Failur
 {
     let mut directories: Vec<Directory> = Vec::new(session.allocator());
     'words: for word in words {
-        search_in(session, &mut directories, word.as_bytes()).map_err(|refusal| Failure::Refused(
-            Subject::Word(word),
-            refusal,
-        ))?;
+        search_in(session, &mut directories, word.as_bytes())
+            .map_err(|refusal| refused(word, refusal))?;
     }
     Ok(())
 }
@@ -170,10 +187,7 @@ fn add_all<'a>(session: &mut Session, words: &[&'a str]) -> Result<Vec<Name>, Fa
 {
     let mut roots = Vec::new(session.allocator());
     'words: for word in words {
-        add(session, &mut roots, word.as_bytes()).map_err(|refusal| Failure::Refused(
-            Subject::Word(word),
-            refusal,
-        ))?;
+        add(session, &mut roots, word.as_bytes()).map_err(|refusal| refused(word, refusal))?;
     }
     Ok(roots)
 }
@@ -192,4 +206,8 @@ fn add(session: &mut Session, roots: &mut Vec<Name>, word: &[u8]) -> Result<(), 
     }
     session.add_root(name.as_bytes())?;
     roots.push(name).map_err(|_| Refusal::NoMemory)
+}
+
+fn refused<'a>(word: &'a str, refusal: Refusal) -> Failure<'a> {
+    Failure::Refused(Subject::Word(word), refusal)
 }
