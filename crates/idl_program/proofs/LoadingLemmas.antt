@@ -10,7 +10,7 @@ use Rattle.std.specs.Ordering.{eq_by_cmp, nat_cmp}
 use Rattle.std.specs.Set.{remove_key}
 use Rattle.std.specs.Str.{bytes_eq}
 use Rattle.idl_source.specs.Texts.{Texts}
-use Rattle.std.proofs.Common.{All, None, ◌+◌, ◌<◌, get_or, length, take}
+use Rattle.std.proofs.Common.{All, IfNone, None, ◌+◌, ◌<◌, get_or, length, take}
 use Rattle.std.proofs.lemmas.List.{take_more}
 use Rattle.std.proofs.lemmas.List.Elements.{All-push, All-weaker}
 use Rattle.std.specs.Option.{option_map}
@@ -44,20 +44,22 @@ pub list_any-moved : (name root : List ℕ) (roots : List (List ℕ)) → list_a
     → list_any (bytes_eq name) (remove_key (bytes_eq root) roots ++ root ∷ []) ≡ true
 list_any-moved name root [] there = absurd (cc)
 list_any-moved name root (r ∷ roots) there =
-    by (bytes_eq root r) (bytes_eq name r) refl refl there
+    by (bytes_eq root r) (bytes_eq name r) refl refl (λ e. list_any-moved name root roots e) there
   where
     last : (a b : Bool) → b ≡ true → (a || (b || false)) ≡ true
     last true b h = refl
     last false b h = ap (λ x. x || false) h
 
-    by : (gone same : Bool) → bytes_eq root r ≡ gone → bytes_eq name r ≡ same → (same || list_any (bytes_eq name) roots) ≡ true
+    by : (gone same : Bool) → bytes_eq root r ≡ gone → bytes_eq name r ≡ same
+        → (list_any (bytes_eq name) roots ≡ true → list_any (bytes_eq name) (remove_key (bytes_eq root) roots ++ root ∷ []) ≡ true)
+        → (same || list_any (bytes_eq name) roots) ≡ true
         → list_any (bytes_eq name) (cond gone roots (r ∷ remove_key (bytes_eq root) roots) ++ root ∷ []) ≡ true
-    by true true at is e =
+    by true true at is rest e =
         let here : bytes_eq name root ≡ true = ap (bytes_eq name) ((bytes_decides root r).0 at) ∙ is in
         list_any-append (bytes_eq name) roots (root ∷ []) ∙ last (list_any (bytes_eq name) roots) (bytes_eq name root) here
-    by true false at is e = list_any-append (bytes_eq name) roots (root ∷ []) ∙ ap (λ b. b || list_any (bytes_eq name) (root ∷ [])) e
-    by false true at is e = ap (λ b. b || list_any (bytes_eq name) (remove_key (bytes_eq root) roots ++ root ∷ [])) is
-    by false false at is e = ap (λ b. b || list_any (bytes_eq name) (remove_key (bytes_eq root) roots ++ root ∷ [])) is ∙ list_any-moved name root roots e
+    by true false at is rest e = list_any-append (bytes_eq name) roots (root ∷ []) ∙ ap (λ b. b || list_any (bytes_eq name) (root ∷ [])) e
+    by false true at is rest e = ap (λ b. b || list_any (bytes_eq name) (remove_key (bytes_eq root) roots ++ root ∷ [])) is
+    by false false at is rest e = ap (λ b. b || list_any (bytes_eq name) (remove_key (bytes_eq root) roots ++ root ∷ [])) is ∙ rest e
 
 -- one name more that was tried
 pub AreTrue-note : (told : List ℕ → Holding) (old new : Tried) (name : List ℕ) (trouble : Trouble) → AreTrue told old → (trouble ≡ Missing → Allows (told name) NoFile)
@@ -83,6 +85,9 @@ AreComplete-missing told tried inputs roots are missing =
 
 pub same-some : {X : Type 0} (x y : X) → Some x ≡ Some y → x ≡ y
 same-some x y e = cc
+
+pub when-none : {X P : Type 0} (found : Option X) → found ≡ None → IfNone found P → P
+when-none {X} {P} found e holds = subst (λ (o : Option X). IfNone o P) e holds
 
 -- what was pushed on isn't empty
 pub pushed-none : {X P : Type 0} (ys xs : List X) (x : X) → ys ≡ xs ++ x ∷ [] → ys ≡ [] → P

@@ -120,7 +120,7 @@ impl Tried {
         let mut untried = Vec::new(alloc);
         'absent: for name in absent {
             match self.troubles.get(name) {
-                None => untried.push(name.copied()).map_err(|_| no_memory(name))?,
+                None => keep_name(&mut untried, name)?,
                 Some(Trouble::Missing) => {}
                 Some(trouble) => {
                     if untried.is_empty() {
@@ -239,6 +239,16 @@ fn keep<'a>(files: &mut Vec<LoadedFile>, file: LoadedFile) -> Result<(), Failure
     match files.push(file) {
         Ok(()) => Ok(()),
         Err(failed) => Err(no_memory(&failed.value.name)),
+    }
+}
+
+// Puts a name behind others.
+fn keep_name<'a>(names: &mut Vec<Name>, name: &Name) -> Result<(), Failure<'a>>
+    ensures { OnOk result (names.new.items ≡ names.old.items ++ name.now ∷ []) }
+{
+    match names.push(name.copied()) {
+        Ok(()) => Ok(()),
+        Err(_) => Err(no_memory(name)),
     }
 }
 

@@ -9,6 +9,6 @@ words-preserved c =
     let after = c.undefine.new.session.project.inputs.macros in
     let made : after ≡ _ = ap (λ p. p.inputs.macros) c.in_ok-undefine.ensures in
     record {
-      others = c.in_ok-undefine.ensures ∙ ap (λ p. with_macros p _) c.words.invariant.others ∙ ap (with_macros c.args.session.now.project) (sym made);
+      others = c.in_ok-undefine.ensures ∙ ap (with_macros c.words.session.project) (sym made) ∙ ap (λ p. with_macros p after) c.words.invariant.others;
       macros = undefined-next (λ (w : Bor (List ℕ)). w.now) c.args.words.now c.words.word-index _ before after c.words-test.true made ∙ c.words.invariant.macros;
     }

@@ -1,5 +1,5 @@
 use Rattle.std.proofs.Common.{◌≡◌, ◌∷◌, [], ℕ, List, All, Some, take, rules, sym}
-use Rattle.std.proofs.lemmas.List.{take_all}
+use Rattle.std.proofs.lemmas.List.{nil_from_length, take_all}
 use Rattle.std.proofs.lemmas.List.Elements.{All-head, All-same}
 use Rattle.idl_workspace.specs.Compile.{compiled_root}
 use Rattle.idl_program.specs.Tried.{trouble_of}
@@ -12,7 +12,7 @@ roots-preserved c =
     let inputs = c.args.session.now.project.inputs in
     let root = c.root-item.result in
     let HasMissing = λ (r : List ℕ). All (λ name. trouble_of c.args.self.now name ≡ Some Missing) (compiled_root inputs r).absent in
-    let none : c.in_ok-names.names.items ≡ [] = search rules in
+    let none : c.in_ok-names.names.items ≡ [] = nil_from_length c.in_ok-names.names.items (search rules) in
     All-take_more HasMissing c.args.roots.now c.roots.root-index root c.roots-test.true c.root-item.is c.roots.invariant
     (All-head HasMissing root [] (c.in_ok-names.ensures none))
 

@@ -18,7 +18,7 @@ names-preserved g c =
           let lines = w.in-Ok.lines in
           let file : LoadedFile = record { name = w.copied-name.result; lines = lines } in
           let same : w.copied-name.result ≡ name = cc in
-          let pushed : c.match-loaded.files.items ≡ c.names.files.items ++ file ∷ [] = cc in
+          let pushed : c.match-loaded.files.items ≡ c.names.files.items ++ file ∷ [] = ap (λ v. v.items) w.files-is ∙ w.in_ok-keep-in-Ok.ensures in
           record {
             files = All-same (IsLoadedFile told) c.match-loaded.files.items (c.names.files.items ++ file ∷ []) pushed
                 (All-push (IsLoadedFile told) c.names.files.items file c.names.invariant.files

@@ -5,14 +5,15 @@ use Rattle.idl_program.specs.Tried.{trouble_of}
 use Rattle.idl_program.specs.declared.loading.Trouble.TheVariants.{Missing}
 use Rattle.idl_program.proofs.LoadingLemmas.{All-take_more, pushed-none}
 use Rattle.idl_program.proofs.loading.Tried.untried_among.Goals as goal
-use Rattle.idl_program.proofs.loading.Tried.untried_among.Goals.{in-None+in_ok-map_err-in-None, in-Some-Missing}
+use Rattle.idl_program.proofs.loading.Tried.untried_among.Goals.{in-None+in_ok-keep_name-in-None, in-Some-Missing}
 
 pub absent-preserved : goal.absent-preserved
 absent-preserved c =
     let names = c.args.absent.now in
     let i = c.absent.name-index in
     elim c.match-get.branch [
-      | in-None+in_ok-map_err-in-None w ↦ λ none. pushed-none c.match-get.untried.items c.absent.untried.items w.copied.result cc none
+      | in-None+in_ok-keep_name-in-None w ↦ λ none.
+          pushed-none c.match-get.untried.items c.absent.untried.items c.name-item.result (ap (λ v. v.items) w.untried-is ∙ w.in_ok-keep_name-in-None.ensures) none
       | in-Some-Missing w ↦ λ none.
           All-take_more (λ (name : List ℕ). trouble_of c.args.self.now name ≡ Some Missing) names i c.name-item.result c.absent-test.true c.name-item.is
           (c.absent.invariant (sym (ap (λ v. v.items) w.untried-is) ∙ none)) cc
