@@ -1,5 +1,5 @@
 pub mod EditLemmas
 pub mod LoadingLemmas
 pub mod OptionLemmas
-pub mod ShowLemmas
+pub mod ServedLemmas
 pub mod WordLemmas

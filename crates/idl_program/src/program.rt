@@ -1,8 +1,9 @@
 //! The program over its words and devices.
 
-ghost use Rattle.std.specs.Prelude.{◌≡◌, ◌≤◌, ◌<◌, ◌+◌, ◌-◌, ◌^◌, IfOk, OnOk};
+ghost use Rattle.std.specs.Prelude.{◌≡◌, ◌≢◌, ◌≤◌, ◌<◌, ◌+◌, ◌-◌, ◌^◌, IfOk};
 ghost use Rattle.idl_program.specs.Compiled.{IsCompiled, IsShown};
 ghost use Rattle.idl_program.specs.Loading.{AreRoots};
+ghost use Rattle.idl_program.specs.Served.{IsDone};
 
 use crate::compiling::{prepared, show_dump, show_errors};
 use crate::failure::{Failure, Status};
@@ -36,6 +37,12 @@ pub fn run_program<L: Loader, S: Source, O: Sink, E: Sink>(
     requires reads { S.failures devices.old.source < 2 ^ 64 - 1 }
     requires writes { O.failures devices.old.output < 2 ^ 64 - 1 }
     requires tells { E.failures devices.old.errors < 2 ^ 64 - 2 }
+
+    ensures done { result ≢ Status.Failed → (request : Request)
+        × IsDone (L.told devices.old.loader) (S.remaining devices.old.source)
+        (record { errors = E.written devices.old.errors; output = O.written devices.old.output })
+        (record { errors = E.written devices.new.errors; output = O.written devices.new.output })
+        result request }
 {
     match perform(alloc, words, devices) {
         Ok(status) => status,
@@ -55,6 +62,12 @@ fn perform<'a, L: Loader, S: Source, O: Sink, E: Sink>(
     requires reads { S.failures devices.old.source < 2 ^ 64 - 1 }
     requires writes { O.failures devices.old.output < 2 ^ 64 - 1 }
     requires tells { E.failures devices.old.errors < 2 ^ 64 - 2 }
+
+    ensures done { IfOk result (λ status. (request : Request)
+        × IsDone (L.told devices.old.loader) (S.remaining devices.old.source)
+        (record { errors = E.written devices.old.errors; output = O.written devices.old.output })
+        (record { errors = E.written devices.new.errors; output = O.written devices.new.output })
+        status request) }
     ensures most { E.failures devices.new.errors ≤ E.failures devices.old.errors + 1 }
 {
     match request_of(alloc, words)? {
