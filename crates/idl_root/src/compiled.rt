@@ -53,7 +53,7 @@ pub fn compile(alloc: Global, end: &Place, expansion: &Expansion) -> Result<Comp
 
 // The rows of a root whose units are all judged.
 fn told(alloc: Global, end: &Place, judging: Judging) -> Result<Compiled, AllocError>
-    ensures { IfOk result (λ compiled. compiled ≡ told end.now (held judging)) }
+    ensures { IfOk result (λ compiled. compiled ≡ told end.now (held judging.entry)) }
 {
     let is_open = judging.is_open();
     let printed = judging.printed(alloc)?;
