@@ -74,8 +74,9 @@ told end o =
           ++ (open_row end is_open_at_end ++ map (λ f. f.row) closing);
       listing = rows_beside is_faulty (flat_map (entry_row o.facts) o.listed);
       dump = rows_beside is_faulty o.rows;
+      is_faulty = is_faulty;
     }
 
--- the diagnostics, the listing and the dump of a root that expands to these events, and whose end is this place
+-- the rows of a root that expands to these events, and whose end is this place
 unfoldable pub compile : Place → List Event → Compiled
 compile end events = told end (outcome_of events)

@@ -23,6 +23,8 @@ pub struct Compiled {
     pub diagnostics: Seq<Row>,
     pub listing: Seq<Row>,
     pub dump: Seq<Row>,
+    /// Whether one of the diagnostics is an error. Others are warnings.
+    pub is_faulty: bool,
 }
 
 impl Drop for Compiled {
@@ -31,6 +33,7 @@ impl Drop for Compiled {
             diagnostics: _diagnostics,
             listing: _listing,
             dump: _dump,
+            is_faulty: _is_faulty,
         } = self;
     }
 }
@@ -69,6 +72,7 @@ fn told(alloc: Global, end: &Place, judging: Judging) -> Result<Compiled, AllocE
         diagnostics: Seq::from_vec(diagnostics),
         listing: rows_beside(alloc, is_faulty, listing),
         dump: rows_beside(alloc, is_faulty, rows),
+        is_faulty,
     })
 }
 
