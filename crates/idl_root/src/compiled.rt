@@ -92,7 +92,7 @@ fn open_rows(alloc: Global, end: &Place, is_open: bool) -> Result<Vec<Row>, Allo
 fn diagnostics(
     alloc: Global,
     findings: Vec<Finding>,
-    open: Vec<Row>,
+    mut open: Vec<Row>,
     closing: Vec<Finding>,
 ) -> Result<Vec<Row>, AllocError>
     ensures { IfOk result (λ rows. rows.items
@@ -100,9 +100,7 @@ fn diagnostics(
         ++ (open.items ++ map (λ f. f.row) closing.items)) }
 {
     let mut rows = rows_in_order(alloc, findings)?;
-    for row in open.as_slice() {
-        rows.push(row.clone()?)?;
-    }
+    rows.append(&mut open)?;
     push_rows(&mut rows, closing.as_slice())?;
     Ok(rows)
 }
