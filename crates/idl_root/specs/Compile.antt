@@ -15,8 +15,8 @@ use Rattle.idl_scope.specs.Facts.{UnitFacts, answers, scopes_in}
 use Rattle.idl_scope.specs.declared.key.Key.TheVariants.{Cursor}
 use Rattle.idl_unit.specs.Units.{units_of}
 
--- what comes of a root: the facts that its units and file boundaries add, what is found, the rows of
--- the dump, and the names that have an id, in the order in which they are declared first
+-- what comes of a root: the facts that its units and file boundaries add, what is found, the rows
+-- of the dump, and the names that have an id, in the order in which they are declared first
 pub record Outcome : Type 0 where
   pub facts : List UnitFacts
   pub found : List Finding
