@@ -61,8 +61,8 @@ module _ (turns : ℕ) (answers : Key → Option Answer) where
   declared-apart f way name w (Some s) =
       let e = entity_of w.written way name s.path in
       let query = under w.own (standing turns s e) in
-      outcome-and_then query (λ there. Done (declared_visit (with_fault f w) s e there)) answers
-      ∙ sym (ap (with_fault_after f) (outcome-and_then query (λ there. Done (declared_visit w s e there)) answers))
+      outcome-and_then query (λ there. Done (declared_visit (with_fault f w) way s e there)) answers
+      ∙ sym (ap (with_fault_after f) (outcome-and_then query (λ there. Done (declared_visit w way s e there)) answers))
 
   used-by-apart : (f : Option Fault) (way : Use) (name : ScopedName) (w : Walk) (r : Result Found NameFault) → outcome (used_by turns answers way name (with_fault f w) r) answers ≡ with_fault_after f (outcome (used_by turns answers way name w r) answers)
   used-by-apart f way name w (Ok found) =
@@ -107,6 +107,7 @@ module _ (turns : ℕ) (answers : Key → Option Answer) where
   visit-apart f (item.ScopeBegins way name) w = refl
   visit-apart f item.ScopeEnds w = end-apart f w (first w.cursor)
   visit-apart f (item.TypeEnds shape) w = refl
+  visit-apart f item.ArrayEnds w = refl
   visit-apart f (item.Enumerates names) w = refl
   visit-apart f (item.Switches discrete) w = refl
   visit-apart f item.Default w = refl

@@ -118,7 +118,7 @@ module _ (turns : ℕ) (answers : Key → Option Answer) where
   declared-found way name w None = refl
   declared-found way name w (Some s) =
       ap (λ (v : Visit). v.after.found)
-      (outcome-and_then (under w.own (standing turns s (entity_of w.written way name s.path))) (λ there. Done (declared_visit w s (entity_of w.written way name s.path) there)) answers)
+      (outcome-and_then (under w.own (standing turns s (entity_of w.written way name s.path))) (λ there. Done (declared_visit w way s (entity_of w.written way name s.path) there)) answers)
 
   -- after a used name a path more is found, where nothing is wrong with it
   abbrev FindsOne : Walk → Visit → Type 0
@@ -167,6 +167,7 @@ module _ (turns : ℕ) (answers : Key → Option Answer) where
   visit-found (item.ScopeBegins way name) w h = none-more (length w.found)
   visit-found item.ScopeEnds w h = ap length (end-found w (first_of w.cursor)) ∙ none-more (length w.found)
   visit-found (item.TypeEnds shape) w h = none-more (length w.found)
+  visit-found item.ArrayEnds w h = none-more (length w.found)
   visit-found (item.Enumerates names) w h = none-more (length w.found)
   visit-found (item.Switches discrete) w h = none-more (length w.found)
   visit-found item.Default w h = none-more (length w.found)
@@ -338,7 +339,7 @@ result-outside false (Some t) more = outside-then (type_parts t) more (type-outs
 operation-outside : (o : Operation) → StartsOutside (operation_parts o)
 operation-outside o =
     result-outside o.is_oneway o.result
-    (Part.Declares declaration.Operation o.name ∷ Part.ScopeBegins declaration.Operation o.name ∷ punctuation mark.OpenParenthesis
+    (Part.Declares (declaration.Operation o.is_oneway) o.name ∷ Part.ScopeBegins (declaration.Operation o.is_oneway) o.name ∷ punctuation mark.OpenParenthesis
     ∷ (if_some (listed (parameter_parts o.is_oneway)) o.parameters
     ++ punctuation mark.CloseParenthesis
     ∷ (if_some (raises_parts o.is_oneway) o.raises ++ (if_some context_parts o.context ++ Part.ScopeEnds ∷ []))))

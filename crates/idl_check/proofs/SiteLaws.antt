@@ -8,16 +8,19 @@ use Rattle.idl_check.specs.Codes.{Table, faults_by}
 use Rattle.idl_check.specs.Declaring.{declared_table, entity_of, standing}
 use Rattle.idl_check.specs.Judging.{spoken_from, spoken_till, walked}
 use Rattle.idl_check.specs.Labels.{is_idle, no_labels, with_default}
-use Rattle.idl_check.specs.Types.{looked_through, written_as}
+use Rattle.idl_check.specs.Bodies.{begun_body, with_body_label, with_context}
+use Rattle.idl_check.specs.Types.{looked_through, target_in, written_as}
 use Rattle.idl_check.specs.Using.{last_at, name_code, part_at, used_table, values_after}
 use Rattle.idl_check.specs.Values.{Values, begun_at, code_of, with_value}
-use Rattle.idl_check.specs.Walk.{Visit, Walk, begin_of, declared_visit, ended_scope, faulty_if, given_back, head_faults, head_of, head_visit, is_repeated, outcome_at, passed, past_name, quiet, token_of, unfound_visit, used, used_after, used_visit, value_visit, valued_after, visit, with_labels, with_oneway, with_scope}
+use Rattle.idl_check.specs.Walk.{Visit, Walk, begin_of, declared_visit, ended_array, ended_scope, faulty_if, given_back, head_faults, head_of, head_visit, is_repeated, outcome_at, passed, past_name, quiet, token_of, unfound_visit, used, used_after, used_visit, value_visit, valued_after, visit, with_labels, with_oneway, with_scope}
 use Rattle.idl_check.specs.declared.standing.Standing.{Standing}
 use Rattle.idl_event.specs.Code.{number_of}
 use Rattle.idl_event.specs.declared.code.Code.{Code}
 use Rattle.idl_event.specs.declared.code.Code.TheVariants.{BadDiscriminator, BadOneway, NoScope, RepeatedLabel, UselessDefault}
 use Rattle.idl_memo.specs.Query.{Done, and_then, outcome}
 use Rattle.idl_memo.proofs.QueryLaws.{outcome-and_then}
+use Rattle.idl_scope.specs.DataType.{plain_type}
+use Rattle.idl_scope.specs.declared.data_type.Element.TheVariants.{Constants}
 use Rattle.idl_scope.specs.Facts.{over}
 use Rattle.idl_scope.specs.Kind.{kind_eq}
 use Rattle.idl_scope.specs.Lookup.{Lookup, by_result, denoted, is_scope, under}
@@ -105,6 +108,7 @@ spoken-begin (item.ValueEnds way expression) w = omega arith
 spoken-begin (item.ScopeBegins way name) w = begin-at w
 spoken-begin item.ScopeEnds w = begin-at w
 spoken-begin (item.TypeEnds shape) w = begin-at w
+spoken-begin item.ArrayEnds w = begin-at w
 spoken-begin (item.Enumerates names) w = begin-at w
 spoken-begin (item.Switches discrete) w = begin-at w
 spoken-begin item.Default w = begin-at w
@@ -217,9 +221,9 @@ faulty-placed site w u b c number from passes same keeps = record {
   keeps = keeps;
 }
 
-declared-placed : (way : Declaration) (name : List ℕ) (w : Walk) (s : Scope) (e : Entity) (there : Standing) → IsPlaced (item.Declared way name) w (declared_visit w s e there)
+declared-placed : (way : Declaration) (name : List ℕ) (w : Walk) (s : Scope) (e : Entity) (there : Standing) → IsPlaced (item.Declared way name) w (declared_visit w way s e there)
 declared-placed way name w s e there =
-    let u = (declared_visit w s e there).after in
+    let u = (declared_visit w way s e there).after in
     record {
       passes = refl;
       begins = begin-kept w u refl (omega arith);
@@ -313,7 +317,7 @@ module _ (turns : ℕ) (answers : Key → Option Answer) where
       elim o [
         | None ↦ Done (quiet (passed 1 w))
         | Some s ↦ and_then (under w.own (standing turns s (entity_of w.written way name s.path)))
-            (λ there. Done (declared_visit w s (entity_of w.written way name s.path) there))
+            (λ there. Done (declared_visit w way s (entity_of w.written way name s.path) there))
       ]
 
   -- what is used, by what it denotes
@@ -346,7 +350,7 @@ module _ (turns : ℕ) (answers : Key → Option Answer) where
   declared-by-placed way name w (Some s) =
       let e = entity_of w.written way name s.path in
       let query = under w.own (standing turns s e) in
-      subst (IsPlaced (item.Declared way name) w) (sym (outcome-and_then query (λ there. Done (declared_visit w s e there)) answers)) (declared-placed way name w s e (outcome query answers))
+      subst (IsPlaced (item.Declared way name) w) (sym (outcome-and_then query (λ there. Done (declared_visit w way s e there)) answers)) (declared-placed way name w s e (outcome query answers))
 
   used-by-placed : (way : Use) (name : ScopedName) (w : Walk) (r : Result Found NameFault) → IsUpTo (length name.rest) r → IsPlaced (item.Used way name) w (outcome (used_by way name w r) answers)
   used-by-placed way name w (Ok found) up =
@@ -382,22 +386,24 @@ module _ (turns : ℕ) (answers : Key → Option Answer) where
   visit-placed (item.Declared way name) w = declared-by-placed way name w (first w.cursor)
   visit-placed (item.Used way name) w = named-placed way name w w.gives_back
   visit-placed (item.Joined text) w =
-      faulty-placed (item.Joined text) w (passed (item_length (item.Joined text)) w) w.gives_back BadOneway (omega arith) (omega arith) refl refl refl
+      faulty-placed (item.Joined text) w (record (passed (item_length (item.Joined text)) w) { clauses = with_context text w.clauses }) w.gives_back BadOneway (omega arith) (omega arith) refl refl refl
   visit-placed item.ValueBegins w =
       let u : Walk = record w { values = begun_at w.at w.values } in
       record { passes = omega arith; begins = omega (arith, begin-at w); within = none-within item.ValueBegins w; keeps = refl }
   visit-placed (item.ValueEnds way e) w = value-placed w way e (outcome_at w way e)
-  visit-placed (item.ScopeBegins way name) w = quiet-placed (item.ScopeBegins way name) w (record w { cursor = with_scope way name w.cursor }) (omega arith) refl refl
+  visit-placed (item.ScopeBegins way name) w = quiet-placed (item.ScopeBegins way name) w (record w { cursor = with_scope way name w.cursor; bodies = begun_body w.last w.written.data_type ∷ w.bodies }) (omega arith) refl refl
   visit-placed item.ScopeEnds w = end-placed w (first w.cursor)
   visit-placed (item.TypeEnds shape) w =
-      quiet-placed (item.TypeEnds shape) w (record w { written = record w.written { meaning = written_as shape w.values.bound } }) (omega arith) refl refl
+      let t = written_as shape w.values.bound w.written.data_type in
+      quiet-placed (item.TypeEnds shape) w (record w { written = record w.written { data_type = t; constants = target_in t } }) (omega arith) refl refl
+  visit-placed item.ArrayEnds w = quiet-placed item.ArrayEnds w (ended_array w) (omega arith) refl refl
   visit-placed (item.Enumerates names) w =
       quiet-placed (item.Enumerates names) w (record w { written = record w.written { enumerators = names.first ∷ names.rest } }) (omega arith) refl refl
   visit-placed (item.Switches discrete) w =
-      faulty-placed (item.Switches discrete) w (record w { unions = no_labels (Some (target_of discrete)) 0 ∷ w.unions }) (not (discriminates (target_of discrete))) BadDiscriminator (omega arith)
+      faulty-placed (item.Switches discrete) w (record w { written = record w.written { data_type = Some (plain_type (Constants (target_of discrete))) }; unions = no_labels (Some (target_of discrete)) 0 ∷ w.unions }) (not (discriminates (target_of discrete))) BadDiscriminator (omega arith)
       (omega arith) (omega arith) refl refl
   visit-placed item.Default w =
-      faulty-placed item.Default w (record w { unions = with_labels with_default w.unions }) (list_any (λ l. l.has_default) (take 1 w.unions)) RepeatedLabel (omega arith) (omega arith) (omega arith) refl
+      faulty-placed item.Default w (record w { unions = with_labels with_default w.unions; bodies = with_body_label None w.bodies }) (list_any (λ l. l.has_default) (take 1 w.unions)) RepeatedLabel (omega arith) (omega arith) (omega arith) refl
       refl
   visit-placed item.GivesBack w = quiet-placed item.GivesBack w (record w { gives_back = true }) (omega arith) refl refl
 

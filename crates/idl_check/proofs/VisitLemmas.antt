@@ -69,21 +69,21 @@ module _ (bank : Key → Option Answer) where
       (ap (λ o. elim o [
         | None ↦ Done (quiet (passed 1 w))
         | Some s ↦ and_then (under w.own (standing turns s (entity_of w.written way name s.path)))
-            (λ there. Done (declared_visit w s (entity_of w.written way name s.path) there))
+            (λ there. Done (declared_visit w way s (entity_of w.written way name s.path) there))
       ]) h)
 
   -- and one in a scope, by what stands there under it
   pub declared_in : (turns : ℕ) (way : Declaration) (name : List ℕ) (w : Walk) (log : List (Key × Option Answer)) (s : Scope) (there : Standing) (after : List (Key × Option Answer))
       → first w.cursor ≡ Some s → (there, after) ≡ runs_over (under w.own (standing turns s (entity_of w.written way name s.path))) log
-      → runs_over (visited turns (item.Declared way name) w) log ≡ (noted_in (declared_visit w s (entity_of w.written way name s.path) there) w.fault, after)
+      → runs_over (visited turns (item.Declared way name) w) log ≡ (noted_in (declared_visit w way s (entity_of w.written way name s.path) there) w.fault, after)
   unfolding visit
   declared_in turns way name w log s there after h gives =
       ap (λ o. runs_over (and_then (elim o [
         | None ↦ Done (quiet (passed 1 w))
         | Some s ↦ and_then (under w.own (standing turns s (entity_of w.written way name s.path)))
-            (λ there. Done (declared_visit w s (entity_of w.written way name s.path) there))
+            (λ there. Done (declared_visit w way s (entity_of w.written way name s.path) there))
       ]) (λ v. Done (noted_in v w.fault))) log) h
-      ∙ visited_by (under w.own (standing turns s (entity_of w.written way name s.path))) (declared_visit w s (entity_of w.written way name s.path)) w.fault log there after gives
+      ∙ visited_by (under w.own (standing turns s (entity_of w.written way name s.path))) (declared_visit w way s (entity_of w.written way name s.path)) w.fault log there after gives
 
   -- a used name, by what it denotes and what stands behind that
   abbrev by_found : ℕ → Use → ScopedName → Walk → Result Found NameFault → Lookup Visit

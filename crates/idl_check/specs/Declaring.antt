@@ -3,12 +3,14 @@ use Rattle.std.specs.Prelude.{ℕ, Bool, false, ◌&&◌, ◌||◌, List, [], �
 use Rattle.std.specs.Bool.{beq}
 use Rattle.std.specs.List.{list_any}
 use Rattle.std.specs.Str.{bytes_eq}
+use Rattle.idl_check.specs.Bodies.{Clauses, signature_of}
 use Rattle.idl_check.specs.Codes.{Table}
 use Rattle.idl_check.specs.Identifying.{has_other_prefix, ids_of, may_be_ahead, with_identity}
 use Rattle.idl_check.specs.declared.standing.Standing.{Standing}
 use Rattle.idl_event.specs.declared.code.Code.TheVariants.{AlreadyDeclared, NameOfScope, DeclaredAfterUse, OtherForward, InheritedTwice, OtherPrefix}
 use Rattle.idl_lex.specs.Keywords.{folded}
 use Rattle.idl_memo.specs.Query.{Done, Ask, and_then}
+use Rattle.idl_scope.specs.DataType.{plain_type}
 use Rattle.idl_scope.specs.Facts.{entity_in, entity_key, is_operation, with_addition}
 use Rattle.idl_scope.specs.Kind.{kind_eq, stage_eq}
 use Rattle.idl_scope.specs.Lookup.{Lookup, bases_of, inherits, is_scope, reached}
@@ -16,9 +18,9 @@ use Rattle.idl_scope.specs.Path.{name_of}
 use Rattle.idl_scope.specs.declared.addition.Addition.{Addition}
 use Rattle.idl_scope.specs.declared.addition.Addition.TheVariants.{Declares}
 use Rattle.idl_scope.specs.declared.answer.Scope.{Scope}
+use Rattle.idl_scope.specs.declared.data_type.DataType.{DataType}
+use Rattle.idl_scope.specs.declared.data_type.Element.TheVariants.{Named}
 use Rattle.idl_scope.specs.declared.entity.Entity.{Entity}
-use Rattle.idl_scope.specs.declared.entity.Meaning.{Meaning}
-use Rattle.idl_scope.specs.declared.entity.Meaning.TheVariants.{Named}
 use Rattle.idl_scope.specs.declared.key.Key.TheVariants.{Declared, Introduced}
 use Rattle.idl_scope.specs.declared.kind.Kind.{Kind}
 use Rattle.idl_scope.specs.declared.kind.Kind.TheVariants.{Module, Interface, Structure, Union, Exception, Enumeration, Enumerator, Alias, Native, Constant, Attribute, Operation, Parameter, Member}
@@ -26,6 +28,7 @@ use Rattle.idl_scope.specs.declared.kind.Stage.{Stage}
 use Rattle.idl_scope.specs.declared.kind.Stage.TheVariants.{Ahead, Begun, Open, Complete}
 use Rattle.idl_site.specs.declared.site.Declaration.{Declaration}
 use Rattle.idl_site.specs.declared.site.Declaration.TheVariants as declaration
+use Rattle.idl_value.specs.declared.target.Target.{Target}
 use Rattle.idl_value.specs.declared.value.Value.{Value}
 use Rattle.idl_value.specs.declared.value.Value.TheVariants as value
 
@@ -43,15 +46,23 @@ kind_of declaration.Enumerator = Enumerator
 kind_of declaration.Alias = Alias
 kind_of declaration.Native = Native
 kind_of declaration.Constant = Constant
-kind_of declaration.Attribute = Attribute
-kind_of declaration.Operation = Operation
-kind_of declaration.Parameter = Parameter
+kind_of (declaration.Attribute is_readonly) = Attribute
+kind_of (declaration.Operation is_oneway) = Operation
+kind_of (declaration.Parameter direction) = Parameter
 kind_of declaration.Member = Member
 
 abbrev pub is_local_in : Declaration → Bool
 is_local_in (declaration.Interface is_local) = is_local
 is_local_in (declaration.InterfaceAhead is_local) = is_local
 is_local_in other = false
+
+abbrev pub is_readonly_in : Declaration → Bool
+is_readonly_in (declaration.Attribute is_readonly) = is_readonly
+is_readonly_in other = false
+
+abbrev pub is_oneway_in : Declaration → Bool
+is_oneway_in (declaration.Operation is_oneway) = is_oneway
+is_oneway_in other = false
 
 -- How far it has come at its name: an interface, a struct, a union or a constant has begun, and is
 -- complete when its unit ends.
@@ -66,15 +77,23 @@ stage_of declaration.Constant = Begun
 stage_of other = Complete
 
 -- what the names that are declared next are declared with: the type that was written last, the
--- enum that was declared last, and the enumerators of the next one
+-- one that the next constant is to have a value of, the enum that was declared last, and the
+-- enumerators of the next one
 pub record Written : Type 0 where
-  pub meaning : Meaning
+  pub data_type : Option DataType
+  pub constants : Option Target
   pub enumeration : List (List ℕ)
   pub enumerators : List (List ℕ)
 
-abbrev pub meaning_in : Written → Declaration → Option Meaning
-meaning_in written declaration.Alias = Some written.meaning
-meaning_in written other = None
+-- the type that a name is declared with, if it is with one
+abbrev pub data_type_in : Written → Declaration → Option DataType
+data_type_in written declaration.Alias = written.data_type
+data_type_in written declaration.Constant = written.data_type
+data_type_in written (declaration.Attribute is_readonly) = written.data_type
+data_type_in written (declaration.Operation is_oneway) = written.data_type
+data_type_in written (declaration.Parameter direction) = written.data_type
+data_type_in written declaration.Member = written.data_type
+data_type_in written other = None
 
 abbrev pub value_in : Written → Declaration → List ℕ → Option Value
 value_in written declaration.Enumerator name = Some (value.Enumerator written.enumeration name)
@@ -90,32 +109,40 @@ entity_of written way name scope = record {
   path = name ∷ scope;
   kind = kind_of way;
   is_local = is_local_in way;
+  is_readonly = is_readonly_in way;
+  is_oneway = is_oneway_in way;
   stage = stage_of way;
   bases = [];
   operations = [];
-  meaning = meaning_in written way;
+  data_type = data_type_in written way;
   value = value_in written way name;
   enumerators = enumerators_in written way;
+  signature = None;
 }
 
 -- what is written once this name is declared: an enum is a type
 abbrev pub written_after : Written → Entity → Written
 written_after written e =
     if kind_eq e.kind Enumeration
-    then record written { meaning = Named e.path; enumeration = e.path }
+    then record written {
+      data_type = Some (plain_type (Named e.path));
+      enumeration = e.path;
+    }
     else written
 
--- it as its unit leaves it: an interface is open with these bases, and a constant has this value
-abbrev pub finished : List (List (List ℕ)) → Option Value → Entity → Entity
-finished bases v e =
+-- it as its unit leaves it: an interface is open with these bases, an attribute raises what its
+-- clauses say, and a constant has this value
+abbrev pub finished : List (List (List ℕ)) → Option Value → Clauses → Entity → Entity
+finished bases v clauses e =
     if kind_eq e.kind Interface then record e { stage = Open; bases = bases }
+    else if kind_eq e.kind Attribute
+    then record e { signature = Some (signature_of [] clauses) }
     else record e { stage = Complete; value = v }
 
 -- additions with those that finish what has begun
-abbrev pub with_finished : List (List (List ℕ)) → Option Value → List Addition → List Entity
-    → List Addition
-with_finished bases v own begun =
-    fold with_addition own (map (λ e. Declares (finished bases v e)) begun)
+abbrev pub with_finished : (Entity → Entity) → List Addition → List Entity → List Addition
+with_finished finish own begun =
+    fold with_addition own (map (λ e. Declares (finish e)) begun)
 
 -- what is inherited under a folded name in a scope, which its bases may have
 abbrev pub inherited : ℕ → Scope → List ℕ → Lookup (List Entity)

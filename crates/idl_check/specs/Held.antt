@@ -28,12 +28,14 @@ held_values values = record {
   operands = values.operands.items;
   told = values.told.items;
   bound = values.bound;
+  lengths = values.lengths.items;
   constant = values.constant;
 }
 
 abbrev pub held_written : LastWritten → Written
 held_written written = record {
-  meaning = written.meaning;
+  data_type = written.data_type;
+  constants = written.constants;
   enumeration = written.enumeration;
   enumerators = written.enumerators;
 }
@@ -46,7 +48,9 @@ held w = record {
   begun = w.begun.items;
   bases = w.bases;
   written = held_written w.written;
-  alias = w.alias;
+  last = w.last;
+  bodies = w.bodies.items;
+  clauses = w.clauses;
   unions = w.unions.items;
   gives_back = w.gives_back;
   found = w.found.items;

@@ -1,3 +1,4 @@
+pub mod Bodies
 pub mod Codes
 pub mod Types
 pub mod Labels

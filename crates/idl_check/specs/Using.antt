@@ -6,28 +6,30 @@ use Rattle.std.specs.Str.{bytes_eq}
 use Rattle.idl_base.specs.Table.{insert_entry}
 use Rattle.idl_check.specs.Codes.{Table}
 use Rattle.idl_check.specs.Labels.{Labels, no_labels}
-use Rattle.idl_check.specs.Types.{constants_of, is_incomplete, may_switch, meaning_of}
+use Rattle.idl_check.specs.Types.{constants_of, is_incomplete, may_switch}
 use Rattle.idl_check.specs.Values.{Values, with_operand}
 use Rattle.idl_event.specs.declared.code.Code.{Code}
 use Rattle.idl_event.specs.declared.code.Code.TheVariants as code
 use Rattle.idl_lex.specs.Keywords.{folded}
+use Rattle.idl_scope.specs.DataType.{plain_type}
 use Rattle.idl_scope.specs.Facts.{joined, with_addition}
 use Rattle.idl_scope.specs.Kind.{kind_eq, stage_eq}
 use Rattle.idl_scope.specs.Path.{name_of, path_eq}
 use Rattle.idl_scope.specs.declared.addition.Addition.{Addition}
 use Rattle.idl_scope.specs.declared.addition.Addition.TheVariants.{Uses}
 use Rattle.idl_scope.specs.declared.answer.Scope.{Scope}
+use Rattle.idl_scope.specs.declared.data_type.DataType.{DataType}
+use Rattle.idl_scope.specs.declared.data_type.Element.TheVariants.{Named}
 use Rattle.idl_scope.specs.declared.entity.Entity.{Entity}
-use Rattle.idl_scope.specs.declared.entity.Meaning.{Meaning}
-use Rattle.idl_scope.specs.declared.entity.Meaning.TheVariants.{Named}
 use Rattle.idl_scope.specs.declared.fault.NameCode.{NameCode}
 use Rattle.idl_scope.specs.declared.fault.NameCode.TheVariants.{Undeclared, Ambiguous, OtherSpelling, NoScope}
 use Rattle.idl_scope.specs.declared.kind.Kind.{Kind}
 use Rattle.idl_scope.specs.declared.kind.Kind.TheVariants.{Interface, Structure, Union, Exception, Enumeration, Alias, Native}
 use Rattle.idl_scope.specs.declared.kind.Stage.TheVariants.{Complete}
 use Rattle.idl_site.specs.declared.site.Use.{Use}
-use Rattle.idl_site.specs.declared.site.Use.TheVariants.{AsBase, AsType, AsElement, AsConstantType, AsDiscriminator, AsOperand, Raised}
+use Rattle.idl_site.specs.declared.site.Use.TheVariants.{AsBase, AsType, AsElement, AsConstantType, AsDiscriminator, AsOperand, Raised, RaisedBySet}
 use Rattle.idl_tree.specs.declared.name.ScopedName.{ScopedName}
+use Rattle.idl_value.specs.declared.target.Target.{Target}
 use Rattle.idl_value.specs.declared.value.Value.{Value}
 
 -- the number of a name's part, where the name begins at this token
@@ -63,6 +65,7 @@ suits AsConstantType e = is_type e.kind
 suits AsDiscriminator e = is_type e.kind
 suits AsOperand e = is_some e.value
 suits Raised e = kind_eq e.kind Exception
+suits RaisedBySet e = kind_eq e.kind Exception
 
 -- the bases that were named so far: their paths, and those of the operations and attributes that
 -- they bring, by the folded names
@@ -120,11 +123,23 @@ abbrev pub bases_after : Use → Entity → Bases → Bases
 bases_after (AsBase is_local) e bases = with_base e bases
 bases_after other e bases = bases
 
--- the type that is written once a name is used so and denotes this, behind which that stands
-abbrev pub meaning_after : Use → Entity → Entity → Meaning → Meaning
-meaning_after AsType e behind before = Named e.path
-meaning_after AsConstantType e behind before = meaning_of (constants_of behind)
-meaning_after other e behind before = before
+-- a name that is used so is that of a type
+abbrev pub is_type_use : Use → Bool
+is_type_use AsType = true
+is_type_use AsElement = true
+is_type_use AsConstantType = true
+is_type_use AsDiscriminator = true
+is_type_use other = false
+
+-- the type that is written once a name is used so and denotes this
+abbrev pub type_after : Use → Entity → Option DataType → Option DataType
+type_after way e before =
+    if is_type_use way then Some (plain_type (Named e.path)) else before
+
+-- the type that the next constant has, where that stands behind the name
+abbrev pub constants_after : Use → Entity → Option Target → Option Target
+constants_after AsConstantType behind before = constants_of behind
+constants_after other behind before = before
 
 -- the values of an expression's names, and the unions, innermost first, after such a name
 abbrev pub values_after : Use → Option Value → Values → Values

@@ -1,5 +1,5 @@
 -- The expressions of a unit: what is known while one is read, and what it comes to at its end.
-use Rattle.std.specs.Prelude.{ℕ, ◌^◌, pos, List, [], ◌∷◌, ◌++◌, Option, None, Some, nat_lt, if◌then◌else◌}
+use Rattle.std.specs.Prelude.{ℕ, ◌^◌, pos, List, [], ◌∷◌, ◌++◌, Option, None, Some, nat_lt, option_to_list, if◌then◌else◌}
 use Rattle.idl_event.specs.declared.code.Code.{Code}
 use Rattle.idl_event.specs.declared.code.Code.TheVariants as code
 use Rattle.idl_tree.specs.declared.expression.Expression.{Expression}
@@ -22,13 +22,21 @@ pub record Values : Type 0 where
   pub operands : Operands
   -- those of the expressions before, in order
   pub told : List Value
-  -- the last bound
+  -- the last bound, and the lengths of an array so far
   pub bound : Option ℕ
+  pub lengths : List ℕ
   -- the value of a constant
   pub constant : Option Value
 
 abbrev pub no_values : Values
-no_values = record { begin = None; operands = []; told = []; bound = None; constant = None }
+no_values = record {
+  begin = None;
+  operands = [];
+  told = [];
+  bound = None;
+  lengths = [];
+  constant = None;
+}
 
 -- where an expression begins, and behind its end
 abbrev pub begun_at : ℕ → Values → Values
@@ -66,7 +74,8 @@ number_of other = None
 abbrev pub told_as : Purpose → Value → Values → Values
 told_as purpose.Bound v values = record values { bound = number_of v }
 told_as purpose.Constant v values = record values { constant = Some v }
-told_as purpose.Length v values = values
+told_as purpose.Length v values =
+    record values { lengths = values.lengths ++ option_to_list (number_of v) }
 told_as purpose.Label v values = values
 
 abbrev pub with_value : Purpose → Value → Values → Values

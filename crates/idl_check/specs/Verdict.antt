@@ -1,7 +1,8 @@
 -- The verdict of a unit: its fault, what it adds, and its row in the dump. A fault is found in
 -- three steps: the rules of tokens, the tree, and the rules over tree and names.
 use Rattle.std.specs.Prelude.{ℕ, Bool, suc, ◌-◌, List, [], ◌∷◌, ◌++◌, length, false, Option, None, Some, Result, Ok, if◌then◌else◌}
-use Rattle.idl_check.specs.Declaring.{with_finished}
+use Rattle.idl_check.specs.Bodies.{raising}
+use Rattle.idl_check.specs.Declaring.{finished, with_finished}
 use Rattle.idl_check.specs.Placing.{depth, faulty_step, is_misplaced, opened_kind, opening_faults, step_of}
 use Rattle.idl_check.specs.Pragmas.{Said, said_by}
 use Rattle.idl_check.specs.Row.{Rest, row_of}
@@ -62,7 +63,9 @@ abbrev pub sound : List Token → List Scope → Tree → Walk → Verdict
 sound tokens scopes tree w = record {
   fault = None;
   writes = record {
-    additions = with_finished w.bases.paths w.values.constant w.own w.begun;
+    additions =
+        with_finished (finished w.bases.paths w.values.constant w.clauses) w.own
+        (w.begun ++ raising w.last w.clauses);
     step = step_of tree (path_around scopes);
   };
   row = Some (row_of (row_depth tree scopes) (items (unit_parts tree)) (rest_of tokens w));

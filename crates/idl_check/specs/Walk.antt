@@ -1,30 +1,32 @@
 -- The walk over the sites of a unit, in the order of its tokens: what is asked at each, what is
 -- wrong there, and what it adds.
-use Rattle.std.specs.Prelude.{ℕ, ◌+◌, Bool, true, false, ◌&&◌, List, [], ◌∷◌, ◌++◌, drop, is_some, min, nat_lt, not, take, Option, None, Some, Result, Ok, Err, if◌then◌else◌, option_to_list}
+use Rattle.std.specs.Prelude.{ℕ, ◌+◌, Bool, true, false, ◌&&◌, ◌||◌, List, [], ◌∷◌, ◌++◌, drop, flat_map, is_some, min, nat_lt, not, take, Option, None, Some, Result, Ok, Err, if◌then◌else◌, option_to_list}
 use Rattle.std.specs.List.{list_any}
+use Rattle.idl_check.specs.Bodies.{Body, Clauses, array_of, begun_body, no_clauses, told_body, with_array_member, with_body_label, with_context, with_member, with_raised}
 use Rattle.idl_check.specs.Codes.{faults_by}
 use Rattle.idl_check.specs.Declaring.{Written, declared_table, entity_of, kind_of, standing, with_declared, written_after}
 use Rattle.idl_check.specs.Labels.{Labels, is_idle, is_labelled, no_labels, with_default, with_label}
 use Rattle.idl_check.specs.Types.{looked_through, target_in, written_as}
-use Rattle.idl_check.specs.Using.{Bases, bases_after, last_at, meaning_after, name_code, part_at, unions_after, used_table, values_after, with_uses}
+use Rattle.idl_check.specs.Using.{Bases, bases_after, constants_after, last_at, name_code, part_at, type_after, unions_after, used_table, values_after, with_uses}
 use Rattle.idl_check.specs.Values.{Values, begun_at, code_of, no_values, outcome_for, with_value}
 use Rattle.idl_check.specs.declared.standing.Standing.{Standing}
 use Rattle.idl_event.specs.declared.code.Code.{Code}
 use Rattle.idl_event.specs.declared.code.Code.TheVariants as code
 use Rattle.idl_lex.specs.Keywords.{folded}
 use Rattle.idl_memo.specs.Query.{Done, and_then}
+use Rattle.idl_scope.specs.DataType.{plain_type}
 use Rattle.idl_scope.specs.Facts.{with_addition}
 use Rattle.idl_scope.specs.Kind.{kind_eq, stage_eq}
 use Rattle.idl_scope.specs.Lookup.{Lookup, by_result, denoted, is_scope, under}
 use Rattle.idl_scope.specs.declared.addition.Addition.{Addition}
 use Rattle.idl_scope.specs.declared.addition.Addition.TheVariants.{Declares}
 use Rattle.idl_scope.specs.declared.answer.Scope.{Scope}
+use Rattle.idl_scope.specs.declared.data_type.Element.TheVariants.{Constants, Named}
 use Rattle.idl_scope.specs.declared.entity.Entity.{Entity}
-use Rattle.idl_scope.specs.declared.entity.Meaning.TheVariants.{Named, Other}
 use Rattle.idl_scope.specs.declared.fault.NameFault.{NameFault}
 use Rattle.idl_scope.specs.declared.fault.NameFault.TheVariants.{At, Memory}
 use Rattle.idl_scope.specs.declared.found.Found.{Found}
-use Rattle.idl_scope.specs.declared.kind.Kind.TheVariants.{Alias, Union}
+use Rattle.idl_scope.specs.declared.kind.Kind.TheVariants.{Constant, Interface, Union}
 use Rattle.idl_scope.specs.declared.kind.Stage.TheVariants.{Begun}
 use Rattle.idl_site.specs.Item.{Item, item_length, Item as item}
 use Rattle.idl_site.specs.declared.site.Declaration.{Declaration}
@@ -53,9 +55,12 @@ pub record Walk : Type 0 where
   pub own : List Addition
   pub begun : List Entity
   pub bases : Bases
-  -- what the next names are declared with, and the name of a typedef that was declared last
+  -- what the next names are declared with, what was declared last, the scopes of the unit that it
+  -- stands in, the innermost first, and what the clauses behind an operation or attribute say
   pub written : Written
-  pub alias : Option Entity
+  pub last : Option Entity
+  pub bodies : List Body
+  pub clauses : Clauses
   -- the labels of the unions around it, the innermost first
   pub unions : List Labels
   -- what the next token begins is given back by a oneway operation
@@ -75,8 +80,10 @@ first_walk cursor = record {
   own = [];
   begun = [];
   bases = record { paths = []; operations = [] };
-  written = record { meaning = Other; enumeration = []; enumerators = [] };
-  alias = None;
+  written = record { data_type = None; constants = None; enumeration = []; enumerators = [] };
+  last = None;
+  bodies = [];
+  clauses = no_clauses;
   unions = [];
   gives_back = false;
   found = [];
@@ -104,16 +111,22 @@ faulty_if is_faulty why w after = record {
   after = after;
 }
 
+-- the unit's end finishes an interface or a constant that has begun
+abbrev pub is_begun : Entity → Bool
+is_begun e =
+    stage_eq e.stage Begun && (kind_eq e.kind Interface || kind_eq e.kind Constant)
+
 -- a declared name, by what stands under it in its scope
-abbrev pub declared_visit : Walk → Scope → Entity → Standing → Visit
-declared_visit w s e standing = record {
+abbrev pub declared_visit : Walk → Declaration → Scope → Entity → Standing → Visit
+declared_visit w way s e standing = record {
   faults = faults_by w.at (declared_table s standing e);
   after = record w {
     at = w.at + 1;
     own = with_declared standing e w.own;
-    begun = w.begun ++ (if stage_eq e.stage Begun then e ∷ [] else []);
+    begun = w.begun ++ (if is_begun e then e ∷ [] else []);
     written = written_after w.written e;
-    alias = if kind_eq e.kind Alias then Some e else w.alias;
+    last = Some e;
+    bodies = with_member way e w.bodies;
   };
 }
 
@@ -124,8 +137,10 @@ used_after w way name found behind = record w {
   own = with_uses (folded name.first) (take found.reach w.cursor) w.own;
   bases = bases_after way found.entity w.bases;
   written = record w.written {
-    meaning = meaning_after way found.entity behind w.written.meaning;
+    data_type = type_after way found.entity w.written.data_type;
+    constants = constants_after way behind w.written.constants;
   };
+  clauses = with_raised way found.entity.path w.clauses;
   unions = unions_after way behind w.unions;
   gives_back = false;
   found = w.found ++ found.entity.path ∷ [];
@@ -200,13 +215,18 @@ with_scope way name [] = []
 with_scope way name (s ∷ scopes) =
     record { path = name ∷ s.path; kind = kind_of way; body = 1 } ∷ s ∷ scopes
 
--- It ends: it is a type from then on. The labels of a union are complete.
+-- It ends: it is a type from then on, and what it is of is finished by the unit's end. The labels of
+-- a union are complete.
 abbrev pub ended_scope : Walk → Walk
 ended_scope w = record w {
   cursor = drop 1 w.cursor;
+  begun = w.begun ++ flat_map (told_body w.clauses) (take 1 w.bodies);
   written =
-      elim (first w.cursor)
-      [ None ↦ w.written | Some s ↦ record w.written { meaning = Named s.path } ];
+      elim (first w.cursor) [
+        | None ↦ w.written
+        | Some s ↦ record w.written { data_type = Some (plain_type (Named s.path)) }
+      ];
+  bodies = drop 1 w.bodies;
 }
 
 abbrev pub scope_visit : Walk → Visit
@@ -230,15 +250,24 @@ abbrev pub label_target : List Labels → Option Target
 label_target [] = None
 label_target (labels ∷ unions) = labels.target
 
--- the name of a typedef is that of an array
-abbrev pub with_array : Option Entity → List Addition → List Addition
-with_array None own = own
-with_array (Some e) own = with_addition own (Declares (record e { meaning = Some Other }))
+-- what was declared last is an array of the lengths that were told
+abbrev pub with_array : List ℕ → Option Entity → List Addition → List Addition
+with_array lengths None own = own
+with_array lengths (Some e) own = with_addition own (Declares (array_of lengths e))
+
+abbrev pub ended_array : Walk → Walk
+ended_array w = record w {
+  own = with_array w.values.lengths w.last w.own;
+  bodies = with_array_member w.values.lengths w.last w.bodies;
+  values = record w.values { lengths = [] };
+}
 
 -- an expression that is for this and has this value
 abbrev pub valued_after : Walk → Purpose → Value → Walk
-valued_after w purpose.Label v = record w { unions = with_labels (λ l. with_label l v) w.unions }
-valued_after w purpose.Length v = record w { own = with_array w.alias w.own }
+valued_after w purpose.Label v = record w {
+  unions = with_labels (λ l. with_label l v) w.unions;
+  bodies = with_body_label (Some v) w.bodies;
+}
 valued_after w other v = w
 
 abbrev pub is_repeated : Walk → Purpose → Value → Bool
@@ -267,8 +296,7 @@ value_visit w way outcome.Told =
 -- what it comes to
 abbrev pub outcome_at : Walk → Purpose → Expression → Outcome
 outcome_at w way e =
-    outcome_for way (target_in (Some w.written.meaning)) (label_target w.unions)
-    w.values.operands e
+    outcome_for way w.written.constants (label_target w.unions) w.values.operands e
 
 -- a site
 unfoldable pub visit : ℕ → Item → Walk → Lookup Visit
@@ -276,20 +304,25 @@ visit turns (item.Declared way name) w =
     elim (first w.cursor) [
       | None ↦ Done (quiet (passed 1 w))
       | Some s ↦ let e = entity_of w.written way name s.path in
-          and_then (under w.own (standing turns s e)) (λ there. Done (declared_visit w s e there))
+          and_then (under w.own (standing turns s e)) (λ there. Done (declared_visit w way s e there))
     ]
 visit turns (item.Used way name) w =
     if w.gives_back then given_back turns way name w else used turns way name w
 visit turns (item.ScopeBegins way name) w =
-    Done (quiet (record w { cursor = with_scope way name w.cursor }))
+    Done (quiet (record w {
+      cursor = with_scope way name w.cursor;
+      bodies = begun_body w.last w.written.data_type ∷ w.bodies;
+    }))
 visit turns item.ScopeEnds w = Done (scope_visit w)
 visit turns item.ValueBegins w = Done (quiet (record w { values = begun_at w.at w.values }))
 visit turns (item.ValueEnds way expression) w =
     Done (value_visit w way (outcome_at w way expression))
 visit turns (item.TypeEnds shape) w =
+    let t = written_as shape w.values.bound w.written.data_type in
     Done (quiet (record w {
-      written = record w.written { meaning = written_as shape w.values.bound };
+      written = record w.written { data_type = t; constants = target_in t };
     }))
+visit turns item.ArrayEnds w = Done (quiet (ended_array w))
 visit turns (item.Enumerates names) w =
     Done (quiet (record w {
       written = record w.written { enumerators = names.first ∷ names.rest };
@@ -297,15 +330,24 @@ visit turns (item.Enumerates names) w =
 visit turns (item.Switches discrete) w =
     let t = target_of discrete in
     Done (faulty_if (not (discriminates t)) code.BadDiscriminator w
-    (record w { unions = no_labels (Some t) 0 ∷ w.unions }))
+    (record w {
+      written = record w.written { data_type = Some (plain_type (Constants t)) };
+      unions = no_labels (Some t) 0 ∷ w.unions;
+    }))
 visit turns item.Default w =
     Done (faulty_if (list_any (λ l. l.has_default) (take 1 w.unions)) code.RepeatedLabel w
-    (record w { unions = with_labels with_default w.unions }))
+    (record w {
+      unions = with_labels with_default w.unions;
+      bodies = with_body_label None w.bodies;
+    }))
 visit turns item.GivesBack w = Done (quiet (record w { gives_back = true }))
 visit turns (item.Tokens n) w =
     Done (faulty_if w.gives_back code.BadOneway w (passed n w))
 visit turns (item.Joined text) w =
-    Done (faulty_if w.gives_back code.BadOneway w (passed (item_length (item.Joined text)) w))
+    Done (faulty_if w.gives_back code.BadOneway w
+    (record (passed (item_length (item.Joined text)) w) {
+      clauses = with_context text w.clauses;
+    }))
 
 -- after a site: the least of its faults and of the one before
 abbrev pub noted : Option Fault → List Fault → Option Fault

@@ -1,14 +1,17 @@
 //! Declared names: what they are declared as, and what is wrong with that.
 
-ghost use Rattle.std.specs.Prelude.{◌≡◌, ◌∷◌, [], IfOk, IfSome, OnOk, Some};
-ghost use Rattle.idl_check.specs.Declaring.{are_modules, come_ahead, declared_table, differs, entity_of, enumerators_in, finished, is_local_in, is_name_of_scope, kind_of, may_follow, meaning_in, stage_of, stays, value_in, written_after};
+ghost use Rattle.std.specs.Prelude.{◌≡◌, ◌∷◌, [], IfOk, IfSome, None, OnOk, Some};
+ghost use Rattle.idl_check.specs.Declaring.{are_modules, come_ahead, data_type_in, declared_table, differs, entity_of, enumerators_in, finished, is_local_in, is_name_of_scope, is_oneway_in, is_readonly_in, kind_of, may_follow, stage_of, stays, value_in, written_after};
 ghost use Rattle.idl_check.specs.Held.{held_written};
+ghost use Rattle.idl_check.specs.Bodies.{array_of};
+ghost use Rattle.idl_scope.specs.DataType.{plain_type};
+ghost use Rattle.idl_scope.specs.declared.data_type.Element.TheVariants.{Named};
 ghost use Rattle.idl_check.specs.Identifying.{may_be_ahead};
-ghost use Rattle.idl_scope.specs.declared.entity.Meaning.TheVariants as meaning;
 ghost use Rattle.idl_check.specs.Codes.{codes_in};
 ghost use Rattle.idl_scope.specs.Path.{path_eq};
 ghost use Rattle.idl_unit.specs.TokenRules.{first};
 
+use crate::bodies::Clauses;
 use crate::codes::first_code;
 use crate::identifying::{is_of_other_prefix, may_be_ahead};
 use crate::standing::Standing;
@@ -16,9 +19,11 @@ use crate::types::names_of;
 use idl_base::Seq;
 use idl_event::Code;
 use idl_lex::Spelling;
-use idl_scope::{Addition, Entity, Facts, Kind, Meaning, Path, Scope, Shared, Stage, shared_name};
+use idl_scope::{
+    Addition, DataType, Element, Entity, Facts, Kind, Path, Scope, Shared, Stage, shared_name,
+};
 use idl_site::Declaration;
-use idl_value::Value;
+use idl_value::{Target, Value};
 use std::alloc::{AllocError, Global};
 
 /// What is declared.
@@ -36,9 +41,9 @@ pub fn kind_of(way: Declaration) -> Kind
         Declaration::Alias => Kind::Alias,
         Declaration::Native => Kind::Native,
         Declaration::Constant => Kind::Constant,
-        Declaration::Attribute => Kind::Attribute,
-        Declaration::Operation => Kind::Operation,
-        Declaration::Parameter => Kind::Parameter,
+        Declaration::Attribute(_) => Kind::Attribute,
+        Declaration::Operation(_) => Kind::Operation,
+        Declaration::Parameter(_) => Kind::Parameter,
         Declaration::Member => Kind::Member,
     }
 }
@@ -49,6 +54,26 @@ fn is_local_in(way: Declaration) -> bool
 {
     match way {
         Declaration::Interface(is_local) | Declaration::InterfaceAhead(is_local) => is_local,
+        _ => false,
+    }
+}
+
+// Whether it is an attribute that is declared readonly.
+fn is_readonly_in(way: Declaration) -> bool
+    ensures { result ≡ is_readonly_in way }
+{
+    match way {
+        Declaration::Attribute(is_readonly) => is_readonly,
+        _ => false,
+    }
+}
+
+// Whether it is an operation that is declared oneway.
+fn is_oneway_in(way: Declaration) -> bool
+    ensures { result ≡ is_oneway_in way }
+{
+    match way {
+        Declaration::Operation(is_oneway) => is_oneway,
         _ => false,
     }
 }
@@ -69,10 +94,21 @@ fn stage_of(way: Declaration) -> Stage
     }
 }
 
+/// What the end of a unit leaves: the bases of an interface, the value of a constant, and what the
+/// clauses of an attribute say.
+#[derive(Clone, Copy)]
+pub struct Ending<'a> {
+    pub bases: &'a Seq<Path>,
+    pub value: &'a Option<Value>,
+    pub clauses: &'a Clauses,
+}
+
 /// What the names that are declared next are declared with.
 pub struct Written {
     /// The type that was written last.
-    pub meaning: Meaning,
+    pub data_type: Option<Shared<DataType>>,
+    /// The type that the next constant is to have a value of, if constants may be of it.
+    pub constants: Option<Target>,
     /// The path of the enum that was declared last.
     pub enumeration: Seq<Spelling>,
     /// The enumerators of the next enum.
@@ -82,7 +118,8 @@ pub struct Written {
 impl Drop for Written {
     fn drop(self) {
         let Written {
-            meaning: _meaning,
+            data_type: _data_type,
+            constants: _constants,
             enumeration: _enumeration,
             enumerators: _enumerators,
         } = self;
@@ -93,21 +130,32 @@ impl Written {
     /// Before the first name. It takes no memory.
     pub fn new(alloc: Global) -> Written
         ensures { held_written result
-            ≡ record { meaning = meaning.Other; enumeration = []; enumerators = [] } }
+            ≡ record {
+              data_type = None;
+              constants = None;
+              enumeration = [];
+              enumerators = [];
+            } }
     {
         Written {
-            meaning: Meaning::Other,
+            data_type: None,
+            constants: None,
             enumeration: Seq::new(alloc),
             enumerators: Seq::new(alloc),
         }
     }
 
-    // What the name of a typedef stands for.
-    fn meaning(&self, way: Declaration) -> Result<Option<Meaning>, AllocError>
-        ensures { IfOk result (λ meaning. meaning ≡ meaning_in (held_written self.now) way) }
+    // The type that a name is declared with.
+    fn data_type(&self, way: Declaration) -> Result<Option<Shared<DataType>>, AllocError>
+        ensures { IfOk result (λ t. t ≡ data_type_in (held_written self.now) way) }
     {
         match way {
-            Declaration::Alias => Ok(Some(self.meaning.clone()?)),
+            Declaration::Alias
+            | Declaration::Constant
+            | Declaration::Attribute(_)
+            | Declaration::Operation(_)
+            | Declaration::Parameter(_)
+            | Declaration::Member => self.data_type.clone(),
             _ => Ok(None),
         }
     }
@@ -147,19 +195,22 @@ impl Written {
             entity ≡ entity_of (held_written self.now) way name.now scope.now) }
     {
         let path = scope.child(alloc, name)?;
-        let meaning = self.meaning(way)?;
+        let data_type = self.data_type(way)?;
         let value = self.value(way, name)?;
         let enumerators = self.enumerators(alloc, way)?;
         let entity = Entity {
             path,
             kind: kind_of(way),
             is_local: is_local_in(way),
+            is_readonly: is_readonly_in(way),
+            is_oneway: is_oneway_in(way),
             stage: stage_of(way),
             bases: Seq::new(alloc),
             operations: Seq::new(alloc),
-            meaning,
+            data_type,
             value,
             enumerators,
+            signature: None,
         };
         Shared::new(alloc, entity)
     }
@@ -172,8 +223,21 @@ impl Written {
         if entity.kind != Kind::Enumeration {
             return Ok(());
         }
-        self.meaning = Meaning::Named(entity.path.clone()?);
+        self.name_type(alloc, &entity.path)?;
         self.enumeration = names_of(alloc, &entity.path)?;
+        Ok(())
+    }
+
+    /// What is declared at a path is the type that was written last.
+    pub fn name_type(&mut self, alloc: Global, path: &Path) -> Result<(), AllocError>
+        ensures { OnOk result
+            (held_written self.new
+            ≡ record (held_written self.old) {
+              data_type = Some (plain_type (Named path.now));
+            }) }
+    {
+        let element = Element::Named(path.clone()?);
+        self.data_type = Some(DataType::plain(alloc, element)?);
         Ok(())
     }
 }
@@ -215,48 +279,49 @@ fn is_child(path: &Path, name: &[u8], scope: &Path) -> bool
     }
 }
 
-/// An entity that has begun, as its unit leaves it: an interface is open with these bases, and a
-/// constant has this value.
+/// An entity that has begun, as its unit leaves it: an interface is open with these bases, an
+/// attribute raises what its clauses say, and a constant has this value.
 pub fn finished(
     alloc: Global,
-    bases: &Seq<Path>,
-    value: &Option<Value>,
+    ending: Ending<'_>,
     begun: &Entity,
 ) -> Result<Shared<Entity>, AllocError>
-    ensures { IfOk result (λ entity. entity ≡ finished bases.now value.now begun.now) }
+    ensures { IfOk result (λ entity.
+        entity
+        ≡ finished ending.entry.bases.now ending.entry.value.now ending.entry.clauses.now
+        begun.now) }
 {
     let mut entity = begun.clone()?;
-    if begun.kind == Kind::Interface {
-        entity.stage = Stage::Open;
-        entity.bases = bases.clone()?;
-        return Shared::new(alloc, entity);
+    match begun.kind {
+        Kind::Interface => {
+            entity.stage = Stage::Open;
+            entity.bases = ending.bases.clone()?;
+        }
+        Kind::Attribute => {
+            let members = Vec::new(alloc);
+            entity.signature = Some(ending.clauses.signature(alloc, members)?);
+        }
+        _ => {
+            entity.stage = Stage::Complete;
+            entity.value = ending.value.clone()?;
+        }
     }
-    entity.stage = Stage::Complete;
-    entity.value = value.clone()?;
     Shared::new(alloc, entity)
 }
 
-/// The name of a typedef as that of an array.
-pub fn array_of(alloc: Global, alias: &Entity) -> Result<Shared<Entity>, AllocError>
-    ensures { IfOk result (λ entity. entity ≡ record alias.now { meaning = Some meaning.Other }) }
+/// An entity as an array of these lengths, if it has a type.
+pub fn array_of(
+    alloc: Global,
+    entity: &Entity,
+    lengths: &[u32],
+) -> Result<Shared<Entity>, AllocError>
+    ensures { IfOk result (λ array. array ≡ array_of lengths.now entity.now) }
 {
-    let path = alias.path.clone()?;
-    let bases = alias.bases.clone()?;
-    let operations = alias.operations.clone()?;
-    let value = alias.value.clone()?;
-    let enumerators = alias.enumerators.clone()?;
-    let entity = Entity {
-        path,
-        kind: alias.kind,
-        is_local: alias.is_local,
-        stage: alias.stage,
-        bases,
-        operations,
-        meaning: Some(Meaning::Other),
-        value,
-        enumerators,
-    };
-    Shared::new(alloc, entity)
+    let mut array = entity.clone()?;
+    if let Some(element) = &entity.data_type {
+        array.data_type = Some(element.get().in_arrays(alloc, lengths)?);
+    }
+    Shared::new(alloc, array)
 }
 
 // Whether one of them is declared ahead, and both may be.

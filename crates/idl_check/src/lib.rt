@@ -7,6 +7,7 @@
 #![tactic(auto)]
 
 mod bases;
+mod bodies;
 mod codes;
 mod declaring;
 mod identifying;

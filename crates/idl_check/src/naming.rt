@@ -6,33 +6,31 @@ ghost use Rattle.idl_check.specs.Identifying.{with_identity};
 ghost use Rattle.idl_scope.specs.declared.addition.Addition.TheVariants.{Declares};
 ghost use Rattle.idl_check.specs.Held.{HasRoomFor, given_noted, head_noted, held, held_values, held_written, used_noted, visited};
 ghost use Rattle.idl_check.specs.Types.{constants_of};
-ghost use Rattle.idl_check.specs.Using.{bases_after, last_at, meaning_after, name_code, part_at, unions_after, values_after};
-ghost use Rattle.idl_check.specs.Walk.{declared_visit, noted, noted_in, unions_without, used_visit};
+ghost use Rattle.idl_check.specs.Using.{bases_after, constants_after, last_at, name_code, part_at, type_after, unions_after, values_after};
+ghost use Rattle.idl_check.specs.Walk.{declared_visit, is_begun, noted, noted_in, unions_without, used_visit};
 ghost use Rattle.idl_memo.specs.Query.{run};
 ghost use Rattle.idl_scope.specs.Facts.{answers, with_addition};
 ghost use Rattle.idl_scope.specs.Key.{key_eq};
-ghost use Rattle.idl_scope.specs.Kind.{kind_eq, stage_eq};
-ghost use Rattle.idl_scope.specs.declared.kind.Kind.TheVariants.{Alias};
-ghost use Rattle.idl_scope.specs.declared.kind.Stage.TheVariants.{Begun};
 ghost use Rattle.idl_scope.specs.declared.lookup.TheConstants.{TURNS};
 ghost use Rattle.idl_site.specs.Item.{item_length};
 ghost use Rattle.idl_site.specs.Item.{Item as item};
 ghost use Rattle.idl_unit.specs.TokenRules.{fault_at};
 
 use crate::bases::Bases;
+use crate::bodies::declare_member;
 use crate::declaring::{declared_code, stays};
 use crate::identifying::first_identity;
 use crate::labels::Labels;
 use crate::part::front;
 use crate::standing::{Standing, standing_of};
-use crate::types::{constants_of, looked_through, meaning_of};
+use crate::types::{constants_of, looked_through};
 use crate::using::{Denoted, Denoting, introduce, last_at, name_code, part_at, used_code};
 use crate::walk::Walker;
 use idl_base::{Seq, Text};
 use idl_event::Code;
 use idl_memo::Log;
 use idl_scope::{
-    Addition, Entity, Env, Facts, Found, Kind, Meaning, NameCode, NameFault, Scope, Shared, Stage,
+    Addition, Entity, Env, Facts, Found, Kind, NameCode, NameFault, Scope, Shared, Stage,
     Standpoint, resolve, shared_name,
 };
 use idl_site::{Declaration, Use};
@@ -67,13 +65,14 @@ impl<'a> Walker<'a> {
         let spelled = shared_name(alloc, name.as_bytes())?;
         let entity = self.written.entity(alloc, way, &spelled, &scope.path)?;
         let standing = standing_of(self.view(), log, &scope, entity.get())?;
-        self.declare_as(&scope, entity, &standing)?;
+        self.declare_as(way, &scope, entity, &standing)?;
         Ok(())
     }
 
     // A declared name, by what stands under it in its scope.
     fn declare_as(
         &mut self,
+        way: Declaration,
         scope: &Scope,
         entity: Shared<Entity>,
         standing: &Standing,
@@ -81,7 +80,7 @@ impl<'a> Walker<'a> {
         requires { self.old.at + 1 ≤ 18446744073709551615 }
         ensures visit { OnOk result
             (held self.new
-            ≡ noted_in (declared_visit (held self.old) scope.now entity standing.now)
+            ≡ noted_in (declared_visit (held self.old) way scope.now entity standing.now)
             self.old.fault) }
         ensures env { OnOk result (self.new.env.now ≡ self.old.env.now) }
     {
@@ -90,7 +89,8 @@ impl<'a> Walker<'a> {
         self.at += 1;
         keep_begun(&mut self.begun, &entity)?;
         self.written.declare(self.env.alloc(), entity.get())?;
-        keep_alias(&mut self.alias, &entity)?;
+        declare_member(self.env.alloc(), &mut self.bodies, way, entity.get())?;
+        keep_last(&mut self.last, &entity)?;
         add_identity(self.env.alloc(), &mut self.own, standing, entity.get())?;
         add_declared(&mut self.own, &standing.there, entity)?;
         Ok(())
@@ -293,6 +293,7 @@ impl<'a> Walker<'a> {
         };
         introduce(alloc, &mut self.own, used, scopes)?;
         self.found.push(entity.path.clone()?)?;
+        self.clauses.add_raised(way, &entity.path)?;
         self.follow(way, entity, behind, constants)?;
         Ok(())
     }
@@ -311,7 +312,8 @@ impl<'a> Walker<'a> {
             ≡ record (held self.old) {
               bases = bases_after way entity.now self.old.bases;
               written = record (held_written self.old.written) {
-                meaning = meaning_after way entity.now behind.now self.old.written.meaning;
+                data_type = type_after way entity.now self.old.written.data_type;
+                constants = constants_after way behind.now self.old.written.constants;
               };
               unions = unions_after way behind.now self.old.unions.items;
               values = values_after way entity.now.value (held_values self.old.values);
@@ -320,47 +322,52 @@ impl<'a> Walker<'a> {
     {
         match way {
             Use::AsBase(_) => self.bases.add(self.env.alloc(), entity),
-            Use::AsType => {
-                self.written.meaning = Meaning::Named(entity.path.clone()?);
-                Ok(())
+            Use::AsType | Use::AsElement => {
+                self.written.name_type(self.env.alloc(), &entity.path)
             }
             Use::AsConstantType => {
-                self.written.meaning = meaning_of(constants);
-                Ok(())
+                self.written.constants = constants;
+                self.written.name_type(self.env.alloc(), &entity.path)
             }
             Use::AsDiscriminator => {
+                self.written.name_type(self.env.alloc(), &entity.path)?;
                 let count = behind.enumerators.len() as u64;
                 let labels = Labels::new(self.env.alloc(), constants, count);
                 self.unions.insert(0, labels)?;
                 Ok(())
             }
             Use::AsOperand => self.values.add_operand(&entity.value),
-            Use::AsElement | Use::Raised => Ok(()),
+            Use::Raised | Use::RaisedBySet => Ok(()),
         }
     }
+}
+
+// What was declared last.
+fn keep_last(last: &mut Option<Shared<Entity>>, entity: &Shared<Entity>) -> Result<(), AllocError>
+    ensures { OnOk result (last.new ≡ Some entity.now) }
+{
+    *last = Some(entity.clone()?);
+    Ok(())
+}
+
+// Whether the unit's end finishes it.
+fn is_begun(entity: &Entity) -> bool
+    ensures { result ≡ is_begun entity.now }
+{
+    entity.stage == Stage::Begun
+        && (entity.kind == Kind::Interface || entity.kind == Kind::Constant)
 }
 
 // Those that have begun, with one more if it has.
 fn keep_begun(begun: &mut Vec<Shared<Entity>>, entity: &Shared<Entity>) -> Result<(), AllocError>
     ensures { OnOk result
         (begun.new.items
-        ≡ begun.old.items ++ (if stage_eq entity.now.stage Begun then entity.now ∷ [] else [])) }
+        ≡ begun.old.items ++ (if is_begun entity.now then entity.now ∷ [] else [])) }
 {
-    if entity.get().stage != Stage::Begun {
+    if !is_begun(entity.get()) {
         return Ok(());
     }
     begun.push(entity.clone()?)?;
-    Ok(())
-}
-
-// The name of a typedef that was declared last, with one more name.
-fn keep_alias(alias: &mut Option<Shared<Entity>>, entity: &Shared<Entity>) -> Result<(), AllocError>
-    ensures { OnOk result
-        (alias.new ≡ (if kind_eq entity.now.kind Alias then Some entity.now else alias.old)) }
-{
-    if entity.get().kind == Kind::Alias {
-        *alias = Some(entity.clone()?);
-    }
     Ok(())
 }
 

@@ -1,18 +1,22 @@
 //! Types: what constants may be of, what may discriminate a union, and what is not yet complete.
 
 ghost use Rattle.std.specs.Prelude.{◌≡◌, IfOk};
-ghost use Rattle.std.specs.Option.{option_copied};
-ghost use Rattle.idl_check.specs.Types.{behind_typedefs, constants_of, is_incomplete, looked_through, may_switch, meaning_of, path_in, string_of, written_as};
+ghost use Rattle.std.specs.Option.{option_copied, option_map};
+ghost use Rattle.idl_check.specs.Types.{aliased, behind_typedefs, bound_or_none, constants_of, element_of, is_incomplete, looked_through, may_switch, path_in, string_of, written_as};
 ghost use Rattle.idl_memo.specs.Query.{run};
+ghost use Rattle.idl_scope.specs.DataType.{constants_in, with_layer};
 ghost use Rattle.idl_scope.specs.Facts.{answers};
 ghost use Rattle.idl_scope.specs.Key.{key_eq};
 ghost use Rattle.idl_scope.specs.Lookup.{under};
+ghost use Rattle.idl_scope.specs.declared.data_type.Layer.TheVariants.{Sequence};
 ghost use Rattle.idl_scope.specs.declared.lookup.TheConstants.{TURNS};
 
 use idl_base::Seq;
 use idl_lex::Spelling;
 use idl_memo::Log;
-use idl_scope::{Entity, Env, Key, Kind, Meaning, Path, Shared, Stage, TURNS, View};
+use idl_scope::{
+    DataType, Element, Entity, Env, Key, Kind, Layer, Path, Shared, Stage, TURNS, Unvalued, View,
+};
 use idl_site::{Shape, Use};
 use idl_tree::BasicType;
 use idl_value::Target;
@@ -71,14 +75,21 @@ fn behind_typedefs(
     Ok(behind)
 }
 
-// The path that the name of a typedef stands for, if it stands for one.
-fn path_in(entity: &Entity) -> Option<&Path>
-    ensures { option_copied result ≡ path_in entity.now.meaning }
+// The type that the name of a typedef stands for.
+fn aliased(entity: &Entity) -> Option<&DataType>
+    ensures { option_copied result ≡ aliased entity.now }
 {
-    match &entity.meaning {
-        Some(Meaning::Named(path)) => Some(path),
+    match &entity.data_type {
+        Some(data_type) if entity.kind == Kind::Alias => Some(data_type.get()),
         _ => None,
     }
+}
+
+// The path that the name of a typedef stands for, if it stands for one.
+fn path_in(entity: &Entity) -> Option<&Path>
+    ensures { option_copied result ≡ path_in (aliased entity.now) }
+{
+    aliased(entity)?.named()
 }
 
 /// The type that constants of it have.
@@ -88,9 +99,19 @@ pub fn constants_of(alloc: Global, entity: &Entity) -> Result<Option<Target>, Al
     if entity.kind == Kind::Enumeration {
         return Ok(Some(Target::Enumeration(names_of(alloc, &entity.path)?)));
     }
-    match &entity.meaning {
-        Some(Meaning::Constants(target)) => Ok(Some(target.clone()?)),
-        _ => Ok(None),
+    match aliased(entity) {
+        Some(data_type) => target_in(data_type),
+        None => Ok(None),
+    }
+}
+
+/// The type that constants of a type have.
+pub fn target_in(data_type: &DataType) -> Result<Option<Target>, AllocError>
+    ensures { IfOk result (λ target. target ≡ constants_in data_type.now) }
+{
+    match data_type.constants() {
+        Some(target) => Ok(Some(target.clone()?)),
+        None => Ok(None),
     }
 }
 
@@ -100,16 +121,6 @@ pub fn names_of(alloc: Global, path: &Path) -> Result<Seq<Spelling>, AllocError>
 {
     let names = Vec::from_clones(alloc, path.as_slice())?;
     Ok(Seq::from_vec(names))
-}
-
-/// The meaning of a name behind which such constants stand.
-pub fn meaning_of(target: Option<Target>) -> Meaning
-    ensures { result ≡ meaning_of target }
-{
-    match target {
-        Some(target) => Meaning::Constants(target),
-        None => Meaning::Other,
-    }
 }
 
 /// Whether a union may have a discriminator of this type.
@@ -122,17 +133,63 @@ pub fn may_switch(target: &Option<Target>) -> bool
     }
 }
 
-/// What a type is that is no name, where the last bound in it is this.
-pub fn written_as(shape: Shape, bound: Option<u32>) -> Meaning
-    ensures { result ≡ written_as shape bound }
+/// What a type is that is no name, where the last bound in it is this; a sequence is one of the type
+/// that was written last.
+pub fn written_as(
+    alloc: Global,
+    shape: Shape,
+    bound: Option<u32>,
+    before: &Option<Shared<DataType>>,
+) -> Result<Option<Shared<DataType>>, AllocError>
+    ensures { IfOk result (λ t. t ≡ written_as shape bound before.now) }
 {
-    match shape {
-        Shape::Basic(BasicType::Discrete(discrete)) => {
-            Meaning::Constants(Target::of_keywords(discrete))
+    let element = match shape {
+        Shape::Basic(basic) => element_of(basic),
+        Shape::Text(is_wide, true) => Element::Constants(string_of(is_wide, bound)),
+        Shape::Text(is_wide, false) => Element::Constants(string_of(is_wide, None)),
+        Shape::Sequence(is_bounded) => {
+            let bound = bound_or_none(is_bounded, bound);
+            return sequence_of(alloc, bound, before);
         }
-        Shape::Text(is_wide, true) => Meaning::Constants(string_of(is_wide, bound)),
-        Shape::Text(is_wide, false) => Meaning::Constants(string_of(is_wide, None)),
-        Shape::Basic(_) | Shape::Sequence(_) => Meaning::Other,
+    };
+    Ok(Some(DataType::plain(alloc, element)?))
+}
+
+// A sequence of a type, if there is one.
+fn sequence_of(
+    alloc: Global,
+    bound: u32,
+    before: &Option<Shared<DataType>>,
+) -> Result<Option<Shared<DataType>>, AllocError>
+    ensures { IfOk result (λ t. t ≡ option_map (with_layer (Sequence bound)) before.now) }
+{
+    match before {
+        Some(element) => Ok(Some(element.get().within(alloc, Layer::Sequence(bound))?)),
+        None => Ok(None),
+    }
+}
+
+// The bound of a sequence, or 0 if it has none.
+fn bound_or_none(is_bounded: bool, bound: Option<u32>) -> u32
+    ensures { result ≡ bound_or_none is_bounded bound }
+{
+    match bound {
+        Some(bound) if is_bounded => bound,
+        _ => 0,
+    }
+}
+
+// A type of keywords.
+fn element_of(basic: BasicType) -> Element
+    ensures { result ≡ element_of basic }
+{
+    match basic {
+        BasicType::Discrete(discrete) => Element::Constants(Target::of_keywords(discrete)),
+        BasicType::Float => Element::Unvalued(Unvalued::Float),
+        BasicType::Double => Element::Unvalued(Unvalued::Double),
+        BasicType::LongDouble => Element::Unvalued(Unvalued::LongDouble),
+        BasicType::Any => Element::Unvalued(Unvalued::Any),
+        BasicType::Object => Element::Unvalued(Unvalued::Object),
     }
 }
 

@@ -87,7 +87,7 @@ fn suits(way: Use, entity: &Entity) -> bool
             is_type(entity.kind)
         }
         Use::AsOperand => entity.value.is_some(),
-        Use::Raised => entity.kind == Kind::Exception,
+        Use::Raised | Use::RaisedBySet => entity.kind == Kind::Exception,
     }
 }
 

@@ -21,6 +21,8 @@ pub struct Values {
     pub told: Vec<Value>,
     /// The last bound.
     pub bound: Option<u32>,
+    /// The lengths of an array so far.
+    pub lengths: Vec<u32>,
     /// The value of a constant.
     pub constant: Option<Value>,
 }
@@ -32,6 +34,7 @@ impl Drop for Values {
             operands: _operands,
             told: _told,
             bound: _bound,
+            lengths: _lengths,
             constant: _constant,
         } = self;
     }
@@ -54,6 +57,7 @@ impl Values {
             operands: Vec::new(alloc),
             told: Vec::new(alloc),
             bound: None,
+            lengths: Vec::new(alloc),
             constant: None,
         }
     }
@@ -118,7 +122,13 @@ impl Values {
                 self.constant = Some(value.clone()?);
                 Ok(())
             }
-            Purpose::Length | Purpose::Label => Ok(()),
+            Purpose::Length => {
+                if let Some(length) = number_of(value) {
+                    self.lengths.push(length)?;
+                }
+                Ok(())
+            }
+            Purpose::Label => Ok(()),
         }
     }
 }

@@ -1,31 +1,36 @@
 //! The walk over types, expressions and labels.
 
-ghost use Rattle.std.specs.Prelude.{◌≡◌, ◌∷◌, ◌++◌, [], IfOk, OnOk, Some, if◌then◌else◌, not, take};
+ghost use Rattle.std.specs.Prelude.{◌≡◌, ◌∷◌, ◌++◌, [], IfOk, None, OnOk, Some, if◌then◌else◌, not, take};
 ghost use Rattle.std.specs.List.{list_any};
 ghost use Rattle.idl_check.specs.Held.{held, held_values, held_written};
 ghost use Rattle.idl_check.specs.Labels.{no_labels, with_default};
-ghost use Rattle.idl_check.specs.Types.{written_as};
+ghost use Rattle.idl_check.specs.Bodies.{with_body_label};
+ghost use Rattle.idl_check.specs.Types.{target_in, written_as};
+ghost use Rattle.idl_scope.specs.DataType.{plain_type};
+ghost use Rattle.idl_scope.specs.declared.data_type.Element.TheVariants.{Constants};
 ghost use Rattle.idl_check.specs.Values.{begun_at, code_of};
-ghost use Rattle.idl_check.specs.Walk.{begin_of, faulty_if, is_repeated, noted, noted_in, outcome_at, token_of, value_visit, valued_after, with_array, with_labels};
+ghost use Rattle.idl_check.specs.Walk.{begin_of, faulty_if, is_repeated, noted, noted_in, outcome_at, token_of, ended_array, value_visit, valued_after, with_labels};
 ghost use Rattle.idl_event.specs.declared.code.Code.TheVariants.{BadDiscriminator, RepeatedLabel};
 ghost use Rattle.idl_site.specs.declared.site.Target.TheVariants as purpose;
 ghost use Rattle.idl_unit.specs.TokenRules.{fault_at};
 ghost use Rattle.idl_value.specs.Target.{discriminates, target_of};
 ghost use Rattle.idl_value.specs.declared.outcome.Outcome.TheVariants as outcome;
 
+use crate::bodies::{label_member, make_array};
 use crate::declaring::array_of;
 use crate::labels::Labels;
-use crate::types::written_as;
+use crate::types::{target_in, written_as};
 use crate::values::{Types, code_of};
 use crate::walk::Walker;
 use idl_base::{Seq, Text};
 use idl_event::Code;
 use idl_lex::Spelling;
-use idl_scope::{Addition, Meaning, shared_name};
+use idl_scope::{Addition, DataType, Element, shared_name};
 use idl_site::{Shape, Target as Purpose};
 use idl_tree::{DiscreteType, Expression, Several};
 use idl_value::{Fault, Outcome, Target, Value};
 use std::alloc::{AllocError, Global};
+use std::mem::replace;
 
 impl<'a> Walker<'a> {
     /// An expression begins.
@@ -70,10 +75,7 @@ impl<'a> Walker<'a> {
         ensures { IfOk result (λ outcome. outcome ≡ outcome_at (held self.now) way expression.now) }
     {
         let types = Types {
-            constant: match &self.written.meaning {
-                Meaning::Constants(target) => Some(target),
-                _ => None,
-            },
+            constant: self.written.constants.as_ref(),
             label: match self.unions.first() {
                 Some(labels) => labels.target(),
                 None => None,
@@ -124,8 +126,7 @@ impl<'a> Walker<'a> {
     {
         match way {
             Purpose::Label => self.label(value)?,
-            Purpose::Length => self.make_array()?,
-            Purpose::Bound | Purpose::Constant => {}
+            Purpose::Bound | Purpose::Length | Purpose::Constant => {}
         }
         self.values.end_with(way, value)
     }
@@ -144,6 +145,7 @@ impl<'a> Walker<'a> {
         ensures env { OnOk result (self.new.env.now ≡ self.old.env.now) }
     {
         let begin = self.begin_of();
+        label_member(&mut self.bodies, Some(value.clone()?))?;
         let Some(labels) = self.unions.first_mut() else {
             return Ok(());
         };
@@ -154,35 +156,44 @@ impl<'a> Walker<'a> {
         labels.add(value)
     }
 
-    // The name of a typedef that was declared last is that of an array.
-    fn make_array(&mut self) -> Result<(), AllocError>
-        ensures { OnOk result
-            (self.new
-            ≡ record self.old {
-              own = record self.old.own {
-                additions = with_array self.old.alias self.old.own.additions;
-              };
-            }) }
+    /// The lengths of the array that was declared last are told.
+    pub fn end_array(&mut self) -> Result<(), AllocError>
+        ensures visit { OnOk result
+            (held self.new ≡ ended_array (held self.old)) }
+        ensures at { OnOk result (self.new.at ≡ self.old.at) }
+        ensures env { OnOk result (self.new.env.now ≡ self.old.env.now) }
     {
-        let Some(alias) = &self.alias else {
+        let alloc = self.env.alloc();
+        let lengths = replace(&mut self.values.lengths, Vec::new(alloc));
+        let Some(entity) = &self.last else {
             return Ok(());
         };
-        let array = array_of(self.env.alloc(), alias.get())?;
+        let array = array_of(alloc, entity.get(), lengths.as_slice())?;
+        make_array(&mut self.bodies, array.get())?;
         self.own.add(Addition::Declares(array))
     }
 
     /// A type ends that is no name.
     pub fn end_type(&mut self, shape: Shape) -> Result<(), AllocError>
-        ensures visit { held self.new
+        ensures visit { OnOk result
+            (let t = written_as shape self.old.values.bound self.old.written.data_type in
+            held self.new
             ≡ record (held self.old) {
               written = record (held_written self.old.written) {
-                meaning = written_as shape self.old.values.bound;
+                data_type = t;
+                constants = target_in t;
               };
-            } }
-        ensures at { self.new.at ≡ self.old.at }
-        ensures env { self.new.env.now ≡ self.old.env.now }
+            }) }
+        ensures at { OnOk result (self.new.at ≡ self.old.at) }
+        ensures env { OnOk result (self.new.env.now ≡ self.old.env.now) }
     {
-        self.written.meaning = written_as(shape, self.values.bound);
+        let before = &self.written.data_type;
+        let written = written_as(self.env.alloc(), shape, self.values.bound, before)?;
+        self.written.constants = match &written {
+            Some(data_type) => target_in(data_type.get())?,
+            None => None,
+        };
+        self.written.data_type = written;
         Ok(())
     }
 
@@ -209,6 +220,9 @@ impl<'a> Walker<'a> {
             ≡ noted_in
             (faulty_if (not (discriminates (target_of discrete))) BadDiscriminator
             (held self.old) (record (held self.old) {
+              written = record (held_written self.old.written) {
+                data_type = Some (plain_type (Constants (target_of discrete)));
+              };
               unions = no_labels (Some (target_of discrete)) 0 ∷ self.old.unions.items;
             })) self.old.fault) }
         ensures at { OnOk result (self.new.at ≡ self.old.at) }
@@ -216,6 +230,8 @@ impl<'a> Walker<'a> {
     {
         let target = Target::of_keywords(discrete);
         let discriminates = target.discriminates();
+        let element = Element::Constants(target.clone()?);
+        self.written.data_type = Some(DataType::plain(self.env.alloc(), element)?);
         let labels = Labels::new(self.env.alloc(), Some(target), 0);
         self.unions.insert(0, labels)?;
         if discriminates {
@@ -233,10 +249,12 @@ impl<'a> Walker<'a> {
             (faulty_if (list_any (λ l. l.has_default) (take 1 self.old.unions.items))
             RepeatedLabel (held self.old) (record (held self.old) {
               unions = with_labels with_default self.old.unions.items;
+              bodies = with_body_label None self.old.bodies.items;
             })) self.old.fault) }
         ensures at { OnOk result (self.new.at ≡ self.old.at) }
         ensures env { OnOk result (self.new.env.now ≡ self.old.env.now) }
     {
+        label_member(&mut self.bodies, None)?;
         let Some(labels) = self.unions.first_mut() else {
             return Ok(());
         };

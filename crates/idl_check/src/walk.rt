@@ -1,7 +1,8 @@
 //! The walk over the sites of a unit.
 
-ghost use Rattle.std.specs.Prelude.{◌≡◌, ◌≤◌, ◌+◌, ◌∷◌, [], ℕ, IfOk, OnOk, Some, drop, map, option_to_list, take, true};
-ghost use Rattle.idl_check.specs.Declaring.{with_finished};
+ghost use Rattle.std.specs.Prelude.{◌≡◌, ◌≤◌, ◌+◌, ◌∷◌, ◌++◌, [], ℕ, IfOk, OnOk, Some, drop, flat_map, length, map, option_to_list, take, true};
+ghost use Rattle.idl_check.specs.Bodies.{begun_body, raising, told_body, with_context};
+ghost use Rattle.idl_check.specs.Declaring.{finished, with_finished};
 ghost use Rattle.idl_check.specs.Held.{HasRoomFor, held, visited};
 ghost use Rattle.idl_check.specs.Walk.{faulty_if, first_walk, is_over, noted, noted_in, passed, scope_visit, walk, with_scope};
 ghost use Rattle.idl_check.specs.Labels.{is_idle};
@@ -15,17 +16,18 @@ ghost use Rattle.idl_site.specs.Item.{item_at, item_length, items_length};
 ghost use Rattle.idl_unit.specs.TokenRules.{fault_at};
 
 use crate::bases::Bases;
+use crate::bodies::{Body, Clauses};
 use crate::codes::lesser;
-use crate::declaring::{Written, finished, kind_of, path_in};
+use crate::declaring::{Ending, Written, finished, kind_of, path_in};
 use crate::labels::Labels;
 use crate::values::Values;
-use idl_base::Text;
+use idl_base::{Seq, Text};
 use idl_event::Code;
 use idl_memo::Log;
-use idl_scope::{Addition, Entity, Env, Facts, Kind, Meaning, Path, Scope, Shared, Step, View};
+use idl_scope::{Addition, Entity, Env, Facts, Kind, Path, Scope, Shared, Step, View};
 use idl_site::{Declaration, Site};
+use idl_tree::Several;
 use idl_unit::Fault;
-use idl_value::Value;
 use std::alloc::{AllocError, Global};
 
 /// How far a walk has come.
@@ -42,8 +44,11 @@ pub struct Walker<'a> {
     pub bases: Bases,
     /// What the next names are declared with.
     pub written: Written,
-    /// The name of a typedef that was declared last.
-    pub alias: Option<Shared<Entity>>,
+    /// What was declared last.
+    pub last: Option<Shared<Entity>>,
+    /// The scopes of the unit around it, the innermost first.
+    pub bodies: Vec<Body>,
+    pub clauses: Clauses,
     /// The labels of the unions around it, the innermost first.
     pub unions: Vec<Labels>,
     /// Whether what the next token begins is given back by a oneway operation.
@@ -65,7 +70,9 @@ impl<'a> Drop for Walker<'a> {
             begun: _begun,
             bases: _bases,
             written: _written,
-            alias: _alias,
+            last: _last,
+            bodies: _bodies,
+            clauses: _clauses,
             unions: _unions,
             gives_back: _gives_back,
             found: _found,
@@ -91,7 +98,9 @@ impl<'a> Walker<'a> {
             begun: Vec::new(alloc),
             bases: Bases::new(alloc),
             written: Written::new(alloc),
-            alias: None,
+            last: None,
+            bodies: Vec::new(alloc),
+            clauses: Clauses::new(alloc),
             unions: Vec::new(alloc),
             gives_back: false,
             found: Vec::new(alloc),
@@ -158,11 +167,12 @@ impl<'a> Walker<'a> {
             Site::Used(way, name) => self.use_name(log, way, name),
             Site::ScopeBegins(way, name) => self.begin_scope(way, name),
             Site::Tokens(count) => self.pass(count),
-            Site::Joined(text) => self.pass(1 + text.rest.len()),
+            Site::Joined(text) => self.join(text),
             Site::ScopeEnds => self.end_scope(),
             Site::ValueBegins => self.begin_value(),
             Site::ValueEnds(way, expression) => self.end_value(way, expression),
             Site::TypeEnds(shape) => self.end_type(shape),
+            Site::ArrayEnds => self.end_array(),
             Site::Enumerates(names) => self.enumerate(names),
             Site::Switches(discrete) => self.switch(discrete),
             Site::Default => self.label_default(),
@@ -191,6 +201,23 @@ impl<'a> Walker<'a> {
         Ok(())
     }
 
+    // String literals, which are joined: a text of a context.
+    fn join(&mut self, text: &Several<Seq<u16>>) -> Result<(), AllocError>
+        requires { self.old.at + (length text.now.rest + 1) ≤ 18446744073709551615 }
+        ensures visit { OnOk result
+            (held self.new
+            ≡ noted_in
+            (faulty_if self.old.gives_back BadOneway (held self.old)
+            (record (passed (length text.now.rest + 1) (held self.old)) {
+              clauses = with_context text.now self.old.clauses;
+            })) self.old.fault) }
+        ensures at { OnOk result (self.new.at ≡ self.old.at + (length text.now.rest + 1)) }
+        ensures env { OnOk result (self.new.env.now ≡ self.old.env.now) }
+    {
+        self.clauses.add_context(self.env.alloc(), text)?;
+        self.pass(1 + text.rest.len())
+    }
+
     // What the next token begins is given back by a oneway operation.
     fn give_back(&mut self) -> Result<(), AllocError>
         ensures { self.new ≡ record self.old { gives_back = true } }
@@ -214,10 +241,17 @@ impl<'a> Walker<'a> {
     fn begin_scope(&mut self, way: Declaration, name: &Text) -> Result<(), AllocError>
         ensures walk { OnOk result
             (held self.new
-            ≡ record (held self.old) { cursor = with_scope way name.now self.old.cursor.items }) }
+            ≡ record (held self.old) {
+              cursor = with_scope way name.now self.old.cursor.items;
+              bodies =
+                  begun_body self.old.last self.old.written.data_type
+                  ∷ self.old.bodies.items;
+            }) }
         ensures env { OnOk result (self.new.env.now ≡ self.old.env.now) }
     {
         let alloc = self.env.alloc();
+        let body = Body::new(alloc, &self.last, &self.written.data_type)?;
+        self.bodies.insert(0, body)?;
         let Some(innermost) = self.cursor.first() else {
             return Ok(());
         };
@@ -243,9 +277,32 @@ impl<'a> Walker<'a> {
         };
         let path = innermost.path.clone()?;
         let is_union = innermost.kind == Kind::Union;
-        self.written.meaning = Meaning::Named(path);
+        self.written.name_type(self.env.alloc(), &path)?;
+        self.end_body()?;
         leave(&mut self.cursor);
         if is_union { self.end_union() } else { Ok(()) }
+    }
+
+    // What the innermost scope of the unit is of is finished by the unit's end.
+    fn end_body(&mut self) -> Result<(), AllocError>
+        ensures walk { OnOk result
+            (held self.new
+            ≡ record (held self.old) {
+              begun =
+                  self.old.begun.items
+                  ++ flat_map (told_body self.old.clauses) (take 1 self.old.bodies.items);
+              bodies = drop 1 self.old.bodies.items;
+            }) }
+        ensures env { OnOk result (self.new.env.now ≡ self.old.env.now) }
+    {
+        if self.bodies.is_empty() {
+            return Ok(());
+        }
+        let body = self.bodies.remove(0);
+        if let Some(told) = body.told(self.env.alloc(), &self.clauses)? {
+            self.begun.push(told)?;
+        }
+        Ok(())
     }
 
     // The labels of the innermost union are complete.
@@ -276,8 +333,11 @@ impl<'a> Walker<'a> {
             facts
             ≡ record {
               additions =
-                  with_finished self.entry.bases.paths self.entry.values.constant
-                  self.entry.own.additions self.entry.begun.items;
+                  with_finished
+                  (finished self.entry.bases.paths self.entry.values.constant
+                  self.entry.clauses)
+                  self.entry.own.additions
+                  (self.entry.begun.items ++ raising self.entry.last self.entry.clauses);
               step = step;
             }) }
     {
@@ -287,17 +347,32 @@ impl<'a> Walker<'a> {
             at: _at,
             cursor: _cursor,
             mut own,
-            begun,
+            mut begun,
             bases,
             written: _written,
-            alias: _alias,
+            last,
+            bodies: _bodies,
+            clauses,
             unions: _unions,
             gives_back: _gives_back,
             found: _found,
             values,
             fault: _fault,
         } = self;
-        finish(alloc, &mut own, &bases, &values.constant, begun.as_slice())?;
+        if let Some(attribute) = clauses.raising(last.as_ref()) {
+            begun.push(attribute.clone()?)?;
+        }
+        if begun.is_empty() {
+            own.then(step);
+            return Ok(own);
+        }
+        let paths = bases.paths(alloc)?;
+        let ending = Ending {
+            bases: &paths,
+            value: &values.constant,
+            clauses: &clauses,
+        };
+        finish(alloc, &mut own, ending, begun.as_slice())?;
         own.then(step);
         Ok(own)
     }
@@ -326,22 +401,20 @@ fn leave(scopes: &mut Vec<Scope>)
 fn finish(
     alloc: Global,
     own: &mut Facts,
-    bases: &Bases,
-    constant: &Option<Value>,
+    ending: Ending<'_>,
     begun: &[Shared<Entity>],
 ) -> Result<(), AllocError>
     ensures { OnOk result
         (own.new
         ≡ record own.old {
-          additions = with_finished bases.now.paths constant.now own.old.additions begun.now;
+          additions =
+              with_finished
+              (finished ending.entry.bases.now ending.entry.value.now ending.entry.clauses.now)
+              own.old.additions begun.now;
         }) }
 {
-    if begun.is_empty() {
-        return Ok(());
-    }
-    let paths = bases.paths(alloc)?;
     for entity in begun {
-        own.add(Addition::Declares(finished(alloc, &paths, constant, entity.get())?))?;
+        own.add(Addition::Declares(finished(alloc, ending, entity.get())?))?;
     }
     Ok(())
 }

@@ -8,18 +8,20 @@ use Rattle.idl_event.specs.declared.event.Event.{Event}
 use Rattle.idl_event.specs.declared.place.Place.{Place}
 use Rattle.idl_root.specs.Findings.{event_finding, in_order, unit_finding}
 use Rattle.idl_root.specs.Judged.{Judged, facts_after, judged_after}
+use Rattle.idl_root.specs.Printed.{Listed, closing_finding, entry_row, listed_in}
 use Rattle.idl_root.specs.declared.compiled.Compiled.{Compiled}
 use Rattle.idl_root.specs.declared.finding.Finding.{Finding}
 use Rattle.idl_scope.specs.Facts.{UnitFacts, answers, scopes_in}
 use Rattle.idl_scope.specs.declared.key.Key.TheVariants.{Cursor}
 use Rattle.idl_unit.specs.Units.{units_of}
 
--- what comes of a root: the facts that its units and file boundaries add, what is found, and the
--- rows of the dump
+-- what comes of a root: the facts that its units and file boundaries add, what is found, the rows
+-- of the dump, and the names that have an id, in the order in which they are declared first
 pub record Outcome : Type 0 where
   pub facts : List UnitFacts
   pub found : List Finding
   pub rows : List (List ℕ)
+  pub listed : List Listed
 
 -- the row of a unit, if it has one
 abbrev pub row_in : Judged → List (List ℕ)
@@ -38,6 +40,7 @@ outcome_of events =
       facts = facts_after [] (units_of events);
       found = findings events judged;
       rows = flat_map row_in judged;
+      listed = flat_map listed_in judged;
     }
 
 -- a scope beside the global one is open
@@ -53,21 +56,27 @@ open_row end false = []
 abbrev pub has_error : List Finding → Bool
 has_error found = list_any (λ f. is_error f.code) found
 
--- the rows of a dump, beside an error none
-abbrev pub dump_beside : Bool → List (List ℕ) → List (List ℕ)
-dump_beside false rows = rows
-dump_beside true rows = []
+-- rows, beside an error none
+abbrev pub rows_beside : Bool → List (List ℕ) → List (List ℕ)
+rows_beside false rows = rows
+rows_beside true rows = []
 
 -- the rows of a root, whose end is this place: those of what is found, in the order of the events
--- that they name, and then that of an open scope
+-- that they name, then that of an open scope, and then those of what is never defined
 abbrev pub told : Place → Outcome → Compiled
 told end o =
     let is_open_at_end = is_open o.facts in
+    let closing = flat_map (closing_finding o.facts) o.listed in
+    let is_faulty = (is_open_at_end || has_error o.found) || has_error closing in
     record {
-      diagnostics = map (λ f. f.row) (in_order o.found) ++ open_row end is_open_at_end;
-      dump = dump_beside (is_open_at_end || has_error o.found) o.rows;
+      diagnostics =
+          map (λ f. f.row) (in_order o.found)
+          ++ (open_row end is_open_at_end ++ map (λ f. f.row) closing);
+      listing = rows_beside is_faulty (flat_map (entry_row o.facts) o.listed);
+      dump = rows_beside is_faulty o.rows;
+      is_faulty = is_faulty;
     }
 
--- the diagnostics and the dump of a root that expands to these events, and whose end is this place
+-- the rows of a root that expands to these events, and whose end is this place
 unfoldable pub compile : Place → List Event → Compiled
 compile end events = told end (outcome_of events)

@@ -1,32 +1,39 @@
 //! The compilation of a root.
 
 ghost use Rattle.std.specs.Prelude.{◌≡◌, ◌++◌, IfOk, map};
-ghost use Rattle.idl_root.specs.Compile.{compile, dump_beside, has_error, open_row, told};
+ghost use Rattle.idl_root.specs.Compile.{compile, rows_beside, has_error, open_row, told};
 ghost use Rattle.idl_root.specs.Findings.{in_order};
 ghost use Rattle.idl_root.specs.Held.{held};
 
-use crate::finding::{Finding, event_findings, has_error, rows_in_order};
+use crate::finding::{Finding, event_findings, has_error, push_rows, rows_in_order};
 use crate::judging::Judging;
+use crate::printing::Printed;
 use idl_base::{Seq, Text};
 use idl_event::{Code, Expansion, Place, diagnostic_row};
 use idl_scope::Shared;
 use idl_unit::split;
 use std::alloc::{AllocError, Global};
 
-/// A row of diagnostics or of a dump, whose bytes are shared: a line of text without its newline.
+/// A row of diagnostics, of a listing or of a dump, whose bytes are shared: a line of text without its newline.
 pub type Row = Shared<Text>;
 
-/// What compiling a root gives: the rows of its diagnostics, and of its dump, which is empty where one of them is an error.
+/// What compiling a root gives: the rows of its diagnostics, and of its listing and its dump, which are empty where one of them
+/// is an error.
 pub struct Compiled {
     pub diagnostics: Seq<Row>,
+    pub listing: Seq<Row>,
     pub dump: Seq<Row>,
+    /// Whether one of the diagnostics is an error. Others are warnings.
+    pub is_faulty: bool,
 }
 
 impl Drop for Compiled {
     fn drop(self) {
         let Compiled {
             diagnostics: _diagnostics,
+            listing: _listing,
             dump: _dump,
+            is_faulty: _is_faulty,
         } = self;
     }
 }
@@ -34,7 +41,8 @@ impl Drop for Compiled {
 /// Compiles what a root expands to, where its last line is this place.
 ///
 /// The diagnostics stand in the order of the events that they name: a fault of the preprocessor has one, and so has a unit
-/// with a fault, at the token where it is decided. Behind them stands E23 where a scope is open at the end.
+/// with a fault, at the token where it is decided. Behind them stands E23 where a scope is open at the end, and then what is
+/// declared ahead and never defined, in the order of the listing.
 #[tactic(auto, unfolding(crate::specs::Compile::compile))]
 pub fn compile(alloc: Global, end: &Place, expansion: &Expansion) -> Result<Compiled, AllocError>
     ensures { IfOk result (λ compiled. compiled ≡ compile end.now expansion.now) }
@@ -48,29 +56,31 @@ pub fn compile(alloc: Global, end: &Place, expansion: &Expansion) -> Result<Comp
 
 // The rows of a root whose units are all judged.
 fn told(alloc: Global, end: &Place, judging: Judging) -> Result<Compiled, AllocError>
-    ensures { IfOk result (λ compiled. compiled ≡ told end.now (held judging)) }
+    ensures { IfOk result (λ compiled. compiled ≡ told end.now (held judging.entry)) }
 {
     let is_open = judging.is_open();
+    let printed = judging.printed(alloc)?;
     let (findings, rows) = judging.ended();
-    let dump = dump_beside(alloc, is_open || has_error(&findings), rows);
-    let diagnostics = diagnostics(alloc, end, is_open, findings)?;
+    let is_faulty = is_open || has_error(&findings) || has_error(&printed.findings);
+    let Printed {
+        findings: closing,
+        rows: listing,
+    } = printed;
+    let open = open_rows(alloc, end, is_open)?;
+    let diagnostics = diagnostics(alloc, findings, open, closing)?;
     Ok(Compiled {
         diagnostics: Seq::from_vec(diagnostics),
-        dump,
+        listing: rows_beside(alloc, is_faulty, listing),
+        dump: rows_beside(alloc, is_faulty, rows),
+        is_faulty,
     })
 }
 
-// The rows of the diagnostics, of which that of an open scope is the last.
-fn diagnostics(
-    alloc: Global,
-    end: &Place,
-    is_open: bool,
-    findings: Vec<Finding>,
-) -> Result<Vec<Row>, AllocError>
-    ensures { IfOk result (λ rows. rows.items
-        ≡ map (λ f. f.row) (in_order findings.items) ++ open_row end.now is_open) }
+// The row of a scope that is open at the end, if one is.
+fn open_rows(alloc: Global, end: &Place, is_open: bool) -> Result<Vec<Row>, AllocError>
+    ensures { IfOk result (λ rows. rows.items ≡ open_row end.now is_open) }
 {
-    let mut rows = rows_in_order(alloc, findings)?;
+    let mut rows = Vec::new(alloc);
     if is_open {
         let row = diagnostic_row(alloc, end, Code::OpenScope, None)?;
         rows.push(Shared::new(alloc, row)?)?;
@@ -78,9 +88,26 @@ fn diagnostics(
     Ok(rows)
 }
 
-// The rows of a dump, beside an error none.
-fn dump_beside(alloc: Global, is_faulty: bool, rows: Vec<Row>) -> Seq<Row>
-    ensures { result ≡ dump_beside is_faulty rows.items }
+// The rows of the diagnostics: those of what is found, in the order of events, and then others.
+fn diagnostics(
+    alloc: Global,
+    findings: Vec<Finding>,
+    mut open: Vec<Row>,
+    closing: Vec<Finding>,
+) -> Result<Vec<Row>, AllocError>
+    ensures { IfOk result (λ rows. rows.items
+        ≡ map (λ f. f.row) (in_order findings.items)
+        ++ (open.items ++ map (λ f. f.row) closing.items)) }
+{
+    let mut rows = rows_in_order(alloc, findings)?;
+    rows.append(&mut open)?;
+    push_rows(&mut rows, closing.as_slice())?;
+    Ok(rows)
+}
+
+// Rows, beside an error none.
+fn rows_beside(alloc: Global, is_faulty: bool, rows: Vec<Row>) -> Seq<Row>
+    ensures { result ≡ rows_beside is_faulty rows.items }
 {
     if is_faulty {
         Seq::new(alloc)

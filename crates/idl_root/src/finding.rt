@@ -163,8 +163,17 @@ fn rows_of(alloc: Global, findings: &[Finding]) -> Result<Vec<Shared<Text>>, All
     ensures { IfOk result (λ rows. rows.items ≡ map (λ f. f.row) findings.now) }
 {
     let mut rows = Vec::new(alloc);
+    push_rows(&mut rows, findings)?;
+    Ok(rows)
+}
+
+/// Puts in their rows, which they share.
+pub fn push_rows(rows: &mut Vec<Shared<Text>>, findings: &[Finding]) -> Result<(), AllocError>
+    ensures { OnOk result
+        (rows.new.items ≡ rows.old.items ++ map (λ f. f.row) findings.now) }
+{
     for finding in findings {
         rows.push(finding.row.clone()?)?;
     }
-    Ok(rows)
+    Ok(())
 }

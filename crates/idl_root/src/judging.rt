@@ -1,14 +1,16 @@
 //! The verdicts of a root's units.
 
-ghost use Rattle.std.specs.Prelude.{◌≡◌, ◌∷◌, ◌++◌, [], IfOk, List, OnOk, option_to_list};
+ghost use Rattle.std.specs.Prelude.{◌≡◌, ◌∷◌, ◌++◌, [], IfOk, List, OnOk, flat_map, option_to_list};
 ghost use Rattle.idl_check.specs.declared.verdict.Verdict.{Verdict as UnitVerdict};
 ghost use Rattle.idl_root.specs.Compile.{is_open};
+ghost use Rattle.idl_root.specs.Printed.{closing_finding, entry_row};
 ghost use Rattle.idl_root.specs.Held.{held, to_come, with_judged};
 ghost use Rattle.idl_root.specs.Judged.{boundary, judged_over, verdict_over};
 ghost use Rattle.idl_unit.specs.declared.unit.Unit.{Unit as RootUnit};
 
 use crate::compiled::Row;
 use crate::finding::{Finding, Spelled, push_fault};
+use crate::printing::{Listed, Printed, print_all, push_listed};
 use idl_check::{DeclarationTask, Verdict};
 use idl_memo::{Bank, Log, Task};
 use idl_scope::{Env, Facts, Key, Step, scopes_in};
@@ -16,40 +18,45 @@ use idl_unit::{Unit, UnitText};
 use std::alloc::{AllocError, Global};
 
 /// What has come of a root so far.
-pub struct Judging {
+pub struct Judging<'a> {
     pub env: Env,
     pub findings: Vec<Finding>,
     /// The rows of the dump.
     pub rows: Vec<Row>,
+    /// The names that have an id, in the order in which they were declared first.
+    pub listed: Vec<Listed<'a>>,
 }
 
-impl Drop for Judging {
+impl<'a> Drop for Judging<'a> {
     fn drop(self) {
         let Judging {
             env: _env,
             findings: _findings,
             rows: _rows,
+            listed: _listed,
         } = self;
     }
 }
 
-impl Judging {
+impl<'a> Judging<'a> {
     /// Before the first unit, where this is found in the events.
-    pub fn new(alloc: Global, findings: Vec<Finding>) -> Result<Judging, AllocError>
+    pub fn new(alloc: Global, findings: Vec<Finding>) -> Result<Judging<'a>, AllocError>
         ensures { IfOk result (λ judging.
-            held judging ≡ record { facts = []; found = findings.items; rows = [] }) }
+            held judging
+            ≡ record { facts = []; found = findings.items; rows = []; listed = [] }) }
     {
         let env = Env::new(alloc)?;
         Ok(Judging {
             env,
             findings,
             rows: Vec::new(alloc),
+            listed: Vec::new(alloc),
         })
     }
 
     /// After these units.
-    pub fn with_all(self, alloc: Global, units: &[Unit]) -> Result<Judging, AllocError>
-        ensures { IfOk result (λ judging. held judging ≡ to_come (held self) units.now) }
+    pub fn with_all(self, alloc: Global, units: &'a [Unit]) -> Result<Judging<'a>, AllocError>
+        ensures { IfOk result (λ judging. held judging ≡ to_come (held self.entry) units.now) }
     {
         let mut judging = self;
         let mut log = Log::new(alloc);
@@ -61,9 +68,14 @@ impl Judging {
 
     // After one unit more, which takes the memory of the log for what it asks.
     #[tactic(auto, unfolding(crate::specs::Judged::judged_after, crate::specs::Judged::facts_after))]
-    fn with(self, alloc: Global, unit: &Unit, log: &mut Log<Env>) -> Result<Judging, AllocError>
+    fn with(
+        self,
+        alloc: Global,
+        unit: &'a Unit,
+        log: &mut Log<Env>,
+    ) -> Result<Judging<'a>, AllocError>
         ensures { IfOk result (λ judging. (units : List RootUnit)
-            → to_come (held judging) units ≡ to_come (held self) (unit.now ∷ units)) }
+            → to_come (held judging) units ≡ to_come (held self.entry) (unit.now ∷ units)) }
     {
         match unit {
             Unit::Spelled(text, sites) => {
@@ -80,10 +92,10 @@ impl Judging {
     }
 
     // After a file boundary.
-    fn with_boundary(self, alloc: Global, step: Step) -> Result<Judging, AllocError>
+    fn with_boundary(self, alloc: Global, step: Step) -> Result<Judging<'a>, AllocError>
         ensures { IfOk result (λ judging.
             held judging
-            ≡ record (held self) { facts = self.env ++ boundary step ∷ [] }) }
+            ≡ record (held self.entry) { facts = self.entry.env ++ boundary step ∷ [] }) }
     {
         let mut facts = Facts::new(alloc);
         facts.then(step);
@@ -91,12 +103,14 @@ impl Judging {
             env,
             findings,
             rows,
+            listed,
         } = self;
         let env = env.add(&facts)?;
         Ok(Judging {
             env,
             findings,
             rows,
+            listed,
         })
     }
 
@@ -104,13 +118,13 @@ impl Judging {
     fn with_spelled(
         self,
         alloc: Global,
-        unit: Spelled<'_>,
+        unit: Spelled<'a>,
         log: &mut Log<Env>,
-    ) -> Result<Judging, AllocError>
+    ) -> Result<Judging<'a>, AllocError>
         ensures { IfOk result (λ judging.
             held judging
-            ≡ with_judged (held self)
-            (judged_over self.env unit.entry.text.now unit.entry.sites.now)) }
+            ≡ with_judged (held self.entry)
+            (judged_over self.entry.env unit.entry.text.now unit.entry.sites.now)) }
     {
         let verdict = verdict_over(alloc, &self.env, unit.text, log)?;
         Ok(self.with_verdict(alloc, unit, &verdict)?)
@@ -120,12 +134,12 @@ impl Judging {
     fn with_verdict(
         self,
         alloc: Global,
-        unit: Spelled<'_>,
+        unit: Spelled<'a>,
         verdict: &Verdict,
-    ) -> Result<Judging, AllocError>
+    ) -> Result<Judging<'a>, AllocError>
         ensures { IfOk result (λ judging.
             held judging
-            ≡ with_judged (held self) (record {
+            ≡ with_judged (held self.entry) (record {
               text = unit.entry.text.now;
               sites = unit.entry.sites.now;
               verdict = verdict.now;
@@ -135,14 +149,17 @@ impl Judging {
             env,
             mut findings,
             mut rows,
+            mut listed,
         } = self;
         push_fault(alloc, &mut findings, unit, verdict.fault)?;
         push_row(&mut rows, &verdict.row)?;
+        push_listed(&mut listed, unit, verdict.writes.get())?;
         let env = env.add(verdict.writes.get())?;
         Ok(Judging {
             env,
             findings,
             rows,
+            listed,
         })
     }
 
@@ -153,15 +170,26 @@ impl Judging {
         scopes_in(self.env.answer(&Key::Cursor)).len() > 1
     }
 
+    /// What comes of the names that have an id, over all that was added.
+    pub fn printed(&self, alloc: Global) -> Result<Printed, AllocError>
+        ensures findings { IfOk result (λ printed. printed.findings.items
+            ≡ flat_map (closing_finding self.now.env) (held self.now).listed) }
+        ensures rows { IfOk result (λ printed. printed.rows.items
+            ≡ flat_map (entry_row self.now.env) (held self.now).listed) }
+    {
+        print_all(alloc, &self.env, self.listed.as_slice())
+    }
+
     /// What was found, and the rows of the dump.
     pub fn ended(self) -> (Vec<Finding>, Vec<Row>)
-        ensures found { result.0 ≡ self.findings }
-        ensures rows { result.1 ≡ self.rows }
+        ensures found { result.0 ≡ self.entry.findings }
+        ensures rows { result.1 ≡ self.entry.rows }
     {
         let Judging {
             env: _env,
             findings,
             rows,
+            listed: _listed,
         } = self;
         (findings, rows)
     }

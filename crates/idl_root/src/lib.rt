@@ -1,5 +1,5 @@
 //! The compilation of a root: its units are judged in order, each over what those before it added, and what is found is told
-//! in the order of the events that it names.
+//! in the order of the events that it names. Then each name that has an id is printed over what all of them added.
 //!
 //! Nothing here knows how a root is expanded, what a unit asks, or what became of other roots.
 #![tactic(auto)]
@@ -8,6 +8,7 @@ mod compiled;
 mod finding;
 mod judging;
 mod laws;
+mod printing;
 
 pub use compiled::{Compiled, Row, compile};
 pub use laws::{ordering, telling};

@@ -1,33 +1,16 @@
--- When two meanings, or two entities, are one.
-use Rattle.std.specs.Prelude.{◌≡◌, Bool, true, ◌&&◌, refl}
+-- When two entities are one.
+use Rattle.std.specs.Prelude.{◌≡◌, Bool, true, ◌&&◌}
 use Rattle.std.specs.Bool.{beq}
 use Rattle.std.specs.Cmp.Lexicographic.{bytes_decides, pointwise}
 use Rattle.std.specs.Option.{option_eq}
 use Rattle.std.specs.Str.{bytes_eq}
-use Rattle.std.proofs.Common.{ap}
 use Rattle.idl_base.specs.Exact.{both, same_bool, same_list, same_option}
+use Rattle.idl_scope.specs.DataType.{data_type_eq, same_data_type}
 use Rattle.idl_scope.specs.Path.{path_eq, same_path}
 use Rattle.idl_scope.specs.Kind.{kind_eq, same_kind, stage_eq, same_stage}
-use Rattle.idl_scope.specs.contracts.entity.MeaningPartialEq.TheImpl.{ghosts}
+use Rattle.idl_scope.specs.Signature.{same_signature, signature_eq}
 use Rattle.idl_scope.specs.declared.entity.Entity.{Entity}
-use Rattle.idl_scope.specs.declared.entity.Meaning.{Meaning}
-use Rattle.idl_scope.specs.declared.entity.Meaning.TheVariants.{Constants, Named, Other}
-use Rattle.idl_value.specs.Exact.{same_target, same_value, value_eq}
-
--- whether two meanings are one
-abbrev pub meaning_eq : Meaning → Meaning → Bool
-meaning_eq = ghosts.eq
-
-pub same_meaning : (m n : Meaning) → meaning_eq m n ≡ true → m ≡ n
-same_meaning (Constants t) (Constants u) h = ap Constants (same_target t u h)
-same_meaning (Constants t) (Named q) h = cc
-same_meaning (Constants t) Other h = cc
-same_meaning (Named p) (Constants u) h = cc
-same_meaning (Named p) (Named q) h = ap Named (same_path p q h)
-same_meaning (Named p) Other h = cc
-same_meaning Other (Constants u) h = cc
-same_meaning Other (Named q) h = cc
-same_meaning Other Other h = refl
+use Rattle.idl_value.specs.Exact.{same_value, value_eq}
 
 -- whether two entities are one, by what is known of them
 abbrev pub entity_eq : Entity → Entity → Bool
@@ -35,12 +18,15 @@ entity_eq e f =
     path_eq e.path f.path
     && (kind_eq e.kind f.kind
     && (beq e.is_local f.is_local
+    && (beq e.is_readonly f.is_readonly
+    && (beq e.is_oneway f.is_oneway
     && (stage_eq e.stage f.stage
     && (pointwise path_eq e.bases f.bases
     && (pointwise path_eq e.operations f.operations
-    && (option_eq meaning_eq e.meaning f.meaning
+    && (option_eq data_type_eq e.data_type f.data_type
     && (option_eq value_eq e.value f.value
-    && pointwise bytes_eq e.enumerators f.enumerators)))))))
+    && (pointwise bytes_eq e.enumerators f.enumerators
+    && option_eq signature_eq e.signature f.signature))))))))))
 
 -- entities that are found equal are one
 pub same_entity : (e f : Entity) → entity_eq e f ≡ true → e ≡ f
@@ -50,28 +36,37 @@ same_entity e f h =
     let c = both _ _ b.1 in
     let d = both _ _ c.1 in
     let g = both _ _ d.1 in
-    let path = same_path e.path f.path a.0 in
-    let kind = same_kind e.kind f.kind b.0 in
-    let local = same_bool e.is_local f.is_local c.0 in
-    let stage = same_stage e.stage f.stage d.0 in
-    let bases = same_list path_eq same_path e.bases f.bases g.0 in
     let j = both _ _ g.1 in
     let k = both _ _ j.1 in
     let l = both _ _ k.1 in
-    let operations = same_list path_eq same_path e.operations f.operations j.0 in
-    let meaning = same_option meaning_eq same_meaning e.meaning f.meaning k.0 in
-    let value = same_option value_eq same_value e.value f.value l.0 in
+    let m = both _ _ l.1 in
+    let n = both _ _ m.1 in
+    let o = both _ _ n.1 in
+    let path = same_path e.path f.path a.0 in
+    let kind = same_kind e.kind f.kind b.0 in
+    let local = same_bool e.is_local f.is_local c.0 in
+    let readonly = same_bool e.is_readonly f.is_readonly d.0 in
+    let oneway = same_bool e.is_oneway f.is_oneway g.0 in
+    let stage = same_stage e.stage f.stage j.0 in
+    let bases = same_list path_eq same_path e.bases f.bases k.0 in
+    let operations = same_list path_eq same_path e.operations f.operations l.0 in
+    let data_type = same_option data_type_eq same_data_type e.data_type f.data_type m.0 in
+    let value = same_option value_eq same_value e.value f.value n.0 in
     let enumerators =
-    same_list bytes_eq (λ m n. (bytes_decides m n).0) e.enumerators f.enumerators l.1
+    same_list bytes_eq (λ x y. (bytes_decides x y).0) e.enumerators f.enumerators o.0
     in
+    let signature = same_option signature_eq same_signature e.signature f.signature o.1 in
     λ i. record {
       path = path i;
       kind = kind i;
       is_local = local i;
+      is_readonly = readonly i;
+      is_oneway = oneway i;
       stage = stage i;
       bases = bases i;
       operations = operations i;
-      meaning = meaning i;
+      data_type = data_type i;
       value = value i;
       enumerators = enumerators i;
+      signature = signature i;
     }

@@ -1,5 +1,6 @@
 pub mod Answer
 pub mod Bases
+pub mod DataType
 pub mod Digest
 pub mod Entity
 pub mod Facts
@@ -13,3 +14,5 @@ pub mod Meaning
 pub mod Outside
 pub mod Past
 pub mod Path
+pub mod Signature
+pub mod Unvalued

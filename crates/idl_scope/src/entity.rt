@@ -3,53 +3,15 @@
 ghost use Rattle.std.specs.Prelude.{◌≡◌};
 ghost use Rattle.idl_scope.specs.Facts.{is_operation};
 
+use crate::data_type::DataType;
 use crate::kind::{Kind, Stage};
 use crate::path::Path;
+use crate::shared::{Shared, copied};
+use crate::signature::Signature;
 use idl_base::{Datum, Seq};
 use idl_lex::Spelling;
-use idl_value::{Target, Value};
+use idl_value::Value;
 use std::alloc::AllocError;
-
-/// What the name of a typedef stands for, as far as constants go.
-#[derive(PartialEq, Eq)]
-pub enum Meaning {
-    /// A type of which there are constants.
-    Constants(Target),
-    /// What is declared at this path.
-    Named(Path),
-    /// Another type.
-    Other,
-}
-
-impl Drop for Meaning {
-    fn drop(self) {
-        match self {
-            Meaning::Constants(_target) => {}
-            Meaning::Named(_path) => {}
-            Meaning::Other => {}
-        }
-    }
-}
-
-impl Clone for Meaning {
-    ghost is_clone = { λ meaning copy. copy ≡ meaning };
-
-    fn clone(&self) -> Result<Meaning, AllocError> {
-        Ok(match self {
-            Meaning::Constants(target) => Meaning::Constants(target.clone()?),
-            Meaning::Named(path) => Meaning::Named(path.clone()?),
-            Meaning::Other => Meaning::Other,
-        })
-    }
-}
-
-impl Datum for Meaning {
-    ghost use Rattle.idl_scope.specs.Entity.{same_meaning};
-
-    ghost same = { same_meaning };
-
-    ghost copy = { λ x y h. h };
-}
 
 /// What is known of a declared name, beside places and ids.
 #[derive(PartialEq, Eq)]
@@ -59,18 +21,24 @@ pub struct Entity {
     pub kind: Kind,
     /// Whether it is an interface that is declared `local`.
     pub is_local: bool,
+    /// Whether it is an attribute that is declared `readonly`.
+    pub is_readonly: bool,
+    /// Whether it is an operation that is declared `oneway`.
+    pub is_oneway: bool,
     pub stage: Stage,
     /// The paths of the direct bases, in order.
     pub bases: Seq<Path>,
     /// The paths of the operations and attributes of a closed interface: the inherited ones first, by its bases in order and
     /// none twice, and then its own in order.
     pub operations: Seq<Path>,
-    /// What it stands for, if it is the name of a typedef.
-    pub meaning: Option<Meaning>,
+    /// The type that it is declared with: what an operation gives back, if it does, and of a union that of its labels.
+    pub data_type: Option<Shared<DataType>>,
     /// The value of a constant, once it is told, and of an enumerator.
     pub value: Option<Value>,
     /// The names of the enumerators of an enum, in order.
     pub enumerators: Seq<Spelling>,
+    /// What it shows behind its name, once that is told.
+    pub signature: Option<Shared<Signature>>,
 }
 
 impl Drop for Entity {
@@ -79,12 +47,15 @@ impl Drop for Entity {
             path: _path,
             kind: _kind,
             is_local: _is_local,
+            is_readonly: _is_readonly,
+            is_oneway: _is_oneway,
             stage: _stage,
             bases: _bases,
             operations: _operations,
-            meaning: _meaning,
+            data_type: _data_type,
             value: _value,
             enumerators: _enumerators,
+            signature: _signature,
         } = self;
     }
 }
@@ -96,19 +67,23 @@ impl Clone for Entity {
         let path = self.path.clone()?;
         let bases = self.bases.clone()?;
         let operations = self.operations.clone()?;
-        let meaning = self.meaning.clone()?;
-        let value = self.value.clone()?;
+        let data_type = copied(&self.data_type)?;
+        let value = copied(&self.value)?;
         let enumerators = self.enumerators.clone()?;
+        let signature = copied(&self.signature)?;
         Ok(Entity {
             path,
             kind: self.kind,
             is_local: self.is_local,
+            is_readonly: self.is_readonly,
+            is_oneway: self.is_oneway,
             stage: self.stage,
             bases,
             operations,
-            meaning,
+            data_type,
             value,
             enumerators,
+            signature,
         })
     }
 }

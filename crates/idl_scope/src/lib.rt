@@ -6,6 +6,7 @@
 
 mod addition;
 mod answer;
+mod data_type;
 mod digest;
 mod entity;
 mod env;
@@ -25,11 +26,14 @@ mod past;
 mod path;
 mod queue;
 mod shared;
+mod signature;
 mod state;
+mod unvalued;
 
 pub use addition::{Addition, Step};
 pub use answer::{Answer, Scope, count_in, entity_in, identity_in, prefix_in, scopes_in};
-pub use entity::{Entity, Meaning};
+pub use data_type::{DataType, Element, Layer};
+pub use entity::Entity;
 pub use env::Env;
 pub use facts::Facts;
 pub use fault::{NameCode, NameFault};
@@ -43,3 +47,5 @@ pub use name::{folded_name, shared_name};
 pub use naming::{Standpoint, resolve};
 pub use path::Path;
 pub use shared::Shared;
+pub use signature::{Member, Signature};
+pub use unvalued::Unvalued;

@@ -49,6 +49,16 @@ impl<T: Drop> Clone for Shared<T> {
     }
 }
 
+/// A copy of what is there, if anything is.
+pub fn copied<T: Datum>(value: &Option<T>) -> Result<Option<T>, AllocError>
+    ensures { IfOk result (λ copy. copy ≡ value.now) }
+{
+    match value {
+        Some(there) => Ok(Some(there.clone()?)),
+        None => Ok(None),
+    }
+}
+
 impl<T: Datum> PartialEq for Shared<T> {
     ghost eq = { T.eq };
 

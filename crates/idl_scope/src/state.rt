@@ -23,7 +23,7 @@ use crate::kind::{Kind, Stage};
 use crate::name::shared_name;
 use crate::operations::{add_inside, append, inherited, innermost, leave, operations_among};
 use crate::path::Path;
-use crate::shared::Shared;
+use crate::shared::{Shared, copied};
 use idl_base::Seq;
 use idl_lex::Spelling;
 use idl_map::{Map, SharedList};
@@ -326,19 +326,23 @@ fn closed(interface: &Entity, operations: Vec<Path>) -> Result<Entity, AllocErro
 {
     let path = interface.path.clone()?;
     let bases = interface.bases.clone()?;
-    let meaning = interface.meaning.clone()?;
-    let value = interface.value.clone()?;
+    let data_type = copied(&interface.data_type)?;
+    let value = copied(&interface.value)?;
     let enumerators = interface.enumerators.clone()?;
+    let signature = copied(&interface.signature)?;
     Ok(Entity {
         path,
         kind: interface.kind,
         is_local: interface.is_local,
+        is_readonly: interface.is_readonly,
+        is_oneway: interface.is_oneway,
         stage: Stage::Complete,
         bases,
         operations: Seq::from_vec(operations),
-        meaning,
+        data_type,
         value,
         enumerators,
+        signature,
     })
 }
 

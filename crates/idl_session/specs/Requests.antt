@@ -7,7 +7,7 @@ use Rattle.idl_source.specs.Name.{is_visible}
 use Rattle.idl_workspace.specs.Edits.{Edit, Put, Splice, Remove, Define, Undef, Search, AddRoot, DropRoot}
 use Rattle.idl_session.specs.Lines.{line_within}
 use Rattle.idl_session.specs.declared.heading.Question.{Question}
-use Rattle.idl_session.specs.declared.heading.Question.TheVariants.{Diagnostics, Dump, Absent}
+use Rattle.idl_session.specs.declared.heading.Question.TheVariants.{Diagnostics, Listing, Dump, Absent}
 
 -- no command, an edit with so many lines that follow, an edit that no line follows, a question about
 -- a root, or one about the work of the last accepted edit
@@ -57,8 +57,9 @@ pair_request w about =
     else (if bytes_eq w (codes "root") then Make (AddRoot about)
     else (if bytes_eq w (codes "unroot") then Make (DropRoot about)
     else (if bytes_eq w (codes "diagnostics") then Ask Diagnostics about
+    else (if bytes_eq w (codes "listing") then Ask Listing about
     else (if bytes_eq w (codes "dump") then Ask Dump about
-    else (if bytes_eq w (codes "absent") then Ask Absent about else Malformed))))))
+    else (if bytes_eq w (codes "absent") then Ask Absent about else Malformed)))))))
 
 -- by how many words follow the first
 abbrev pub counted_request : List ℕ → List (List ℕ) → Request

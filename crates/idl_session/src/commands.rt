@@ -24,7 +24,7 @@ use idl_workspace::Session;
 /// | `undef WORD`: takes a macro out, if there is one | `ok` |
 /// | `search`, `search DIRECTORY ..`: where included files are searched | `ok` |
 /// | `root NAME`, `unroot NAME`: makes a file a root, or none any more | `ok` |
-/// | `diagnostics NAME`, `dump NAME`: asks for the rows of a root | `rows N` and N lines |
+/// | `diagnostics NAME`, `listing NAME`, `dump NAME`: asks for the rows of a root | `rows N` and N lines |
 /// | `absent NAME`: asks for the files that a root asked for and that aren't there | `rows N` and N lines |
 ///
 /// What is refused has the reply `refused N`, N being the number of the [`Refusal`](crate::Refusal), and changes nothing.

@@ -40,6 +40,7 @@ pub enum Change<'a> {
 #[derive(Clone, Copy)]
 pub enum Question {
     Diagnostics,
+    Listing,
     Dump,
     /// The files that it asks for and that aren't there.
     Absent,
@@ -150,6 +151,8 @@ fn pair_heading<'a>(first: &'a [u8], about: &'a [u8]) -> Heading<'a>
         Heading::Make(Change::DropRoot(about))
     } else if first == b"diagnostics".as_slice() {
         Heading::Ask(Question::Diagnostics, about)
+    } else if first == b"listing".as_slice() {
+        Heading::Ask(Question::Listing, about)
     } else if first == b"dump".as_slice() {
         Heading::Ask(Question::Dump, about)
     } else if first == b"absent".as_slice() {

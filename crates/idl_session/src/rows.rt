@@ -44,6 +44,7 @@ pub fn ask<'s>(session: &'s Session, question: Question, name: &[u8]) -> Option<
 {
     match question {
         Question::Diagnostics => Some(Rows::Texts(session.diagnostics(name)?)),
+        Question::Listing => Some(Rows::Texts(session.listing(name)?)),
         Question::Dump => Some(Rows::Texts(session.dump(name)?)),
         Question::Absent => Some(Rows::Names(session.absent(name)?)),
     }

@@ -9,7 +9,7 @@ use Rattle.idl_site.specs.TypeParts.{type_parts}
 use Rattle.idl_site.specs.UnitParts.{attribute_names_parts, attribute_parts, bases_parts, context_parts, direction_parts, exceptions_parts, forward_parts, given_back, interface_parts, oneway_parts, operation_parts, parameter_parts, raises_parts, readonly_attribute_parts, readonly_names_parts, result_parts}
 use Rattle.idl_site.specs.declared.site.Declaration.TheVariants as declaration
 use Rattle.idl_site.specs.declared.site.Use.{Use}
-use Rattle.idl_site.specs.declared.site.Use.TheVariants.{AsBase, AsType, Raised}
+use Rattle.idl_site.specs.declared.site.Use.TheVariants.{AsBase, AsType, Raised, RaisedBySet}
 use Rattle.idl_tree.specs.DataType.{spell_type}
 use Rattle.idl_tree.specs.Interface.{spell_attribute, spell_attribute_names, spell_bases, spell_context, spell_direction, spell_exceptions, spell_forward, spell_identifiers, spell_interface, spell_list, spell_local, spell_oneway, spell_operation, spell_parameter, spell_raises, spell_readonly_attribute, spell_readonly_names, spell_result, spell_setraises, spell_text}
 use Rattle.idl_tree.specs.Lexeme.{Lexemes, Identifier, Punctuation, Word}
@@ -39,11 +39,11 @@ use Rattle.idl_site.proofs.TypeSpelling.{type_spells}
 names_spell : (way : Use) (ns : Several ScopedName) → spell_parts (used way ns) ≡ spell_listed spell_name ns
 names_spell way ns = spells-listed (λ name. Uses way name ∷ []) spell_name (λ name. append-nil (spell_name name)) ns
 
-list_spells : (ns : Several ScopedName) → spell_parts (used Raised ns ++ punctuation mark.CloseParenthesis ∷ []) ≡ spell_listed spell_name ns ++ Punctuation mark.CloseParenthesis ∷ []
-list_spells ns = spells-then (used Raised ns) (punctuation mark.CloseParenthesis ∷ []) (spell_listed spell_name ns) (Punctuation mark.CloseParenthesis ∷ []) (names_spell Raised ns) refl
+list_spells : (way : Use) (ns : Several ScopedName) → spell_parts (used way ns ++ punctuation mark.CloseParenthesis ∷ []) ≡ spell_listed spell_name ns ++ Punctuation mark.CloseParenthesis ∷ []
+list_spells way ns = spells-then (used way ns) (punctuation mark.CloseParenthesis ∷ []) (spell_listed spell_name ns) (Punctuation mark.CloseParenthesis ∷ []) (names_spell way ns) refl
 
-raised_spells : (keyword : Keyword) (ns : Several ScopedName) → spell_parts (raised keyword ns) ≡ Word keyword ∷ spell_list ns
-raised_spells keyword ns = ap (λ (w : Lexemes). Word keyword ∷ Punctuation mark.OpenParenthesis ∷ w) (list_spells ns)
+raised_spells : (way : Use) (keyword : Keyword) (ns : Several ScopedName) → spell_parts (raised way keyword ns) ≡ Word keyword ∷ spell_list ns
+raised_spells way keyword ns = ap (λ (w : Lexemes). Word keyword ∷ Punctuation mark.OpenParenthesis ∷ w) (list_spells way ns)
 
 bases_spell : (is_local : Bool) (bases : Option (Several ScopedName)) → spell_parts (if_some (bases_parts is_local) bases) ≡ spell_bases bases
 bases_spell is_local None = refl
@@ -60,12 +60,12 @@ forward_spells (forward.Interface is_local name) = append_assoc (spell_local is_
 forward_spells (forward.Structure name) = refl
 forward_spells (forward.Union name) = refl
 
-identifiers_spell : (ids : Several (List ℕ)) → spell_parts (listed (declared declaration.Attribute) ids) ≡ spell_identifiers ids
-identifiers_spell ids = spells-listed (declared declaration.Attribute) (λ name. Identifier name ∷ []) (λ name. refl) ids
+identifiers_spell : (is_readonly : Bool) (ids : Several (List ℕ)) → spell_parts (listed (declared (declaration.Attribute is_readonly)) ids) ≡ spell_identifiers ids
+identifiers_spell is_readonly ids = spells-listed (declared (declaration.Attribute is_readonly)) (λ name. Identifier name ∷ []) (λ name. refl) ids
 
 readonly_names_spell : (n : ReadonlyNames) → spell_parts (readonly_names_parts n) ≡ spell_readonly_names n
-readonly_names_spell (readonly.Raising name ns) = ap (λ (w : Lexemes). Identifier name ∷ w) (raised_spells word.Raises ns)
-readonly_names_spell (readonly.Plain ids) = identifiers_spell ids
+readonly_names_spell (readonly.Raising name ns) = ap (λ (w : Lexemes). Identifier name ∷ w) (raised_spells Raised word.Raises ns)
+readonly_names_spell (readonly.Plain ids) = identifiers_spell true ids
 
 pub readonly_attribute_spells : (a : ReadonlyAttribute) → spell_parts (readonly_attribute_parts a) ≡ spell_readonly_attribute a
 readonly_attribute_spells a =
@@ -74,13 +74,13 @@ readonly_attribute_spells a =
 
 exceptions_spell : (r : AttributeRaises) → spell_parts (exceptions_parts r) ≡ spell_exceptions r
 exceptions_spell (Get ns set) =
-    spells-then (raised word.Getraises ns) (if_some (raised word.Setraises) set) (Word word.Getraises ∷ spell_list ns) (spell_if spell_setraises set)
-    (raised_spells word.Getraises ns) (spells-if (raised word.Setraises) spell_setraises (raised_spells word.Setraises) set)
-exceptions_spell (Set ns) = raised_spells word.Setraises ns
+    spells-then (raised Raised word.Getraises ns) (if_some (raised RaisedBySet word.Setraises) set) (Word word.Getraises ∷ spell_list ns) (spell_if spell_setraises set)
+    (raised_spells Raised word.Getraises ns) (spells-if (raised RaisedBySet word.Setraises) spell_setraises (raised_spells RaisedBySet word.Setraises) set)
+exceptions_spell (Set ns) = raised_spells RaisedBySet word.Setraises ns
 
 attribute_names_spell : (n : AttributeNames) → spell_parts (attribute_names_parts n) ≡ spell_attribute_names n
 attribute_names_spell (names.Raising name raises) = ap (λ (w : Lexemes). Identifier name ∷ w) (exceptions_spell raises)
-attribute_names_spell (names.Plain ids) = identifiers_spell ids
+attribute_names_spell (names.Plain ids) = identifiers_spell false ids
 
 pub attribute_spells : (a : Attribute) → spell_parts (attribute_parts a) ≡ spell_attribute a
 attribute_spells a =
@@ -107,12 +107,12 @@ direction_spells is_oneway InOut = given_back_spells is_oneway (Plain (spell_dir
 
 parameter_spells : (is_oneway : Bool) (p : Parameter) → spell_parts (parameter_parts is_oneway p) ≡ spell_parameter p
 parameter_spells is_oneway p =
-    spells-then (direction_parts is_oneway p.direction) (type_parts p.kind ++ Declares declaration.Parameter p.name ∷ [])
+    spells-then (direction_parts is_oneway p.direction) (type_parts p.kind ++ Declares (declaration.Parameter p.direction) p.name ∷ [])
     (spell_direction p.direction) (spell_type p.kind ++ Identifier p.name ∷ []) (direction_spells is_oneway p.direction)
-    (spells-then (type_parts p.kind) (Declares declaration.Parameter p.name ∷ []) (spell_type p.kind) (Identifier p.name ∷ []) (type_spells p.kind AsType) refl)
+    (spells-then (type_parts p.kind) (Declares (declaration.Parameter p.direction) p.name ∷ []) (spell_type p.kind) (Identifier p.name ∷ []) (type_spells p.kind AsType) refl)
 
 raises_spell : (is_oneway : Bool) (ns : Several ScopedName) → spell_parts (raises_parts is_oneway ns) ≡ spell_raises ns
-raises_spell is_oneway ns = given_back_spells is_oneway (raised word.Raises ns) (spell_raises ns) (raised_spells word.Raises ns)
+raises_spell is_oneway ns = given_back_spells is_oneway (raised Raised word.Raises ns) (spell_raises ns) (raised_spells Raised word.Raises ns)
 
 context_spells : (texts : Several (Several (List ℕ))) → spell_parts (context_parts texts) ≡ spell_context texts
 context_spells texts =
@@ -139,9 +139,9 @@ operation_spells o =
     spells-then parameters (punctuation mark.CloseParenthesis ∷ last) (spell_if (spell_listed spell_parameter) o.parameters) (Punctuation mark.CloseParenthesis ∷ end)
     (spells-if (listed (parameter_parts o.is_oneway)) (spell_listed spell_parameter) (spells-listed (parameter_parts o.is_oneway) spell_parameter (parameter_spells o.is_oneway)) o.parameters)
     (ap (λ (w : Lexemes). Punctuation mark.CloseParenthesis ∷ w) ends) in
-    let head : Parts = result_parts o.is_oneway o.result ++ Declares declaration.Operation o.name ∷ ScopeBegins declaration.Operation o.name ∷ punctuation mark.OpenParenthesis ∷ inside in
+    let head : Parts = result_parts o.is_oneway o.result ++ Declares (declaration.Operation o.is_oneway) o.name ∷ ScopeBegins (declaration.Operation o.is_oneway) o.name ∷ punctuation mark.OpenParenthesis ∷ inside in
     let front : Lexemes = spell_result o.result ++ (Identifier o.name ∷ Punctuation mark.OpenParenthesis ∷ within) in
     spells-then (oneway_parts o.is_oneway) head (spell_oneway o.is_oneway) front (oneway_spells o.is_oneway)
-    (spells-then (result_parts o.is_oneway o.result) (Declares declaration.Operation o.name ∷ ScopeBegins declaration.Operation o.name ∷ punctuation mark.OpenParenthesis ∷ inside)
+    (spells-then (result_parts o.is_oneway o.result) (Declares (declaration.Operation o.is_oneway) o.name ∷ ScopeBegins (declaration.Operation o.is_oneway) o.name ∷ punctuation mark.OpenParenthesis ∷ inside)
     (spell_result o.result) (Identifier o.name ∷ Punctuation mark.OpenParenthesis ∷ within) (result_spells o.is_oneway o.result)
     (ap (λ (w : Lexemes). Identifier o.name ∷ Punctuation mark.OpenParenthesis ∷ w) spelled))

@@ -1,11 +1,11 @@
 -- The parts of a type are spelled as it is, and those of a declared name.
-use Rattle.std.proofs.Common.{◌≡◌, ◌∙◌, [], ◌∷◌, ◌++◌, Option, None, Some, is_some, refl, sym, ap, subst}
+use Rattle.std.proofs.Common.{◌≡◌, ◌∙◌, List, [], ◌∷◌, ◌++◌, Option, None, Some, flat_map, is_some, refl, sym, ap, subst}
 use Rattle.std.proofs.lemmas.List.{append-nil}
 use Rattle.idl_lex.specs.declared.keyword.Keyword.TheVariants as word
 use Rattle.idl_lex.specs.declared.mark.Mark.TheVariants as mark
 use Rattle.idl_site.specs.Part.{Parts, Plain, TypeEnds, punctuation, spell_parts}
 use Rattle.idl_site.specs.ExpressionParts.{value_parts}
-use Rattle.idl_site.specs.TypeParts.{bound_parts, constant_type_parts, data_type_step, declarator_parts, length_parts, limit_parts, plain_parts, sequence_step, string_parts, type_parts_as}
+use Rattle.idl_site.specs.TypeParts.{array_end, bound_parts, constant_type_parts, data_type_step, declarator_parts, length_parts, limit_parts, plain_parts, sequence_step, string_parts, type_parts_as}
 use Rattle.idl_site.specs.declared.site.Declaration.{Declaration}
 use Rattle.idl_site.specs.declared.site.Shape.TheVariants.{Text, Sequence as Elements}
 use Rattle.idl_site.specs.declared.site.Target.TheVariants.{Bound, Length}
@@ -107,5 +107,12 @@ length_spells e =
     ap (λ (w : Lexemes). Punctuation mark.OpenBracket ∷ w)
     (spells-then (value_parts Length e) (punctuation mark.CloseBracket ∷ []) (spell_expression e) (Punctuation mark.CloseBracket ∷ []) (value_spells Length e) refl)
 
+-- the mark behind the lengths has no tokens
+array_end_spells : (lengths : List Expression) → spell_parts (array_end lengths) ≡ []
+array_end_spells [] = refl
+array_end_spells (e ∷ lengths) = refl
+
 pub declarator_spells : (declaration : Declaration) (d : Declarator) → spell_parts (declarator_parts declaration d) ≡ spell_declarator d
-declarator_spells declaration d = ap (λ (w : Lexemes). Identifier d.name ∷ w) (spells-each length_parts spell_length length_spells d.lengths)
+declarator_spells declaration d = ap (λ (w : Lexemes). Identifier d.name ∷ w)
+    (spells-then (flat_map length_parts d.lengths) (array_end d.lengths) (flat_map spell_length d.lengths) [] (spells-each length_parts spell_length length_spells d.lengths) (array_end_spells d.lengths)
+    ∙ append-nil (flat_map spell_length d.lengths))

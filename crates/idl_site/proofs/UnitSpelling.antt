@@ -79,6 +79,7 @@ spell_part-length (Part.ValueEnds target expression) = refl
 spell_part-length (Part.ScopeBegins declaration name) = refl
 spell_part-length Part.ScopeEnds = refl
 spell_part-length (Part.TypeEnds shape) = refl
+spell_part-length Part.ArrayEnds = refl
 spell_part-length (Part.Enumerates names) = refl
 spell_part-length (Part.Switches discrete) = refl
 spell_part-length Part.Default = refl

@@ -25,6 +25,7 @@ pub data Item : Type 0 where
   ScopeBegins : Declaration → List ℕ → Item
   ScopeEnds : Item
   TypeEnds : Shape → Item
+  ArrayEnds : Item
   Enumerates : Several (List ℕ) → Item
   Switches : DiscreteType → Item
   Default : Item
@@ -40,6 +41,7 @@ item_of (Part.ValueEnds target expression) = ValueEnds target expression
 item_of (Part.ScopeBegins declaration name) = ScopeBegins declaration name
 item_of Part.ScopeEnds = ScopeEnds
 item_of (Part.TypeEnds shape) = TypeEnds shape
+item_of Part.ArrayEnds = ArrayEnds
 item_of (Part.Enumerates names) = Enumerates names
 item_of (Part.Switches discrete) = Switches discrete
 item_of Part.Default = Default
@@ -71,6 +73,7 @@ item_at (site.ValueEnds target expression) = ValueEnds target expression.now
 item_at (site.ScopeBegins declaration name) = ScopeBegins declaration name.now
 item_at site.ScopeEnds = ScopeEnds
 item_at (site.TypeEnds shape) = TypeEnds shape
+item_at site.ArrayEnds = ArrayEnds
 item_at (site.Enumerates names) = Enumerates names.now
 item_at (site.Switches discrete) = Switches discrete
 item_at site.Default = Default

@@ -8,7 +8,6 @@ use Rattle.idl_site.specs.declared.site.Declaration.{Declaration}
 use Rattle.idl_site.specs.declared.site.Shape.{Shape}
 use Rattle.idl_site.specs.declared.site.Target.{Target}
 use Rattle.idl_site.specs.declared.site.Use.{Use}
-use Rattle.idl_site.specs.declared.site.Use.TheVariants.{Raised}
 use Rattle.idl_tree.specs.Interface.{spell_text}
 use Rattle.idl_tree.specs.Lexeme.{Lexemes, Word, Punctuation, Identifier}
 use Rattle.idl_tree.specs.Name.{spell_name}
@@ -32,6 +31,8 @@ pub data Part : Type 0 where
   ScopeEnds : Part
   -- a type ends that is no name
   TypeEnds : Shape → Part
+  -- the lengths of the array that was declared last are told
+  ArrayEnds : Part
   -- the enum that is declared next has these enumerators
   Enumerates : Several (List ℕ) → Part
   -- a discriminator of keywords follows
@@ -82,8 +83,8 @@ declared declaration name = Declares declaration name ∷ []
 abbrev pub used : Use → Several ScopedName → Parts
 used way names = listed (λ name. Uses way name ∷ []) names
 
--- a keyword, and exceptions in parentheses
-abbrev pub raised : Keyword → Several ScopedName → Parts
-raised keyword names =
+-- a keyword, and exceptions in parentheses that are used so
+abbrev pub raised : Use → Keyword → Several ScopedName → Parts
+raised way keyword names =
     keyword_part keyword ∷ punctuation OpenParenthesis
-    ∷ (used Raised names ++ punctuation CloseParenthesis ∷ [])
+    ∷ (used way names ++ punctuation CloseParenthesis ∷ [])

@@ -1,9 +1,9 @@
 -- The parts of types and of declared names.
-use Rattle.std.specs.Prelude.{[], ◌∷◌, ◌++◌, flat_map, is_some, Option, None, Some}
+use Rattle.std.specs.Prelude.{List, [], ◌∷◌, ◌++◌, flat_map, is_some, Option, None, Some}
 use Rattle.idl_lex.specs.declared.keyword.Keyword.TheVariants as word
 use Rattle.idl_lex.specs.declared.mark.Mark.TheVariants as mark
 use Rattle.idl_site.specs.ExpressionParts.{value_parts}
-use Rattle.idl_site.specs.Part.{Parts, Plain, Declares, TypeEnds, Uses, punctuation}
+use Rattle.idl_site.specs.Part.{Parts, Plain, ArrayEnds, Declares, TypeEnds, Uses, punctuation}
 use Rattle.idl_site.specs.declared.site.Declaration.{Declaration}
 use Rattle.idl_site.specs.declared.site.Shape.TheVariants.{Basic, Text, Sequence as Elements}
 use Rattle.idl_site.specs.declared.site.Target.TheVariants.{Bound, Length}
@@ -76,6 +76,12 @@ abbrev pub length_parts : Expression → Parts
 length_parts e =
     punctuation mark.OpenBracket ∷ (value_parts Length e ++ punctuation mark.CloseBracket ∷ [])
 
+-- behind the lengths of an array, if it is one
+abbrev pub array_end : List Expression → Parts
+array_end [] = []
+array_end (e ∷ lengths) = ArrayEnds ∷ []
+
 -- declr = ID ( "[" expr "]" )*
 abbrev pub declarator_parts : Declaration → Declarator → Parts
-declarator_parts declaration d = Declares declaration d.name ∷ flat_map length_parts d.lengths
+declarator_parts declaration d =
+    Declares declaration d.name ∷ (flat_map length_parts d.lengths ++ array_end d.lengths)

@@ -8,7 +8,7 @@ use Rattle.idl_site.specs.Part.{Parts, Plain, Declares, Says, ScopeBegins, Scope
 use Rattle.idl_site.specs.TypeParts.{constant_type_parts, declarator_parts, type_parts}
 use Rattle.idl_site.specs.declared.site.Declaration.TheVariants as declaration
 use Rattle.idl_site.specs.declared.site.Target.TheVariants as target
-use Rattle.idl_site.specs.declared.site.Use.TheVariants.{AsBase}
+use Rattle.idl_site.specs.declared.site.Use.TheVariants.{AsBase, Raised, RaisedBySet}
 use Rattle.idl_tree.specs.Interface.{spell_direction, spell_local}
 use Rattle.idl_tree.specs.Lexeme.{Word, Punctuation}
 use Rattle.idl_tree.specs.declared.attribute.Attribute.{Attribute}
@@ -88,23 +88,25 @@ exception_parts e =
 
 -- excs = "getraises" list [ "setraises" list ] | "setraises" list
 abbrev pub exceptions_parts : AttributeRaises → Parts
-exceptions_parts (Get ns set) = raised word.Getraises ns ++ if_some (raised word.Setraises) set
-exceptions_parts (Set ns) = raised word.Setraises ns
+exceptions_parts (Get ns set) =
+    raised Raised word.Getraises ns ++ if_some (raised RaisedBySet word.Setraises) set
+exceptions_parts (Set ns) = raised RaisedBySet word.Setraises ns
 
-abbrev pub attribute_names : Several (List ℕ) → Parts
-attribute_names names = listed (declared declaration.Attribute) names
+-- of attributes that are readonly or not
+abbrev pub attribute_names : Bool → Several (List ℕ) → Parts
+attribute_names is_readonly names = listed (declared (declaration.Attribute is_readonly)) names
 
 -- ID raises | ID/","
 abbrev pub readonly_names_parts : ReadonlyNames → Parts
 readonly_names_parts (readonly.Raising name ns) =
-    Declares declaration.Attribute name ∷ raised word.Raises ns
-readonly_names_parts (readonly.Plain ids) = attribute_names ids
+    Declares (declaration.Attribute true) name ∷ raised Raised word.Raises ns
+readonly_names_parts (readonly.Plain ids) = attribute_names true ids
 
 -- ID excs | ID/","
 abbrev pub attribute_names_parts : AttributeNames → Parts
 attribute_names_parts (names.Raising name raises) =
-    Declares declaration.Attribute name ∷ exceptions_parts raises
-attribute_names_parts (names.Plain ids) = attribute_names ids
+    Declares (declaration.Attribute false) name ∷ exceptions_parts raises
+attribute_names_parts (names.Plain ids) = attribute_names false ids
 
 -- "readonly" "attribute" type ( ID raises | ID/"," )
 abbrev pub readonly_attribute_parts : ReadonlyAttribute → Parts
@@ -140,11 +142,11 @@ direction_parts is_oneway other = given_back is_oneway ++ Plain (spell_direction
 abbrev pub parameter_parts : Bool → Parameter → Parts
 parameter_parts is_oneway p =
     direction_parts is_oneway p.direction
-    ++ (type_parts p.kind ++ Declares declaration.Parameter p.name ∷ [])
+    ++ (type_parts p.kind ++ Declares (declaration.Parameter p.direction) p.name ∷ [])
 
 -- raises = "raises" list
 abbrev pub raises_parts : Bool → Several ScopedName → Parts
-raises_parts is_oneway names = given_back is_oneway ++ raised word.Raises names
+raises_parts is_oneway names = given_back is_oneway ++ raised Raised word.Raises names
 
 -- "context" "(" text/"," ")"
 abbrev pub context_parts : Several (Several (List ℕ)) → Parts
@@ -158,7 +160,8 @@ abbrev pub operation_parts : Operation → Parts
 operation_parts o =
     oneway_parts o.is_oneway
     ++ (result_parts o.is_oneway o.result
-    ++ Declares declaration.Operation o.name ∷ ScopeBegins declaration.Operation o.name
+    ++ Declares (declaration.Operation o.is_oneway) o.name
+    ∷ ScopeBegins (declaration.Operation o.is_oneway) o.name
     ∷ punctuation mark.OpenParenthesis
     ∷ (if_some (listed (parameter_parts o.is_oneway)) o.parameters
     ++ punctuation mark.CloseParenthesis

@@ -2,7 +2,7 @@
 
 ghost use Rattle.std.specs.Prelude.{◌≡◌, ◌++◌, length, OnOk};
 ghost use Rattle.idl_site.specs.Item.{Pushes};
-ghost use Rattle.idl_site.specs.TypeParts.{constant_type_parts, declarator_parts, length_parts, limit_parts, plain_parts, string_parts, type_parts_as};
+ghost use Rattle.idl_site.specs.TypeParts.{array_end, constant_type_parts, declarator_parts, length_parts, limit_parts, plain_parts, string_parts, type_parts_as};
 ghost use Rattle.idl_tree.specs.DataType.{spell_basic, spell_discrete, spell_sign, spell_size};
 
 use crate::expression::push_value;
@@ -150,5 +150,21 @@ pub fn push_declarator<'a>(
         push_value(sites, Target::Length, length)?;
         sites.push(Site::Tokens(1))?;
     }
-    Ok(())
+    push_array_end(sites, declarator.lengths.as_slice())
+}
+
+/// The end of an array with these lengths, if it is one.
+fn push_array_end<'a>(
+    sites: &mut Vec<Site<'a>>,
+    lengths: &[Expression],
+) -> Result<(), AllocError>
+    ensures { OnOk result (Pushes sites.old.items sites.new.items (array_end lengths.now)) }
+{
+    match lengths {
+        [] => Ok(()),
+        [_, ..] => {
+            sites.push(Site::ArrayEnds)?;
+            Ok(())
+        }
+    }
 }

@@ -4,6 +4,7 @@ ghost use Rattle.std.specs.Prelude.{OnOk};
 ghost use Rattle.idl_lex.specs.declared.keyword.Keyword.TheVariants as word;
 ghost use Rattle.idl_site.specs.Item.{Pushes};
 ghost use Rattle.idl_site.specs.Part.{if_some, listed, raised};
+ghost use Rattle.idl_site.specs.declared.site.Use.TheVariants.{RaisedBySet};
 ghost use Rattle.idl_site.specs.UnitParts.{attribute_parts, context_parts, direction_parts, exceptions_parts, forward_parts, given_back, interface_parts, oneway_parts, operation_parts, parameter_parts, raises_parts, readonly_attribute_parts, result_parts};
 
 use crate::data_type::push_type;
@@ -67,10 +68,10 @@ pub fn push_readonly_attribute<'a>(
     push_type(sites, &attribute.kind, Use::AsType)?;
     match &attribute.names {
         ReadonlyNames::Raising(name, raised) => {
-            sites.push(Site::Declared(Declaration::Attribute, name))?;
-            push_raised(sites, raised)
+            sites.push(Site::Declared(Declaration::Attribute(true), name))?;
+            push_raised(sites, Use::Raised, raised)
         }
-        ReadonlyNames::Plain(names) => push_declared(sites, Declaration::Attribute, names),
+        ReadonlyNames::Plain(names) => push_declared(sites, Declaration::Attribute(true), names),
     }
 }
 
@@ -86,10 +87,10 @@ pub fn push_attribute<'a>(
     push_type(sites, &attribute.kind, Use::AsType)?;
     match &attribute.names {
         AttributeNames::Raising(name, raises) => {
-            sites.push(Site::Declared(Declaration::Attribute, name))?;
+            sites.push(Site::Declared(Declaration::Attribute(false), name))?;
             push_exceptions(sites, raises)
         }
-        AttributeNames::Plain(names) => push_declared(sites, Declaration::Attribute, names),
+        AttributeNames::Plain(names) => push_declared(sites, Declaration::Attribute(false), names),
     }
 }
 
@@ -102,23 +103,23 @@ fn push_exceptions<'a>(
 {
     match raises {
         AttributeRaises::Get(get, set) => {
-            push_raised(sites, get)?;
-            push_raised_if(sites, set)
+            push_raised(sites, Use::Raised, get)?;
+            push_raised_by_set(sites, set)
         }
-        AttributeRaises::Set(set) => push_raised(sites, set),
+        AttributeRaises::Set(set) => push_raised(sites, Use::RaisedBySet, set),
     }
 }
 
-/// What is raised, if that is said.
-fn push_raised_if<'a>(
+/// What writing an attribute raises, if that is said.
+fn push_raised_by_set<'a>(
     sites: &mut Vec<Site<'a>>,
     names: &'a Option<Several<ScopedName>>,
 ) -> Result<(), AllocError>
     ensures { OnOk result
-        (Pushes sites.old.items sites.new.items (if_some (raised word.Raises) names.now)) }
+        (Pushes sites.old.items sites.new.items (if_some (raised RaisedBySet word.Setraises) names.now)) }
 {
     match names {
-        Some(names) => push_raised(sites, names),
+        Some(names) => push_raised(sites, Use::RaisedBySet, names),
         None => Ok(()),
     }
 }
@@ -134,8 +135,9 @@ pub fn push_operation<'a>(
     let is_oneway = operation.is_oneway;
     push_oneway(sites, is_oneway)?;
     push_result(sites, is_oneway, &operation.result)?;
-    sites.push(Site::Declared(Declaration::Operation, &operation.name))?;
-    sites.push(Site::ScopeBegins(Declaration::Operation, &operation.name))?;
+    let way = Declaration::Operation(is_oneway);
+    sites.push(Site::Declared(way, &operation.name))?;
+    sites.push(Site::ScopeBegins(way, &operation.name))?;
     sites.push(Site::Tokens(1))?;
     push_parameters(sites, is_oneway, &operation.parameters)?;
     sites.push(Site::Tokens(1))?;
@@ -229,7 +231,8 @@ fn push_parameter<'a>(
 {
     push_direction(sites, is_oneway, parameter.direction)?;
     push_type(sites, &parameter.kind, Use::AsType)?;
-    sites.push(Site::Declared(Declaration::Parameter, &parameter.name))?;
+    let way = Declaration::Parameter(parameter.direction);
+    sites.push(Site::Declared(way, &parameter.name))?;
     Ok(())
 }
 
@@ -262,7 +265,7 @@ fn push_raises<'a>(
     match names {
         Some(names) => {
             push_given_back(sites, is_oneway)?;
-            push_raised(sites, names)
+            push_raised(sites, Use::Raised, names)
         }
         None => Ok(()),
     }

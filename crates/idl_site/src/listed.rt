@@ -43,16 +43,17 @@ pub fn push_used<'a>(
     Ok(())
 }
 
-/// A keyword, and exceptions in parentheses. Which keyword it is makes no difference.
+/// A keyword, and exceptions in parentheses that are used so. Which keyword it is makes no difference.
 pub fn push_raised<'a>(
     sites: &mut Vec<Site<'a>>,
+    way: Use,
     names: &'a Several<ScopedName>,
 ) -> Result<(), AllocError>
-    ensures { OnOk result (Pushes sites.old.items sites.new.items (raised word.Raises names.now)) }
+    ensures { OnOk result (Pushes sites.old.items sites.new.items (raised way word.Raises names.now)) }
 {
     sites.push(Site::Tokens(1))?;
     sites.push(Site::Tokens(1))?;
-    push_used(sites, Use::Raised, names)?;
+    push_used(sites, way, names)?;
     sites.push(Site::Tokens(1))?;
     Ok(())
 }

@@ -1,7 +1,7 @@
 //! Sites.
 
 use idl_base::{Seq, Text};
-use idl_tree::{BasicType, DiscreteType, Expression, ScopedName, Several};
+use idl_tree::{BasicType, Direction, DiscreteType, Expression, ScopedName, Several};
 
 /// What a name is declared as.
 #[derive(Clone, Copy)]
@@ -22,9 +22,11 @@ pub enum Declaration {
     Alias,
     Native,
     Constant,
-    Attribute,
-    Operation,
-    Parameter,
+    /// An attribute, and whether it is readonly.
+    Attribute(bool),
+    /// An operation, and whether it is oneway.
+    Operation(bool),
+    Parameter(Direction),
     Member,
 }
 
@@ -45,6 +47,8 @@ pub enum Use {
     AsOperand,
     /// An exception that is raised.
     Raised,
+    /// An exception that the writing of an attribute raises.
+    RaisedBySet,
 }
 
 /// What an expression is for.
@@ -91,6 +95,8 @@ pub enum Site<'a> {
     ScopeEnds,
     /// A type ends that is no name.
     TypeEnds(Shape),
+    /// The lengths of the array that was declared last are told.
+    ArrayEnds,
     /// The enum that is declared next has these enumerators.
     Enumerates(&'a Several<Text>),
     /// The discriminator of a union is this type, whose keywords follow.

@@ -45,7 +45,7 @@ static DECLARATIONS: [&str; 13] = [
     "module M { interface I { oneway void f(in long x); }; };\n=module M {\n=  interface I {\n\
      =    oneway void f ( in long x );\n=  };\n=};",
     "};\nvoid f();\ninterface I { module M { interface J; struct S; }; };\n=a:1: E22 }\n=a:2: E22 void\n\
-     =a:3: E22 module ¶ module M {\n\n=a:2: E23 ¶ module M { typedef long X };\n=a:1: E20 typedef",
+     =a:3: E22 module\n=a:3: W80 J\n=a:3: E75 S ¶ module M {\n\n=a:2: E23 ¶ module M { typedef long X };\n=a:1: E20 typedef",
     "valuetype V { };\nconst double D = 1.5;\nconst long K = 1.5;\nstruct P { double x; };\n=a:1: E21 valuetype\n\
      =a:2: E21 double\n=a:3: E06 1.5 ¶ `64×module M@ {\n``64×};\n`\nmodule N {`64×module M@ {``65×};`\n=a:130: E24 {",
     // Names of other scopes, and what their use introduces.
@@ -68,12 +68,12 @@ static DECLARATIONS: [&str; 13] = [
     "interface A { void f(); };\ninterface H : A { void F(); };\n=a:2: E42 F ¶ interface A { void f(); };\n\
      interface B : A { };\ninterface C : A { };\ninterface D : B, C { };\n=interface A {\n=  void f ( );\n=};\n\
      =interface B : ::A {\n=};\n=interface C : ::A {\n=};\n=interface D : ::B, ::C {\n=};",
-    "interface A;\ninterface B : A { };\n=a:2: E40 A ¶ interface A { void f(); };\ninterface B { void f(); };\n\
+    "interface A;\ninterface B : A { };\n=a:2: E40 A\n=a:1: W80 A ¶ interface A { void f(); };\ninterface B { void f(); };\n\
      local interface L { };\ninterface C : A, A { };\ninterface D : A, B { };\ninterface E : L { };\n\
      local interface F : L, A { };\ninterface G : G { };\n=a:4: E41 A\n=a:5: E42 B\n=a:6: E43 L\n=a:8: E40 G",
     // What is declared ahead.
     "struct S;\nstruct S;\nstruct S { long x; };\nstruct S;\ninterface I;\nlocal interface I;\nunion S;\n=a:6: E39 I\n\
-     =a:7: E39 S",
+     =a:7: E39 S\n=a:5: W80 I",
     // A faulty opening opens a scope without a name, and what stands in it is judged there.
     "interface A : B {\ntypedef long T;\ntypedef T U;\nvoid f();\n};\ntypedef A::T V;\ntypedef long A;\n=a:1: E30 B\n\
      =a:6: E30 A",

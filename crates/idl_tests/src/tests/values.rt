@@ -78,7 +78,7 @@ static TYPES: [&str; 9] = [
     "struct N;\ntypedef N A;\nstruct S { N n; };\nstruct R { R r; };\nstruct Q { sequence<Q> a; struct P { Q b; } c; \
      };\ninterface I { attribute N n; N f(in N x); };\nexception X { N n; };\nunion U switch (long) { case 1: U a; };\n\
      const N K = 1;\ntypedef N B[2];\n=a:2: E57 N\n=a:3: E57 N\n=a:4: E57 R\n=a:5: E57 Q\n=a:6: E57 N\n=a:6: E57 N\n\
-     =a:7: E57 N\n=a:8: E57 U\n=a:9: E56 N\n=a:10: E57 N",
+     =a:7: E57 N\n=a:8: E57 U\n=a:9: E56 N\n=a:10: E57 N\n=a:1: E75 N",
     // What a oneway operation may not have.
     "interface I {\noneway void f(in long x) context (\"c\");\nvoid g(out long x);\n};\n=interface I {\n\
      =  oneway void f ( in long x ) context ( \"c\" );\n=  void g ( out long x );\n=};",

@@ -1,7 +1,7 @@
 use Rattle.std.proofs.Common.{◌≡◌, ◌∙◌, ◌+◌, ◌-◌, None, Some, sym, ap, arith}
 use Rattle.std.specs.Option.{option_copied}
 use Rattle.idl_memo.specs.Query.{noted}
-use Rattle.idl_check.specs.Types.{behind_typedefs, path_in}
+use Rattle.idl_check.specs.Types.{aliased, behind_typedefs, path_in}
 use Rattle.idl_check.proofs.TypeLemmas.{behind_nothing, behind_on, fewer_turns, next_turn}
 use Rattle.idl_scope.proofs.RunLemmas.{runs, seen_at}
 use Rattle.idl_scope.specs.Facts.{answers, entity_in, entity_key}
@@ -24,7 +24,7 @@ returns-in_default-2 c =
     let e = c.loop-turn.behind in
     let log = c.loop-turn.log in
     let path = c.in-Some.path.now in
-    let some : path_in e.meaning ≡ Some path = ap (λ (x : Entity). path_in x.meaning) (sym c.get.ensures) ∙ sym c.path_in.ensures ∙ ap option_copied c.in-Some.is in
+    let some : path_in (aliased e) ≡ Some path = ap (λ (x : Entity). path_in (aliased x)) (sym c.get.ensures) ∙ sym c.path_in.ensures ∙ ap option_copied c.in-Some.is in
     let none : entity_in (seen_at own bank (entity_key path)) ≡ None =
     ap (λ k. entity_in (seen_at own bank k)) (sym c.in_ok-key.ensures) ∙ sym c.in_ok-next.ensures.entity ∙ ap option_copied c.in_default-2.is
     in
@@ -43,7 +43,7 @@ loop-turn-preserved c =
     let log = c.loop-turn.log in
     let path = c.in-Some.path.now in
     let next = c.in-Some-2.next.now in
-    let some : path_in e.meaning ≡ Some path = ap (λ (x : Entity). path_in x.meaning) (sym c.get.ensures) ∙ sym c.path_in.ensures ∙ ap option_copied c.in-Some.is in
+    let some : path_in (aliased e) ≡ Some path = ap (λ (x : Entity). path_in (aliased x)) (sym c.get.ensures) ∙ sym c.path_in.ensures ∙ ap option_copied c.in-Some.is in
     let there : entity_in (seen_at own bank (entity_key path)) ≡ Some next =
     ap (λ k. entity_in (seen_at own bank k)) (sym c.in_ok-key.ensures) ∙ sym c.in_ok-next.ensures.entity ∙ ap option_copied c.in-Some-2.is
     in

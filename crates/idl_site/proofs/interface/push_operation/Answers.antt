@@ -24,12 +24,12 @@ returns c =
     let parameters : Parts = if_some (listed (parameter_parts o.is_oneway)) o.parameters in
     let last : Parts = raises ++ (context ++ ScopeEnds ∷ []) in
     let inside : Parts = parameters ++ punctuation CloseParenthesis ∷ last in
-    let behind : Parts = ScopeBegins declaration.Operation o.name ∷ punctuation OpenParenthesis ∷ inside in
-    let named : Parts = Declares declaration.Operation o.name ∷ behind in
+    let behind : Parts = ScopeBegins (declaration.Operation o.is_oneway) o.name ∷ punctuation OpenParenthesis ∷ inside in
+    let named : Parts = Declares (declaration.Operation o.is_oneway) o.name ∷ behind in
     pushes-append c.args.sites.now.items s1 z (oneway_parts o.is_oneway) (result_parts o.is_oneway o.result ++ named) c.in_ok-push_oneway.ensures
     (pushes-append s1 s2 z (result_parts o.is_oneway o.result) named c.in_ok-push_result.ensures
-    (pushes-append s2 s3 z (Declares declaration.Operation o.name ∷ []) behind (pushes-one s2 s3 _ (Declares declaration.Operation o.name) c.in_ok-push.ensures.items refl)
-    (pushes-append s3 s4 z (ScopeBegins declaration.Operation o.name ∷ []) (punctuation OpenParenthesis ∷ inside) (pushes-one s3 s4 _ (ScopeBegins declaration.Operation o.name) c.in_ok-push-2.ensures.items refl)
+    (pushes-append s2 s3 z (Declares (declaration.Operation o.is_oneway) o.name ∷ []) behind (pushes-one s2 s3 _ (Declares (declaration.Operation o.is_oneway) o.name) c.in_ok-push.ensures.items refl)
+    (pushes-append s3 s4 z (ScopeBegins (declaration.Operation o.is_oneway) o.name ∷ []) (punctuation OpenParenthesis ∷ inside) (pushes-one s3 s4 _ (ScopeBegins (declaration.Operation o.is_oneway) o.name) c.in_ok-push-2.ensures.items refl)
     (pushes-append s4 s5 z (punctuation OpenParenthesis ∷ []) inside (pushes-one s4 s5 _ (punctuation OpenParenthesis) c.in_ok-push-3.ensures.items refl)
     (pushes-append s5 s6 z parameters (punctuation CloseParenthesis ∷ last) c.in_ok-push_parameters.ensures
     (pushes-append s6 s7 z (punctuation CloseParenthesis ∷ []) last (pushes-one s6 s7 _ (punctuation CloseParenthesis) c.in_ok-push-4.ensures.items refl)

@@ -28,5 +28,5 @@ returns-clause-visited c = λ turns more.
     let gives = c.in_ok-standing.ensures turns more
     ∙ (λ i. runs_over (answers (c.view.ensures.env i)) (under (c.view.ensures.own i).additions (standing turns (scope i) (new i))) log) in
     (λ i. (c.in_ok-declare_as.ensures.visit i, after))
-    ∙ (λ i. (noted_in (declared_visit w (scope i) (entity i) there) w.fault, after))
+    ∙ (λ i. (noted_in (declared_visit w way (scope i) (entity i) there) w.fault, after))
     ∙ sym (declared_in bank turns way name w log s there after innermost gives)

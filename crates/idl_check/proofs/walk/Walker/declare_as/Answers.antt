@@ -5,14 +5,12 @@ use Rattle.idl_check.specs.Codes.{codes_in}
 use Rattle.idl_check.specs.Declaring.{declared_table, stays, with_declared, written_after}
 use Rattle.idl_check.specs.Held.{held, held_written}
 use Rattle.idl_check.specs.Identifying.{with_identity}
-use Rattle.idl_check.specs.Walk.{Walk}
+use Rattle.idl_check.specs.Bodies.{with_member}
+use Rattle.idl_check.specs.Walk.{Walk, is_begun}
 use Rattle.idl_check.specs.declared.walk.Walker.{Walker}
 use Rattle.idl_scope.specs.Facts.{with_addition}
-use Rattle.idl_scope.specs.Kind.{kind_eq, stage_eq}
 use Rattle.idl_scope.specs.declared.addition.Addition.{Addition}
 use Rattle.idl_scope.specs.declared.addition.Addition.TheVariants.{Declares}
-use Rattle.idl_scope.specs.declared.kind.Kind.TheVariants.{Alias}
-use Rattle.idl_scope.specs.declared.kind.Stage.TheVariants.{Begun}
 use Rattle.idl_unit.specs.TokenRules.{first}
 use Rattle.idl_check.proofs.walk.Walker.declare_as.Goals as goal
 
@@ -28,9 +26,10 @@ returns-clause-visit c =
     let after : Walker → Walk = λ w. record (held w) {
       at = w.at + 1;
       own = with_declared there e w.own.additions;
-      begun = w.begun.items ++ cond (stage_eq e.stage Begun) (e ∷ []) [];
+      begun = w.begun.items ++ cond (is_begun e) (e ∷ []) [];
       written = written_after (held_written w.written) e;
-      alias = cond (kind_eq e.kind Alias) (Some e) w.alias;
+      last = Some e;
+      bodies = with_member c.args.way e w.bodies.items;
     } in
     let adds : List Addition → List Addition = λ own. cond (stays there.there e) own (with_addition own (Declares e)) in
     (λ i. record (held noted) {
@@ -38,7 +37,8 @@ returns-clause-visit c =
       own = (c.in_ok-add_declared.ensures i).additions;
       begun = c.in_ok-keep_begun.ensures i;
       written = c.in_ok-declare.ensures i;
-      alias = c.in_ok-keep_alias.ensures i;
+      last = c.in_ok-keep_last.ensures i;
+      bodies = c.in_ok-declare_member.ensures i;
     })
     ∙ (λ i. record (after noted) {
       own = adds (c.in_ok-add_identity.ensures i).additions;

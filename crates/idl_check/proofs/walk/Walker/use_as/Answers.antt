@@ -2,9 +2,10 @@ use Rattle.std.proofs.Common.{ℕ, ◌+◌, ◌∷◌, ◌++◌, [], List, false
 use Rattle.std.specs.Prelude.{option_to_list}
 use Rattle.idl_check.proofs.NotedLemmas.{noted-by}
 use Rattle.idl_check.proofs.TableLaws.{used-up}
+use Rattle.idl_check.specs.Bodies.{with_raised}
 use Rattle.idl_check.specs.Codes.{codes_in}
 use Rattle.idl_check.specs.Held.{held, held_values, held_written}
-use Rattle.idl_check.specs.Using.{bases_after, last_at, meaning_after, unions_after, used_table, values_after, with_uses}
+use Rattle.idl_check.specs.Using.{bases_after, constants_after, last_at, type_after, unions_after, used_table, values_after, with_uses}
 use Rattle.idl_check.specs.Walk.{Walk, noted}
 use Rattle.idl_check.specs.declared.walk.Walker.{Walker}
 use Rattle.idl_lex.specs.Keywords.{folded}
@@ -31,7 +32,8 @@ returns-clause-visit c =
       at = at + 1;
       own = own;
       bases = bases_after way f w.bases;
-      written = record (held_written w.written) { meaning = meaning_after way f behind w.written.meaning };
+      written = record (held_written w.written) { data_type = type_after way f w.written.data_type; constants = constants_after way behind w.written.constants };
+      clauses = with_raised way f.path w.clauses;
       unions = unions_after way behind w.unions.items;
       gives_back = false;
       found = found;

@@ -1,0 +1,329 @@
+//! What is told inside a unit of what it declares: the members of scopes, and what clauses say.
+
+ghost use Rattle.std.specs.Prelude.{◌≡◌, ◌∷◌, [], IfOk, OnOk, option_to_list};
+ghost use Rattle.std.specs.Option.{option_copied};
+ghost use Rattle.idl_scope.specs.Path.{name_of};
+ghost use Rattle.idl_check.specs.Bodies.{begun_body, comes_out, goes_in, is_member, joined_text, no_clauses, raising, signature_of, told_body, with_array_body, with_array_type, with_body_label, with_context, with_member, with_raised};
+
+use idl_base::Seq;
+use idl_lex::Spelling;
+use idl_scope::{DataType, Entity, Kind, Member, Path, Shared, Signature, shared_name};
+use idl_site::{Declaration, Use};
+use idl_tree::{Direction, Several};
+use idl_value::Value;
+use std::alloc::{AllocError, Global};
+use std::marker::Model;
+use std::mem::replace;
+
+/// What the clauses behind an operation or an attribute say.
+pub struct Clauses {
+    /// The paths of the exceptions that are raised.
+    raised: Vec<Path>,
+    /// The paths of those that the writing of an attribute raises.
+    raised_by_set: Vec<Path>,
+    /// The texts of a context.
+    contexts: Vec<Seq<u16>>,
+}
+
+/// A scope that begins and ends in a unit.
+pub struct Body {
+    /// What it is of.
+    entity: Option<Shared<Entity>>,
+    /// The type that was written last before it begins.
+    data_type: Option<Shared<DataType>>,
+    /// Its members so far.
+    members: Vec<Member>,
+    /// The labels since the last of them: their values, and nothing for `default`.
+    labels: Vec<Option<Value>>,
+}
+
+impl Model for Clauses {
+    ghost use Rattle.idl_check.specs.Bodies.{Clauses as ToldClauses};
+
+    ghost Value = { ToldClauses };
+
+    ghost view = { λ clauses. record {
+      raised = clauses.raised.items;
+      raised_by_set = clauses.raised_by_set.items;
+      contexts = clauses.contexts.items;
+    } };
+}
+
+impl Model for Body {
+    ghost use Rattle.idl_check.specs.Bodies.{Body as ToldBody};
+
+    ghost Value = { ToldBody };
+
+    ghost view = { λ body. record {
+      entity = body.entity;
+      data_type = body.data_type;
+      members = body.members.items;
+      labels = body.labels.items;
+    } };
+}
+
+impl Drop for Clauses {
+    fn drop(self) {
+        let Clauses {
+            raised: _raised,
+            raised_by_set: _raised_by_set,
+            contexts: _contexts,
+        } = self;
+    }
+}
+
+impl Drop for Body {
+    fn drop(self) {
+        let Body {
+            entity: _entity,
+            data_type: _data_type,
+            members: _members,
+            labels: _labels,
+        } = self;
+    }
+}
+
+impl Clauses {
+    /// Before the first. It takes no memory.
+    pub fn new(alloc: Global) -> Clauses
+        ensures { result ≡ no_clauses }
+    {
+        Clauses {
+            raised: Vec::new(alloc),
+            raised_by_set: Vec::new(alloc),
+            contexts: Vec::new(alloc),
+        }
+    }
+
+    /// The path of what a name denotes that is used so.
+    pub fn add_raised(&mut self, way: Use, path: &Path) -> Result<(), AllocError>
+        ensures { OnOk result (self.new ≡ with_raised way path.now self.old) }
+    {
+        match way {
+            Use::Raised => self.raised.push(path.clone()?)?,
+            Use::RaisedBySet => self.raised_by_set.push(path.clone()?)?,
+            _ => {}
+        }
+        Ok(())
+    }
+
+    /// A text of a context: string literals, which are joined.
+    pub fn add_context(
+        &mut self,
+        alloc: Global,
+        text: &Several<Seq<u16>>,
+    ) -> Result<(), AllocError>
+        ensures { OnOk result (self.new ≡ with_context text.now self.old) }
+    {
+        self.contexts.push(joined_text(alloc, text)?)?;
+        Ok(())
+    }
+
+    /// The attribute that was declared last, if it raises something.
+    pub fn raising<'a>(&self, last: Option<&'a Shared<Entity>>) -> Option<&'a Shared<Entity>>
+        ensures { option_to_list (option_copied result)
+            ≡ raising (option_copied last.entry) self.now }
+    {
+        match last {
+            Some(entity)
+                if entity.get().kind == Kind::Attribute
+                    && !(self.raised.is_empty() && self.raised_by_set.is_empty()) =>
+            {
+                Some(entity)
+            }
+            _ => None,
+        }
+    }
+
+    /// What a name shows that has these members and clauses.
+    pub fn signature(
+        &self,
+        alloc: Global,
+        members: Vec<Member>,
+    ) -> Result<Shared<Signature>, AllocError>
+        ensures { IfOk result (λ s. s ≡ signature_of members.items self.now) }
+    {
+        let raised = Seq::from_vec(Vec::from_clones(alloc, self.raised.as_slice())?);
+        let raised_by_set = Seq::from_vec(Vec::from_clones(alloc, self.raised_by_set.as_slice())?);
+        let contexts = Seq::from_vec(Vec::from_clones(alloc, self.contexts.as_slice())?);
+        let signature = Signature {
+            members: Seq::from_vec(members),
+            raised,
+            raised_by_set,
+            contexts,
+        };
+        Shared::new(alloc, signature)
+    }
+}
+
+impl Body {
+    /// Before the first member of what was declared last, where this type was written last.
+    pub fn new(
+        alloc: Global,
+        entity: &Option<Shared<Entity>>,
+        data_type: &Option<Shared<DataType>>,
+    ) -> Result<Body, AllocError>
+        ensures { IfOk result (λ body. body ≡ begun_body entity.now data_type.now) }
+    {
+        let entity = entity.clone()?;
+        let data_type = data_type.clone()?;
+        Ok(Body {
+            entity,
+            data_type,
+            members: Vec::new(alloc),
+            labels: Vec::new(alloc),
+        })
+    }
+
+    // A declared name, if it is a member.
+    fn declare(
+        &mut self,
+        alloc: Global,
+        way: Declaration,
+        entity: &Entity,
+    ) -> Result<(), AllocError>
+        ensures { OnOk result
+            (self.new ∷ [] ≡ with_member way entity.now (self.old ∷ [])) }
+    {
+        if !is_member(entity.kind) {
+            return Ok(());
+        }
+        let name = name_at(alloc, &entity.path)?;
+        let data_type = entity.data_type.clone()?;
+        let labels = replace(&mut self.labels, Vec::new(alloc));
+        self.members.push(Member {
+            name,
+            data_type,
+            labels: Seq::from_vec(labels),
+            goes_in: goes_in(way),
+            comes_out: comes_out(way),
+        })?;
+        Ok(())
+    }
+
+    // A label.
+    fn label(&mut self, label: Option<Value>) -> Result<(), AllocError>
+        ensures { OnOk result (self.new ∷ [] ≡ with_body_label label (self.old ∷ [])) }
+    {
+        self.labels.push(label)?;
+        Ok(())
+    }
+
+    // What was declared last is this array.
+    fn make_array(&mut self, array: &Entity) -> Result<(), AllocError>
+        ensures { OnOk result (self.new ≡ with_array_type array.now self.old) }
+    {
+        if array.kind != Kind::Member {
+            return Ok(());
+        }
+        let data_type = array.data_type.clone()?;
+        if let Some(member) = self.members.last_mut() {
+            member.data_type = data_type;
+        }
+        Ok(())
+    }
+
+    /// What it is of, once it ends.
+    pub fn told(self, alloc: Global, clauses: &Clauses) -> Result<Option<Shared<Entity>>, AllocError>
+        ensures { IfOk result (λ entity. option_to_list entity ≡ told_body clauses.now self) }
+    {
+        let Body {
+            entity,
+            data_type,
+            members,
+            labels: _labels,
+        } = self;
+        let Some(entity) = entity else {
+            return Ok(None);
+        };
+        let mut told = entity.get().clone()?;
+        if told.kind == Kind::Union {
+            told.data_type = data_type;
+        }
+        told.signature = Some(clauses.signature(alloc, members)?);
+        Ok(Some(Shared::new(alloc, told)?))
+    }
+}
+
+/// Puts a declared name into the innermost of these scopes, if it is a member.
+pub fn declare_member(
+    alloc: Global,
+    bodies: &mut Vec<Body>,
+    way: Declaration,
+    entity: &Entity,
+) -> Result<(), AllocError>
+    ensures { OnOk result (bodies.new.items ≡ with_member way entity.now bodies.old.items) }
+{
+    match bodies.first_mut() {
+        Some(body) => body.declare(alloc, way, entity),
+        None => Ok(()),
+    }
+}
+
+/// Puts a label into the innermost of these scopes.
+pub fn label_member(bodies: &mut Vec<Body>, label: Option<Value>) -> Result<(), AllocError>
+    ensures { OnOk result (bodies.new.items ≡ with_body_label label bodies.old.items) }
+{
+    match bodies.first_mut() {
+        Some(body) => body.label(label),
+        None => Ok(()),
+    }
+}
+
+/// What was declared last in the innermost of these scopes is this array.
+pub fn make_array(bodies: &mut Vec<Body>, array: &Entity) -> Result<(), AllocError>
+    ensures { OnOk result (bodies.new.items ≡ with_array_body array.now bodies.old.items) }
+{
+    match bodies.first_mut() {
+        Some(body) => body.make_array(array),
+        None => Ok(()),
+    }
+}
+
+// The name of what stands at a path.
+fn name_at(alloc: Global, path: &Path) -> Result<Spelling, AllocError>
+    ensures { IfOk result (λ name. name ≡ name_of path.now) }
+{
+    match path.as_slice() {
+        [] => shared_name(alloc, &[]),
+        [name, ..] => name.clone(),
+    }
+}
+
+// Whether it is a member or a parameter.
+fn is_member(kind: Kind) -> bool
+    ensures { result ≡ is_member kind }
+{
+    kind == Kind::Member || kind == Kind::Parameter
+}
+
+// Whether it is a parameter that goes in.
+fn goes_in(way: Declaration) -> bool
+    ensures { result ≡ goes_in way }
+{
+    match way {
+        Declaration::Parameter(Direction::In) | Declaration::Parameter(Direction::InOut) => true,
+        _ => false,
+    }
+}
+
+// Whether it is a parameter that comes out.
+fn comes_out(way: Declaration) -> bool
+    ensures { result ≡ comes_out way }
+{
+    match way {
+        Declaration::Parameter(Direction::Out) | Declaration::Parameter(Direction::InOut) => true,
+        _ => false,
+    }
+}
+
+// String literals as one.
+fn joined_text(alloc: Global, text: &Several<Seq<u16>>) -> Result<Seq<u16>, AllocError>
+    ensures { IfOk result (λ joined. joined ≡ joined_text text.now) }
+{
+    let mut joined = Vec::from_slice(alloc, text.first.as_slice())?;
+    for piece in text.rest.as_slice() {
+        joined.extend_from_slice(piece.as_slice())?;
+    }
+    Ok(Seq::from_vec(joined))
+}

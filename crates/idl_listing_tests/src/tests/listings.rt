@@ -1,0 +1,65 @@
+//! Listings: ids, TypeCodes, and what is never defined.
+
+use super::support::have_replies;
+use std::test::Fail;
+
+static LISTINGS: [&str; 8] = [
+    // Prefixes, versions and ids.
+    "put m.idl 14\nmodule M1 {\ntypedef long T1;\ntypedef long T2;\n\
+     #pragma ID T2 \"DCE:d62207a2-011e-11ce-88b4-0800090b5d3e:3\"\n};\n#pragma prefix \"P1\"\nmodule M2 {\n\
+     module M3 {\n#pragma prefix \"P2\"\ntypedef long T3;\n};\ntypedef long T4;\n#pragma version T4 2.4\n};\n=ok\n\
+     root m.idl\n=ok\ndiagnostics m.idl\n=rows 0\nlisting m.idl\n=rows 7\n=module M1 IDL:M1:1.0\n\
+     =alias M1::T1 IDL:M1/T1:1.0 tk_alias(IDL:M1/T1:1.0,T1,tk_long)\n\
+     =alias M1::T2 DCE:d62207a2-011e-11ce-88b4-0800090b5d3e:3 \
+     tk_alias(DCE:d62207a2-011e-11ce-88b4-0800090b5d3e:3,T2,tk_long)\n=module M2 IDL:P1/M2:1.0\n\
+     =module M2::M3 IDL:P1/M2/M3:1.0\n=alias M2::M3::T3 IDL:P2/T3:1.0 tk_alias(IDL:P2/T3:1.0,T3,tk_long)\n\
+     =alias M2::T4 IDL:P1/M2/T4:2.4 tk_alias(IDL:P1/M2/T4:2.4,T4,tk_long)",
+    // An included file begins without a prefix, and leaves none.
+    "put r.idl 3\n#pragma prefix \"P\"\n#include \"q.idl\"\ntypedef long B;\n=ok\nput q.idl 2\ntypedef long A;\n\
+     #pragma prefix \"Q\"\n=ok\nroot r.idl\n=ok\nlisting r.idl\n=rows 2\n\
+     =alias A IDL:A:1.0 tk_alias(IDL:A:1.0,A,tk_long)\n=alias B IDL:P/B:1.0 tk_alias(IDL:P/B:1.0,B,tk_long)",
+    // A row refers to types by their ids, which an edit may change.
+    "put t.idl 4\ntypedef long T;\nmodule M {\nstruct S { T x; };\n};\n=ok\nroot t.idl\n=ok\nlisting t.idl\n=rows 3\n\
+     =alias T IDL:T:1.0 tk_alias(IDL:T:1.0,T,tk_long)\n=module M IDL:M:1.0\n\
+     =struct M::S IDL:M/S:1.0 tk_struct(IDL:M/S:1.0,S,x:@IDL:T:1.0)\nsplice t.idl 3 0 1\ntypedef short T;\n=ok\n\
+     listing t.idl\n=rows 4\n=alias T IDL:T:1.0 tk_alias(IDL:T:1.0,T,tk_long)\n=module M IDL:M:1.0\n\
+     =alias M::T IDL:M/T:1.0 tk_alias(IDL:M/T:1.0,T,tk_short)\n\
+     =struct M::S IDL:M/S:1.0 tk_struct(IDL:M/S:1.0,S,x:@IDL:M/T:1.0)",
+    // What is declared ahead stands where it was declared first.
+    "put n.idl 3\nstruct N;\ntypedef sequence<N> NS;\nstruct N { NS kids; };\n=ok\nroot n.idl\n=ok\nlisting n.idl\n\
+     =rows 2\n=struct N IDL:N:1.0 tk_struct(IDL:N:1.0,N,kids:@IDL:NS:1.0)\n\
+     =alias NS IDL:NS:1.0 tk_alias(IDL:NS:1.0,NS,tk_sequence(@IDL:N:1.0,0))\nsplice n.idl 3 1 0\n=ok\n\
+     diagnostics n.idl\n=rows 1\n=n.idl:1: E75 N\nlisting n.idl\n=rows 0\ndump n.idl\n=rows 0\nput n.idl 1\n\
+     local interface F;\n=ok\ndiagnostics n.idl\n=rows 1\n=n.idl:1: W80 F\nlisting n.idl\n=rows 1\n\
+     =interface F IDL:F:1.0 tk_local_interface(IDL:F:1.0,F) bases()",
+    // Interfaces and what stands in them.
+    "put o.idl 7\nexception E { long code; };\ninterface A {\nreadonly attribute octet o;\n\
+     long f(inout string<8> s) raises (E) context (\"c\");\noneway void n(in Object r);\n\
+     attribute A p getraises (E, E) setraises (E);\n};\n=ok\nroot o.idl\n=ok\nlisting o.idl\n=rows 6\n\
+     =exception E IDL:E:1.0 tk_except(IDL:E:1.0,E,code:tk_long)\n\
+     =interface A IDL:A:1.0 tk_objref(IDL:A:1.0,A) bases()\n=attribute A::o IDL:A/o:1.0 readonly tk_octet get() set()\n\
+     =operation A::f IDL:A/f:1.0 tk_long (inout s:tk_string(8)) raises(@IDL:E:1.0) context(\"c\")\n\
+     =operation A::n IDL:A/n:1.0 oneway tk_void (in r:tk_objref(IDL:omg.org/CORBA/Object:1.0,Object)) \
+     raises() context()\n=attribute A::p IDL:A/p:1.0 @IDL:A:1.0 get(@IDL:E:1.0,@IDL:E:1.0) set(@IDL:E:1.0)",
+    // Unions, enums and constants.
+    "put u.idl 4\nunion U switch (long) { case 1: case 2: long a; default: string b; };\nenum _In { on, _off };\n\
+     const _In K = ::_off;\nunion V switch (_In) { case on: struct W { wstring<4> s; } x; };\n=ok\nroot u.idl\n=ok\n\
+     diagnostics u.idl\n=rows 0\nlisting u.idl\n=rows 5\n\
+     =union U IDL:U:1.0 tk_union(IDL:U:1.0,U,tk_long,2,1:a:tk_long,2:a:tk_long,default:b:tk_string(0))\n\
+     =enum In IDL:In:1.0 tk_enum(IDL:In:1.0,In,on,off)\n=const K IDL:K:1.0 @IDL:In:1.0 off\n\
+     =union V IDL:V:1.0 tk_union(IDL:V:1.0,V,@IDL:In:1.0,-1,on:x:@IDL:V/W:1.0)\n\
+     =struct V::W IDL:V/W:1.0 tk_struct(IDL:V/W:1.0,W,s:tk_wstring(4))",
+    // Arrays of sequences; natives; exceptions without members.
+    "put s.idl 3\ntypedef sequence<sequence<any, 3> > A[2][5], B;\nnative N;\nexception X { };\n=ok\nroot s.idl\n=ok\n\
+     listing s.idl\n=rows 4\n=alias A IDL:A:1.0 tk_alias(IDL:A:1.0,A,\
+     tk_array(tk_array(tk_sequence(tk_sequence(tk_any,3),0),5),2))\n\
+     =alias B IDL:B:1.0 tk_alias(IDL:B:1.0,B,tk_sequence(tk_sequence(tk_any,3),0))\n\
+     =native N IDL:N:1.0 tk_native(IDL:N:1.0,N)\n=exception X IDL:X:1.0 tk_except(IDL:X:1.0,X)",
+    // Names without a root, and a name that is none.
+    "listing y.idl\n=refused 7\nlisting a//b\n=refused 2\nlisting\n=refused 1",
+];
+
+#[test]
+fn listings_have_these_rows(rt: HostRuntime) -> Result<(), Fail> {
+    have_replies(&rt, &LISTINGS)
+}

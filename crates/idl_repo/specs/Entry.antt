@@ -1,0 +1,34 @@
+-- The entry of a name: its row, and what is wrong with it at the root's end.
+use Rattle.std.specs.Prelude.{ℕ, List, [], Option, None, Some, if◌then◌else◌}
+use Rattle.idl_event.specs.declared.code.Code.{Code}
+use Rattle.idl_event.specs.declared.code.Code.TheVariants.{NeverDefined, InterfaceNeverDefined}
+use Rattle.idl_memo.specs.Query.{Done, Ask, and_then}
+use Rattle.idl_repo.specs.Pieces.{written}
+use Rattle.idl_repo.specs.Row.{row_pieces}
+use Rattle.idl_repo.specs.declared.entry.Entry.{Entry}
+use Rattle.idl_scope.specs.Facts.{entity_in, entity_key}
+use Rattle.idl_scope.specs.Kind.{kind_eq, stage_eq}
+use Rattle.idl_scope.specs.Lookup.{Lookup}
+use Rattle.idl_scope.specs.declared.entity.Entity.{Entity as ScopeEntity}
+use Rattle.idl_scope.specs.declared.kind.Kind.TheVariants.{Interface}
+use Rattle.idl_scope.specs.declared.kind.Stage.TheVariants.{Ahead}
+
+-- a struct or union that is declared ahead and never defined is an error, and an interface a warning
+abbrev pub closing_fault : ScopeEntity → Option Code
+closing_fault e =
+    if stage_eq e.stage Ahead
+    then Some (if kind_eq e.kind Interface then InterfaceNeverDefined else NeverDefined)
+    else None
+
+-- nothing is told where nothing is declared
+abbrev pub no_entry : Entry
+no_entry = record { row = None; fault = None }
+
+-- the entry of the name at a path: what is declared there, and then its row
+unfoldable pub entry : List (List ℕ) → Lookup Entry
+entry path =
+    Ask (entity_key path) (λ there. elim (entity_in there) [
+      | None ↦ Done no_entry
+      | Some e ↦ and_then (written [] (row_pieces e))
+          (λ text. Done (record { row = Some text; fault = closing_fault e }))
+    ])

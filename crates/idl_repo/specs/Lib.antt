@@ -1,0 +1,4 @@
+pub mod Pieces
+pub mod TypeCode
+pub mod Row
+pub mod Entry

@@ -1,0 +1,122 @@
+-- The rows of a listing: one equation for each line of the format.
+use Rattle.std.specs.Prelude.{ℕ, Bool, true, false, List, [], ◌∷◌, ◌++◌, codes, flat_map, Option, None, Some, if◌then◌else◌}
+use Rattle.idl_repo.specs.Pieces.{Pieces, IdOf, Says, commas, says}
+use Rattle.idl_repo.specs.TypeCode.{code_pieces, kind_in, listed_value, members_of, reference, type_pieces, typed_pieces}
+use Rattle.idl_scope.specs.Kind.{kind_eq}
+use Rattle.idl_scope.specs.declared.entity.Entity.{Entity}
+use Rattle.idl_scope.specs.declared.kind.Kind.{Kind}
+use Rattle.idl_scope.specs.declared.kind.Kind.TheVariants as kind
+use Rattle.idl_scope.specs.declared.signature.Member.{Member}
+use Rattle.idl_value.specs.Spelled.{value_word}
+use Rattle.idl_value.specs.declared.value.Value.TheVariants.{Text}
+
+-- the word of a row
+abbrev pub kind_word : Kind → List ℕ
+kind_word kind.Module = codes "module"
+kind_word kind.Interface = codes "interface"
+kind_word kind.Structure = codes "struct"
+kind_word kind.Union = codes "union"
+kind_word kind.Exception = codes "exception"
+kind_word kind.Enumeration = codes "enum"
+kind_word kind.Alias = codes "alias"
+kind_word kind.Native = codes "native"
+kind_word kind.Constant = codes "const"
+kind_word kind.Attribute = codes "attribute"
+kind_word kind.Operation = codes "operation"
+kind_word other = []
+
+-- the names of a path, the outermost first, with `::` between them
+abbrev pub path_text : List (List ℕ) → List ℕ
+path_text [] = []
+path_text (name ∷ []) = name
+path_text (name ∷ scope ∷ outer) = path_text (scope ∷ outer) ++ (codes "::" ++ name)
+
+abbrev pub references : List (List (List ℕ)) → Pieces
+references paths = commas reference paths
+
+-- what an entity raises, what writing it raises, and the texts of its context
+abbrev pub raised_of : Entity → List (List (List ℕ))
+raised_of e = elim e.signature [ None ↦ [] | Some s ↦ s.raised ]
+
+abbrev pub raised_by_set_of : Entity → List (List (List ℕ))
+raised_by_set_of e = elim e.signature [ None ↦ [] | Some s ↦ s.raised_by_set ]
+
+abbrev pub contexts_of : Entity → List (List ℕ)
+contexts_of e = elim e.signature [ None ↦ [] | Some s ↦ s.contexts ]
+
+-- ID TC, and of an interface ID TC bases(REF,..)
+abbrev pub bases_pieces : Entity → Pieces
+bases_pieces e =
+    if kind_eq e.kind kind.Interface
+    then Says (codes " bases(") ∷ (references e.bases ++ says (codes ")"))
+    else []
+
+abbrev pub coded_pieces : Entity → Pieces
+coded_pieces e =
+    elim (kind_in e)
+    [ None ↦ [] | Some code ↦ Says (codes " ") ∷ (code_pieces code e ++ bases_pieces e) ]
+
+-- ID TYPE VALUE
+abbrev pub value_pieces : Entity → Pieces
+value_pieces e = elim e.value [ None ↦ [] | Some v ↦ says (listed_value v) ]
+
+abbrev pub constant_pieces : Entity → Pieces
+constant_pieces e =
+    Says (codes " ") ∷ (type_pieces e.data_type ++ Says (codes " ") ∷ value_pieces e)
+
+-- a word between blanks where it is to stand, and else one blank
+abbrev pub flag : Bool → List ℕ → List ℕ
+flag true word = word
+flag false word = codes " "
+
+-- ID [readonly ]TYPE get(REF,..) set(REF,..)
+abbrev pub attribute_pieces : Entity → Pieces
+attribute_pieces e =
+    Says (flag e.is_readonly (codes " readonly "))
+    ∷ (type_pieces e.data_type
+    ++ Says (codes " get(")
+    ∷ (references (raised_of e)
+    ++ Says (codes ") set(")
+    ∷ (references (raised_by_set_of e) ++ says (codes ")"))))
+
+abbrev pub direction_word : Bool → Bool → List ℕ
+direction_word true true = codes "inout"
+direction_word false true = codes "out"
+direction_word goes_in false = codes "in"
+
+-- DIR NAME:TYPE
+abbrev pub parameter_pieces : Member → Pieces
+parameter_pieces m =
+    Says (direction_word m.goes_in m.comes_out ++ codes " ") ∷ typed_pieces m
+
+abbrev pub context_word : List ℕ → List ℕ
+context_word text = value_word (Text text)
+
+abbrev pub contexts_word : List (List ℕ) → List ℕ
+contexts_word [] = []
+contexts_word (text ∷ texts) =
+    context_word text ++ flat_map (λ more. codes "," ++ context_word more) texts
+
+-- ID [oneway ]TYPE (DIR NAME:TYPE,..) raises(REF,..) context(TEXT,..)
+abbrev pub operation_pieces : Entity → Pieces
+operation_pieces e =
+    Says (flag e.is_oneway (codes " oneway "))
+    ∷ (type_pieces e.data_type
+    ++ Says (codes " (")
+    ∷ (commas parameter_pieces (members_of e)
+    ++ Says (codes ") raises(")
+    ∷ (references (raised_of e)
+    ++ Says (codes ") context(" ++ (contexts_word (contexts_of e) ++ codes ")")) ∷ [])))
+
+abbrev pub behind_id : Entity → Pieces
+behind_id e =
+    if kind_eq e.kind kind.Constant then constant_pieces e
+    else if kind_eq e.kind kind.Attribute then attribute_pieces e
+    else if kind_eq e.kind kind.Operation then operation_pieces e
+    else coded_pieces e
+
+-- a row: its word, the path, the id, and what stands behind that
+abbrev pub row_pieces : Entity → Pieces
+row_pieces e =
+    Says (kind_word e.kind ++ (codes " " ++ (path_text e.path ++ codes " ")))
+    ∷ IdOf e.path ∷ behind_id e

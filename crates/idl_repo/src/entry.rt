@@ -1,0 +1,104 @@
+//! The task: the entry of a name.
+
+ghost use Rattle.std.specs.Prelude.{◌≡◌, IfOk};
+ghost use Rattle.idl_memo.specs.Query.{run};
+ghost use Rattle.idl_repo.specs.Entry.{closing_fault, entry};
+ghost use Rattle.idl_scope.specs.Facts.{answers};
+ghost use Rattle.idl_scope.specs.Key.{key_eq};
+
+use crate::row::write_row;
+use crate::writer::Writer;
+use idl_base::Text;
+use idl_event::Code;
+use idl_memo::{Log, Task, TaskKind};
+use idl_scope::{Entity, Env, Key, Kind, Path, Shared, Stage, entity_in};
+use std::alloc::{AllocError, Global};
+
+/// The printing of a name, which has an id: of what is declared at this path.
+#[derive(Drop)]
+pub struct EntryTask {
+    pub path: Path,
+}
+
+/// What comes of it at the root's end.
+pub struct Entry {
+    /// The row of a listing.
+    pub row: Option<Shared<Text>>,
+    /// A struct, union or interface that is never defined.
+    pub fault: Option<Code>,
+}
+
+impl Drop for Entry {
+    fn drop(self) {
+        let Entry {
+            row: _row,
+            fault: _fault,
+        } = self;
+    }
+}
+
+impl Task<Env> for EntryTask {
+    ghost use Rattle.idl_memo.specs.declared.task.TaskKind.TheVariants.{Print};
+    ghost use Rattle.idl_repo.specs.Entry.{entry};
+
+    type Text = Path;
+
+    type Out = Entry;
+
+    const KIND: TaskKind = TaskKind::Print;
+
+    ghost KIND = { Print };
+
+    ghost text_of = { λ task. task.path };
+
+    ghost query = { entry };
+
+    fn text(&self) -> &Path {
+        &self.path
+    }
+
+    fn run(&self, alloc: Global, bank: &Env, log: &mut Log<Env>) -> Result<Entry, AllocError> {
+        entry_of(alloc, bank, log, &self.path)
+    }
+}
+
+// The entry of the name at a path.
+#[tactic(auto, unfolding(crate::specs::Entry::entry))]
+fn entry_of(
+    alloc: Global,
+    env: &Env,
+    log: &mut Log<Env>,
+    path: &Path,
+) -> Result<Entry, AllocError>
+    ensures { IfOk result (λ e.
+        (e, log.new) ≡ run key_eq (entry path.now) (answers env.now) log.old) }
+{
+    let key = Key::of_entity(alloc, path)?;
+    let Some(entity) = entity_in(log.ask(&key, env)?) else {
+        return Ok(Entry {
+            row: None,
+            fault: None,
+        });
+    };
+    let mut writer = Writer::new(env)?;
+    write_row(&mut writer, log, entity.get())?;
+    let row = Text::from_slice(alloc, writer.text.as_slice())?;
+    Ok(Entry {
+        row: Some(Shared::new(alloc, row)?),
+        fault: closing_fault(entity.get()),
+    })
+}
+
+// What is wrong with a declared name at the root's end.
+fn closing_fault(entity: &Entity) -> Option<Code>
+    ensures { result ≡ closing_fault entity.now }
+{
+    if entity.stage != Stage::Ahead {
+        return None;
+    }
+    if entity.kind == Kind::Interface {
+        Some(Code::InterfaceNeverDefined)
+    } else {
+        Some(Code::NeverDefined)
+    }
+}

@@ -1,0 +1,14 @@
+//! The listing: for each declared name that has a repository id its row, with its TypeCode, and what
+//! is wrong with it at the root's end.
+//!
+//! A row is written over the facts of a whole root, whose ids it asks for. Nothing here knows trees,
+//! places, or how the facts came about.
+#![tactic(auto)]
+
+mod entry;
+mod row;
+mod type_code;
+mod writer;
+
+pub use entry::{Entry, EntryTask};
+pub use type_code::{TypeCode, TypeCodeKind};

@@ -1,0 +1,59 @@
+-- The names of a root that have an id, and what comes of them at its end.
+use Rattle.std.specs.Prelude.{ℕ, ◌-◌, List, [], ◌∷◌, length, map, Option, None, Some, option_to_list, if◌then◌else◌}
+use Rattle.std.specs.Option.{option_map}
+use Rattle.idl_memo.specs.Query.{outcome}
+use Rattle.idl_repo.specs.Entry.{entry}
+use Rattle.idl_repo.specs.declared.entry.Entry.{Entry}
+use Rattle.idl_root.specs.Findings.{fault_finding, tokens_of}
+use Rattle.idl_root.specs.Judged.{Judged}
+use Rattle.idl_root.specs.declared.finding.Finding.{Finding}
+use Rattle.idl_scope.specs.Facts.{UnitFacts, answers}
+use Rattle.idl_scope.specs.Identity.{fixed_eq}
+use Rattle.idl_scope.specs.declared.addition.Addition.{Addition}
+use Rattle.idl_scope.specs.declared.addition.Addition.TheVariants.{Declares, Uses, Identifies}
+use Rattle.idl_scope.specs.declared.identity.Fixed.TheVariants.{Nothing}
+use Rattle.idl_unit.specs.TokenRules.{fault_at}
+use Rattle.idl_unit.specs.declared.unit.Site.{Site}
+use Rattle.idl_unit.specs.declared.unit.UnitText.{UnitText}
+
+-- a name that has an id: its path, and the text of the unit that declares it first, with the places
+-- of its tokens
+pub record Listed : Type 0 where
+  pub path : List (List ℕ)
+  pub text : UnitText
+  pub sites : List Site
+
+-- the paths of the names that are declared first, of those that have an id: no pragma told it
+abbrev pub first_paths : List Addition → List (List (List ℕ))
+first_paths [] = []
+first_paths (Declares e ∷ additions) = first_paths additions
+first_paths (Uses n path body ∷ additions) = first_paths additions
+first_paths (Identifies path d ∷ additions) =
+    if fixed_eq d.fixed Nothing then path ∷ first_paths additions else first_paths additions
+
+-- the names at these paths, which a unit with these tokens declares first
+abbrev pub listed_with : UnitText → List Site → List (List (List ℕ)) → List Listed
+listed_with text sites paths =
+    map (λ path. record { path = path; text = text; sites = sites }) paths
+
+-- those of a unit
+abbrev pub listed_in : Judged → List Listed
+listed_in j = listed_with j.text j.sites (first_paths j.verdict.writes.additions)
+
+-- the entry of the name at a path over facts
+abbrev pub entry_over : List UnitFacts → List (List ℕ) → Entry
+entry_over facts path = outcome (entry path) (answers facts)
+
+-- the row of a name, if it has one
+abbrev pub entry_row : List UnitFacts → Listed → List (List ℕ)
+entry_row facts l = option_to_list (entry_over facts l.path).row
+
+-- the number of the token before the last: a declaration ahead ends in its name and `;`
+abbrev pub name_index : UnitText → ℕ
+name_index text = length (tokens_of text) - 2
+
+-- what is wrong with a name at the end, at that name where it was declared ahead
+abbrev pub closing_finding : List UnitFacts → Listed → List Finding
+closing_finding facts l =
+    fault_finding l.text l.sites
+    (option_map (fault_at (name_index l.text)) (entry_over facts l.path).fault)

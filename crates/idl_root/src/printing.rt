@@ -1,0 +1,166 @@
+//! The names of a root that have an id, and what comes of them at its end.
+
+ghost use Rattle.std.specs.Prelude.{◌≡◌, ◌∷◌, ◌++◌, [], IfOk, OnOk, flat_map, map, option_to_list};
+ghost use Rattle.std.specs.Option.{option_copied, option_map};
+ghost use Rattle.idl_root.specs.Findings.{fault_finding};
+ghost use Rattle.idl_root.specs.Held.{listed_at};
+ghost use Rattle.idl_root.specs.Printed.{closing_finding, entry_over, entry_row, first_paths, listed_with, name_index};
+ghost use Rattle.idl_unit.specs.TokenRules.{fault_at};
+
+use crate::compiled::Row;
+use crate::finding::{Finding, Spelled, push_fault};
+use idl_memo::{Log, Task};
+use idl_repo::{Entry, EntryTask};
+use idl_scope::{Addition, Env, Facts, Fixed, Path};
+use idl_unit::{Fault, UnitText};
+use std::alloc::{AllocError, Global};
+
+/// A name that has an id: its path, and the unit that declares it first.
+pub struct Listed<'a> {
+    pub path: Path,
+    pub unit: Spelled<'a>,
+}
+
+/// What comes of names: what is wrong with them, and the rows of a listing.
+#[derive(Drop)]
+pub struct Printed {
+    pub findings: Vec<Finding>,
+    pub rows: Vec<Row>,
+}
+
+impl<'a> Drop for Listed<'a> {
+    fn drop(self) {
+        let Listed {
+            path: _path,
+            unit: _unit,
+        } = self;
+    }
+}
+
+/// Puts in the names that a unit declares first, of those that have an id.
+pub fn push_listed<'a>(
+    listed: &mut Vec<Listed<'a>>,
+    unit: Spelled<'a>,
+    writes: &Facts,
+) -> Result<(), AllocError>
+    ensures { OnOk result
+        (map listed_at listed.new.items
+        ≡ map listed_at listed.old.items
+        ++ listed_with unit.entry.text.now unit.entry.sites.now
+        (first_paths writes.now.additions)) }
+{
+    for index in 0..writes.len() {
+        let Some(addition) = writes.addition(index) else {
+            continue;
+        };
+        push_name(listed, unit, addition)?;
+    }
+    Ok(())
+}
+
+// Puts in the name that an addition of a unit declares first, if it has an id.
+fn push_name<'a>(
+    listed: &mut Vec<Listed<'a>>,
+    unit: Spelled<'a>,
+    addition: &Addition,
+) -> Result<(), AllocError>
+    ensures { OnOk result
+        (map listed_at listed.new.items
+        ≡ map listed_at listed.old.items
+        ++ listed_with unit.entry.text.now unit.entry.sites.now
+        (first_paths (addition.now ∷ []))) }
+{
+    if let Some(path) = first_path(addition) {
+        let path = path.clone()?;
+        listed.push(Listed { path, unit })?;
+    }
+    Ok(())
+}
+
+// The path of a name that is identified by no pragma, but where it is declared first.
+fn first_path(addition: &Addition) -> Option<&Path>
+    ensures { option_to_list (option_copied result) ≡ first_paths (addition.now ∷ []) }
+{
+    match addition {
+        Addition::Identifies(path, identity) if identity.get().fixed == Fixed::Nothing => {
+            Some(path)
+        }
+        _ => None,
+    }
+}
+
+/// What comes of each of these names over an environment.
+pub fn print_all(
+    alloc: Global,
+    env: &Env,
+    listed: &[Listed<'_>],
+) -> Result<Printed, AllocError>
+    ensures findings { IfOk result (λ printed. printed.findings.items
+        ≡ flat_map (closing_finding env.now) (map listed_at listed.now)) }
+    ensures rows { IfOk result (λ printed. printed.rows.items
+        ≡ flat_map (entry_row env.now) (map listed_at listed.now)) }
+{
+    let mut printed = Printed {
+        findings: Vec::new(alloc),
+        rows: Vec::new(alloc),
+    };
+    let mut log = Log::new(alloc);
+    for name in listed {
+        let entry = entry_over(alloc, env, &name.path, &mut log)?;
+        printed.add(alloc, name.unit, entry)?;
+    }
+    Ok(printed)
+}
+
+impl Printed {
+    // What comes of one name more, which that unit declares first.
+    fn add(&mut self, alloc: Global, unit: Spelled<'_>, entry: Entry) -> Result<(), AllocError>
+        ensures findings { OnOk result
+            (self.new.findings.items
+            ≡ self.old.findings.items
+            ++ fault_finding unit.entry.text.now unit.entry.sites.now
+            (option_map (fault_at (name_index unit.entry.text.now)) entry.fault)) }
+        ensures rows { OnOk result
+            (self.new.rows.items ≡ self.old.rows.items ++ option_to_list entry.row) }
+    {
+        let fault = match entry.fault {
+            Some(code) => Some(Fault {
+                index: name_index(unit.text),
+                code,
+            }),
+            None => None,
+        };
+        push_fault(alloc, &mut self.findings, unit, fault)?;
+        if let Some(row) = &entry.row {
+            self.rows.push(row.clone()?)?;
+        }
+        Ok(())
+    }
+}
+
+// The number of the token before the last: of what is declared ahead, its name.
+fn name_index(text: &UnitText) -> usize
+    ensures { result ≡ name_index text.now }
+{
+    let count = match text {
+        UnitText::Tokens(run) => run.as_slice().len(),
+        UnitText::Pragma(tokens, _inside) => tokens.as_slice().len(),
+    };
+    count.saturating_sub(2)
+}
+
+// The entry of the name at a path over facts. What the log held before is forgotten.
+fn entry_over(
+    alloc: Global,
+    env: &Env,
+    path: &Path,
+    log: &mut Log<Env>,
+) -> Result<Entry, AllocError>
+    ensures { IfOk result (λ entry. entry ≡ entry_over env.now path.now) }
+{
+    let task = EntryTask {
+        path: path.clone()?,
+    };
+    log.clear();
+    task.run(alloc, env, log)
+}
