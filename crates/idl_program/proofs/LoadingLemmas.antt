@@ -15,7 +15,7 @@ use Rattle.std.proofs.lemmas.List.{take_more}
 use Rattle.std.proofs.lemmas.List.Elements.{All-push, All-weaker}
 use Rattle.std.specs.Option.{option_map}
 use Rattle.idl_workspace.specs.Compile.{compiled_root}
-use Rattle.idl_workspace.specs.UpToDate.{absent_of, diagnostics_of, dump_of}
+use Rattle.idl_workspace.specs.UpToDate.{absent_of, diagnostics_of, dump_of, is_faulty_of, listing_of}
 use Rattle.idl_workspace.specs.declared.compile.CompiledRoot.{CompiledRoot}
 use Rattle.std.specs.Ordering.{is_eq}
 use Rattle.idl_workspace.specs.Project.{Inputs, Project, is_root}
@@ -110,3 +110,9 @@ diagnostics-root project root is = ap (λ b. option_map (λ (r : CompiledRoot). 
 
 pub dump-root : (project : Project) (root : List ℕ) → is_root project root ≡ true → dump_of project root ≡ Some (compiled_root project.inputs root).rows.dump
 dump-root project root is = ap (λ b. option_map (λ (r : CompiledRoot). r.rows.dump) (cond b (Some (compiled_root project.inputs root)) None)) is
+
+pub listing-root : (project : Project) (root : List ℕ) → is_root project root ≡ true → listing_of project root ≡ Some (compiled_root project.inputs root).rows.listing
+listing-root project root is = ap (λ b. option_map (λ (r : CompiledRoot). r.rows.listing) (cond b (Some (compiled_root project.inputs root)) None)) is
+
+pub faulty-root : (project : Project) (root : List ℕ) → is_root project root ≡ true → is_faulty_of project root ≡ Some (compiled_root project.inputs root).rows.is_faulty
+faulty-root project root is = ap (λ b. option_map (λ (r : CompiledRoot). r.rows.is_faulty) (cond b (Some (compiled_root project.inputs root)) None)) is

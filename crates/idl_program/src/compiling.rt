@@ -6,7 +6,7 @@ ghost use Rattle.std.specs.List.{flat_map};
 ghost use Rattle.idl_source.specs.Device.{append};
 ghost use Rattle.idl_session.specs.Replies.{whole_line};
 ghost use Rattle.idl_workspace.specs.Project.{is_root, with_macros, with_roots, with_search};
-ghost use Rattle.idl_program.specs.Compiled.{dump_in, errors_in, has_errors};
+ghost use Rattle.idl_program.specs.Compiled.{dump_in, errors_in, has_errors, listing_in, output_in};
 ghost use Rattle.idl_program.specs.Loading.{AreRoots};
 ghost use Rattle.idl_program.specs.Options.{AreAsked, before_equals, defined_by, macro_body, named_by, searched_by, undefined_by};
 
@@ -33,30 +33,59 @@ pub fn prepared<'a>(
     Ok((session, roots))
 }
 
-/// Writes what a root is told of, and answers whether that is anything.
+/// Writes what a root is told of.
 pub fn show_errors<K: Sink>(
     session: &Session,
     root: &Name,
     errors: &mut K,
-) -> Result<bool, WriteFailed>
+) -> Result<(), WriteFailed>
     requires counts { K.failures errors.old < 2 ^ 64 - 1 }
     requires root { is_root session.now.project root.now ≡ true }
 
     ensures written { OnOk result (K.written errors.new ≡ append (K.written errors.old)
         (flat_map whole_line (errors_in session.now.project.inputs root.now))) }
-    ensures any { IfOk result (λ any. any ≡ has_errors session.now.project.inputs root.now) }
     ensures ok { OnOk result (K.failures errors.new ≡ K.failures errors.old) }
     ensures most { K.failures errors.new ≤ K.failures errors.old + 1 }
 {
-    let Some(rows) = session.diagnostics(root.as_bytes()) else {
-        return Ok(false);
-    };
-    write_lines(errors, rows)?;
-    Ok(!rows.is_empty())
+    match session.diagnostics(root.as_bytes()) {
+        Some(rows) => write_lines(errors, rows),
+        None => Ok(()),
+    }
 }
 
-/// Writes what a root declares.
-pub fn show_dump<K: Sink>(session: &Session, root: &Name, output: &mut K) -> Result<(), WriteFailed>
+/// Whether one of what a root is told of is an error.
+pub fn has_errors(session: &Session, root: &Name) -> bool
+    requires { is_root session.now.project root.now ≡ true }
+    ensures { result ≡ has_errors session.now.project.inputs root.now }
+{
+    session.is_faulty(root.as_bytes()).unwrap_or(false)
+}
+
+/// Writes the dump and the listing of a root, as far as they are asked for.
+pub fn show_output<K: Sink>(
+    session: &Session,
+    root: &Name,
+    options: &Options<'_>,
+    output: &mut K,
+) -> Result<(), WriteFailed>
+    requires counts { K.failures output.old < 2 ^ 64 - 1 }
+    requires root { is_root session.now.project root.now ≡ true }
+
+    ensures written { OnOk result (K.written output.new ≡ append (K.written output.old)
+        (flat_map whole_line (output_in options.now session.now.project.inputs root.now))) }
+    ensures ok { OnOk result (K.failures output.new ≡ K.failures output.old) }
+{
+    if options.shows_dump {
+        show_dump(session, root, output)?;
+    }
+    if options.shows_listing {
+        show_listing(session, root, output)?;
+    }
+    Ok(())
+}
+
+// Writes what a root declares.
+fn show_dump<K: Sink>(session: &Session, root: &Name, output: &mut K) -> Result<(), WriteFailed>
     requires counts { K.failures output.old < 2 ^ 64 - 1 }
     requires root { is_root session.now.project root.now ≡ true }
 
@@ -65,6 +94,21 @@ pub fn show_dump<K: Sink>(session: &Session, root: &Name, output: &mut K) -> Res
     ensures ok { OnOk result (K.failures output.new ≡ K.failures output.old) }
 {
     match session.dump(root.as_bytes()) {
+        Some(rows) => write_lines(output, rows),
+        None => Ok(()),
+    }
+}
+
+// Writes what is listed of a root.
+fn show_listing<K: Sink>(session: &Session, root: &Name, output: &mut K) -> Result<(), WriteFailed>
+    requires counts { K.failures output.old < 2 ^ 64 - 1 }
+    requires root { is_root session.now.project root.now ≡ true }
+
+    ensures written { OnOk result (K.written output.new ≡ append (K.written output.old)
+        (flat_map whole_line (listing_in session.now.project.inputs root.now))) }
+    ensures ok { OnOk result (K.failures output.new ≡ K.failures output.old) }
+{
+    match session.listing(root.as_bytes()) {
         Some(rows) => write_lines(output, rows),
         None => Ok(()),
     }
