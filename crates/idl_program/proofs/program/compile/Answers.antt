@@ -3,7 +3,7 @@ use Rattle.std.specs.Cmp.Lexicographic.{slice_cmp}
 use Rattle.std.specs.FinMap as finite
 use Rattle.std.specs.FinMap.{get-empty}
 use Rattle.std.specs.Ordering.{nat_cmp}
-use Rattle.idl_program.specs.Compiled.{IsShown}
+use Rattle.idl_program.specs.Compiled.{IsShown, Written}
 use Rattle.idl_program.specs.Loading.{AreComplete}
 use Rattle.idl_program.specs.Options.{AreAsked}
 use Rattle.idl_program.proofs.program.compile.Goals as goal
@@ -21,8 +21,8 @@ returns-clause-compiled g c =
     let options = c.args.options.now in
     let inputs = c.load_all.new.session.project.inputs in
     let roots = c.in_ok-session.roots.items in
-    let before = record { errors = g.E.Sink.written c.args.devices.now.errors; output = g.O.Sink.written c.args.devices.now.output } in
-    let after = record { errors = g.E.Sink.written c.show_all.new.devices.errors; output = g.O.Sink.written c.show_all.new.devices.output } in
+    let before : Written = record { errors = g.E.Sink.written c.args.devices.now.errors; output = g.O.Sink.written c.args.devices.now.output } in
+    let after : Written = record { errors = g.E.Sink.written c.show_all.new.devices.errors; output = g.O.Sink.written c.show_all.new.devices.output } in
     let asked = c.in_ok-session.ensures.asked in
     let stays = c.in_ok-load_all.ensures.stays in
     let are : AreAsked options inputs roots = record { macros = stays.macros ∙ asked.macros; search = asked.search ∙ ap Some (sym stays.search); named = asked.named } in

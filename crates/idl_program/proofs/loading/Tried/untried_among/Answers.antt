@@ -16,7 +16,7 @@ absent-preserved c =
           pushed-none c.match-trouble.untried.items c.absent.untried.items c.name-item.result (ap (λ v. v.items) w.untried-is ∙ w.in_ok-keep_name-in-None.ensures) none
       | in-Some-Missing w ↦ λ none.
           All-take_more (λ (name : List ℕ). trouble_of c.args.self.now name ≡ Some Missing) names i c.name-item.result c.absent-test.true c.name-item.is
-          (c.absent.invariant (sym (ap (λ v. v.items) w.untried-is) ∙ none)) (sym c.trouble.ensures ∙ w.in-Some-Missing.is)
+          (c.absent.invariant (sym (ap (λ v. v.items) w.untried-is) ∙ none)) (sym c.trouble.ensures ∙ w.in-Some-Missing.is ∙ ap Some w.in-Some-Missing.field-0-is)
     ]
 
 pub returns : goal.returns
