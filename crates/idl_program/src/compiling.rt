@@ -188,8 +188,9 @@ fn search_all<'a>(session: &mut Session, words: &[&'a str]) -> Result<(), Failur
 {
     let mut directories: Vec<Directory> = Vec::new(session.allocator());
     'words: for word in words {
-        search_in(session, &mut directories, word.as_bytes())
-            .map_err(|refusal| refused(word, refusal))?;
+        search_in(session, &mut directories, word.as_bytes()).map_err(|refusal| refused(
+            word, refusal,
+        ))?;
     }
     Ok(())
 }

@@ -119,18 +119,25 @@ impl Tried {
     {
         let mut untried = Vec::new(alloc);
         'absent: for name in absent {
-            match self.troubles.get(name) {
+            match self.trouble(name) {
                 None => keep_name(&mut untried, name)?,
                 Some(Trouble::Missing) => {}
                 Some(trouble) => {
                     if untried.is_empty() {
-                        return Err(failure(name, *trouble));
+                        return Err(failure(name, trouble));
                     }
                     return Ok(untried);
                 }
             }
         }
         Ok(untried)
+    }
+
+    // What came of a name, if it was tried and has no file.
+    fn trouble(&self, name: &Name) -> Option<Trouble>
+        ensures { result ≡ trouble_of self.now name.now }
+    {
+        self.troubles.get(name).copied()
     }
 
     // Loads files of these names.

@@ -24,7 +24,7 @@ returns-clause-roots c names are =
     let root = c.args.root.now in
     on_ok_weaker c.put_back.result
     (λ made.
-      let moved = ap (λ p. p.roots) made ∙ ap (λ p. p.roots ++ root ∷ []) c.in_ok-put_all.ensures.others ∙ ap (λ p. p.roots ++ root ∷ []) c.in_ok-take_out.ensures in
-      All-weaker (λ (name : List ℕ). is_root old name ≡ true) (λ (name : List ℕ). is_root new name ≡ true)
-      (λ name e. subst (λ (roots : List (List ℕ)). list_any (bytes_eq name) roots ≡ true) (sym moved) (list_any-moved name root old.roots e)) names are)
+    let moved = ap (λ p. p.roots) made ∙ ap (λ p. p.roots ++ root ∷ []) c.in_ok-put_all.ensures.others ∙ ap (λ p. p.roots ++ root ∷ []) c.in_ok-take_out.ensures in
+    All-weaker (λ (name : List ℕ). is_root old name ≡ true) (λ (name : List ℕ). is_root new name ≡ true)
+    (λ name e. subst (λ (roots : List (List ℕ)). list_any (bytes_eq name) roots ≡ true) (sym moved) (list_any-moved name root old.roots e)) names are)
     c.put_back.ensures

@@ -22,9 +22,10 @@ files-preserved c =
     let next : before ≡ file ∷ rest = c.in-Some.ensures.steps.0 in
     record {
       loaded = λ told are is.
-          let have = c.files.invariant.loaded told are is in
-          ( c.in_ok-put_one.ensures.loaded told have.0 (All-head (IsLoadedFile told) file rest (All-same (IsLoadedFile told) (file ∷ rest) before (sym next) have.1)),
-            All-rest (IsLoadedFile told) file rest before next have.1 );
+          let have = c.files.invariant.loaded told are is in (
+            c.in_ok-put_one.ensures.loaded told have.0 (All-head (IsLoadedFile told) file rest (All-same (IsLoadedFile told) (file ∷ rest) before (sym next) have.1)),
+            All-rest (IsLoadedFile told) file rest before next have.1,
+          );
       tried = λ told are. c.in_ok-put_one.ensures.tried told (c.files.invariant.tried told are);
       others = c.in_ok-put_one.ensures.others ∙ ap (λ p. with_files p c.put_one.new.session.project.inputs.files) c.files.invariant.others;
     }

@@ -11,12 +11,12 @@ pub absent-preserved : goal.absent-preserved
 absent-preserved c =
     let names = c.args.absent.now in
     let i = c.absent.name-index in
-    elim c.match-get.branch [
+    elim c.match-trouble.branch [
       | in-None+in_ok-keep_name-in-None w ↦ λ none.
-          pushed-none c.match-get.untried.items c.absent.untried.items c.name-item.result (ap (λ v. v.items) w.untried-is ∙ w.in_ok-keep_name-in-None.ensures) none
+          pushed-none c.match-trouble.untried.items c.absent.untried.items c.name-item.result (ap (λ v. v.items) w.untried-is ∙ w.in_ok-keep_name-in-None.ensures) none
       | in-Some-Missing w ↦ λ none.
           All-take_more (λ (name : List ℕ). trouble_of c.args.self.now name ≡ Some Missing) names i c.name-item.result c.absent-test.true c.name-item.is
-          (c.absent.invariant (sym (ap (λ v. v.items) w.untried-is) ∙ none)) (let there = c.get.ensures.value in let a = w.in-Some-Missing.is in let b = w.in-Some-Missing.field-0-is in ?)
+          (c.absent.invariant (sym (ap (λ v. v.items) w.untried-is) ∙ none)) (sym c.trouble.ensures ∙ w.in-Some-Missing.is ∙ ap Some w.in-Some-Missing.field-0-is)
     ]
 
 pub returns : goal.returns
