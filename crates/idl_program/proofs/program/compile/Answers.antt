@@ -32,5 +32,5 @@ returns-clause-compiled g c =
       asked = are;
       loaded = c.in_ok-load_all.ensures.loaded;
       complete = subst (λ (rs : List (List ℕ)). AreComplete told inputs rs) c.deref.ensures.value c.in_ok-load_all.ensures.complete;
-      shown = subst (λ (rs : List (List ℕ)). IsShown options.shows_dump inputs rs before after c.in_ok-status.status) c.deref-2.ensures.value c.in_ok-status.ensures.shown;
+      shown = subst (λ (rs : List (List ℕ)). IsShown options inputs rs before after c.in_ok-status.status) c.deref-2.ensures.value c.in_ok-status.ensures.shown;
     }
