@@ -6,9 +6,9 @@
 #![tactic(auto)]
 
 mod entry;
+mod piece;
 mod row;
 mod type_code;
-mod writer;
 
 pub use entry::{Entry, EntryTask};
 pub use type_code::{TypeCode, TypeCodeKind};
