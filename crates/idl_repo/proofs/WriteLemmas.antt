@@ -1,6 +1,6 @@
 -- Pieces that are written, one after another.
-use Rattle.std.proofs.Common.{◌≡◌, ◌∙◌, ℕ, List, [], ◌∷◌, ◌++◌, Option, refl, sym, ap, append_assoc}
-use Rattle.std.proofs.lemmas.List.{append-nil}
+use Rattle.std.proofs.Common.{◌≡◌, ◌∙◌, ℕ, ◌+◌, ◌<◌, ◌≤◌, List, [], ◌∷◌, ◌++◌, Option, refl, sym, ap, append_assoc, flat_map, get_or, length, take}
+use Rattle.std.proofs.lemmas.List.{append-nil, flat_map_more, take_all, take_more}
 use Rattle.idl_memo.specs.Query.{asked, noted, noted_all, outcome, run}
 use Rattle.idl_memo.proofs.QueryLaws.{noted_all-append}
 use Rattle.idl_repo.specs.Pieces.{IdOf, Pieces, Says, Writes, id_in, ids_in, says, text_over, written}
@@ -51,6 +51,16 @@ says-then {bank} {word} {old} {new} {log} {p} {u} e h = writes-then (writes-text
 -- the same pieces
 pub writes-as : {bank : Key → Option Answer} {p q : Pieces} {s t : State} → p ≡ q → Writes bank p s t → Writes bank q s t
 writes-as {bank} {p} {q} {s} {t} e h = rw e at h
+
+-- those of one more
+pub writes-more : {X : Type 0} {bank : Key → Option Answer} {s t u : State} (f : X → Pieces) (xs : List X) (i : ℕ) (x : X) → i < length xs → x ≡ get_or xs i x → Writes bank (flat_map f (take i xs)) s t → Writes bank (f x) t u → Writes bank (flat_map f (take (i + 1) xs)) s u
+writes-more {X} {bank} {s} {t} {u} f xs i x within is before this =
+    let more : flat_map f (take i xs) ++ f x ≡ flat_map f (take (i + 1) xs) = flat_map_more f [] (take i xs) x ∙ ap (λ y. flat_map f (take i xs ++ y ∷ [])) is ∙ ap (flat_map f) (sym (take_more xs i x within)) in
+    writes-as more (writes-then before this)
+
+-- and those of all
+pub writes-whole : {X : Type 0} {bank : Key → Option Answer} {s t : State} (f : X → Pieces) (xs : List X) (i : ℕ) → length xs ≤ i → Writes bank (flat_map f (take i xs)) s t → Writes bank (flat_map f xs) s t
+writes-whole f xs i h before = writes-as (ap (flat_map f) (take_all i xs h)) before
 
 -- what comes of a query that writes them
 pub written-over : (bank : Key → Option Answer) (text : List ℕ) (p : Pieces) → outcome (written text p) bank ≡ text ++ text_over bank p

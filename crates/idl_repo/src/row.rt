@@ -30,7 +30,8 @@ pub fn push_row(
     push_path(text, entity.path.as_slice())?;
     text.extend_from_slice(b" ")?;
     push_id(text, env, log, &entity.path)?;
-    push_behind_id(text, env, log, entity)
+    push_behind_id(text, env, log, entity)?;
+    Ok(())
 }
 
 // The word of a row.
@@ -65,7 +66,8 @@ fn push_path(text: &mut Vec<u8>, names: &[Spelling]) -> Result<(), AllocError>
         push_path(text, outer)?;
         text.extend_from_slice(b"::")?;
     }
-    text.extend_from_slice(name.as_bytes())
+    text.extend_from_slice(name.as_bytes())?;
+    Ok(())
 }
 
 // What stands behind the id.
@@ -125,10 +127,10 @@ fn push_constant(
     text.extend_from_slice(b" ")?;
     push_type(text, env, log, &entity.data_type)?;
     text.extend_from_slice(b" ")?;
-    match &entity.value {
-        Some(value) => push_listed(text, value),
-        None => Ok(()),
+    if let Some(value) = &entity.value {
+        push_listed(text, value)?;
     }
+    Ok(())
 }
 
 // An attribute: its type, and what reading and writing it raise.
@@ -148,7 +150,8 @@ fn push_attribute(
     push_references(text, env, log, raised_of(entity))?;
     text.extend_from_slice(b") set(")?;
     push_references(text, env, log, raised_by_set_of(entity))?;
-    text.extend_from_slice(b")")
+    text.extend_from_slice(b")")?;
+    Ok(())
 }
 
 // An operation: what it gives back, its parameters, what it raises, and its context.
@@ -170,7 +173,8 @@ fn push_operation(
     push_references(text, env, log, raised_of(entity))?;
     text.extend_from_slice(b") context(")?;
     push_contexts(text, contexts_of(entity))?;
-    text.extend_from_slice(b")")
+    text.extend_from_slice(b")")?;
+    Ok(())
 }
 
 // A word between blanks where it is to stand, and else one blank.
@@ -267,7 +271,8 @@ fn push_parameter(
 {
     text.extend_from_slice(direction_word(parameter.goes_in, parameter.comes_out))?;
     text.extend_from_slice(b" ")?;
-    push_typed(text, env, log, parameter)
+    push_typed(text, env, log, parameter)?;
+    Ok(())
 }
 
 // Where a parameter goes.

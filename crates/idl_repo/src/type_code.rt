@@ -1,6 +1,6 @@
 //! TypeCodes, and how they and types are written.
 
-ghost use Rattle.std.specs.Prelude.{◌≡◌, ◌++◌, OnOk, flat_map};
+ghost use Rattle.std.specs.Prelude.{◌≡◌, ◌++◌, IfOk, OnOk, flat_map};
 ghost use Rattle.std.specs.Option.{option_copied, option_map};
 ghost use Rattle.idl_repo.specs.Pieces.{Writes};
 ghost use Rattle.idl_repo.specs.TypeCode.{code_pieces, code_word, default_at, element_pieces, entries_of, enumerator_word, integer_word, kind_in, label_word, labelled_pieces, layer_end, layer_word, layers_begin, member_pieces, members_of, part_pieces, reference, size_of, string_word, target_word, type_behind, type_pieces, typed_pieces, unvalued_word};
@@ -90,7 +90,8 @@ impl<'a> TypeCode<'a> {
         text.extend_from_slice(b",")?;
         text.extend_from_slice(self.entity.path.name())?;
         self.push_parts(text, env, log)?;
-        text.extend_from_slice(b")")
+        text.extend_from_slice(b")")?;
+        Ok(())
     }
 
     // What stands behind the name.
@@ -107,7 +108,8 @@ impl<'a> TypeCode<'a> {
             }
             TypeCodeKind::Union => {
                 push_type_behind(text, env, log, &self.entity.data_type)?;
-                push_entries(text, env, log, members_of(self.entity))
+                push_entries(text, env, log, members_of(self.entity))?;
+                Ok(())
             }
             TypeCodeKind::Enumeration => {
                 push_enumerators(text, self.entity.enumerators.as_slice())
@@ -168,7 +170,8 @@ pub fn push_typed(
 {
     text.extend_from_slice(member.name.as_bytes())?;
     text.extend_from_slice(b":")?;
-    push_type(text, env, log, &member.data_type)
+    push_type(text, env, log, &member.data_type)?;
+    Ok(())
 }
 
 // The number of the entry of `default`, and an entry for each label of each member.
@@ -183,7 +186,7 @@ fn push_entries(
         (text.old.items, log.old) (text.new.items, log.new)) }
 {
     text.extend_from_slice(b",")?;
-    match default_at(members) {
+    match default_at(members)? {
         Some(number) => push_number(text, number)?,
         None => text.extend_from_slice(b"-1")?,
     }
@@ -194,19 +197,23 @@ fn push_entries(
 }
 
 // The number of the entry of `default`, if there is one.
-fn default_at(members: &[Member]) -> Option<usize>
-    ensures { result ≡ default_at 0 (flat_map (λ m. m.labels) members.now) }
+fn default_at(members: &[Member]) -> Result<Option<usize>, AllocError>
+    ensures { IfOk result
+        (λ number. number ≡ default_at 0 (flat_map (λ m. m.labels) members.now)) }
 {
-    let mut number = 0;
+    let mut number: usize = 0;
     for member in members {
         for label in member.labels.as_slice() {
             if label.is_none() {
-                return Some(number);
+                return Ok(Some(number));
             }
-            number += 1;
+            let Some(next) = number.checked_add(1) else {
+                return Err(AllocError);
+            };
+            number = next;
         }
     }
-    None
+    Ok(None)
 }
 
 // An entry for each label of a member.
@@ -265,7 +272,8 @@ fn push_type_behind(
         (text.old.items, log.old) (text.new.items, log.new)) }
 {
     text.extend_from_slice(b",")?;
-    push_type(text, env, log, data_type)
+    push_type(text, env, log, data_type)?;
+    Ok(())
 }
 
 /// A type: a named one is told by its id, and another one is written in place.
@@ -285,7 +293,8 @@ pub fn push_type(
     let DataType { element, layers } = data_type.get();
     begin_layers(text, layers.as_slice())?;
     push_element(text, env, log, element)?;
-    end_layers(text, layers.as_slice())
+    end_layers(text, layers.as_slice())?;
+    Ok(())
 }
 
 // Where the layers around a type begin, from the outermost on.
@@ -363,7 +372,8 @@ pub fn push_reference(
         (text.old.items, log.old) (text.new.items, log.new)) }
 {
     text.extend_from_slice(b"@")?;
-    push_id(text, env, log, path)
+    push_id(text, env, log, path)?;
+    Ok(())
 }
 
 // A type of keywords of which there are constants. An enum has a name.
@@ -392,7 +402,8 @@ fn push_string(text: &mut Vec<u8>, word: &[u8], bound: Option<u32>) -> Result<()
         Some(bound) => push_number(text, bound as usize)?,
         None => text.extend_from_slice(b"0")?,
     }
-    text.extend_from_slice(b")")
+    text.extend_from_slice(b")")?;
+    Ok(())
 }
 
 // The word of an integer type.
