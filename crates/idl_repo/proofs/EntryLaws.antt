@@ -1,0 +1,36 @@
+-- What an entry comes to, and what it asks.
+use Rattle.std.proofs.Common.{◌≡◌, ◌∙◌, ℕ, List, [], ◌∷◌, Option, None, Some, refl, sym, ap, map}
+use Rattle.std.proofs.lemmas.List.{append-nil}
+use Rattle.idl_memo.specs.Query.{Done, asked, outcome}
+use Rattle.idl_memo.proofs.QueryLaws.{asked-and_then, outcome-and_then}
+use Rattle.idl_repo.proofs.ReferredLemmas.{ids-row}
+use Rattle.idl_repo.proofs.WriteLemmas.{asked-by-written, written-over}
+use Rattle.idl_repo.specs.Entry.{declared_entry, entry, entry_in, no_entry, told_entry}
+use Rattle.idl_repo.specs.Pieces.{ids_in, text_over, written}
+use Rattle.idl_repo.specs.Referred.{referred}
+use Rattle.idl_repo.specs.Row.{row_pieces}
+use Rattle.idl_scope.specs.Facts.{entity_in, entity_key}
+use Rattle.idl_scope.specs.declared.answer.Answer.{Answer}
+use Rattle.idl_scope.specs.declared.entity.Entity.{Entity}
+use Rattle.idl_scope.specs.declared.key.Key.{Key}
+use Rattle.idl_scope.specs.declared.key.Key.TheVariants as key
+
+-- of what is declared so
+pub declared-outcome : (e : Entity) (bank : Key → Option Answer) → outcome (declared_entry e) bank ≡ told_entry e (text_over bank (row_pieces e))
+declared-outcome e bank = outcome-and_then (written [] (row_pieces e)) (λ text. Done (told_entry e text)) bank ∙ ap (told_entry e) (written-over bank [] (row_pieces e))
+
+pub declared-asked : (e : Entity) (bank : Key → Option Answer) → asked (declared_entry e) bank ≡ ids_in (row_pieces e)
+declared-asked e bank = asked-and_then (written [] (row_pieces e)) (λ text. Done (told_entry e text)) bank ∙ append-nil (asked (written [] (row_pieces e)) bank) ∙ asked-by-written bank [] (row_pieces e)
+
+-- of the name at a path
+pub entry-declared : (path : List (List ℕ)) (bank : Key → Option Answer) (e : Entity) → entity_in (bank (entity_key path)) ≡ Some e → outcome (entry path) bank ≡ told_entry e (text_over bank (row_pieces e))
+unfolding entry
+entry-declared path bank e is = ap (λ there. outcome (entry_in there) bank) is ∙ declared-outcome e bank
+
+pub entry-unknown : (path : List (List ℕ)) (bank : Key → Option Answer) → entity_in (bank (entity_key path)) ≡ None → outcome (entry path) bank ≡ no_entry
+unfolding entry
+entry-unknown path bank is = ap (λ there. outcome (entry_in there) bank) is
+
+pub entry-asked : (path : List (List ℕ)) (bank : Key → Option Answer) (e : Entity) → entity_in (bank (entity_key path)) ≡ Some e → asked (entry path) bank ≡ entity_key path ∷ map key.IdOf (e.path ∷ referred e)
+unfolding entry
+entry-asked path bank e is = ap (λ keys. entity_key path ∷ keys) (ap (λ there. asked (entry_in there) bank) is ∙ declared-asked e bank ∙ ids-row e)
