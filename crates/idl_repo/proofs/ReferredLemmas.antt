@@ -43,6 +43,10 @@ tell-then {p} {q} {a} {b} h g = record {
 tell-end : {p : Pieces} {a : Paths} (text : List ℕ) → Tell p a → Tell (p ++ says text) a
 tell-end {p} {a} text h = rw append-nil at (tell-then h (tell-text text tell-nothing))
 
+-- what tells none behind it
+tell-then_none : {p q : Pieces} {a : Paths} → Tell p a → Tell q [] → Tell (p ++ q) a
+tell-then_none {p} {q} {a} h g = rw append-nil at (tell-then h g)
+
 tell-each : {X : Type 0} (f : X → Pieces) (g : X → Paths) → ((x : X) → Tell (f x) (g x)) → (xs : List X) → Tell (flat_map f xs) (flat_map g xs)
 tell-each f g each [] = tell-nothing
 tell-each f g each (x ∷ xs) = tell-then (each x) (tell-each f g each xs)
@@ -117,7 +121,7 @@ tell-value None = tell-nothing
 tell-value (Some v) = tell-text _ tell-nothing
 
 tell-constant : (e : Entity) → Tell (constant_pieces e) (named_by e.data_type)
-tell-constant e = tell-text _ (rw append-nil at (tell-then (tell-type e.data_type) (tell-text _ (tell-value e.value))))
+tell-constant e = tell-text _ (tell-then_none (tell-type e.data_type) (tell-text _ (tell-value e.value)))
 
 tell-attribute : (e : Entity) → Tell (attribute_pieces e) (referred_by_attribute e)
 tell-attribute e = tell-text _ (tell-then (tell-type e.data_type) (tell-text _ (tell-then (tell-references (raised_of e)) (tell-text _ (tell-end _ (tell-references (raised_by_set_of e)))))))
@@ -128,7 +132,7 @@ tell-parameter m = tell-text _ (tell-text _ (tell-typed m))
 tell-operation : (e : Entity) → Tell (operation_pieces e) (referred_by_operation e)
 tell-operation e =
     let raises : Tell (references (raised_of e) ++ Says (codes ") context(") ∷ Says (contexts_word (contexts_of e)) ∷ says (codes ")")) (raised_of e)
-    = rw append-nil at (tell-then (tell-references (raised_of e)) (tell-text _ (tell-text _ (tell-text _ tell-nothing)))) in
+    = tell-then_none (tell-references (raised_of e)) (tell-text _ (tell-text _ (tell-text _ tell-nothing))) in
     tell-text _ (tell-then (tell-type e.data_type) (tell-text _ (tell-then (tell-commas parameter_pieces named_by_member tell-parameter (members_of e)) (tell-text _ raises))))
 
 by_kind_of : (is_constant is_attribute is_operation : Bool) (e : Entity)

@@ -48,6 +48,15 @@ writes-then {bank} {p} {q} {s} {t} {u} h g = record {
 pub says-then : {bank : Key → Option Answer} {word old new : List ℕ} {log : List (Key × Option Answer)} {p : Pieces} {u : State} → new ≡ old ++ word → Writes bank p (new, log) u → Writes bank (Says word ∷ p) (old, log) u
 says-then {bank} {word} {old} {new} {log} {p} {u} e h = writes-then (writes-text {bank} {word} {old} {new} {log} e) h
 
+-- an id, and then pieces
+pub id-then : {bank : Key → Option Answer} {path : List (List ℕ)} {p : Pieces} {s t u : State} → Writes bank (IdOf path ∷ []) s t → Writes bank p t u → Writes bank (IdOf path ∷ p) s u
+id-then {bank} {path} {p} {s} {t} {u} h g = writes-then h g
+
+-- an id, as it is answered
+pub writes-id : {bank : Key → Option Answer} {path : List (List ℕ)} {old new : List ℕ} {log after : List (Key × Option Answer)} → new ≡ old ++ id_in (bank (key.IdOf path)) → after ≡ noted key_eq bank log (key.IdOf path) → Writes bank (IdOf path ∷ []) (old, log) (new, after)
+unfolding text_over ids_in
+writes-id {bank} {path} {old} {new} {log} {after} e l = record { text = e ∙ ap (λ x. old ++ x) (sym (append-nil (id_in (bank (key.IdOf path))))); log = l }
+
 -- the same pieces
 pub writes-as : {bank : Key → Option Answer} {p q : Pieces} {s t : State} → p ≡ q → Writes bank p s t → Writes bank q s t
 writes-as {bank} {p} {q} {s} {t} e h = rw e at h

@@ -1,6 +1,6 @@
 //! TypeCodes, and how they and types are written.
 
-ghost use Rattle.std.specs.Prelude.{◌≡◌, ◌++◌, IfOk, OnOk, flat_map};
+ghost use Rattle.std.specs.Prelude.{◌≡◌, ◌++◌, IfOk, IfSome, OnOk, flat_map};
 ghost use Rattle.std.specs.Option.{option_copied, option_map};
 ghost use Rattle.idl_repo.specs.Pieces.{Writes};
 ghost use Rattle.idl_repo.specs.TypeCode.{code_pieces, code_word, default_at, element_pieces, entries_of, enumerator_word, integer_word, kind_in, label_word, labelled_pieces, layer_end, layer_word, layers_begin, member_pieces, members_of, part_pieces, reference, size_of, string_word, target_word, type_behind, type_pieces, typed_pieces, unvalued_word};
@@ -56,8 +56,8 @@ impl TypeCodeKind {
 impl<'a> TypeCode<'a> {
     /// That of what is declared so, if it has one.
     pub fn of(entity: &'a Entity) -> Option<TypeCode<'a>>
-        ensures { option_map (λ code. (code.kind, code.entity.now)) result
-            ≡ option_map (λ kind. (kind, entity.now)) (kind_in entity.now) }
+        ensures kind { option_map (λ code. code.kind) result ≡ kind_in entity.now }
+        ensures entity { IfSome result (λ code. code.entity.now ≡ entity.now) }
     {
         let kind = match entity.kind {
             Kind::Interface if entity.is_local => TypeCodeKind::LocalInterface,

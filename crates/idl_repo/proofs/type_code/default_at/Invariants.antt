@@ -11,6 +11,6 @@ invariant-loop-member l =
 abbrev pub invariant-loop-label : goal.invariant-loop-label
 invariant-loop-label l =
     default_at l.number
-    (drop l.label-index l.member.labels
+    (drop l.label-index l.label-items
     ++ flat_map (λ m. m.labels) (drop (l.member-index + 1) l.members))
     ≡ default_at 0 (flat_map (λ m. m.labels) l.members)

@@ -8,5 +8,5 @@ use Rattle.idl_scope.specs.Facts.{answers}
 abbrev pub invariant-loop-label : goal.invariant-loop-label
 invariant-loop-label l =
     Writes (answers l.env)
-    (flat_map (λ label. entry_pieces label l.member) (take l.label-index l.member.labels))
+    (flat_map (λ label. entry_pieces label l.member) (take l.label-index l.label-items))
     (l.fn.text.items, l.fn.log) (l.text.items, l.log)
