@@ -1,15 +1,16 @@
 -- What an entry comes to, and what it asks.
 use Rattle.std.proofs.Common.{◌≡◌, ◌∙◌, ℕ, List, [], ◌∷◌, Option, None, Some, refl, sym, ap, map}
 use Rattle.std.proofs.lemmas.List.{append-nil}
-use Rattle.idl_memo.specs.Query.{Done, asked, outcome}
+use Rattle.idl_memo.specs.Query.{Done, asked, noted, noted_all, outcome, run}
 use Rattle.idl_memo.proofs.QueryLaws.{asked-and_then, outcome-and_then}
 use Rattle.idl_repo.proofs.ReferredLemmas.{ids-row}
 use Rattle.idl_repo.proofs.WriteLemmas.{asked-by-written, written-over}
 use Rattle.idl_repo.specs.Entry.{declared_entry, entry, entry_in, no_entry, told_entry}
-use Rattle.idl_repo.specs.Pieces.{ids_in, text_over, written}
+use Rattle.idl_repo.specs.Pieces.{Writes, ids_in, text_over, written}
 use Rattle.idl_repo.specs.Referred.{referred}
 use Rattle.idl_repo.specs.Row.{row_pieces}
 use Rattle.idl_scope.specs.Facts.{entity_in, entity_key}
+use Rattle.idl_scope.specs.Key.{key_eq}
 use Rattle.idl_scope.specs.declared.answer.Answer.{Answer}
 use Rattle.idl_scope.specs.declared.entity.Entity.{Entity}
 use Rattle.idl_scope.specs.declared.key.Key.{Key}
@@ -34,3 +35,12 @@ entry-unknown path bank is = ap (λ there. outcome (entry_in there) bank) is
 pub entry-asked : (path : List (List ℕ)) (bank : Key → Option Answer) (e : Entity) → entity_in (bank (entity_key path)) ≡ Some e → asked (entry path) bank ≡ entity_key path ∷ map key.IdOf (e.path ∷ referred e)
 unfolding entry
 entry-asked path bank e is = ap (λ keys. entity_key path ∷ keys) (ap (λ there. asked (entry_in there) bank) is ∙ declared-asked e bank ∙ ids-row e)
+
+-- an entry's query runs as its row is written behind what is declared there
+pub entry-run : {path : List (List ℕ)} {bank : Key → Option Answer} {e : Entity} {text : List ℕ} {log after : List (Key × Option Answer)} → entity_in (bank (entity_key path)) ≡ Some e → Writes bank (row_pieces e) ([], noted key_eq bank log (entity_key path)) (text, after) → (told_entry e text, after) ≡ run key_eq (entry path) bank log
+unfolding entry
+entry-run {path} {bank} {e} {text} {log} {after} is h =
+    let told : told_entry e text ≡ outcome (entry path) bank = ap (told_entry e) h.text ∙ sym (entry-declared path bank e is) in
+    let keys : asked (entry path) bank ≡ entity_key path ∷ ids_in (row_pieces e) = ap (λ ks. entity_key path ∷ ks) (ap (λ there. asked (entry_in there) bank) is ∙ declared-asked e bank) in
+    let logged : after ≡ noted_all key_eq bank log (asked (entry path) bank) = h.log ∙ ap (noted_all key_eq bank log) (sym keys) in
+    cc

@@ -1,11 +1,13 @@
 -- Pieces that are written, one after another.
-use Rattle.std.proofs.Common.{◌≡◌, ◌∙◌, ℕ, ◌+◌, ◌<◌, ◌≤◌, List, [], ◌∷◌, ◌++◌, Option, refl, sym, ap, append_assoc, flat_map, get_or, length, take}
+use Rattle.std.proofs.Common.{◌≡◌, ◌∙◌, ℕ, ◌+◌, ◌-◌, ◌<◌, ◌≤◌, List, [], ◌∷◌, ◌++◌, Option, None, Some, refl, sym, ap, append_assoc, arith, codes, drop, flat_map, get_or, length, take}
 use Rattle.std.proofs.lemmas.List.{append-nil, flat_map_more, take_all, take_more}
 use Rattle.idl_memo.specs.Query.{asked, noted, noted_all, outcome, run}
 use Rattle.idl_memo.proofs.QueryLaws.{noted_all-append}
-use Rattle.idl_repo.specs.Pieces.{IdOf, Pieces, Says, Writes, id_in, ids_in, says, text_over, written}
+use Rattle.idl_repo.specs.Pieces.{IdOf, Pieces, Says, Writes, commas, id_in, ids_in, says, text_over, written}
+use Rattle.idl_scope.specs.Facts.{identity_in}
 use Rattle.idl_scope.specs.Key.{key_eq}
 use Rattle.idl_scope.specs.declared.answer.Answer.{Answer}
+use Rattle.idl_scope.specs.declared.identity.Identity.{Identity}
 use Rattle.idl_scope.specs.declared.key.Key.{Key}
 use Rattle.idl_scope.specs.declared.key.Key.TheVariants as key
 
@@ -46,7 +48,14 @@ writes-then {bank} {p} {q} {s} {t} {u} h g = record {
 
 -- a text, and then pieces
 pub says-then : {bank : Key → Option Answer} {word old new : List ℕ} {log : List (Key × Option Answer)} {p : Pieces} {u : State} → new ≡ old ++ word → Writes bank p (new, log) u → Writes bank (Says word ∷ p) (old, log) u
-says-then {bank} {word} {old} {new} {log} {p} {u} e h = writes-then (writes-text {bank} {word} {old} {new} {log} e) h
+says-then e h = writes-then (writes-text e) h
+
+-- a text that is what is to be said
+pub says-as : {bank : Key → Option Answer} {told word old new : List ℕ} {log : List (Key × Option Answer)} {p : Pieces} {u : State} → new ≡ old ++ told → told ≡ word → Writes bank p (new, log) u → Writes bank (Says word ∷ p) (old, log) u
+says-as {told} {word} {old} {new} e is h = says-then (e ∙ ap (λ w. old ++ w) is) h
+
+pub text-as : {bank : Key → Option Answer} {told word old new : List ℕ} {log : List (Key × Option Answer)} → new ≡ old ++ told → told ≡ word → Writes bank (says word) (old, log) (new, log)
+text-as {told} {word} {old} {new} e is = writes-text (e ∙ ap (λ w. old ++ w) is)
 
 -- an id, and then pieces
 pub id-then : {bank : Key → Option Answer} {path : List (List ℕ)} {p : Pieces} {s t u : State} → Writes bank (IdOf path ∷ []) s t → Writes bank p t u → Writes bank (IdOf path ∷ p) s u
@@ -71,6 +80,20 @@ writes-more {X} {bank} {s} {t} {u} f xs i x within is before this =
 pub writes-whole : {X : Type 0} {bank : Key → Option Answer} {s t : State} (f : X → Pieces) (xs : List X) (i : ℕ) → length xs ≤ i → Writes bank (flat_map f (take i xs)) s t → Writes bank (flat_map f xs) s t
 writes-whole f xs i h before = writes-as (ap (flat_map f) (take_all i xs h)) before
 
+-- the first of several, and then the others, as a slice without its first holds them
+tail-kept : {X : Type 0} (xs : List X) → 1 ≤ length xs → take (length xs - 1) (drop 1 xs) ≡ drop 1 xs
+tail-kept [] h = absurd (omega arith)
+tail-kept (x ∷ xs) h = take_all (length (x ∷ xs) - 1) xs (omega arith)
+
+commas-cons : {X : Type 0} (f : X → Pieces) (xs : List X) (x : X) → 1 ≤ length xs → x ≡ get_or xs 0 x → f x ++ flat_map (λ y. Says (codes ",") ∷ f y) (drop 1 xs) ≡ commas f xs
+commas-cons f [] x h is = absurd (omega arith)
+commas-cons f (y ∷ ys) x h is = ap (λ z. f z ++ flat_map (λ y. Says (codes ",") ∷ f y) ys) is
+
+pub writes-commas : {X : Type 0} {bank : Key → Option Answer} {s t u : State} (f : X → Pieces) (xs : List X) (x : X) (i : ℕ) → 1 ≤ length xs → x ≡ get_or xs 0 x → length (take (length xs - 1) (drop 1 xs)) ≤ i → Writes bank (f x) s t → Writes bank (flat_map (λ y. Says (codes ",") ∷ f y) (take i (take (length xs - 1) (drop 1 xs)))) t u → Writes bank (commas f xs) s u
+writes-commas {X} {bank} {s} {t} {u} f xs x i some is past first others =
+    let rest : Writes bank (flat_map (λ y. Says (codes ",") ∷ f y) (drop 1 xs)) t u = writes-as (ap (flat_map (λ y. Says (codes ",") ∷ f y)) (tail-kept xs some)) (writes-whole (λ y. Says (codes ",") ∷ f y) (take (length xs - 1) (drop 1 xs)) i past others) in
+    writes-as (commas-cons f xs x some is) (writes-then first rest)
+
 -- what comes of a query that writes them
 pub written-over : (bank : Key → Option Answer) (text : List ℕ) (p : Pieces) → outcome (written text p) bank ≡ text ++ text_over bank p
 unfolding written text_over
@@ -84,6 +107,13 @@ unfolding written ids_in
 asked-by-written bank text [] = refl
 asked-by-written bank text (Says more ∷ p) = asked-by-written bank (text ++ more) p
 asked-by-written bank text (IdOf path ∷ p) = ap (λ x. key.IdOf path ∷ x) (asked-by-written bank (text ++ id_in (bank (key.IdOf path))) p)
+
+-- the id that an answer tells
+pub id-told : (answer : Option Answer) (d : Identity) → identity_in answer ≡ Some d → d.id ≡ id_in answer
+id-told answer d is = ap (λ (there : Option Identity). elim there [ None ↦ [] | Some e ↦ e.id ]) (sym is)
+
+pub id-untold : (answer : Option Answer) → identity_in answer ≡ None → id_in answer ≡ []
+id-untold answer is = ap (λ (there : Option Identity). elim there [ None ↦ [] | Some e ↦ e.id ]) is
 
 -- pieces that are written come to what their query comes to
 pub writes-run : {bank : Key → Option Answer} {p : Pieces} {old new : List ℕ} {log after : List (Key × Option Answer)} → Writes bank p (old, log) (new, after) → (new, after) ≡ run key_eq (written old p) bank log
