@@ -1,5 +1,6 @@
 -- Pieces that are written, one after another.
-use Rattle.std.proofs.Common.{◌≡◌, ◌∙◌, ℕ, ◌+◌, ◌-◌, ◌<◌, ◌≤◌, List, [], ◌∷◌, ◌++◌, Option, None, Some, refl, sym, ap, append_assoc, arith, codes, drop, flat_map, get_or, length, take}
+use Rattle.std.proofs.Common.{◌≡◌, ◌∙◌, ℕ, ◌+◌, ◌-◌, ◌<◌, ◌≤◌, List, [], ◌∷◌, ◌++◌, Option, None, Some, Result, Ok, Err, refl, sym, ap, append_assoc, arith, codes, drop, flat_map, get_or, length, take}
+use Rattle.std.specs.Prelude.{OnOk, is_ok, if◌then◌else◌}
 use Rattle.std.proofs.lemmas.List.{append-nil, flat_map_more, take_all, take_more}
 use Rattle.idl_memo.specs.Query.{asked, noted, noted_all, outcome, run}
 use Rattle.idl_memo.proofs.QueryLaws.{noted_all-append}
@@ -80,6 +81,11 @@ writes-more {X} {bank} {s} {t} {u} f xs i x within is before this =
 pub writes-whole : {X : Type 0} {bank : Key → Option Answer} {s t : State} (f : X → Pieces) (xs : List X) (i : ℕ) → length xs ≤ i → Writes bank (flat_map f (take i xs)) s t → Writes bank (flat_map f xs) s t
 writes-whole f xs i h before = writes-as (ap (flat_map f) (take_all i xs h)) before
 
+-- none of several
+pub writes-no_commas : {X : Type 0} {bank : Key → Option Answer} {s : State} (f : X → Pieces) (xs : List X) → length xs < 1 → Writes bank (commas f xs) s s
+writes-no_commas f [] h = writes-nothing
+writes-no_commas f (x ∷ xs) h = absurd (omega arith)
+
 -- the first of several, and then the others, as a slice without its first holds them
 tail-kept : {X : Type 0} (xs : List X) → 1 ≤ length xs → take (length xs - 1) (drop 1 xs) ≡ drop 1 xs
 tail-kept [] h = absurd (omega arith)
@@ -121,3 +127,8 @@ writes-run {bank} {p} {old} {new} {log} {after} h =
     let t : new ≡ outcome (written old p) bank = h.text ∙ sym (written-over bank old p) in
     let l : after ≡ noted_all key_eq bank log (asked (written old p) bank) = h.log ∙ ap (noted_all key_eq bank log) (sym (asked-by-written bank old p)) in
     cc
+
+-- what grows where there is memory
+pub grown-on_ok : {T E : Type 0} {new full left : List ℕ} (r : Result T E) → new ≡ (if is_ok r then full else left) → OnOk r (new ≡ full)
+grown-on_ok (Ok x) e = e
+grown-on_ok (Err x) e = tt

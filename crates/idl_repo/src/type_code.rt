@@ -3,7 +3,7 @@
 ghost use Rattle.std.specs.Prelude.{◌≡◌, ◌++◌, IfOk, IfSome, OnOk, flat_map};
 ghost use Rattle.std.specs.Option.{option_copied, option_map};
 ghost use Rattle.idl_repo.specs.Pieces.{Writes};
-ghost use Rattle.idl_repo.specs.TypeCode.{code_pieces, code_word, default_at, element_pieces, entries_of, enumerator_word, integer_word, kind_in, label_word, labelled_pieces, layer_end, layer_word, layers_begin, member_pieces, members_of, part_pieces, reference, size_of, string_word, target_word, type_behind, type_pieces, typed_pieces, unvalued_word};
+ghost use Rattle.idl_repo.specs.TypeCode.{code_pieces, code_word, default_at, default_word, element_pieces, entries_of, enumerator_word, integer_word, kind_in, label_word, labelled_pieces, layer_end, layer_word, layers_begin, member_pieces, members_of, part_pieces, reference, size_of, string_word, target_word, type_behind, type_pieces, typed_pieces, unvalued_word};
 ghost use Rattle.idl_scope.specs.Facts.{answers};
 
 use crate::piece::{push_id, push_listed, push_number};
@@ -186,14 +186,22 @@ fn push_entries(
         (text.old.items, log.old) (text.new.items, log.new)) }
 {
     text.extend_from_slice(b",")?;
-    match default_at(members)? {
-        Some(number) => push_number(text, number)?,
-        None => text.extend_from_slice(b"-1")?,
-    }
+    let number = default_at(members)?;
+    push_default(text, number)?;
     for member in members {
         push_labelled(text, env, log, member)?;
     }
     Ok(())
+}
+
+// The number of the entry of `default`, or -1.
+fn push_default(text: &mut Vec<u8>, number: Option<usize>) -> Result<(), AllocError>
+    ensures { OnOk result (text.new.items ≡ text.old.items ++ default_word number) }
+{
+    match number {
+        Some(number) => push_number(text, number),
+        None => text.extend_from_slice(b"-1"),
+    }
 }
 
 // The number of the entry of `default`, if there is one.

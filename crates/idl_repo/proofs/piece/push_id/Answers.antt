@@ -1,7 +1,7 @@
 use Rattle.std.proofs.Common.{◌≡◌, ◌∙◌, ◌++◌, None, Some, ap, sym}
 use Rattle.std.proofs.lemmas.List.{append-nil}
 use Rattle.std.proofs.lemmas.Result.{on_ok_weaker}
-use Rattle.idl_repo.proofs.WriteLemmas.{id-told, id-untold, writes-id}
+use Rattle.idl_repo.proofs.WriteLemmas.{grown-on_ok, id-told, id-untold, writes-id}
 use Rattle.idl_scope.specs.Facts.{answers, identity_in}
 use Rattle.idl_scope.specs.declared.key.Key.TheVariants as key
 use Rattle.idl_repo.proofs.piece.push_id.Goals as goal
@@ -14,7 +14,7 @@ returns-in-Some c =
     let word = c.as_bytes.ensures ∙ ap (λ d. d.id) c.get.ensures ∙ id-told (bank (key.IdOf c.args.path.now)) c.in-Some.identity.now told in
     on_ok_weaker c.extend_from_slice.result
     (λ e. writes-id (e ∙ ap (λ w. c.args.text.now.items ++ w) word) (rw c.in_ok-clone.ensures.cases at c.in_ok-ask.ensures.logged))
-    c.extend_from_slice.ensures.items
+    (grown-on_ok c.extend_from_slice.result c.extend_from_slice.ensures.items)
 
 pub returns : goal.returns
 returns c =

@@ -1,11 +1,11 @@
 use Rattle.std.proofs.Common.{◌-◌, ◌∷◌, codes, drop, length, take}
-use Rattle.idl_repo.proofs.WriteLemmas.{says-then, writes-commas, writes-more, writes-nothing}
+use Rattle.idl_repo.proofs.WriteLemmas.{says-then, writes-commas, writes-more, writes-no_commas, writes-nothing}
 use Rattle.idl_repo.specs.Pieces.{Says}
 use Rattle.idl_repo.specs.Row.{parameter_pieces}
 use Rattle.idl_repo.proofs.row.push_parameters.Goals as goal
 
 pub returns-in_default : goal.returns-in_default
-returns-in_default c = ?
+returns-in_default c = writes-no_commas parameter_pieces c.args.parameters.now c.in_default.len_below
 
 pub loop-parameter-init : goal.loop-parameter-init
 loop-parameter-init c = writes-nothing

@@ -1,11 +1,11 @@
 use Rattle.std.proofs.Common.{◌-◌, ◌∷◌, codes, drop, length, take}
-use Rattle.idl_repo.proofs.WriteLemmas.{says-then, writes-commas, writes-more, writes-nothing}
+use Rattle.idl_repo.proofs.WriteLemmas.{says-then, writes-commas, writes-more, writes-no_commas, writes-nothing}
 use Rattle.idl_repo.specs.Pieces.{Says}
 use Rattle.idl_repo.specs.TypeCode.{reference}
 use Rattle.idl_repo.proofs.row.push_references.Goals as goal
 
 pub returns-in_default : goal.returns-in_default
-returns-in_default c = ?
+returns-in_default c = writes-no_commas reference c.args.paths.now c.in_default.len_below
 
 pub loop-path-init : goal.loop-path-init
 loop-path-init c = writes-nothing

@@ -1,5 +1,5 @@
 use Rattle.std.proofs.lemmas.Result.{on_ok_weaker}
-use Rattle.idl_repo.proofs.WriteLemmas.{text-as, writes-text}
+use Rattle.idl_repo.proofs.WriteLemmas.{grown-on_ok, text-as, writes-text}
 use Rattle.idl_repo.proofs.type_code.push_element.Goals as goal
 
 pub returns-in-Constants : goal.returns-in-Constants
@@ -8,4 +8,4 @@ returns-in-Constants c =
 
 pub returns-in-Unvalued : goal.returns-in-Unvalued
 returns-in-Unvalued c =
-    rw c.in-Unvalued.is (on_ok_weaker c.extend_from_slice.result (λ e. text-as e c.unvalued_word.ensures) c.extend_from_slice.ensures.items)
+    rw c.in-Unvalued.is (on_ok_weaker c.extend_from_slice.result (λ e. text-as e c.unvalued_word.ensures) (grown-on_ok c.extend_from_slice.result c.extend_from_slice.ensures.items))

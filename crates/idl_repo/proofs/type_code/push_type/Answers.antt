@@ -1,13 +1,13 @@
 use Rattle.std.proofs.Common.{◌∙◌, ap, flat_map}
 use Rattle.std.proofs.lemmas.Result.{on_ok_weaker}
-use Rattle.idl_repo.proofs.WriteLemmas.{says-as, text-as, writes-as, writes-text, writes-then}
+use Rattle.idl_repo.proofs.WriteLemmas.{grown-on_ok, says-as, text-as, writes-as, writes-text, writes-then}
 use Rattle.idl_repo.specs.TypeCode.{element_pieces, layer_end, layers_begin}
 use Rattle.idl_scope.specs.declared.data_type.DataType.{DataType}
 use Rattle.idl_repo.proofs.type_code.push_type.Goals as goal
 
 pub returns-in_default : goal.returns-in_default
 returns-in_default c =
-    rw c.in_default.is (on_ok_weaker c.extend_from_slice.result (λ e. writes-text e) c.extend_from_slice.ensures.items)
+    rw c.in_default.is (on_ok_weaker c.extend_from_slice.result (λ e. writes-text e) (grown-on_ok c.extend_from_slice.result c.extend_from_slice.ensures.items))
 
 pub returns : goal.returns
 returns c =

@@ -1,11 +1,16 @@
-use Rattle.std.proofs.Common.{ap, flat_map}
+use Rattle.std.proofs.Common.{ap, flat_map, inl, inr}
 use Rattle.std.proofs.lemmas.Result.{on_ok_weaker}
 use Rattle.idl_repo.proofs.WriteLemmas.{text-as, writes-as, writes-nothing, writes-then}
 use Rattle.idl_repo.specs.TypeCode.{entries_of, enumerator_word}
 use Rattle.idl_repo.proofs.type_code.TypeCode.push_parts.Goals as goal
 
 pub returns-in-ObjectReference : goal.returns-in-ObjectReference
-returns-in-ObjectReference c = let h = c.in-ObjectReference.is in ?
+returns-in-ObjectReference c =
+    elim c.in-ObjectReference.is [
+      | inl is ↦ rw is writes-nothing
+      | inr (inl is) ↦ rw is writes-nothing
+      | inr (inr is) ↦ rw is writes-nothing
+    ]
 
 pub returns-in_ok-push_entries-in-Union : goal.returns-in_ok-push_entries-in-Union
 returns-in_ok-push_entries-in-Union c =
