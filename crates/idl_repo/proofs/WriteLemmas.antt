@@ -129,6 +129,6 @@ writes-run {bank} {p} {old} {new} {log} {after} h =
     cc
 
 -- what grows where there is memory
-pub grown-on_ok : {T E : Type 0} {new full left : List ℕ} (r : Result T E) → new ≡ (if is_ok r then full else left) → OnOk r (new ≡ full)
-grown-on_ok (Ok x) e = e
-grown-on_ok (Err x) e = tt
+pub grown-on_ok : {T E : Type 0} {new : List ℕ} (full left : List ℕ) (r : Result T E) → new ≡ (if is_ok r then full else left) → OnOk r (new ≡ full)
+grown-on_ok full left (Ok x) e = e
+grown-on_ok full left (Err x) e = tt

@@ -14,7 +14,7 @@ returns-in-Some c =
     let word = c.as_bytes.ensures ∙ ap (λ d. d.id) c.get.ensures ∙ id-told (bank (key.IdOf c.args.path.now)) c.in-Some.identity.now told in
     on_ok_weaker c.extend_from_slice.result
     (λ e. writes-id (e ∙ ap (λ w. c.args.text.now.items ++ w) word) (rw c.in_ok-clone.ensures.cases at c.in_ok-ask.ensures.logged))
-    (grown-on_ok c.extend_from_slice.result c.extend_from_slice.ensures.items)
+    (grown-on_ok _ _ c.extend_from_slice.result c.extend_from_slice.ensures.items)
 
 pub returns : goal.returns
 returns c =

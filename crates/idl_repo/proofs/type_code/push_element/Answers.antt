@@ -8,4 +8,4 @@ returns-in-Constants c =
 
 pub returns-in-Unvalued : goal.returns-in-Unvalued
 returns-in-Unvalued c =
-    rw c.in-Unvalued.is (on_ok_weaker c.extend_from_slice.result (λ e. text-as e c.unvalued_word.ensures) (grown-on_ok c.extend_from_slice.result c.extend_from_slice.ensures.items))
+    rw c.in-Unvalued.is (on_ok_weaker c.extend_from_slice.result (λ e. text-as e c.unvalued_word.ensures) (grown-on_ok _ _ c.extend_from_slice.result c.extend_from_slice.ensures.items))

@@ -7,7 +7,7 @@ use Rattle.idl_repo.proofs.type_code.push_type.Goals as goal
 
 pub returns-in_default : goal.returns-in_default
 returns-in_default c =
-    rw c.in_default.is (on_ok_weaker c.extend_from_slice.result (λ e. writes-text e) (grown-on_ok c.extend_from_slice.result c.extend_from_slice.ensures.items))
+    rw c.in_default.is (on_ok_weaker c.extend_from_slice.result (λ e. writes-text e) (grown-on_ok _ _ c.extend_from_slice.result c.extend_from_slice.ensures.items))
 
 pub returns : goal.returns
 returns c =
