@@ -1,6 +1,7 @@
 //! Replies. Each is gathered, goes out in large pieces, and has gone out whole by its end.
 
 ghost use Rattle.std.specs.Prelude.{◌≡◌, ◌<◌, ◌+◌, ◌-◌, ◌^◌, [], ◌++◌, OnOk, OnErr, decimal};
+ghost use Rattle.std.specs.List.{flat_map};
 ghost use Rattle.idl_source.specs.Device.{append, WritesPart};
 ghost use Rattle.idl_session.specs.Replies.{ok_reply, refused_reply, rows_reply, work_reply, whole_line, number_line};
 ghost use Rattle.idl_session.specs.Gathering.{Sends};
@@ -9,7 +10,7 @@ ghost use Rattle.idl_session.specs.Rows.{rows_of};
 use crate::rows::Rows;
 use arrayvec::ArrayVec;
 use idl_source::{Refusal, Sink, WriteFailed, write_all};
-use idl_workspace::Work;
+use idl_workspace::{Row, Work};
 use itoa::Buffer;
 use std::marker::Model;
 
@@ -59,6 +60,25 @@ pub fn write_rows<K: Sink>(sink: &mut K, rows: Rows<'_>) -> Result<(), WriteFail
     reply.push_counted(sink, b"rows ", rows.len())?;
     'rows: for i in 0..rows.len() {
         reply.push_line(sink, rows.get(i))?;
+    }
+    reply.finish(sink)
+}
+
+/// Each row on a line of its own, and nothing else.
+pub fn write_lines<K: Sink>(sink: &mut K, rows: &[Row]) -> Result<(), WriteFailed>
+    requires counts { K.failures sink.old < 2 ^ 64 - 1 }
+
+    ensures written { OnOk result
+        (K.written sink.new ≡ append (K.written sink.old) (flat_map whole_line rows.now)) }
+    ensures ok { OnOk result (K.failures sink.new ≡ K.failures sink.old) }
+
+    ensures part { OnErr result
+        (WritesPart (K.written sink.old) (flat_map whole_line rows.now) (K.written sink.new)) }
+    ensures err { OnErr result (K.failures sink.new ≡ K.failures sink.old + 1) }
+{
+    let mut reply = Reply::new();
+    'rows: for row in rows {
+        reply.push_line(sink, row.get().as_bytes())?;
     }
     reply.finish(sink)
 }

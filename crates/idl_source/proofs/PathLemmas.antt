@@ -1,13 +1,15 @@
 -- Paths that are read from their end: what stands before a path, and how long its text is.
-use Rattle.std.proofs.Common.{◌≡◌, ◌<◌, ◌≤◌, ◌+◌, ◌-◌, ◌*◌, ◌++◌, ◌∷◌, ◌∙◌, ◌↔◌, [], ℕ, zero, suc, Bool, true, false, ◌&&◌, cond, List, Option, None, Some, IfSome, IsSome, IsTrue, eqb, leb, take, drop, replicate, length, refl, sym, ap, arith, append_assoc, set, length-append, length-drop}
+use Rattle.std.proofs.Common.{◌≡◌, ◌<◌, ◌≤◌, ◌+◌, ◌-◌, ◌*◌, ◌++◌, ◌∷◌, ◌∙◌, ◌↔◌, [], ℕ, zero, suc, Bool, true, false, ◌&&◌, ◌||◌, cond, List, Option, None, Some, IfSome, IsSome, IsTrue, eqb, leb, take, drop, replicate, length, refl, sym, ap, arith, append_assoc, set, length-append, length-drop}
 use Rattle.std.specs.List.{All, list_all, slice_split, onto_first}
 use Rattle.std.proofs.lemmas.List.Splits.{slice_split_at, slice_split_none, length-slice_split, slice_split-cons_yes}
 use Rattle.std.proofs.lemmas.Bool.Decides.{nat_tests}
 use Rattle.std.proofs.lemmas.List.{append-nil, drop-drop, drop-set-lt, length-take, take_more_set}
 use Rattle.std.proofs.Math.Seq.{drop-append_seam}
 use borrow.Rule.Slice.PartMut.{put_mid}
+use Rattle.std.specs.Str.{bytes_eq}
+use Rattle.idl_source.specs.Directory.{is_directory}
 use Rattle.idl_source.specs.Name.{is_name, is_plain, is_up, is_visible, is_path, segments}
-use Rattle.idl_source.specs.Path.{Path, down_by, here, is_rooted, joined_path, led_by, led_by_all, slashed, text_of, name_of}
+use Rattle.idl_source.specs.Path.{Path, down_by, here, is_rooted, joined_path, led_by, led_by_all, slashed, steps, text_down, text_of, name_of, directory_text, directory_to}
 
 onto_first-append : (x : ℕ) (parts others : List (List ℕ)) → 0 < length parts → onto_first x (parts ++ others) ≡ onto_first x parts ++ others
 onto_first-append x [] others some = absurd (omega arith)
@@ -75,12 +77,47 @@ name-long text long =
     let over : leb (length text) 255 ≡ false = grind (arith, nat_tests) in
     unnamed (leb (length text) 255) (leb 1 (length text)) text over
 
+length-text_down : (rooted : Bool) (down : List (List ℕ)) → length (slashed down) ≤ length (text_down rooted down) + 1
+length-text_down true down = omega arith
+length-text_down false down = omega (arith, length-drop 1 (slashed down))
+
 -- what is too long makes no name
-name_of-over : (rooted : Bool) (path : Path) → 256 < length (slashed (replicate path.up (46 ∷ 46 ∷ []) ++ path.down)) → name_of rooted path ≡ None
+pub name_of-over : (rooted : Bool) (path : Path) → 256 < length (slashed (steps path)) → name_of rooted path ≡ None
 unfolding text_of
-name_of-over true path long = name-long (slashed (replicate path.up (46 ∷ 46 ∷ []) ++ path.down)) (omega arith)
-name_of-over false path long =
-    name-long (drop 1 (slashed (replicate path.up (46 ∷ 46 ∷ []) ++ path.down))) (omega (arith, length-drop 1 (slashed (replicate path.up (46 ∷ 46 ∷ []) ++ path.down))))
+name_of-over rooted path long = name-long (text_down rooted (steps path)) (omega (arith, length-text_down rooted (steps path)))
+
+one-byte : (text : List ℕ) (b : ℕ) → 255 < length text → bytes_eq text (b ∷ []) ≡ false
+one-byte [] b long = absurd (omega arith)
+one-byte (a ∷ []) b long = absurd (omega arith)
+one-byte (a ∷ c ∷ text) b long = elim (eqb a b) as (λ t. (t && false) ≡ false) [ true ↦ refl | false ↦ refl ]
+
+none_of : (a b c d e : Bool) → a ≡ false → b ≡ false → c ≡ false → d ≡ false → (a || (b || (c || (d && e)))) ≡ false
+none_of a b c d e p q r s = ap (λ t. t || (b || (c || (d && e)))) p ∙ ap (λ t. t || (c || (d && e))) q ∙ ap (λ t. t || (d && e)) r ∙ ap (λ t. t && e) s
+
+no_name : (a b c : Bool) → a ≡ false → (b && (a && c)) ≡ false
+no_name a true c h = ap (λ t. t && c) h
+no_name a false c h = refl
+
+directory-long : (text : List ℕ) → 255 < length text → is_directory text ≡ false
+directory-long text long =
+    let over : leb (length text) 255 ≡ false = grind (arith, nat_tests) in
+    none_of (is_name text) (bytes_eq text (46 ∷ [])) (bytes_eq text (47 ∷ [])) (leb (length text) 255) (list_all is_up (segments text))
+    (no_name (leb (length text) 255) (leb 1 (length text)) (list_all is_visible text && is_path text) over)
+    (one-byte text 46 long) (one-byte text 47 long) over
+
+pub directory_text-some : (rooted : Bool) (text : List ℕ) → 0 < length text → directory_text rooted text ≡ text
+directory_text-some rooted [] some = absurd (omega arith)
+directory_text-some true (b ∷ text) some = refl
+directory_text-some false (b ∷ text) some = refl
+
+-- nor a directory
+pub directory_to-over : (rooted : Bool) (path : Path) → 256 < length (slashed (steps path)) → directory_to rooted path ≡ None
+unfolding text_of
+directory_to-over rooted path long =
+    let text = text_down rooted (steps path) in
+    let over : 255 < length text = omega (arith, length-text_down rooted (steps path)) in
+    ap (λ (t : List ℕ). cond (is_directory t) (Some t) None) (directory_text-some rooted text (omega arith))
+    ∙ ap (λ b. cond b (Some text) None) (directory-long text over)
 
 length-ups : (n : ℕ) (down : List (List ℕ)) → length (slashed (replicate n (46 ∷ 46 ∷ []) ++ down)) ≡ 3 * n + length (slashed down)
 length-ups zero down = omega arith
@@ -89,25 +126,29 @@ length-ups (suc n) down = omega (arith, length-ups n down)
 pub name_of-long : (rooted : Bool) (path : Path) → 256 < length (slashed path.down) → name_of rooted path ≡ None
 name_of-long rooted path long = name_of-over rooted path (omega (arith, length-ups path.up path.down))
 
+pub directory_to-long : (rooted : Bool) (path : Path) → 256 < length (slashed path.down) → directory_to rooted path ≡ None
+directory_to-long rooted path long = directory_to-over rooted path (omega (arith, length-ups path.up path.down))
+
 -- nor does what is too long once some of the steps up are written
-pub name_of-ups : (rooted : Bool) (path : Path) (n : ℕ) (down : List (List ℕ)) → n < path.up → down ≡ replicate n (46 ∷ 46 ∷ []) ++ path.down → 256 < length (slashed ((46 ∷ 46 ∷ []) ∷ down)) → name_of rooted path ≡ None
-name_of-ups rooted path n down lt is long =
-    name_of-over rooted path (omega (arith, length-ups path.up path.down, length-ups n path.down, ap (λ (l : List (List ℕ)). length (slashed l)) is, long))
+pub steps-over : (path : Path) (n : ℕ) (down : List (List ℕ)) → n < path.up → down ≡ replicate n (46 ∷ 46 ∷ []) ++ path.down → 256 < length (slashed ((46 ∷ 46 ∷ []) ∷ down)) → 256 < length (slashed (steps path))
+steps-over path n down lt is long =
+    omega (arith, length-ups path.up path.down, length-ups n path.down, ap (λ (l : List (List ℕ)). length (slashed l)) is, long)
 
--- what `Name::new` answers of a text
-pub named : (name : Option (List ℕ)) (text : List ℕ) → (IsSome name ↔ IsTrue (is_name text)) → IfSome name (λ n. n ≡ text) → name ≡ cond (is_name text) (Some text) None
-named None text allowed same =
-    elim (is_name text) as (λ b. (IsTrue b → IsTrue false) → None ≡ cond b (Some text) None) [ true ↦ λ h. cc (h refl) | false ↦ λ h. refl ] (λ h. allowed.1 h)
-named (Some n) text allowed same = ap Some same ∙ ap (λ b. cond b (Some text) None) (sym (allowed.0 refl))
+-- what is made of a text where a test allows it
+pub made : (test : List ℕ → Bool) (found : Option (List ℕ)) (text : List ℕ) → (IsSome found ↔ IsTrue (test text)) → IfSome found (λ n. n ≡ text) → found ≡ cond (test text) (Some text) None
+made test None text allowed same =
+    elim (test text) as (λ b. (IsTrue b → IsTrue false) → None ≡ cond b (Some text) None) [ true ↦ λ h. cc (h refl) | false ↦ λ h. refl ] (λ h. allowed.1 h)
+made test (Some n) text allowed same = ap Some same ∙ ap (λ b. cond b (Some text) None) (sym (allowed.0 refl))
 
--- the names of a path whose steps up are written before its segments
-pub name_of-text : (path : Path) (down : List (List ℕ)) → down ≡ replicate path.up (46 ∷ 46 ∷ []) ++ path.down → name_of true path ≡ cond (is_name (slashed down)) (Some (slashed down)) None
+-- the name of a path, and its directory, by the text of its segments once the steps up are written
+pub name_of-text : (rooted : Bool) (path : Path) (down : List (List ℕ)) (text : List ℕ) → text ≡ text_down rooted down → down ≡ steps path → name_of rooted path ≡ cond (is_name text) (Some text) None
 unfolding text_of
-name_of-text path down is = ap (λ (l : List (List ℕ)). cond (is_name (slashed l)) (Some (slashed l)) None) (sym is)
+name_of-text rooted path down text text_is is = ap (λ (t : List ℕ). cond (is_name t) (Some t) None) (sym (text_is ∙ ap (text_down rooted) is))
 
-pub name_of-rest : (path : Path) (down : List (List ℕ)) → down ≡ replicate path.up (46 ∷ 46 ∷ []) ++ path.down → name_of false path ≡ cond (is_name (drop 1 (slashed down))) (Some (drop 1 (slashed down))) None
+pub directory_to-text : (rooted : Bool) (path : Path) (down : List (List ℕ)) (text : List ℕ) → text ≡ text_down rooted down → down ≡ steps path
+    → directory_to rooted path ≡ cond (is_directory (directory_text rooted text)) (Some (directory_text rooted text)) None
 unfolding text_of
-name_of-rest path down is = ap (λ (l : List (List ℕ)). cond (is_name (drop 1 (slashed l))) (Some (drop 1 (slashed l))) None) (sym is)
+directory_to-text rooted path down text text_is is = ap (λ (t : List ℕ). cond (is_directory (directory_text rooted t)) (Some (directory_text rooted t)) None) (sym (text_is ∙ ap (text_down rooted) is))
 
 slashed_text : (segment text : List ℕ) (down : List (List ℕ)) → All (λ b. eqb b 47 ≡ false) segment → down ≡ drop 1 (segments text) → slashed down ≡ text → segments (segment ++ text) ≡ segment ∷ down
 slashed_text segment text [] none is text_is =

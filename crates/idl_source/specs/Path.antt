@@ -1,5 +1,6 @@
 -- Operands of includes: what a path stands for, and the name that it makes in a directory.
 use Rattle.std.specs.Prelude.{ℕ, Bool, true, false, List, [], ◌∷◌, ◌++◌, ◌+◌, ◌-◌, drop, replicate, nat_eq, Option, Some, None, if◌then◌else◌}
+use Rattle.idl_source.specs.Directory.{is_directory}
 use Rattle.idl_source.specs.Name.{is_name, is_plain, is_up, segments}
 
 -- so many steps up, and then segments down
@@ -34,10 +35,17 @@ abbrev pub slashed : List (List ℕ) → List ℕ
 slashed [] = []
 slashed (segment ∷ segments) = 47 ∷ segment ++ slashed segments
 
--- a path from the root begins with `/`, and another one does not
+-- its segments, a `..` for each step up
+abbrev pub steps : Path → List (List ℕ)
+steps path = replicate path.up (46 ∷ 46 ∷ []) ++ path.down
+
+-- the text of segments: from the root it begins with `/`, and else it does not
+abbrev pub text_down : Bool → List (List ℕ) → List ℕ
+text_down true segments = slashed segments
+text_down false segments = drop 1 (slashed segments)
+
 unfoldable pub text_of : Bool → Path → List ℕ
-text_of true path = slashed (replicate path.up (46 ∷ 46 ∷ []) ++ path.down)
-text_of false path = drop 1 (slashed (replicate path.up (46 ∷ 46 ∷ []) ++ path.down))
+text_of rooted path = text_down rooted (steps path)
 
 -- the name that a path makes. A `..` above the root makes none
 abbrev pub name_of : Bool → Path → Option (List ℕ)
@@ -53,3 +61,19 @@ joined_path directory spelled =
     if is_rooted spelled then name_of true (led_by_all (segments spelled) here)
     else name_of (is_rooted directory)
     (led_by_all (segments directory) (led_by_all (segments spelled) here))
+
+-- the text of a directory: where a path takes no step, `/` from the root, and else `.`
+abbrev pub directory_text : Bool → List ℕ → List ℕ
+directory_text true [] = 47 ∷ []
+directory_text false [] = 46 ∷ []
+directory_text rooted (b ∷ text) = b ∷ text
+
+-- the directory that a path leads to
+abbrev pub directory_to : Bool → Path → Option (List ℕ)
+directory_to rooted path =
+    let text = directory_text rooted (text_of rooted path) in
+    if is_directory text then Some text else None
+
+-- the directory that a word names
+unfoldable pub directory_path : List ℕ → Option (List ℕ)
+directory_path spelled = directory_to (is_rooted spelled) (led_by_all (segments spelled) here)

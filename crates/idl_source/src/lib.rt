@@ -26,7 +26,7 @@ pub use line::{Line, NEWLINE};
 pub use memory::{BufferSink, SliceSource};
 pub use name::Name;
 pub use parts::first_part;
-pub use path::{is_rooted, join, normal_form};
+pub use path::{directory_at, is_rooted, join, normal_form};
 pub use refusal::Refusal;
 pub use span::Span;
 

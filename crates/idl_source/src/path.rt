@@ -3,7 +3,7 @@
 ghost use Rattle.std.specs.Prelude.{◌≡◌, ◌∷◌, ◌++◌, [], ℕ, List, IsTrue, Some, replicate, ◌+◌, ◌*◌, ◌^◌, ◌<◌, ◌≤◌, false, nat_eq, length, OnSome, IfNone};
 ghost use Rattle.std.specs.List.{All, list_all};
 ghost use Rattle.idl_source.specs.Name.{is_name, is_plain, segments};
-ghost use Rattle.idl_source.specs.Path.{here, is_rooted, joined_path, led_by, led_by_all, name_of, slashed};
+ghost use Rattle.idl_source.specs.Path.{directory_path, directory_to, here, is_rooted, joined_path, led_by, led_by_all, name_of, slashed, steps, text_down};
 
 use crate::MAX_NAME;
 use crate::directory::Directory;
@@ -35,6 +35,19 @@ pub fn join(directory: &Directory, spelled: &[u8]) -> Option<Name>
     }
     trail.lead_by_all(directory.as_bytes())?;
     trail.name(is_rooted(directory.as_bytes()))
+}
+
+/// The directory that a word names, beside the present one. It takes no memory.
+///
+/// It has the form of [`join`]'s names: empty segments and `.` go out, and `..` takes the segment before it away, or leads where there is
+/// none. Where nothing is left it is `.`, or `/` after a leading `/`. The answer is `None` where a `..` leads above `/`, and where
+/// the result is no directory.
+pub fn directory_at(spelled: &[u8]) -> Option<Directory>
+    ensures { result ≡ directory_path spelled.now }
+{
+    let mut trail = Trail::here();
+    trail.lead_by_all(spelled)?;
+    trail.directory(is_rooted(spelled))
 }
 
 /// The rules of the normal form. Empty segments and `.` go out, and `..` takes a segment before it away, wherever they
@@ -152,15 +165,43 @@ impl Trail {
     fn name(mut self, rooted: bool) -> Option<Name>
         ensures { result ≡ name_of rooted self }
     {
+        self.write_steps_up()?;
+        Name::new(self.text_from(rooted))
+    }
+
+    // The directory that the path leads to, from the root or not.
+    fn directory(mut self, rooted: bool) -> Option<Directory>
+        ensures { result ≡ directory_to rooted self }
+    {
+        self.write_steps_up()?;
+        let text = self.text_from(rooted);
+        if !text.is_empty() {
+            return Directory::new(text);
+        }
+        if rooted {
+            return Directory::new(b"/");
+        }
+        Directory::new(b".")
+    }
+
+    // Writes the steps up before the segments down.
+    fn write_steps_up(&mut self) -> Option<()>
+        ensures some { OnSome result (self.new.down ≡ steps self.old) }
+        ensures none { IfNone result (256 < length (slashed (steps self.old))) }
+    {
         for _ in 0..self.up {
             self.write_before(b"..")?;
         }
-        if rooted {
-            return Name::new(self.text());
-        }
+        Some(())
+    }
+
+    // The text of the segments down, from the root or not.
+    fn text_from(&self, rooted: bool) -> &[u8]
+        ensures { result.now ≡ text_down rooted self.now.down }
+    {
         match self.text() {
-            [] => None,
-            [_, rest @ ..] => Name::new(rest),
+            [_, rest @ ..] if !rooted => rest,
+            text => text,
         }
     }
 
