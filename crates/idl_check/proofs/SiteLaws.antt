@@ -38,7 +38,7 @@ use Rattle.idl_site.specs.declared.site.Declaration.{Declaration}
 use Rattle.idl_site.specs.declared.site.Target.{Target as Purpose}
 use Rattle.idl_site.specs.declared.site.Target.TheVariants as purpose
 use Rattle.idl_site.specs.declared.site.Use.{Use}
-use Rattle.idl_site.specs.declared.site.Use.TheVariants.{AsBase, AsType, AsElement, AsConstantType, AsDiscriminator, AsOperand, Raised}
+use Rattle.idl_site.specs.declared.site.Use.TheVariants.{AsBase, AsType, AsElement, AsConstantType, AsDiscriminator, AsOperand, Raised, RaisedBySet}
 use Rattle.idl_tree.specs.declared.expression.Expression.{Expression}
 use Rattle.idl_tree.specs.declared.name.ScopedName.{ScopedName}
 use Rattle.idl_unit.specs.TokenRules.{fault_at, first}
@@ -152,6 +152,7 @@ begin-values AsConstantType v values = refl
 begin-values AsDiscriminator v values = refl
 begin-values AsOperand v values = refl
 begin-values Raised v values = refl
+begin-values RaisedBySet v values = refl
 
 used-placed : (w : Walk) (way : Use) (name : ScopedName) (found : Found) (behind : Entity) → IsPlaced (item.Used way name) w (used_visit w way name found behind)
 used-placed w way name found behind =

@@ -14,7 +14,7 @@ use Rattle.idl_scope.specs.declared.entity.Entity.{Entity}
 use Rattle.idl_scope.specs.declared.fault.NameCode.{NameCode}
 use Rattle.idl_scope.specs.declared.fault.NameCode.TheVariants.{Undeclared, Ambiguous, OtherSpelling, NoScope}
 use Rattle.idl_site.specs.declared.site.Use.{Use}
-use Rattle.idl_site.specs.declared.site.Use.TheVariants.{AsBase, AsType, AsElement, AsConstantType, AsDiscriminator, AsOperand, Raised}
+use Rattle.idl_site.specs.declared.site.Use.TheVariants.{AsBase, AsType, AsElement, AsConstantType, AsDiscriminator, AsOperand, Raised, RaisedBySet}
 use Rattle.idl_unit.specs.TokenRules.{fault_at}
 use Rattle.idl_unit.specs.declared.fault.Fault.{Fault}
 use Rattle.idl_check.proofs.FaultOrder.{AreLed, IsLed, led-codes}
@@ -65,6 +65,7 @@ suited-up AsConstantType bases e behind = (omega arith, (omega arith, tt))
 suited-up AsDiscriminator bases e behind = (omega arith, (omega arith, tt))
 suited-up AsOperand bases e behind = tt
 suited-up Raised bases e behind = tt
+suited-up RaisedBySet bases e behind = tt
 
 up-if : (b : Bool) (table : Table) → Ascends 22 table → Ascends 22 (cond b table ((true, code.WrongKind) ∷ []))
 up-if true table up = up

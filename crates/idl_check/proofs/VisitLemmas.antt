@@ -1,14 +1,13 @@
 -- Runs of a walk and of its sites.
 use Rattle.std.proofs.Common.{◌≡◌, ◌∙◌, ℕ, true, false, cond, List, [], ◌∷◌, Option, None, Some, Result, Ok, Err, refl, sym, ap}
-use Rattle.std.specs.Prelude.{◌+◌, Bool, OnOk, length, slice_get}
+use Rattle.std.specs.Prelude.{Bool, OnOk, slice_get}
 use Rattle.idl_memo.specs.Query.{Done, and_then, run}
 use Rattle.idl_memo.proofs.QueryLaws.{run-and_then, run-and_then_at}
 use Rattle.idl_check.specs.Held.{given_noted, head_noted, used_noted, visited}
 use Rattle.idl_check.specs.Declaring.{entity_of, standing}
 use Rattle.idl_check.specs.Types.{looked_through}
-use Rattle.idl_check.specs.Walk.{Visit, Walk, past_name, declared_visit, faulty_if, given_back, head_of, head_visit, is_over, noted_in, passed, quiet, unfound_visit, used, used_visit, visit, walk, with_oneway}
+use Rattle.idl_check.specs.Walk.{Visit, Walk, past_name, declared_visit, given_back, head_of, head_visit, is_over, noted_in, passed, quiet, unfound_visit, used, used_visit, visit, walk, with_oneway}
 use Rattle.idl_check.specs.declared.standing.Standing.{Standing}
-use Rattle.idl_event.specs.declared.code.Code.TheVariants.{BadOneway}
 use Rattle.idl_scope.specs.Key.{key_eq}
 use Rattle.idl_scope.specs.Lookup.{Lookup, by_result, denoted, under}
 use Rattle.idl_scope.specs.declared.answer.Answer.{Answer}
@@ -21,10 +20,8 @@ use Rattle.idl_site.specs.Item.{Item, Item as item}
 use Rattle.idl_site.specs.declared.site.Declaration.{Declaration}
 use Rattle.idl_site.specs.declared.site.Use.{Use}
 use Rattle.idl_tree.specs.declared.name.ScopedName.{ScopedName}
-use Rattle.idl_tree.specs.declared.several.Several.{Several}
 use Rattle.idl_unit.specs.TokenRules.{first}
 use Rattle.idl_unit.specs.declared.fault.Fault.{Fault}
-use Rattle.idl_check.proofs.NameLemmas.{text-length}
 use Rattle.idl_check.proofs.NotedLemmas.{noted_in-one_way, noted_in-quiet, one_way}
 
 -- the innermost of scopes
@@ -166,12 +163,6 @@ module _ (bank : Key → Option Answer) where
       → runs_over (head_noted turns name w) log ≡ (noted_in (head_visit name w r) w.fault, after)
   head_by turns name w log r after h =
       run-and_then_at key_eq (under w.own (denoted turns w.cursor (head_of name))) (λ r. Done (noted_in (head_visit name w r) w.fault)) bank log r after h
-
-  -- literals that are joined
-  pub visited_joined : (turns : ℕ) (text : Several (List ℕ)) (w : Walk) (log : List (Key × Option Answer))
-      → runs_over (visited turns (item.Joined text) w) log ≡ (noted_in (faulty_if w.gives_back BadOneway w (passed (1 + length text.rest) w)) w.fault, log)
-  unfolding visit
-  visited_joined turns text w log = λ i. (noted_in (faulty_if w.gives_back BadOneway w (passed (text-length text i) w)) w.fault, log)
 
   -- a walk that is over
   pub walk_over : (turns : ℕ) (sites : List Item) (w : Walk) (log : List (Key × Option Answer)) → is_over w ≡ true → runs_over (walk turns sites w) log ≡ (w, log)

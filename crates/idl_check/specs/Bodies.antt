@@ -15,7 +15,7 @@ use Rattle.idl_site.specs.declared.site.Declaration.TheVariants as declaration
 use Rattle.idl_site.specs.declared.site.Use.{Use}
 use Rattle.idl_site.specs.declared.site.Use.TheVariants.{Raised, RaisedBySet}
 use Rattle.idl_tree.specs.declared.operation.Direction.{Direction}
-use Rattle.idl_tree.specs.declared.operation.Direction.TheVariants.{In, Out, InOut}
+use Rattle.idl_tree.specs.declared.operation.Direction.TheVariants.{In, Out}
 use Rattle.idl_tree.specs.declared.several.Several.{Several}
 use Rattle.idl_value.specs.declared.value.Value.{Value}
 
@@ -48,13 +48,14 @@ abbrev pub is_nothing : List (List (List ℕ)) → Bool
 is_nothing [] = true
 is_nothing (path ∷ paths) = false
 
+-- whether reading or writing raises something
+abbrev pub raises : Clauses → Bool
+raises clauses = not (is_nothing clauses.raised && is_nothing clauses.raised_by_set)
+
 -- an attribute that was declared last and raises something
 abbrev pub raising : Option Entity → Clauses → List Entity
 raising None clauses = []
-raising (Some e) clauses =
-    if kind_eq e.kind Attribute
-    && not (is_nothing clauses.raised && is_nothing clauses.raised_by_set)
-    then e ∷ [] else []
+raising (Some e) clauses = if kind_eq e.kind Attribute && raises clauses then e ∷ [] else []
 
 -- what a name shows that has these members and clauses
 abbrev pub signature_of : List Member → Clauses → Signature
@@ -103,19 +104,26 @@ member_of way e labels = record {
 abbrev pub is_member : Kind → Bool
 is_member kind = kind_eq kind MemberKind || kind_eq kind Parameter
 
--- the innermost body with a declared name, if it is a member
+-- the innermost body becomes this
+abbrev pub with_innermost : (Body → Body) → List Body → List Body
+with_innermost next [] = []
+with_innermost next (b ∷ bodies) = next b ∷ bodies
+
+-- a body with a declared name, if it is a member
+abbrev pub with_name : Declaration → Entity → Body → Body
+with_name way e b =
+    if is_member e.kind
+    then record b { members = b.members ++ member_of way e b.labels ∷ []; labels = [] } else b
+
 abbrev pub with_member : Declaration → Entity → List Body → List Body
-with_member way e [] = []
-with_member way e (b ∷ bodies) =
-    (if is_member e.kind
-    then record b { members = b.members ++ member_of way e b.labels ∷ []; labels = [] }
-    else b)
-    ∷ bodies
+with_member way e = with_innermost (with_name way e)
 
 -- with a label
+abbrev pub with_next_label : Option Value → Body → Body
+with_next_label label b = record b { labels = b.labels ++ label ∷ [] }
+
 abbrev pub with_body_label : Option Value → List Body → List Body
-with_body_label label [] = []
-with_body_label label (b ∷ bodies) = record b { labels = b.labels ++ label ∷ [] } ∷ bodies
+with_body_label label = with_innermost (with_next_label label)
 
 -- an entity as an array of these lengths, if it has a type
 abbrev pub array_type : List ℕ → Option DataType → Option DataType
@@ -137,8 +145,7 @@ with_array_type e b =
     then record b { members = with_last_type e.data_type b.members } else b
 
 abbrev pub with_array_body : Entity → List Body → List Body
-with_array_body e [] = []
-with_array_body e (b ∷ bodies) = with_array_type e b ∷ bodies
+with_array_body e = with_innermost (with_array_type e)
 
 -- the innermost body, where what was declared last is an array of these lengths
 abbrev pub with_array_member : List ℕ → Option Entity → List Body → List Body
@@ -155,3 +162,8 @@ told_body clauses b =
         signature = Some (signature_of b.members clauses);
       } ∷ []
     ]
+
+-- what the innermost of these is of
+abbrev pub told_innermost : Clauses → List Body → List Entity
+told_innermost clauses [] = []
+told_innermost clauses (b ∷ bodies) = told_body clauses b

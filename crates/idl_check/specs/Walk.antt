@@ -1,8 +1,8 @@
 -- The walk over the sites of a unit, in the order of its tokens: what is asked at each, what is
 -- wrong there, and what it adds.
-use Rattle.std.specs.Prelude.{ℕ, ◌+◌, Bool, true, false, ◌&&◌, ◌||◌, List, [], ◌∷◌, ◌++◌, drop, flat_map, is_some, min, nat_lt, not, take, Option, None, Some, Result, Ok, Err, if◌then◌else◌, option_to_list}
+use Rattle.std.specs.Prelude.{ℕ, ◌+◌, Bool, true, false, ◌&&◌, ◌||◌, List, [], ◌∷◌, ◌++◌, drop, is_some, min, nat_lt, not, take, Option, None, Some, Result, Ok, Err, if◌then◌else◌, option_to_list}
 use Rattle.std.specs.List.{list_any}
-use Rattle.idl_check.specs.Bodies.{Body, Clauses, array_of, begun_body, no_clauses, told_body, with_array_member, with_body_label, with_context, with_member, with_raised}
+use Rattle.idl_check.specs.Bodies.{Body, Clauses, array_of, begun_body, no_clauses, told_innermost, with_array_member, with_body_label, with_context, with_member, with_raised}
 use Rattle.idl_check.specs.Codes.{faults_by}
 use Rattle.idl_check.specs.Declaring.{Written, declared_table, entity_of, kind_of, standing, with_declared, written_after}
 use Rattle.idl_check.specs.Labels.{Labels, is_idle, is_labelled, no_labels, with_default, with_label}
@@ -220,7 +220,7 @@ with_scope way name (s ∷ scopes) =
 abbrev pub ended_scope : Walk → Walk
 ended_scope w = record w {
   cursor = drop 1 w.cursor;
-  begun = w.begun ++ flat_map (told_body w.clauses) (take 1 w.bodies);
+  begun = w.begun ++ told_innermost w.clauses w.bodies;
   written =
       elim (first w.cursor) [
         | None ↦ w.written

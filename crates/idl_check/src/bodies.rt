@@ -1,9 +1,10 @@
 //! What is told inside a unit of what it declares: the members of scopes, and what clauses say.
 
-ghost use Rattle.std.specs.Prelude.{◌≡◌, ◌∷◌, [], IfOk, OnOk, option_to_list};
-ghost use Rattle.std.specs.Option.{option_copied};
+ghost use Rattle.std.specs.Prelude.{◌≡◌, ◌++◌, ◌&&◌, [], IfNone, IfOk, OnOk, drop, flat_map, option_to_list};
+ghost use Rattle.idl_scope.specs.Kind.{kind_eq};
 ghost use Rattle.idl_scope.specs.Path.{name_of};
-ghost use Rattle.idl_check.specs.Bodies.{begun_body, comes_out, goes_in, is_member, joined_text, no_clauses, raising, signature_of, told_body, with_array_body, with_array_type, with_body_label, with_context, with_member, with_raised};
+ghost use Rattle.idl_scope.specs.declared.kind.Kind.TheVariants.{Attribute};
+ghost use Rattle.idl_check.specs.Bodies.{begun_body, comes_out, goes_in, is_member, is_nothing, joined_text, no_clauses, raises, raising, signature_of, told_body, told_innermost, with_array_body, with_array_type, with_body_label, with_context, with_last_type, with_member, with_name, with_next_label, with_raised};
 
 use idl_base::Seq;
 use idl_lex::Spelling;
@@ -108,31 +109,37 @@ impl Clauses {
     }
 
     /// A text of a context: string literals, which are joined.
-    pub fn add_context(
-        &mut self,
-        alloc: Global,
-        text: &Several<Seq<u16>>,
-    ) -> Result<(), AllocError>
+    pub fn add_context(&mut self, alloc: Global, text: &Several<Seq<u16>>) -> Result<(), AllocError>
         ensures { OnOk result (self.new ≡ with_context text.now self.old) }
     {
         self.contexts.push(joined_text(alloc, text)?)?;
         Ok(())
     }
 
-    /// The attribute that was declared last, if it raises something.
-    pub fn raising<'a>(&self, last: Option<&'a Shared<Entity>>) -> Option<&'a Shared<Entity>>
-        ensures { option_to_list (option_copied result)
-            ≡ raising (option_copied last.entry) self.now }
+    // Whether it is an attribute that raises something.
+    fn is_raising(&self, entity: &Entity) -> bool
+        ensures { result ≡ (kind_eq entity.now.kind Attribute && raises self.now) }
     {
-        match last {
-            Some(entity)
-                if entity.get().kind == Kind::Attribute
-                    && !(self.raised.is_empty() && self.raised_by_set.is_empty()) =>
-            {
-                Some(entity)
-            }
-            _ => None,
+        entity.kind == Kind::Attribute
+            && !(is_nothing(self.raised.as_slice()) && is_nothing(self.raised_by_set.as_slice()))
+    }
+
+    /// Puts in the attribute that was declared last, if it raises something.
+    pub fn add_raising(
+        &self,
+        begun: &mut Vec<Shared<Entity>>,
+        last: &Option<Shared<Entity>>,
+    ) -> Result<(), AllocError>
+        ensures { OnOk result (begun.new.items ≡ begun.old.items ++ raising last.now self.now) }
+    {
+        let Some(entity) = last else {
+            return Ok(());
+        };
+        if !self.is_raising(entity.get()) {
+            return Ok(());
         }
+        begun.push(entity.clone()?)?;
+        Ok(())
     }
 
     /// What a name shows that has these members and clauses.
@@ -182,8 +189,7 @@ impl Body {
         way: Declaration,
         entity: &Entity,
     ) -> Result<(), AllocError>
-        ensures { OnOk result
-            (self.new ∷ [] ≡ with_member way entity.now (self.old ∷ [])) }
+        ensures { OnOk result (self.new ≡ with_name way entity.now self.old) }
     {
         if !is_member(entity.kind) {
             return Ok(());
@@ -203,7 +209,7 @@ impl Body {
 
     // A label.
     fn label(&mut self, label: Option<Value>) -> Result<(), AllocError>
-        ensures { OnOk result (self.new ∷ [] ≡ with_body_label label (self.old ∷ [])) }
+        ensures { OnOk result (self.new ≡ with_next_label label self.old) }
     {
         self.labels.push(label)?;
         Ok(())
@@ -216,15 +222,12 @@ impl Body {
         if array.kind != Kind::Member {
             return Ok(());
         }
-        let data_type = array.data_type.clone()?;
-        if let Some(member) = self.members.last_mut() {
-            member.data_type = data_type;
-        }
+        set_last_type(&mut self.members, array.data_type.clone()?);
         Ok(())
     }
 
-    /// What it is of, once it ends.
-    pub fn told(self, alloc: Global, clauses: &Clauses) -> Result<Option<Shared<Entity>>, AllocError>
+    // What it is of, once it ends.
+    fn told(self, alloc: Global, clauses: &Clauses) -> Result<Option<Shared<Entity>>, AllocError>
         ensures { IfOk result (λ entity. option_to_list entity ≡ told_body clauses.now self) }
     {
         let Body {
@@ -280,6 +283,55 @@ pub fn make_array(bodies: &mut Vec<Body>, array: &Entity) -> Result<(), AllocErr
     }
 }
 
+/// The innermost of these scopes ends: what it is of has begun.
+pub fn end_innermost(
+    alloc: Global,
+    bodies: &mut Vec<Body>,
+    clauses: &Clauses,
+    begun: &mut Vec<Shared<Entity>>,
+) -> Result<(), AllocError>
+    ensures begun { OnOk result
+        (begun.new.items
+        ≡ begun.old.items ++ told_innermost clauses.now bodies.old.items) }
+    ensures bodies { OnOk result (bodies.new.items ≡ drop 1 bodies.old.items) }
+{
+    let Some(body) = take_innermost(bodies) else {
+        return Ok(());
+    };
+    let Some(told) = body.told(alloc, clauses)? else {
+        return Ok(());
+    };
+    begun.push(told)?;
+    Ok(())
+}
+
+// Takes out the innermost of these scopes, if there is one.
+fn take_innermost(bodies: &mut Vec<Body>) -> Option<Body>
+    ensures some { bodies.old.items ≡ option_to_list result ++ bodies.new.items }
+    ensures none { IfNone result (bodies.old.items ≡ []) }
+{
+    if bodies.is_empty() {
+        return None;
+    }
+    Some(bodies.remove(0))
+}
+
+// The last of these members has this type.
+fn set_last_type(members: &mut Vec<Member>, data_type: Option<Shared<DataType>>)
+    ensures { members.new.items ≡ with_last_type data_type members.old.items }
+{
+    if let Some(member) = members.last_mut() {
+        member.data_type = data_type;
+    }
+}
+
+// Whether there is none.
+fn is_nothing(paths: &[Path]) -> bool
+    ensures { result ≡ is_nothing paths.now }
+{
+    paths.is_empty()
+}
+
 // The name of what stands at a path.
 fn name_at(alloc: Global, path: &Path) -> Result<Spelling, AllocError>
     ensures { IfOk result (λ name. name ≡ name_of path.now) }
@@ -322,8 +374,17 @@ fn joined_text(alloc: Global, text: &Several<Seq<u16>>) -> Result<Seq<u16>, Allo
     ensures { IfOk result (λ joined. joined ≡ joined_text text.now) }
 {
     let mut joined = Vec::from_slice(alloc, text.first.as_slice())?;
-    for piece in text.rest.as_slice() {
+    join_each(&mut joined, text.rest.as_slice())?;
+    Ok(Seq::from_vec(joined))
+}
+
+// String literals more.
+fn join_each(joined: &mut Vec<u16>, pieces: &[Seq<u16>]) -> Result<(), AllocError>
+    ensures { OnOk result
+        (joined.new.items ≡ joined.old.items ++ flat_map (λ piece. piece) pieces.now) }
+{
+    for piece in pieces {
         joined.extend_from_slice(piece.as_slice())?;
     }
-    Ok(Seq::from_vec(joined))
+    Ok(())
 }

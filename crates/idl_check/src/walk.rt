@@ -1,7 +1,7 @@
 //! The walk over the sites of a unit.
 
-ghost use Rattle.std.specs.Prelude.{◌≡◌, ◌≤◌, ◌+◌, ◌∷◌, ◌++◌, [], ℕ, IfOk, OnOk, Some, drop, flat_map, length, map, option_to_list, take, true};
-ghost use Rattle.idl_check.specs.Bodies.{begun_body, raising, told_body, with_context};
+ghost use Rattle.std.specs.Prelude.{◌≡◌, ◌≤◌, ◌+◌, ◌∷◌, ◌++◌, [], ℕ, IfOk, OnOk, Some, drop, map, option_to_list, take, true};
+ghost use Rattle.idl_check.specs.Bodies.{begun_body, raising, with_context};
 ghost use Rattle.idl_check.specs.Declaring.{finished, with_finished};
 ghost use Rattle.idl_check.specs.Held.{HasRoomFor, held, visited};
 ghost use Rattle.idl_check.specs.Walk.{faulty_if, first_walk, is_over, noted, noted_in, passed, scope_visit, walk, with_scope};
@@ -12,11 +12,11 @@ ghost use Rattle.idl_memo.specs.Query.{run};
 ghost use Rattle.idl_scope.specs.Facts.{answers};
 ghost use Rattle.idl_scope.specs.Key.{key_eq};
 ghost use Rattle.idl_scope.specs.declared.lookup.TheConstants.{TURNS};
-ghost use Rattle.idl_site.specs.Item.{item_at, item_length, items_length};
+ghost use Rattle.idl_site.specs.Item.{Item as item, item_at, item_length, items_length};
 ghost use Rattle.idl_unit.specs.TokenRules.{fault_at};
 
 use crate::bases::Bases;
-use crate::bodies::{Body, Clauses};
+use crate::bodies::{Body, Clauses, end_innermost};
 use crate::codes::lesser;
 use crate::declaring::{Ending, Written, finished, kind_of, path_in};
 use crate::labels::Labels;
@@ -203,15 +203,16 @@ impl<'a> Walker<'a> {
 
     // String literals, which are joined: a text of a context.
     fn join(&mut self, text: &Several<Seq<u16>>) -> Result<(), AllocError>
-        requires { self.old.at + (length text.now.rest + 1) ≤ 18446744073709551615 }
+        requires { HasRoomFor (held self.old) (item.Joined text.now ∷ []) }
         ensures visit { OnOk result
             (held self.new
             ≡ noted_in
             (faulty_if self.old.gives_back BadOneway (held self.old)
-            (record (passed (length text.now.rest + 1) (held self.old)) {
+            (record (passed (item_length (item.Joined text.now)) (held self.old)) {
               clauses = with_context text.now self.old.clauses;
             })) self.old.fault) }
-        ensures at { OnOk result (self.new.at ≡ self.old.at + (length text.now.rest + 1)) }
+        ensures at { OnOk result
+            (self.new.at ≡ self.old.at + item_length (item.Joined text.now)) }
         ensures env { OnOk result (self.new.env.now ≡ self.old.env.now) }
     {
         self.clauses.add_context(self.env.alloc(), text)?;
@@ -277,32 +278,11 @@ impl<'a> Walker<'a> {
         };
         let path = innermost.path.clone()?;
         let is_union = innermost.kind == Kind::Union;
-        self.written.name_type(self.env.alloc(), &path)?;
-        self.end_body()?;
+        let alloc = self.env.alloc();
+        self.written.name_type(alloc, &path)?;
+        end_innermost(alloc, &mut self.bodies, &self.clauses, &mut self.begun)?;
         leave(&mut self.cursor);
         if is_union { self.end_union() } else { Ok(()) }
-    }
-
-    // What the innermost scope of the unit is of is finished by the unit's end.
-    fn end_body(&mut self) -> Result<(), AllocError>
-        ensures walk { OnOk result
-            (held self.new
-            ≡ record (held self.old) {
-              begun =
-                  self.old.begun.items
-                  ++ flat_map (told_body self.old.clauses) (take 1 self.old.bodies.items);
-              bodies = drop 1 self.old.bodies.items;
-            }) }
-        ensures env { OnOk result (self.new.env.now ≡ self.old.env.now) }
-    {
-        if self.bodies.is_empty() {
-            return Ok(());
-        }
-        let body = self.bodies.remove(0);
-        if let Some(told) = body.told(self.env.alloc(), &self.clauses)? {
-            self.begun.push(told)?;
-        }
-        Ok(())
     }
 
     // The labels of the innermost union are complete.
@@ -359,9 +339,7 @@ impl<'a> Walker<'a> {
             values,
             fault: _fault,
         } = self;
-        if let Some(attribute) = clauses.raising(last.as_ref()) {
-            begun.push(attribute.clone()?)?;
-        }
+        clauses.add_raising(&mut begun, &last)?;
         if begun.is_empty() {
             own.then(step);
             return Ok(own);

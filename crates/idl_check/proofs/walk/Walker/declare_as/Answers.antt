@@ -43,7 +43,8 @@ returns-clause-visit c =
     ∙ (λ i. record (after noted) {
       own = adds (c.in_ok-add_identity.ensures i).additions;
       written = written_after (held_written noted.written) (c.get-2.ensures i);
+      bodies = with_member c.args.way (c.get-3.ensures i) noted.bodies.items;
     })
-    ∙ (λ i. record (after noted) { own = adds (with_identity there.there there.ids (c.get-3.ensures i) noted.own.additions) })
+    ∙ (λ i. record (after noted) { own = adds (with_identity there.there there.ids (c.get-4.ensures i) noted.own.additions) })
     ∙ (λ i. after (c.note.ensures i))
     ∙ (λ i. record (after old) { fault = fault i })

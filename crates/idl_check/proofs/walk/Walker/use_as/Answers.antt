@@ -2,7 +2,7 @@ use Rattle.std.proofs.Common.{ℕ, ◌+◌, ◌∷◌, ◌++◌, [], List, false
 use Rattle.std.specs.Prelude.{option_to_list}
 use Rattle.idl_check.proofs.NotedLemmas.{noted-by}
 use Rattle.idl_check.proofs.TableLaws.{used-up}
-use Rattle.idl_check.specs.Bodies.{with_raised}
+use Rattle.idl_check.specs.Bodies.{Clauses, with_raised}
 use Rattle.idl_check.specs.Codes.{codes_in}
 use Rattle.idl_check.specs.Held.{held, held_values, held_written}
 use Rattle.idl_check.specs.Using.{bases_after, constants_after, last_at, type_after, unions_after, used_table, values_after, with_uses}
@@ -28,12 +28,12 @@ returns-clause-visit c =
     let code = c.in_ok-code.ensures behind c.in_ok-constants.ensures ∙ (λ i. first (codes_in (used_table way old.bases (c.get-entity.ensures i) behind))) in
     let fault = (λ i. noted old.fault (map (fault_at (c.last_at-last.ensures i)) (option_to_list c.in_ok-code.code)))
     ∙ noted-by old.fault last table c.in_ok-code.code (used-up way old.bases e behind) code in
-    let after : Walker → ℕ → List Addition → List (List (List ℕ)) → Entity → Walk = λ w at own found f. record (held w) {
+    let after : Walker → ℕ → List Addition → List (List (List ℕ)) → Clauses → Entity → Walk = λ w at own found clauses f. record (held w) {
       at = at + 1;
       own = own;
       bases = bases_after way f w.bases;
       written = record (held_written w.written) { data_type = type_after way f w.written.data_type; constants = constants_after way behind w.written.constants };
-      clauses = with_raised way f.path w.clauses;
+      clauses = clauses;
       unions = unions_after way behind w.unions.items;
       gives_back = false;
       found = found;
@@ -42,7 +42,9 @@ returns-clause-visit c =
     let path = c.in_ok-clone.ensures.cases ∙ ap (λ (f : Entity). f.path) c.get-entity.ensures in
     let scopes = c.front-scopes.ensures ∙ ap (take reach) c.as_slice.ensures.value in
     c.in_ok-follow.ensures.walk
-    ∙ (λ i. after before c.last_at-last.result (c.in_ok-introduce.ensures i).additions (c.in_ok-push.ensures.items i) (c.get-entity.ensures i))
-    ∙ (λ i. after before (c.last_at-last.ensures i) (with_uses (folded name.first) (scopes i) before.own.additions) (before.found.items ++ path i ∷ []) e)
-    ∙ (λ i. after (c.note.ensures i) last (with_uses (folded name.first) (take reach (c.note.ensures i).cursor.items) (c.note.ensures i).own.additions) ((c.note.ensures i).found.items ++ e.path ∷ []) e)
-    ∙ (λ i. record (after old last (with_uses (folded name.first) (take reach old.cursor.items) old.own.additions) (old.found.items ++ e.path ∷ []) e) { fault = fault i })
+    ∙ (λ i. after before c.last_at-last.result (c.in_ok-introduce.ensures i).additions (c.in_ok-push.ensures.items i) (c.in_ok-add_raised.ensures i) (c.get-entity.ensures i))
+    ∙ (λ i. after before (c.last_at-last.ensures i) (with_uses (folded name.first) (scopes i) before.own.additions) (before.found.items ++ path i ∷ [])
+    (with_raised way (c.get-entity.ensures i).path before.clauses) e)
+    ∙ (λ i. after (c.note.ensures i) last (with_uses (folded name.first) (take reach (c.note.ensures i).cursor.items) (c.note.ensures i).own.additions) ((c.note.ensures i).found.items ++ e.path ∷ [])
+    (with_raised way e.path (c.note.ensures i).clauses) e)
+    ∙ (λ i. record (after old last (with_uses (folded name.first) (take reach old.cursor.items) old.own.additions) (old.found.items ++ e.path ∷ []) (with_raised way e.path old.clauses) e) { fault = fault i })
