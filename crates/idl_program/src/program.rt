@@ -70,7 +70,28 @@ fn perform<'a, L: Loader, S: Source, O: Sink, E: Sink>(
         status request) }
     ensures most { E.failures devices.new.errors ≤ E.failures devices.old.errors + 1 }
 {
-    match request_of(alloc, words)? {
+    let request = request_of(alloc, words)?;
+    fulfil(alloc, &request, devices)
+}
+
+// Does what is asked for.
+fn fulfil<'a, L: Loader, S: Source, O: Sink, E: Sink>(
+    alloc: Global,
+    request: &Request<'a>,
+    devices: &mut Devices<L, S, O, E>,
+) -> Result<Status, Failure<'a>>
+    requires reads { S.failures devices.old.source < 2 ^ 64 - 1 }
+    requires writes { O.failures devices.old.output < 2 ^ 64 - 1 }
+    requires tells { E.failures devices.old.errors < 2 ^ 64 - 2 }
+
+    ensures done { IfOk result (λ status.
+        IsDone (L.told devices.old.loader) (S.remaining devices.old.source)
+        (record { errors = E.written devices.old.errors; output = O.written devices.old.output })
+        (record { errors = E.written devices.new.errors; output = O.written devices.new.output })
+        status request.now) }
+    ensures most { E.failures devices.new.errors ≤ E.failures devices.old.errors + 1 }
+{
+    match request {
         Request::Show(text) => {
             write_all(&mut devices.output, text.as_bytes())?;
             Ok(Status::Sound)
@@ -80,7 +101,7 @@ fn perform<'a, L: Loader, S: Source, O: Sink, E: Sink>(
             run(&mut session, &mut devices.source, &mut devices.output)?;
             Ok(Status::Sound)
         }
-        Request::Compile(options) => compile(alloc, &options, devices),
+        Request::Compile(options) => compile(alloc, options, devices),
     }
 }
 
