@@ -82,9 +82,9 @@ fn command<'a>(alloc: Global) -> Result<Command<'a>, AllocError> {
                 .help("Writes the declarations of each FILE to standard output"),
         )?
         .arg(
-            flag(alloc, "listing")
-                .long("listing")
-                .help("Writes the repository listing of each FILE to standard output"),
+            flag(alloc, "listing").long("listing").help(
+                "Writes the repository listing of each FILE to standard output",
+            ),
         )?
         .arg(
             flag(alloc, "session")

@@ -90,11 +90,7 @@ fn first_path(addition: &Addition) -> Option<&Path>
 }
 
 /// What comes of each of these names over an environment.
-pub fn print_all(
-    alloc: Global,
-    env: &Env,
-    listed: &[Listed<'_>],
-) -> Result<Printed, AllocError>
+pub fn print_all(alloc: Global, env: &Env, listed: &[Listed<'_>]) -> Result<Printed, AllocError>
     ensures findings { IfOk result (λ printed. printed.findings.items
         ≡ flat_map (closing_finding env.now) (map listed_at listed.now)) }
     ensures rows { IfOk result (λ printed. printed.rows.items

@@ -78,11 +78,7 @@ impl DataType {
     }
 
     /// It as what arrays are of that have these lengths, the outermost first.
-    pub fn in_arrays(
-        &self,
-        alloc: Global,
-        lengths: &[u32],
-    ) -> Result<Shared<DataType>, AllocError>
+    pub fn in_arrays(&self, alloc: Global, lengths: &[u32]) -> Result<Shared<DataType>, AllocError>
         ensures { IfOk result (λ t. t ≡ with_arrays lengths.now self.now) }
     {
         let element = self.element.clone()?;

@@ -154,10 +154,7 @@ pub fn push_declarator<'a>(
 }
 
 /// The end of an array with these lengths, if it is one.
-fn push_array_end<'a>(
-    sites: &mut Vec<Site<'a>>,
-    lengths: &[Expression],
-) -> Result<(), AllocError>
+fn push_array_end<'a>(sites: &mut Vec<Site<'a>>, lengths: &[Expression]) -> Result<(), AllocError>
     ensures { OnOk result (Pushes sites.old.items sites.new.items (array_end lengths.now)) }
 {
     match lengths {
