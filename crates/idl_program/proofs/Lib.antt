@@ -1,3 +1,5 @@
 pub mod EditLemmas
 pub mod LoadingLemmas
+pub mod OptionLemmas
+pub mod ServedLemmas
 pub mod WordLemmas

@@ -10,18 +10,18 @@ use Rattle.std.specs.Ordering.{eq_by_cmp, nat_cmp}
 use Rattle.std.specs.Set.{remove_key}
 use Rattle.std.specs.Str.{bytes_eq}
 use Rattle.idl_source.specs.Texts.{Texts}
-use Rattle.std.proofs.Common.{All, None, ◌+◌, ◌<◌, get_or, length, take}
+use Rattle.std.proofs.Common.{All, IfNone, None, ◌+◌, ◌<◌, get_or, length, take}
 use Rattle.std.proofs.lemmas.List.{take_more}
-use Rattle.std.proofs.lemmas.List.Elements.{All-push}
+use Rattle.std.proofs.lemmas.List.Elements.{All-push, All-weaker}
 use Rattle.std.specs.Option.{option_map}
 use Rattle.idl_workspace.specs.Compile.{compiled_root}
-use Rattle.idl_workspace.specs.UpToDate.{absent_of, diagnostics_of, dump_of}
+use Rattle.idl_workspace.specs.UpToDate.{absent_of, diagnostics_of, dump_of, is_faulty_of, listing_of}
 use Rattle.idl_workspace.specs.declared.compile.CompiledRoot.{CompiledRoot}
 use Rattle.std.specs.Ordering.{is_eq}
-use Rattle.idl_workspace.specs.Project.{Project, is_root}
+use Rattle.idl_workspace.specs.Project.{Inputs, Project, is_root}
 use Rattle.idl_program.specs.Holding.{Allows, Holding, NoFile}
-use Rattle.idl_program.specs.Loading.{AreLoaded, AreRoots, IsFileOf}
-use Rattle.idl_program.specs.Tried.{AreTrue, trouble_of}
+use Rattle.idl_program.specs.Loading.{AreComplete, AreLoaded, IsFileOf}
+use Rattle.idl_program.specs.Tried.{AreMissing, AreTrue, trouble_of}
 use Rattle.idl_program.specs.declared.loading.Tried.{Tried}
 use Rattle.idl_program.specs.declared.loading.Trouble.{Trouble}
 use Rattle.idl_program.specs.declared.loading.Trouble.TheVariants.{Missing}
@@ -44,20 +44,22 @@ pub list_any-moved : (name root : List ℕ) (roots : List (List ℕ)) → list_a
     → list_any (bytes_eq name) (remove_key (bytes_eq root) roots ++ root ∷ []) ≡ true
 list_any-moved name root [] there = absurd (cc)
 list_any-moved name root (r ∷ roots) there =
-    by (bytes_eq root r) (bytes_eq name r) refl refl there
+    by (bytes_eq root r) (bytes_eq name r) refl refl (λ e. list_any-moved name root roots e) there
   where
-    by : (gone same : Bool) → bytes_eq root r ≡ gone → bytes_eq name r ≡ same → (same || list_any (bytes_eq name) roots) ≡ true
-        → list_any (bytes_eq name) (cond gone roots (r ∷ remove_key (bytes_eq root) roots) ++ root ∷ []) ≡ true
-    by true true at is e =
-        let here : bytes_eq name root ≡ true = ap (bytes_eq name) ((bytes_decides root r).0 at) ∙ is in
-        list_any-append (bytes_eq name) roots (root ∷ []) ∙ last (list_any (bytes_eq name) roots) (bytes_eq name root) here
-    by true false at is e = list_any-append (bytes_eq name) roots (root ∷ []) ∙ ap (λ b. b || list_any (bytes_eq name) (root ∷ [])) e
-    by false true at is e = ap (λ b. b || list_any (bytes_eq name) (remove_key (bytes_eq root) roots ++ root ∷ [])) is
-    by false false at is e = ap (λ b. b || list_any (bytes_eq name) (remove_key (bytes_eq root) roots ++ root ∷ [])) is ∙ list_any-moved name root roots e
-
     last : (a b : Bool) → b ≡ true → (a || (b || false)) ≡ true
     last true b h = refl
     last false b h = ap (λ x. x || false) h
+
+    by : (gone same : Bool) → bytes_eq root r ≡ gone → bytes_eq name r ≡ same
+        → (list_any (bytes_eq name) roots ≡ true → list_any (bytes_eq name) (remove_key (bytes_eq root) roots ++ root ∷ []) ≡ true)
+        → (same || list_any (bytes_eq name) roots) ≡ true
+        → list_any (bytes_eq name) (cond gone roots (r ∷ remove_key (bytes_eq root) roots) ++ root ∷ []) ≡ true
+    by true true at is rest e =
+        let here : bytes_eq name root ≡ true = ap (bytes_eq name) ((bytes_decides root r).0 at) ∙ is in
+        list_any-append (bytes_eq name) roots (root ∷ []) ∙ last (list_any (bytes_eq name) roots) (bytes_eq name root) here
+    by true false at is rest e = list_any-append (bytes_eq name) roots (root ∷ []) ∙ ap (λ b. b || list_any (bytes_eq name) (root ∷ [])) e
+    by false true at is rest e = ap (λ b. b || list_any (bytes_eq name) (remove_key (bytes_eq root) roots ++ root ∷ [])) is
+    by false false at is rest e = ap (λ b. b || list_any (bytes_eq name) (remove_key (bytes_eq root) roots ++ root ∷ [])) is ∙ rest e
 
 -- one name more that was tried
 pub AreTrue-note : (told : List ℕ → Holding) (old new : Tried) (name : List ℕ) (trouble : Trouble) → AreTrue told old → (trouble ≡ Missing → Allows (told name) NoFile)
@@ -71,6 +73,26 @@ AreTrue-note told old new name trouble are is changes other there =
         let missing : trouble ≡ Missing = cc in
         subst (λ (n : List ℕ). Allows (told n) NoFile) names (is missing)
     by false same e = are other e
+
+-- what was tried and is missing, the loader hasn't
+pub AreComplete-missing : (told : List ℕ → Holding) (tried : Tried) (inputs : Inputs) (roots : List (List ℕ)) → AreTrue told tried → AreMissing tried inputs roots
+    → AreComplete told inputs roots
+AreComplete-missing told tried inputs roots are missing =
+    All-weaker (λ (root : List ℕ). All (λ name. trouble_of tried name ≡ Some Missing) (compiled_root inputs root).absent)
+    (λ (root : List ℕ). All (λ name. Allows (told name) NoFile) (compiled_root inputs root).absent)
+    (λ root absent. All-weaker (λ (name : List ℕ). trouble_of tried name ≡ Some Missing) (λ (name : List ℕ). Allows (told name) NoFile) are (compiled_root inputs root).absent absent)
+    roots missing
+
+pub same-some : {X : Type 0} (x y : X) → Some x ≡ Some y → x ≡ y
+same-some x y e = cc
+
+pub when-none : {X P : Type 0} (found : Option X) → found ≡ None → IfNone found P → P
+when-none {X} {P} found e holds = subst (λ (o : Option X). IfNone o P) e holds
+
+-- what was pushed on isn't empty
+pub pushed-none : {X P : Type 0} (ys xs : List X) (x : X) → ys ≡ xs ++ x ∷ [] → ys ≡ [] → P
+pushed-none ys [] x e none = absurd (cc)
+pushed-none ys (y ∷ xs) x e none = absurd (cc)
 
 -- what holds of the first elements and of the next one
 pub All-take_more : {X : Type 0} (P : X → Type 0) (xs : List X) (i : ℕ) (x : X) → i < length xs → x ≡ get_or xs i x → All P (take i xs) → P x
@@ -88,3 +110,9 @@ diagnostics-root project root is = ap (λ b. option_map (λ (r : CompiledRoot). 
 
 pub dump-root : (project : Project) (root : List ℕ) → is_root project root ≡ true → dump_of project root ≡ Some (compiled_root project.inputs root).rows.dump
 dump-root project root is = ap (λ b. option_map (λ (r : CompiledRoot). r.rows.dump) (cond b (Some (compiled_root project.inputs root)) None)) is
+
+pub listing-root : (project : Project) (root : List ℕ) → is_root project root ≡ true → listing_of project root ≡ Some (compiled_root project.inputs root).rows.listing
+listing-root project root is = ap (λ b. option_map (λ (r : CompiledRoot). r.rows.listing) (cond b (Some (compiled_root project.inputs root)) None)) is
+
+pub faulty-root : (project : Project) (root : List ℕ) → is_root project root ≡ true → is_faulty_of project root ≡ Some (compiled_root project.inputs root).rows.is_faulty
+faulty-root project root is = ap (λ b. option_map (λ (r : CompiledRoot). r.rows.is_faulty) (cond b (Some (compiled_root project.inputs root)) None)) is

@@ -1,6 +1,6 @@
 -- The claim: what goes out is what compiling the loaded files tells, and the status says whether
 -- they have errors.
-use Rattle.std.specs.Prelude.{◌≡◌, ℕ, Bool, List, [], Option, is_empty, not, if◌then◌else◌}
+use Rattle.std.specs.Prelude.{◌≡◌, ◌++◌, ℕ, Bool, List, [], Option, if◌then◌else◌}
 use Rattle.std.specs.List.{flat_map, list_any}
 use Rattle.idl_session.specs.Replies.{whole_line}
 use Rattle.idl_source.specs.Device.{append}
@@ -21,12 +21,26 @@ errors_in inputs root = (compiled_root inputs root).rows.diagnostics
 abbrev pub dump_in : Inputs → List ℕ → List (List ℕ)
 dump_in inputs root = (compiled_root inputs root).rows.dump
 
+-- what is listed of it
+abbrev pub listing_in : Inputs → List ℕ → List (List ℕ)
+listing_in inputs root = (compiled_root inputs root).rows.listing
+
+-- what is shown of it: the dump and the listing, as far as they are asked for
+abbrev pub output_in : Options → Inputs → List ℕ → List (List ℕ)
+output_in options inputs root =
+    (if options.shows_dump then dump_in inputs root else [])
+    ++ (if options.shows_listing then listing_in inputs root else [])
+
 -- rows of roots, each on a line of its own
 abbrev pub lines_of : (List ℕ → List (List ℕ)) → List (List ℕ) → List ℕ
 lines_of rows roots = flat_map (λ root. flat_map whole_line (rows root)) roots
 
+-- one of what it is told of is an error, and no warning
+abbrev pub has_errors : Inputs → List ℕ → Bool
+has_errors inputs root = (compiled_root inputs root).rows.is_faulty
+
 abbrev pub is_faulty : Inputs → List (List ℕ) → Bool
-is_faulty inputs roots = list_any (λ root. not (is_empty (errors_in inputs root))) roots
+is_faulty inputs roots = list_any (λ root. has_errors inputs root) roots
 
 -- bytes that went out, to errors and to output
 pub record Written : Type 0 where
@@ -34,12 +48,11 @@ pub record Written : Type 0 where
   pub output : Option (List ℕ)
 
 -- what goes out of the roots over these inputs, and how the program ends
-pub record IsShown (shows_dump : Bool) (inputs : Inputs) (roots : List (List ℕ))
+pub record IsShown (options : Options) (inputs : Inputs) (roots : List (List ℕ))
     (before after : Written) (status : Status) : Type 0 where
   pub errors : after.errors ≡ append before.errors (lines_of (errors_in inputs) roots)
-  pub output : after.output
-      ≡ append before.output (if shows_dump then lines_of (dump_in inputs) roots else [])
-  pub status : status ≡ (if is_faulty inputs roots then Faulty else Sound)
+  pub output : after.output ≡ append before.output (lines_of (output_in options inputs) roots)
+  pub ending : status ≡ (if is_faulty inputs roots then Faulty else Sound)
 
 -- the options are served, over the files that the loader tells of
 pub record IsCompiled (told : List ℕ → Holding) (options : Options) (before after : Written)
@@ -49,4 +62,4 @@ pub record IsCompiled (told : List ℕ → Holding) (options : Options) (before 
   pub asked : AreAsked options inputs roots
   pub loaded : AreLoaded told inputs.files
   pub complete : AreComplete told inputs roots
-  pub shown : IsShown options.shows_dump inputs roots before after status
+  pub shown : IsShown options inputs roots before after status

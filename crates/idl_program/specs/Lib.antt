@@ -1,5 +1,7 @@
 pub mod Compiled
 pub mod Holding
 pub mod Loading
+pub mod Messages
 pub mod Options
+pub mod Served
 pub mod Tried

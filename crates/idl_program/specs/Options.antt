@@ -57,4 +57,4 @@ pub record AreAsked (options : Options) (inputs : Inputs) (roots : List (List �
       (map (λ word. word.now) options.undefines.items)
   pub search : searched_by [] (map (λ word. word.now) options.directories.items)
       ≡ Some inputs.search
-  pub roots : named_by [] (map (λ word. word.now) options.files.items) ≡ Some roots
+  pub named : named_by [] (map (λ word. word.now) options.files.items) ≡ Some roots

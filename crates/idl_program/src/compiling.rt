@@ -1,14 +1,14 @@
 //! What options ask a session for, and what goes out of it.
 
-ghost use Rattle.std.specs.Prelude.{◌≡◌, ◌≤◌, ◌<◌, ◌+◌, ◌-◌, ◌^◌, ◌∷◌, [], Some, true, map, not, is_empty, IfOk, OnOk};
+ghost use Rattle.std.specs.Prelude.{◌≡◌, ◌≤◌, ◌<◌, ◌+◌, ◌-◌, ◌^◌, ◌∷◌, [], Some, true, map, IfOk, OnOk};
 ghost use Rattle.std.specs.FinMap as finite;
 ghost use Rattle.std.specs.List.{flat_map};
 ghost use Rattle.idl_source.specs.Device.{append};
 ghost use Rattle.idl_session.specs.Replies.{whole_line};
 ghost use Rattle.idl_workspace.specs.Project.{is_root, with_macros, with_roots, with_search};
-ghost use Rattle.idl_program.specs.Compiled.{dump_in, errors_in};
+ghost use Rattle.idl_program.specs.Compiled.{dump_in, errors_in, has_errors, listing_in, output_in};
 ghost use Rattle.idl_program.specs.Loading.{AreRoots};
-ghost use Rattle.idl_program.specs.Options.{AreAsked, defined_by, named_by, searched_by, undefined_by};
+ghost use Rattle.idl_program.specs.Options.{AreAsked, before_equals, defined_by, macro_body, named_by, searched_by, undefined_by};
 
 use crate::failure::{Failure, Subject};
 use crate::request::Options;
@@ -33,31 +33,59 @@ pub fn prepared<'a>(
     Ok((session, roots))
 }
 
-/// Writes what a root is told of, and answers whether that is anything.
+/// Writes what a root is told of.
 pub fn show_errors<K: Sink>(
     session: &Session,
     root: &Name,
     errors: &mut K,
-) -> Result<bool, WriteFailed>
+) -> Result<(), WriteFailed>
     requires counts { K.failures errors.old < 2 ^ 64 - 1 }
     requires root { is_root session.now.project root.now ≡ true }
 
     ensures written { OnOk result (K.written errors.new ≡ append (K.written errors.old)
         (flat_map whole_line (errors_in session.now.project.inputs root.now))) }
-    ensures any { IfOk result (λ any.
-        any ≡ not (is_empty (errors_in session.now.project.inputs root.now))) }
     ensures ok { OnOk result (K.failures errors.new ≡ K.failures errors.old) }
     ensures most { K.failures errors.new ≤ K.failures errors.old + 1 }
 {
-    let Some(rows) = session.diagnostics(root.as_bytes()) else {
-        return Ok(false);
-    };
-    write_lines(errors, rows)?;
-    Ok(!rows.is_empty())
+    match session.diagnostics(root.as_bytes()) {
+        Some(rows) => write_lines(errors, rows),
+        None => Ok(()),
+    }
 }
 
-/// Writes what a root declares.
-pub fn show_dump<K: Sink>(session: &Session, root: &Name, output: &mut K) -> Result<(), WriteFailed>
+/// Whether one of what a root is told of is an error.
+pub fn has_errors(session: &Session, root: &Name) -> bool
+    requires { is_root session.now.project root.now ≡ true }
+    ensures { result ≡ has_errors session.now.project.inputs root.now }
+{
+    session.is_faulty(root.as_bytes()).unwrap_or(false)
+}
+
+/// Writes the dump and the listing of a root, as far as they are asked for.
+pub fn show_output<K: Sink>(
+    session: &Session,
+    root: &Name,
+    options: &Options<'_>,
+    output: &mut K,
+) -> Result<(), WriteFailed>
+    requires counts { K.failures output.old < 2 ^ 64 - 1 }
+    requires root { is_root session.now.project root.now ≡ true }
+
+    ensures written { OnOk result (K.written output.new ≡ append (K.written output.old)
+        (flat_map whole_line (output_in options.now session.now.project.inputs root.now))) }
+    ensures ok { OnOk result (K.failures output.new ≡ K.failures output.old) }
+{
+    if options.shows_dump {
+        show_dump(session, root, output)?;
+    }
+    if options.shows_listing {
+        show_listing(session, root, output)?;
+    }
+    Ok(())
+}
+
+// Writes what a root declares.
+fn show_dump<K: Sink>(session: &Session, root: &Name, output: &mut K) -> Result<(), WriteFailed>
     requires counts { K.failures output.old < 2 ^ 64 - 1 }
     requires root { is_root session.now.project root.now ≡ true }
 
@@ -66,6 +94,21 @@ pub fn show_dump<K: Sink>(session: &Session, root: &Name, output: &mut K) -> Res
     ensures ok { OnOk result (K.failures output.new ≡ K.failures output.old) }
 {
     match session.dump(root.as_bytes()) {
+        Some(rows) => write_lines(output, rows),
+        None => Ok(()),
+    }
+}
+
+// Writes what is listed of a root.
+fn show_listing<K: Sink>(session: &Session, root: &Name, output: &mut K) -> Result<(), WriteFailed>
+    requires counts { K.failures output.old < 2 ^ 64 - 1 }
+    requires root { is_root session.now.project root.now ≡ true }
+
+    ensures written { OnOk result (K.written output.new ≡ append (K.written output.old)
+        (flat_map whole_line (listing_in session.now.project.inputs root.now))) }
+    ensures ok { OnOk result (K.failures output.new ≡ K.failures output.old) }
+{
+    match session.listing(root.as_bytes()) {
         Some(rows) => write_lines(output, rows),
         None => Ok(()),
     }
@@ -88,18 +131,28 @@ fn define<'a>(session: &mut Session, word: &'a str) -> Result<(), Failure<'a>>
     ensures { OnOk result (session.new.project ≡ with_macros session.old.project
         (defined_by session.old.project.inputs.macros (word.entry.now ∷ []))) }
 {
-    let refused = |refusal| Failure::Refused(Subject::Word(word), refusal);
-    let (name, value) = first_part(word.as_bytes(), b'=');
-    let body = match value {
-        Some(value) => value,
-        None => b"1",
+    let (name, body) = macro_of(word.as_bytes());
+    let line = match Line::new(session.allocator(), body) {
+        Ok(Some(line)) => line,
+        Ok(None) => return Err(Failure::BadArguments),
+        Err(_) => return Err(refused(word, Refusal::NoMemory)),
     };
-    let line = Line::new(session.allocator(), body).map_err(|_| refused(Refusal::NoMemory))?;
-    let Some(line) = line else {
-        return Err(Failure::BadArguments);
-    };
-    session.define(name, line).map_err(refused)?;
-    Ok(())
+    match session.define(name, line) {
+        Ok(_) => Ok(()),
+        Err(refusal) => Err(refused(word, refusal)),
+    }
+}
+
+// The name of the macro that a word defines, and its body.
+fn macro_of(word: &[u8]) -> (&[u8], &[u8])
+    ensures name { result.0.now ≡ before_equals word.entry.now }
+    ensures body { result.1.now ≡ macro_body word.entry.now }
+{
+    let (name, value) = first_part(word, b'=');
+    match value {
+        Some(value) => (name, value),
+        None => (name, b"1"),
+    }
 }
 
 // Takes the macro of each name out.
@@ -109,11 +162,20 @@ fn undefine_all<'a>(session: &mut Session, words: &[&'a str]) -> Result<(), Fail
         (undefined_by session.old.project.inputs.macros texts)) }
 {
     'words: for word in words {
-        session
-            .undef(word.as_bytes())
-            .map_err(|refusal| Failure::Refused(Subject::Word(word), refusal))?;
+        undefine(session, word)?;
     }
     Ok(())
+}
+
+// Takes the macro of a name out, if there is one.
+fn undefine<'a>(session: &mut Session, word: &'a str) -> Result<(), Failure<'a>>
+    ensures { OnOk result (session.new.project ≡ with_macros session.old.project
+        (undefined_by session.old.project.inputs.macros (word.entry.now ∷ []))) }
+{
+    match session.undef(word.as_bytes()) {
+        Ok(_) => Ok(()),
+        Err(refusal) => Err(refused(word, refusal)),
+    }
 }
 
 // Has included files searched in each of these directories, too.
@@ -126,9 +188,8 @@ fn search_all<'a>(session: &mut Session, words: &[&'a str]) -> Result<(), Failur
 {
     let mut directories: Vec<Directory> = Vec::new(session.allocator());
     'words: for word in words {
-        search_in(session, &mut directories, word.as_bytes()).map_err(|refusal| Failure::Refused(
-            Subject::Word(word),
-            refusal,
+        search_in(session, &mut directories, word.as_bytes()).map_err(|refusal| refused(
+            word, refusal,
         ))?;
     }
     Ok(())
@@ -171,10 +232,7 @@ fn add_all<'a>(session: &mut Session, words: &[&'a str]) -> Result<Vec<Name>, Fa
 {
     let mut roots = Vec::new(session.allocator());
     'words: for word in words {
-        add(session, &mut roots, word.as_bytes()).map_err(|refusal| Failure::Refused(
-            Subject::Word(word),
-            refusal,
-        ))?;
+        add(session, &mut roots, word.as_bytes()).map_err(|refusal| refused(word, refusal))?;
     }
     Ok(roots)
 }
@@ -193,4 +251,8 @@ fn add(session: &mut Session, roots: &mut Vec<Name>, word: &[u8]) -> Result<(), 
     }
     session.add_root(name.as_bytes())?;
     roots.push(name).map_err(|_| Refusal::NoMemory)
+}
+
+fn refused<'a>(word: &'a str, refusal: Refusal) -> Failure<'a> {
+    Failure::Refused(Subject::Word(word), refusal)
 }

@@ -1,6 +1,8 @@
 //! How the program ends.
 
-ghost use Rattle.std.specs.Prelude.{◌≡◌, ◌≤◌, ◌<◌, ◌+◌, ◌-◌, ◌^◌};
+ghost use Rattle.std.specs.Prelude.{◌≡◌, ◌<◌, ◌-◌, ◌^◌, OnOk};
+ghost use Rattle.idl_source.specs.Device.{append};
+ghost use Rattle.idl_program.specs.Messages.{message_of, refused_message};
 
 use idl_session::{ReadFailed, Sink, Stop, WriteFailed, write_all};
 use idl_source::{Name, Refusal};
@@ -51,6 +53,8 @@ impl<'a> Failure<'a> {
     /// Writes the one line that tells of it.
     pub fn tell<K: Sink>(&self, errors: &mut K) -> Result<(), WriteFailed>
         requires counts { K.failures errors.old < 2 ^ 64 - 1 }
+        ensures { OnOk result
+            (K.written errors.new ≡ append (K.written errors.old) (message_of self.now)) }
     {
         match self {
             Failure::BadArguments => write_all(errors, b"idlc: bad arguments\n"),
@@ -73,6 +77,8 @@ impl<'a> Failure<'a> {
 
 fn tell_refusal<K: Sink>(errors: &mut K, word: &[u8], refusal: Refusal) -> Result<(), WriteFailed>
     requires counts { K.failures errors.old < 2 ^ 64 - 1 }
+    ensures { OnOk result (K.written errors.new
+        ≡ append (K.written errors.old) (refused_message word.now refusal)) }
 {
     let mut number = Buffer::new();
     write_all(errors, b"idlc: ")?;

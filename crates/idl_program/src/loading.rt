@@ -119,18 +119,25 @@ impl Tried {
     {
         let mut untried = Vec::new(alloc);
         'absent: for name in absent {
-            match self.troubles.get(name) {
-                None => untried.push(name.copied()).map_err(|_| no_memory(name))?,
+            match self.trouble(name) {
+                None => keep_name(&mut untried, name)?,
                 Some(Trouble::Missing) => {}
                 Some(trouble) => {
                     if untried.is_empty() {
-                        return Err(failure(name, *trouble));
+                        return Err(failure(name, trouble));
                     }
                     return Ok(untried);
                 }
             }
         }
         Ok(untried)
+    }
+
+    // What came of a name, if it was tried and has no file.
+    fn trouble(&self, name: &Name) -> Option<Trouble>
+        ensures { result ≡ trouble_of self.now name.now }
+    {
+        self.troubles.get(name).copied()
     }
 
     // Loads files of these names.
@@ -239,6 +246,16 @@ fn keep<'a>(files: &mut Vec<LoadedFile>, file: LoadedFile) -> Result<(), Failure
     match files.push(file) {
         Ok(()) => Ok(()),
         Err(failed) => Err(no_memory(&failed.value.name)),
+    }
+}
+
+// Puts a name behind others.
+fn keep_name<'a>(names: &mut Vec<Name>, name: &Name) -> Result<(), Failure<'a>>
+    ensures { OnOk result (names.new.items ≡ names.old.items ++ name.now ∷ []) }
+{
+    match names.push(name.copied()) {
+        Ok(()) => Ok(()),
+        Err(_) => Err(no_memory(name)),
     }
 }
 

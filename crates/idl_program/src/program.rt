@@ -1,10 +1,11 @@
 //! The program over its words and devices.
 
-ghost use Rattle.std.specs.Prelude.{◌≡◌, ◌≤◌, ◌<◌, ◌+◌, ◌-◌, ◌^◌, IfOk, OnOk};
+ghost use Rattle.std.specs.Prelude.{◌≡◌, ◌≢◌, ◌≤◌, ◌<◌, ◌+◌, ◌-◌, ◌^◌, IfOk};
 ghost use Rattle.idl_program.specs.Compiled.{IsCompiled, IsShown};
 ghost use Rattle.idl_program.specs.Loading.{AreRoots};
+ghost use Rattle.idl_program.specs.Served.{IsDone};
 
-use crate::compiling::{prepared, show_dump, show_errors};
+use crate::compiling::{has_errors, prepared, show_errors, show_output};
 use crate::failure::{Failure, Status};
 use crate::loader::Loader;
 use crate::loading::load_all;
@@ -36,6 +37,12 @@ pub fn run_program<L: Loader, S: Source, O: Sink, E: Sink>(
     requires reads { S.failures devices.old.source < 2 ^ 64 - 1 }
     requires writes { O.failures devices.old.output < 2 ^ 64 - 1 }
     requires tells { E.failures devices.old.errors < 2 ^ 64 - 2 }
+
+    ensures done { result ≢ Status.Failed → (request : Request)
+        × IsDone (L.told devices.old.loader) (S.remaining devices.old.source)
+        (record { errors = E.written devices.old.errors; output = O.written devices.old.output })
+        (record { errors = E.written devices.new.errors; output = O.written devices.new.output })
+        result request }
 {
     match perform(alloc, words, devices) {
         Ok(status) => status,
@@ -55,9 +62,36 @@ fn perform<'a, L: Loader, S: Source, O: Sink, E: Sink>(
     requires reads { S.failures devices.old.source < 2 ^ 64 - 1 }
     requires writes { O.failures devices.old.output < 2 ^ 64 - 1 }
     requires tells { E.failures devices.old.errors < 2 ^ 64 - 2 }
+
+    ensures done { IfOk result (λ status. (request : Request)
+        × IsDone (L.told devices.old.loader) (S.remaining devices.old.source)
+        (record { errors = E.written devices.old.errors; output = O.written devices.old.output })
+        (record { errors = E.written devices.new.errors; output = O.written devices.new.output })
+        status request) }
     ensures most { E.failures devices.new.errors ≤ E.failures devices.old.errors + 1 }
 {
-    match request_of(alloc, words)? {
+    let request = request_of(alloc, words)?;
+    fulfil(alloc, &request, devices)
+}
+
+// Does what is asked for.
+fn fulfil<'a, L: Loader, S: Source, O: Sink, E: Sink>(
+    alloc: Global,
+    request: &Request<'a>,
+    devices: &mut Devices<L, S, O, E>,
+) -> Result<Status, Failure<'a>>
+    requires reads { S.failures devices.old.source < 2 ^ 64 - 1 }
+    requires writes { O.failures devices.old.output < 2 ^ 64 - 1 }
+    requires tells { E.failures devices.old.errors < 2 ^ 64 - 2 }
+
+    ensures done { IfOk result (λ status.
+        IsDone (L.told devices.old.loader) (S.remaining devices.old.source)
+        (record { errors = E.written devices.old.errors; output = O.written devices.old.output })
+        (record { errors = E.written devices.new.errors; output = O.written devices.new.output })
+        status request.now) }
+    ensures most { E.failures devices.new.errors ≤ E.failures devices.old.errors + 1 }
+{
+    match request {
         Request::Show(text) => {
             write_all(&mut devices.output, text.as_bytes())?;
             Ok(Status::Sound)
@@ -67,7 +101,7 @@ fn perform<'a, L: Loader, S: Source, O: Sink, E: Sink>(
             run(&mut session, &mut devices.source, &mut devices.output)?;
             Ok(Status::Sound)
         }
-        Request::Compile(options) => compile(alloc, &options, devices),
+        Request::Compile(options) => compile(alloc, options, devices),
     }
 }
 
@@ -87,7 +121,7 @@ fn compile<'a, L: Loader, S: Source, O: Sink, E: Sink>(
 {
     let (mut session, roots) = prepared(alloc, options)?;
     load_all(&mut session, &roots, &mut devices.loader)?;
-    let status = show_all(&session, &roots, options.shows_dump, devices)?;
+    let status = show_all(&session, &roots, options, devices)?;
     Ok(status)
 }
 
@@ -95,14 +129,14 @@ fn compile<'a, L: Loader, S: Source, O: Sink, E: Sink>(
 fn show_all<L: Loader, S: Source, O: Sink, E: Sink>(
     session: &Session,
     roots: &[Name],
-    shows_dump: bool,
+    options: &Options<'_>,
     devices: &mut Devices<L, S, O, E>,
 ) -> Result<Status, WriteFailed>
     requires writes { O.failures devices.old.output < 2 ^ 64 - 1 }
     requires tells { E.failures devices.old.errors < 2 ^ 64 - 2 }
     requires roots { AreRoots session.now.project roots.now }
 
-    ensures shown { IfOk result (λ status. IsShown shows_dump session.now.project.inputs roots.now
+    ensures shown { IfOk result (λ status. IsShown options.now session.now.project.inputs roots.now
         (record { errors = E.written devices.old.errors; output = O.written devices.old.output })
         (record { errors = E.written devices.new.errors; output = O.written devices.new.output })
         status) }
@@ -110,12 +144,9 @@ fn show_all<L: Loader, S: Source, O: Sink, E: Sink>(
 {
     let mut is_faulty = false;
     'roots: for root in roots {
-        if show_errors(session, root, &mut devices.errors)? {
-            is_faulty = true;
-        }
-        if shows_dump {
-            show_dump(session, root, &mut devices.output)?;
-        }
+        show_errors(session, root, &mut devices.errors)?;
+        show_output(session, root, options, &mut devices.output)?;
+        is_faulty = is_faulty || has_errors(session, root);
     }
     if is_faulty {
         Ok(Status::Faulty)

@@ -16,6 +16,7 @@ pub struct Options<'a> {
     /// The files that are roots.
     pub files: Vec<&'a str>,
     pub shows_dump: bool,
+    pub shows_listing: bool,
 }
 
 /// What the words ask for.
@@ -81,6 +82,11 @@ fn command<'a>(alloc: Global) -> Result<Command<'a>, AllocError> {
                 .help("Writes the declarations of each FILE to standard output"),
         )?
         .arg(
+            flag(alloc, "listing").long("listing").help(
+                "Writes the repository listing of each FILE to standard output",
+            ),
+        )?
+        .arg(
             flag(alloc, "session")
                 .long("session")
                 .help("Serves commands of standard input, and excludes all else"),
@@ -114,6 +120,7 @@ fn options_of<'a>(alloc: Global, matches: &ArgMatches<'a>) -> Result<Options<'a>
         directories: values_of(alloc, matches, "directory")?,
         files: values_of(alloc, matches, "file")?,
         shows_dump: matches.get_count("dump") > 0,
+        shows_listing: matches.get_count("listing") > 0,
     })
 }
 

@@ -1,1 +1,3 @@
 mod WriteLemmas
+mod ReferredLemmas
+mod EntryLaws

@@ -1,37 +1,134 @@
 -- Pieces that are written, one after another.
-use Rattle.std.proofs.Common.{◌≡◌, ◌∙◌, ℕ, List, [], ◌∷◌, ◌++◌, Option, refl, sym, ap, append_assoc}
-use Rattle.std.proofs.lemmas.List.{append-nil}
-use Rattle.idl_memo.specs.Query.{noted, run}
-use Rattle.idl_repo.specs.Pieces.{IdOf, Pieces, Says, Writes, id_in, says, written}
+use Rattle.std.proofs.Common.{◌≡◌, ◌∙◌, ℕ, ◌+◌, ◌-◌, ◌<◌, ◌≤◌, List, [], ◌∷◌, ◌++◌, Option, None, Some, Result, Ok, Err, refl, sym, ap, append_assoc, arith, codes, drop, flat_map, get_or, length, take}
+use Rattle.std.specs.Prelude.{OnOk, is_ok, if◌then◌else◌}
+use Rattle.std.proofs.lemmas.List.{append-nil, flat_map_more, take_all, take_more}
+use Rattle.idl_memo.specs.Query.{asked, noted, noted_all, outcome, run}
+use Rattle.idl_memo.proofs.QueryLaws.{noted_all-append}
+use Rattle.idl_repo.specs.Pieces.{IdOf, Pieces, Says, Writes, commas, id_in, ids_in, says, text_over, written}
+use Rattle.idl_scope.specs.Facts.{identity_in}
 use Rattle.idl_scope.specs.Key.{key_eq}
 use Rattle.idl_scope.specs.declared.answer.Answer.{Answer}
+use Rattle.idl_scope.specs.declared.identity.Identity.{Identity}
 use Rattle.idl_scope.specs.declared.key.Key.{Key}
 use Rattle.idl_scope.specs.declared.key.Key.TheVariants as key
 
-module _ (bank : Key → Option Answer) where
-  -- what is written behind a text and a log
-  abbrev pub State : Type 0
-  State = List ℕ × List (Key × Option Answer)
+-- the text of some pieces and then others
+pub text_over-append : (bank : Key → Option Answer) (p q : Pieces) → text_over bank (p ++ q) ≡ text_over bank p ++ text_over bank q
+unfolding text_over
+text_over-append bank [] q = refl
+text_over-append bank (Says text ∷ p) q = ap (λ x. text ++ x) (text_over-append bank p q) ∙ sym (append_assoc text (text_over bank p) (text_over bank q))
+text_over-append bank (IdOf path ∷ p) q = let id = id_in (bank (key.IdOf path)) in ap (λ x. id ++ x) (text_over-append bank p q) ∙ sym (append_assoc id (text_over bank p) (text_over bank q))
 
-  -- nothing
-  pub writes-nothing : (s : State) → Writes bank [] s s
-  writes-nothing s rest = refl
+-- and their ids
+pub ids_in-append : (p q : Pieces) → ids_in (p ++ q) ≡ ids_in p ++ ids_in q
+unfolding ids_in
+ids_in-append [] q = refl
+ids_in-append (Says text ∷ p) q = ids_in-append p q
+ids_in-append (IdOf path ∷ p) q = ap (λ x. key.IdOf path ∷ x) (ids_in-append p q)
 
-  -- a text
-  pub writes-text : (text : List ℕ) (s : State) → Writes bank (says text) s (s.0 ++ text, s.1)
-  unfolding written
-  writes-text text s rest = refl
+-- what stands behind a text, and a log
+abbrev pub State : Type 0
+State = List ℕ × List (Key × Option Answer)
 
-  -- an id
-  pub writes-id : (path : List (List ℕ)) (s : State) → Writes bank (IdOf path ∷ []) s (s.0 ++ id_in (bank (key.IdOf path)), noted key_eq bank s.1 (key.IdOf path))
-  unfolding written
-  writes-id path s rest = refl
+-- nothing
+pub writes-nothing : {bank : Key → Option Answer} {s : State} → Writes bank [] s s
+unfolding text_over ids_in
+writes-nothing {bank} {s} = record { text = sym (append-nil s.0); log = refl }
 
-  -- some pieces, and then others
-  pub writes-then : (p q : Pieces) (s t u : State) → Writes bank p s t → Writes bank q t u → Writes bank (p ++ q) s u
-  writes-then p q s t u h g rest = ap (λ ps. run key_eq (written s.0 ps) bank s.1) (append_assoc p q rest) ∙ h (q ++ rest) ∙ g rest
+-- a text alone
+pub writes-text : {bank : Key → Option Answer} {word old new : List ℕ} {log : List (Key × Option Answer)} → new ≡ old ++ word → Writes bank (says word) (old, log) (new, log)
+unfolding text_over ids_in
+writes-text {bank} {word} {old} {new} {log} e = record { text = e ∙ ap (λ x. old ++ x) (sym (append-nil word)); log = refl }
 
-  -- all of them are written
-  pub writes-all : (p : Pieces) (s t : State) → Writes bank p s t → run key_eq (written s.0 p) bank s.1 ≡ t
-  unfolding written
-  writes-all p s t h = ap (λ ps. run key_eq (written s.0 ps) bank s.1) (sym (append-nil p)) ∙ h []
+-- some pieces, and then others
+pub writes-then : {bank : Key → Option Answer} {p q : Pieces} {s t u : State} → Writes bank p s t → Writes bank q t u → Writes bank (p ++ q) s u
+writes-then {bank} {p} {q} {s} {t} {u} h g = record {
+  text = g.text ∙ ap (λ x. x ++ text_over bank q) h.text ∙ append_assoc s.0 (text_over bank p) (text_over bank q) ∙ ap (λ x. s.0 ++ x) (sym (text_over-append bank p q));
+  log = g.log ∙ ap (λ x. noted_all key_eq bank x (ids_in q)) h.log ∙ sym (noted_all-append key_eq bank s.1 (ids_in p) (ids_in q)) ∙ ap (noted_all key_eq bank s.1) (sym (ids_in-append p q));
+}
+
+-- a text, and then pieces
+pub says-then : {bank : Key → Option Answer} {word old new : List ℕ} {log : List (Key × Option Answer)} {p : Pieces} {u : State} → new ≡ old ++ word → Writes bank p (new, log) u → Writes bank (Says word ∷ p) (old, log) u
+says-then e h = writes-then (writes-text e) h
+
+-- a text that is what is to be said
+pub says-as : {bank : Key → Option Answer} {told word old new : List ℕ} {log : List (Key × Option Answer)} {p : Pieces} {u : State} → new ≡ old ++ told → told ≡ word → Writes bank p (new, log) u → Writes bank (Says word ∷ p) (old, log) u
+says-as {told} {word} {old} {new} e is h = says-then (e ∙ ap (λ w. old ++ w) is) h
+
+pub text-as : {bank : Key → Option Answer} {told word old new : List ℕ} {log : List (Key × Option Answer)} → new ≡ old ++ told → told ≡ word → Writes bank (says word) (old, log) (new, log)
+text-as {told} {word} {old} {new} e is = writes-text (e ∙ ap (λ w. old ++ w) is)
+
+-- an id, and then pieces
+pub id-then : {bank : Key → Option Answer} {path : List (List ℕ)} {p : Pieces} {s t u : State} → Writes bank (IdOf path ∷ []) s t → Writes bank p t u → Writes bank (IdOf path ∷ p) s u
+id-then {bank} {path} {p} {s} {t} {u} h g = writes-then h g
+
+-- an id, as it is answered
+pub writes-id : {bank : Key → Option Answer} {path : List (List ℕ)} {old new : List ℕ} {log after : List (Key × Option Answer)} → new ≡ old ++ id_in (bank (key.IdOf path)) → after ≡ noted key_eq bank log (key.IdOf path) → Writes bank (IdOf path ∷ []) (old, log) (new, after)
+unfolding text_over ids_in
+writes-id {bank} {path} {old} {new} {log} {after} e l = record { text = e ∙ ap (λ x. old ++ x) (sym (append-nil (id_in (bank (key.IdOf path))))); log = l }
+
+-- the same pieces
+pub writes-as : {bank : Key → Option Answer} {p q : Pieces} {s t : State} → p ≡ q → Writes bank p s t → Writes bank q s t
+writes-as {bank} {p} {q} {s} {t} e h = rw e at h
+
+-- those of one more
+pub writes-more : {X : Type 0} {bank : Key → Option Answer} {s t u : State} (f : X → Pieces) (xs : List X) (i : ℕ) (x : X) → i < length xs → x ≡ get_or xs i x → Writes bank (flat_map f (take i xs)) s t → Writes bank (f x) t u → Writes bank (flat_map f (take (i + 1) xs)) s u
+writes-more {X} {bank} {s} {t} {u} f xs i x within is before this =
+    let more : flat_map f (take i xs) ++ f x ≡ flat_map f (take (i + 1) xs) = flat_map_more f [] (take i xs) x ∙ ap (λ y. flat_map f (take i xs ++ y ∷ [])) is ∙ ap (flat_map f) (sym (take_more xs i x within)) in
+    writes-as more (writes-then before this)
+
+-- and those of all
+pub writes-whole : {X : Type 0} {bank : Key → Option Answer} {s t : State} (f : X → Pieces) (xs : List X) (i : ℕ) → length xs ≤ i → Writes bank (flat_map f (take i xs)) s t → Writes bank (flat_map f xs) s t
+writes-whole f xs i h before = writes-as (ap (flat_map f) (take_all i xs h)) before
+
+-- none of several
+pub writes-no_commas : {X : Type 0} {bank : Key → Option Answer} {s : State} (f : X → Pieces) (xs : List X) → length xs < 1 → Writes bank (commas f xs) s s
+writes-no_commas f [] h = writes-nothing
+writes-no_commas f (x ∷ xs) h = absurd (omega arith)
+
+-- the first of several, and then the others, as a slice without its first holds them
+tail-kept : {X : Type 0} (xs : List X) → 1 ≤ length xs → take (length xs - 1) (drop 1 xs) ≡ drop 1 xs
+tail-kept [] h = absurd (omega arith)
+tail-kept (x ∷ xs) h = take_all (length (x ∷ xs) - 1) xs (omega arith)
+
+commas-cons : {X : Type 0} (f : X → Pieces) (xs : List X) (x : X) → 1 ≤ length xs → x ≡ get_or xs 0 x → f x ++ flat_map (λ y. Says (codes ",") ∷ f y) (drop 1 xs) ≡ commas f xs
+commas-cons f [] x h is = absurd (omega arith)
+commas-cons f (y ∷ ys) x h is = ap (λ z. f z ++ flat_map (λ y. Says (codes ",") ∷ f y) ys) is
+
+pub writes-commas : {X : Type 0} {bank : Key → Option Answer} {s t u : State} (f : X → Pieces) (xs : List X) (x : X) (i : ℕ) → 1 ≤ length xs → x ≡ get_or xs 0 x → length (take (length xs - 1) (drop 1 xs)) ≤ i → Writes bank (f x) s t → Writes bank (flat_map (λ y. Says (codes ",") ∷ f y) (take i (take (length xs - 1) (drop 1 xs)))) t u → Writes bank (commas f xs) s u
+writes-commas {X} {bank} {s} {t} {u} f xs x i some is past first others =
+    let rest : Writes bank (flat_map (λ y. Says (codes ",") ∷ f y) (drop 1 xs)) t u = writes-as (ap (flat_map (λ y. Says (codes ",") ∷ f y)) (tail-kept xs some)) (writes-whole (λ y. Says (codes ",") ∷ f y) (take (length xs - 1) (drop 1 xs)) i past others) in
+    writes-as (commas-cons f xs x some is) (writes-then first rest)
+
+-- what comes of a query that writes them
+pub written-over : (bank : Key → Option Answer) (text : List ℕ) (p : Pieces) → outcome (written text p) bank ≡ text ++ text_over bank p
+unfolding written text_over
+written-over bank text [] = sym (append-nil text)
+written-over bank text (Says more ∷ p) = written-over bank (text ++ more) p ∙ append_assoc text more (text_over bank p)
+written-over bank text (IdOf path ∷ p) = let id = id_in (bank (key.IdOf path)) in written-over bank (text ++ id) p ∙ append_assoc text id (text_over bank p)
+
+-- and what it asks
+pub asked-by-written : (bank : Key → Option Answer) (text : List ℕ) (p : Pieces) → asked (written text p) bank ≡ ids_in p
+unfolding written ids_in
+asked-by-written bank text [] = refl
+asked-by-written bank text (Says more ∷ p) = asked-by-written bank (text ++ more) p
+asked-by-written bank text (IdOf path ∷ p) = ap (λ x. key.IdOf path ∷ x) (asked-by-written bank (text ++ id_in (bank (key.IdOf path))) p)
+
+-- the id that an answer tells
+pub id-told : (answer : Option Answer) (d : Identity) → identity_in answer ≡ Some d → d.id ≡ id_in answer
+id-told answer d is = ap (λ (there : Option Identity). elim there [ None ↦ [] | Some e ↦ e.id ]) (sym is)
+
+pub id-untold : (answer : Option Answer) → identity_in answer ≡ None → id_in answer ≡ []
+id-untold answer is = ap (λ (there : Option Identity). elim there [ None ↦ [] | Some e ↦ e.id ]) is
+
+-- pieces that are written come to what their query comes to
+pub writes-run : {bank : Key → Option Answer} {p : Pieces} {old new : List ℕ} {log after : List (Key × Option Answer)} → Writes bank p (old, log) (new, after) → (new, after) ≡ run key_eq (written old p) bank log
+writes-run {bank} {p} {old} {new} {log} {after} h =
+    let t : new ≡ outcome (written old p) bank = h.text ∙ sym (written-over bank old p) in
+    let l : after ≡ noted_all key_eq bank log (asked (written old p) bank) = h.log ∙ ap (noted_all key_eq bank log) (sym (asked-by-written bank old p)) in
+    cc
+
+-- what grows where there is memory
+pub grown-on_ok : {T E : Type 0} {new : List ℕ} (full left : List ℕ) (r : Result T E) → new ≡ (if is_ok r then full else left) → OnOk r (new ≡ full)
+grown-on_ok full left (Ok x) e = e
+grown-on_ok full left (Err x) e = tt

@@ -24,11 +24,16 @@ closing_fault e =
 abbrev pub no_entry : Entry
 no_entry = record { row = None; fault = None }
 
+-- that of what is declared so
+abbrev pub told_entry : ScopeEntity → List ℕ → Entry
+told_entry e text = record { row = Some text; fault = closing_fault e }
+
+abbrev pub declared_entry : ScopeEntity → Lookup Entry
+declared_entry e = and_then (written [] (row_pieces e)) (λ text. Done (told_entry e text))
+
+abbrev pub entry_in : Option ScopeEntity → Lookup Entry
+entry_in there = elim there [ None ↦ Done no_entry | Some e ↦ declared_entry e ]
+
 -- the entry of the name at a path: what is declared there, and then its row
 unfoldable pub entry : List (List ℕ) → Lookup Entry
-entry path =
-    Ask (entity_key path) (λ there. elim (entity_in there) [
-      | None ↦ Done no_entry
-      | Some e ↦ and_then (written [] (row_pieces e))
-          (λ text. Done (record { row = Some text; fault = closing_fault e }))
-    ])
+entry path = Ask (entity_key path) (λ there. entry_in (entity_in there))

@@ -2,3 +2,4 @@ pub mod Pieces
 pub mod TypeCode
 pub mod Row
 pub mod Entry
+pub mod Referred

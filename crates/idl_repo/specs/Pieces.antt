@@ -1,6 +1,6 @@
 -- Texts in which ids stand: each id is asked where it is told.
-use Rattle.std.specs.Prelude.{◌≡◌, ℕ, List, [], ◌∷◌, ◌++◌, flat_map, Option, None, Some}
-use Rattle.idl_memo.specs.Query.{Done, Ask, run}
+use Rattle.std.specs.Prelude.{◌≡◌, ℕ, List, [], ◌∷◌, ◌++◌, codes, flat_map, Option, None, Some}
+use Rattle.idl_memo.specs.Query.{Done, Ask, noted_all}
 use Rattle.idl_scope.specs.Facts.{identity_in}
 use Rattle.idl_scope.specs.Key.{key_eq}
 use Rattle.idl_scope.specs.Lookup.{Lookup}
@@ -30,15 +30,25 @@ written text (Says more ∷ pieces) = written (text ++ more) pieces
 written text (IdOf path ∷ pieces) =
     Ask (key.IdOf path) (λ answer. written (text ++ id_in answer) pieces)
 
--- Pieces are written: whatever stands behind them, a text and a log with these come to what others
--- come to without them.
-abbrev pub Writes : (Key → Option Answer) → Pieces → List ℕ × List (Key × Option Answer)
-    → List ℕ × List (Key × Option Answer) → Type 0
-Writes bank pieces old new = (rest : Pieces)
-    → run key_eq (written old.0 (pieces ++ rest)) bank old.1
-    ≡ run key_eq (written new.0 rest) bank new.1
+-- what pieces come to over a bank
+unfoldable pub text_over : (Key → Option Answer) → Pieces → List ℕ
+text_over bank [] = []
+text_over bank (Says text ∷ pieces) = text ++ text_over bank pieces
+text_over bank (IdOf path ∷ pieces) = id_in (bank (key.IdOf path)) ++ text_over bank pieces
+
+-- the ids that they tell, in order
+unfoldable pub ids_in : Pieces → List Key
+ids_in [] = []
+ids_in (Says text ∷ pieces) = ids_in pieces
+ids_in (IdOf path ∷ pieces) = key.IdOf path ∷ ids_in pieces
+
+-- pieces are written behind a text, and the ids that they tell are noted in a log
+pub record Writes (bank : Key → Option Answer) (pieces : Pieces)
+    (old new : List ℕ × List (Key × Option Answer)) : Type 0 where
+  pub text : new.0 ≡ old.0 ++ text_over bank pieces
+  pub log : new.1 ≡ noted_all key_eq bank old.1 (ids_in pieces)
 
 -- the pieces of each, with commas between
 abbrev pub commas : {X : Type 0} → (X → Pieces) → List X → Pieces
 commas pieces [] = []
-commas pieces (x ∷ xs) = pieces x ++ flat_map (λ y. Says (44 ∷ []) ∷ pieces y) xs
+commas pieces (x ∷ xs) = pieces x ++ flat_map (λ y. Says (codes ",") ∷ pieces y) xs

@@ -87,7 +87,7 @@ direction_word goes_in false = codes "in"
 -- DIR NAME:TYPE
 abbrev pub parameter_pieces : Member → Pieces
 parameter_pieces m =
-    Says (direction_word m.goes_in m.comes_out ++ codes " ") ∷ typed_pieces m
+    Says (direction_word m.goes_in m.comes_out) ∷ Says (codes " ") ∷ typed_pieces m
 
 abbrev pub context_word : List ℕ → List ℕ
 context_word text = value_word (Text text)
@@ -106,7 +106,7 @@ operation_pieces e =
     ∷ (commas parameter_pieces (members_of e)
     ++ Says (codes ") raises(")
     ∷ (references (raised_of e)
-    ++ Says (codes ") context(" ++ (contexts_word (contexts_of e) ++ codes ")")) ∷ [])))
+    ++ Says (codes ") context(") ∷ Says (contexts_word (contexts_of e)) ∷ says (codes ")"))))
 
 abbrev pub behind_id : Entity → Pieces
 behind_id e =
@@ -118,5 +118,5 @@ behind_id e =
 -- a row: its word, the path, the id, and what stands behind that
 abbrev pub row_pieces : Entity → Pieces
 row_pieces e =
-    Says (kind_word e.kind ++ (codes " " ++ (path_text e.path ++ codes " ")))
+    Says (kind_word e.kind) ∷ Says (codes " ") ∷ Says (path_text e.path) ∷ Says (codes " ")
     ∷ IdOf e.path ∷ behind_id e

@@ -95,9 +95,13 @@ abbrev pub type_pieces : Option DataType → Pieces
 type_pieces None = says (codes "tk_void")
 type_pieces (Some t) = written_type t
 
+-- the type of a union's labels, or what a typedef names
+abbrev pub type_behind : Option DataType → Pieces
+type_behind t = Says (codes ",") ∷ type_pieces t
+
 -- a member or a parameter: its name, and its type
 abbrev pub typed_pieces : Member → Pieces
-typed_pieces m = Says (m.name ++ codes ":") ∷ type_pieces m.data_type
+typed_pieces m = Says m.name ∷ Says (codes ":") ∷ type_pieces m.data_type
 
 abbrev pub member_pieces : Member → Pieces
 member_pieces m = Says (codes ",") ∷ typed_pieces m
@@ -113,7 +117,8 @@ label_word (Some v) = listed_value v
 
 -- the entry of a union's label
 abbrev pub entry_pieces : Option Value → Member → Pieces
-entry_pieces label m = Says (codes "," ++ (label_word label ++ codes ":")) ∷ typed_pieces m
+entry_pieces label m =
+    Says (codes ",") ∷ Says (label_word label) ∷ Says (codes ":") ∷ typed_pieces m
 
 abbrev pub labelled_pieces : Member → Pieces
 labelled_pieces m = flat_map (λ label. entry_pieces label m) m.labels
@@ -131,12 +136,15 @@ default_word (Some n) = decimal n
 -- the number of the entry of `default`, or -1, and then the entries
 abbrev pub entries_of : List Member → Pieces
 entries_of members =
-    Says (codes "," ++ default_word (default_at 0 (flat_map (λ m. m.labels) members)))
+    Says (codes ",") ∷ Says (default_word (default_at 0 (flat_map (λ m. m.labels) members)))
     ∷ flat_map labelled_pieces members
 
 -- the members of an entity, or its parameters
 abbrev pub members_of : Entity → List Member
 members_of e = elim e.signature [ None ↦ [] | Some s ↦ s.members ]
+
+abbrev pub enumerator_word : List ℕ → List ℕ
+enumerator_word name = codes "," ++ name
 
 -- the words of TypeCodes
 abbrev pub code_word : TypeCodeKind → List ℕ
@@ -174,12 +182,11 @@ part_pieces code.LocalInterface e = []
 part_pieces code.Native e = []
 part_pieces code.Structure e = flat_map member_pieces (members_of e)
 part_pieces code.Exception e = flat_map member_pieces (members_of e)
-part_pieces code.Union e =
-    (Says (codes ",") ∷ type_pieces e.data_type) ++ entries_of (members_of e)
-part_pieces code.Enumeration e = says (flat_map (λ name. codes "," ++ name) e.enumerators)
-part_pieces code.Alias e = Says (codes ",") ∷ type_pieces e.data_type
+part_pieces code.Union e = type_behind e.data_type ++ entries_of (members_of e)
+part_pieces code.Enumeration e = says (flat_map enumerator_word e.enumerators)
+part_pieces code.Alias e = type_behind e.data_type
 
 abbrev pub code_pieces : TypeCodeKind → Entity → Pieces
 code_pieces k e =
-    Says (code_word k ++ codes "(") ∷ IdOf e.path ∷ Says (codes "," ++ name_of e.path)
-    ∷ (part_pieces k e ++ says (codes ")"))
+    Says (code_word k) ∷ Says (codes "(") ∷ IdOf e.path ∷ Says (codes ",")
+    ∷ Says (name_of e.path) ∷ (part_pieces k e ++ says (codes ")"))

@@ -6,13 +6,15 @@ ghost use Rattle.idl_repo.specs.Entry.{closing_fault, entry};
 ghost use Rattle.idl_scope.specs.Facts.{answers};
 ghost use Rattle.idl_scope.specs.Key.{key_eq};
 
-use crate::row::write_row;
-use crate::writer::Writer;
+use crate::row::push_row;
 use idl_base::Text;
 use idl_event::Code;
 use idl_memo::{Log, Task, TaskKind};
 use idl_scope::{Entity, Env, Key, Kind, Path, Shared, Stage, entity_in};
 use std::alloc::{AllocError, Global};
+
+// Most rows have no more bytes than these.
+const USUAL: usize = 120;
 
 /// The printing of a name, which has an id: of what is declared at this path.
 #[derive(Drop)]
@@ -64,12 +66,7 @@ impl Task<Env> for EntryTask {
 
 // The entry of the name at a path.
 #[tactic(auto, unfolding(crate::specs::Entry::entry))]
-fn entry_of(
-    alloc: Global,
-    env: &Env,
-    log: &mut Log<Env>,
-    path: &Path,
-) -> Result<Entry, AllocError>
+fn entry_of(alloc: Global, env: &Env, log: &mut Log<Env>, path: &Path) -> Result<Entry, AllocError>
     ensures { IfOk result (λ e.
         (e, log.new) ≡ run key_eq (entry path.now) (answers env.now) log.old) }
 {
@@ -80,9 +77,9 @@ fn entry_of(
             fault: None,
         });
     };
-    let mut writer = Writer::new(env)?;
-    write_row(&mut writer, log, entity.get())?;
-    let row = Text::from_slice(alloc, writer.text.as_slice())?;
+    let mut text = Vec::with_capacity(alloc, USUAL)?;
+    push_row(&mut text, env, log, entity.get())?;
+    let row = Text::from_slice(alloc, text.as_slice())?;
     Ok(Entry {
         row: Some(Shared::new(alloc, row)?),
         fault: closing_fault(entity.get()),

@@ -6,9 +6,11 @@
 #![tactic(auto)]
 
 mod entry;
+mod laws;
+mod piece;
 mod row;
 mod type_code;
-mod writer;
 
 pub use entry::{Entry, EntryTask};
+pub use laws::{asked_ids, listed_row, references};
 pub use type_code::{TypeCode, TypeCodeKind};

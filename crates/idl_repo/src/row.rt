@@ -5,8 +5,8 @@ ghost use Rattle.idl_repo.specs.Pieces.{Writes, commas};
 ghost use Rattle.idl_repo.specs.Row.{attribute_pieces, behind_id, coded_pieces, constant_pieces, context_word, contexts_of, contexts_word, direction_word, flag, kind_word, operation_pieces, parameter_pieces, path_text, raised_by_set_of, raised_of, references, row_pieces};
 ghost use Rattle.idl_scope.specs.Facts.{answers};
 
-use crate::type_code::{TypeCode, members_of, signature_of, write_reference, write_type, write_typed};
-use crate::writer::Writer;
+use crate::piece::{push_id, push_listed};
+use crate::type_code::{TypeCode, members_of, push_reference, push_type, push_typed, signature_of};
 use idl_base::Seq;
 use idl_lex::Spelling;
 use idl_memo::Log;
@@ -15,22 +15,23 @@ use idl_value::Value;
 use std::alloc::AllocError;
 
 /// Writes the row of what is declared so, which has an id.
-pub fn write_row(
-    writer: &mut Writer<'_>,
+pub fn push_row(
+    text: &mut Vec<u8>,
+    env: &Env,
     log: &mut Log<Env>,
     entity: &Entity,
 ) -> Result<(), AllocError>
-    ensures text { OnOk result
-        (Writes (answers writer.old.env.now) (row_pieces entity.now)
-        (writer.old.text.items, log.old) (writer.new.text.items, log.new)) }
-    ensures env { OnOk result (writer.new.env.now ≡ writer.old.env.now) }
+    ensures { OnOk result
+        (Writes (answers env.now) (row_pieces entity.now)
+        (text.old.items, log.old) (text.new.items, log.new)) }
 {
-    writer.say(kind_word(entity.kind))?;
-    writer.say(b" ")?;
-    write_path(writer, entity.path.as_slice())?;
-    writer.say(b" ")?;
-    writer.say_id(log, &entity.path)?;
-    write_behind_id(writer, log, entity)
+    text.extend_from_slice(kind_word(entity.kind))?;
+    text.extend_from_slice(b" ")?;
+    push_path(text, entity.path.as_slice())?;
+    text.extend_from_slice(b" ")?;
+    push_id(text, env, log, &entity.path)?;
+    push_behind_id(text, env, log, entity)?;
+    Ok(())
 }
 
 // The word of a row.
@@ -54,124 +55,126 @@ fn kind_word(kind: Kind) -> &'static [u8]
 }
 
 // The names of a path, the outermost first, with `::` between them.
-fn write_path(writer: &mut Writer<'_>, names: &[Spelling]) -> Result<(), AllocError>
-    ensures text { OnOk result
-        (writer.new.text.items ≡ writer.old.text.items ++ path_text names.now) }
-    ensures env { OnOk result (writer.new.env.now ≡ writer.old.env.now) }
+fn push_path(text: &mut Vec<u8>, names: &[Spelling]) -> Result<(), AllocError>
+    ensures { OnOk result
+        (text.new.items ≡ text.old.items ++ path_text names.now) }
 {
     let [name, outer @ ..] = names else {
         return Ok(());
     };
     if !outer.is_empty() {
-        write_path(writer, outer)?;
-        writer.say(b"::")?;
+        push_path(text, outer)?;
+        text.extend_from_slice(b"::")?;
     }
-    writer.say(name.as_bytes())
+    text.extend_from_slice(name.as_bytes())?;
+    Ok(())
 }
 
 // What stands behind the id.
-fn write_behind_id(
-    writer: &mut Writer<'_>,
+fn push_behind_id(
+    text: &mut Vec<u8>,
+    env: &Env,
     log: &mut Log<Env>,
     entity: &Entity,
 ) -> Result<(), AllocError>
-    ensures text { OnOk result
-        (Writes (answers writer.old.env.now) (behind_id entity.now)
-        (writer.old.text.items, log.old) (writer.new.text.items, log.new)) }
-    ensures env { OnOk result (writer.new.env.now ≡ writer.old.env.now) }
+    ensures { OnOk result
+        (Writes (answers env.now) (behind_id entity.now)
+        (text.old.items, log.old) (text.new.items, log.new)) }
 {
     match entity.kind {
-        Kind::Constant => write_constant(writer, log, entity),
-        Kind::Attribute => write_attribute(writer, log, entity),
-        Kind::Operation => write_operation(writer, log, entity),
-        _ => write_coded(writer, log, entity),
+        Kind::Constant => push_constant(text, env, log, entity),
+        Kind::Attribute => push_attribute(text, env, log, entity),
+        Kind::Operation => push_operation(text, env, log, entity),
+        _ => push_coded(text, env, log, entity),
     }
 }
 
 // A name that has a TypeCode, or a module; behind that of an interface its bases.
-fn write_coded(
-    writer: &mut Writer<'_>,
+fn push_coded(
+    text: &mut Vec<u8>,
+    env: &Env,
     log: &mut Log<Env>,
     entity: &Entity,
 ) -> Result<(), AllocError>
-    ensures text { OnOk result
-        (Writes (answers writer.old.env.now) (coded_pieces entity.now)
-        (writer.old.text.items, log.old) (writer.new.text.items, log.new)) }
-    ensures env { OnOk result (writer.new.env.now ≡ writer.old.env.now) }
+    ensures { OnOk result
+        (Writes (answers env.now) (coded_pieces entity.now)
+        (text.old.items, log.old) (text.new.items, log.new)) }
 {
     let Some(code) = TypeCode::of(entity) else {
         return Ok(());
     };
-    writer.say(b" ")?;
-    code.write(writer, log)?;
+    text.extend_from_slice(b" ")?;
+    code.push_to(text, env, log)?;
     if entity.kind == Kind::Interface {
-        writer.say(b" bases(")?;
-        write_references(writer, log, entity.bases.as_slice())?;
-        writer.say(b")")?;
+        text.extend_from_slice(b" bases(")?;
+        push_references(text, env, log, entity.bases.as_slice())?;
+        text.extend_from_slice(b")")?;
     }
     Ok(())
 }
 
 // A constant: its type, and its value.
-fn write_constant(
-    writer: &mut Writer<'_>,
+fn push_constant(
+    text: &mut Vec<u8>,
+    env: &Env,
     log: &mut Log<Env>,
     entity: &Entity,
 ) -> Result<(), AllocError>
-    ensures text { OnOk result
-        (Writes (answers writer.old.env.now) (constant_pieces entity.now)
-        (writer.old.text.items, log.old) (writer.new.text.items, log.new)) }
-    ensures env { OnOk result (writer.new.env.now ≡ writer.old.env.now) }
+    ensures { OnOk result
+        (Writes (answers env.now) (constant_pieces entity.now)
+        (text.old.items, log.old) (text.new.items, log.new)) }
 {
-    writer.say(b" ")?;
-    write_type(writer, log, &entity.data_type)?;
-    writer.say(b" ")?;
-    match &entity.value {
-        Some(value) => writer.say_value(value),
-        None => Ok(()),
+    text.extend_from_slice(b" ")?;
+    push_type(text, env, log, &entity.data_type)?;
+    text.extend_from_slice(b" ")?;
+    if let Some(value) = &entity.value {
+        push_listed(text, value)?;
     }
+    Ok(())
 }
 
 // An attribute: its type, and what reading and writing it raise.
-fn write_attribute(
-    writer: &mut Writer<'_>,
+fn push_attribute(
+    text: &mut Vec<u8>,
+    env: &Env,
     log: &mut Log<Env>,
     entity: &Entity,
 ) -> Result<(), AllocError>
-    ensures text { OnOk result
-        (Writes (answers writer.old.env.now) (attribute_pieces entity.now)
-        (writer.old.text.items, log.old) (writer.new.text.items, log.new)) }
-    ensures env { OnOk result (writer.new.env.now ≡ writer.old.env.now) }
+    ensures { OnOk result
+        (Writes (answers env.now) (attribute_pieces entity.now)
+        (text.old.items, log.old) (text.new.items, log.new)) }
 {
-    writer.say(flag(entity.is_readonly, b" readonly "))?;
-    write_type(writer, log, &entity.data_type)?;
-    writer.say(b" get(")?;
-    write_references(writer, log, raised_of(entity))?;
-    writer.say(b") set(")?;
-    write_references(writer, log, raised_by_set_of(entity))?;
-    writer.say(b")")
+    text.extend_from_slice(flag(entity.is_readonly, b" readonly "))?;
+    push_type(text, env, log, &entity.data_type)?;
+    text.extend_from_slice(b" get(")?;
+    push_references(text, env, log, raised_of(entity))?;
+    text.extend_from_slice(b") set(")?;
+    push_references(text, env, log, raised_by_set_of(entity))?;
+    text.extend_from_slice(b")")?;
+    Ok(())
 }
 
 // An operation: what it gives back, its parameters, what it raises, and its context.
-fn write_operation(
-    writer: &mut Writer<'_>,
+fn push_operation(
+    text: &mut Vec<u8>,
+    env: &Env,
     log: &mut Log<Env>,
     entity: &Entity,
 ) -> Result<(), AllocError>
-    ensures text { OnOk result
-        (Writes (answers writer.old.env.now) (operation_pieces entity.now)
-        (writer.old.text.items, log.old) (writer.new.text.items, log.new)) }
-    ensures env { OnOk result (writer.new.env.now ≡ writer.old.env.now) }
+    ensures { OnOk result
+        (Writes (answers env.now) (operation_pieces entity.now)
+        (text.old.items, log.old) (text.new.items, log.new)) }
 {
-    writer.say(flag(entity.is_oneway, b" oneway "))?;
-    write_type(writer, log, &entity.data_type)?;
-    writer.say(b" (")?;
-    write_parameters(writer, log, members_of(entity))?;
-    writer.say(b") raises(")?;
-    write_references(writer, log, raised_of(entity))?;
-    writer.say(b") context(")?;
-    write_contexts(writer, contexts_of(entity))?;
-    writer.say(b")")
+    text.extend_from_slice(flag(entity.is_oneway, b" oneway "))?;
+    push_type(text, env, log, &entity.data_type)?;
+    text.extend_from_slice(b" (")?;
+    push_parameters(text, env, log, members_of(entity))?;
+    text.extend_from_slice(b") raises(")?;
+    push_references(text, env, log, raised_of(entity))?;
+    text.extend_from_slice(b") context(")?;
+    push_contexts(text, contexts_of(entity))?;
+    text.extend_from_slice(b")")?;
+    Ok(())
 }
 
 // A word between blanks where it is to stand, and else one blank.
@@ -212,63 +215,64 @@ fn contexts_of(entity: &Entity) -> &[Seq<u16>]
 }
 
 // References, with commas between them.
-fn write_references(
-    writer: &mut Writer<'_>,
+fn push_references(
+    text: &mut Vec<u8>,
+    env: &Env,
     log: &mut Log<Env>,
     paths: &[Path],
 ) -> Result<(), AllocError>
-    ensures text { OnOk result
-        (Writes (answers writer.old.env.now) (references paths.now)
-        (writer.old.text.items, log.old) (writer.new.text.items, log.new)) }
-    ensures env { OnOk result (writer.new.env.now ≡ writer.old.env.now) }
+    ensures { OnOk result
+        (Writes (answers env.now) (references paths.now)
+        (text.old.items, log.old) (text.new.items, log.new)) }
 {
     let [first, rest @ ..] = paths else {
         return Ok(());
     };
-    write_reference(writer, log, first)?;
+    push_reference(text, env, log, first)?;
     for path in rest {
-        writer.say(b",")?;
-        write_reference(writer, log, path)?;
+        text.extend_from_slice(b",")?;
+        push_reference(text, env, log, path)?;
     }
     Ok(())
 }
 
 // Parameters, with commas between them.
-fn write_parameters(
-    writer: &mut Writer<'_>,
+fn push_parameters(
+    text: &mut Vec<u8>,
+    env: &Env,
     log: &mut Log<Env>,
     parameters: &[Member],
 ) -> Result<(), AllocError>
-    ensures text { OnOk result
-        (Writes (answers writer.old.env.now) (commas parameter_pieces parameters.now)
-        (writer.old.text.items, log.old) (writer.new.text.items, log.new)) }
-    ensures env { OnOk result (writer.new.env.now ≡ writer.old.env.now) }
+    ensures { OnOk result
+        (Writes (answers env.now) (commas parameter_pieces parameters.now)
+        (text.old.items, log.old) (text.new.items, log.new)) }
 {
     let [first, rest @ ..] = parameters else {
         return Ok(());
     };
-    write_parameter(writer, log, first)?;
+    push_parameter(text, env, log, first)?;
     for parameter in rest {
-        writer.say(b",")?;
-        write_parameter(writer, log, parameter)?;
+        text.extend_from_slice(b",")?;
+        push_parameter(text, env, log, parameter)?;
     }
     Ok(())
 }
 
 // A parameter.
-fn write_parameter(
-    writer: &mut Writer<'_>,
+fn push_parameter(
+    text: &mut Vec<u8>,
+    env: &Env,
     log: &mut Log<Env>,
     parameter: &Member,
 ) -> Result<(), AllocError>
-    ensures text { OnOk result
-        (Writes (answers writer.old.env.now) (parameter_pieces parameter.now)
-        (writer.old.text.items, log.old) (writer.new.text.items, log.new)) }
-    ensures env { OnOk result (writer.new.env.now ≡ writer.old.env.now) }
+    ensures { OnOk result
+        (Writes (answers env.now) (parameter_pieces parameter.now)
+        (text.old.items, log.old) (text.new.items, log.new)) }
 {
-    writer.say(direction_word(parameter.goes_in, parameter.comes_out))?;
-    writer.say(b" ")?;
-    write_typed(writer, log, parameter)
+    text.extend_from_slice(direction_word(parameter.goes_in, parameter.comes_out))?;
+    text.extend_from_slice(b" ")?;
+    push_typed(text, env, log, parameter)?;
+    Ok(())
 }
 
 // Where a parameter goes.
@@ -283,27 +287,25 @@ fn direction_word(goes_in: bool, comes_out: bool) -> &'static [u8]
 }
 
 // Texts, with commas between them.
-fn write_contexts(writer: &mut Writer<'_>, contexts: &[Seq<u16>]) -> Result<(), AllocError>
-    ensures text { OnOk result
-        (writer.new.text.items ≡ writer.old.text.items ++ contexts_word contexts.now) }
-    ensures env { OnOk result (writer.new.env.now ≡ writer.old.env.now) }
+fn push_contexts(text: &mut Vec<u8>, contexts: &[Seq<u16>]) -> Result<(), AllocError>
+    ensures { OnOk result
+        (text.new.items ≡ text.old.items ++ contexts_word contexts.now) }
 {
     let [first, rest @ ..] = contexts else {
         return Ok(());
     };
-    write_context(writer, first)?;
+    push_context(text, first)?;
     for context in rest {
-        writer.say(b",")?;
-        write_context(writer, context)?;
+        text.extend_from_slice(b",")?;
+        push_context(text, context)?;
     }
     Ok(())
 }
 
 // A text.
-fn write_context(writer: &mut Writer<'_>, context: &Seq<u16>) -> Result<(), AllocError>
-    ensures text { OnOk result
-        (writer.new.text.items ≡ writer.old.text.items ++ context_word context.now) }
-    ensures env { OnOk result (writer.new.env.now ≡ writer.old.env.now) }
+fn push_context(text: &mut Vec<u8>, context: &Seq<u16>) -> Result<(), AllocError>
+    ensures { OnOk result
+        (text.new.items ≡ text.old.items ++ context_word context.now) }
 {
-    writer.say_value(&Value::Text(context.clone()?))
+    push_listed(text, &Value::Text(context.clone()?))
 }

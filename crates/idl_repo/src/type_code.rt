@@ -1,12 +1,12 @@
 //! TypeCodes, and how they and types are written.
 
-ghost use Rattle.std.specs.Prelude.{◌≡◌, ◌∷◌, ◌++◌, [], OnOk, flat_map};
+ghost use Rattle.std.specs.Prelude.{◌≡◌, ◌++◌, IfOk, IfSome, OnOk, flat_map};
 ghost use Rattle.std.specs.Option.{option_copied, option_map};
-ghost use Rattle.idl_repo.specs.Pieces.{Says, Writes};
-ghost use Rattle.idl_repo.specs.TypeCode.{code_pieces, code_word, default_at, element_pieces, entries_of, entry_pieces, integer_word, kind_in, label_word, layer_end, layer_word, layers_begin, member_pieces, members_of, part_pieces, reference, size_of, string_word, target_word, type_pieces, typed_pieces, unvalued_word};
+ghost use Rattle.idl_repo.specs.Pieces.{Writes};
+ghost use Rattle.idl_repo.specs.TypeCode.{code_pieces, code_word, default_at, default_word, element_pieces, entries_of, enumerator_word, integer_word, kind_in, label_word, labelled_pieces, layer_end, layer_word, layers_begin, member_pieces, members_of, part_pieces, reference, size_of, string_word, target_word, type_behind, type_pieces, typed_pieces, unvalued_word};
 ghost use Rattle.idl_scope.specs.Facts.{answers};
 
-use crate::writer::Writer;
+use crate::piece::{push_id, push_listed, push_number};
 use idl_lex::Spelling;
 use idl_memo::Log;
 use idl_scope::{
@@ -56,8 +56,8 @@ impl TypeCodeKind {
 impl<'a> TypeCode<'a> {
     /// That of what is declared so, if it has one.
     pub fn of(entity: &'a Entity) -> Option<TypeCode<'a>>
-        ensures { option_map (λ code. (code.kind, code.entity.now)) result
-            ≡ option_map (λ kind. (kind, entity.now)) (kind_in entity.now) }
+        ensures kind { option_map (λ code. code.kind) result ≡ kind_in entity.now }
+        ensures entity { IfSome result (λ code. code.entity.now ≡ entity.now) }
     {
         let kind = match entity.kind {
             Kind::Interface if entity.is_local => TypeCodeKind::LocalInterface,
@@ -74,43 +74,47 @@ impl<'a> TypeCode<'a> {
     }
 
     /// Writes it: its word, and in parentheses its id, its name and its parts.
-    pub fn write(self, writer: &mut Writer<'_>, log: &mut Log<Env>) -> Result<(), AllocError>
-        ensures text { OnOk result
-            (Writes (answers writer.old.env.now) (code_pieces self.entry.kind self.entry.entity.now)
-            (writer.old.text.items, log.old) (writer.new.text.items, log.new)) }
-        ensures env { OnOk result (writer.new.env.now ≡ writer.old.env.now) }
+    pub fn push_to(
+        self,
+        text: &mut Vec<u8>,
+        env: &Env,
+        log: &mut Log<Env>,
+    ) -> Result<(), AllocError>
+        ensures { OnOk result
+            (Writes (answers env.now) (code_pieces self.entry.kind self.entry.entity.now)
+            (text.old.items, log.old) (text.new.items, log.new)) }
     {
-        writer.say(self.kind.word())?;
-        writer.say(b"(")?;
-        writer.say_id(log, &self.entity.path)?;
-        writer.say(b",")?;
-        writer.say(self.entity.path.name())?;
-        self.write_parts(writer, log)?;
-        writer.say(b")")
+        text.extend_from_slice(self.kind.word())?;
+        text.extend_from_slice(b"(")?;
+        push_id(text, env, log, &self.entity.path)?;
+        text.extend_from_slice(b",")?;
+        text.extend_from_slice(self.entity.path.name())?;
+        self.push_parts(text, env, log)?;
+        text.extend_from_slice(b")")?;
+        Ok(())
     }
 
     // What stands behind the name.
-    fn write_parts(self, writer: &mut Writer<'_>, log: &mut Log<Env>) -> Result<(), AllocError>
-        ensures text { OnOk result
-            (Writes (answers writer.old.env.now) (part_pieces self.entry.kind self.entry.entity.now)
-            (writer.old.text.items, log.old) (writer.new.text.items, log.new)) }
-        ensures env { OnOk result (writer.new.env.now ≡ writer.old.env.now) }
+    fn push_parts(self, text: &mut Vec<u8>, env: &Env, log: &mut Log<Env>) -> Result<(), AllocError>
+        ensures { OnOk result
+            (Writes (answers env.now) (part_pieces self.entry.kind self.entry.entity.now)
+            (text.old.items, log.old) (text.new.items, log.new)) }
     {
         match self.kind {
-            TypeCodeKind::ObjectReference
-            | TypeCodeKind::LocalInterface
-            | TypeCodeKind::Native => Ok(()),
+            TypeCodeKind::ObjectReference | TypeCodeKind::LocalInterface | TypeCodeKind::Native =>
+                Ok(()),
             TypeCodeKind::Structure | TypeCodeKind::Exception => {
-                write_members(writer, log, members_of(self.entity))
+                push_members(text, env, log, members_of(self.entity))
             }
             TypeCodeKind::Union => {
-                write_type_behind(writer, log, &self.entity.data_type)?;
-                write_entries(writer, log, members_of(self.entity))
+                push_type_behind(text, env, log, &self.entity.data_type)?;
+                push_entries(text, env, log, members_of(self.entity))?;
+                Ok(())
             }
             TypeCodeKind::Enumeration => {
-                write_enumerators(writer, self.entity.enumerators.as_slice())
+                push_enumerators(text, self.entity.enumerators.as_slice())
             }
-            TypeCodeKind::Alias => write_type_behind(writer, log, &self.entity.data_type),
+            TypeCodeKind::Alias => push_type_behind(text, env, log, &self.entity.data_type),
         }
     }
 }
@@ -136,167 +140,179 @@ pub fn signature_of(entity: &Entity) -> Option<&Signature>
 }
 
 // Each member, with a comma before it.
-fn write_members(
-    writer: &mut Writer<'_>,
+fn push_members(
+    text: &mut Vec<u8>,
+    env: &Env,
     log: &mut Log<Env>,
     members: &[Member],
 ) -> Result<(), AllocError>
-    ensures text { OnOk result
-        (Writes (answers writer.old.env.now) (flat_map member_pieces members.now)
-        (writer.old.text.items, log.old) (writer.new.text.items, log.new)) }
-    ensures env { OnOk result (writer.new.env.now ≡ writer.old.env.now) }
+    ensures { OnOk result
+        (Writes (answers env.now) (flat_map member_pieces members.now)
+        (text.old.items, log.old) (text.new.items, log.new)) }
 {
     for member in members {
-        writer.say(b",")?;
-        write_typed(writer, log, member)?;
+        text.extend_from_slice(b",")?;
+        push_typed(text, env, log, member)?;
     }
     Ok(())
 }
 
 /// The name of a member or parameter, and its type.
-pub fn write_typed(
-    writer: &mut Writer<'_>,
+pub fn push_typed(
+    text: &mut Vec<u8>,
+    env: &Env,
     log: &mut Log<Env>,
     member: &Member,
 ) -> Result<(), AllocError>
-    ensures text { OnOk result
-        (Writes (answers writer.old.env.now) (typed_pieces member.now)
-        (writer.old.text.items, log.old) (writer.new.text.items, log.new)) }
-    ensures env { OnOk result (writer.new.env.now ≡ writer.old.env.now) }
+    ensures { OnOk result
+        (Writes (answers env.now) (typed_pieces member.now)
+        (text.old.items, log.old) (text.new.items, log.new)) }
 {
-    writer.say(member.name.as_bytes())?;
-    writer.say(b":")?;
-    write_type(writer, log, &member.data_type)
+    text.extend_from_slice(member.name.as_bytes())?;
+    text.extend_from_slice(b":")?;
+    push_type(text, env, log, &member.data_type)?;
+    Ok(())
 }
 
 // The number of the entry of `default`, and an entry for each label of each member.
-fn write_entries(
-    writer: &mut Writer<'_>,
+fn push_entries(
+    text: &mut Vec<u8>,
+    env: &Env,
     log: &mut Log<Env>,
     members: &[Member],
 ) -> Result<(), AllocError>
-    ensures text { OnOk result
-        (Writes (answers writer.old.env.now) (entries_of members.now)
-        (writer.old.text.items, log.old) (writer.new.text.items, log.new)) }
-    ensures env { OnOk result (writer.new.env.now ≡ writer.old.env.now) }
+    ensures { OnOk result
+        (Writes (answers env.now) (entries_of members.now)
+        (text.old.items, log.old) (text.new.items, log.new)) }
 {
-    writer.say(b",")?;
-    match default_at(members) {
-        Some(number) => writer.say_number(number)?,
-        None => writer.say(b"-1")?,
-    }
+    text.extend_from_slice(b",")?;
+    let number = default_at(members)?;
+    push_default(text, number)?;
     for member in members {
-        write_labelled(writer, log, member)?;
+        push_labelled(text, env, log, member)?;
     }
     Ok(())
 }
 
-// The number of the entry of `default`, if there is one.
-fn default_at(members: &[Member]) -> Option<usize>
-    ensures { result ≡ default_at 0 (flat_map (λ m. m.labels) members.now) }
+// The number of the entry of `default`, or -1.
+fn push_default(text: &mut Vec<u8>, number: Option<usize>) -> Result<(), AllocError>
+    ensures { OnOk result (text.new.items ≡ text.old.items ++ default_word number) }
 {
-    let mut number = 0;
+    match number {
+        Some(number) => push_number(text, number),
+        None => text.extend_from_slice(b"-1"),
+    }
+}
+
+// The number of the entry of `default`, if there is one.
+fn default_at(members: &[Member]) -> Result<Option<usize>, AllocError>
+    ensures { IfOk result
+        (λ number. number ≡ default_at 0 (flat_map (λ m. m.labels) members.now)) }
+{
+    let mut number: usize = 0;
     for member in members {
         for label in member.labels.as_slice() {
             if label.is_none() {
-                return Some(number);
+                return Ok(Some(number));
             }
-            number += 1;
+            let Some(next) = number.checked_add(1) else {
+                return Err(AllocError);
+            };
+            number = next;
         }
     }
-    None
+    Ok(None)
 }
 
 // An entry for each label of a member.
-fn write_labelled(
-    writer: &mut Writer<'_>,
+fn push_labelled(
+    text: &mut Vec<u8>,
+    env: &Env,
     log: &mut Log<Env>,
     member: &Member,
 ) -> Result<(), AllocError>
-    ensures text { OnOk result
-        (Writes (answers writer.old.env.now) (flat_map (λ label. entry_pieces label member.now) member.now.labels)
-        (writer.old.text.items, log.old) (writer.new.text.items, log.new)) }
-    ensures env { OnOk result (writer.new.env.now ≡ writer.old.env.now) }
+    ensures { OnOk result
+        (Writes (answers env.now) (labelled_pieces member.now)
+        (text.old.items, log.old) (text.new.items, log.new)) }
 {
     for label in member.labels.as_slice() {
-        writer.say(b",")?;
-        write_label(writer, label)?;
-        writer.say(b":")?;
-        write_typed(writer, log, member)?;
+        text.extend_from_slice(b",")?;
+        push_label(text, label)?;
+        text.extend_from_slice(b":")?;
+        push_typed(text, env, log, member)?;
     }
     Ok(())
 }
 
 // A label.
-fn write_label(writer: &mut Writer<'_>, label: &Option<Value>) -> Result<(), AllocError>
-    ensures text { OnOk result
-        (writer.new.text.items ≡ writer.old.text.items ++ label_word label.now) }
-    ensures env { OnOk result (writer.new.env.now ≡ writer.old.env.now) }
+fn push_label(text: &mut Vec<u8>, label: &Option<Value>) -> Result<(), AllocError>
+    ensures { OnOk result
+        (text.new.items ≡ text.old.items ++ label_word label.now) }
 {
     match label {
-        Some(value) => writer.say_value(value),
-        None => writer.say(b"default"),
+        Some(value) => push_listed(text, value),
+        None => text.extend_from_slice(b"default"),
     }
 }
 
 // Each enumerator, with a comma before it.
-fn write_enumerators(writer: &mut Writer<'_>, names: &[Spelling]) -> Result<(), AllocError>
-    ensures text { OnOk result
-        (writer.new.text.items
-        ≡ writer.old.text.items ++ flat_map (λ name. 44 ∷ name) names.now) }
-    ensures env { OnOk result (writer.new.env.now ≡ writer.old.env.now) }
+fn push_enumerators(text: &mut Vec<u8>, names: &[Spelling]) -> Result<(), AllocError>
+    ensures { OnOk result
+        (text.new.items
+        ≡ text.old.items ++ flat_map enumerator_word names.now) }
 {
     for name in names {
-        writer.say(b",")?;
-        writer.say(name.as_bytes())?;
+        text.extend_from_slice(b",")?;
+        text.extend_from_slice(name.as_bytes())?;
     }
     Ok(())
 }
 
 // A type, with a comma before it.
-fn write_type_behind(
-    writer: &mut Writer<'_>,
+fn push_type_behind(
+    text: &mut Vec<u8>,
+    env: &Env,
     log: &mut Log<Env>,
     data_type: &Option<Shared<DataType>>,
 ) -> Result<(), AllocError>
-    ensures text { OnOk result
-        (Writes (answers writer.old.env.now) (Says (44 ∷ []) ∷ type_pieces data_type.now)
-        (writer.old.text.items, log.old) (writer.new.text.items, log.new)) }
-    ensures env { OnOk result (writer.new.env.now ≡ writer.old.env.now) }
+    ensures { OnOk result
+        (Writes (answers env.now) (type_behind data_type.now)
+        (text.old.items, log.old) (text.new.items, log.new)) }
 {
-    writer.say(b",")?;
-    write_type(writer, log, data_type)
+    text.extend_from_slice(b",")?;
+    push_type(text, env, log, data_type)?;
+    Ok(())
 }
 
 /// A type: a named one is told by its id, and another one is written in place.
-pub fn write_type(
-    writer: &mut Writer<'_>,
+pub fn push_type(
+    text: &mut Vec<u8>,
+    env: &Env,
     log: &mut Log<Env>,
     data_type: &Option<Shared<DataType>>,
 ) -> Result<(), AllocError>
-    ensures text { OnOk result
-        (Writes (answers writer.old.env.now) (type_pieces data_type.now)
-        (writer.old.text.items, log.old) (writer.new.text.items, log.new)) }
-    ensures env { OnOk result (writer.new.env.now ≡ writer.old.env.now) }
+    ensures { OnOk result
+        (Writes (answers env.now) (type_pieces data_type.now)
+        (text.old.items, log.old) (text.new.items, log.new)) }
 {
     let Some(data_type) = data_type else {
-        return writer.say(b"tk_void");
+        return text.extend_from_slice(b"tk_void");
     };
     let DataType { element, layers } = data_type.get();
-    begin_layers(writer, layers.as_slice())?;
-    write_element(writer, log, element)?;
-    end_layers(writer, layers.as_slice())
+    begin_layers(text, layers.as_slice())?;
+    push_element(text, env, log, element)?;
+    end_layers(text, layers.as_slice())?;
+    Ok(())
 }
 
 // Where the layers around a type begin, from the outermost on.
-fn begin_layers(writer: &mut Writer<'_>, layers: &[Layer]) -> Result<(), AllocError>
-    ensures text { OnOk result
-        (writer.new.text.items ≡ writer.old.text.items ++ layers_begin layers.now) }
-    ensures env { OnOk result (writer.new.env.now ≡ writer.old.env.now) }
+fn begin_layers(text: &mut Vec<u8>, layers: &[Layer]) -> Result<(), AllocError>
+    ensures { OnOk result
+        (text.new.items ≡ text.old.items ++ layers_begin layers.now) }
 {
     let count = layers.len();
     for back in 0..count {
-        writer.say(layer_word(layers[count - 1 - back]))?;
+        text.extend_from_slice(layer_word(layers[count - 1 - back]))?;
     }
     Ok(())
 }
@@ -312,15 +328,14 @@ fn layer_word(layer: Layer) -> &'static [u8]
 }
 
 // Where they end, from the innermost on: with the bound of each, or its length.
-fn end_layers(writer: &mut Writer<'_>, layers: &[Layer]) -> Result<(), AllocError>
-    ensures text { OnOk result
-        (writer.new.text.items ≡ writer.old.text.items ++ flat_map layer_end layers.now) }
-    ensures env { OnOk result (writer.new.env.now ≡ writer.old.env.now) }
+fn end_layers(text: &mut Vec<u8>, layers: &[Layer]) -> Result<(), AllocError>
+    ensures { OnOk result
+        (text.new.items ≡ text.old.items ++ flat_map layer_end layers.now) }
 {
     for layer in layers {
-        writer.say(b",")?;
-        writer.say_number(size_of(*layer) as usize)?;
-        writer.say(b")")?;
+        text.extend_from_slice(b",")?;
+        push_number(text, size_of(*layer) as usize)?;
+        text.extend_from_slice(b")")?;
     }
     Ok(())
 }
@@ -336,71 +351,67 @@ fn size_of(layer: Layer) -> u32
 }
 
 // What a type is of.
-fn write_element(
-    writer: &mut Writer<'_>,
+fn push_element(
+    text: &mut Vec<u8>,
+    env: &Env,
     log: &mut Log<Env>,
     element: &Element,
 ) -> Result<(), AllocError>
-    ensures text { OnOk result
-        (Writes (answers writer.old.env.now) (element_pieces element.now)
-        (writer.old.text.items, log.old) (writer.new.text.items, log.new)) }
-    ensures env { OnOk result (writer.new.env.now ≡ writer.old.env.now) }
+    ensures { OnOk result
+        (Writes (answers env.now) (element_pieces element.now)
+        (text.old.items, log.old) (text.new.items, log.new)) }
 {
     match element {
-        Element::Constants(target) => write_target(writer, target),
-        Element::Named(path) => write_reference(writer, log, path),
-        Element::Unvalued(kind) => writer.say(unvalued_word(*kind)),
+        Element::Constants(target) => push_target(text, target),
+        Element::Named(path) => push_reference(text, env, log, path),
+        Element::Unvalued(kind) => text.extend_from_slice(unvalued_word(*kind)),
     }
 }
 
 /// A reference to what is declared at a path.
-pub fn write_reference(
-    writer: &mut Writer<'_>,
+pub fn push_reference(
+    text: &mut Vec<u8>,
+    env: &Env,
     log: &mut Log<Env>,
     path: &Path,
 ) -> Result<(), AllocError>
-    ensures text { OnOk result
-        (Writes (answers writer.old.env.now) (reference path.now)
-        (writer.old.text.items, log.old) (writer.new.text.items, log.new)) }
-    ensures env { OnOk result (writer.new.env.now ≡ writer.old.env.now) }
+    ensures { OnOk result
+        (Writes (answers env.now) (reference path.now)
+        (text.old.items, log.old) (text.new.items, log.new)) }
 {
-    writer.say(b"@")?;
-    writer.say_id(log, path)
+    text.extend_from_slice(b"@")?;
+    push_id(text, env, log, path)?;
+    Ok(())
 }
 
 // A type of keywords of which there are constants. An enum has a name.
-fn write_target(writer: &mut Writer<'_>, target: &Target) -> Result<(), AllocError>
-    ensures text { OnOk result
-        (writer.new.text.items ≡ writer.old.text.items ++ target_word target.now) }
-    ensures env { OnOk result (writer.new.env.now ≡ writer.old.env.now) }
+fn push_target(text: &mut Vec<u8>, target: &Target) -> Result<(), AllocError>
+    ensures { OnOk result
+        (text.new.items ≡ text.old.items ++ target_word target.now) }
 {
     match target {
-        Target::Integer(kind) => writer.say(integer_word(*kind)),
-        Target::Boolean => writer.say(b"tk_boolean"),
-        Target::Character => writer.say(b"tk_char"),
-        Target::WideCharacter => writer.say(b"tk_wchar"),
-        Target::Text(bound) => write_string(writer, b"tk_string(", *bound),
-        Target::WideText(bound) => write_string(writer, b"tk_wstring(", *bound),
+        Target::Integer(kind) => text.extend_from_slice(integer_word(*kind)),
+        Target::Boolean => text.extend_from_slice(b"tk_boolean"),
+        Target::Character => text.extend_from_slice(b"tk_char"),
+        Target::WideCharacter => text.extend_from_slice(b"tk_wchar"),
+        Target::Text(bound) => push_string(text, b"tk_string(", *bound),
+        Target::WideText(bound) => push_string(text, b"tk_wstring(", *bound),
         Target::Enumeration(_path) => Ok(()),
     }
 }
 
 // A string type, with its bound, or 0 if it has none.
-fn write_string(
-    writer: &mut Writer<'_>,
-    word: &[u8],
-    bound: Option<u32>,
-) -> Result<(), AllocError>
-    ensures text { OnOk result
-        (writer.new.text.items ≡ writer.old.text.items ++ string_word word.now bound) }
-    ensures env { OnOk result (writer.new.env.now ≡ writer.old.env.now) }
+fn push_string(text: &mut Vec<u8>, word: &[u8], bound: Option<u32>) -> Result<(), AllocError>
+    ensures { OnOk result
+        (text.new.items ≡ text.old.items ++ string_word word.now bound) }
 {
-    writer.say(word)?;
+    text.extend_from_slice(word)?;
     match bound {
-        Some(bound) => writer.say_number(bound as usize)?,
-        None => writer.say(b"0")?,
+        Some(bound) => push_number(text, bound as usize)?,
+        None => text.extend_from_slice(b"0")?,
     }
-    writer.say(b")")
+    text.extend_from_slice(b")")?;
+    Ok(())
 }
 
 // The word of an integer type.

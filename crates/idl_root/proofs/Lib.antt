@@ -1,3 +1,4 @@
 mod JudgingLemmas
 mod OrderLemmas
+mod PrintLemmas
 mod ToldLemmas

@@ -15,8 +15,8 @@ use Rattle.idl_scope.specs.Facts.{UnitFacts, answers, scopes_in}
 use Rattle.idl_scope.specs.declared.key.Key.TheVariants.{Cursor}
 use Rattle.idl_unit.specs.Units.{units_of}
 
--- what comes of a root: the facts that its units and file boundaries add, what is found, the rows of
--- the dump, and the names that have an id, in the order in which they are declared first
+-- what comes of a root: the facts that its units and file boundaries add, what is found, the rows
+-- of the dump, and the names that have an id, in the order in which they are declared first
 pub record Outcome : Type 0 where
   pub facts : List UnitFacts
   pub found : List Finding
@@ -74,8 +74,9 @@ told end o =
           ++ (open_row end is_open_at_end ++ map (λ f. f.row) closing);
       listing = rows_beside is_faulty (flat_map (entry_row o.facts) o.listed);
       dump = rows_beside is_faulty o.rows;
+      is_faulty = is_faulty;
     }
 
--- the diagnostics, the listing and the dump of a root that expands to these events, and whose end is this place
+-- the rows of a root that expands to these events, and whose end is this place
 unfoldable pub compile : Place → List Event → Compiled
 compile end events = told end (outcome_of events)

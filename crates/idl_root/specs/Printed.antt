@@ -16,7 +16,8 @@ use Rattle.idl_unit.specs.TokenRules.{fault_at}
 use Rattle.idl_unit.specs.declared.unit.Site.{Site}
 use Rattle.idl_unit.specs.declared.unit.UnitText.{UnitText}
 
--- a name that has an id: its path, and the unit that declares it first, with the places of its tokens
+-- a name that has an id: its path, and the text of the unit that declares it first, with the places
+-- of its tokens
 pub record Listed : Type 0 where
   pub path : List (List ℕ)
   pub text : UnitText
@@ -30,11 +31,14 @@ first_paths (Uses n path body ∷ additions) = first_paths additions
 first_paths (Identifies path d ∷ additions) =
     if fixed_eq d.fixed Nothing then path ∷ first_paths additions else first_paths additions
 
+-- the names at these paths, which a unit with these tokens declares first
+abbrev pub listed_with : UnitText → List Site → List (List (List ℕ)) → List Listed
+listed_with text sites paths =
+    map (λ path. record { path = path; text = text; sites = sites }) paths
+
 -- those of a unit
 abbrev pub listed_in : Judged → List Listed
-listed_in j =
-    map (λ path. record { path = path; text = j.text; sites = j.sites })
-    (first_paths j.verdict.writes.additions)
+listed_in j = listed_with j.text j.sites (first_paths j.verdict.writes.additions)
 
 -- the entry of the name at a path over facts
 abbrev pub entry_over : List UnitFacts → List (List ℕ) → Entry

@@ -23,6 +23,8 @@ pub struct Compiled {
     pub diagnostics: Seq<Row>,
     pub listing: Seq<Row>,
     pub dump: Seq<Row>,
+    /// Whether one of the diagnostics is an error. Others are warnings.
+    pub is_faulty: bool,
 }
 
 impl Drop for Compiled {
@@ -31,6 +33,7 @@ impl Drop for Compiled {
             diagnostics: _diagnostics,
             listing: _listing,
             dump: _dump,
+            is_faulty: _is_faulty,
         } = self;
     }
 }
@@ -53,7 +56,7 @@ pub fn compile(alloc: Global, end: &Place, expansion: &Expansion) -> Result<Comp
 
 // The rows of a root whose units are all judged.
 fn told(alloc: Global, end: &Place, judging: Judging) -> Result<Compiled, AllocError>
-    ensures { IfOk result (λ compiled. compiled ≡ told end.now (held judging)) }
+    ensures { IfOk result (λ compiled. compiled ≡ told end.now (held judging.entry)) }
 {
     let is_open = judging.is_open();
     let printed = judging.printed(alloc)?;
@@ -69,6 +72,7 @@ fn told(alloc: Global, end: &Place, judging: Judging) -> Result<Compiled, AllocE
         diagnostics: Seq::from_vec(diagnostics),
         listing: rows_beside(alloc, is_faulty, listing),
         dump: rows_beside(alloc, is_faulty, rows),
+        is_faulty,
     })
 }
 
@@ -88,7 +92,7 @@ fn open_rows(alloc: Global, end: &Place, is_open: bool) -> Result<Vec<Row>, Allo
 fn diagnostics(
     alloc: Global,
     findings: Vec<Finding>,
-    open: Vec<Row>,
+    mut open: Vec<Row>,
     closing: Vec<Finding>,
 ) -> Result<Vec<Row>, AllocError>
     ensures { IfOk result (λ rows. rows.items
@@ -96,9 +100,7 @@ fn diagnostics(
         ++ (open.items ++ map (λ f. f.row) closing.items)) }
 {
     let mut rows = rows_in_order(alloc, findings)?;
-    for row in open.as_slice() {
-        rows.push(row.clone()?)?;
-    }
+    rows.append(&mut open)?;
     push_rows(&mut rows, closing.as_slice())?;
     Ok(rows)
 }

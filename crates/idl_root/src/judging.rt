@@ -56,7 +56,7 @@ impl<'a> Judging<'a> {
 
     /// After these units.
     pub fn with_all(self, alloc: Global, units: &'a [Unit]) -> Result<Judging<'a>, AllocError>
-        ensures { IfOk result (λ judging. held judging ≡ to_come (held self) units.now) }
+        ensures { IfOk result (λ judging. held judging ≡ to_come (held self.entry) units.now) }
     {
         let mut judging = self;
         let mut log = Log::new(alloc);
@@ -75,7 +75,7 @@ impl<'a> Judging<'a> {
         log: &mut Log<Env>,
     ) -> Result<Judging<'a>, AllocError>
         ensures { IfOk result (λ judging. (units : List RootUnit)
-            → to_come (held judging) units ≡ to_come (held self) (unit.now ∷ units)) }
+            → to_come (held judging) units ≡ to_come (held self.entry) (unit.now ∷ units)) }
     {
         match unit {
             Unit::Spelled(text, sites) => {
@@ -95,7 +95,7 @@ impl<'a> Judging<'a> {
     fn with_boundary(self, alloc: Global, step: Step) -> Result<Judging<'a>, AllocError>
         ensures { IfOk result (λ judging.
             held judging
-            ≡ record (held self) { facts = self.env ++ boundary step ∷ [] }) }
+            ≡ record (held self.entry) { facts = self.entry.env ++ boundary step ∷ [] }) }
     {
         let mut facts = Facts::new(alloc);
         facts.then(step);
@@ -123,8 +123,8 @@ impl<'a> Judging<'a> {
     ) -> Result<Judging<'a>, AllocError>
         ensures { IfOk result (λ judging.
             held judging
-            ≡ with_judged (held self)
-            (judged_over self.env unit.entry.text.now unit.entry.sites.now)) }
+            ≡ with_judged (held self.entry)
+            (judged_over self.entry.env unit.entry.text.now unit.entry.sites.now)) }
     {
         let verdict = verdict_over(alloc, &self.env, unit.text, log)?;
         Ok(self.with_verdict(alloc, unit, &verdict)?)
@@ -139,7 +139,7 @@ impl<'a> Judging<'a> {
     ) -> Result<Judging<'a>, AllocError>
         ensures { IfOk result (λ judging.
             held judging
-            ≡ with_judged (held self) (record {
+            ≡ with_judged (held self.entry) (record {
               text = unit.entry.text.now;
               sites = unit.entry.sites.now;
               verdict = verdict.now;
@@ -182,8 +182,8 @@ impl<'a> Judging<'a> {
 
     /// What was found, and the rows of the dump.
     pub fn ended(self) -> (Vec<Finding>, Vec<Row>)
-        ensures found { result.0 ≡ self.findings }
-        ensures rows { result.1 ≡ self.rows }
+        ensures found { result.0 ≡ self.entry.findings }
+        ensures rows { result.1 ≡ self.entry.rows }
     {
         let Judging {
             env: _env,

@@ -4,7 +4,7 @@ ghost use Rattle.std.specs.Prelude.{◌≡◌, ◌∷◌, ◌++◌, [], IfOk, On
 ghost use Rattle.std.specs.Option.{option_copied, option_map};
 ghost use Rattle.idl_root.specs.Findings.{fault_finding};
 ghost use Rattle.idl_root.specs.Held.{listed_at};
-ghost use Rattle.idl_root.specs.Printed.{closing_finding, entry_over, entry_row, first_paths, name_index};
+ghost use Rattle.idl_root.specs.Printed.{closing_finding, entry_over, entry_row, first_paths, listed_with, name_index};
 ghost use Rattle.idl_unit.specs.TokenRules.{fault_at};
 
 use crate::compiled::Row;
@@ -46,22 +46,33 @@ pub fn push_listed<'a>(
     ensures { OnOk result
         (map listed_at listed.new.items
         ≡ map listed_at listed.old.items
-        ++ map (λ path. record {
-          path = path;
-          text = unit.entry.text.now;
-          sites = unit.entry.sites.now;
-        }) (first_paths writes.now.additions)) }
+        ++ listed_with unit.entry.text.now unit.entry.sites.now
+        (first_paths writes.now.additions)) }
 {
     for index in 0..writes.len() {
         let Some(addition) = writes.addition(index) else {
             continue;
         };
-        if let Some(path) = first_path(addition) {
-            listed.push(Listed {
-                path: path.clone()?,
-                unit,
-            })?;
-        }
+        push_name(listed, unit, addition)?;
+    }
+    Ok(())
+}
+
+// Puts in the name that an addition of a unit declares first, if it has an id.
+fn push_name<'a>(
+    listed: &mut Vec<Listed<'a>>,
+    unit: Spelled<'a>,
+    addition: &Addition,
+) -> Result<(), AllocError>
+    ensures { OnOk result
+        (map listed_at listed.new.items
+        ≡ map listed_at listed.old.items
+        ++ listed_with unit.entry.text.now unit.entry.sites.now
+        (first_paths (addition.now ∷ []))) }
+{
+    if let Some(path) = first_path(addition) {
+        let path = path.clone()?;
+        listed.push(Listed { path, unit })?;
     }
     Ok(())
 }
@@ -79,11 +90,7 @@ fn first_path(addition: &Addition) -> Option<&Path>
 }
 
 /// What comes of each of these names over an environment.
-pub fn print_all(
-    alloc: Global,
-    env: &Env,
-    listed: &[Listed<'_>],
-) -> Result<Printed, AllocError>
+pub fn print_all(alloc: Global, env: &Env, listed: &[Listed<'_>]) -> Result<Printed, AllocError>
     ensures findings { IfOk result (λ printed. printed.findings.items
         ≡ flat_map (closing_finding env.now) (map listed_at listed.now)) }
     ensures rows { IfOk result (λ printed. printed.rows.items

@@ -7,7 +7,6 @@ mod expansions;
 mod files;
 mod kinds;
 mod limits;
-mod listings;
 mod memory;
 mod names;
 mod rows;

@@ -1,5 +1,5 @@
 -- The claim: what a session answers is what compiling the present project from scratch gives.
-use Rattle.std.specs.Prelude.{◌≡◌, ℕ, List, All, IsTrue, Option, None, Some, refl, length, if◌then◌else◌, ◌+◌, [], ◌∷◌}
+use Rattle.std.specs.Prelude.{◌≡◌, ℕ, Bool, List, All, IsTrue, Option, None, Some, refl, length, if◌then◌else◌, ◌+◌, [], ◌∷◌}
 use Rattle.std.specs.Coded.{Coded, code_by, coded×, coded_ℕ}
 use Rattle.std.specs.List.{IsDistinct}
 use Rattle.std.specs.Map.{keys_of}
@@ -38,6 +38,10 @@ listing_of project name = option_map (λ root. root.rows.listing) (compiled_of p
 -- the dump that is answered for a name
 abbrev pub dump_of : Project → List ℕ → Option (List (List ℕ))
 dump_of project name = option_map (λ root. root.rows.dump) (compiled_of project name)
+
+-- whether there is an error among the diagnostics that are answered for a name
+abbrev pub is_faulty_of : Project → List ℕ → Option Bool
+is_faulty_of project name = option_map (λ root. root.rows.is_faulty) (compiled_of project name)
 
 -- the absent files that are answered for a name
 abbrev pub absent_of : Project → List ℕ → Option (List (List ℕ))

@@ -11,7 +11,7 @@ ghost use Rattle.idl_workspace.specs.Work.{no_work};
 ghost use Rattle.idl_workspace.specs.Edited.{IsEdited, takes_memory};
 ghost use Rattle.idl_workspace.specs.Edits.{Edit, Put, Splice, Remove, Define, Undef, Search, AddRoot, DropRoot, after, are_too_long, macros_with};
 ghost use Rattle.idl_workspace.specs.Renewed.{IsRenewed};
-ghost use Rattle.idl_workspace.specs.UpToDate.{compiled_of, diagnostics_of, listing_of, dump_of, absent_of};
+ghost use Rattle.idl_workspace.specs.UpToDate.{compiled_of, diagnostics_of, listing_of, dump_of, is_faulty_of, absent_of};
 
 use crate::bank::SessionBank;
 use crate::compile::CompiledRoot;
@@ -240,6 +240,16 @@ impl Session {
     {
         match self.compiled(root) {
             Some(compiled) => Some(compiled.rows.dump.as_slice()),
+            None => None,
+        }
+    }
+
+    /// Whether there is an error among the diagnostics of a root, or nothing where the name isn't one of a root.
+    pub fn is_faulty(&self, root: &[u8]) -> Option<bool>
+        ensures { result ≡ is_faulty_of self.now.project root.now }
+    {
+        match self.compiled(root) {
+            Some(compiled) => Some(compiled.rows.is_faulty),
             None => None,
         }
     }

@@ -1,5 +1,7 @@
 //! Files of the disk.
 
+ghost use Rattle.idl_program.specs.Holding.{Untold};
+
 use idl_program::{Loaded, Loader};
 use idl_source::Name;
 use std::fs;
@@ -18,6 +20,8 @@ impl<'r> Disk<'r> {
 }
 
 impl<'r> Loader for Disk<'r> {
+    ghost told = { λ _ _. Untold };
+
     fn load(&mut self, name: &Name) -> Loaded {
         let Ok(path) = str::from_utf8(name.as_bytes()) else {
             return Loaded::Missing;

@@ -47,7 +47,7 @@ fn an_editor_holds_a_project(rt: HostRuntime) -> Result<(), Fail> {
     // What isn't there yet is asked for, and is opened next.
     let absent = session.absent(b"shop.idl").unwrap_or(&[]);
     assert_eq!(rt; absent.len(), 1);
-    assert_eq!(rt; absent[0].as_bytes(), b"money.idl");
+    assert_eq!(rt; absent[0].as_bytes(), b"money.idl".as_slice());
     assert!(rt; open(&mut session, "money.idl", "typedef long Mony;\n").is_ok());
 
     let errors = told(rt.alloc(), session.diagnostics(b"shop.idl"))?;
@@ -65,9 +65,7 @@ fn an_editor_holds_a_project(rt: HostRuntime) -> Result<(), Fail> {
     );
 
     // A refused edit changes nothing.
-    assert_eq!(rt;
-        open(&mut session, "no name", "").err(),
-        Some(Refusal::BadName)
-    );
+    let refused = open(&mut session, "no name", "");
+    assert!(rt; matches!(refused, Err(Refusal::BadName)));
     Ok(())
 }

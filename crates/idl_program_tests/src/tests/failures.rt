@@ -63,7 +63,7 @@ fn status_with(
 
 // Words, what each sink takes, and what standard error has in the end.
 static FULL: [(&[&str], usize, usize, &str); 6] = [
-    (&["-d", "a.idl"], 16, 99, "idlc: write failed\n"),
+    (&["-d", "a.idl"], 15, 99, "idlc: write failed\n"),
     (&["-d", "a.idl"], 0, 5, "idlc:"),
     (&["b.idl"], 99, 10, "b.idl:1: E"),
     (&["b.idl"], 99, 0, ""),

@@ -4,17 +4,19 @@ use super::support::{are_given, given};
 use std::test::Fail;
 
 // The rules of the options, each with the least files that show it.
-static ROWS: [(&str, &str, &str); 22] = [
+static ROWS: [(&str, &str, &str); 23] = [
     (
         "-DN=long -d a.idl",
         "a.idl: typedef N X;",
         "0 out typedef long X; /",
     ),
     (
-        "-d ./r.idl",
+        "-d --listing ./r.idl",
         "r.idl: #include \"s/b.idl\" | typedef B C; ¶ s/b.idl: typedef long B;¬",
-        "0 out typedef long B; /typedef ::B C; /",
+        "0 out typedef long B; /typedef ::B C; /alias B IDL:B:1.0 tk_alias(IDL:B:1.0,B,tk_long) \
+         /alias C IDL:C:1.0 tk_alias(IDL:C:1.0,C,@IDL:B:1.0) /",
     ),
+    ("w.idl", "w.idl: interface F;", "0 err w.idl:1: W80 F /"),
     ("z.idl", "", "1 err z.idl:0: E10 z.idl /"),
     ("-U1x a.idl", "", "2 err idlc: 1x: refused 6 /"),
     ("--session a.idl", "", "2 err idlc: bad arguments /"),

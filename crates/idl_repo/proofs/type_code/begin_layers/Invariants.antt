@@ -7,6 +7,5 @@ abbrev pub invariant-loop-back : goal.invariant-loop-back
 invariant-loop-back l = record {
   count : l.count ≡ length l.layers;
   within : l.back ≤ l.count;
-  text : l.writer.text.items ≡ l.fn.writer.text.items ++ layers_begin (drop (l.count - l.back) l.layers);
-  env : l.writer.env.now ≡ l.fn.writer.env.now;
+  text : l.text.items ≡ l.fn.text.items ++ layers_begin (drop (l.count - l.back) l.layers);
 }

@@ -1,0 +1,4 @@
+//! The tests, by subject.
+
+mod listings;
+mod support;

@@ -1,0 +1,22 @@
+use Rattle.std.proofs.Common.{refl, subst, sym}
+use Rattle.idl_workspace.specs.Project.{no_project}
+use Rattle.idl_workspace.specs.Work.{no_work}
+use Rattle.idl_program.specs.Compiled.{Written}
+use Rattle.idl_program.specs.Served.{AreAnswered, IsDone}
+use Rattle.idl_program.specs.declared.failure.Status.TheVariants.{Sound}
+use Rattle.idl_program.specs.declared.request.Request.{Request}
+use Rattle.idl_program.proofs.ServedLemmas.{answered}
+use Rattle.idl_program.proofs.program.fulfil.Goals as goal
+
+pub returns-in_ok-run-in-Serve-clause-done : goal.returns-in_ok-run-in-Serve-clause-done
+returns-in_ok-run-in-Serve-clause-done g c =
+    let told = g.L.Loader.told c.args.devices.now.loader in
+    let input = g.S.Source.remaining c.args.devices.now.source in
+    let before : Written = record { errors = g.E.Sink.written c.args.devices.now.errors; output = g.O.Sink.written c.args.devices.now.output } in
+    let after : Written = record { errors = g.E.Sink.written c.args.devices.now.errors; output = g.O.Sink.written c.run.new.sink } in
+    let are : AreAnswered input before after Sound = record {
+      output = answered input before.output after.output c.new-session.result (record { project = no_project; work = no_work }) c.run.new.session c.new-session.ensures c.in_ok-run-in-Serve.ensures.replied;
+      errors = refl;
+      sound = refl;
+    } in
+    subst (λ (r : Request). IsDone told input before after Sound r) (sym c.in-Serve.is) are

@@ -1,0 +1,39 @@
+-- What the program does with a request.
+use Rattle.std.specs.Prelude.{◌≡◌, ◌++◌, ℕ, List, Option, Some, IfSome}
+use Rattle.std.specs.String.{string_bytes}
+use Rattle.idl_session.specs.Answers.{IsReply}
+use Rattle.idl_source.specs.Device.{append}
+use Rattle.idl_workspace.specs.Project.{no_project}
+use Rattle.idl_workspace.specs.UpToDate.{State}
+use Rattle.idl_workspace.specs.Work.{no_work}
+use Rattle.idl_program.specs.Compiled.{IsCompiled, Written}
+use Rattle.idl_program.specs.Holding.{Holding}
+use Rattle.idl_program.specs.declared.failure.Status.{Status}
+use Rattle.idl_program.specs.declared.failure.Status.TheVariants.{Sound}
+use Rattle.idl_program.specs.declared.request.Request.{Request}
+use Rattle.idl_program.specs.declared.request.Request.TheVariants.{Show, Serve, Compile}
+
+-- the text went out
+pub record IsShownText (text : List ℕ) (before after : Written) (status : Status) : Type 0 where
+  pub output : after.output ≡ append before.output text
+  pub errors : after.errors ≡ before.errors
+  pub sound : status ≡ Sound
+
+-- the commands of the input are answered, from a session without anything on
+pub record AreAnswered (input : Option (List ℕ)) (before after : Written) (status : Status)
+    : Type 0 where
+  pub output : IfSome input (λ bytes. IfSome before.output (λ gone.
+      (replies : List ℕ) × (after.output ≡ Some (gone ++ replies))
+      × (last : State)
+      × IsReply (record { project = no_project; work = no_work }) bytes replies last))
+  pub errors : after.errors ≡ before.errors
+  pub sound : status ≡ Sound
+
+-- what is asked for was done
+abbrev pub IsDone : (List ℕ → Holding) → Option (List ℕ) → Written → Written → Status → Request
+    → Type 0
+IsDone told input before after status (Show text) =
+    IsShownText (string_bytes text) before after status
+IsDone told input before after status Serve = AreAnswered input before after status
+IsDone told input before after status (Compile options) =
+    IsCompiled told options before after status

@@ -1,0 +1,15 @@
+use Rattle.idl_repo.proofs.WriteLemmas.{says-then, writes-text, writes-then}
+use Rattle.idl_repo.proofs.row.push_constant.Goals as goal
+
+pub returns-in_ok-push_listed : goal.returns-in_ok-push_listed
+returns-in_ok-push_listed c =
+    rw c.in-Some.is
+    (says-then c.in_ok-extend_from_slice.ensures.items
+    (writes-then c.in_ok-push_type.ensures
+    (says-then c.in_ok-extend_from_slice-2.ensures.items (writes-text c.in_ok-push_listed.ensures))))
+
+pub returns-in_default : goal.returns-in_default
+returns-in_default c =
+    rw c.in_default.is
+    (says-then c.in_ok-extend_from_slice.ensures.items
+    (writes-then c.in_ok-push_type.ensures (writes-text c.in_ok-extend_from_slice-2.ensures.items)))

@@ -1,0 +1,17 @@
+use Rattle.std.proofs.Common.{ap}
+use Rattle.idl_repo.proofs.WriteLemmas.{says-as, says-then, writes-as, writes-text, writes-then}
+use Rattle.idl_repo.specs.Pieces.{commas}
+use Rattle.idl_repo.specs.Row.{contexts_word, parameter_pieces, references}
+use Rattle.idl_repo.proofs.row.push_operation.Goals as goal
+
+pub returns : goal.returns
+returns c =
+    says-as c.in_ok-extend_from_slice.ensures.items c.flag.ensures
+    (writes-then c.in_ok-push_type.ensures
+    (says-then c.in_ok-extend_from_slice-2.ensures.items
+    (writes-then (writes-as (ap (commas parameter_pieces) c.members_of.ensures) c.in_ok-push_parameters.ensures)
+    (says-then c.in_ok-extend_from_slice-3.ensures.items
+    (writes-then (writes-as (ap references c.raised_of.ensures) c.in_ok-push_references.ensures)
+    (says-then c.in_ok-extend_from_slice-4.ensures.items
+    (says-as c.in_ok-push_contexts.ensures (ap contexts_word c.contexts_of.ensures)
+    (writes-text c.in_ok-extend_from_slice-5.ensures.items))))))))

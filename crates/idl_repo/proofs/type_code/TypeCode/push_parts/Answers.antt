@@ -1,0 +1,23 @@
+use Rattle.std.proofs.Common.{ap, flat_map, inl, inr}
+use Rattle.std.proofs.lemmas.Result.{on_ok_weaker}
+use Rattle.idl_repo.proofs.WriteLemmas.{text-as, writes-as, writes-nothing, writes-then}
+use Rattle.idl_repo.specs.TypeCode.{entries_of, enumerator_word}
+use Rattle.idl_repo.proofs.type_code.TypeCode.push_parts.Goals as goal
+
+pub returns-in-ObjectReference : goal.returns-in-ObjectReference
+returns-in-ObjectReference c =
+    elim c.in-ObjectReference.is [
+      | inl is ↦ rw is writes-nothing
+      | inr (inl is) ↦ rw is writes-nothing
+      | inr (inr is) ↦ rw is writes-nothing
+    ]
+
+pub returns-in_ok-push_entries-in-Union : goal.returns-in_ok-push_entries-in-Union
+returns-in_ok-push_entries-in-Union c =
+    rw c.in-Union.is
+    (writes-then c.in_ok-push_type_behind-in-Union.ensures (writes-as (ap entries_of c.members_of-in-Union.ensures) c.in_ok-push_entries-in-Union.ensures))
+
+pub returns-in-Enumeration : goal.returns-in-Enumeration
+returns-in-Enumeration c =
+    rw c.in-Enumeration.is
+    (on_ok_weaker c.push_enumerators.result (λ e. text-as e (ap (flat_map enumerator_word) c.as_slice.ensures)) c.push_enumerators.ensures)

@@ -1,0 +1,11 @@
+use Rattle.std.proofs.Common.{flat_map, take}
+use Rattle.idl_repo.specs.Pieces.{Writes}
+use Rattle.idl_repo.specs.TypeCode.{labelled_pieces}
+use Rattle.idl_repo.proofs.type_code.push_entries.Given as goal
+use Rattle.idl_scope.specs.Facts.{answers}
+
+-- those of the members before
+abbrev pub invariant-loop-member : goal.invariant-loop-member
+invariant-loop-member l =
+    Writes (answers l.env) (flat_map labelled_pieces (take l.member-index l.members))
+    (l.initial.text.items, l.initial.log) (l.text.items, l.log)

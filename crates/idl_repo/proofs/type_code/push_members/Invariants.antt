@@ -1,0 +1,11 @@
+use Rattle.std.proofs.Common.{flat_map, take}
+use Rattle.idl_repo.specs.Pieces.{Writes}
+use Rattle.idl_repo.specs.TypeCode.{member_pieces}
+use Rattle.idl_repo.proofs.type_code.push_members.Given as goal
+use Rattle.idl_scope.specs.Facts.{answers}
+
+-- those before
+abbrev pub invariant-loop-member : goal.invariant-loop-member
+invariant-loop-member l =
+    Writes (answers l.env) (flat_map member_pieces (take l.member-index l.members))
+    (l.fn.text.items, l.fn.log) (l.text.items, l.log)

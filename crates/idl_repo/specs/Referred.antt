@@ -1,0 +1,65 @@
+-- The paths that a row refers to, in its order: those of named types, of bases, and of exceptions.
+-- What is declared at such a path is not looked at.
+use Rattle.std.specs.Prelude.{ℕ, List, [], ◌∷◌, ◌++◌, flat_map, Option, None, Some, if◌then◌else◌}
+use Rattle.idl_repo.specs.Row.{raised_by_set_of, raised_of}
+use Rattle.idl_repo.specs.TypeCode.{kind_in, members_of}
+use Rattle.idl_repo.specs.declared.type_code.TypeCodeKind.{TypeCodeKind}
+use Rattle.idl_repo.specs.declared.type_code.TypeCodeKind.TheVariants as code
+use Rattle.idl_scope.specs.Kind.{kind_eq}
+use Rattle.idl_scope.specs.declared.data_type.DataType.{DataType}
+use Rattle.idl_scope.specs.declared.data_type.Element.{Element}
+use Rattle.idl_scope.specs.declared.data_type.Element.TheVariants as element
+use Rattle.idl_scope.specs.declared.entity.Entity.{Entity}
+use Rattle.idl_scope.specs.declared.kind.Kind.TheVariants as kind
+use Rattle.idl_scope.specs.declared.signature.Member.{Member}
+
+abbrev pub Paths : Type 0
+Paths = List (List (List ℕ))
+
+-- what a type names, also within sequences and arrays
+abbrev pub named_in : Element → Paths
+named_in (element.Named path) = path ∷ []
+named_in other = []
+
+abbrev pub named_by : Option DataType → Paths
+named_by None = []
+named_by (Some t) = named_in t.element
+
+abbrev pub named_by_member : Member → Paths
+named_by_member m = named_by m.data_type
+
+-- a union's member once for each of its labels
+abbrev pub named_by_labels : Member → Paths
+named_by_labels m = flat_map (λ label. named_by_member m) m.labels
+
+-- those in a TypeCode, behind its own id
+abbrev pub referred_in : TypeCodeKind → Entity → Paths
+referred_in code.Structure e = flat_map named_by_member (members_of e)
+referred_in code.Exception e = flat_map named_by_member (members_of e)
+referred_in code.Union e = named_by e.data_type ++ flat_map named_by_labels (members_of e)
+referred_in code.Alias e = named_by e.data_type
+referred_in other e = []
+
+-- those of an interface's bases
+abbrev pub listed_bases : Entity → Paths
+listed_bases e = if kind_eq e.kind kind.Interface then e.bases else []
+
+-- of a row with a TypeCode: its own path is told again there
+abbrev pub referred_by_coded : Entity → Paths
+referred_by_coded e =
+    elim (kind_in e) [ None ↦ [] | Some code ↦ e.path ∷ (referred_in code e ++ listed_bases e) ]
+
+abbrev pub referred_by_attribute : Entity → Paths
+referred_by_attribute e = named_by e.data_type ++ (raised_of e ++ raised_by_set_of e)
+
+abbrev pub referred_by_operation : Entity → Paths
+referred_by_operation e =
+    named_by e.data_type ++ (flat_map named_by_member (members_of e) ++ raised_of e)
+
+-- those of a row, behind its own id
+abbrev pub referred : Entity → Paths
+referred e =
+    if kind_eq e.kind kind.Constant then named_by e.data_type
+    else if kind_eq e.kind kind.Attribute then referred_by_attribute e
+    else if kind_eq e.kind kind.Operation then referred_by_operation e
+    else referred_by_coded e

@@ -1,0 +1,42 @@
+//! The laws of the listing: what a row says, and what it asks.
+//!
+//! Each function does nothing: it carries its laws as clauses. They hold over any answers.
+
+ghost use Rattle.std.specs.Prelude.{◌≡◌, ◌∷◌, ℕ, List, None, Option, Some, map};
+ghost use Rattle.idl_memo.specs.Query.{asked, outcome};
+ghost use Rattle.idl_repo.specs.Entry.{closing_fault, entry, no_entry};
+ghost use Rattle.idl_repo.specs.Pieces.{ids_in, text_over};
+ghost use Rattle.idl_repo.specs.Referred.{referred, referred_in};
+ghost use Rattle.idl_repo.specs.Row.{row_pieces};
+ghost use Rattle.idl_repo.specs.TypeCode.{code_pieces};
+ghost use Rattle.idl_repo.specs.declared.type_code.TypeCodeKind.{TypeCodeKind};
+ghost use Rattle.idl_scope.specs.Facts.{entity_in, entity_key};
+ghost use Rattle.idl_scope.specs.declared.answer.Answer.{Answer};
+ghost use Rattle.idl_scope.specs.declared.entity.Entity.{Entity};
+ghost use Rattle.idl_scope.specs.declared.key.Key.{Key};
+ghost use Rattle.idl_scope.specs.declared.key.Key.TheVariants as key;
+
+/// The entry of a declared name is its row with each id put in; where nothing is declared, there is
+/// none.
+pub fn listed_row()
+    ensures declared { (path : List (List ℕ)) (bank : Key → Option Answer) (e : Entity)
+        → entity_in (bank (entity_key path)) ≡ Some e
+        → outcome (entry path) bank
+        ≡ record { row = Some (text_over bank (row_pieces e)); fault = closing_fault e } }
+    ensures unknown { (path : List (List ℕ)) (bank : Key → Option Answer)
+        → entity_in (bank (entity_key path)) ≡ None → outcome (entry path) bank ≡ no_entry }
+{}
+
+/// The entry of a declared name asks what is declared there, and then its own id and those of the
+/// paths that its row refers to, and nothing of what stands behind these.
+pub fn asked_ids()
+    ensures { (path : List (List ℕ)) (bank : Key → Option Answer) (e : Entity)
+        → entity_in (bank (entity_key path)) ≡ Some e
+        → asked (entry path) bank ≡ entity_key path ∷ map key.IdOf (e.path ∷ referred e) }
+{}
+
+/// A TypeCode expands no named type: it tells its own id and those of the types that are named in it.
+pub fn references()
+    ensures { (kind : TypeCodeKind) (e : Entity)
+        → ids_in (code_pieces kind e) ≡ map key.IdOf (e.path ∷ referred_in kind e) }
+{}

@@ -1,0 +1,35 @@
+-- The names that a unit declares first, addition by addition.
+use Rattle.std.proofs.Common.{◌≡◌, ◌+◌, ℕ, Bool, true, false, List, [], ◌∷◌, ◌++◌, Some, cond, drop, refl, ap, sym, ◌∙◌, append_assoc}
+use Rattle.std.specs.Prelude.{slice_get}
+use Rattle.std.proofs.lemmas.List.{map-append}
+use Rattle.idl_root.specs.Printed.{Listed, first_paths, listed_with}
+use Rattle.idl_scope.proofs.PlaceLemmas.{drop-at1}
+use Rattle.idl_scope.specs.Identity.{fixed_eq}
+use Rattle.idl_scope.specs.declared.addition.Addition.{Addition}
+use Rattle.idl_scope.specs.declared.addition.Addition.TheVariants.{Declares, Uses, Identifies}
+use Rattle.idl_scope.specs.declared.identity.Fixed.TheVariants.{Nothing}
+use Rattle.idl_unit.specs.declared.unit.Site.{Site}
+use Rattle.idl_unit.specs.declared.unit.UnitText.{UnitText}
+
+first_paths-cons : (a : Addition) (additions : List Addition) → first_paths (a ∷ additions) ≡ first_paths (a ∷ []) ++ first_paths additions
+first_paths-cons (Declares e) additions = refl
+first_paths-cons (Uses n path body) additions = refl
+first_paths-cons (Identifies path d) additions = by (fixed_eq d.fixed Nothing)
+  where
+    by : (b : Bool) → cond b (path ∷ first_paths additions) (first_paths additions) ≡ cond b (path ∷ []) [] ++ first_paths additions
+    by true = refl
+    by false = refl
+
+module _ (text : UnitText) (sites : List Site) where
+  -- names, with those of additions from one of these on
+  pub listed-here : (there next : List Listed) (additions : List Addition) (i : ℕ) (a : Addition) → slice_get additions i ≡ Some a
+      → next ≡ there ++ listed_with text sites (first_paths (a ∷ []))
+      → next ++ listed_with text sites (first_paths (drop (i + 1) additions)) ≡ there ++ listed_with text sites (first_paths (drop i additions))
+  listed-here there next additions i a here is =
+      let rest = drop (i + 1) additions in
+      let own = first_paths (a ∷ []) in
+      ap (λ l. l ++ listed_with text sites (first_paths rest)) is
+      ∙ append_assoc there (listed_with text sites own) (listed_with text sites (first_paths rest))
+      ∙ ap (λ l. there ++ l) (sym (map-append (λ path. record { path = path; text = text; sites = sites }) own (first_paths rest)))
+      ∙ ap (λ paths. there ++ listed_with text sites paths) (sym (first_paths-cons a rest))
+      ∙ ap (λ l. there ++ listed_with text sites (first_paths l)) (sym (drop-at1 additions i a here))
