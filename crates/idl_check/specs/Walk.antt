@@ -215,8 +215,8 @@ with_scope way name [] = []
 with_scope way name (s ∷ scopes) =
     record { path = name ∷ s.path; kind = kind_of way; body = 1 } ∷ s ∷ scopes
 
--- It ends: it is a type from then on, and what it is of is finished by the unit's end. The labels of
--- a union are complete.
+-- It ends: it is a type from then on, and what it is of is finished by the unit's end. The labels
+-- of a union are complete.
 abbrev pub ended_scope : Walk → Walk
 ended_scope w = record w {
   cursor = drop 1 w.cursor;
@@ -304,7 +304,8 @@ visit turns (item.Declared way name) w =
     elim (first w.cursor) [
       | None ↦ Done (quiet (passed 1 w))
       | Some s ↦ let e = entity_of w.written way name s.path in
-          and_then (under w.own (standing turns s e)) (λ there. Done (declared_visit w way s e there))
+          and_then (under w.own (standing turns s e))
+          (λ there. Done (declared_visit w way s e there))
     ]
 visit turns (item.Used way name) w =
     if w.gives_back then given_back turns way name w else used turns way name w

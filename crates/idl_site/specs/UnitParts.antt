@@ -116,7 +116,8 @@ readonly_attribute_parts a =
 
 -- "attribute" type ( ID excs | ID/"," )
 abbrev pub attribute_parts : Attribute → Parts
-attribute_parts a = keyword_part word.Attribute ∷ (type_parts a.kind ++ attribute_names_parts a.names)
+attribute_parts a =
+    keyword_part word.Attribute ∷ (type_parts a.kind ++ attribute_names_parts a.names)
 
 -- ["oneway"]
 abbrev pub oneway_parts : Bool → Parts
