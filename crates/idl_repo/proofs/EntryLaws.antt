@@ -1,5 +1,5 @@
 -- What an entry comes to, and what it asks.
-use Rattle.std.proofs.Common.{◌≡◌, ◌∙◌, ℕ, List, [], ◌∷◌, ◌++◌, Option, None, Some, refl, sym, ap, map}
+use Rattle.std.proofs.Common.{◌≡◌, ◌∙◌, ℕ, List, [], ◌∷◌, ◌++◌, Option, None, Some, sym, ap, map}
 use Rattle.std.proofs.lemmas.List.{append-nil}
 use Rattle.idl_memo.specs.Query.{Done, asked, noted, noted_all, outcome, run}
 use Rattle.idl_memo.proofs.QueryLaws.{asked-and_then, outcome-and_then}

@@ -4,7 +4,7 @@ use Rattle.std.proofs.lemmas.List.{append-nil, map-append}
 use Rattle.idl_repo.proofs.WriteLemmas.{ids_in-append}
 use Rattle.idl_repo.specs.Pieces.{IdOf, Pieces, Says, commas, ids_in, says}
 use Rattle.idl_repo.specs.Referred.{Paths, listed_bases, named_by, named_by_labels, named_by_member, named_in, referred, referred_by_attribute, referred_by_coded, referred_by_operation, referred_in}
-use Rattle.idl_repo.specs.Row.{attribute_pieces, bases_pieces, behind_id, coded_pieces, constant_pieces, operation_pieces, parameter_pieces, raised_by_set_of, raised_of, references, row_pieces, contexts_of, contexts_word}
+use Rattle.idl_repo.specs.Row.{attribute_pieces, bases_pieces, coded_pieces, constant_pieces, operation_pieces, parameter_pieces, raised_by_set_of, raised_of, references, row_pieces, contexts_of, contexts_word}
 use Rattle.idl_repo.specs.TypeCode.{code_pieces, element_pieces, entries_of, entry_pieces, kind_in, labelled_pieces, listed_value, member_pieces, members_of, part_pieces, reference, type_behind, type_pieces, typed_pieces}
 use Rattle.idl_repo.specs.declared.type_code.TypeCodeKind.{TypeCodeKind}
 use Rattle.idl_repo.specs.declared.type_code.TypeCodeKind.TheVariants as code

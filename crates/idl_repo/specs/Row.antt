@@ -1,5 +1,5 @@
 -- The rows of a listing: one equation for each line of the format.
-use Rattle.std.specs.Prelude.{ℕ, Bool, true, false, List, [], ◌∷◌, ◌++◌, codes, flat_map, Option, None, Some, if◌then◌else◌}
+use Rattle.std.specs.Prelude.{ℕ, Bool, true, false, List, [], ◌∷◌, ◌++◌, codes, flat_map, None, Some, if◌then◌else◌}
 use Rattle.idl_repo.specs.Pieces.{Pieces, IdOf, Says, commas, says}
 use Rattle.idl_repo.specs.TypeCode.{code_pieces, kind_in, listed_value, members_of, reference, type_pieces, typed_pieces}
 use Rattle.idl_scope.specs.Kind.{kind_eq}
