@@ -1,5 +1,5 @@
 -- The names of a root that have an id, and what comes of them at its end.
-use Rattle.std.specs.Prelude.{ℕ, ◌-◌, List, [], ◌∷◌, length, map, Option, None, Some, option_to_list, if◌then◌else◌}
+use Rattle.std.specs.Prelude.{ℕ, ◌-◌, List, [], ◌∷◌, length, map, option_to_list, if◌then◌else◌}
 use Rattle.std.specs.Option.{option_map}
 use Rattle.idl_memo.specs.Query.{outcome}
 use Rattle.idl_repo.specs.Entry.{entry}
