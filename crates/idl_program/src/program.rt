@@ -1,6 +1,6 @@
 //! The program over its words and devices.
 
-ghost use Rattle.std.specs.Prelude.{◌≡◌, ◌≢◌, ◌≤◌, ◌<◌, ◌+◌, ◌-◌, ◌^◌, IfOk};
+ghost use Rattle.std.specs.Prelude.{◌≢◌, ◌≤◌, ◌<◌, ◌+◌, ◌-◌, ◌^◌, IfOk};
 ghost use Rattle.idl_program.specs.Compiled.{IsCompiled, IsShown};
 ghost use Rattle.idl_program.specs.Loading.{AreRoots};
 ghost use Rattle.idl_program.specs.Served.{IsDone};
