@@ -81,7 +81,7 @@ static MALFORMED: &str =
      root \u{e9}.idl\nROOT a.idl\nput a.idl\nput a.idl 1 \nput  a.idl 0\nput a.idl 01\nput a.idl +1\nput a.idl 1000000000\n\
      put a.idl 1 1\nsplice a.idl 1 0\nsplice a.idl 1 0 x\nsplice a.idl 01 0 0\nsplice a.idl 1 0 0 0\nremove\nundef\n\
      undef X Y\ndefine\ndefine \ndefine  X\ndefine \u{e9}\nsearch \nsearch  d\nsearch d \nabsent\n\
-     unroot a.idl b.idl\nlisting a.idl\nwork\r\n\n work\nwork a.idl";
+     unroot a.idl b.idl\nlisting\nwork\r\n\n work\nwork a.idl";
 
 #[test]
 fn malformed_commands_are_refused(rt: HostRuntime) -> Result<(), Fail> {
