@@ -1,3 +1,4 @@
 mod WriteLemmas
 mod ReferredLemmas
 mod EntryLaws
+mod NestingLaws

@@ -2,16 +2,20 @@
 //!
 //! Each function does nothing: it carries its laws as clauses. They hold over any answers.
 
-ghost use Rattle.std.specs.Prelude.{◌≡◌, ◌∷◌, ℕ, List, None, Option, Some, map};
+ghost use Rattle.std.specs.Prelude.{◌≡◌, ◌∷◌, ◌++◌, ℕ, List, None, Option, Some, codes, decimal, map};
 ghost use Rattle.idl_memo.specs.Query.{asked, outcome};
 ghost use Rattle.idl_repo.specs.Entry.{closing_fault, entry, no_entry};
 ghost use Rattle.idl_repo.specs.Pieces.{ids_in, text_over};
 ghost use Rattle.idl_repo.specs.Referred.{referred, referred_in};
 ghost use Rattle.idl_repo.specs.Row.{row_pieces};
-ghost use Rattle.idl_repo.specs.TypeCode.{code_pieces};
+ghost use Rattle.idl_repo.specs.TypeCode.{code_pieces, element_pieces, written_type};
 ghost use Rattle.idl_repo.specs.declared.type_code.TypeCodeKind.{TypeCodeKind};
+ghost use Rattle.idl_scope.specs.DataType.{plain_type, with_arrays, with_layer};
 ghost use Rattle.idl_scope.specs.Facts.{entity_in, entity_key};
 ghost use Rattle.idl_scope.specs.declared.answer.Answer.{Answer};
+ghost use Rattle.idl_scope.specs.declared.data_type.DataType.{DataType};
+ghost use Rattle.idl_scope.specs.declared.data_type.Element.{Element};
+ghost use Rattle.idl_scope.specs.declared.data_type.Layer.TheVariants.{Array, Sequence};
 ghost use Rattle.idl_scope.specs.declared.entity.Entity.{Entity};
 ghost use Rattle.idl_scope.specs.declared.key.Key.{Key};
 ghost use Rattle.idl_scope.specs.declared.key.Key.TheVariants as key;
@@ -39,4 +43,21 @@ pub fn asked_ids()
 pub fn references()
     ensures { (kind : TypeCodeKind) (e : Entity)
         → ids_in (code_pieces kind e) ≡ map key.IdOf (e.path ∷ referred_in kind e) }
+{}
+
+/// A type is written as it nests: a sequence or an array stands around what it is of, and of the lengths of an array the first
+/// one is outermost.
+pub fn nesting()
+    ensures plain { (bank : Key → Option Answer) (e : Element)
+        → text_over bank (written_type (plain_type e)) ≡ text_over bank (element_pieces e) }
+    ensures sequence { (bank : Key → Option Answer) (n : ℕ) (t : DataType)
+        → text_over bank (written_type (with_layer (Sequence n) t))
+        ≡ codes "tk_sequence("
+        ++ (text_over bank (written_type t) ++ (codes "," ++ (decimal n ++ codes ")"))) }
+    ensures array { (bank : Key → Option Answer) (n : ℕ) (t : DataType)
+        → text_over bank (written_type (with_layer (Array n) t))
+        ≡ codes "tk_array("
+        ++ (text_over bank (written_type t) ++ (codes "," ++ (decimal n ++ codes ")"))) }
+    ensures lengths { (n : ℕ) (lengths : List ℕ) (t : DataType)
+        → with_arrays (n ∷ lengths) t ≡ with_layer (Array n) (with_arrays lengths t) }
 {}
