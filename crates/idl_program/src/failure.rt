@@ -4,6 +4,7 @@ ghost use Rattle.std.specs.Prelude.{◌≡◌, ◌<◌, ◌-◌, ◌^◌, OnOk};
 ghost use Rattle.idl_source.specs.Device.{append};
 ghost use Rattle.idl_program.specs.Messages.{message_of, refused_message};
 
+use crate::request::WordsFault;
 use idl_session::{ReadFailed, Sink, Stop, WriteFailed, write_all};
 use idl_source::{Name, Refusal};
 use itoa::Buffer;
@@ -86,6 +87,12 @@ fn tell_refusal<K: Sink>(errors: &mut K, word: &[u8], refusal: Refusal) -> Resul
     write_all(errors, b": refused ")?;
     write_all(errors, number.format(refusal.number()).as_bytes())?;
     write_all(errors, b"\n")
+}
+
+impl<'a> From<WordsFault> for Failure<'a> {
+    fn from(_fault: WordsFault) -> Failure<'a> {
+        Failure::BadArguments
+    }
 }
 
 impl<'a> From<WriteFailed> for Failure<'a> {
