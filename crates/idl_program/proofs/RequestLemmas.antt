@@ -1,6 +1,7 @@
 -- What the program's words are to clap.
-use Rattle.std.proofs.Common.{◌≡◌, ◌≢◌, ◌⊎◌, ◌∙◌, ℕ, List, [], Option, None, Some, Result, true, ap, inl, inr, map, option_map, refl, subst, sym, unwrap_or}
+use Rattle.std.proofs.Common.{◌≡◌, ◌≢◌, ◌⊎◌, ◌∙◌, ◌∷◌, ℕ, List, [], Option, None, Some, Result, Ok, Err, IfErr, true, ap, inl, inr, map, option_map, refl, subst, sym, unwrap_or}
 use Rattle.std.specs.Borrow.{Bor}
+use Rattle.std.specs.Result.{IsErrAnd}
 use Rattle.clap.specs.Words.{App, FailsBy, HasMatchesOf, IsAmong, Row, Text, all_of, fault_of, found_of, is_simple, is_simple_and_free, matched_of, matches_of, raw_values, rows_of, with_rule}
 use Rattle.clap.specs.Kinds.{Kinds}
 use Rattle.clap.specs.declared.error.Error.{Error}
@@ -9,7 +10,7 @@ use Rattle.clap.specs.declared.error.kind.ErrorKind.TheVariants.{DisplayHelp, Di
 use Rattle.clap.specs.declared.parser.matches.ArgMatches.{ArgMatches}
 use Rattle.clap.specs.declared.parser.matches.Found.{Found}
 use Rattle.clap.proofs.WalkLemmas.{raw_values-rows}
-use Rattle.idl_program.specs.Words.{IsDisplay, Tells, faults_in, found_in, idlc, values_of}
+use Rattle.idl_program.specs.Words.{AreWrong, IsDisplay, IsRefusal, Tells, faults_in, found_in, idlc, values_of}
 
 pub idlc_is_simple : is_simple idlc ≡ true
 unfolding idlc
@@ -35,11 +36,32 @@ pub values_given : (f : Found) (id : Text) (given : Option (Bor (List (Bor Text)
     → unwrap_or (option_map (λ s. map (λ v. v.now) s.now) given) [] ≡ values_of id (rows_of f)
 values_given f id given e = ap (λ (o : Option (List Text)). unwrap_or o []) (e ∙ raw_values-rows f id)
 
--- what is told of words, by the error that a parse gave
-pub told : (words : List Text) (sort : ErrorKind → Type 0) (kind : ErrorKind) → (kind ≡ OutOfMemory) ⊎ IsAmong kind (faults_in words) → (kind ≢ OutOfMemory) → sort kind → Tells sort words
-told words sort kind (inl memory) is h = absurd (is memory)
-told words sort kind (inr among) is h = (kind, among, h)
+pub some_given : (f : Found) (id : Text) (o : Option (Bor (List (Bor Text)))) (given : Bor (List (Bor Text))) → o ≡ Some given
+    → option_map (λ s. map (λ v. v.now) s.now) o ≡ option_map raw_values (matched_of f id) → map (λ v. v.now) given.now ≡ values_of id (rows_of f)
+some_given f id o given is e =
+    sym (ap (λ (p : Option (Bor (List (Bor Text)))). unwrap_or (option_map (λ s. map (λ v. v.now) s.now) p) []) is) ∙ values_given f id o e
 
-pub no_memory : (kind : ErrorKind) → IsDisplay kind → kind ≢ OutOfMemory
-no_memory kind (inl is) memory = absurd (cc)
-no_memory kind (inr is) memory = absurd (cc)
+pub none_given : (f : Found) (id : Text) (o : Option (Bor (List (Bor Text)))) → o ≡ None
+    → option_map (λ s. map (λ v. v.now) s.now) o ≡ option_map raw_values (matched_of f id) → [] ≡ values_of id (rows_of f)
+none_given f id o is e =
+    sym (ap (λ (p : Option (Bor (List (Bor Text)))). unwrap_or (option_map (λ s. map (λ v. v.now) s.now) p) []) is) ∙ values_given f id o e
+
+-- a list is empty where its texts are
+pub none_of : (xs : List (Bor Text)) → map (λ v. v.now) xs ≡ [] → xs ≡ []
+none_of [] e = refl
+none_of (x ∷ xs) e = absurd (cc)
+
+-- what is told of words, by the error that a parse gave
+pub told : (words : List Text) (kind : ErrorKind) → (kind ≡ OutOfMemory) ⊎ IsAmong kind (faults_in words) → IsDisplay kind → Tells IsDisplay words
+told words kind (inr among) is = (kind, among, is)
+told words kind (inl memory) (inl is) = absurd (cc)
+told words kind (inl memory) (inr is) = absurd (cc)
+
+pub refused : (words : List Text) (kind : ErrorKind) → (kind ≡ OutOfMemory) ⊎ IsAmong kind (faults_in words) → IsRefusal kind → AreWrong words
+refused words kind (inl memory) is = absurd (is.2 memory)
+refused words kind (inr among) is = inl (kind, among, is)
+
+-- of what an error is
+pub for_error : {T E : Type 0} (r : Result T E) (P Q : E → Type 0) → IsErrAnd r Q → ((e : E) → Q e → P e) → IfErr r P
+for_error (Ok x) P Q is f = absurd is
+for_error (Err e) P Q is f = f e is

@@ -44,6 +44,8 @@ pub enum WordsFault {
 }
 
 impl From<AllocError> for WordsFault {
+    ghost use Rattle.idl_program.specs.declared.request.WordsFault.{WordsFault};
+
     ghost from_gives = { λ _ fault. fault ≡ WordsFault.NoMemory };
 
     fn from(_error: AllocError) -> WordsFault {
@@ -52,6 +54,7 @@ impl From<AllocError> for WordsFault {
 }
 
 /// Reads the words behind the program's name.
+#[tactic(auto, using(crate::proofs::RequestLemmas::told, crate::proofs::RequestLemmas::refused))]
 pub fn request_of<'a>(alloc: Global, words: &'a [&'a str]) -> Result<Request<'a>, WordsFault>
     ensures asked { IfOk result (IsRequestOf (map (λ w. w.now) words.entry.now)) }
     ensures wrong { IfErr result (λ fault. fault ≡ WordsFault.Wrong
@@ -69,9 +72,8 @@ fn chosen<'a>(
     words: &'a [&'a str],
     matches: &ArgMatches<'a>,
 ) -> Result<Request<'a>, WordsFault>
-    requires taken { faults_in (map (λ w. w.now) words.entry.now) ≡ [] }
-    requires rows { rows_of (found_of matches.now)
-        ≡ found_in (map (λ w. w.now) words.entry.now) }
+    requires taken { faults_in (map (λ w. w.now) words.now) ≡ [] }
+    requires rows { rows_of (found_of matches.now) ≡ found_in (map (λ w. w.now) words.now) }
 
     ensures asked { IfOk result (IsRequestOf (map (λ w. w.now) words.entry.now)) }
     ensures wrong { IfErr result (λ fault. fault ≡ WordsFault.Wrong
@@ -189,9 +191,8 @@ fn values_of<'a>(
     ensures { IfOk result (λ values.
         map (λ v. v.now) values.items ≡ values_of id.now (rows_of (found_of matches.now))) }
 {
-    let mut values = Vec::new(alloc);
-    if let Some(given) = matches.get_strs(id) {
-        values.extend_from_slice(given)?;
+    match matches.get_strs(id) {
+        Some(given) => Vec::from_slice(alloc, given),
+        None => Ok(Vec::new(alloc)),
     }
-    Ok(values)
 }
