@@ -1,9 +1,11 @@
 -- What the words behind the program's name ask for: the options that there are, and what each word
 -- is to them by clap's `matches_of`, or what is wrong with the words by its `fault_of`.
-use Rattle.std.specs.Prelude.{◌≡◌, ◌≢◌, ◌⊎◌, ◌<◌, ◌≤◌, ℕ, List, [], ◌∷◌, Some, Bool, true, false, codes, length, map, nat_lt, unwrap_or, String}
+use Rattle.std.specs.Prelude.{◌≡◌, ◌≢◌, ◌⊎◌, ◌<◌, ◌≤◌, ℕ, List, [], ◌∷◌, ◌++◌, Some, Bool, true, false, codes, length, map, nat_eq, nat_lt, unwrap_or}
+use Rattle.std.specs.List.{slice_split}
 use Rattle.clap.specs.Words.{App, IsAmong, Kinds, Row, Rule, Text, all_of, count_of, fault_of, matches_of, new_app, new_rule, with_rule}
 use Rattle.clap.specs.Simple.{on_top}
-use Rattle.clap.specs.declared.builder.action.ArgAction.TheVariants.{Append, Count}
+use Rattle.clap.specs.declared.builder.action.ArgAction.{ArgAction}
+use Rattle.clap.specs.declared.builder.action.ArgAction.TheVariants.{Append, Count, Help, Version}
 use Rattle.clap.specs.declared.error.kind.ErrorKind.{ErrorKind}
 use Rattle.clap.specs.declared.error.kind.ErrorKind.TheVariants.{DisplayHelp, DisplayVersion, OutOfMemory}
 use Rattle.idl_program.specs.declared.request.Options.{Options}
@@ -19,25 +21,46 @@ option_rule id letter =
 abbrev pub flag_rule : Text → Rule
 flag_rule id = record (new_rule id) { action = Some Count }
 
+-- an option `--ID` that is answered with a text
+abbrev pub text_rule : Text → ArgAction → Rule
+text_rule id text = record (new_rule id) { long = Some id; action = Some text }
+
 -- words that are no option's
 abbrev pub file_rule : Rule
 file_rule = record (new_rule (codes "file")) { action = Some Append; value_names = 1 }
 
--- a program without anything to be given, but for help and a version
+-- `-D`, `-U`, `-I`
+abbrev pub option_rules : List Rule
+option_rules = option_rule (codes "define") 68
+    ∷ option_rule (codes "undefine") 85
+    ∷ option_rule (codes "directory") 73
+    ∷ []
+
+-- `-d`, `--listing`, `--session`, `--help`, `--version`
+abbrev pub flag_rules : List Rule
+flag_rules = record (flag_rule (codes "dump")) { short = Some 100 }
+    ∷ record (flag_rule (codes "listing")) { long = Some (codes "listing") }
+    ∷ record (flag_rule (codes "session")) { long = Some (codes "session") }
+    ∷ text_rule (codes "help") Help
+    ∷ text_rule (codes "version") Version
+    ∷ []
+
+-- a program whose words are all its own, and which has a version
 abbrev pub bare : App
-bare = on_top (λ top. record top { no_binary_name = true; has_version = true })
-    (new_app (codes "idlc"))
+bare = on_top (λ top. record top {
+  no_binary_name = true;
+  has_version = true;
+  disable_help_flag = true;
+  disable_version_flag = true;
+}) (new_app (codes "idlc"))
+
+abbrev pub with_rules : App → List Rule → App
+with_rules app [] = app
+with_rules app (rule ∷ rules) = with_rules (with_rule app rule) rules
 
 -- the program
 unfoldable pub idlc : App
-idlc = with_rule (with_rule (with_rule (with_rule (with_rule (with_rule (with_rule bare
-    (option_rule (codes "define") 68))
-    (option_rule (codes "undefine") 85))
-    (option_rule (codes "directory") 73))
-    (record (flag_rule (codes "dump")) { short = Some 100 }))
-    (record (flag_rule (codes "listing")) { long = Some (codes "listing") }))
-    (record (flag_rule (codes "session")) { long = Some (codes "session") }))
-    file_rule
+idlc = with_rules bare (option_rules ++ flag_rules ++ file_rule ∷ [])
 
 -- what clap finds for each option among words that it takes, and what it tells of others
 unfoldable pub found_in : List Text → List Row
@@ -45,6 +68,10 @@ found_in words = matches_of idlc words
 
 unfoldable pub faults_in : List Text → Kinds
 faults_in words = fault_of idlc words
+
+-- words that stand in a text, parted by blanks
+abbrev pub words_in : List ℕ → List Text
+words_in text = slice_split (λ b. nat_eq b 32) text
 
 -- the values that stand for an option, in the order of the words
 abbrev pub values_of : Text → List Row → List Text

@@ -2,7 +2,7 @@
 
 ghost use Rattle.std.specs.Prelude.{◌≡◌, ◌<◌, ◌-◌, ◌^◌, OnOk};
 ghost use Rattle.idl_source.specs.Device.{append};
-ghost use Rattle.idl_program.specs.Messages.{message_of, refused_message};
+ghost use Rattle.idl_program.specs.Messages.{exit_code, message_of, refused_message};
 
 use crate::request::WordsFault;
 use idl_session::{ReadFailed, Sink, Stop, WriteFailed, write_all};
@@ -22,7 +22,9 @@ pub enum Status {
 
 impl Status {
     /// The exit status: 0, 1 or 2.
-    pub fn code(self) -> u8 {
+    pub fn code(self) -> u8
+        ensures { result ≡ exit_code self }
+    {
         match self {
             Status::Sound => 0,
             Status::Faulty => 1,

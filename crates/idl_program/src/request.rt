@@ -1,8 +1,8 @@
 //! The words that the program is given.
 
-ghost use Rattle.std.specs.Prelude.{◌≡◌, ℕ, List, IfErr, IfOk, codes, map, false, []};
+ghost use Rattle.std.specs.Prelude.{◌≡◌, IfErr, IfOk, map, false, []};
 ghost use Rattle.clap.specs.Words.{FailsBy, app_of, found_of, kind_of, rows_of, rule_of};
-ghost use Rattle.idl_program.specs.Words.{AreOptionsOf, AreWrong, IsDisplay, IsRefusal, IsRequestOf, faults_in, flag_rule, found_in, idlc, option_rule, values_of};
+ghost use Rattle.idl_program.specs.Words.{AreOptionsOf, AreWrong, IsDisplay, IsRefusal, IsRequestOf, bare, faults_in, flag_rule, flag_rules, found_in, idlc, option_rule, option_rules, text_rule, values_of, with_rules};
 
 use clap::error::ErrorKind;
 use clap::{Arg, ArgAction, ArgMatches, Command, Error};
@@ -116,18 +116,47 @@ fn matches_of<'a>(alloc: Global, words: &'a [&'a str]) -> Result<ArgMatches<'a>,
 fn command<'a>(alloc: Global) -> Result<Command<'a>, AllocError>
     ensures { IfOk result (λ command. app_of command ≡ idlc) }
 {
+    let command = with_options(alloc, bare(alloc))?;
+    with_flags(alloc, command)?.arg(
+        Arg::new(alloc, "file")
+            .value_name("FILE")
+            .action(ArgAction::Append)
+            .help("A file to compile"),
+    )
+}
+
+// The program without an option.
+fn bare<'a>(alloc: Global) -> Command<'a>
+    ensures { app_of result ≡ bare }
+{
     Command::new(alloc, "idlc")
         .no_binary_name(true)
+        .disable_help_flag(true)
+        .disable_version_flag(true)
         .version("0.1.0")
         .about("Compiles OMG IDL: tells the errors of each FILE, and shows what it declares.")
         .override_usage("idlc [OPTIONS] FILE..\n       idlc --session")
+}
+
+// A command with the options that have a value.
+fn with_options<'a>(alloc: Global, command: Command<'a>) -> Result<Command<'a>, AllocError>
+    ensures { IfOk result (λ more. app_of more ≡ with_rules (app_of command.entry) option_rules) }
+{
+    command
         .arg(valued(alloc, "define", 'D', "NAME[=VALUE]").help(
             "Defines a macro, with the body 1 where there is no =VALUE",
         ))?
         .arg(valued(alloc, "undefine", 'U', "NAME").help("Takes a macro of -D out"))?
         .arg(valued(alloc, "directory", 'I', "DIRECTORY").help(
             "Searches included files there, too",
-        ))?
+        ))
+}
+
+// A command with the options that have none.
+fn with_flags<'a>(alloc: Global, command: Command<'a>) -> Result<Command<'a>, AllocError>
+    ensures { IfOk result (λ more. app_of more ≡ with_rules (app_of command.entry) flag_rules) }
+{
+    command
         .arg(
             flag(alloc, "dump")
                 .short('d')
@@ -143,12 +172,8 @@ fn command<'a>(alloc: Global) -> Result<Command<'a>, AllocError>
                 .long("session")
                 .help("Serves commands of standard input, and excludes all else"),
         )?
-        .arg(
-            Arg::new(alloc, "file")
-                .value_name("FILE")
-                .action(ArgAction::Append)
-                .help("A file to compile"),
-        )
+        .arg(text(alloc, "help", ArgAction::Help).help("Shows how the program is used"))?
+        .arg(text(alloc, "version", ArgAction::Version).help("Shows the version"))
 }
 
 // An option with a value, which may stand again.
@@ -168,6 +193,14 @@ fn flag<'a>(alloc: Global, id: &'a str) -> Arg<'a>
     ensures global { result.global ≡ false }
 {
     Arg::new(alloc, id).action(ArgAction::Count)
+}
+
+// An option that is answered with a text.
+fn text<'a>(alloc: Global, id: &'a str, action: ArgAction) -> Arg<'a>
+    ensures rule { rule_of result ≡ text_rule id.now action }
+    ensures global { result.global ≡ false }
+{
+    Arg::new(alloc, id).long(id).action(action)
 }
 
 fn options_of<'a>(alloc: Global, matches: &ArgMatches<'a>) -> Result<Options<'a>, AllocError>

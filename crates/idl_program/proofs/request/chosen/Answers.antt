@@ -1,4 +1,4 @@
-use Rattle.std.proofs.Common.{◌≡◌, ◌∙◌, ◌<◌, ℕ, List, [], ap, arith, codes, nat_lt, rules, subst, sym}
+use Rattle.std.proofs.Common.{◌≡◌, ◌∙◌, List, [], ap, arith, codes, nat_lt, rules, subst, sym}
 use Rattle.clap.specs.Words.{Row, count_of}
 use Rattle.idl_program.specs.Words.{AreOptionsOf}
 use Rattle.idl_program.proofs.RequestLemmas.{none_of}

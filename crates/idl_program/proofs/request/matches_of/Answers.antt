@@ -1,5 +1,4 @@
 use Rattle.std.proofs.lemmas.Result.{IfOk-weaker}
-use Rattle.clap.specs.Words.{app_of}
 use Rattle.idl_program.proofs.RequestLemmas.{failed, matched}
 use Rattle.idl_program.proofs.request.matches_of.Goals as goal
 
