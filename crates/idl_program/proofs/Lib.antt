@@ -1,5 +1,6 @@
 pub mod EditLemmas
 pub mod LoadingLemmas
 pub mod OptionLemmas
+pub mod RequestLemmas
 pub mod ServedLemmas
 pub mod WordLemmas

@@ -5,3 +5,4 @@ pub mod Messages
 pub mod Options
 pub mod Served
 pub mod Tried
+pub mod Words

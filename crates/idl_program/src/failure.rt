@@ -2,8 +2,9 @@
 
 ghost use Rattle.std.specs.Prelude.{◌≡◌, ◌<◌, ◌-◌, ◌^◌, OnOk};
 ghost use Rattle.idl_source.specs.Device.{append};
-ghost use Rattle.idl_program.specs.Messages.{message_of, refused_message};
+ghost use Rattle.idl_program.specs.Messages.{exit_code, message_of, refused_message};
 
+use crate::request::WordsFault;
 use idl_session::{ReadFailed, Sink, Stop, WriteFailed, write_all};
 use idl_source::{Name, Refusal};
 use itoa::Buffer;
@@ -21,7 +22,9 @@ pub enum Status {
 
 impl Status {
     /// The exit status: 0, 1 or 2.
-    pub fn code(self) -> u8 {
+    pub fn code(self) -> u8
+        ensures { result ≡ exit_code self }
+    {
         match self {
             Status::Sound => 0,
             Status::Faulty => 1,
@@ -86,6 +89,12 @@ fn tell_refusal<K: Sink>(errors: &mut K, word: &[u8], refusal: Refusal) -> Resul
     write_all(errors, b": refused ")?;
     write_all(errors, number.format(refusal.number()).as_bytes())?;
     write_all(errors, b"\n")
+}
+
+impl<'a> From<WordsFault> for Failure<'a> {
+    fn from(_fault: WordsFault) -> Failure<'a> {
+        Failure::BadArguments
+    }
 }
 
 impl<'a> From<WriteFailed> for Failure<'a> {

@@ -5,11 +5,13 @@
 
 mod compiling;
 mod failure;
+mod laws;
 mod loader;
 mod loading;
 mod program;
 mod request;
 
 pub use failure::Status;
+pub use laws::worked_words;
 pub use loader::{Loaded, Loader};
 pub use program::{Devices, run_program};

@@ -1,9 +1,10 @@
 //! The program over its words and devices.
 
-ghost use Rattle.std.specs.Prelude.{◌≢◌, ◌≤◌, ◌<◌, ◌+◌, ◌-◌, ◌^◌, IfOk};
+ghost use Rattle.std.specs.Prelude.{◌≢◌, ◌≤◌, ◌<◌, ◌+◌, ◌-◌, ◌^◌, IfOk, map};
 ghost use Rattle.idl_program.specs.Compiled.{IsCompiled, IsShown};
 ghost use Rattle.idl_program.specs.Loading.{AreRoots};
 ghost use Rattle.idl_program.specs.Served.{IsDone};
+ghost use Rattle.idl_program.specs.Words.{IsRequestOf};
 
 use crate::compiling::{has_errors, prepared, show_errors, show_output};
 use crate::failure::{Failure, Status};
@@ -39,6 +40,7 @@ pub fn run_program<L: Loader, S: Source, O: Sink, E: Sink>(
     requires tells { E.failures devices.old.errors < 2 ^ 64 - 2 }
 
     ensures done { result ≢ Status.Failed → (request : Request)
+        × IsRequestOf (map (λ w. w.now) words.now) request
         × IsDone (L.told devices.old.loader) (S.remaining devices.old.source)
         (record { errors = E.written devices.old.errors; output = O.written devices.old.output })
         (record { errors = E.written devices.new.errors; output = O.written devices.new.output })
@@ -64,6 +66,7 @@ fn perform<'a, L: Loader, S: Source, O: Sink, E: Sink>(
     requires tells { E.failures devices.old.errors < 2 ^ 64 - 2 }
 
     ensures done { IfOk result (λ status. (request : Request)
+        × IsRequestOf (map (λ w. w.now) words.entry.now) request
         × IsDone (L.told devices.old.loader) (S.remaining devices.old.source)
         (record { errors = E.written devices.old.errors; output = O.written devices.old.output })
         (record { errors = E.written devices.new.errors; output = O.written devices.new.output })

@@ -1,6 +1,10 @@
 //! The words that the program is given.
 
-use crate::failure::Failure;
+ghost use Rattle.std.specs.Prelude.{◌≡◌, IfErr, IfOk, map, false, []};
+ghost use Rattle.clap.specs.Words.{FailsBy, app_of, found_of, kind_of, rows_of, rule_of};
+ghost use Rattle.idl_program.specs.Words.{AreOptionsOf, AreWrong, IsDisplay, IsRefusal, IsRequestOf, bare, faults_in, flag_rule, flag_rules, found_in, idlc, option_rule, option_rules, text_rule, values_of, with_rules};
+
+use clap::error::ErrorKind;
 use clap::{Arg, ArgAction, ArgMatches, Command, Error};
 use std::alloc::{AllocError, Global};
 
@@ -30,52 +34,129 @@ pub enum Request<'a> {
     Compile(Options<'a>),
 }
 
+/// Why words make no request.
+#[derive(Drop)]
+pub enum WordsFault {
+    /// They are none that the program takes.
+    Wrong,
+    /// There was no memory to read them.
+    NoMemory,
+}
+
+impl From<AllocError> for WordsFault {
+    ghost use Rattle.idl_program.specs.declared.request.WordsFault.{WordsFault};
+
+    ghost from_gives = { λ _ fault. fault ≡ WordsFault.NoMemory };
+
+    fn from(_error: AllocError) -> WordsFault {
+        WordsFault::NoMemory
+    }
+}
+
 /// Reads the words behind the program's name.
-pub fn request_of<'a>(alloc: Global, words: &'a [&'a str]) -> Result<Request<'a>, Failure<'a>> {
-    let matches = match matches_of(alloc, words) {
-        Ok(matches) => matches,
-        Err(error) => return shown(alloc, &error),
-    };
-    let options = options_of(alloc, &matches)?;
-    let is_session = matches.get_count("session");
-    if is_session == 0 {
-        if options.files.is_empty() {
-            return Err(Failure::BadArguments);
+#[tactic(auto, using(crate::proofs::RequestLemmas::told, crate::proofs::RequestLemmas::refused))]
+pub fn request_of<'a>(alloc: Global, words: &'a [&'a str]) -> Result<Request<'a>, WordsFault>
+    ensures asked { IfOk result (IsRequestOf (map (λ w. w.now) words.entry.now)) }
+    ensures wrong { IfErr result (λ fault. fault ≡ WordsFault.Wrong
+        → AreWrong (map (λ w. w.now) words.entry.now)) }
+{
+    match matches_of(alloc, words) {
+        Ok(matches) => chosen(alloc, words, &matches),
+        Err(error) => Ok(Request::Show(text_of(alloc, &error)?)),
+    }
+}
+
+// What is asked for by words that are taken.
+fn chosen<'a>(
+    alloc: Global,
+    words: &'a [&'a str],
+    matches: &ArgMatches<'a>,
+) -> Result<Request<'a>, WordsFault>
+    requires taken { faults_in (map (λ w. w.now) words.now) ≡ [] }
+    requires rows { rows_of (found_of matches.now) ≡ found_in (map (λ w. w.now) words.now) }
+
+    ensures asked { IfOk result (IsRequestOf (map (λ w. w.now) words.entry.now)) }
+    ensures wrong { IfErr result (λ fault. fault ≡ WordsFault.Wrong
+        → AreWrong (map (λ w. w.now) words.entry.now)) }
+{
+    if matches.get_count("session") > 0 {
+        if words.len() > 1 {
+            return Err(WordsFault::Wrong);
         }
-        return Ok(Request::Compile(options));
+        return Ok(Request::Serve);
     }
-    if words.len() > 1 {
-        return Err(Failure::BadArguments);
+    let options = options_of(alloc, matches)?;
+    if options.files.is_empty() {
+        return Err(WordsFault::Wrong);
     }
-    Ok(Request::Serve)
+    Ok(Request::Compile(options))
 }
 
-// What the words ask for where they aren't taken: a text, or nothing.
-fn shown<'a>(alloc: Global, error: &Error) -> Result<Request<'a>, Failure<'a>> {
-    if error.use_stderr() {
-        return Err(Failure::BadArguments);
+// How the program is used, or its version, where that is why there are no matches.
+fn text_of(alloc: Global, error: &Error) -> Result<String, WordsFault>
+    ensures text { IfOk result (λ _. IsDisplay (kind_of error.now)) }
+    ensures wrong { IfErr result (λ fault. fault ≡ WordsFault.Wrong
+        → IsRefusal (kind_of error.now)) }
+{
+    match error.kind() {
+        ErrorKind::DisplayHelp | ErrorKind::DisplayVersion => Ok(format!(in alloc; "{error}")?),
+        ErrorKind::OutOfMemory => Err(WordsFault::NoMemory),
+        _ => Err(WordsFault::Wrong),
     }
-    let text = format!(in alloc; "{error}").map_err(|_| Failure::BadArguments)?;
-    Ok(Request::Show(text))
 }
 
-fn matches_of<'a>(alloc: Global, words: &'a [&'a str]) -> Result<ArgMatches<'a>, Error> {
+fn matches_of<'a>(alloc: Global, words: &'a [&'a str]) -> Result<ArgMatches<'a>, Error>
+    ensures rows { IfOk result (λ m.
+        rows_of (found_of m) ≡ found_in (map (λ w. w.now) words.entry.now)) }
+    ensures kinds { FailsBy (faults_in (map (λ w. w.now) words.entry.now)) result }
+{
     command(alloc)?.try_get_matches_from(words)
 }
 
-fn command<'a>(alloc: Global) -> Result<Command<'a>, AllocError> {
+fn command<'a>(alloc: Global) -> Result<Command<'a>, AllocError>
+    ensures { IfOk result (λ command. app_of command ≡ idlc) }
+{
+    let command = with_options(alloc, bare(alloc))?;
+    with_flags(alloc, command)?.arg(
+        Arg::new(alloc, "file")
+            .value_name("FILE")
+            .action(ArgAction::Append)
+            .help("A file to compile"),
+    )
+}
+
+// The program without an option.
+fn bare<'a>(alloc: Global) -> Command<'a>
+    ensures { app_of result ≡ bare }
+{
     Command::new(alloc, "idlc")
         .no_binary_name(true)
+        .disable_help_flag(true)
+        .disable_version_flag(true)
         .version("0.1.0")
         .about("Compiles OMG IDL: tells the errors of each FILE, and shows what it declares.")
         .override_usage("idlc [OPTIONS] FILE..\n       idlc --session")
+}
+
+// A command with the options that have a value.
+fn with_options<'a>(alloc: Global, command: Command<'a>) -> Result<Command<'a>, AllocError>
+    ensures { IfOk result (λ more. app_of more ≡ with_rules (app_of command.entry) option_rules) }
+{
+    command
         .arg(valued(alloc, "define", 'D', "NAME[=VALUE]").help(
             "Defines a macro, with the body 1 where there is no =VALUE",
         ))?
         .arg(valued(alloc, "undefine", 'U', "NAME").help("Takes a macro of -D out"))?
         .arg(valued(alloc, "directory", 'I', "DIRECTORY").help(
             "Searches included files there, too",
-        ))?
+        ))
+}
+
+// A command with the options that have none.
+fn with_flags<'a>(alloc: Global, command: Command<'a>) -> Result<Command<'a>, AllocError>
+    ensures { IfOk result (λ more. app_of more ≡ with_rules (app_of command.entry) flag_rules) }
+{
+    command
         .arg(
             flag(alloc, "dump")
                 .short('d')
@@ -91,17 +172,15 @@ fn command<'a>(alloc: Global) -> Result<Command<'a>, AllocError> {
                 .long("session")
                 .help("Serves commands of standard input, and excludes all else"),
         )?
-        .arg(
-            Arg::new(alloc, "file")
-                .value_name("FILE")
-                .action(ArgAction::Append)
-                .num_args(0..)
-                .help("A file to compile"),
-        )
+        .arg(text(alloc, "help", ArgAction::Help).help("Shows how the program is used"))?
+        .arg(text(alloc, "version", ArgAction::Version).help("Shows the version"))
 }
 
 // An option with a value, which may stand again.
-fn valued<'a>(alloc: Global, id: &'a str, short: char, value: &'a str) -> Arg<'a> {
+fn valued<'a>(alloc: Global, id: &'a str, short: char, value: &'a str) -> Arg<'a>
+    ensures rule { rule_of result ≡ option_rule id.now short }
+    ensures global { result.global ≡ false }
+{
     Arg::new(alloc, id)
         .short(short)
         .value_name(value)
@@ -109,11 +188,24 @@ fn valued<'a>(alloc: Global, id: &'a str, short: char, value: &'a str) -> Arg<'a
 }
 
 // An option without value, which may stand again.
-fn flag<'a>(alloc: Global, id: &'a str) -> Arg<'a> {
+fn flag<'a>(alloc: Global, id: &'a str) -> Arg<'a>
+    ensures rule { rule_of result ≡ flag_rule id.now }
+    ensures global { result.global ≡ false }
+{
     Arg::new(alloc, id).action(ArgAction::Count)
 }
 
-fn options_of<'a>(alloc: Global, matches: &ArgMatches<'a>) -> Result<Options<'a>, Failure<'a>> {
+// An option that is answered with a text.
+fn text<'a>(alloc: Global, id: &'a str, action: ArgAction) -> Arg<'a>
+    ensures rule { rule_of result ≡ text_rule id.now action }
+    ensures global { result.global ≡ false }
+{
+    Arg::new(alloc, id).long(id).action(action)
+}
+
+fn options_of<'a>(alloc: Global, matches: &ArgMatches<'a>) -> Result<Options<'a>, AllocError>
+    ensures { IfOk result (AreOptionsOf (rows_of (found_of matches.now))) }
+{
     Ok(Options {
         defines: values_of(alloc, matches, "define")?,
         undefines: values_of(alloc, matches, "undefine")?,
@@ -128,12 +220,12 @@ fn values_of<'a>(
     alloc: Global,
     matches: &ArgMatches<'a>,
     id: &str,
-) -> Result<Vec<&'a str>, Failure<'a>> {
-    let mut values = Vec::new(alloc);
-    if let Some(given) = matches.get_strs(id) {
-        values
-            .extend_from_slice(given)
-            .map_err(|_| Failure::BadArguments)?;
+) -> Result<Vec<&'a str>, AllocError>
+    ensures { IfOk result (λ values.
+        map (λ v. v.now) values.items ≡ values_of id.now (rows_of (found_of matches.now))) }
+{
+    match matches.get_strs(id) {
+        Some(given) => Vec::from_slice(alloc, given),
+        None => Ok(Vec::new(alloc)),
     }
-    Ok(values)
 }

@@ -4,7 +4,7 @@ use super::support::{are_given, given};
 use std::test::Fail;
 
 // The rules of the options, each with the least files that show it.
-static ROWS: [(&str, &str, &str); 23] = [
+static ROWS: [(&str, &str, &str); 26] = [
     (
         "-DN=long -d a.idl",
         "a.idl: typedef N X;",
@@ -23,6 +23,9 @@ static ROWS: [(&str, &str, &str); 23] = [
     ("", "", "2 err idlc: bad arguments /"),
     ("-d", "", "2 err idlc: bad arguments /"),
     ("--no-such a.idl", "", "2 err idlc: bad arguments /"),
+    ("-V", "", "2 err idlc: bad arguments /"),
+    ("-h", "", "2 err idlc: bad arguments /"),
+    ("--session --session", "", "2 err idlc: bad arguments /"),
     // A body is 1 without a value, empty behind a `=`, and the last of one name stands. All -U come after all -D.
     (
         "-DN -d a.idl",

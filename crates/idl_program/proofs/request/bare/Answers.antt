@@ -1,0 +1,26 @@
+use Rattle.std.proofs.Common.{◌≡◌, ◌∙◌, ap, true}
+use Rattle.clap.specs.Words.{app_of}
+use Rattle.clap.specs.Simple.{Shape, app_of_fields, on_top}
+use Rattle.idl_program.proofs.request.bare.Goals as goal
+
+abbrev own_words : Shape → Shape
+own_words top = record top { no_binary_name = true }
+
+abbrev no_help : Shape → Shape
+no_help top = record top { disable_help_flag = true }
+
+abbrev no_version : Shape → Shape
+no_version top = record top { disable_version_flag = true }
+
+abbrev versioned : Shape → Shape
+versioned top = record top { has_version = true }
+
+pub returns : goal.returns
+returns c =
+    let one : app_of c.no_binary_name.result ≡ on_top own_words (app_of c.new.result) = ap app_of_fields c.no_binary_name.ensures in
+    let two : app_of c.disable_help_flag.result ≡ on_top no_help (app_of c.no_binary_name.result) = ap app_of_fields c.disable_help_flag.ensures in
+    let three : app_of c.disable_version_flag.result ≡ on_top no_version (app_of c.disable_help_flag.result) = ap app_of_fields c.disable_version_flag.ensures in
+    let four : app_of c.version.result ≡ on_top versioned (app_of c.disable_version_flag.result) = ap app_of_fields c.version.ensures in
+    let five : app_of c.about.result ≡ app_of c.version.result = ap app_of_fields c.about.ensures in
+    let six : app_of c.override_usage.result ≡ app_of c.about.result = ap app_of_fields c.override_usage.ensures in
+    six ∙ five ∙ four ∙ ap (on_top versioned) (three ∙ ap (on_top no_version) (two ∙ ap (on_top no_help) (one ∙ ap (on_top own_words) c.new.ensures.app)))

@@ -1,0 +1,19 @@
+use Rattle.std.proofs.Common.{◌≡◌, ◌∙◌, Bool, ap, ap₂, codes, refl}
+use Rattle.std.proofs.lemmas.Result.{IfOk-weaker}
+use Rattle.clap.specs.Words.{rule_of, with_rule}
+use Rattle.clap.specs.declared.builder.arg.Arg.{Arg}
+use Rattle.idl_program.specs.Words.{option_rule}
+use Rattle.idl_program.proofs.request.with_options.Goals as goal
+
+abbrev is_global : Arg → Bool
+is_global a = a.global
+
+pub returns : goal.returns
+returns c =
+    let define : rule_of c.help.result ≡ option_rule (codes "define") 68 = ap rule_of c.help.ensures ∙ c.valued.ensures.rule in
+    let undefine : rule_of c.help-2.result ≡ option_rule (codes "undefine") 85 = ap rule_of c.help-2.ensures ∙ c.valued-2.ensures.rule in
+    let directory : rule_of c.help-3.result ≡ option_rule (codes "directory") 73 = ap rule_of c.help-3.ensures ∙ c.valued-3.ensures.rule in
+    let one = c.in_ok-arg.ensures.shape (ap is_global c.help.ensures ∙ c.valued.ensures.global) ∙ ap₂ with_rule refl define in
+    let two = c.in_ok-arg-2.ensures.shape (ap is_global c.help-2.ensures ∙ c.valued-2.ensures.global) ∙ ap₂ with_rule one undefine in
+    let own = ap is_global c.help-3.ensures ∙ c.valued-3.ensures.global in
+    IfOk-weaker c.arg-3.result _ _ (λ r adds. adds.shape own ∙ ap₂ with_rule two directory) c.arg-3.ensures

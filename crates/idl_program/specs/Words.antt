@@ -1,0 +1,124 @@
+-- What the words behind the program's name ask for: the options that there are, and what each word
+-- is to them by clap's `matches_of`, or what is wrong with the words by its `fault_of`.
+use Rattle.std.specs.Prelude.{◌≡◌, ◌≢◌, ◌⊎◌, ◌<◌, ◌≤◌, ℕ, List, [], ◌∷◌, ◌++◌, Some, Bool, true, false, codes, length, map, nat_eq, nat_lt, unwrap_or}
+use Rattle.std.specs.List.{slice_split}
+use Rattle.clap.specs.Words.{App, IsAmong, Kinds, Row, Rule, Text, all_of, count_of, fault_of, matches_of, new_app, new_rule, with_rule}
+use Rattle.clap.specs.Simple.{on_top}
+use Rattle.clap.specs.declared.builder.action.ArgAction.{ArgAction}
+use Rattle.clap.specs.declared.builder.action.ArgAction.TheVariants.{Append, Count, Help, Version}
+use Rattle.clap.specs.declared.error.kind.ErrorKind.{ErrorKind}
+use Rattle.clap.specs.declared.error.kind.ErrorKind.TheVariants.{DisplayHelp, DisplayVersion, OutOfMemory}
+use Rattle.idl_program.specs.declared.request.Options.{Options}
+use Rattle.idl_program.specs.declared.request.Request.{Request}
+use Rattle.idl_program.specs.declared.request.Request.TheVariants.{Show, Serve, Compile}
+
+-- an option of one letter with a value, which may stand again
+abbrev pub option_rule : Text → ℕ → Rule
+option_rule id letter =
+    record (new_rule id) { short = Some letter; action = Some Append; value_names = 1 }
+
+-- an option without a value, which may stand again
+abbrev pub flag_rule : Text → Rule
+flag_rule id = record (new_rule id) { action = Some Count }
+
+-- an option `--ID` that is answered with a text
+abbrev pub text_rule : Text → ArgAction → Rule
+text_rule id text = record (new_rule id) { long = Some id; action = Some text }
+
+-- words that are no option's
+abbrev pub file_rule : Rule
+file_rule = record (new_rule (codes "file")) { action = Some Append; value_names = 1 }
+
+-- `-D`, `-U`, `-I`
+abbrev pub option_rules : List Rule
+option_rules = option_rule (codes "define") 68
+    ∷ option_rule (codes "undefine") 85
+    ∷ option_rule (codes "directory") 73
+    ∷ []
+
+-- `-d`, `--listing`, `--session`, `--help`, `--version`
+abbrev pub flag_rules : List Rule
+flag_rules = record (flag_rule (codes "dump")) { short = Some 100 }
+    ∷ record (flag_rule (codes "listing")) { long = Some (codes "listing") }
+    ∷ record (flag_rule (codes "session")) { long = Some (codes "session") }
+    ∷ text_rule (codes "help") Help
+    ∷ text_rule (codes "version") Version
+    ∷ []
+
+-- a program whose words are all its own, and which has a version
+abbrev pub bare : App
+bare = on_top (λ top. record top {
+  no_binary_name = true;
+  has_version = true;
+  disable_help_flag = true;
+  disable_version_flag = true;
+}) (new_app (codes "idlc"))
+
+abbrev pub with_rules : App → List Rule → App
+with_rules app [] = app
+with_rules app (rule ∷ rules) = with_rules (with_rule app rule) rules
+
+-- the program
+unfoldable pub idlc : App
+idlc = with_rules bare (option_rules ++ flag_rules ++ file_rule ∷ [])
+
+-- what clap finds for each option among words that it takes, and what it tells of others
+unfoldable pub found_in : List Text → List Row
+found_in words = matches_of idlc words
+
+unfoldable pub faults_in : List Text → Kinds
+faults_in words = fault_of idlc words
+
+-- words that stand in a text, parted by blanks
+abbrev pub words_in : List ℕ → List Text
+words_in text = slice_split (λ b. nat_eq b 32) text
+
+-- the values that stand for an option, in the order of the words
+abbrev pub values_of : Text → List Row → List Text
+values_of id rows = unwrap_or (all_of id rows) []
+
+-- an option stands among the words
+abbrev pub stands : Text → List Row → Bool
+stands id rows = nat_lt 0 (count_of id rows)
+
+-- what is asked for of files
+pub record AreOptionsOf (rows : List Row) (options : Options) : Type 0 where
+  pub defines : map (λ w. w.now) options.defines.items ≡ values_of (codes "define") rows
+  pub undefines : map (λ w. w.now) options.undefines.items ≡ values_of (codes "undefine") rows
+  pub directories : map (λ w. w.now) options.directories.items ≡ values_of (codes "directory") rows
+  pub files : map (λ w. w.now) options.files.items ≡ values_of (codes "file") rows
+  pub dump : options.shows_dump ≡ stands (codes "dump") rows
+  pub listing : options.shows_listing ≡ stands (codes "listing") rows
+
+-- clap's error shows how the program is used, or its version
+abbrev pub IsDisplay : ErrorKind → Type 0
+IsDisplay kind = (kind ≡ DisplayHelp) ⊎ (kind ≡ DisplayVersion)
+
+-- it says that words are wrong
+abbrev pub IsRefusal : ErrorKind → Type 0
+IsRefusal kind = (kind ≢ DisplayHelp) × (kind ≢ DisplayVersion) × (kind ≢ OutOfMemory)
+
+-- clap tells of the words an error of this sort
+abbrev pub Tells : (ErrorKind → Type 0) → List Text → Type 0
+Tells sort words = (kind : ErrorKind) × IsAmong kind (faults_in words) × sort kind
+
+-- clap takes the words, and whether they ask to serve commands
+abbrev pub AreTaken : List Text → Bool → Type 0
+AreTaken words serves = (faults_in words ≡ [])
+    × (stands (codes "session") (found_in words) ≡ serves)
+
+abbrev pub files_in : List Text → List Text
+files_in words = values_of (codes "file") (found_in words)
+
+-- what words ask for: to show a text; to serve commands, and nothing else; or to compile files, of
+-- which there is one at least
+abbrev pub IsRequestOf : List Text → Request → Type 0
+IsRequestOf words (Show text) = Tells IsDisplay words
+IsRequestOf words Serve = AreTaken words true × (length words ≤ 1)
+IsRequestOf words (Compile options) =
+    AreTaken words false × (files_in words ≢ []) × AreOptionsOf (found_in words) options
+
+-- words that ask for nothing
+abbrev pub AreWrong : List Text → Type 0
+AreWrong words = Tells IsRefusal words
+    ⊎ ((AreTaken words true × (1 < length words)) ⊎ (AreTaken words false × (files_in words ≡ [])))

@@ -1,0 +1,31 @@
+//! Laws of the definition of what words ask for.
+
+ghost use Rattle.std.specs.Prelude.{◌≡◌, ◌∷◌, [], codes, true, false};
+ghost use Rattle.clap.specs.declared.error.kind.ErrorKind.TheVariants.{DisplayHelp, DisplayVersion, InvalidValue, TooManyValues, UnknownArgument};
+ghost use Rattle.idl_program.specs.Words.{faults_in, files_in, found_in, stands, values_of, words_in};
+
+/// What some words ask for, written out. This does nothing: it carries the laws.
+pub fn worked_words()
+    ensures forms { let words = words_in (codes "-DN=long -D M -UN -U M= -Is -I t a.idl") in
+        (faults_in words ≡ [])
+        × (values_of (codes "define") (found_in words) ≡ codes "N=long" ∷ codes "M" ∷ [])
+        × (values_of (codes "undefine") (found_in words) ≡ codes "N" ∷ codes "M=" ∷ [])
+        × (values_of (codes "directory") (found_in words) ≡ codes "s" ∷ codes "t" ∷ [])
+        × (files_in words ≡ codes "a.idl" ∷ []) }
+    ensures flags { let words = words_in (codes "a.idl -dIs --listing ./b.idl -d -- -c.idl") in
+        (faults_in words ≡ [])
+        × (stands (codes "dump") (found_in words) ≡ true)
+        × (stands (codes "listing") (found_in words) ≡ true)
+        × (stands (codes "session") (found_in words) ≡ false)
+        × (values_of (codes "directory") (found_in words) ≡ codes "s" ∷ [])
+        × (files_in words ≡ codes "a.idl" ∷ codes "./b.idl" ∷ codes "-c.idl" ∷ []) }
+    ensures session { (faults_in (words_in (codes "--session")) ≡ [])
+        × (stands (codes "session") (found_in (words_in (codes "--session"))) ≡ true) }
+    ensures texts { (faults_in (words_in (codes "a.idl --help --no-such")) ≡ DisplayHelp ∷ [])
+        × (faults_in (words_in (codes "--version")) ≡ DisplayVersion ∷ []) }
+    ensures none { (faults_in [] ≡ []) × (files_in [] ≡ []) }
+    ensures wrong { (faults_in (words_in (codes "a.idl --no-such")) ≡ UnknownArgument ∷ [])
+        × (faults_in (words_in (codes "-V")) ≡ UnknownArgument ∷ [])
+        × (faults_in (words_in (codes "-D a.idl -I")) ≡ InvalidValue ∷ [])
+        × (faults_in (words_in (codes "--listing=1 a.idl")) ≡ TooManyValues ∷ []) }
+{}
