@@ -1,5 +1,5 @@
 -- The files that a root asked for: those of its log, entry by entry, and those of a root that is held.
-use Rattle.std.proofs.Common.{◌≡◌, ℕ, Bool, true, false, cond, ◌||◌, ◌+◌, ◌<◌, ◌≤◌, List, [], ◌∷◌, ◌++◌, Option, None, Some, length, take, flat_map, append-nil, ap, refl, sym, ◌∙◌, tt, Bor, if◌then◌else◌}
+use Rattle.std.proofs.Common.{◌≡◌, ℕ, Bool, true, false, cond, ◌||◌, ◌+◌, ◌<◌, ◌≤◌, List, [], ◌∷◌, ◌++◌, Option, None, Some, length, take, flat_map, append-nil, ap, refl, sym, ◌∙◌, Bor, if◌then◌else◌}
 use Rattle.std.proofs.lemmas.Grind.{flat_map-append}
 use Rattle.std.proofs.lemmas.List.{take_all, take_more}
 use Rattle.std.proofs.lemmas.List.Elements.{All-head, All-tail}
@@ -57,7 +57,7 @@ lookup-asked bank (e ∷ es) name h = by (bytes_eq name e.0) refl (lookup-asked 
     by false other rest = rest
 
 module _ (bank : Key → Option Answer) (held : List (List ℕ × KeptRoot)) (name : List ℕ) (up : AreKept bank held) where
-  Asks : Bool → Option (List (List ℕ)) → Type 0
+  abbrev pub Asks : Bool → Option (List (List ℕ)) → Type 0
   Asks b found = found ≡ (if b then Some (asked_over bank name) else None)
 
   -- what is found asked for what is answered for the name

@@ -1,8 +1,8 @@
-use Rattle.std.proofs.Common.{◌≡◌, ◌∙◌, List, [], ℕ, Option, Bor, None, sym, ap, subst, tt}
+use Rattle.std.proofs.Common.{◌≡◌, ◌∙◌, List, [], ℕ, Option, Bor, sym, ap, subst}
 use Rattle.std.proofs.lemmas.Bool.{cond-false, false≢true}
 use Rattle.std.specs.List.{list_any}
 use Rattle.std.specs.Map.{keys_of, lookup}
-use Rattle.std.specs.Option.{IfNone, IfSome, option_copied}
+use Rattle.std.specs.Option.{IfNone, IfSome}
 use Rattle.std.specs.Str.{bytes_eq}
 use Rattle.idl_workspace.specs.Asked.{asked_files, asked_of}
 use Rattle.idl_workspace.specs.Bank.{bank_of}
