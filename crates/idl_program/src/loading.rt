@@ -190,7 +190,7 @@ impl Tried {
     ) -> Result<(), Failure<'a>>
         ensures loaded { (told : List ℕ → Holding)
             → AreLoaded told session.old.project.inputs.files
-            → All (IsLoadedFile told) batch.files.items
+            → All (IsLoadedFile told) batch.entry.files.items
             → OnOk result (AreLoaded told session.new.project.inputs.files) }
         ensures tried { (told : List ℕ → Holding) → AreTrue told self.old
             → OnOk result (AreTrue told self.new) }
