@@ -10,10 +10,10 @@ use Rattle.idl_macro.specs.Words.{is_macro_word}
 use Rattle.idl_source.specs.Directory.{is_directory}
 use Rattle.idl_source.specs.Limits.{most_directories, most_roots}
 use Rattle.idl_source.specs.Name.{is_name}
-use Rattle.idl_source.specs.Texts.{Texts, after_put, is_over}
-use Rattle.idl_source.specs.declared.refusal.Refusal.TheVariants.{BadName, OverLimit, BadMacro, NoSuchRoot, RootThere}
-use Rattle.std.proofs.Common.{not, length, nat_le, nat_lt}
-use Rattle.idl_workspace.specs.Edits.{Put, Define, Undef, Search, AddRoot, DropRoot, after, is_macro_over, macros_with, macros_without, roots_with, roots_without, search_list}
+use Rattle.idl_source.specs.Texts.{Texts, after_put, after_remove, is_over}
+use Rattle.idl_source.specs.declared.refusal.Refusal.TheVariants.{BadName, NoSuchFile, OverLimit, BadMacro, NoSuchRoot, RootThere}
+use Rattle.std.proofs.Common.{is_none, not, length, nat_le, nat_lt}
+use Rattle.idl_workspace.specs.Edits.{Put, Remove, Define, Undef, Search, AddRoot, DropRoot, after, is_macro_over, macros_with, macros_without, roots_with, roots_without, search_list}
 use Rattle.idl_workspace.specs.Project.{Macros, Project, is_root, with_files, with_macros, with_roots, with_search}
 use Rattle.idl_workspace.proofs.LimitLemmas.{accepted}
 
@@ -25,6 +25,17 @@ put-made old new name lines e =
   where
     by : (files : Texts) (a b : Bool) → cond a (cond b (Err OverLimit) (Ok (finite.insert old.inputs.files name lines))) (Err BadName) ≡ Ok files
         → files ≡ finite.insert old.inputs.files name lines
+    by files true false h = cc
+    by files true true h = absurd (cc)
+    by files false b h = absurd (cc)
+
+pub remove-made : (old new : Project) (name : List ℕ) → after old (Remove name) ≡ Ok new → new ≡ with_files old (finite.remove old.inputs.files name)
+remove-made old new name e =
+    let part = accepted (with_files old) (after_remove old.inputs.files name) new e in
+    sym part.2 ∙ ap (with_files old) (by part.0 (is_name name) (is_none (finite.get old.inputs.files name)) part.1)
+  where
+    by : (files : Texts) (a b : Bool) → cond a (cond b (Err NoSuchFile) (Ok (finite.remove old.inputs.files name))) (Err BadName) ≡ Ok files
+        → files ≡ finite.remove old.inputs.files name
     by files true false h = cc
     by files true true h = absurd (cc)
     by files false b h = absurd (cc)

@@ -4,7 +4,7 @@ use Rattle.std.proofs.lemmas.List.Folds.{list_any-append}
 use Rattle.std.proofs.lemmas.Map.Text.{is_eq-slice_cmp}
 use Rattle.std.specs.Cmp.Lexicographic.{bytes_decides, nat_list_cmp_total, nat_list_eq_equiv, slice_cmp}
 use Rattle.std.specs.FinMap as finite
-use Rattle.std.specs.FinMap.{get-insert}
+use Rattle.std.specs.FinMap.{get-insert, get-remove}
 use Rattle.std.specs.List.{list_any}
 use Rattle.std.specs.Ordering.{eq_by_cmp, nat_cmp}
 use Rattle.std.specs.Set.{remove_key}
@@ -38,6 +38,15 @@ AreLoaded-insert told files name lines are is other found there =
         let texts : lines ≡ found = cc in
         subst (λ (n : List ℕ). IsFileOf told n found) (sym names) (subst (λ (ls : List (List ℕ)). IsFileOf told name ls) texts is)
     by false same e = are other found e
+
+-- one file less
+pub AreLoaded-remove : (told : List ℕ → Holding) (files : Texts) (name : List ℕ) → AreLoaded told files → AreLoaded told (finite.remove files name)
+AreLoaded-remove told files name are other found there =
+    by (eq_by_cmp (slice_cmp nat_cmp) other name) (sym (get-remove nat_list_cmp_total files name other) ∙ there)
+  where
+    by : (same : Bool) → cond same None (finite.get files other) ≡ Some found → IsFileOf told other found
+    by true e = absurd (cc)
+    by false e = are other found e
 
 -- a name that is there is there still, once another one was taken out and put last
 pub list_any-moved : (name root : List ℕ) (roots : List (List ℕ)) → list_any (bytes_eq name) roots ≡ true

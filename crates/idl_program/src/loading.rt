@@ -1,6 +1,7 @@
 //! The files that roots ask for, until none is asked for that wasn't tried.
 
 ghost use Rattle.std.specs.Prelude.{◌≡◌, ◌∷◌, ◌++◌, ℕ, List, [], All, Contains, None, true, IfErr, IfNone, IfOk, IfSome, OnOk};
+ghost use Rattle.std.specs.FinMap as finite;
 ghost use Rattle.std.specs.Set.{remove_key};
 ghost use Rattle.std.specs.Str.{bytes_eq};
 ghost use Rattle.idl_workspace.specs.Project.{is_root, with_files, with_roots};
@@ -13,14 +14,16 @@ use crate::loader::{Loaded, Loader};
 use idl_session::Session;
 use idl_source::{Line, Name, Refusal, cut};
 use std::alloc::Global;
-use std::collections::BTreeMap;
+use std::collections::{BTreeMap, BTreeSet};
 
 /// Loads what roots ask for.
 ///
-/// All names that one compilation of a root asks for are tried together, and then the root is compiled again over what came of
-/// them: so often as its includes are deep, and not so often as they are many. What that tries too early, since it isn't asked
-/// for any more once the files before it are there, does no harm: a file that nobody asks for changes no answer, and trouble with
-/// a name ends the program only once the name is the first one that is asked for and isn't there.
+/// What comes of it is what trying the names one by one would give, always the first one that is asked for and wasn't tried. But
+/// all names that one compilation of a root asks for are tried together, and then the root is compiled again over what came of
+/// them: so often as its includes are deep, and not so often as they are many. Some of that is tried too early, and isn't asked
+/// for any more once the files before it are there. It does no harm: a file that nobody asks for changes no answer; trouble with
+/// a name ends the program only once the name is the first one that is asked for and isn't there; and where there is no room for
+/// the file of such a name, those that aren't asked for before it are taken out, to be loaded again if they are asked for then.
 pub fn load_all<'a, L: Loader>(
     session: &mut Session,
     roots: &[Name],
@@ -42,11 +45,14 @@ pub fn load_all<'a, L: Loader>(
         };
         let files = tried.load(session, loader, &names)?;
         if !files.is_empty() {
-            tried.put(session, root, files)?;
+            tried.settle(session, roots, Batch { root, files })?;
         }
     }
     // So many names nobody asks for.
-    Err(Failure::ReadFailed)
+    match roots.first() {
+        Some(root) => Err(refused(root, Refusal::OverLimit)),
+        None => Ok(()),
+    }
 }
 
 // What came of a name that was tried and has no file in the session.
@@ -64,10 +70,18 @@ struct LoadedFile {
     lines: Vec<Line>,
 }
 
-// Names that were tried, each once.
+// Files that were loaded together, for a root.
+#[derive(Drop)]
+struct Batch<'r> {
+    root: &'r Name,
+    files: Vec<LoadedFile>,
+}
+
+// Names that were tried: what came of those that have no file in the session, and the others.
 #[derive(Drop)]
 struct Tried {
     troubles: BTreeMap<Name, Trouble>,
+    files: Vec<Name>,
 }
 
 impl Tried {
@@ -77,6 +91,7 @@ impl Tried {
     {
         Tried {
             troubles: BTreeMap::new(session.allocator()),
+            files: Vec::new(session.allocator()),
         }
     }
 
@@ -166,13 +181,42 @@ impl Tried {
         Ok(files)
     }
 
-    // Puts files that were loaded, and compiles the root once over all of them.
+    // Puts files that were loaded. Where there is no room even for the first one, it makes room, or notes that there is none.
+    fn settle<'a>(
+        &mut self,
+        session: &mut Session,
+        roots: &[Name],
+        batch: Batch<'_>,
+    ) -> Result<(), Failure<'a>>
+        ensures loaded { (told : List ℕ → Holding)
+            → AreLoaded told session.old.project.inputs.files
+            → All (IsLoadedFile told) batch.entry.files.items
+            → OnOk result (AreLoaded told session.new.project.inputs.files) }
+        ensures tried { (told : List ℕ → Holding) → AreTrue told self.old
+            → OnOk result (AreTrue told self.new) }
+        ensures stays { OnOk result (StaysAsked session.old.project session.new.project) }
+        ensures roots { (names : List (List ℕ)) → AreRoots session.old.project names
+            → OnOk result (AreRoots session.new.project names) }
+    {
+        let Batch { root, files } = batch;
+        let Some(name) = self.put(session, root, files)? else {
+            return Ok(());
+        };
+        let early = asked_before(session, roots, &name)?;
+        if self.keep_only(session, root, &early)? {
+            return Ok(());
+        }
+        self.note(&name, Trouble::Refused(Refusal::OverLimit))
+    }
+
+    // Puts files that were loaded, and compiles the root once over all of them. The answer is the first one's name, where there
+    // is no room for it.
     fn put<'a>(
         &mut self,
         session: &mut Session,
         root: &Name,
         files: Vec<LoadedFile>,
-    ) -> Result<(), Failure<'a>>
+    ) -> Result<Option<Name>, Failure<'a>>
         ensures loaded { (told : List ℕ → Holding)
             → AreLoaded told session.old.project.inputs.files
             → All (IsLoadedFile told) files.items
@@ -184,16 +228,18 @@ impl Tried {
             → OnOk result (AreRoots session.new.project names) }
     {
         take_out(session, root)?;
-        self.put_all(session, files)?;
-        put_back(session, root)
+        let left = self.put_all(session, files)?;
+        put_back(session, root)?;
+        Ok(left)
     }
 
-    // Puts files that were loaded.
+    // Puts files that were loaded, up to the first one for which there is no room. Its name is the answer, if it is that of the
+    // first one of all: the others are tried again once they are the first ones that are asked for.
     fn put_all<'a>(
         &mut self,
         session: &mut Session,
         files: Vec<LoadedFile>,
-    ) -> Result<(), Failure<'a>>
+    ) -> Result<Option<Name>, Failure<'a>>
         ensures loaded { (told : List ℕ → Holding)
             → AreLoaded told session.old.project.inputs.files
             → All (IsLoadedFile told) files.items
@@ -203,14 +249,22 @@ impl Tried {
         ensures others { OnOk result (session.new.project
             ≡ with_files session.old.project session.new.project.inputs.files) }
     {
+        let mut is_first = true;
         'files: for file in files {
-            self.put_one(session, file)?;
+            if let Some(name) = self.put_one(session, file)? {
+                return Ok(if is_first { Some(name) } else { None });
+            }
+            is_first = false;
         }
-        Ok(())
+        Ok(None)
     }
 
-    // Puts a file that was loaded, or notes why it isn't put.
-    fn put_one<'a>(&mut self, session: &mut Session, file: LoadedFile) -> Result<(), Failure<'a>>
+    // Puts a file that was loaded, or notes why it isn't put. The answer is its name, where there is no room for it.
+    fn put_one<'a>(
+        &mut self,
+        session: &mut Session,
+        file: LoadedFile,
+    ) -> Result<Option<Name>, Failure<'a>>
         ensures loaded { (told : List ℕ → Holding)
             → AreLoaded told session.old.project.inputs.files
             → IsLoadedFile told file → AreLoaded told session.new.project.inputs.files }
@@ -221,9 +275,35 @@ impl Tried {
     {
         let LoadedFile { name, lines } = file;
         match session.put(name.as_bytes(), lines) {
-            Ok(_) => Ok(()),
-            Err(refusal) => self.note(&name, Trouble::Refused(refusal)),
+            Ok(_) => keep_name(&mut self.files, &name)?,
+            Err(Refusal::OverLimit) => return Ok(Some(name)),
+            Err(refusal) => self.note(&name, Trouble::Refused(refusal))?,
         }
+        Ok(None)
+    }
+
+    // Takes the files out that aren't among these, and compiles the root once without them. The answer is whether there were any.
+    fn keep_only<'a>(
+        &mut self,
+        session: &mut Session,
+        root: &Name,
+        early: &BTreeSet<Name>,
+    ) -> Result<bool, Failure<'a>>
+        ensures loaded { (told : List ℕ → Holding)
+            → AreLoaded told session.old.project.inputs.files
+            → OnOk result (AreLoaded told session.new.project.inputs.files) }
+        ensures tried { (told : List ℕ → Holding) → AreTrue told self.old
+            → OnOk result (AreTrue told self.new) }
+        ensures stays { OnOk result (StaysAsked session.old.project session.new.project) }
+        ensures roots { (names : List (List ℕ)) → AreRoots session.old.project names
+            → OnOk result (AreRoots session.new.project names) }
+    {
+        take_out(session, root)?;
+        let stay = remove_others(session, &self.files, early)?;
+        put_back(session, root)?;
+        let is_less = stay.len() < self.files.len();
+        self.files = stay;
+        Ok(is_less)
     }
 
     // Notes what came of a name.
@@ -256,6 +336,76 @@ fn keep_name<'a>(names: &mut Vec<Name>, name: &Name) -> Result<(), Failure<'a>>
     match names.push(name.copied()) {
         Ok(()) => Ok(()),
         Err(_) => Err(no_memory(name)),
+    }
+}
+
+// The names that these roots, one after the other, ask for before this one.
+fn asked_before<'a>(
+    session: &Session,
+    roots: &[Name],
+    name: &Name,
+) -> Result<BTreeSet<Name>, Failure<'a>> {
+    let mut early = BTreeSet::new(session.allocator());
+    'roots: for root in roots {
+        if add_asked(&mut early, session, root, name)? {
+            break;
+        }
+    }
+    Ok(early)
+}
+
+// Adds the names that this root asks for before this one, and tells whether it asks for this one.
+fn add_asked<'a>(
+    early: &mut BTreeSet<Name>,
+    session: &Session,
+    root: &Name,
+    name: &Name,
+) -> Result<bool, Failure<'a>> {
+    let Ok(asked) = session.asked(root.as_bytes()) else {
+        return Err(no_memory(name));
+    };
+    'asked: for other in asked {
+        if other == *name {
+            return Ok(true);
+        }
+        if early.insert(other).is_err() {
+            return Err(no_memory(name));
+        }
+    }
+    Ok(false)
+}
+
+// Takes those of these files out that aren't among the early ones, and gives the others.
+fn remove_others<'a>(
+    session: &mut Session,
+    files: &[Name],
+    early: &BTreeSet<Name>,
+) -> Result<Vec<Name>, Failure<'a>>
+    ensures loaded { (told : List ℕ → Holding)
+        → AreLoaded told session.old.project.inputs.files
+        → OnOk result (AreLoaded told session.new.project.inputs.files) }
+    ensures others { OnOk result (session.new.project
+        ≡ with_files session.old.project session.new.project.inputs.files) }
+{
+    let mut stay = Vec::new(session.allocator());
+    'files: for name in files {
+        if early.contains(name) {
+            keep_name(&mut stay, name)?;
+        } else {
+            remove(session, name)?;
+        }
+    }
+    Ok(stay)
+}
+
+// Takes the file of this name out.
+fn remove<'a>(session: &mut Session, name: &Name) -> Result<(), Failure<'a>>
+    ensures { let files = finite.remove session.old.project.inputs.files name.now in
+        OnOk result (session.new.project ≡ with_files session.old.project files) }
+{
+    match session.remove(name.as_bytes()) {
+        Ok(_) => Ok(()),
+        Err(refusal) => Err(refused(name, refusal)),
     }
 }
 

@@ -3,4 +3,5 @@
 mod editor;
 mod failures;
 mod options;
+mod room;
 mod support;

@@ -1,3 +1,4 @@
+pub mod AskedLemmas
 pub mod BankLemmas
 pub mod FileLemmas
 pub mod FormLemmas

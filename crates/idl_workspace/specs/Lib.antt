@@ -1,3 +1,4 @@
+pub mod Asked
 pub mod Bank
 pub mod Compile
 pub mod Edited

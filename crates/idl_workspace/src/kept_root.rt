@@ -8,10 +8,12 @@ ghost use Rattle.idl_memo.specs.Cause.{IsCause, changed};
 ghost use Rattle.idl_memo.specs.Fresh.{compared_at, stale_at};
 ghost use Rattle.idl_memo.specs.Meter.{compared_after, most_compared};
 ghost use Rattle.idl_prep.specs.Root.{expansion};
+ghost use Rattle.idl_workspace.specs.Asked.{asked_files};
 ghost use Rattle.idl_workspace.specs.Bank.{bank_of};
 ghost use Rattle.idl_workspace.specs.UpToDate.{IsKept};
 ghost use Rattle.idl_workspace.specs.Work.{answer_eq};
 
+use crate::asked::asked;
 use crate::bank::SessionBank;
 use crate::compile::{CompiledRoot, KeptExpansion, compile};
 use idl_event::{Key, RootBank};
@@ -105,6 +107,13 @@ impl KeptRoot {
         ensures { result.now ≡ self.now.compiled.value }
     {
         &self.compiled
+    }
+
+    /// The files that the root asked for, there or not, in the order in which they were first asked.
+    pub fn asked(&self, alloc: Global) -> Result<Vec<Name>, AllocError>
+        ensures { IfOk result (λ names. names.items ≡ asked_files self.now.result.value.log) }
+    {
+        Ok(asked(alloc, self.result.log())?)
     }
 
     /// How many keys the root asked.

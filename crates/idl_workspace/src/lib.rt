@@ -4,6 +4,7 @@
 //! Names, words and lines come from a caller, and rows are lent to one. Nothing here knows of commands, replies or devices.
 #![tactic(auto)]
 
+mod asked;
 mod bank;
 mod compile;
 mod directories;

@@ -82,6 +82,13 @@ impl RootTable {
         }
     }
 
+    /// What is kept of the root of this name.
+    pub fn kept(&self, root: &Name) -> Option<&KeptRoot>
+        ensures { option_copied result ≡ lookup (bytes_eq root.now) self.now }
+    {
+        self.roots.get(root)
+    }
+
     /// Makes room for one root more. The roots stay as they are.
     pub fn reserve_one(&mut self) -> Result<(), AllocError>
         ensures { self.new ≡ self.old }

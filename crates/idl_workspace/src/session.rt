@@ -1,10 +1,11 @@
 //! The session: its edits, and its queries.
 
-ghost use Rattle.std.specs.Prelude.{◌≡◌, ℕ, List, true, Ok, Err, IfOk, IsTrue, map};
+ghost use Rattle.std.specs.Prelude.{◌≡◌, ℕ, List, [], true, Ok, Err, IfOk, IfNone, IfSome, IsTrue, map};
 ghost use Rattle.std.specs.Option.{option_copied};
 ghost use Rattle.std.specs.Result.{result_err};
 ghost use Rattle.idl_source.specs.Name.{is_name};
 ghost use Rattle.idl_event.specs.declared.key.Key.TheVariants as keys;
+ghost use Rattle.idl_workspace.specs.Asked.{asked_files, asked_of};
 ghost use Rattle.idl_workspace.specs.Bank.{IsSameBeside};
 ghost use Rattle.idl_workspace.specs.Project.{no_project, with_files};
 ghost use Rattle.idl_workspace.specs.Work.{no_work};
@@ -265,6 +266,16 @@ impl Session {
         }
     }
 
+    /// The files that a root asks for, there or not, in the order first asked, and none where the name isn't one of a root.
+    pub fn asked(&self, root: &[u8]) -> Result<Vec<Name>, AllocError>
+        ensures { IfOk result (λ names. names.items ≡ asked_of self.now.project root.now) }
+    {
+        match self.kept(root) {
+            Some(kept) => Ok(kept.asked(self.alloc)?),
+            None => Ok(Vec::new(self.alloc)),
+        }
+    }
+
     /// The work of the last accepted edit, and of a new session none. It takes no memory.
     pub fn work(&self) -> Work
         ensures { result ≡ self.now.work }
@@ -313,6 +324,16 @@ impl Session {
     {
         let roots = &self.roots;
         roots.get(&Name::new(root)?)
+    }
+
+    // What is kept of the root of this name.
+    fn kept(&self, root: &[u8]) -> Option<&KeptRoot>
+        ensures some { IfSome result (λ kept.
+            asked_files kept.now.result.value.log ≡ asked_of self.now.project root.now) }
+        ensures none { IfNone result (asked_of self.now.project root.now ≡ []) }
+    {
+        let roots = &self.roots;
+        roots.kept(&Name::new(root)?)
     }
 
     // Why a macro with this word and this body isn't defined.

@@ -1,6 +1,5 @@
 use Rattle.std.proofs.Common.{◌≡◌, ◌∙◌, ◌++◌, ◌∷◌, [], ℕ, List, ap, sym, subst, true}
 use Rattle.std.proofs.lemmas.List.Elements.{All-weaker}
-use Rattle.std.proofs.lemmas.Result.{on_ok_weaker}
 use Rattle.std.specs.List.{list_any}
 use Rattle.std.specs.Str.{bytes_eq}
 use Rattle.idl_source.specs.Texts.{Texts}
@@ -13,18 +12,13 @@ pub returns-clause-loaded : goal.returns-clause-loaded
 returns-clause-loaded c told are is =
     let out : AreLoaded told c.take_out.new.session.project.inputs.files =
     subst (λ (files : Texts). AreLoaded told files) (sym (ap (λ p. p.inputs.files) c.in_ok-take_out.ensures)) are in
-    on_ok_weaker c.put_back.result
-    (λ made. subst (λ (files : Texts). AreLoaded told files) (sym (ap (λ p. p.inputs.files) made)) (c.in_ok-put_all.ensures.loaded told out is))
-    c.put_back.ensures
+    subst (λ (files : Texts). AreLoaded told files) (sym (ap (λ p. p.inputs.files) c.in_ok-put_back.ensures)) (c.in_ok-left.ensures.loaded told out is)
 
 pub returns-clause-roots : goal.returns-clause-roots
 returns-clause-roots c names are =
     let old = c.args.session.now.project in
     let new = c.put_back.new.session.project in
     let root = c.args.root.now in
-    on_ok_weaker c.put_back.result
-    (λ made.
-    let moved = ap (λ p. p.roots) made ∙ ap (λ p. p.roots ++ root ∷ []) c.in_ok-put_all.ensures.others ∙ ap (λ p. p.roots ++ root ∷ []) c.in_ok-take_out.ensures in
+    let moved = ap (λ p. p.roots) c.in_ok-put_back.ensures ∙ ap (λ p. p.roots ++ root ∷ []) c.in_ok-left.ensures.others ∙ ap (λ p. p.roots ++ root ∷ []) c.in_ok-take_out.ensures in
     All-weaker (λ (name : List ℕ). is_root old name ≡ true) (λ (name : List ℕ). is_root new name ≡ true)
-    (λ name e. subst (λ (roots : List (List ℕ)). list_any (bytes_eq name) roots ≡ true) (sym moved) (list_any-moved name root old.roots e)) names are)
-    c.put_back.ensures
+    (λ name e. subst (λ (roots : List (List ℕ)). list_any (bytes_eq name) roots ≡ true) (sym moved) (list_any-moved name root old.roots e)) names are
