@@ -8,6 +8,7 @@ pub mod MarkLemmas
 pub mod Meant
 pub mod Membership
 pub mod PlaceLemmas
+pub mod PrefixLaws
 pub mod QueueLemmas
 pub mod Reaching
 pub mod RunLemmas

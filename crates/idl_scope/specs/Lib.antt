@@ -15,4 +15,5 @@ pub mod Outside
 pub mod Past
 pub mod Path
 pub mod Signature
+pub mod Stretch
 pub mod Unvalued

@@ -3,24 +3,26 @@
 //! Each function does nothing: it carries its laws as clauses. They hold of any facts, also of such as
 //! no declarations add; only, a walk over bases must be allowed as many turns as the facts name bases.
 
-ghost use Rattle.std.specs.Prelude.{◌≡◌, ◌≢◌, ◌↔◌, ◌∷◌, ◌++◌, [], ℕ, List, Ok, Option, Result, Some, AllPairs, Contains};
+ghost use Rattle.std.specs.Prelude.{◌≡◌, ◌≢◌, ◌↔◌, ◌∷◌, ◌++◌, [], ℕ, List, Ok, Option, Result, Some, true, AllPairs, Contains};
 ghost use Rattle.idl_lex.specs.Keywords.{folded};
 ghost use Rattle.idl_memo.specs.Query.{Agree, asked, outcome};
 ghost use Rattle.idl_tree.specs.declared.name.ScopedName.{ScopedName};
 ghost use Rattle.idl_scope.specs.Bases.{HasTurnsFor};
-ghost use Rattle.idl_scope.specs.Facts.{UnitFacts, World, after, after_all, answers, over};
+ghost use Rattle.idl_scope.specs.Facts.{UnitFacts, World, after, after_all, answers, no_prefix, over, path_around, prefix_in, scopes_in};
 ghost use Rattle.idl_scope.specs.Lookup.{Lookup, denoted, has, under};
 ghost use Rattle.idl_scope.specs.Meaning.{Denotes, Has, Reaches, entity_found, own_at, seen};
 ghost use Rattle.idl_scope.specs.Outside.{AgreeOutside, AreApart, WorldsAgreeOutside, looked_at_by};
 ghost use Rattle.idl_scope.specs.Path.{name_of, scope_of};
 ghost use Rattle.idl_scope.specs.declared.addition.Addition.{Addition};
-ghost use Rattle.idl_scope.specs.declared.addition.Step.TheVariants.{Stays};
+ghost use Rattle.idl_scope.specs.Stretch.{IsBalanced, closes, enters, leaves, opens};
+ghost use Rattle.idl_scope.specs.declared.addition.Step.TheVariants.{Stays, Closes, Prefixes, Enters, Leaves};
 ghost use Rattle.idl_scope.specs.declared.answer.Answer.{Answer};
 ghost use Rattle.idl_scope.specs.declared.answer.Scope.{Scope};
 ghost use Rattle.idl_scope.specs.declared.entity.Entity.{Entity};
 ghost use Rattle.idl_scope.specs.declared.fault.NameFault.{NameFault};
 ghost use Rattle.idl_scope.specs.declared.found.Found.{Found};
 ghost use Rattle.idl_scope.specs.declared.key.Key.{Key};
+ghost use Rattle.idl_scope.specs.declared.key.Key.TheVariants as key;
 ghost use Rattle.idl_scope.specs.declared.kind.Kind.{Kind};
 
 /// An entity is answered at the name and in the scope that its path tells, and nowhere else.
@@ -107,4 +109,27 @@ pub fn reliance()
         → asked (denoted turns cursor name) other ≡ asked (denoted turns cursor name) bank }
     ensures outside { (keys asks : List Key) (bank other : Key → Option Answer)
         → AgreeOutside keys bank other → AreApart asks keys → Agree asks bank other }
+{}
+
+/// A prefix lasts to the next one, and no longer than the scope or the file in which it is met: behind these the prefix of before
+/// is in force again. Files may open and close scopes as they like meanwhile, and scopes hold any files.
+pub fn prefixes()
+    ensures scope { (w : World) (f g : UnitFacts) (inside : List UnitFacts)
+        → scopes_in (w.answers key.Cursor) ≢ []
+        → opens f.step ≡ true → IsBalanced opens closes inside → g.step ≡ Closes
+        → prefix_in ((after_all w (f ∷ (inside ++ g ∷ []))).answers key.Prefix)
+        ≡ prefix_in (w.answers key.Prefix) }
+    ensures file { (w : World) (f g : UnitFacts) (inside : List UnitFacts)
+        → f.step ≡ Enters → IsBalanced enters leaves inside → g.step ≡ Leaves
+        → prefix_in ((after_all w (f ∷ (inside ++ g ∷ []))).answers key.Prefix)
+        ≡ prefix_in (w.answers key.Prefix) }
+    ensures opened { (w : World) (f : UnitFacts)
+        → opens f.step ≡ true
+        → prefix_in ((after w f).answers key.Prefix) ≡ prefix_in (w.answers key.Prefix) }
+    ensures entered { (w : World) (f : UnitFacts)
+        → f.step ≡ Enters → prefix_in ((after w f).answers key.Prefix) ≡ no_prefix }
+    ensures pragma { (w : World) (f : UnitFacts) (text : List ℕ)
+        → f.step ≡ Prefixes text
+        → prefix_in ((after w f).answers key.Prefix)
+        ≡ record { text = text; scope = path_around (scopes_in (w.answers key.Cursor)) } }
 {}
