@@ -1,4 +1,5 @@
 pub mod EditLemmas
+pub mod FaultLemmas
 pub mod LoadingLemmas
 pub mod OptionLemmas
 pub mod RequestLemmas

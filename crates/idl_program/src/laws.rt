@@ -1,8 +1,17 @@
 //! Laws of the definition of what words ask for.
 
-ghost use Rattle.std.specs.Prelude.{◌≡◌, ◌∷◌, [], codes, true, false};
+ghost use Rattle.std.specs.Prelude.{◌≡◌, ◌≤◌, ◌∷◌, List, [], codes, false, length, true};
+ghost use Rattle.clap.specs.Words.{Text};
 ghost use Rattle.clap.specs.declared.error.kind.ErrorKind.TheVariants.{DisplayHelp, DisplayVersion, InvalidValue, TooManyValues, UnknownArgument};
-ghost use Rattle.idl_program.specs.Words.{faults_in, files_in, found_in, stands, values_of, words_in};
+ghost use Rattle.idl_program.specs.declared.request.Request.{Request};
+ghost use Rattle.idl_program.specs.Words.{AreWrong, IsRequestOf, faults_in, files_in, found_in, stands, values_of, words_in};
+
+/// Words have one fault at most, so that wrong words ask for nothing. This does nothing: it carries the laws.
+pub fn single_fault()
+    ensures single { (words : List Text) → length (faults_in words) ≤ 1 }
+    ensures apart { (words : List Text) (request : Request)
+        → AreWrong words → IsRequestOf words request → ⊥ }
+{}
 
 /// What some words ask for, written out. This does nothing: it carries the laws.
 pub fn worked_words()

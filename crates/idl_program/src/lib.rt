@@ -12,6 +12,6 @@ mod program;
 mod request;
 
 pub use failure::Status;
-pub use laws::worked_words;
+pub use laws::{single_fault, worked_words};
 pub use loader::{Loaded, Loader};
 pub use program::{Devices, run_program};
