@@ -1,4 +1,4 @@
-use Rattle.std.proofs.Common.{◌≡◌, ◌∙◌, ℕ, List, All, sym, subst}
+use Rattle.std.proofs.Common.{◌∙◌, ℕ, List, All, sym, subst}
 use Rattle.idl_workspace.specs.UpToDate.{State}
 use Rattle.idl_program.specs.Holding.{Holding}
 use Rattle.idl_program.specs.Loading.{AreLoaded, AreRoots, StaysAsked}
