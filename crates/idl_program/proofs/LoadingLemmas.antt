@@ -2,7 +2,7 @@
 use Rattle.std.proofs.Common.{◌≡◌, ◌||◌, ℕ, Bool, true, false, cond, List, [], ◌∷◌, ◌++◌, Option, Some, sym, subst, ap, ◌∙◌, refl}
 use Rattle.std.proofs.lemmas.List.Folds.{list_any-append}
 use Rattle.std.proofs.lemmas.Map.Text.{is_eq-slice_cmp}
-use Rattle.std.specs.Cmp.Lexicographic.{bytes_decides, nat_list_cmp_total, nat_list_eq_equiv, slice_cmp}
+use Rattle.std.specs.Cmp.Lexicographic.{bytes_decides, nat_list_cmp_total, slice_cmp}
 use Rattle.std.specs.FinMap as finite
 use Rattle.std.specs.FinMap.{get-insert, get-remove}
 use Rattle.std.specs.List.{list_any}
@@ -10,7 +10,7 @@ use Rattle.std.specs.Ordering.{eq_by_cmp, nat_cmp}
 use Rattle.std.specs.Set.{remove_key}
 use Rattle.std.specs.Str.{bytes_eq}
 use Rattle.idl_source.specs.Texts.{Texts}
-use Rattle.std.proofs.Common.{All, IfNone, None, ◌+◌, ◌<◌, get_or, length, take}
+use Rattle.std.proofs.Common.{All, IfNone, None, OnOk, Result, Ok, Err, ◌+◌, ◌<◌, get_or, length, take}
 use Rattle.std.proofs.lemmas.List.{take_more}
 use Rattle.std.proofs.lemmas.List.Elements.{All-push, All-weaker}
 use Rattle.std.specs.Option.{option_map}
@@ -97,6 +97,11 @@ same-some x y e = cc
 
 pub when-none : {X P : Type 0} (found : Option X) → found ≡ None → IfNone found P → P
 when-none {X} {P} found e holds = subst (λ (o : Option X). IfNone o P) e holds
+
+-- what holds, holds where a call went well
+pub on_ok-holds : {T E P : Type 0} (r : Result T E) → P → OnOk r P
+on_ok-holds (Ok x) p = p
+on_ok-holds (Err e) p = tt
 
 -- what was pushed on isn't empty
 pub pushed-none : {X P : Type 0} (ys xs : List X) (x : X) → ys ≡ xs ++ x ∷ [] → ys ≡ [] → P

@@ -267,19 +267,25 @@ impl Tried {
     ) -> Result<Option<Name>, Failure<'a>>
         ensures loaded { (told : List ℕ → Holding)
             → AreLoaded told session.old.project.inputs.files
-            → IsLoadedFile told file → AreLoaded told session.new.project.inputs.files }
+            → IsLoadedFile told file
+            → OnOk result (AreLoaded told session.new.project.inputs.files) }
         ensures tried { (told : List ℕ → Holding) → AreTrue told self.old
             → OnOk result (AreTrue told self.new) }
-        ensures others { session.new.project
-            ≡ with_files session.old.project session.new.project.inputs.files }
+        ensures others { OnOk result (session.new.project
+            ≡ with_files session.old.project session.new.project.inputs.files) }
     {
         let LoadedFile { name, lines } = file;
         match session.put(name.as_bytes(), lines) {
-            Ok(_) => keep_name(&mut self.files, &name)?,
-            Err(Refusal::OverLimit) => return Ok(Some(name)),
-            Err(refusal) => self.note(&name, Trouble::Refused(refusal))?,
+            Ok(_) => {
+                keep_name(&mut self.files, &name)?;
+                Ok(None)
+            }
+            Err(Refusal::OverLimit) => Ok(Some(name)),
+            Err(refusal) => {
+                self.note(&name, Trouble::Refused(refusal))?;
+                Ok(None)
+            }
         }
-        Ok(None)
     }
 
     // Takes the files out that aren't among these, and compiles the root once without them. The answer is whether there were any.

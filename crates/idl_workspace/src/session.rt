@@ -36,7 +36,7 @@ use std::marker::Model;
 /// A project, and for each of its roots what it compiles to.
 ///
 /// An edit is accepted, and then all rows are those of the project after it, or it is refused, and then nothing has
-/// changed. Queries take no memory.
+/// changed. Queries take no memory, but that `asked` makes a list.
 #[derive(Drop)]
 pub struct Session {
     alloc: Global,

@@ -1,4 +1,4 @@
-use Rattle.std.proofs.Common.{◌≡◌, ◌∙◌, ℕ, List, All, sym, subst}
+use Rattle.std.proofs.Common.{◌∙◌, ℕ, List, All, sym, subst}
 use Rattle.idl_workspace.specs.UpToDate.{State}
 use Rattle.idl_program.specs.Holding.{Holding}
 use Rattle.idl_program.specs.Loading.{AreLoaded, AreRoots, StaysAsked}
@@ -6,7 +6,7 @@ use Rattle.idl_program.specs.Tried.{AreTrue, IsLoadedFile}
 use Rattle.idl_program.specs.declared.loading.Tried.{Tried}
 use Rattle.idl_program.proofs.LoadingLemmas.{AreComplete-missing, when-none}
 use Rattle.idl_program.proofs.loading.load_all.Goals as goal
-use Rattle.idl_program.proofs.loading.load_all.Goals.{then-not-is_empty+in_ok-put, else-not-is_empty}
+use Rattle.idl_program.proofs.loading.load_all.Goals.{then-not-is_empty+in_ok-settle, else-not-is_empty}
 
 pub returns-in_default-clause-complete : goal.returns-in_default-clause-complete
 returns-in_default-clause-complete g c =
@@ -24,9 +24,9 @@ rounds-preserved g c =
     let tried : AreTrue told c.load.new.self = subst (λ (t : List ℕ → Holding). AreTrue t c.load.new.self) before.told c.in_ok-files.ensures.tried in
     let stays = c.in_ok-files.ensures.stays ∙ before.told in
     elim c.if-not-is_empty.branch [
-      | then-not-is_empty+in_ok-put w ↦
-          let put = w.in_ok-put.ensures in
-          let asked : StaysAsked old w.put.new.session.project = record { macros = put.stays.macros ∙ before.stays.macros; search = put.stays.search ∙ before.stays.search } in
+      | then-not-is_empty+in_ok-settle w ↦
+          let put = w.in_ok-settle.ensures in
+          let asked : StaysAsked old w.settle.new.session.project = record { macros = put.stays.macros ∙ before.stays.macros; search = put.stays.search ∙ before.stays.search } in
           record {
             told = stays;
             tried = subst (λ (t : Tried). AreTrue told t) (sym w.tried-is) (put.tried told tried);

@@ -1,4 +1,4 @@
-use Rattle.std.proofs.Common.{◌≡◌, ◌∷◌, [], ℕ, List, All, Some, take, rules, sym}
+use Rattle.std.proofs.Common.{◌≡◌, [], ℕ, List, All, Some, take, rules, sym}
 use Rattle.std.proofs.lemmas.List.{nil_from_length, take_all}
 use Rattle.std.proofs.lemmas.List.Elements.{All-head, All-same}
 use Rattle.idl_workspace.specs.Compile.{compiled_root}

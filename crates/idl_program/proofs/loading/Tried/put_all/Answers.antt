@@ -23,9 +23,18 @@ files-preserved c =
     record {
       loaded = λ told are is.
           let have = c.files.invariant.loaded told are is in (
-            c.in_ok-put_one.ensures.loaded told have.0 (All-head (IsLoadedFile told) file rest (All-same (IsLoadedFile told) (file ∷ rest) before (sym next) have.1)),
+            c.in_ok-name.ensures.loaded told have.0 (All-head (IsLoadedFile told) file rest (All-same (IsLoadedFile told) (file ∷ rest) before (sym next) have.1)),
             All-rest (IsLoadedFile told) file rest before next have.1,
           );
-      tried = λ told are. c.in_ok-put_one.ensures.tried told (c.files.invariant.tried told are);
-      others = c.in_ok-put_one.ensures.others ∙ ap (λ p. with_files p c.put_one.new.session.project.inputs.files) c.files.invariant.others;
+      tried = λ told are. c.in_ok-name.ensures.tried told (c.files.invariant.tried told are);
+      others = c.in_ok-name.ensures.others ∙ ap (λ p. with_files p c.put_one.new.session.project.inputs.files) c.files.invariant.others;
     }
+
+pub returns-in-Some-2-clause-loaded : goal.returns-in-Some-2-clause-loaded
+returns-in-Some-2-clause-loaded c told are is =
+    let file = c.in-Some.file in
+    let rest = into_iter_items c.next.new.self in
+    let before = into_iter_items c.files.file-iterator in
+    let next : before ≡ file ∷ rest = c.in-Some.ensures.steps.0 in
+    let have = c.files.invariant.loaded told are is in
+    c.in_ok-name.ensures.loaded told have.0 (All-head (IsLoadedFile told) file rest (All-same (IsLoadedFile told) (file ∷ rest) before (sym next) have.1))

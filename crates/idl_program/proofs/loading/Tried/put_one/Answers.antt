@@ -7,8 +7,8 @@ use Rattle.idl_program.proofs.EditLemmas.{put-made}
 use Rattle.idl_program.proofs.LoadingLemmas.{AreLoaded-insert}
 use Rattle.idl_program.proofs.loading.Tried.put_one.Goals as goal
 
-pub returns-in-Ok-clause-loaded : goal.returns-in-Ok-clause-loaded
-returns-in-Ok-clause-loaded c told are is =
+pub returns-in_ok-keep_name-in-Ok-clause-loaded : goal.returns-in_ok-keep_name-in-Ok-clause-loaded
+returns-in_ok-keep_name-in-Ok-clause-loaded c told are is =
     let old = c.args.session.now.project in
     let new = c.put.new.self.project in
     let name = c.as_bytes.result.now in
