@@ -9,7 +9,6 @@ pub mod Identity
 pub mod Key
 pub mod Kind
 pub mod Lookup
-pub mod Mark
 pub mod Meaning
 pub mod Outside
 pub mod Past

@@ -18,7 +18,6 @@ mod key;
 mod kind;
 mod laws;
 mod lookup;
-mod mark;
 mod name;
 mod naming;
 mod operations;

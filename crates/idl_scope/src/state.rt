@@ -73,7 +73,7 @@ impl State {
     pub fn new(alloc: Global) -> Result<State, AllocError>
         ensures { IfOk result (λ state. held state ≡ first_world) }
     {
-        let scopes = opened(alloc, Scope::global(alloc)?, &[])?;
+        let scopes = opened(alloc, Scope::global(), &[])?;
         let mut answers = Map::new();
         answers.insert(alloc, Key::Cursor, scopes)?;
         answers.insert(alloc, Key::Prefix, Answer::InForce(Prefix::none(alloc)?))?;
@@ -211,7 +211,7 @@ impl State {
         ensures { OnOk result (held self.new ≡ after_step (held self.old) (Prefixes text.now)) }
     {
         let text = text.clone()?;
-        let scope = path_of_first(alloc, scopes_in(self.answers.get(&Key::Cursor)))?;
+        let scope = path_of_first(scopes_in(self.answers.get(&Key::Cursor)))?;
         let prefix = Shared::new(alloc, Prefix { text, scope })?;
         self.answers
             .insert(alloc, Key::Prefix, Answer::InForce(prefix))?;
@@ -389,17 +389,17 @@ fn child_of_first(alloc: Global, scopes: &[Scope], name: &Spelling) -> Result<Pa
     ensures { IfOk result (λ path. path ≡ name.now ∷ path_around scopes.now) }
 {
     match scopes {
-        [] => Path::global(alloc)?.child(alloc, name),
+        [] => Path::global().child(alloc, name),
         [innermost, ..] => innermost.path.child(alloc, name),
     }
 }
 
 // The path of the innermost of the scopes.
-fn path_of_first(alloc: Global, scopes: &[Scope]) -> Result<Path, AllocError>
+fn path_of_first(scopes: &[Scope]) -> Result<Path, AllocError>
     ensures { IfOk result (λ path. path ≡ path_around scopes.now) }
 {
     match scopes {
-        [] => Path::global(alloc),
+        [] => Ok(Path::global()),
         [innermost, ..] => innermost.path.clone(),
     }
 }

@@ -1,5 +1,5 @@
-use Rattle.std.proofs.Common.{◌≡◌, sym, ap, ◌∙◌, drop, reverse}
-use Rattle.idl_scope.specs.Facts.{World, closing, given_back, over, scopes_in, with_answer, with_prefix}
+use Rattle.std.proofs.Common.{◌≡◌, sym, ap, ◌∙◌}
+use Rattle.idl_scope.specs.Facts.{closing, given_back, over, scopes_in, with_answer, with_prefix}
 use Rattle.idl_scope.specs.Held.{closable, held}
 use Rattle.idl_scope.specs.declared.answer.Answer.TheVariants.{Open, InForce}
 use Rattle.idl_scope.specs.declared.key.Key.TheVariants.{Cursor, Prefix as PrefixKey}
