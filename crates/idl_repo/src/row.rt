@@ -129,7 +129,7 @@ fn push_constant(
     push_type(text, env, log, &entity.data_type)?;
     text.extend_from_slice(b" ")?;
     if let Some(value) = &entity.value {
-        push_listed(text, value)?;
+        push_listed(text, value.get())?;
     }
     Ok(())
 }

@@ -3,11 +3,13 @@
 ghost use Rattle.std.specs.Prelude.{◌≡◌, ◌∷◌, [], IfOk, IsFalse, IsTrue, List, Some, false, refl, ℕ};
 ghost use Rattle.std.specs.Cmp.{partial_equiv_from_equiv};
 ghost use Rattle.std.specs.Cmp.Lexicographic.{lists_agrees, lists_equiv, lists_per, lists_po, lists_ties, lists_total, nat_list_cmp_total, nat_list_eq_equiv, pointwise, slice_cmp, slice_partial_cmp, texts_po, texts_ties};
+ghost use Rattle.std.specs.Hash as fed;
 ghost use Rattle.std.specs.Ordering.{nat_cmp};
 ghost use Rattle.std.specs.Str.{bytes_eq};
+ghost use Rattle.std.proofs.Common.{ap};
 ghost use Rattle.idl_lex.specs.Keywords.{folded};
 ghost use Rattle.idl_scope.specs.Digest.{outermost_digest, path_digest};
-ghost use Rattle.idl_scope.specs.Path.{name_of, path_eq, path_of, scope_of};
+ghost use Rattle.idl_scope.specs.Path.{name_of, path_eq, path_of, same_path, scope_of};
 
 use crate::digest::with_child;
 use crate::name::{folded_spelling, shared_name};
@@ -15,6 +17,7 @@ use idl_base::Datum;
 use idl_lex::Spelling;
 use std::alloc::{AllocError, Global};
 use std::cmp::Ordering;
+use std::hash::{Hash, Hasher};
 use std::marker::Model;
 use std::rc::Rc;
 
@@ -344,6 +347,16 @@ impl Ord for Path {
         ensures { result ≡ slice_cmp (slice_cmp nat_cmp) self.now other.now }
     {
         order_of(&self.innermost, &other.innermost)
+    }
+}
+
+impl Hash for Path {
+    ghost hash_input = { λ path. fed.u64 (path_digest path) };
+
+    ghost respects_eq = { λ x y h. ap (λ path. fed.u64 (path_digest path)) (same_path x y h) };
+
+    fn hash<H: Hasher>(&self, state: &mut H) {
+        self.digest().hash(state);
     }
 }
 
