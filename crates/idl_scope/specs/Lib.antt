@@ -2,6 +2,7 @@ pub mod Answer
 pub mod Bases
 pub mod DataType
 pub mod Digest
+pub mod Digested
 pub mod Entity
 pub mod Facts
 pub mod Held

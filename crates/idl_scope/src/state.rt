@@ -15,6 +15,7 @@ ghost use Rattle.std.specs.Map.{lookup};
 
 use crate::addition::{Addition, Step};
 use crate::answer::{Answer, Scope, count_in, entity_in, prefix_in, scopes_in};
+use crate::digested::Digested;
 use crate::entity::Entity;
 use crate::facts::Facts;
 use crate::identity::Prefix;
@@ -34,7 +35,7 @@ use std::alloc::{AllocError, Global};
 /// prefixes that were in force before the open scopes were opened and before files were entered, the innermost last. Its
 /// copies share all of it.
 pub struct State {
-    pub answers: Map<Key, Answer>,
+    pub answers: Map<Digested<Key>, Answer>,
     pub inside: SharedList<SharedList<Path>>,
     pub opened: SharedList<Shared<Prefix>>,
     pub entered: SharedList<Shared<Prefix>>,
@@ -75,8 +76,8 @@ impl State {
     {
         let scopes = opened(alloc, Scope::global(), &[])?;
         let mut answers = Map::new();
-        answers.insert(alloc, Key::Cursor, scopes)?;
-        answers.insert(alloc, Key::Prefix, Answer::InForce(Prefix::none(alloc)?))?;
+        answers.insert(alloc, Digested::new(Key::Cursor), scopes)?;
+        answers.insert(alloc, Digested::new(Key::Prefix), Answer::InForce(Prefix::none(alloc)?))?;
         let mut inside = SharedList::new();
         inside.push(alloc, SharedList::new())?;
         Ok(State {
@@ -135,11 +136,11 @@ impl State {
     {
         let scope = self.next_body(path, kind)?;
         let body = scope.body;
-        let key = Key::Opened(scope.path.clone()?);
-        let scopes = opened(alloc, scope, scopes_in(self.answers.get(&Key::Cursor)))?;
+        let key = Digested::new(Key::Opened(scope.path.clone()?));
+        let scopes = opened(alloc, scope, scopes_in(self.answers.get(&Digested::new(Key::Cursor))))?;
         let prefix = self.prefix(alloc)?;
         self.answers.insert(alloc, key, Answer::Count(body))?;
-        self.answers.insert(alloc, Key::Cursor, scopes)?;
+        self.answers.insert(alloc, Digested::new(Key::Cursor), scopes)?;
         self.inside.push(alloc, SharedList::new())?;
         self.opened.push(alloc, prefix)?;
         Ok(())
@@ -156,7 +157,7 @@ impl State {
               body = next_body (held self.now) path.now;
             }) }
     {
-        let key = Key::Opened(path.clone()?);
+        let key = Digested::new(Key::Opened(path.clone()?));
         let body = count_in(self.answers.get(&key)) + 1;
         let path = path.clone()?;
         Ok(Scope { path, kind, body })
@@ -168,11 +169,11 @@ impl State {
         ensures { OnOk result
             (held self.new ≡ after_step (held self.old) (OpensNameless kind)) }
     {
-        let number = count_in(self.answers.get(&Key::Nameless));
+        let number = count_in(self.answers.get(&Digested::new(Key::Nameless)));
         let name = nameless_name(alloc, number)?;
-        let path = child_of_first(alloc, scopes_in(self.answers.get(&Key::Cursor)), &name)?;
+        let path = child_of_first(alloc, scopes_in(self.answers.get(&Digested::new(Key::Cursor))), &name)?;
         self.answers
-            .insert(alloc, Key::Nameless, Answer::Count(number + 1))?;
+            .insert(alloc, Digested::new(Key::Nameless), Answer::Count(number + 1))?;
         self.open(alloc, &path, kind)
     }
 
@@ -181,17 +182,17 @@ impl State {
         ensures { OnOk result
             (held self.new ≡ after_step (held self.old) Closes) }
     {
-        let Some((scope, outer)) = closable(scopes_in(self.answers.get(&Key::Cursor))) else {
+        let Some((scope, outer)) = closable(scopes_in(self.answers.get(&Digested::new(Key::Cursor)))) else {
             return Ok(());
         };
         let scopes = open_scopes(alloc, outer)?;
         let closing = self.closing(alloc, scope)?;
         put_closing(alloc, &mut self.answers, &closing)?;
-        self.answers.insert(alloc, Key::Cursor, scopes)?;
+        self.answers.insert(alloc, Digested::new(Key::Cursor), scopes)?;
         leave(&mut self.inside)?;
         let prefix = taken_last(alloc, &mut self.opened)?;
         self.answers
-            .insert(alloc, Key::Prefix, Answer::InForce(prefix))?;
+            .insert(alloc, Digested::new(Key::Prefix), Answer::InForce(prefix))?;
         Ok(())
     }
 
@@ -200,7 +201,7 @@ impl State {
         ensures { IfOk result (λ prefix.
             prefix ≡ prefix_in (lookup (key_eq PrefixKey) self.now.answers)) }
     {
-        match prefix_in(self.answers.get(&Key::Prefix)) {
+        match prefix_in(self.answers.get(&Digested::new(Key::Prefix))) {
             Some(prefix) => prefix.clone(),
             None => Prefix::none(alloc),
         }
@@ -211,10 +212,10 @@ impl State {
         ensures { OnOk result (held self.new ≡ after_step (held self.old) (Prefixes text.now)) }
     {
         let text = text.clone()?;
-        let scope = path_of_first(scopes_in(self.answers.get(&Key::Cursor)))?;
+        let scope = path_of_first(scopes_in(self.answers.get(&Digested::new(Key::Cursor))))?;
         let prefix = Shared::new(alloc, Prefix { text, scope })?;
         self.answers
-            .insert(alloc, Key::Prefix, Answer::InForce(prefix))?;
+            .insert(alloc, Digested::new(Key::Prefix), Answer::InForce(prefix))?;
         Ok(())
     }
 
@@ -225,7 +226,7 @@ impl State {
         let prefix = self.prefix(alloc)?;
         let none = Prefix::none(alloc)?;
         self.answers
-            .insert(alloc, Key::Prefix, Answer::InForce(none))?;
+            .insert(alloc, Digested::new(Key::Prefix), Answer::InForce(none))?;
         self.entered.push(alloc, prefix)?;
         Ok(())
     }
@@ -236,7 +237,7 @@ impl State {
     {
         let prefix = taken_last(alloc, &mut self.entered)?;
         self.answers
-            .insert(alloc, Key::Prefix, Answer::InForce(prefix))?;
+            .insert(alloc, Digested::new(Key::Prefix), Answer::InForce(prefix))?;
         Ok(())
     }
 
@@ -286,7 +287,7 @@ fn closable(scopes: &[Scope]) -> Option<(&Scope, &[Scope])>
 // The answers with that of an interface that closes, if one does.
 fn put_closing(
     alloc: Global,
-    answers: &mut Map<Key, Answer>,
+    answers: &mut Map<Digested<Key>, Answer>,
     closing: &Option<Shared<Entity>>,
 ) -> Result<(), AllocError>
     ensures { OnOk result
@@ -347,7 +348,7 @@ fn closed(interface: &Entity, operations: Vec<Path>) -> Result<Entity, AllocErro
 }
 
 // The answers with those of the additions.
-fn put_all(alloc: Global, answers: &mut Map<Key, Answer>, facts: &Facts) -> Result<(), AllocError>
+fn put_all(alloc: Global, answers: &mut Map<Digested<Key>, Answer>, facts: &Facts) -> Result<(), AllocError>
     ensures { OnOk result
         ((k : Key)
         → lookup (key_eq k) answers.new ≡ over facts.now.additions k (lookup (key_eq k) answers.old)) }
