@@ -77,7 +77,11 @@ impl State {
         let scopes = opened(alloc, Scope::global(), &[])?;
         let mut answers = Map::new();
         answers.insert(alloc, Digested::new(Key::Cursor), scopes)?;
-        answers.insert(alloc, Digested::new(Key::Prefix), Answer::InForce(Prefix::none(alloc)?))?;
+        answers.insert(
+            alloc,
+            Digested::new(Key::Prefix),
+            Answer::InForce(Prefix::none(alloc)?),
+        )?;
         let mut inside = SharedList::new();
         inside.push(alloc, SharedList::new())?;
         Ok(State {
@@ -137,10 +141,15 @@ impl State {
         let scope = self.next_body(path, kind)?;
         let body = scope.body;
         let key = Digested::new(Key::Opened(scope.path.clone()?));
-        let scopes = opened(alloc, scope, scopes_in(self.answers.get(&Digested::new(Key::Cursor))))?;
+        let scopes = opened(
+            alloc,
+            scope,
+            scopes_in(self.answers.get(&Digested::new(Key::Cursor))),
+        )?;
         let prefix = self.prefix(alloc)?;
         self.answers.insert(alloc, key, Answer::Count(body))?;
-        self.answers.insert(alloc, Digested::new(Key::Cursor), scopes)?;
+        self.answers
+            .insert(alloc, Digested::new(Key::Cursor), scopes)?;
         self.inside.push(alloc, SharedList::new())?;
         self.opened.push(alloc, prefix)?;
         Ok(())
@@ -171,9 +180,16 @@ impl State {
     {
         let number = count_in(self.answers.get(&Digested::new(Key::Nameless)));
         let name = nameless_name(alloc, number)?;
-        let path = child_of_first(alloc, scopes_in(self.answers.get(&Digested::new(Key::Cursor))), &name)?;
-        self.answers
-            .insert(alloc, Digested::new(Key::Nameless), Answer::Count(number + 1))?;
+        let path = child_of_first(
+            alloc,
+            scopes_in(self.answers.get(&Digested::new(Key::Cursor))),
+            &name,
+        )?;
+        self.answers.insert(
+            alloc,
+            Digested::new(Key::Nameless),
+            Answer::Count(number + 1),
+        )?;
         self.open(alloc, &path, kind)
     }
 
@@ -182,13 +198,16 @@ impl State {
         ensures { OnOk result
             (held self.new ≡ after_step (held self.old) Closes) }
     {
-        let Some((scope, outer)) = closable(scopes_in(self.answers.get(&Digested::new(Key::Cursor)))) else {
+        let Some((scope, outer)) = closable(scopes_in(
+            self.answers.get(&Digested::new(Key::Cursor)),
+        )) else {
             return Ok(());
         };
         let scopes = open_scopes(alloc, outer)?;
         let closing = self.closing(alloc, scope)?;
         put_closing(alloc, &mut self.answers, &closing)?;
-        self.answers.insert(alloc, Digested::new(Key::Cursor), scopes)?;
+        self.answers
+            .insert(alloc, Digested::new(Key::Cursor), scopes)?;
         leave(&mut self.inside)?;
         let prefix = taken_last(alloc, &mut self.opened)?;
         self.answers
@@ -348,7 +367,11 @@ fn closed(interface: &Entity, operations: Vec<Path>) -> Result<Entity, AllocErro
 }
 
 // The answers with those of the additions.
-fn put_all(alloc: Global, answers: &mut Map<Digested<Key>, Answer>, facts: &Facts) -> Result<(), AllocError>
+fn put_all(
+    alloc: Global,
+    answers: &mut Map<Digested<Key>, Answer>,
+    facts: &Facts,
+) -> Result<(), AllocError>
     ensures { OnOk result
         ((k : Key)
         → lookup (key_eq k) answers.new ≡ over facts.now.additions k (lookup (key_eq k) answers.old)) }
