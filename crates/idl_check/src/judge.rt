@@ -124,7 +124,7 @@ impl<'a> Judge<'a> {
             (answers self.entry.env.now) log.old) }
     {
         if opened_kind(self.tokens).is_some() {
-            log.ask(&Digested::new(Key::Nameless), self.env)?;
+            log.ask(&Digested::of(Key::Nameless), self.env)?;
             return adding(self.env.alloc(), Some(fault), faulty_step(self.tokens));
         }
         adding(self.env.alloc(), Some(fault), faulty_step(self.tokens))
@@ -230,7 +230,7 @@ impl<'a> Judge<'a> {
     {
         match step {
             Step::Opens(path, _kind) => {
-                let key = Digested::new(Key::Opened(path.clone()?));
+                let key = Digested::of(Key::Opened(path.clone()?));
                 log.ask(&key, self.env)?;
                 Ok(())
             }

@@ -79,7 +79,7 @@ fn there(
         (log.new
         ≡ noted key_eq (answers view.entry.env.now) log.old (Declared name.now scope.now.path)) }
 {
-    let key = Digested::new(Key::Declared(name.clone()?, scope.path.clone()?));
+    let key = Digested::of(Key::Declared(name.clone()?, scope.path.clone()?));
     copied(view.entity(log, &key)?)
 }
 
@@ -109,7 +109,7 @@ fn is_used(
         (Introduced name.now scope.now.path scope.now.body)) }
 {
     let key = Key::Introduced(name.clone()?, scope.path.clone()?, scope.body);
-    let key = Digested::new(key);
+    let key = Digested::of(key);
     let before = log.ask(&key, view.env)?;
     match view.own.get(&key) {
         Some(_addition) => Ok(true),

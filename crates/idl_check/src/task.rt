@@ -53,7 +53,7 @@ fn verdict_of(env: &Env, log: &mut Log<Env>, text: &UnitText) -> Result<Verdict,
     ensures { IfOk result (λ v. (turns : ℕ) → TURNS ≤ turns →
         (v, log.new) ≡ run key_eq (verdict turns text.now) (answers env.now) log.old) }
 {
-    let scopes = scopes_in(log.ask(&Digested::new(Key::Cursor), env)?);
+    let scopes = scopes_in(log.ask(&Digested::of(Key::Cursor), env)?);
     match text {
         UnitText::Tokens(run) => {
             let judge = Judge {

@@ -40,7 +40,7 @@ pub fn push_id(
         (Writes (answers env.now) (IdOf path.now ∷ [])
         (text.old.items, log.old) (text.new.items, log.new)) }
 {
-    let key = Digested::new(Key::IdOf(path.clone()?));
+    let key = Digested::of(Key::IdOf(path.clone()?));
     match identity_in(log.ask(&key, env)?) {
         Some(identity) => text.extend_from_slice(identity.get().id.as_bytes()),
         None => Ok(()),

@@ -166,7 +166,7 @@ impl<'a> Judging<'a> {
     pub fn is_open(&self) -> bool
         ensures { result ≡ is_open self.now.env }
     {
-        scopes_in(self.env.answer(&Digested::new(Key::Cursor))).len() > 1
+        scopes_in(self.env.answer(&Digested::of(Key::Cursor))).len() > 1
     }
 
     /// What comes of the names that have an id, over all that was added.

@@ -54,9 +54,9 @@ impl Addition {
             Addition::Uses(name, path, body) => {
                 let name = name.clone()?;
                 let path = path.clone()?;
-                Ok(Digested::new(Key::Introduced(name, path, *body)))
+                Ok(Digested::of(Key::Introduced(name, path, *body)))
             }
-            Addition::Identifies(path, _) => Ok(Digested::new(Key::IdOf(path.clone()?))),
+            Addition::Identifies(path, _) => Ok(Digested::of(Key::IdOf(path.clone()?))),
         }
     }
 

@@ -32,7 +32,7 @@ impl<K: Digest> Model for Digested<K> {
 
 impl<K: Digest> Digested<K> {
     /// The key, with its digest.
-    pub fn new(key: K) -> Digested<K>
+    pub fn of(key: K) -> Digested<K>
         ensures { result ≡ key }
     {
         let digest = key.digest();

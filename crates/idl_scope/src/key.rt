@@ -57,7 +57,7 @@ impl Key {
     {
         let name = path.folded(alloc)?;
         let scope = path.scope()?;
-        Ok(Digested::new(Key::Declared(name, scope)))
+        Ok(Digested::of(Key::Declared(name, scope)))
     }
 }
 

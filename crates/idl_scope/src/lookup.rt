@@ -74,7 +74,7 @@ impl<'a> View<'a> {
         ensures logged { OnOk result
             (log.new ≡ noted key_eq (answers self.entry.env.now) log.old PrefixKey) }
     {
-        match prefix_in(log.ask(&Digested::new(Key::Prefix), self.env)?) {
+        match prefix_in(log.ask(&Digested::of(Key::Prefix), self.env)?) {
             Some(prefix) => prefix.clone(),
             None => Prefix::none(self.env.alloc()),
         }
@@ -94,7 +94,7 @@ impl<'a> View<'a> {
         ensures logged { OnOk result
             (log.new ≡ noted key_eq (answers self.entry.env.now) log.old (IdOf path.now)) }
     {
-        let key = Digested::new(Key::IdOf(path.clone()?));
+        let key = Digested::of(Key::IdOf(path.clone()?));
         let before = log.ask(&key, self.env)?;
         match self.own.get(&key) {
             Some(addition) => Ok(identified_by(addition)),
@@ -116,7 +116,7 @@ impl<'a> View<'a> {
         ensures logged { OnOk result
             (log.new ≡ noted key_eq (answers self.entry.env.now) log.old (Declared name.now path.now)) }
     {
-        let key = Digested::new(Key::Declared(name.clone()?, path.clone()?));
+        let key = Digested::of(Key::Declared(name.clone()?, path.clone()?));
         self.entity(log, &key)
     }
 

@@ -76,10 +76,10 @@ impl State {
     {
         let scopes = opened(alloc, Scope::global(), &[])?;
         let mut answers = Map::new();
-        answers.insert(alloc, Digested::new(Key::Cursor), scopes)?;
+        answers.insert(alloc, Digested::of(Key::Cursor), scopes)?;
         answers.insert(
             alloc,
-            Digested::new(Key::Prefix),
+            Digested::of(Key::Prefix),
             Answer::InForce(Prefix::none(alloc)?),
         )?;
         let mut inside = SharedList::new();
@@ -140,16 +140,16 @@ impl State {
     {
         let scope = self.next_body(path, kind)?;
         let body = scope.body;
-        let key = Digested::new(Key::Opened(scope.path.clone()?));
+        let key = Digested::of(Key::Opened(scope.path.clone()?));
         let scopes = opened(
             alloc,
             scope,
-            scopes_in(self.answers.get(&Digested::new(Key::Cursor))),
+            scopes_in(self.answers.get(&Digested::of(Key::Cursor))),
         )?;
         let prefix = self.prefix(alloc)?;
         self.answers.insert(alloc, key, Answer::Count(body))?;
         self.answers
-            .insert(alloc, Digested::new(Key::Cursor), scopes)?;
+            .insert(alloc, Digested::of(Key::Cursor), scopes)?;
         self.inside.push(alloc, SharedList::new())?;
         self.opened.push(alloc, prefix)?;
         Ok(())
@@ -166,7 +166,7 @@ impl State {
               body = next_body (held self.now) path.now;
             }) }
     {
-        let key = Digested::new(Key::Opened(path.clone()?));
+        let key = Digested::of(Key::Opened(path.clone()?));
         let body = count_in(self.answers.get(&key)) + 1;
         let path = path.clone()?;
         Ok(Scope { path, kind, body })
@@ -178,16 +178,16 @@ impl State {
         ensures { OnOk result
             (held self.new ≡ after_step (held self.old) (OpensNameless kind)) }
     {
-        let number = count_in(self.answers.get(&Digested::new(Key::Nameless)));
+        let number = count_in(self.answers.get(&Digested::of(Key::Nameless)));
         let name = nameless_name(alloc, number)?;
         let path = child_of_first(
             alloc,
-            scopes_in(self.answers.get(&Digested::new(Key::Cursor))),
+            scopes_in(self.answers.get(&Digested::of(Key::Cursor))),
             &name,
         )?;
         self.answers.insert(
             alloc,
-            Digested::new(Key::Nameless),
+            Digested::of(Key::Nameless),
             Answer::Count(number + 1),
         )?;
         self.open(alloc, &path, kind)
@@ -198,20 +198,19 @@ impl State {
         ensures { OnOk result
             (held self.new ≡ after_step (held self.old) Closes) }
     {
-        let Some((scope, outer)) = closable(scopes_in(
-            self.answers.get(&Digested::new(Key::Cursor)),
-        )) else {
+        let Some((scope, outer)) = closable(scopes_in(self.answers.get(&Digested::of(Key::Cursor))))
+        else {
             return Ok(());
         };
         let scopes = open_scopes(alloc, outer)?;
         let closing = self.closing(alloc, scope)?;
         put_closing(alloc, &mut self.answers, &closing)?;
         self.answers
-            .insert(alloc, Digested::new(Key::Cursor), scopes)?;
+            .insert(alloc, Digested::of(Key::Cursor), scopes)?;
         leave(&mut self.inside)?;
         let prefix = taken_last(alloc, &mut self.opened)?;
         self.answers
-            .insert(alloc, Digested::new(Key::Prefix), Answer::InForce(prefix))?;
+            .insert(alloc, Digested::of(Key::Prefix), Answer::InForce(prefix))?;
         Ok(())
     }
 
@@ -220,7 +219,7 @@ impl State {
         ensures { IfOk result (λ prefix.
             prefix ≡ prefix_in (lookup (key_eq PrefixKey) self.now.answers)) }
     {
-        match prefix_in(self.answers.get(&Digested::new(Key::Prefix))) {
+        match prefix_in(self.answers.get(&Digested::of(Key::Prefix))) {
             Some(prefix) => prefix.clone(),
             None => Prefix::none(alloc),
         }
@@ -231,10 +230,10 @@ impl State {
         ensures { OnOk result (held self.new ≡ after_step (held self.old) (Prefixes text.now)) }
     {
         let text = text.clone()?;
-        let scope = path_of_first(scopes_in(self.answers.get(&Digested::new(Key::Cursor))))?;
+        let scope = path_of_first(scopes_in(self.answers.get(&Digested::of(Key::Cursor))))?;
         let prefix = Shared::new(alloc, Prefix { text, scope })?;
         self.answers
-            .insert(alloc, Digested::new(Key::Prefix), Answer::InForce(prefix))?;
+            .insert(alloc, Digested::of(Key::Prefix), Answer::InForce(prefix))?;
         Ok(())
     }
 
@@ -245,7 +244,7 @@ impl State {
         let prefix = self.prefix(alloc)?;
         let none = Prefix::none(alloc)?;
         self.answers
-            .insert(alloc, Digested::new(Key::Prefix), Answer::InForce(none))?;
+            .insert(alloc, Digested::of(Key::Prefix), Answer::InForce(none))?;
         self.entered.push(alloc, prefix)?;
         Ok(())
     }
@@ -256,7 +255,7 @@ impl State {
     {
         let prefix = taken_last(alloc, &mut self.entered)?;
         self.answers
-            .insert(alloc, Digested::new(Key::Prefix), Answer::InForce(prefix))?;
+            .insert(alloc, Digested::of(Key::Prefix), Answer::InForce(prefix))?;
         Ok(())
     }
 
