@@ -24,7 +24,7 @@ module _ {K : Type 0} {equal : K → K → Bool} (digest : K → ℕ) (same : (x
   pub equal_by_digest : (x y : K) → equal x y ≡ (nat_eq (digest x) (digest y) && equal x y)
   equal_by_digest x y = told x y (equal x y) refl
 
-  module _ {cmp : K → K → Ordering} (ties : (x y : K) → equal x y ≡ eq_by_cmp cmp x y) where
+  module _ (cmp : K → K → Ordering) (ties : (x y : K) → equal x y ≡ eq_by_cmp cmp x y) where
     -- what the order ties is equal
     pub digest_first_ties : (x y : K) → equal x y ≡ eq_by_cmp (digest_first digest cmp) x y
     digest_first_ties x y =
@@ -37,4 +37,4 @@ digest_first_total digest total = then_total (on_total digest nat_cmp_total) tot
 
 pub digest_first_po : {K : Type 0} {equal : K → K → Bool} (digest : K → ℕ) → ((x y : K) → equal x y ≡ true → x ≡ y) → {cmp : K → K → Ordering} → IsTotalOrder cmp → ((x y : K) → equal x y ≡ eq_by_cmp cmp x y) → IsPartialOrder equal (λ x y. Some (digest_first digest cmp x y))
 digest_first_po digest same {cmp} total ties =
-    partial_order_from_agreeing_total (digest_first digest cmp) (digest_first_total digest total) (λ x y. refl) (digest_first_ties digest same ties)
+    partial_order_from_agreeing_total (digest_first digest cmp) (digest_first_total digest total) (λ x y. refl) (digest_first_ties digest same cmp ties)

@@ -85,7 +85,7 @@ impl<K: Digest + Ord> Ord for Digested<K> {
 
     ghost matches_partial_cmp = { λ x y. refl };
 
-    ghost matches_eq = { digest_first_ties K.digest_of K.same K.matches_eq };
+    ghost matches_eq = { digest_first_ties K.digest_of K.same K.cmp K.matches_eq };
 
     fn cmp(&self, other: &Digested<K>) -> Ordering
         ensures { result ≡ digest_first K.digest_of K.cmp self.now other.now }
