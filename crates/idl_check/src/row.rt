@@ -38,9 +38,9 @@ pub fn row_of(
     requires { items_length (map item_at sites.now) ≤ 18446744073709551615 }
     ensures { IfOk result (λ row. row ≡ row_of depth (map item_at sites.now) (rest_at unit.entry)) }
 {
-    let mut text = Vec::new(alloc);
+    let mut text = Vec::with_capacity(alloc, 64)?;
     push_sites(&mut text, sites, unit)?;
-    let mut row = Vec::new(alloc);
+    let mut row = Vec::with_capacity(alloc, text.len())?;
     push_blanks(&mut row, depth)?;
     row.extend_from_slice(behind(text.as_slice(), 1))?;
     Shared::new(alloc, Text::from_vec(row))
@@ -144,7 +144,7 @@ fn push_next_value(text: &mut Vec<u8>, values: &[Value]) -> Result<(), AllocErro
     match values {
         [] => Ok(()),
         [value, ..] => {
-            text.extend_from_slice(b" ")?;
+            text.push(b' ')?;
             push_value(text, value)
         }
     }
@@ -168,7 +168,7 @@ fn push_token(text: &mut Vec<u8>, token: &[u8]) -> Result<(), AllocError>
         text.extend_from_slice(token)?;
         return Ok(());
     }
-    text.extend_from_slice(b" ")?;
+    text.push(b' ')?;
     text.extend_from_slice(token)?;
     Ok(())
 }
@@ -177,7 +177,7 @@ fn push_token(text: &mut Vec<u8>, token: &[u8]) -> Result<(), AllocError>
 fn push_declared(text: &mut Vec<u8>, name: &[u8]) -> Result<(), AllocError>
     ensures { OnOk result (text.new.items ≡ text.old.items ++ spaced (escaped name.now)) }
 {
-    text.extend_from_slice(b" ")?;
+    text.push(b' ')?;
     push_name(text, name)
 }
 
@@ -186,7 +186,7 @@ fn push_name(text: &mut Vec<u8>, name: &[u8]) -> Result<(), AllocError>
     ensures { OnOk result (text.new.items ≡ text.old.items ++ escaped name.now) }
 {
     if is_like_keyword(name) {
-        text.extend_from_slice(b"_")?;
+        text.push(b'_')?;
         text.extend_from_slice(name)?;
         return Ok(());
     }
@@ -198,7 +198,7 @@ fn push_name(text: &mut Vec<u8>, name: &[u8]) -> Result<(), AllocError>
 fn push_path(text: &mut Vec<u8>, path: &Path) -> Result<(), AllocError>
     ensures { OnOk result (text.new.items ≡ text.old.items ++ spaced (path_word path.now)) }
 {
-    text.extend_from_slice(b" ")?;
+    text.push(b' ')?;
     let names = path.names(*text.allocator())?;
     push_names(text, names.as_slice())
 }
@@ -222,7 +222,7 @@ fn push_joined(text: &mut Vec<u8>, pieces: &Several<Seq<u16>>) -> Result<(), All
     text.extend_from_slice(b" \"")?;
     push_characters(text, pieces.first.as_slice())?;
     push_pieces(text, pieces.rest.as_slice())?;
-    text.extend_from_slice(b"\"")?;
+    text.push(b'"')?;
     Ok(())
 }
 
@@ -257,7 +257,7 @@ fn push_character(text: &mut Vec<u8>, c: u16) -> Result<(), AllocError>
         return Ok(());
     }
     if 32 <= c && c <= 126 {
-        text.extend_from_slice(&[c as u8])?;
+        text.push(c as u8)?;
         return Ok(());
     }
     text.extend_from_slice(&[92, octal(c / 64), octal(c / 8), octal(c)])?;

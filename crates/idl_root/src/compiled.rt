@@ -92,15 +92,15 @@ fn open_rows(alloc: Global, end: &Place, is_open: bool) -> Result<Vec<Row>, Allo
 fn diagnostics(
     alloc: Global,
     findings: Vec<Finding>,
-    mut open: Vec<Row>,
+    mut scope: Vec<Row>,
     closing: Vec<Finding>,
 ) -> Result<Vec<Row>, AllocError>
     ensures { IfOk result (λ rows. rows.items
         ≡ map (λ f. f.row) (in_order findings.items)
-        ++ (open.items ++ map (λ f. f.row) closing.items)) }
+        ++ (scope.items ++ map (λ f. f.row) closing.items)) }
 {
     let mut rows = rows_in_order(alloc, findings)?;
-    rows.append(&mut open)?;
+    rows.append(&mut scope)?;
     push_rows(&mut rows, closing.as_slice())?;
     Ok(rows)
 }
