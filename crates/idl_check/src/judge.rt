@@ -32,7 +32,7 @@ use crate::walk::Walker;
 use idl_event::Code;
 use idl_lex::Token;
 use idl_memo::Log;
-use idl_scope::{Digested, Env, Facts, Key, Path, Scope, Shared, Step, View, folded_name};
+use idl_scope::{DigestedKey, Env, Facts, Key, Path, Scope, Shared, Step, View, folded_name};
 use idl_site::{Site, sites};
 use idl_syntax::{SyntaxFault, UnitTree, parse};
 use idl_tree::Tree;
@@ -124,7 +124,7 @@ impl<'a> Judge<'a> {
             (answers self.entry.env.now) log.old) }
     {
         if opened_kind(self.tokens).is_some() {
-            log.ask(&Digested::of(Key::Nameless), self.env)?;
+            log.ask(&DigestedKey::of(Key::Nameless), self.env)?;
             return adding(self.env.alloc(), Some(fault), faulty_step(self.tokens));
         }
         adding(self.env.alloc(), Some(fault), faulty_step(self.tokens))
@@ -230,7 +230,7 @@ impl<'a> Judge<'a> {
     {
         match step {
             Step::Opens(path, _kind) => {
-                let key = Digested::of(Key::Opened(path.clone()?));
+                let key = DigestedKey::of(Key::Opened(path.clone()?));
                 log.ask(&key, self.env)?;
                 Ok(())
             }

@@ -1,40 +1,55 @@
 -- Keys that are told apart by their digests, before they are looked at.
 use Rattle.std.specs.Prelude.{◌≡◌, ℕ, Bool, true, false, ◌&&◌, Some, nat_eq, refl}
-use Rattle.std.specs.Cmp.{IsPartialOrder, IsTotalOrder, both_tied, nat_cmp_total, nat_eq_equiv, on_total, partial_order_from_agreeing_total, then_total, unsigned_ties}
+use Rattle.std.specs.Cmp.{IsEquivalence, IsPartialEquivalence, IsPartialOrder, IsTotalOrder}
+use Rattle.std.specs.Cmp.{both_tied, nat_cmp_total, nat_eq_equiv, on_total, then_total}
+use Rattle.std.specs.Cmp.{partial_order_from_agreeing_total, unsigned_ties}
 use Rattle.std.specs.Ordering.{eq_by_cmp, nat_cmp, ordering_then}
 use Rattle.std.specs.declared.cmp.Ordering.{Ordering}
 use Rattle.std.proofs.Common.{ap, sym, ◌∙◌}
+use Rattle.idl_scope.specs.Key.{key_digest, key_eq, same_key}
+use Rattle.idl_scope.specs.contracts.key.KeyEq.TheImpl.{ghosts as equivalence}
+use Rattle.idl_scope.specs.contracts.key.KeyOrd.TheImpl.{ghosts as order}
+use Rattle.idl_scope.specs.contracts.key.KeyPartialEq.TheImpl.{ghosts as equality}
+use Rattle.idl_scope.specs.declared.key.Key.{Key}
 
--- the order of the digests, and of keys with one digest their own
-abbrev pub digest_first : {K : Type 0} → (K → ℕ) → (K → K → Ordering) → K → K → Ordering
-digest_first digest cmp x y = ordering_then (nat_cmp (digest x) (digest y)) (cmp x y)
+-- in which order keys come: in that of their digests, and those of one digest in their own
+abbrev pub key_cmp : Key → Key → Ordering
+key_cmp x y = ordering_then (nat_cmp (key_digest x) (key_digest y)) (order.cmp x y)
+
+pub key_per : IsPartialEquivalence key_eq
+key_per = equality.laws
+
+pub key_equiv : IsEquivalence key_eq
+key_equiv = equivalence.laws
 
 and-false : (b : Bool) → (b && false) ≡ false
 and-false true = refl
 and-false false = refl
 
-module _ {K : Type 0} {equal : K → K → Bool} (digest : K → ℕ) (same : (x y : K) → equal x y ≡ true → x ≡ y) where
-  told : (x y : K) (b : Bool) → equal x y ≡ b → b ≡ (nat_eq (digest x) (digest y) && b)
-  told x y true h =
-      sym (ap (λ z. nat_eq (digest x) (digest z) && true) (sym (same x y h))
-      ∙ ap (λ b. b && true) (nat_eq_equiv.refl (digest x)))
-  told x y false h = sym (and-false (nat_eq (digest x) (digest y)))
+alike : Key → Key → Bool
+alike x y = nat_eq (key_digest x) (key_digest y)
 
-  -- keys are equal where their digests are, and they are
-  pub equal_by_digest : (x y : K) → equal x y ≡ (nat_eq (digest x) (digest y) && equal x y)
-  equal_by_digest x y = told x y (equal x y) refl
+told : (x y : Key) (b : Bool) → key_eq x y ≡ b → b ≡ (alike x y && b)
+told x y true h =
+    sym (ap (λ z. alike x z && true) (sym (same_key x y h))
+    ∙ ap (λ b. b && true) (nat_eq_equiv.refl (key_digest x)))
+told x y false h = sym (and-false (alike x y))
 
-  module _ (cmp : K → K → Ordering) (ties : (x y : K) → equal x y ≡ eq_by_cmp cmp x y) where
-    -- what the order ties is equal
-    pub digest_first_ties : (x y : K) → equal x y ≡ eq_by_cmp (digest_first digest cmp) x y
-    digest_first_ties x y =
-        equal_by_digest x y
-        ∙ both_tied (nat_eq (digest x) (digest y)) (equal x y) (nat_cmp (digest x) (digest y)) (cmp x y) (unsigned_ties (digest x) (digest y)) (ties x y)
+-- keys are one where their digests are, and they are
+pub one_by_digest : (x y : Key) → key_eq x y ≡ (nat_eq (key_digest x) (key_digest y) && key_eq x y)
+one_by_digest x y = told x y (key_eq x y) refl
+
+-- what comes first in neither order is one
+pub key_cmp_ties : (x y : Key) → key_eq x y ≡ eq_by_cmp key_cmp x y
+key_cmp_ties x y =
+    one_by_digest x y
+    ∙ both_tied (alike x y) (key_eq x y) (nat_cmp (key_digest x) (key_digest y)) (order.cmp x y)
+    (unsigned_ties (key_digest x) (key_digest y)) (order.matches_eq x y)
 
 -- it is an order
-pub digest_first_total : {K : Type 0} (digest : K → ℕ) {cmp : K → K → Ordering} → IsTotalOrder cmp → IsTotalOrder (digest_first digest cmp)
-digest_first_total digest total = then_total (on_total digest nat_cmp_total) total
+pub key_cmp_total : IsTotalOrder key_cmp
+key_cmp_total = then_total (on_total key_digest nat_cmp_total) order.total
 
-pub digest_first_po : {K : Type 0} {equal : K → K → Bool} (digest : K → ℕ) → ((x y : K) → equal x y ≡ true → x ≡ y) → {cmp : K → K → Ordering} → IsTotalOrder cmp → ((x y : K) → equal x y ≡ eq_by_cmp cmp x y) → IsPartialOrder equal (λ x y. Some (digest_first digest cmp x y))
-digest_first_po digest same {cmp} total ties =
-    partial_order_from_agreeing_total (digest_first digest cmp) (digest_first_total digest total) (λ x y. refl) (digest_first_ties digest same cmp ties)
+pub key_cmp_po : IsPartialOrder key_eq (λ x y. Some (key_cmp x y))
+key_cmp_po =
+    partial_order_from_agreeing_total key_cmp key_cmp_total (λ x y. refl) key_cmp_ties

@@ -1,8 +1,10 @@
 //! Keys with their digests beside them.
 
 ghost use Rattle.std.specs.Prelude.{◌≡◌, Some, refl};
-ghost use Rattle.idl_scope.specs.Digested.{digest_first, digest_first_po, digest_first_ties, digest_first_total};
+ghost use Rattle.idl_scope.specs.Digested.{key_cmp, key_cmp_po, key_cmp_ties, key_cmp_total, key_equiv, key_per};
+ghost use Rattle.idl_scope.specs.Key.{key_digest, key_eq, same_key};
 
+use crate::key::Key;
 use idl_base::Datum;
 use idl_map::Digest;
 use std::alloc::AllocError;
@@ -13,82 +15,82 @@ use std::marker::Model;
 ///
 /// Two of them are told apart by their digests, before their keys are looked at.
 #[derive(Drop)]
-pub struct Digested<K: Digest> {
+pub struct DigestedKey {
     digest: u64,
-    key: K,
+    key: Key,
 }
 
-impl<K: Digest> Model for Digested<K> {
+impl Model for DigestedKey {
     ghost use Rattle.std.specs.Prelude.{◌≡◌};
+    ghost use Rattle.idl_scope.specs.Key.{key_digest};
+    ghost use Rattle.idl_scope.specs.declared.key.Key.{Key};
 
-    ghost Value = { K };
-
-    ghost coded = { K.code };
+    ghost Value = { Key };
 
     ghost view = { λ digested. digested.key };
 
-    ghost invariant = { λ digested. digested.digest ≡ K.digest_of digested.key };
+    ghost invariant = { λ digested. digested.digest ≡ key_digest digested.key };
 }
 
-impl<K: Digest> Digested<K> {
+impl DigestedKey {
     /// The key, with its digest.
-    pub fn of(key: K) -> Digested<K>
+    pub fn of(key: Key) -> DigestedKey
         ensures { result ≡ key }
     {
         let digest = key.digest();
-        Digested { digest, key }
+        DigestedKey { digest, key }
     }
 }
 
-impl<K: Digest> Clone for Digested<K> {
+impl Clone for DigestedKey {
     ghost is_clone = { λ digested copy. copy ≡ digested };
 
-    fn clone(&self) -> Result<Digested<K>, AllocError> {
+    fn clone(&self) -> Result<DigestedKey, AllocError> {
         let key = self.key.clone()?;
-        Ok(Digested {
+        Ok(DigestedKey {
             digest: self.digest,
             key,
         })
     }
 }
 
-impl<K: Digest> PartialEq for Digested<K> {
-    ghost eq = { K.eq };
+impl PartialEq for DigestedKey {
+    ghost eq = { key_eq };
 
-    ghost laws = { K.PartialEq.laws };
+    ghost laws = { key_per };
 
-    fn eq(&self, other: &Digested<K>) -> bool
-        ensures { result ≡ K.eq self.now other.now }
+    fn eq(&self, other: &DigestedKey) -> bool
+        ensures { result ≡ key_eq self.now other.now }
     {
         self.digest == other.digest && self.key == other.key
     }
 }
 
-impl<K: Digest> Eq for Digested<K> {
-    ghost laws = { K.Eq.laws };
+impl Eq for DigestedKey {
+    ghost laws = { key_equiv };
 }
 
-impl<K: Digest + Ord> PartialOrd for Digested<K> {
-    ghost partial_cmp = { λ x y. Some (digest_first K.digest_of K.cmp x y) };
+impl PartialOrd for DigestedKey {
+    ghost partial_cmp = { λ x y. Some (key_cmp x y) };
 
-    ghost laws = { digest_first_po K.digest_of K.same K.total K.matches_eq };
+    ghost laws = { key_cmp_po };
 
-    fn partial_cmp(&self, other: &Digested<K>) -> Option<Ordering> {
+    fn partial_cmp(&self, other: &DigestedKey) -> Option<Ordering> {
         Some(self.cmp(other))
     }
 }
 
-impl<K: Digest + Ord> Ord for Digested<K> {
-    ghost cmp = { digest_first K.digest_of K.cmp };
+impl Ord for DigestedKey {
+    ghost cmp = { key_cmp };
 
-    ghost total = { digest_first_total K.digest_of K.total };
+    ghost total = { key_cmp_total };
 
     ghost matches_partial_cmp = { λ x y. refl };
 
-    ghost matches_eq = { digest_first_ties K.digest_of K.same K.cmp K.matches_eq };
+    ghost matches_eq = { key_cmp_ties };
 
-    fn cmp(&self, other: &Digested<K>) -> Ordering
-        ensures { result ≡ digest_first K.digest_of K.cmp self.now other.now }
+    fn cmp(&self, other: &DigestedKey) -> Ordering
+        ensures { result ≡ key_cmp self.now other.now }
     {
         match self.digest.cmp(&other.digest) {
             Ordering::Equal => self.key.cmp(&other.key),
@@ -97,14 +99,14 @@ impl<K: Digest + Ord> Ord for Digested<K> {
     }
 }
 
-impl<K: Digest> Datum for Digested<K> {
-    ghost same = { K.same };
+impl Datum for DigestedKey {
+    ghost same = { same_key };
 
     ghost copy = { λ x y h. h };
 }
 
-impl<K: Digest> Digest for Digested<K> {
-    ghost digest_of = { K.digest_of };
+impl Digest for DigestedKey {
+    ghost digest_of = { key_digest };
 
     fn digest(&self) -> u64 {
         self.digest

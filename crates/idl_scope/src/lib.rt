@@ -33,7 +33,7 @@ mod unvalued;
 pub use addition::{Addition, Step};
 pub use answer::{Answer, Scope, count_in, entity_in, identity_in, prefix_in, scopes_in};
 pub use data_type::{DataType, Element, Layer};
-pub use digested::Digested;
+pub use digested::DigestedKey;
 pub use entity::Entity;
 pub use env::Env;
 pub use facts::Facts;
