@@ -2,13 +2,11 @@
 
 ghost use Rattle.std.specs.Prelude.{◌≡◌, ◌++◌, ◌&&◌, [], IfNone, IfOk, OnOk, drop, flat_map, option_to_list};
 ghost use Rattle.idl_scope.specs.Kind.{kind_eq};
-ghost use Rattle.idl_scope.specs.Path.{name_of};
 ghost use Rattle.idl_scope.specs.declared.kind.Kind.TheVariants.{Attribute};
 ghost use Rattle.idl_check.specs.Bodies.{begun_body, comes_out, goes_in, is_member, is_nothing, joined_text, no_clauses, raises, raising, signature_of, told_body, told_innermost, with_array_body, with_array_type, with_body_label, with_context, with_last_type, with_member, with_name, with_next_label, with_raised};
 
 use idl_base::Seq;
-use idl_lex::Spelling;
-use idl_scope::{DataType, Entity, Kind, Member, Path, Shared, Signature, shared_name};
+use idl_scope::{DataType, Entity, Kind, Member, Path, Shared, Signature};
 use idl_site::{Declaration, Use};
 use idl_tree::{Direction, Several};
 use idl_value::Value;
@@ -194,7 +192,7 @@ impl Body {
         if !is_member(entity.kind) {
             return Ok(());
         }
-        let name = name_at(alloc, &entity.path)?;
+        let name = entity.path.spelling(alloc)?;
         let data_type = entity.data_type.clone()?;
         let labels = replace(&mut self.labels, Vec::new(alloc));
         self.members.push(Member {
@@ -330,16 +328,6 @@ fn is_nothing(paths: &[Path]) -> bool
     ensures { result ≡ is_nothing paths.now }
 {
     paths.is_empty()
-}
-
-// The name of what stands at a path.
-fn name_at(alloc: Global, path: &Path) -> Result<Spelling, AllocError>
-    ensures { IfOk result (λ name. name ≡ name_of path.now) }
-{
-    match path.as_slice() {
-        [] => shared_name(alloc, &[]),
-        [name, ..] => name.clone(),
-    }
 }
 
 // Whether it is a member or a parameter.

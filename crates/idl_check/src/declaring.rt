@@ -8,7 +8,6 @@ ghost use Rattle.idl_scope.specs.DataType.{plain_type};
 ghost use Rattle.idl_scope.specs.declared.data_type.Element.TheVariants.{Named};
 ghost use Rattle.idl_check.specs.Identifying.{may_be_ahead};
 ghost use Rattle.idl_check.specs.Codes.{codes_in};
-ghost use Rattle.idl_scope.specs.Path.{path_eq};
 ghost use Rattle.idl_unit.specs.TokenRules.{first};
 
 use crate::bodies::Clauses;
@@ -161,13 +160,19 @@ impl Written {
     }
 
     // The value of an enumerator.
-    fn value(&self, way: Declaration, name: &Spelling) -> Result<Option<Value>, AllocError>
+    fn value(
+        &self,
+        alloc: Global,
+        way: Declaration,
+        name: &Spelling,
+    ) -> Result<Option<Shared<Value>>, AllocError>
         ensures { IfOk result (λ value. value ≡ value_in (held_written self.now) way name.now) }
     {
         match way {
             Declaration::Enumerator => {
                 let enumeration = self.enumeration.clone()?;
-                Ok(Some(Value::Enumerator(enumeration, name.clone()?)))
+                let value = Value::Enumerator(enumeration, name.clone()?);
+                Ok(Some(Shared::new(alloc, value)?))
             }
             _ => Ok(None),
         }
@@ -196,7 +201,7 @@ impl Written {
     {
         let path = scope.child(alloc, name)?;
         let data_type = self.data_type(way)?;
-        let value = self.value(way, name)?;
+        let value = self.value(alloc, way, name)?;
         let enumerators = self.enumerators(alloc, way)?;
         let entity = Entity {
             path,
@@ -263,20 +268,10 @@ fn declared_path<'a>(own: &'a Facts, name: &[u8], scope: &Path) -> Option<&'a Pa
         return None;
     };
     let path = &entity.get().path;
-    if is_child(path, name, scope) {
+    if path.is_child(name, scope) {
         return Some(path);
     }
     None
-}
-
-// Whether a path is that of a name in the scope with a path.
-fn is_child(path: &Path, name: &[u8], scope: &Path) -> bool
-    ensures { result ≡ path_eq path.now (name.now ∷ scope.now) }
-{
-    match path.as_slice() {
-        [own, outer @ ..] => own.as_bytes() == name && outer == scope.as_slice(),
-        [] => false,
-    }
 }
 
 /// An entity that has begun, as its unit leaves it: an interface is open with these bases, an
@@ -303,7 +298,10 @@ pub fn finished(
         }
         _ => {
             entity.stage = Stage::Complete;
-            entity.value = ending.value.clone()?;
+            entity.value = match ending.value {
+                Some(value) => Some(Shared::new(alloc, value.clone()?)?),
+                None => None,
+            };
         }
     }
     Shared::new(alloc, entity)

@@ -114,7 +114,9 @@ pub fn first_identity(
 {
     let mut id = Vec::from_slice(alloc, b"IDL:")?;
     push_prefix(&mut id, prefix.text.as_bytes())?;
-    push_slashed(&mut id, relative(path.as_slice(), prefix.scope.as_slice()))?;
+    let names = path.names(alloc)?;
+    let scope = prefix.scope.names(alloc)?;
+    push_slashed(&mut id, relative(names.as_slice(), scope.as_slice()))?;
     id.extend_from_slice(b":1.0")?;
     Shared::new(
         alloc,

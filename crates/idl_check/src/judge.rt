@@ -32,12 +32,12 @@ use crate::walk::Walker;
 use idl_event::Code;
 use idl_lex::Token;
 use idl_memo::Log;
-use idl_scope::{Env, Facts, Key, Path, Scope, Shared, Step, View, folded_name};
+use idl_scope::{DigestedKey, Env, Facts, Key, Path, Scope, Shared, Step, View, folded_name};
 use idl_site::{Site, sites};
 use idl_syntax::{SyntaxFault, UnitTree, parse};
 use idl_tree::Tree;
 use idl_unit::{Fault, UnitText};
-use std::alloc::{AllocError, Global};
+use std::alloc::AllocError;
 
 /// A unit of tokens, in the scopes that are open around it.
 #[derive(Clone, Copy)]
@@ -124,7 +124,7 @@ impl<'a> Judge<'a> {
             (answers self.entry.env.now) log.old) }
     {
         if opened_kind(self.tokens).is_some() {
-            log.ask(&Key::Nameless, self.env)?;
+            log.ask(&DigestedKey::of(Key::Nameless), self.env)?;
             return adding(self.env.alloc(), Some(fault), faulty_step(self.tokens));
         }
         adding(self.env.alloc(), Some(fault), faulty_step(self.tokens))
@@ -211,7 +211,7 @@ impl<'a> Judge<'a> {
             in_value: false,
         };
         let row = row_of(alloc, row_depth(unit.tree, self.scopes), unit.sites, rest)?;
-        let around = path_around(alloc, self.scopes)?;
+        let around = path_around(self.scopes)?;
         let step = step_of(alloc, &walker.own, unit.tree, &around)?;
         self.ask_step(log, &step)?;
         let facts = walker.into_facts(step)?;
@@ -230,7 +230,7 @@ impl<'a> Judge<'a> {
     {
         match step {
             Step::Opens(path, _kind) => {
-                let key = Key::Opened(path.clone()?);
+                let key = DigestedKey::of(Key::Opened(path.clone()?));
                 log.ask(&key, self.env)?;
                 Ok(())
             }
@@ -245,12 +245,12 @@ impl<'a> Judge<'a> {
 }
 
 // The path of the innermost of these scopes.
-fn path_around(alloc: Global, scopes: &[Scope]) -> Result<Path, AllocError>
+fn path_around(scopes: &[Scope]) -> Result<Path, AllocError>
     ensures { IfOk result (λ path. path ≡ path_around scopes.now) }
 {
     match scopes {
         [innermost, ..] => innermost.path.clone(),
-        [] => Path::global(alloc),
+        [] => Ok(Path::global()),
     }
 }
 

@@ -199,7 +199,8 @@ fn push_path(text: &mut Vec<u8>, path: &Path) -> Result<(), AllocError>
     ensures { OnOk result (text.new.items ≡ text.old.items ++ spaced (path_word path.now)) }
 {
     text.push(b' ')?;
-    push_names(text, path.as_slice())
+    let names = path.names(*text.allocator())?;
+    push_names(text, names.as_slice())
 }
 
 // The names of a path, from the last on.

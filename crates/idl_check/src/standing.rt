@@ -14,7 +14,7 @@ ghost use Rattle.idl_scope.specs.declared.lookup.TheConstants.{TURNS};
 use crate::identifying::{Ids, ids_of};
 use idl_lex::Spelling;
 use idl_memo::Log;
-use idl_scope::{Entity, Env, Key, Path, Scope, Shared, View};
+use idl_scope::{DigestedKey, Entity, Env, Key, Path, Scope, Shared, View};
 use std::alloc::AllocError;
 
 /// What stands under a folded name in the scope in which it is declared.
@@ -79,7 +79,7 @@ fn there(
         (log.new
         ≡ noted key_eq (answers view.entry.env.now) log.old (Declared name.now scope.now.path)) }
 {
-    let key = Key::Declared(name.clone()?, scope.path.clone()?);
+    let key = DigestedKey::of(Key::Declared(name.clone()?, scope.path.clone()?));
     copied(view.entity(log, &key)?)
 }
 
@@ -109,6 +109,7 @@ fn is_used(
         (Introduced name.now scope.now.path scope.now.body)) }
 {
     let key = Key::Introduced(name.clone()?, scope.path.clone()?, scope.body);
+    let key = DigestedKey::of(key);
     let before = log.ask(&key, view.env)?;
     match view.own.get(&key) {
         Some(_addition) => Ok(true),

@@ -11,7 +11,7 @@ use crate::judge::Judge;
 use crate::pragmas::Speaker;
 use crate::verdict::Verdict;
 use idl_memo::{Log, Task, TaskKind};
-use idl_scope::{Env, Key, scopes_in};
+use idl_scope::{DigestedKey, Env, Key, scopes_in};
 use idl_unit::UnitText;
 use std::alloc::{AllocError, Global};
 
@@ -53,7 +53,7 @@ fn verdict_of(env: &Env, log: &mut Log<Env>, text: &UnitText) -> Result<Verdict,
     ensures { IfOk result (λ v. (turns : ℕ) → TURNS ≤ turns →
         (v, log.new) ≡ run key_eq (verdict turns text.now) (answers env.now) log.old) }
 {
-    let scopes = scopes_in(log.ask(&Key::Cursor, env)?);
+    let scopes = scopes_in(log.ask(&DigestedKey::of(Key::Cursor), env)?);
     match text {
         UnitText::Tokens(run) => {
             let judge = Judge {

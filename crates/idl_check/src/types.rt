@@ -119,8 +119,7 @@ pub fn target_in(data_type: &DataType) -> Result<Option<Target>, AllocError>
 pub fn names_of(alloc: Global, path: &Path) -> Result<Seq<Spelling>, AllocError>
     ensures { IfOk result (λ names. names ≡ path.now) }
 {
-    let names = Vec::from_clones(alloc, path.as_slice())?;
-    Ok(Seq::from_vec(names))
+    Ok(Seq::from_vec(path.names(alloc)?))
 }
 
 /// Whether a union may have a discriminator of this type.

@@ -6,6 +6,7 @@ ghost use Rattle.idl_check.specs.Held.{held_values};
 ghost use Rattle.idl_check.specs.Values.{begun_at, code_of, no_values, number_of, outcome_for, value_for, with_operand, with_value};
 
 use idl_event::Code;
+use idl_scope::Shared;
 use idl_site::Target as Purpose;
 use idl_tree::Expression;
 use idl_value::{Code as ValueCode, Outcome, Target, Value, evaluate, evaluate_bound};
@@ -71,10 +72,14 @@ impl Values {
     }
 
     /// The value of its next name, if it has one.
-    pub fn add_operand(&mut self, value: &Option<Value>) -> Result<(), AllocError>
+    pub fn add_operand(&mut self, value: &Option<Shared<Value>>) -> Result<(), AllocError>
         ensures { OnOk result (held_values self.new ≡ with_operand value.now (held_values self.old)) }
     {
-        self.operands.push(value.clone()?)?;
+        let operand = match value {
+            Some(value) => Some(value.get().clone()?),
+            None => None,
+        };
+        self.operands.push(operand)?;
         Ok(())
     }
 

@@ -6,7 +6,7 @@ ghost use Rattle.idl_repo.specs.TypeCode.{listed_value};
 ghost use Rattle.idl_scope.specs.Facts.{answers};
 
 use idl_memo::Log;
-use idl_scope::{Env, Key, Path, identity_in};
+use idl_scope::{DigestedKey, Env, Key, Path, identity_in};
 use idl_value::{Value, push_value};
 use itoa::Buffer;
 use std::alloc::AllocError;
@@ -40,7 +40,7 @@ pub fn push_id(
         (Writes (answers env.now) (IdOf path.now ∷ [])
         (text.old.items, log.old) (text.new.items, log.new)) }
 {
-    let key = Key::IdOf(path.clone()?);
+    let key = DigestedKey::of(Key::IdOf(path.clone()?));
     match identity_in(log.ask(&key, env)?) {
         Some(identity) => text.extend_from_slice(identity.get().id.as_bytes()),
         None => Ok(()),

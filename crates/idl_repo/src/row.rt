@@ -27,7 +27,8 @@ pub fn push_row(
 {
     text.extend_from_slice(kind_word(entity.kind))?;
     text.extend_from_slice(b" ")?;
-    push_path(text, entity.path.as_slice())?;
+    let names = entity.path.names(env.alloc())?;
+    push_path(text, names.as_slice())?;
     text.extend_from_slice(b" ")?;
     push_id(text, env, log, &entity.path)?;
     push_behind_id(text, env, log, entity)?;
@@ -128,7 +129,7 @@ fn push_constant(
     push_type(text, env, log, &entity.data_type)?;
     text.extend_from_slice(b" ")?;
     if let Some(value) = &entity.value {
-        push_listed(text, value)?;
+        push_listed(text, value.get())?;
     }
     Ok(())
 }

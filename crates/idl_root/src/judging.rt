@@ -12,7 +12,7 @@ use crate::finding::{Finding, Spelled, push_fault};
 use crate::printing::{Listed, Printed, print_all, push_listed};
 use idl_check::{DeclarationTask, Verdict};
 use idl_memo::{Bank, Log, Task};
-use idl_scope::{Env, Facts, Key, Step, scopes_in};
+use idl_scope::{DigestedKey, Env, Facts, Key, Step, scopes_in};
 use idl_unit::{Unit, UnitText};
 use std::alloc::{AllocError, Global};
 
@@ -166,7 +166,7 @@ impl<'a> Judging<'a> {
     pub fn is_open(&self) -> bool
         ensures { result ≡ is_open self.now.env }
     {
-        scopes_in(self.env.answer(&Key::Cursor)).len() > 1
+        scopes_in(self.env.answer(&DigestedKey::of(Key::Cursor))).len() > 1
     }
 
     /// What comes of the names that have an id, over all that was added.

@@ -4,9 +4,9 @@ pub mod DenotesOnce
 pub mod FactsLaws
 pub mod Introduced
 pub mod LookupLaws
-pub mod MarkLemmas
 pub mod Meant
 pub mod Membership
+pub mod PathLemmas
 pub mod PlaceLemmas
 pub mod PrefixLaws
 pub mod QueueLemmas

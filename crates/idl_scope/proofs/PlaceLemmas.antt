@@ -1,10 +1,9 @@
 -- The items of a list by their places.
-use Rattle.std.proofs.Common.{◌≡◌, ℕ, zero, suc, ◌+◌, ◌-◌, ◌<◌, ◌≤◌, List, [], ◌∷◌, Some, None, length, take, drop, get_or, map, refl, sym, ap, ◌∙◌, arith, add-one, length-drop}
+use Rattle.std.proofs.Common.{◌≡◌, ℕ, zero, suc, ◌+◌, ◌-◌, ◌<◌, ◌≤◌, List, [], ◌∷◌, Some, None, length, take, drop, get_or, map, sym, ap, ◌∙◌, arith, add-one, length-drop}
 use Rattle.std.specs.Prelude.{slice_get}
 use Rattle.std.proofs.Math.Seq.{drop-cons}
 use Rattle.std.proofs.lemmas.List.{take_all}
 use Rattle.std.proofs.lemmas.Option.{same_Some}
-use Rattle.idl_scope.specs.Path.{scope_of}
 
 module _ {A : Type 0} where
   -- the rest from a place on, where an item stands there
@@ -36,10 +35,3 @@ module _ {A : Type 0} where
 -- what is at a place of a list that a function made
 pub slice_get-map : {A B : Type 0} (f : A → B) (xs : List A) (i : ℕ) (y : B) → slice_get (map f xs) i ≡ Some y → drop i (map f xs) ≡ y ∷ drop (suc i) (map f xs)
 slice_get-map f xs i y h = drop-at (map f xs) i y h
-
--- what is behind the first of the names from a place on
-pub scope_of-drop : (names : List (List ℕ)) (from : ℕ) → drop (suc from) names ≡ scope_of (drop from names)
-scope_of-drop [] zero = refl
-scope_of-drop [] (suc from) = refl
-scope_of-drop (n ∷ names) zero = refl
-scope_of-drop (n ∷ names) (suc from) = scope_of-drop names from

@@ -3,7 +3,7 @@ use Rattle.std.proofs.Common.{◌≡◌, ℕ, ◌<◌, Bool, true, false, cond, 
 use Rattle.std.specs.Map.{lookup}
 use Rattle.std.proofs.lemmas.Option.{same_Some}
 use Rattle.std.proofs.lemmas.List.{append-nil, reverse-append}
-use Rattle.idl_scope.specs.Facts.{Before, World, addition_at, after_closing, after_opening, answer_of, closed, closing, count_in, entity_in, entity_key, first_answer, given_back, global_scope, is_operation, more_inside, no_prefix, operations_among, over, prefix_in, scopes_in, with_answer, with_prefix}
+use Rattle.idl_scope.specs.Facts.{World, addition_at, after_closing, after_opening, answer_of, closed, closing, count_in, entity_in, entity_key, first_answer, given_back, global_scope, is_operation, more_inside, no_prefix, operations_among, over, prefix_in, scopes_in, with_answer, with_prefix}
 use Rattle.idl_scope.specs.Held.{closable, held}
 use Rattle.idl_scope.specs.Key.{key_eq}
 use Rattle.idl_scope.specs.Lookup.{inherits}

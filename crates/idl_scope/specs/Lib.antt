@@ -2,6 +2,7 @@ pub mod Answer
 pub mod Bases
 pub mod DataType
 pub mod Digest
+pub mod Digested
 pub mod Entity
 pub mod Facts
 pub mod Held
@@ -9,7 +10,6 @@ pub mod Identity
 pub mod Key
 pub mod Kind
 pub mod Lookup
-pub mod Mark
 pub mod Meaning
 pub mod Outside
 pub mod Past

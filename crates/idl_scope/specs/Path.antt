@@ -1,7 +1,9 @@
 -- Paths: the name of what stands there, and then those of the scopes around, the innermost first.
-use Rattle.std.specs.Prelude.{◌≡◌, ℕ, Bool, true, List, [], ◌∷◌}
+use Rattle.std.specs.Prelude.{◌≡◌, ℕ, Bool, true, List, [], ◌∷◌, Option, None, Some}
 use Rattle.std.specs.Cmp.Lexicographic.{bytes_decides, pointwise, pointwise_decides}
 use Rattle.std.specs.Str.{bytes_eq}
+use Rattle.std.specs.declared.alloc.Global.{Global}
+use Rattle.std.specs.declared.rc.Rc.{Rc}
 
 -- the name, as it is spelled
 abbrev pub name_of : List (List ℕ) → List ℕ
@@ -20,3 +22,8 @@ path_eq = pointwise bytes_eq
 -- paths that are found equal are one
 pub same_path : (p q : List (List ℕ)) → path_eq p q ≡ true → p ≡ q
 same_path p q = (pointwise_decides bytes_decides p q).0
+
+-- the path of a name and of the scope around it, behind a pointer; without one, that of the global scope
+abbrev pub path_of : Option (Rc (List ℕ × List (List ℕ)) Global) → List (List ℕ)
+path_of None = []
+path_of (Some part) = part.value.0 ∷ part.value.1

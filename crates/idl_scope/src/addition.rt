@@ -4,6 +4,7 @@ ghost use Rattle.std.specs.Prelude.{◌≡◌, IfOk};
 ghost use Rattle.idl_scope.specs.Facts.{answer_of, key_of};
 
 use crate::answer::Answer;
+use crate::digested::DigestedKey;
 use crate::entity::Entity;
 use crate::identity::Identity;
 use crate::key::Key;
@@ -45,7 +46,7 @@ pub enum Step {
 
 impl Addition {
     /// The key whose answer it changes.
-    pub fn key(&self, alloc: Global) -> Result<Key, AllocError>
+    pub fn key(&self, alloc: Global) -> Result<DigestedKey, AllocError>
         ensures { IfOk result (λ key. key ≡ key_of self.now) }
     {
         match self {
@@ -53,9 +54,9 @@ impl Addition {
             Addition::Uses(name, path, body) => {
                 let name = name.clone()?;
                 let path = path.clone()?;
-                Ok(Key::Introduced(name, path, *body))
+                Ok(DigestedKey::of(Key::Introduced(name, path, *body)))
             }
-            Addition::Identifies(path, _) => Ok(Key::IdOf(path.clone()?)),
+            Addition::Identifies(path, _) => Ok(DigestedKey::of(Key::IdOf(path.clone()?))),
         }
     }
 

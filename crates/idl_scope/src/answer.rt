@@ -41,15 +41,14 @@ pub enum Answer {
 
 impl Scope {
     /// The global scope.
-    pub fn global(alloc: Global) -> Result<Scope, AllocError>
-        ensures { IfOk result (λ scope. scope ≡ global_scope) }
+    pub fn global() -> Scope
+        ensures { result ≡ global_scope }
     {
-        let path = Path::global(alloc)?;
-        Ok(Scope {
-            path,
+        Scope {
+            path: Path::global(),
             kind: Kind::Module,
             body: 0,
-        })
+        }
     }
 }
 

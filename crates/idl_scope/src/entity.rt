@@ -34,7 +34,7 @@ pub struct Entity {
     /// The type that it is declared with: what an operation gives back, if it does, and of a union that of its labels.
     pub data_type: Option<Shared<DataType>>,
     /// The value of a constant, once it is told, and of an enumerator.
-    pub value: Option<Value>,
+    pub value: Option<Shared<Value>>,
     /// The names of the enumerators of an enum, in order.
     pub enumerators: Seq<Spelling>,
     /// What it shows behind its name, once that is told.

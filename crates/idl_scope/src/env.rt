@@ -5,6 +5,7 @@ ghost use Rattle.std.specs.Option.{option_copied};
 ghost use Rattle.idl_scope.specs.Facts.{answers};
 
 use crate::answer::Answer;
+use crate::digested::DigestedKey;
 use crate::facts::Facts;
 use crate::key::Key;
 use crate::past::Past;
@@ -92,13 +93,13 @@ impl Env {
 impl Bank for Env {
     ghost use Rattle.idl_scope.specs.Facts.{answers};
 
-    type Key = Key;
+    type Key = DigestedKey;
 
     type Answer = Answer;
 
     ghost at = { answers };
 
-    fn answer(&self, key: &Key) -> Option<&Answer>
+    fn answer(&self, key: &DigestedKey) -> Option<&Answer>
         ensures { option_copied result ≡ answers self.now key.now }
     {
         self.state.answers.get(key)

@@ -6,6 +6,7 @@ ghost use Rattle.idl_scope.specs.Facts.{addition_at, with_addition};
 ghost use Rattle.idl_scope.specs.declared.addition.Step.TheVariants.{Stays};
 
 use crate::addition::{Addition, Step};
+use crate::digested::DigestedKey;
 use crate::key::Key;
 use idl_base::Table;
 use std::alloc::{AllocError, Global};
@@ -14,7 +15,7 @@ use std::marker::Model;
 /// What a unit adds, or its earlier tokens: names that are declared and introduced, and then how the open scopes change.
 pub struct Facts {
     alloc: Global,
-    additions: Table<Key, Addition>,
+    additions: Table<DigestedKey, Addition>,
     step: Step,
 }
 
@@ -74,7 +75,7 @@ impl Facts {
     }
 
     /// The addition at a key, or nothing.
-    pub fn get(&self, key: &Key) -> Option<&Addition>
+    pub fn get(&self, key: &DigestedKey) -> Option<&Addition>
         ensures { option_copied result ≡ addition_at self.now.additions key.now }
     {
         self.additions.get(key)

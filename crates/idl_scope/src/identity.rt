@@ -64,7 +64,7 @@ impl Prefix {
         ensures { IfOk result (λ prefix. prefix ≡ no_prefix) }
     {
         let text = shared_name(alloc, b"")?;
-        let scope = Path::global(alloc)?;
+        let scope = Path::global();
         Shared::new(alloc, Prefix { text, scope })
     }
 }

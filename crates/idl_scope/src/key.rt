@@ -4,6 +4,7 @@ ghost use Rattle.std.specs.Prelude.{◌≡◌, IfOk};
 ghost use Rattle.idl_scope.specs.Facts.{entity_key};
 
 use crate::digest::behind;
+use crate::digested::DigestedKey;
 use crate::path::Path;
 use idl_base::{Datum, mixed, with_bytes};
 use idl_lex::Spelling;
@@ -51,12 +52,12 @@ impl Datum for Key {
 
 impl Key {
     /// What is asked of the entity at a path: its own name, folded, in the scope around.
-    pub fn of_entity(alloc: Global, path: &Path) -> Result<Key, AllocError>
+    pub fn of_entity(alloc: Global, path: &Path) -> Result<DigestedKey, AllocError>
         ensures { IfOk result (λ key. key ≡ entity_key path.now) }
     {
         let name = path.folded(alloc)?;
         let scope = path.scope()?;
-        Ok(Key::Declared(name, scope))
+        Ok(DigestedKey::of(Key::Declared(name, scope)))
     }
 }
 

@@ -11,6 +11,7 @@ ghost use Rattle.idl_scope.specs.declared.lookup.TheConstants.{TURNS};
 
 use crate::addition::Addition;
 use crate::answer::{Answer, Scope, entity_in, identity_in, prefix_in};
+use crate::digested::DigestedKey;
 use crate::entity::Entity;
 use crate::env::Env;
 use crate::facts::Facts;
@@ -47,7 +48,7 @@ impl<'a> View<'a> {
     pub fn entity(
         self,
         log: &mut Log<Env>,
-        key: &Key,
+        key: &DigestedKey,
     ) -> Result<Option<&'a Shared<Entity>>, AllocError>
         ensures entity { IfOk result (λ e.
             option_copied e
@@ -73,7 +74,7 @@ impl<'a> View<'a> {
         ensures logged { OnOk result
             (log.new ≡ noted key_eq (answers self.entry.env.now) log.old PrefixKey) }
     {
-        match prefix_in(log.ask(&Key::Prefix, self.env)?) {
+        match prefix_in(log.ask(&DigestedKey::of(Key::Prefix), self.env)?) {
             Some(prefix) => prefix.clone(),
             None => Prefix::none(self.env.alloc()),
         }
@@ -93,7 +94,7 @@ impl<'a> View<'a> {
         ensures logged { OnOk result
             (log.new ≡ noted key_eq (answers self.entry.env.now) log.old (IdOf path.now)) }
     {
-        let key = Key::IdOf(path.clone()?);
+        let key = DigestedKey::of(Key::IdOf(path.clone()?));
         let before = log.ask(&key, self.env)?;
         match self.own.get(&key) {
             Some(addition) => Ok(identified_by(addition)),
@@ -115,7 +116,7 @@ impl<'a> View<'a> {
         ensures logged { OnOk result
             (log.new ≡ noted key_eq (answers self.entry.env.now) log.old (Declared name.now path.now)) }
     {
-        let key = Key::Declared(name.clone()?, path.clone()?);
+        let key = DigestedKey::of(Key::Declared(name.clone()?, path.clone()?));
         self.entity(log, &key)
     }
 

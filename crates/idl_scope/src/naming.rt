@@ -128,7 +128,7 @@ impl<'a> View<'a> {
     {
         let folded = folded_name(self.env.alloc(), name.first.as_bytes())?;
         if name.is_global {
-            let global = Scope::global(self.env.alloc())?;
+            let global = Scope::global();
             return self.outward(log, &[global], &folded);
         }
         self.outward(log, cursor, &folded)

@@ -8,6 +8,7 @@ ghost use Rattle.std.specs.Map.{keys_of, lookup};
 
 use crate::addition::Addition;
 use crate::answer::{Answer, entity_in};
+use crate::digested::DigestedKey;
 use crate::facts::Facts;
 use crate::key::Key;
 use crate::path::Path;
@@ -19,7 +20,7 @@ use std::alloc::{AllocError, Global};
 /// The operations and attributes of the bases in their order, none twice.
 pub fn inherited(
     alloc: Global,
-    answers: &Map<Key, Answer>,
+    answers: &Map<DigestedKey, Answer>,
     bases: &[Path],
 ) -> Result<Vec<Path>, AllocError>
     ensures { IfOk result (λ paths.
@@ -35,7 +36,7 @@ pub fn inherited(
 // The operations and attributes of the closed interface at a path.
 fn operations_at<'a>(
     alloc: Global,
-    answers: &'a Map<Key, Answer>,
+    answers: &'a Map<DigestedKey, Answer>,
     path: &Path,
 ) -> Result<&'a [Path], AllocError>
     ensures { IfOk result (λ paths.

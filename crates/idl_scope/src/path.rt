@@ -1,19 +1,17 @@
 //! Paths: where an entity or a scope stands.
 
-ghost use Rattle.std.specs.Prelude.{◌≡◌, ◌≤◌, ◌∷◌, [], IfOk, Some, drop, length, refl};
+ghost use Rattle.std.specs.Prelude.{◌≡◌, ◌∷◌, [], IfOk, IsFalse, IsTrue, List, Some, false, refl, ℕ};
 ghost use Rattle.std.specs.Cmp.{partial_equiv_from_equiv};
-ghost use Rattle.std.specs.Cmp.Lexicographic.{bytes_decides, lists_agrees, lists_equiv, lists_per, lists_po, lists_ties, lists_total, nat_list_cmp_total, nat_list_eq_equiv, pointwise, pointwise_decides, slice_cmp, slice_partial_cmp, texts_po, texts_ties};
+ghost use Rattle.std.specs.Cmp.Lexicographic.{lists_agrees, lists_equiv, lists_per, lists_po, lists_ties, lists_total, nat_list_cmp_total, nat_list_eq_equiv, pointwise, slice_cmp, slice_partial_cmp, texts_po, texts_ties};
 ghost use Rattle.std.specs.Hash as fed;
 ghost use Rattle.std.specs.Ordering.{nat_cmp};
 ghost use Rattle.std.specs.Str.{bytes_eq};
 ghost use Rattle.std.proofs.Common.{ap};
 ghost use Rattle.idl_lex.specs.Keywords.{folded};
 ghost use Rattle.idl_scope.specs.Digest.{outermost_digest, path_digest};
-ghost use Rattle.idl_scope.specs.Mark.{marks_of};
-ghost use Rattle.idl_scope.specs.Path.{name_of, path_eq, scope_of};
+ghost use Rattle.idl_scope.specs.Path.{name_of, path_eq, path_of, same_path, scope_of};
 
 use crate::digest::with_child;
-use crate::mark::Mark;
 use crate::name::{folded_spelling, shared_name};
 use idl_base::Datum;
 use idl_lex::Spelling;
@@ -26,108 +24,156 @@ use std::rc::Rc;
 /// A path: the name of an entity as it is spelled, then those of the scopes around it, the innermost first. The global scope's
 /// has none.
 ///
-/// To every contract it is the list of its names. A clone, and the path of the scope around, share them. Beside each name its
-/// folded form is kept, and the digest of the path from there on.
+/// To every contract it is the list of its names. What stands in one scope shares the path of that scope, so that a path
+/// takes the memory of one name, and a clone none.
 #[derive(Drop)]
 pub struct Path {
-    parts: Rc<Parts>,
-    from: usize,
-}
-
-// The names of a path, and what is kept beside them.
-#[derive(Drop)]
-struct Parts {
-    names: Vec<Spelling>,
-    marks: Vec<Mark>,
+    innermost: Option<Rc<Part>>,
 }
 
 impl Model for Path {
-    ghost use Rattle.std.specs.Prelude.{◌≡◌, ◌≤◌, List, ℕ, drop, length};
-    ghost use Rattle.idl_scope.specs.Mark.{marks_of};
+    ghost use Rattle.std.specs.Prelude.{List, ℕ};
+    ghost use Rattle.idl_scope.specs.Path.{path_of};
 
     ghost Value = { List (List ℕ) };
 
-    ghost view = { λ path. drop path.from path.parts.value.names.items };
+    ghost view = { λ path. path_of path.innermost };
+}
 
-    ghost invariant = { λ path.
-        (path.from ≤ length path.parts.value.names.items)
-        × (path.parts.value.marks.items ≡ marks_of path.parts.value.names.items) };
+// A name of a path with the path around, and beside it its folded form, the digest of the path from there on, and that of
+// its outermost scope.
+struct Part {
+    name: Spelling,
+    folded_name: Spelling,
+    digest: u64,
+    outermost: u64,
+    around: Option<Rc<Part>>,
+}
+
+impl Model for Part {
+    ghost use Rattle.std.specs.Prelude.{List, ℕ, ◌≡◌, ◌∷◌, length};
+    ghost use Rattle.idl_lex.specs.Keywords.{folded};
+    ghost use Rattle.idl_scope.specs.Digest.{outermost_digest, path_digest};
+    ghost use Rattle.idl_scope.specs.Path.{path_of};
+
+    ghost Value = { List ℕ × List (List ℕ) };
+
+    ghost view = { λ part. (part.name, path_of part.around) };
+
+    ghost invariant = { λ part.
+        (part.folded_name ≡ folded part.name)
+        × (part.digest ≡ path_digest (part.name ∷ path_of part.around))
+        × (part.outermost ≡ outermost_digest (part.name ∷ path_of part.around)) };
+
+    ghost size = { λ seen. length seen.1 };
+
+    ghost use Rattle.std.proofs.Common.{arith};
+
+    ghost size_decreases = { λ a h. Prim.grind arith };
+}
+
+// A loop, so that a long path is dropped in little stack.
+impl Drop for Part {
+    fn drop(self) {
+        let mut link = self.into_around();
+        while let Some(shared) = link {
+            link = match Rc::into_inner(shared) {
+                Some(part) => part.into_around(),
+                None => None,
+            };
+        }
+    }
+}
+
+impl Part {
+    // The path around, without its name, which is dropped.
+    fn into_around(self) -> Option<Rc<Part>>
+        ensures { path_of result ≡ self.1 }
+    {
+        let Part {
+            name: _name,
+            folded_name: _folded_name,
+            digest: _digest,
+            outermost: _outermost,
+            around,
+        } = self;
+        around
+    }
 }
 
 impl Path {
-    /// The path of the global scope.
-    pub fn global(alloc: Global) -> Result<Path, AllocError>
-        ensures { IfOk result (λ path. path ≡ []) }
+    /// The path of the global scope. It takes no memory.
+    pub fn global() -> Path
+        ensures { result ≡ [] }
     {
-        let parts = Parts {
-            names: Vec::new(alloc),
-            marks: Vec::new(alloc),
-        };
-        let parts = Rc::new(alloc, parts)?;
-        Ok(Path { parts, from: 0 })
+        Path { innermost: None }
     }
 
     /// The path of a name in the scope with this path.
     pub fn child(&self, alloc: Global, name: &Spelling) -> Result<Path, AllocError>
         ensures { IfOk result (λ path. path ≡ name.now ∷ self.now) }
     {
-        let scope = self.as_slice();
-        let mut names = Vec::with_capacity(alloc, scope.len() + 1)?;
-        names.push(name.clone()?)?;
-        for outer in scope {
-            names.push(outer.clone()?)?;
-        }
-        let marks = self.marks_of_child(alloc, name)?;
-        let parts = Rc::new(alloc, Parts { names, marks })?;
-        Ok(Path { parts, from: 0 })
+        let folded_name = folded_spelling(alloc, name)?;
+        let digest = with_child(self.digest(), name.as_bytes());
+        let outermost = self.outermost_around(digest);
+        let name = name.clone()?;
+        let around = self.innermost.clone()?;
+        let part = Part {
+            name,
+            folded_name,
+            digest,
+            outermost,
+            around,
+        };
+        let innermost = Some(Rc::new(alloc, part)?);
+        Ok(Path { innermost })
     }
 
-    // What is kept beside the names of the path of a name in this scope.
-    fn marks_of_child(&self, alloc: Global, name: &Spelling) -> Result<Vec<Mark>, AllocError>
-        ensures { IfOk result (λ marks. marks.items ≡ marks_of (name.now ∷ self.now)) }
+    // The digest of the outermost scope around what stands here with this digest.
+    #[tactic(auto, unfolding(crate::specs::Digest::outermost_digest))]
+    fn outermost_around(&self, digest: u64) -> u64
+        ensures { (name : List ℕ) → digest ≡ path_digest (name ∷ self.now)
+            → result ≡ outermost_digest (name ∷ self.now) }
     {
-        let folded = folded_spelling(alloc, name)?;
-        let digest = with_child(self.digest(), name.as_bytes());
-        let scope = self.marks();
-        let mut marks = Vec::with_capacity(alloc, scope.len() + 1)?;
-        marks.push(Mark { folded, digest })?;
-        for outer in scope {
-            marks.push(outer.clone()?)?;
+        match &self.innermost {
+            None => digest,
+            Some(part) => part.outermost,
         }
-        Ok(marks)
     }
 
     /// The names, the innermost first.
-    pub fn as_slice(&self) -> &[Spelling]
-        ensures { result.now ≡ self.now }
+    pub fn names(&self, alloc: Global) -> Result<Vec<Spelling>, AllocError>
+        ensures { IfOk result (λ names. names.items ≡ self.now) }
     {
-        &self.parts.names.as_slice()[self.from..]
-    }
-
-    // What is kept beside them.
-    fn marks(&self) -> &[Mark]
-        ensures { result.now ≡ marks_of self.now }
-    {
-        marks_from(self.parts.marks.as_slice(), self.from)
+        let mut names = Vec::new(alloc);
+        let mut link = &self.innermost;
+        while let Some(shared) = link {
+            let part: &Part = shared;
+            names.push(part.name.clone()?)?;
+            link = &part.around;
+        }
+        Ok(names)
     }
 
     /// A number that paths are found by: those that are alike have one.
+    #[tactic(auto, unfolding(crate::specs::Digest::path_digest))]
     pub fn digest(&self) -> u64
         ensures { result ≡ path_digest self.now }
     {
-        match self.marks() {
-            [] => 0,
-            [own, ..] => own.digest,
+        match &self.innermost {
+            None => 0,
+            Some(part) => part.digest,
         }
     }
 
     /// The digest of the outermost scope around, or of a path of one name that path's own.
+    #[tactic(auto, unfolding(crate::specs::Digest::outermost_digest))]
     pub fn outermost_digest(&self) -> u64
         ensures { result ≡ outermost_digest self.now }
     {
-        match self.marks() {
-            [] => 0,
-            [.., outermost] => outermost.digest,
+        match &self.innermost {
+            None => 0,
+            Some(part) => part.outermost,
         }
     }
 
@@ -135,9 +181,19 @@ impl Path {
     pub fn folded(&self, alloc: Global) -> Result<Spelling, AllocError>
         ensures { IfOk result (λ name. name ≡ folded (name_of self.now)) }
     {
-        match self.marks() {
-            [] => shared_name(alloc, &[]),
-            [own, ..] => own.folded.clone(),
+        match &self.innermost {
+            None => shared_name(alloc, &[]),
+            Some(part) => part.folded_name.clone(),
+        }
+    }
+
+    /// The name of what stands there, shared.
+    pub fn spelling(&self, alloc: Global) -> Result<Spelling, AllocError>
+        ensures { IfOk result (λ name. name ≡ name_of self.now) }
+    {
+        match &self.innermost {
+            None => shared_name(alloc, &[]),
+            Some(part) => part.name.clone(),
         }
     }
 
@@ -145,9 +201,9 @@ impl Path {
     pub fn name(&self) -> &[u8]
         ensures { result.now ≡ name_of self.now }
     {
-        match self.as_slice() {
-            [] => &[],
-            [name, ..] => name.as_bytes(),
+        match &self.innermost {
+            None => &[],
+            Some(part) => part.name.as_bytes(),
         }
     }
 
@@ -155,48 +211,100 @@ impl Path {
     pub fn scope(&self) -> Result<Path, AllocError>
         ensures { IfOk result (λ path. path ≡ scope_of self.now) }
     {
-        let parts = self.parts.clone()?;
-        let from = behind_first(self.parts.names.as_slice(), self.from);
-        Ok(Path { parts, from })
+        match &self.innermost {
+            None => Ok(Path::global()),
+            Some(part) => {
+                let innermost = part.around.clone()?;
+                Ok(Path { innermost })
+            }
+        }
     }
 
     /// Whether it stands directly in the scope with that path.
     pub fn is_in(&self, scope: &Path) -> bool
         ensures { result ≡ path_eq (scope_of self.now) scope.now }
     {
-        match self.as_slice() {
-            [] => scope.as_slice().is_empty(),
-            [_, outer @ ..] => outer == scope.as_slice(),
+        match &self.innermost {
+            None => are_one(&self.innermost, &scope.innermost),
+            Some(part) => are_one(&part.around, &scope.innermost),
+        }
+    }
+
+    /// Whether it is the path of this name in the scope with that path.
+    pub fn is_child(&self, name: &[u8], scope: &Path) -> bool
+        ensures { result ≡ path_eq self.now (name.now ∷ scope.now) }
+    {
+        match &self.innermost {
+            None => false,
+            Some(part) => part.name.as_bytes() == name && are_one(&part.around, &scope.innermost),
         }
     }
 }
 
-// Those from a place on.
-fn marks_from(marks: &[Mark], from: usize) -> &[Mark]
-    requires { from ≤ length marks.now }
-    ensures { result.now ≡ drop from marks.now }
+// Whether two paths are one.
+#[tactic(auto, using(crate::proofs::PathLemmas::same_first))]
+fn are_one(first: &Option<Rc<Part>>, second: &Option<Rc<Part>>) -> bool
+    ensures { result ≡ path_eq (path_of first.now) (path_of second.now) }
 {
-    &marks[from..]
+    let mut own = first;
+    let mut other = second;
+    while let Some(shared) = own {
+        let Some(others) = other else {
+            return false;
+        };
+        let mine: &Part = shared;
+        let theirs: &Part = others;
+        if !begin_alike(mine, theirs) {
+            return false;
+        }
+        own = &mine.around;
+        other = &theirs.around;
+    }
+    other.is_none()
 }
 
-// The place behind the first of the names from a place on, if there is one.
-fn behind_first(names: &[Spelling], from: usize) -> usize
-    requires { from ≤ length names.now }
-    ensures at { drop result names.now ≡ scope_of (drop from names.now) }
-    ensures within { result ≤ length names.now }
+// Whether the innermost names are one, unless the digests tell already that the paths are not.
+fn begin_alike(mine: &Part, theirs: &Part) -> bool
+    ensures alike { IsTrue result → mine.now.0 ≡ theirs.now.0 }
+    ensures differ { IsFalse result
+        → path_eq (mine.now.0 ∷ mine.now.1) (theirs.now.0 ∷ theirs.now.1) ≡ false }
 {
-    if from < names.len() { from + 1 } else { from }
+    mine.digest == theirs.digest && mine.name == theirs.name
+}
+
+// Which of two paths comes first, by their innermost names and then by those around.
+#[tactic(auto, using(crate::proofs::PathLemmas::equal_first, crate::proofs::PathLemmas::unequal_first))]
+fn order_of(first: &Option<Rc<Part>>, second: &Option<Rc<Part>>) -> Ordering
+    ensures { result ≡ slice_cmp (slice_cmp nat_cmp) (path_of first.now) (path_of second.now) }
+{
+    let mut own = first;
+    let mut other = second;
+    while let Some(shared) = own {
+        let Some(others) = other else {
+            return Ordering::Greater;
+        };
+        let mine: &Part = shared;
+        let theirs: &Part = others;
+        let order = mine.name.cmp(&theirs.name);
+        if order != Ordering::Equal {
+            return order;
+        }
+        own = &mine.around;
+        other = &theirs.around;
+    }
+    if other.is_some() {
+        Ordering::Less
+    } else {
+        Ordering::Equal
+    }
 }
 
 impl Clone for Path {
     ghost is_clone = { λ path copy. copy ≡ path };
 
     fn clone(&self) -> Result<Path, AllocError> {
-        let parts = self.parts.clone()?;
-        Ok(Path {
-            parts,
-            from: self.from,
-        })
+        let innermost = self.innermost.clone()?;
+        Ok(Path { innermost })
     }
 }
 
@@ -208,7 +316,7 @@ impl PartialEq for Path {
     fn eq(&self, other: &Path) -> bool
         ensures { result ≡ pointwise bytes_eq self.now other.now }
     {
-        self.as_slice() == other.as_slice()
+        are_one(&self.innermost, &other.innermost)
     }
 }
 
@@ -222,7 +330,7 @@ impl PartialOrd for Path {
     ghost laws = { lists_po texts_po };
 
     fn partial_cmp(&self, other: &Path) -> Option<Ordering> {
-        self.as_slice().partial_cmp(&other.as_slice())
+        Some(self.cmp(other))
     }
 }
 
@@ -238,18 +346,17 @@ impl Ord for Path {
     fn cmp(&self, other: &Path) -> Ordering
         ensures { result ≡ slice_cmp (slice_cmp nat_cmp) self.now other.now }
     {
-        self.as_slice().cmp(&other.as_slice())
+        order_of(&self.innermost, &other.innermost)
     }
 }
 
 impl Hash for Path {
-    ghost hash_input = { fed.slice (fed.slice fed.u8) };
+    ghost hash_input = { λ path. fed.u64 (path_digest path) };
 
-    ghost respects_eq = { λ x y h.
-        ap (fed.slice (fed.slice fed.u8)) ((pointwise_decides bytes_decides x y).0 h) };
+    ghost respects_eq = { λ x y h. ap (λ path. fed.u64 (path_digest path)) (same_path x y h) };
 
     fn hash<H: Hasher>(&self, state: &mut H) {
-        self.as_slice().hash(state);
+        self.digest().hash(state);
     }
 }
 

@@ -9,12 +9,13 @@ ghost use Rattle.idl_scope.specs.declared.addition.Addition.TheVariants.{Declare
 ghost use Rattle.idl_scope.specs.declared.addition.Step.TheVariants.{Closes, Enters, Leaves, Opens, OpensNameless, Prefixes};
 ghost use Rattle.idl_scope.specs.declared.answer.Answer.TheVariants as answers;
 ghost use Rattle.idl_scope.specs.declared.key.Key.{Key};
-ghost use Rattle.idl_scope.specs.declared.key.Key.TheVariants.{Opened, Prefix as PrefixKey};
+ghost use Rattle.idl_scope.specs.declared.key.Key.TheVariants.{Cursor, Opened, Prefix as PrefixKey};
 ghost use Rattle.idl_scope.specs.declared.kind.Stage.TheVariants as stages;
 ghost use Rattle.std.specs.Map.{lookup};
 
 use crate::addition::{Addition, Step};
 use crate::answer::{Answer, Scope, count_in, entity_in, prefix_in, scopes_in};
+use crate::digested::DigestedKey;
 use crate::entity::Entity;
 use crate::facts::Facts;
 use crate::identity::Prefix;
@@ -34,7 +35,7 @@ use std::alloc::{AllocError, Global};
 /// prefixes that were in force before the open scopes were opened and before files were entered, the innermost last. Its
 /// copies share all of it.
 pub struct State {
-    pub answers: Map<Key, Answer>,
+    pub answers: Map<DigestedKey, Answer>,
     pub inside: SharedList<SharedList<Path>>,
     pub opened: SharedList<Shared<Prefix>>,
     pub entered: SharedList<Shared<Prefix>>,
@@ -73,10 +74,14 @@ impl State {
     pub fn new(alloc: Global) -> Result<State, AllocError>
         ensures { IfOk result (λ state. held state ≡ first_world) }
     {
-        let scopes = opened(alloc, Scope::global(alloc)?, &[])?;
+        let scopes = opened(alloc, Scope::global(), &[])?;
         let mut answers = Map::new();
-        answers.insert(alloc, Key::Cursor, scopes)?;
-        answers.insert(alloc, Key::Prefix, Answer::InForce(Prefix::none(alloc)?))?;
+        answers.insert(alloc, DigestedKey::of(Key::Cursor), scopes)?;
+        answers.insert(
+            alloc,
+            DigestedKey::of(Key::Prefix),
+            Answer::InForce(Prefix::none(alloc)?),
+        )?;
         let mut inside = SharedList::new();
         inside.push(alloc, SharedList::new())?;
         Ok(State {
@@ -127,6 +132,14 @@ impl State {
         )
     }
 
+    // The open scopes.
+    fn cursor(&self) -> &[Scope]
+        ensures { result.now ≡ scopes_in (lookup (key_eq Cursor) self.now.answers) }
+    {
+        let key = DigestedKey::of(Key::Cursor);
+        scopes_in(self.answers.get(&key))
+    }
+
     // What it comes to with one more body of a scope.
     fn open(&mut self, alloc: Global, path: &Path, kind: Kind) -> Result<(), AllocError>
         requires { count_in (lookup (key_eq (Opened path.now)) self.old.answers) < 18446744073709551615 }
@@ -135,11 +148,12 @@ impl State {
     {
         let scope = self.next_body(path, kind)?;
         let body = scope.body;
-        let key = Key::Opened(scope.path.clone()?);
-        let scopes = opened(alloc, scope, scopes_in(self.answers.get(&Key::Cursor)))?;
+        let key = DigestedKey::of(Key::Opened(scope.path.clone()?));
+        let scopes = opened(alloc, scope, self.cursor())?;
         let prefix = self.prefix(alloc)?;
         self.answers.insert(alloc, key, Answer::Count(body))?;
-        self.answers.insert(alloc, Key::Cursor, scopes)?;
+        self.answers
+            .insert(alloc, DigestedKey::of(Key::Cursor), scopes)?;
         self.inside.push(alloc, SharedList::new())?;
         self.opened.push(alloc, prefix)?;
         Ok(())
@@ -156,7 +170,7 @@ impl State {
               body = next_body (held self.now) path.now;
             }) }
     {
-        let key = Key::Opened(path.clone()?);
+        let key = DigestedKey::of(Key::Opened(path.clone()?));
         let body = count_in(self.answers.get(&key)) + 1;
         let path = path.clone()?;
         Ok(Scope { path, kind, body })
@@ -168,11 +182,11 @@ impl State {
         ensures { OnOk result
             (held self.new ≡ after_step (held self.old) (OpensNameless kind)) }
     {
-        let number = count_in(self.answers.get(&Key::Nameless));
+        let key = DigestedKey::of(Key::Nameless);
+        let number = count_in(self.answers.get(&key));
         let name = nameless_name(alloc, number)?;
-        let path = child_of_first(alloc, scopes_in(self.answers.get(&Key::Cursor)), &name)?;
-        self.answers
-            .insert(alloc, Key::Nameless, Answer::Count(number + 1))?;
+        let path = child_of_first(alloc, self.cursor(), &name)?;
+        self.answers.insert(alloc, key, Answer::Count(number + 1))?;
         self.open(alloc, &path, kind)
     }
 
@@ -181,17 +195,17 @@ impl State {
         ensures { OnOk result
             (held self.new ≡ after_step (held self.old) Closes) }
     {
-        let Some((scope, outer)) = closable(scopes_in(self.answers.get(&Key::Cursor))) else {
+        let Some((scope, outer)) = closable(self.cursor()) else {
             return Ok(());
         };
         let scopes = open_scopes(alloc, outer)?;
         let closing = self.closing(alloc, scope)?;
         put_closing(alloc, &mut self.answers, &closing)?;
-        self.answers.insert(alloc, Key::Cursor, scopes)?;
+        self.answers
+            .insert(alloc, DigestedKey::of(Key::Cursor), scopes)?;
         leave(&mut self.inside)?;
         let prefix = taken_last(alloc, &mut self.opened)?;
-        self.answers
-            .insert(alloc, Key::Prefix, Answer::InForce(prefix))?;
+        self.answers.insert(alloc, DigestedKey::of(Key::Prefix), Answer::InForce(prefix))?;
         Ok(())
     }
 
@@ -200,7 +214,7 @@ impl State {
         ensures { IfOk result (λ prefix.
             prefix ≡ prefix_in (lookup (key_eq PrefixKey) self.now.answers)) }
     {
-        match prefix_in(self.answers.get(&Key::Prefix)) {
+        match prefix_in(self.answers.get(&DigestedKey::of(Key::Prefix))) {
             Some(prefix) => prefix.clone(),
             None => Prefix::none(alloc),
         }
@@ -211,10 +225,9 @@ impl State {
         ensures { OnOk result (held self.new ≡ after_step (held self.old) (Prefixes text.now)) }
     {
         let text = text.clone()?;
-        let scope = path_of_first(alloc, scopes_in(self.answers.get(&Key::Cursor)))?;
+        let scope = path_of_first(self.cursor())?;
         let prefix = Shared::new(alloc, Prefix { text, scope })?;
-        self.answers
-            .insert(alloc, Key::Prefix, Answer::InForce(prefix))?;
+        self.answers.insert(alloc, DigestedKey::of(Key::Prefix), Answer::InForce(prefix))?;
         Ok(())
     }
 
@@ -225,7 +238,7 @@ impl State {
         let prefix = self.prefix(alloc)?;
         let none = Prefix::none(alloc)?;
         self.answers
-            .insert(alloc, Key::Prefix, Answer::InForce(none))?;
+            .insert(alloc, DigestedKey::of(Key::Prefix), Answer::InForce(none))?;
         self.entered.push(alloc, prefix)?;
         Ok(())
     }
@@ -235,8 +248,7 @@ impl State {
         ensures { OnOk result (held self.new ≡ after_step (held self.old) Leaves) }
     {
         let prefix = taken_last(alloc, &mut self.entered)?;
-        self.answers
-            .insert(alloc, Key::Prefix, Answer::InForce(prefix))?;
+        self.answers.insert(alloc, DigestedKey::of(Key::Prefix), Answer::InForce(prefix))?;
         Ok(())
     }
 
@@ -286,7 +298,7 @@ fn closable(scopes: &[Scope]) -> Option<(&Scope, &[Scope])>
 // The answers with that of an interface that closes, if one does.
 fn put_closing(
     alloc: Global,
-    answers: &mut Map<Key, Answer>,
+    answers: &mut Map<DigestedKey, Answer>,
     closing: &Option<Shared<Entity>>,
 ) -> Result<(), AllocError>
     ensures { OnOk result
@@ -347,7 +359,11 @@ fn closed(interface: &Entity, operations: Vec<Path>) -> Result<Entity, AllocErro
 }
 
 // The answers with those of the additions.
-fn put_all(alloc: Global, answers: &mut Map<Key, Answer>, facts: &Facts) -> Result<(), AllocError>
+fn put_all(
+    alloc: Global,
+    answers: &mut Map<DigestedKey, Answer>,
+    facts: &Facts,
+) -> Result<(), AllocError>
     ensures { OnOk result
         ((k : Key)
         → lookup (key_eq k) answers.new ≡ over facts.now.additions k (lookup (key_eq k) answers.old)) }
@@ -389,17 +405,17 @@ fn child_of_first(alloc: Global, scopes: &[Scope], name: &Spelling) -> Result<Pa
     ensures { IfOk result (λ path. path ≡ name.now ∷ path_around scopes.now) }
 {
     match scopes {
-        [] => Path::global(alloc)?.child(alloc, name),
+        [] => Path::global().child(alloc, name),
         [innermost, ..] => innermost.path.child(alloc, name),
     }
 }
 
 // The path of the innermost of the scopes.
-fn path_of_first(alloc: Global, scopes: &[Scope]) -> Result<Path, AllocError>
+fn path_of_first(scopes: &[Scope]) -> Result<Path, AllocError>
     ensures { IfOk result (λ path. path ≡ path_around scopes.now) }
 {
     match scopes {
-        [] => Path::global(alloc),
+        [] => Ok(Path::global()),
         [innermost, ..] => innermost.path.clone(),
     }
 }

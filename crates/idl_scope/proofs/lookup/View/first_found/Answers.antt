@@ -12,5 +12,5 @@ returns-then-name c =
     let bank = answers c.args.self.env.now in
     let name = c.args.name.now in
     let same = c.in_ok-folded.ensures ∙ ap folded c.as_bytes.ensures in
-    let scopes : c.in_ok-global.global ∷ [] ≡ searched name.is_global c.args.cursor.now = ap (λ s. s ∷ []) c.in_ok-global.ensures ∙ sym (ap (λ b. searched b c.args.cursor.now) c.if-name.true) in
+    let scopes : c.global-global.result ∷ [] ≡ searched name.is_global c.args.cursor.now = ap (λ s. s ∷ []) c.global-global.ensures ∙ sym (ap (λ b. searched b c.args.cursor.now) c.if-name.true) in
     IfOk-weaker c.outward.result _ _ (λ es given turns more. given turns more ∙ (λ i. runs own bank (outward turns (scopes i) (same i)) c.args.log.now)) c.outward.ensures

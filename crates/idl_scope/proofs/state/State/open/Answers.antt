@@ -1,5 +1,5 @@
 use Rattle.std.proofs.Common.{◌≡◌, ap, ◌∙◌, ◌++◌, ◌∷◌, [], refl}
-use Rattle.idl_scope.specs.Facts.{after_opening, scopes_in, with_answer}
+use Rattle.idl_scope.specs.Facts.{after_opening, with_answer}
 use Rattle.idl_scope.specs.Held.{held}
 use Rattle.idl_scope.specs.declared.answer.Answer.TheVariants.{Open, Count}
 use Rattle.idl_scope.specs.declared.key.Key.TheVariants.{Cursor, Opened}
@@ -13,10 +13,11 @@ returns c =
     let entries = state.answers in
     let scope = c.in_ok-scope.scope in
     let put : kept c.insert.new.self ≡ with_answer (Opened scope.path) (Count scope.body) (kept entries) =
-    (λ i k. c.in_ok-insert.ensures.each_key k i) ∙ ap (λ p. with_answer (Opened p) (Count scope.body) (kept entries)) c.in_ok-clone.ensures.cases in
+    (λ i k. c.in_ok-insert.ensures.each_key k i)
+    ∙ ap (λ q. with_answer q (Count scope.body) (kept entries)) (c.of-key.ensures ∙ ap Opened c.in_ok-clone.ensures.cases) in
     let both : kept c.insert-2.new.self ≡ with_answer Cursor c.in_ok-scopes.scopes (with_answer (Opened scope.path) (Count scope.body) (kept entries)) =
-    (λ i k. c.in_ok-insert-2.ensures.each_key k i) ∙ ap (with_answer Cursor c.in_ok-scopes.scopes) put in
-    let outer = c.scopes_in.ensures ∙ ap scopes_in c.get.ensures in
+    (λ i k. c.in_ok-insert-2.ensures.each_key k i) ∙ (λ i. with_answer (c.of.ensures i) c.in_ok-scopes.scopes (put i)) in
+    let outer = c.cursor.ensures in
     let opened = c.in_ok-scopes.ensures ∙ ap (λ scopes. Open (scope ∷ scopes)) outer in
     let within = c.in_ok-push.ensures.items ∙ ap (λ own. state.inside ++ own ∷ []) c.new.ensures in
     let before = c.in_ok-push-2.ensures.items ∙ ap (λ prefix. state.opened ++ prefix ∷ []) c.in_ok-prefix.ensures in

@@ -1,27 +1,33 @@
-use Rattle.std.proofs.Common.{◌≡◌, ap, ◌∙◌, ◌+◌, ◌∷◌}
+use Rattle.std.proofs.Common.{◌≡◌, Option, ap, ◌∙◌, ◌+◌, ◌∷◌}
 use Rattle.std.proofs.lemmas.Result.{IfOk-weaker}
-use Rattle.idl_scope.specs.Facts.{after_nameless, after_step, count_in, nameless, path_around, scopes_in, with_answer}
+use Rattle.idl_scope.specs.Facts.{after_nameless, after_step, count_in, nameless, path_around, with_answer}
 use Rattle.idl_scope.specs.Held.{held}
 use Rattle.idl_scope.specs.declared.addition.Step.TheVariants.{Opens}
+use Rattle.idl_scope.specs.declared.answer.Answer.{Answer}
 use Rattle.idl_scope.specs.declared.answer.Answer.TheVariants.{Count}
-use Rattle.idl_scope.specs.declared.key.Key.TheVariants.{Nameless, Opened}
+use Rattle.idl_scope.specs.declared.key.Key.{Key}
+use Rattle.idl_scope.specs.declared.key.Key.TheVariants.{Opened}
 use Rattle.idl_scope.proofs.StateLemmas.{kept}
 use Rattle.idl_scope.proofs.state.State.open_nameless.Goals as goal
 
 pub open-requires : goal.open-requires
 open-requires c =
+    let state = c.args.self.now in
+    let number = c.count_in-number.ensures ∙ ap count_in c.get.ensures ∙ ap (λ q. count_in (kept state.answers q)) c.of-key.ensures in
+    let put : kept c.insert.new.self ≡ (after_nameless (held state)).answers =
+    (λ i k. c.in_ok-insert.ensures.each_key k i) ∙ (λ i. with_answer (c.of-key.ensures i) (Count (number i + 1)) (kept state.answers)) in
     let key = Opened c.in_ok-path.path in
-    let same = ap count_in (c.in_ok-insert.ensures.each_key key) in
+    let same = ap (λ (answers : Key → Option Answer). count_in (answers key)) put in
     rw same (c.requires key)
 
 pub returns : goal.returns
 returns c =
     let state = c.args.self.now in
-    let number = c.count_in-number.ensures ∙ ap count_in c.get.ensures in
+    let number = c.count_in-number.ensures ∙ ap count_in c.get.ensures ∙ ap (λ q. count_in (kept state.answers q)) c.of-key.ensures in
     let put : kept c.insert.new.self ≡ (after_nameless (held state)).answers =
-    (λ i k. c.in_ok-insert.ensures.each_key k i) ∙ ap (λ n. with_answer Nameless (Count (n + 1)) (kept state.answers)) number in
+    (λ i k. c.in_ok-insert.ensures.each_key k i) ∙ (λ i. with_answer (c.of-key.ensures i) (Count (number i + 1)) (kept state.answers)) in
     let counted : held (record state { answers = c.insert.new.self }) ≡ after_nameless (held state) = λ i. record (held state) { answers = put i } in
     let name = c.in_ok-name.ensures ∙ ap nameless number in
-    let outer = c.scopes_in.ensures ∙ ap scopes_in c.get-2.ensures in
+    let outer = c.cursor.ensures in
     let path = c.in_ok-path.ensures ∙ (λ i. name i ∷ path_around (outer i)) in
     IfOk-weaker c.open.result _ _ (λ _ h. h ∙ (λ i. after_step (counted i) (Opens (path i) c.args.kind))) c.open.ensures

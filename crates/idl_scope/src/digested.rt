@@ -1,0 +1,114 @@
+//! Keys with their digests beside them.
+
+ghost use Rattle.std.specs.Prelude.{◌≡◌, Some, refl};
+ghost use Rattle.idl_scope.specs.Digested.{key_cmp, key_cmp_po, key_cmp_ties, key_cmp_total, key_equiv, key_per};
+ghost use Rattle.idl_scope.specs.Key.{key_digest, key_eq, same_key};
+
+use crate::key::Key;
+use idl_base::Datum;
+use idl_map::Digest;
+use std::alloc::AllocError;
+use std::cmp::Ordering;
+use std::marker::Model;
+
+/// A key, and beside it its digest, which is worked out once. To every contract it is the key itself.
+///
+/// Two of them are told apart by their digests, before their keys are looked at.
+#[derive(Drop)]
+pub struct DigestedKey {
+    digest: u64,
+    key: Key,
+}
+
+impl Model for DigestedKey {
+    ghost use Rattle.std.specs.Prelude.{◌≡◌};
+    ghost use Rattle.idl_scope.specs.Key.{key_digest};
+    ghost use Rattle.idl_scope.specs.declared.key.Key.{Key};
+
+    ghost Value = { Key };
+
+    ghost view = { λ digested. digested.key };
+
+    ghost invariant = { λ digested. digested.digest ≡ key_digest digested.key };
+}
+
+impl DigestedKey {
+    /// The key, with its digest.
+    pub fn of(key: Key) -> DigestedKey
+        ensures { result ≡ key }
+    {
+        let digest = key.digest();
+        DigestedKey { digest, key }
+    }
+}
+
+impl Clone for DigestedKey {
+    ghost is_clone = { λ digested copy. copy ≡ digested };
+
+    fn clone(&self) -> Result<DigestedKey, AllocError> {
+        let key = self.key.clone()?;
+        Ok(DigestedKey {
+            digest: self.digest,
+            key,
+        })
+    }
+}
+
+impl PartialEq for DigestedKey {
+    ghost eq = { key_eq };
+
+    ghost laws = { key_per };
+
+    fn eq(&self, other: &DigestedKey) -> bool
+        ensures { result ≡ key_eq self.now other.now }
+    {
+        self.digest == other.digest && self.key == other.key
+    }
+}
+
+impl Eq for DigestedKey {
+    ghost laws = { key_equiv };
+}
+
+impl PartialOrd for DigestedKey {
+    ghost partial_cmp = { λ x y. Some (key_cmp x y) };
+
+    ghost laws = { key_cmp_po };
+
+    fn partial_cmp(&self, other: &DigestedKey) -> Option<Ordering> {
+        Some(self.cmp(other))
+    }
+}
+
+impl Ord for DigestedKey {
+    ghost cmp = { key_cmp };
+
+    ghost total = { key_cmp_total };
+
+    ghost matches_partial_cmp = { λ x y. refl };
+
+    ghost matches_eq = { key_cmp_ties };
+
+    fn cmp(&self, other: &DigestedKey) -> Ordering
+        ensures { result ≡ key_cmp self.now other.now }
+    {
+        match self.digest.cmp(&other.digest) {
+            Ordering::Equal => self.key.cmp(&other.key),
+            order => order,
+        }
+    }
+}
+
+impl Datum for DigestedKey {
+    ghost same = { same_key };
+
+    ghost copy = { λ x y h. h };
+}
+
+impl Digest for DigestedKey {
+    ghost digest_of = { key_digest };
+
+    fn digest(&self) -> u64 {
+        self.digest
+    }
+}
