@@ -1,107 +1,138 @@
--- The table of keywords: how two words compare, and what a search by halving answers.
-use Rattle.std.proofs.Common.{◌≡◌, ◌∙◌, ◌<◌, ◌≤◌, ◌-◌, ℕ, zero, suc, Bool, true, false, ◌&&◌, cond, List, [], ◌∷◌, map, length, get_or, find, Option, Some, None, IsTrue, Bor, refl, sym, ap, arith, add-one}
-use Rattle.std.specs.Cmp.{nat_cmp_is}
-use Rattle.std.specs.Cmp.Lexicographic.{slice_cmp, nat_list_cmp_total}
-use Rattle.std.specs.FinMap.{slice_cmp-IsAntisymmetric, nat_cmp-IsAntisymmetric}
-use Rattle.std.specs.List.{AllWithin}
-use Rattle.std.specs.List.Sorted.{IsSortedBy, IsNonDecreasingBy}
-use Rattle.std.specs.Ordering.{nat_cmp, is_eq, is_lt, ordering_index, ordering_reverse}
+-- The table of keywords: a search among those that begin with one letter finds what a search among all does.
+use Rattle.std.proofs.Common.{◌≡◌, ◌≢◌, ◌∙◌, ◌<◌, ◌≤◌, ◌+◌, ◌-◌, take, drop, ℕ, Bool, true, false, ◌&&◌, ltb, cond, List, [], ◌∷◌, map, length, find, Option, Some, None, refl, sym, ap, arith, inl, inr}
+use Rattle.std.proofs.Math.ListN.{get_or}
+use Rattle.std.proofs.lemmas.Bool.{false≢true, ltb-true, ne_eqb}
+use Rattle.std.proofs.lemmas.Bool.Decides.{eqb_tells}
+use Rattle.std.proofs.lemmas.List.Folds.{list_all_at}
+use Rattle.std.proofs.lemmas.List.FromFn.{get_or-range_with_len, get_or-map-range_with_len, length-range_with_len}
+use Rattle.std.specs.Cmp.Lexicographic.{bytes_decides}
+use Rattle.std.specs.Char.{to_ascii_lowercase}
+use Rattle.std.specs.List.{filter, list_all, range_with_len}
 use Rattle.std.specs.Str.{bytes_eq}
-use Rattle.std.specs.declared.cmp.Ordering.{Ordering}
-use Rattle.std.specs.declared.cmp.Ordering.TheVariants.{Less, Equal, Greater}
-use Rattle.std.proofs.lemmas.Bool.{false≢true}
-use Rattle.std.proofs.lemmas.List.Sorted.{searchable_from_sorted}
-use Rattle.std.proofs.lemmas.Map.Text.{is_eq-slice_cmp}
-use Rattle.idl_lex.specs.Keywords.{folded}
-use Rattle.idl_lex.specs.KeywordTable.{is_in_order}
-use Rattle.idl_lex.specs.WordTable.{entry_of}
+use Rattle.idl_lex.specs.Keywords.{folded, keywords, like_keyword}
+use Rattle.idl_lex.specs.KeywordTable.{begins_with, starts}
 use Rattle.idl_lex.specs.declared.kind.Kind.{Kind}
 
--- where one of two words is at its end, they compare as their lengths do
-pub slice_cmp-ended : (a b : List ℕ) (i m n : ℕ) → length a ≡ m - i → length b ≡ n - i → i ≤ m → i ≤ n → (i < m → n ≤ i)
-    → slice_cmp nat_cmp (folded a) (folded b) ≡ nat_cmp m n
-slice_cmp-ended [] [] i m n is_a is_b le_a le_b ended = nat_cmp_is m n Equal (omega arith)
-slice_cmp-ended [] (y ∷ b) i m n is_a is_b le_a le_b ended = nat_cmp_is m n Less (omega arith)
-slice_cmp-ended (x ∷ a) [] i m n is_a is_b le_a le_b ended = nat_cmp_is m n Greater (omega arith)
-slice_cmp-ended (x ∷ a) (y ∷ b) i m n is_a is_b le_a le_b ended = absurd (omega arith)
+abbrev Keyed : Type 0
+Keyed = List ℕ × Kind
 
-abbrev Entry : Type 0
-Entry = Bor (List ℕ) × Kind
+-- a search among those that pass a second test, which all pass that are searched for
+module _ {X : Type 0} (p q : X → Bool) where
+  one : (x : X) (xs : List X) (a b : Bool) → p x ≡ a → (a ≡ true → b ≡ true) → find p (filter q xs) ≡ find p xs
+      → find p (cond b (x ∷ filter q xs) (filter q xs)) ≡ cond a (Some x) (find p xs)
+  one x xs true true is weaker rest = ap (λ a. cond a (Some x) (find p (filter q xs))) is
+  one x xs true false is weaker rest = absurd (false≢true (weaker refl))
+  one x xs false true is weaker rest = ap (λ a. cond a (Some x) (find p (filter q xs))) is ∙ rest
+  one x xs false false is weaker rest = rest
 
--- an entry's spelling, as it is compared
-abbrev pub key : Entry → List ℕ
-key e = folded e.0.now
+  pub find-filter : ((x : X) → p x ≡ true → q x ≡ true) → (xs : List X) → find p (filter q xs) ≡ find p xs
+  find-filter weaker [] = refl
+  find-filter weaker (x ∷ xs) = one x xs (p x) (q x) refl (weaker x) (find-filter weaker xs)
 
-abbrev compared : List ℕ → List ℕ → Ordering
-compared = slice_cmp nat_cmp
+-- words of no byte are no keywords, and others are sought among those that begin alike
+pub like_keyword-empty : (word : List ℕ) → length word < 1 → like_keyword word ≡ None
+unfolding keywords
+like_keyword-empty [] h = refl
+like_keyword-empty (b ∷ word) h = absurd (omega (arith, h))
 
-abbrev AreInOrder : List Entry → Type 0
-AreInOrder es = IsTrue (is_in_order (map entry_of es))
+begins_itself : (b c : ℕ) (word : List ℕ) → b ≡ c → begins_with c (b ∷ word) ≡ true
+begins_itself b c word h = elim (eqb_tells b c) [ inl t ↦ t.0 | inr f ↦ absurd (f.1 h) ]
 
-first : (a b : Bool) → IsTrue (a && b) → IsTrue a
-first true b h = refl
-first false b h = h
+-- words that are alike begin alike
+begin_alike : (a : List ℕ) (b : ℕ) (word : List ℕ) → bytes_eq a (b ∷ word) ≡ true → begins_with b a ≡ true
+begin_alike a b word h = ap (begins_with b) ((bytes_decides a (b ∷ word)).0 h) ∙ begins_itself b b word refl
 
-second : (a b : Bool) → IsTrue (a && b) → IsTrue b
-second true b h = h
-second false b h = absurd (false≢true h)
+-- what a word is like stands among the keywords that begin as it does
+find-beginning : (b : ℕ) (word : List ℕ)
+    → find (λ k. bytes_eq (folded k.0) (folded (b ∷ word))) (filter (λ k. begins_with (to_ascii_lowercase b) (folded k.0)) keywords)
+    ≡ find (λ k. bytes_eq (folded k.0) (folded (b ∷ word))) keywords
+find-beginning b word =
+    find-filter (λ k. bytes_eq (folded k.0) (folded (b ∷ word))) (λ k. begins_with (to_ascii_lowercase b) (folded k.0))
+    (λ k h. begin_alike (folded k.0) (to_ascii_lowercase b) (folded word) h) keywords
 
-less : (r : Ordering) → IsTrue (is_lt r) → r ≡ Less
-less Less h = refl
-less Equal h = absurd (false≢true h)
-less Greater h = absurd (false≢true h)
+pub like_keyword-beginning : (word : List ℕ) → 1 ≤ length word
+    → find (λ k. bytes_eq (folded k.0) (folded word)) (filter (λ k. begins_with (to_ascii_lowercase (get_or word 0 0)) (folded k.0)) keywords) ≡ like_keyword word
+like_keyword-beginning [] h = absurd (omega (arith, h))
+like_keyword-beginning (b ∷ word) h = find-beginning b word
 
-turned : (x y : List ℕ) (r : Ordering) → compared x y ≡ r → compared y x ≡ ordering_reverse r
-turned x y r h = nat_list_cmp_total.antisymm y x ∙ ap ordering_reverse h
+abbrev begins_with_letter : List ℕ → Bool
+begins_with_letter [] = false
+begins_with_letter (b ∷ word) = ltb 96 b && ltb b 123
 
--- the tail of entries in order is in order
-in_order-rest : (e : Entry) (es : List Entry) → AreInOrder (e ∷ es) → AreInOrder es
-in_order-rest e [] h = refl
-in_order-rest e (f ∷ es) h = second (is_lt (compared (key e) (key f))) (is_in_order (map entry_of (f ∷ es))) h
+begin_with_letters : list_all (λ k. begins_with_letter (folded k.0)) keywords ≡ true
+unfolding keywords
+begin_with_letters = refl
 
--- a spelling is below the next
-below_next : (e f : Entry) (es : List Entry) → AreInOrder (e ∷ f ∷ es) → compared (key e) (key f) ≡ Less
-below_next e f es h = less (compared (key e) (key f)) (first (is_lt (compared (key e) (key f))) (is_in_order (map entry_of (f ∷ es))) h)
+both : (a b : Bool) → a && b ≡ true → (a ≡ true) × (b ≡ true)
+both true b h = (refl, h)
+both false b h = absurd (false≢true h)
 
--- a spelling is below each later one
-below : (e : Entry) (es : List Entry) (i : ℕ) (d : Entry) → i < length es → AreInOrder (e ∷ es) → compared (key e) (key (get_or es i d)) ≡ Less
-below e [] i d lt h = absurd (omega arith)
-below e (f ∷ es) zero d lt h = below_next e f es h
-below e (f ∷ es) (suc i) d lt h =
-    nat_list_cmp_total.trans (key e) (key f) (key (get_or es i d)) (below_next e f es h) (below f es i d (omega arith) (in_order-rest e (f ∷ es) h))
+begins_otherwise : (letter : ℕ) (word : List ℕ) → (97 ≤ letter → letter ≤ 122 → ⊥) → begins_with_letter word ≡ true → begins_with letter word ≡ false
+begins_otherwise letter [] outside h = refl
+begins_otherwise letter (b ∷ word) outside h =
+    let sides = both (ltb 96 b) (ltb b 123) h in
+    let low = ltb-true 96 b sides.0 in
+    let high = ltb-true b 123 sides.1 in
+    ne_eqb b letter (λ one. outside (omega (arith, low, one)) (omega (arith, high, one)))
 
--- no spelling is below the one before it
-adjacent : (es : List Entry) → AreInOrder es → IsSortedBy (λ a b. is_lt (compared (key a) (key b))) es
-adjacent [] h k d low lt = absurd (omega arith)
-adjacent (e ∷ es) h zero d low lt = ap is_lt (turned (key e) _ Less (below e es zero d (omega arith) h))
-adjacent (e ∷ es) h (suc k) d low lt = rw add-one (rw add-one at (adjacent es (in_order-rest e es h) k d (omega arith) (omega arith)))
+none_begin : (letter : ℕ) (ks : List Keyed) → (97 ≤ letter → letter ≤ 122 → ⊥) → list_all (λ k. begins_with_letter (folded k.0)) ks ≡ true → filter (λ k. begins_with letter (folded k.0)) ks ≡ []
+none_begin letter [] outside h = refl
+none_begin letter (k ∷ ks) outside h =
+    let parts = both (begins_with_letter (folded k.0)) (list_all (λ k. begins_with_letter (folded k.0)) ks) h in
+    ap (λ b. cond b (k ∷ filter (λ k. begins_with letter (folded k.0)) ks) (filter (λ k. begins_with letter (folded k.0)) ks)) (begins_otherwise letter (folded k.0) outside parts.0)
+    ∙ none_begin letter ks outside parts.1
 
--- the comparisons with a word rise along the entries, as a search by halving asks
-pub comparisons_rise : (es : List Entry) (word : List ℕ) → AreInOrder es → IsNonDecreasingBy (λ e. ordering_index (compared (key e) word)) es
-comparisons_rise es word h = searchable_from_sorted nat_list_cmp_total key es word (adjacent es h)
+-- no keyword begins with what is no letter in lower case
+pub filter-outside : (letter : ℕ) → (97 ≤ letter → letter ≤ 122 → ⊥) → filter (λ k. begins_with letter (folded k.0)) keywords ≡ []
+filter-outside letter outside = none_begin letter keywords outside begin_with_letters
 
-abbrev pub found : List ℕ → List Entry → Option (List ℕ × Kind)
-found word es = find (λ k. bytes_eq (folded k.0) word) (map entry_of es)
+-- where the keywords that begin with a letter stand
+abbrev start : ℕ → ℕ
+start i = get_or starts i 0
 
--- the first entry decides
-found-cons : (word : List ℕ) (e : Entry) (es : List Entry) (r : Ordering) → compared (key e) word ≡ r → found word (e ∷ es) ≡ cond (is_eq r) (Some (entry_of e)) (found word es)
-found-cons word e es r h = ap (λ b. cond b (Some (entry_of e)) (found word es)) (sym (is_eq-slice_cmp (key e) word) ∙ ap is_eq h)
+abbrev letters : List ℕ
+letters = range_with_len 0 26
 
--- an entry that has the word is the one found
-pub found-at : (word : List ℕ) (es : List Entry) (i : ℕ) (d : Entry) → i < length es → compared (key (get_or es i d)) word ≡ Equal → AreInOrder es → found word es ≡ Some (entry_of (get_or es i d))
-found-at word [] i d lt is h = absurd (omega arith)
-found-at word (e ∷ es) zero d lt is h = found-cons word e es Equal is
-found-at word (e ∷ es) (suc i) d lt is h =
-    let same : key (get_or es i d) ≡ word = slice_cmp-IsAntisymmetric nat_cmp-IsAntisymmetric _ _ is in
-    found-cons word e es Less (ap (compared (key e)) (sym same) ∙ below e es i d (omega arith) h)
-    ∙ found-at word es i d (omega arith) is (in_order-rest e es h)
+pub starts-length : length starts ≡ 27
+unfolding starts
+starts-length = refl
 
--- where no entry has the word, none is found
-pub found-gap : (word : List ℕ) (es : List Entry) (i : ℕ) → AllWithin (λ e. compared (key e) word ≡ Less) es 0 i → AllWithin (λ e. compared (key e) word ≡ Greater) es i (length es) → found word es ≡ None
-found-gap word [] i lower higher = refl
-found-gap word (e ∷ es) zero lower higher =
-    found-cons word e es Greater (higher 0 e (omega arith) (omega arith))
-    ∙ found-gap word es zero (λ j d low lt. absurd (omega arith)) (λ j d low lt. higher (suc j) d (omega arith) (omega arith))
-found-gap word (e ∷ es) (suc i) lower higher =
-    found-cons word e es Less (lower 0 e (omega arith) (omega arith))
-    ∙ found-gap word es i (λ j d low lt. lower (suc j) d (omega arith) (omega arith)) (λ j d low lt. higher (suc j) d (omega arith) (omega arith))
+rise : ℕ → Bool
+rise i = ltb (start i) (start (i + 1) + 1) && ltb (start (i + 1)) 65
+
+all_rise : list_all rise letters ≡ true
+unfolding starts rise
+all_rise = refl
+
+passes : (p : ℕ → Bool) (i : ℕ) → i < 26 → list_all p letters ≡ true → p i ≡ true
+passes p i lt all = decided (p i) refl where
+  decided : (b : Bool) → p i ≡ b → p i ≡ true
+  decided true h = h
+  decided false h =
+      let here : get_or letters i 0 ≡ i = get_or-range_with_len 0 26 i 0 lt ∙ omega arith in
+      absurd (false≢true (sym (list_all_at p letters i 0 (omega (arith, lt, length-range_with_len 0 26)) (ap p here ∙ h)) ∙ all))
+
+pub starts-rise : (i : ℕ) → i < 26 → (start i ≤ start (i + 1)) × (start (i + 1) ≤ 64)
+unfolding rise
+starts-rise i lt =
+    let sides = both (ltb (start i) (start (i + 1) + 1)) (ltb (start (i + 1)) 65) (passes rise i lt all_rise) in
+    (omega (arith, ltb-true _ _ sides.0), omega (arith, ltb-true _ _ sides.1))
+
+part : ℕ → List Keyed
+part i = take (start (i + 1) - start i) (drop (start i) keywords)
+
+beginning : ℕ → List Keyed
+beginning i = filter (λ k. begins_with (97 + i) (folded k.0)) keywords
+
+parts : map part letters ≡ map beginning letters
+unfolding keywords starts part beginning
+parts = refl
+
+-- the keywords that begin with a letter are those from its start to the next one's
+pub part-beginning : (i letter : ℕ) → i < 26 → 97 + i ≡ letter → take (start (i + 1) - start i) (drop (start i) keywords) ≡ filter (λ k. begins_with letter (folded k.0)) keywords
+unfolding part beginning
+part-beginning i letter lt at =
+    sym (get_or-map-range_with_len part 0 26 i i [] lt (omega arith))
+    ∙ ap (λ ps. get_or ps i []) parts
+    ∙ get_or-map-range_with_len beginning 0 26 i i [] lt (omega arith)
+    ∙ ap (λ l. filter (λ k. begins_with l (folded k.0)) keywords) at

@@ -1,13 +1,13 @@
--- What the table of keywords holds.
-use Rattle.std.specs.Prelude.{ℕ, Bool, true, ◌&&◌, List, [], ◌∷◌}
-use Rattle.std.specs.Cmp.Lexicographic.{slice_cmp}
-use Rattle.std.specs.Ordering.{nat_cmp, is_lt}
-use Rattle.idl_lex.specs.Keywords.{folded}
-use Rattle.idl_lex.specs.declared.kind.Kind.{Kind}
+-- How the table of keywords is laid out: those that begin with one letter stand together.
+use Rattle.std.specs.Prelude.{ℕ, ◌==◌, Bool, false, List, [], ◌∷◌}
 
--- each folded spelling is below the next
-abbrev pub is_in_order : List (List ℕ × Kind) → Bool
-is_in_order [] = true
-is_in_order (k ∷ []) = true
-is_in_order (k ∷ l ∷ ks) =
-    is_lt (slice_cmp nat_cmp (folded k.0) (folded l.0)) && is_in_order (l ∷ ks)
+-- whether a word begins with this byte
+abbrev pub begins_with : ℕ → List ℕ → Bool
+begins_with letter [] = false
+begins_with letter (b ∷ word) = b == letter
+
+-- how many keywords begin with a letter before each, and how many with any
+unfoldable pub starts : List ℕ
+starts =
+    0 ∷ 3 ∷ 4 ∷ 11 ∷ 13 ∷ 17 ∷ 22 ∷ 23 ∷ 24 ∷ 28 ∷ 28 ∷ 28 ∷ 30 ∷ 32 ∷ 33 ∷ 37 ∷ 42 ∷ 42 ∷ 44 ∷ 51
+    ∷ 56 ∷ 59 ∷ 62 ∷ 64 ∷ 64 ∷ 64 ∷ 64 ∷ []

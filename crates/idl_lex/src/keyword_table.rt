@@ -1,20 +1,19 @@
 //! The table of keywords, and the look-up of a word in it.
 
-ghost use Rattle.std.specs.Prelude.{◌≡◌, IsTrue, find, map};
-ghost use Rattle.std.specs.Cmp.Lexicographic.{slice_cmp};
+ghost use Rattle.std.specs.Prelude.{◌≡◌, ◌≤◌, ◌<◌, ◌+◌, ◌-◌, drop, find, length, map, take};
+ghost use Rattle.std.specs.List.{filter};
 ghost use Rattle.std.specs.Option.{option_map};
-ghost use Rattle.std.specs.Ordering.{nat_cmp};
 ghost use Rattle.std.specs.Str.{bytes_eq};
 ghost use Rattle.idl_lex.specs.Keywords.{folded, keywords, like_keyword};
-ghost use Rattle.idl_lex.specs.KeywordTable.{is_in_order};
+ghost use Rattle.idl_lex.specs.KeywordTable.{begins_with, starts};
 ghost use Rattle.idl_lex.specs.WordTable.{entry_of};
 
 use crate::keyword::Keyword;
 use crate::kind::Kind;
 use crate::word_table::Entry;
-use std::cmp::Ordering;
+use std::ops::Range;
 
-// Each keyword with the kind of its spelling, in the order of the folded spellings, as the look-up by halving needs it.
+// Each keyword with the kind of its spelling. Those that begin with one letter, whatever its case, stand together.
 const KEYWORDS: [Entry<Kind>; 64] = [
     (b"abstract", Kind::Refused),
     (b"any", Kind::Accepted(Keyword::Any)),
@@ -82,42 +81,70 @@ const KEYWORDS: [Entry<Kind>; 64] = [
     (b"wstring", Kind::Accepted(Keyword::Wstring)),
 ];
 
+// How many keywords begin with a letter before each, and how many with any.
+const STARTS: [usize; 27] = [
+    0, 3, 4, 11, 13, 17, 22, 23, 24, 28, 28, 28, 30, 32, 33, 37, 42, 42, 44, 51, 56, 59, 62, 64,
+    64, 64, 64,
+];
+
 /// The keyword that the word is but for the case of letters.
 pub fn like_keyword(word: &[u8]) -> Option<Entry<Kind>>
     ensures { option_map entry_of result ≡ like_keyword word.now }
 {
-    look_up(table(), word)
+    match word {
+        [first, ..] => look_up(beginning_with(first.to_ascii_lowercase()), word),
+        [] => None,
+    }
+}
+
+// The keywords that begin with this byte, once they are in lower case.
+fn beginning_with(letter: u8) -> &'static [Entry<Kind>]
+    ensures { map entry_of result.now ≡ filter (λ k. begins_with letter (folded k.0)) keywords }
+{
+    let i = letter.wrapping_sub(b'a') as usize;
+    if i >= 26 {
+        return &[];
+    }
+    let Range { start, end } = part(i);
+    &table()[start..end]
 }
 
 #[tactic(auto, unfolding(crate::specs::Keywords::keywords))]
 fn table() -> &'static [Entry<Kind>]
     ensures all { map entry_of result.now ≡ keywords }
-    ensures order { IsTrue (is_in_order (map entry_of result.now)) }
+    ensures len { length result.now ≡ 64 }
 {
     &KEYWORDS
 }
 
+// Which part of the table begins with this letter, counted from 0 on.
+fn part(i: usize) -> Range<usize>
+    requires { i < 26 }
+    ensures order { result.start ≤ result.end }
+    ensures within { result.end ≤ 64 }
+    ensures part { take (result.end - result.start) (drop result.start keywords)
+        ≡ filter (λ k. begins_with (97 + i) (folded k.0)) keywords }
+{
+    let starts = starts();
+    starts[i]..starts[i + 1]
+}
+
+#[tactic(auto, unfolding(crate::specs::KeywordTable::starts))]
+fn starts() -> &'static [usize]
+    ensures { result.now ≡ starts }
+{
+    &STARTS
+}
+
+// The first of these keywords that the word is but for the case of letters.
 fn look_up(entries: &[Entry<Kind>], word: &[u8]) -> Option<Entry<Kind>>
-    requires order { IsTrue (is_in_order (map entry_of entries.now)) }
     ensures { option_map entry_of result
         ≡ find (λ k. bytes_eq (folded k.0) (folded word.now)) (map entry_of entries.entry.now) }
 {
-    match entries.binary_search_by(|entry| compare_folded(entry.0, word)) {
-        Ok(i) => Some(entries[i]),
-        Err(_) => None,
-    }
-}
-
-// The order of two words without regard to case.
-fn compare_folded(a: &[u8], b: &[u8]) -> Ordering
-    ensures { result ≡ slice_cmp nat_cmp (folded a.now) (folded b.now) }
-{
-    let mut i = 0;
-    'bytes: while i < a.len() && i < b.len() {
-        match a[i].to_ascii_lowercase().cmp(&b[i].to_ascii_lowercase()) {
-            Ordering::Equal => i += 1,
-            unequal => return unequal,
+    for entry in entries {
+        if entry.0.eq_ignore_ascii_case(word) {
+            return Some(*entry);
         }
     }
-    a.len().cmp(&b.len())
+    None
 }

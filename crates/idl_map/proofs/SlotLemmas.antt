@@ -6,10 +6,10 @@ use Rattle.std.proofs.lemmas.Bool.Decides.{eqb_tells}
 use Rattle.std.proofs.lemmas.List.{length-map, get_or-map, get_or-set_same, get_or-set_other, map-set}
 use Rattle.std.proofs.lemmas.Map.Entries.{lookup-filter-keys}
 use Rattle.std.proofs.Math.ListN.{get_or, set}
-use Rattle.std.specs.List.{filter, AllZip}
+use Rattle.std.specs.List.{filter}
 use Rattle.std.specs.Map.{lookup}
 use Rattle.std.specs.Prelude.{map}
-use Rattle.idl_map.specs.Slots.{branch_seen, choice, gathered, slot_entries, slot_seen, slots_size}
+use Rattle.idl_map.specs.Slots.{branch_seen, choice, gathered, slot_entries}
 use Rattle.idl_map.specs.declared.slot.Slot.{Slot}
 
 -- a test of numbers that are one
@@ -101,36 +101,19 @@ module _ {K V : Type 0} where
     pub put_elsewhere : (key : K) (v : V) (i : ℕ) → chosen key ≡ i → (k : K) (o : Option V) → chosen k ≢ i → cond (eq k key) (Some v) o ≡ o
     put_elsewhere key v i at k o other = ap (λ b. cond b (Some v) o) (is_false (eq k key) (λ h. other (ap chosen (same k key h) ∙ at)))
 
--- branches whose slots are seen alike, one by one, are seen alike
-module _ {K V : Type 0} (digest_of : K → ℕ) where
-  sizes : (xs ys : List (Slot K V)) → AllZip (λ x y. slot_seen digest_of y ≡ slot_seen digest_of x) xs ys → slots_size ys ≡ slots_size xs
-  sizes [] [] h = refl
-  sizes [] (y ∷ ys) h = absurd h
-  sizes (x ∷ xs) [] h = absurd h
-  sizes (x ∷ xs) (y ∷ ys) h = λ i. (h.0 i).0 + sizes xs ys h.1 i
-
-  entries : (xs ys : List (Slot K V)) → AllZip (λ x y. slot_seen digest_of y ≡ slot_seen digest_of x) xs ys → map (slot_entries digest_of) ys ≡ map (slot_entries digest_of) xs
-  entries [] [] h = refl
-  entries [] (y ∷ ys) h = absurd h
-  entries (x ∷ xs) [] h = absurd h
-  entries (x ∷ xs) (y ∷ ys) h = λ i. (h.0 i).1 ∷ entries xs ys h.1 i
-
-  pub branch_seen-AllZip : (xs ys : List (Slot K V)) → AllZip (λ x y. slot_seen digest_of y ≡ slot_seen digest_of x) xs ys → branch_seen digest_of ys ≡ branch_seen digest_of xs
-  branch_seen-AllZip xs ys h = λ i. (sizes xs ys h i + 1, entries xs ys h i)
-
 -- a branch of which one slot changes, at keys that choose it
 module _ {K V : Type 0} (eq : K → K → Bool) (same : (x y : K) → eq x y ≡ true → x ≡ y) (digest_of : K → ℕ) (shift : ℕ) where
-  pub changed_branch : (change : K → Option V → Option V) (slots : List (Slot K V)) (i : ℕ) (child d : Slot K V) (old new : ℕ × List (List (K × V))) → i < length slots
+  pub changed_branch : (change : K → Option V → Option V) (slots : List (Slot K V)) (i : ℕ) (child d : Slot K V) (old new : ℕ × ℕ × List (List (K × V))) → i < length slots
       → ((k : K) (o : Option V) → choice shift (digest_of k) ≢ i → change k o ≡ o)
-      → branch_seen digest_of slots ≡ old → new ≡ branch_seen digest_of (set slots i child)
+      → branch_seen digest_of shift slots ≡ old → new ≡ branch_seen digest_of shift (set slots i child)
       → ((k : K) → lookup (eq k) (slot_entries digest_of child) ≡ change k (lookup (eq k) (slot_entries digest_of (get_or slots i d))))
-      → (k : K) → lookup (eq k) (gathered (λ x. choice shift (digest_of x)) 0 new.1) ≡ change k (lookup (eq k) (gathered (λ x. choice shift (digest_of x)) 0 old.1))
+      → (k : K) → lookup (eq k) (gathered (λ x. choice shift (digest_of x)) 0 new.2) ≡ change k (lookup (eq k) (gathered (λ x. choice shift (digest_of x)) 0 old.2))
   changed_branch change slots i child d old new within others seen put below k =
       let entries : Slot K V → List (K × V) = slot_entries digest_of in
       let chosen : K → ℕ = λ x. choice shift (digest_of x) in
       let long : i < length (map entries slots) = omega (arith, within, length-map slots entries) in
-      ap (λ v. lookup (eq k) (gathered chosen 0 v.1)) put
+      ap (λ v. lookup (eq k) (gathered chosen 0 v.2)) put
       ∙ ap (λ lists. lookup (eq k) (gathered chosen 0 lists)) (map-set entries slots i child)
       ∙ changed_below eq same chosen change (map entries slots) i (entries child) long others
       (λ x. below x ∙ ap (λ es. change x (lookup (eq x) es)) (sym (get_or-map entries slots i d [] within))) k
-      ∙ ap (λ v. change k (lookup (eq k) (gathered chosen 0 v.1))) seen
+      ∙ ap (λ v. change k (lookup (eq k) (gathered chosen 0 v.2))) seen

@@ -1,14 +1,10 @@
-//! Collections whose copies share their parts: a map in the order of its keys, and a list.
-//!
-//! A copy of either takes no memory of its own, and what is then put into one of the two leaves the other as it was.
+//! Collections: a map by the digests of its keys, and a list whose copies share their items.
 #![tactic(auto)]
 
-mod bucket;
 mod digest;
 mod list;
 mod map;
 mod slot;
-mod tree;
 
 pub use digest::Digest;
 pub use list::SharedList;

@@ -1,11 +1,10 @@
-//! A map whose copies share their parts.
+//! A map by the digests of its keys.
 
 ghost use Rattle.std.specs.Prelude.{◌≡◌, [], Some, OnOk, OnErr, if◌then◌else◌};
 ghost use Rattle.std.specs.Map.{lookup};
 ghost use Rattle.std.specs.Option.{option_copied};
 
 use crate::Digest;
-use crate::bucket::Bucket;
 use crate::slot::{Place, Slot, get, insert};
 use idl_base::Datum;
 use std::alloc::{AllocError, Global};
@@ -14,9 +13,7 @@ use std::marker::Model;
 /// Values by their keys. To every contract it is a list of entries, the first of which counts at a key.
 ///
 /// A look-up goes down by the bits of the key's digest, as far as keys are alike in them, and then compares the key with
-/// those alone that are alike in all these bits: one mostly, and logarithmically many of them, whatever the keys are. A
-/// copy is a pointer. A map that shares nothing changes in place; where parts are shared, those on the way to a new entry
-/// are copied.
+/// those alone that are alike in all these bits: one mostly, and logarithmically many of them, whatever the keys are.
 pub struct Map<K: Digest + Ord, V: Datum> {
     root: Slot<K, V>,
 }
@@ -42,9 +39,7 @@ impl<K: Digest + Ord, V: Datum> Map<K, V> {
     pub fn new() -> Map<K, V>
         ensures { result ≡ [] }
     {
-        Map {
-            root: Slot::Few(Bucket::new()),
-        }
+        Map { root: Slot::Empty }
     }
 
     /// The value at a key, or nothing.
@@ -67,14 +62,5 @@ impl<K: Digest + Ord, V: Datum> Map<K, V> {
             shift: 0,
         };
         insert(&mut self.root, alloc, place, (key, value))
-    }
-}
-
-impl<K: Digest + Ord, V: Datum> Clone for Map<K, V> {
-    ghost is_clone = { λ map copy. copy ≡ map };
-
-    fn clone(&self) -> Result<Map<K, V>, AllocError> {
-        let root = self.root.clone()?;
-        Ok(Map { root })
     }
 }

@@ -1,50 +1,51 @@
-//! The upper part of a map: branches of slots, among which the bits of digests choose.
+//! The parts of a map: branches of slots, among which the bits of digests choose.
 
-ghost use Rattle.std.specs.Prelude.{◌≡◌, ◌<◌, ◌≤◌, ◌+◌, ◌-◌, [], OnOk, OnErr, Some, if◌then◌else◌};
+ghost use Rattle.std.specs.Prelude.{◌≡◌, ◌<◌, ◌≤◌, ◌+◌, ◌-◌, ◌∷◌, [], IfOk, OnOk, OnErr, Some, if◌then◌else◌};
 ghost use Rattle.std.specs.Map.{lookup};
 ghost use Rattle.std.specs.Option.{option_copied};
-ghost use Rattle.idl_map.specs.Slots.{branch_of, choice, slot_entries, slot_seen, slot_size};
-ghost use Rattle.idl_map.specs.declared.slot.Slot.TheVariants.{Few};
+ghost use Rattle.idl_map.specs.Slots.{IsOneAt, branch_of, choice, slot_entries, slot_size};
 
 use crate::Digest;
-use crate::bucket::Bucket;
-use idl_base::Datum;
+use idl_base::{Datum, Table};
 use std::alloc::{AllocError, Global};
 use std::marker::Model;
-use std::rc::Rc;
+use std::mem;
 
-// How many bits of a digest choose among slots. Keys that are alike in all of them come into one bucket.
+// How many bits of a digest choose among slots. Keys that are alike in all of them come into one table.
 const BITS: u32 = 30;
 
-/// A few entries; or a branch, and the bit from which on digests choose among its slots.
+/// No entry; one; entries whose keys are alike in all bits; or a branch.
 #[cycle(slot)]
 #[derive(Drop)]
 pub enum Slot<K: Digest + Ord, V: Datum> {
-    Few(Bucket<K, V>),
-    Many(u32, Rc<Branch<K, V>>),
+    Empty,
+    One(Box<(K, V)>),
+    Few(Box<Table<K, V>>),
+    Many(Box<Branch<K, V>>),
 }
 
-/// The slots of a branch.
+/// Slots, and the bit from which on digests choose among them.
 #[cycle(slot)]
 #[derive(Drop)]
 pub struct Branch<K: Digest + Ord, V: Datum> {
+    shift: u32,
     slots: [Slot<K, V>; 8],
 }
 
 impl<K: Digest + Ord, V: Datum> Model for Branch<K, V> {
     ghost use Rattle.std.specs.Prelude.{ℕ, List};
 
-    ghost Value = { ℕ × List (List (K × V)) };
+    ghost Value = { ℕ × ℕ × List (List (K × V)) };
 
     ghost use Rattle.idl_map.specs.Slots.{branch_seen};
 
-    ghost view = { λ branch. branch_seen K.digest_of branch.slots };
+    ghost view = { λ branch. branch_seen K.digest_of branch.shift branch.slots };
 
     ghost size = { λ seen. seen.0 };
 
     ghost use Rattle.std.proofs.Common.{arith};
     ghost use Rattle.idl_map.specs.declared.slot.Branch.TheDeep.{deep-Slot};
-    ghost use Rattle.idl_map.specs.declared.slot.Slot.TheVariants.{Few, Many};
+    ghost use Rattle.idl_map.specs.declared.slot.Slot.TheVariants.{Empty, One, Few, Many};
     ghost use Rattle.idl_map.specs.SlotSizes.{most_le-slots_size};
 
     ghost size_decreases = { λ a h.
@@ -52,30 +53,12 @@ impl<K: Digest + Ord, V: Datum> Model for Branch<K, V> {
         omega (
           arith,
           most_le-slots_size depth (elim [
-            | Few entries ↦ omega arith
-            | Many shift branch ↦ omega arith
+            | Empty ↦ omega arith
+            | One entry ↦ omega arith
+            | Few table ↦ omega arith
+            | Many branch ↦ omega arith
           ]) a.slots,
         ) };
-}
-
-impl<K: Digest + Ord, V: Datum> Clone for Slot<K, V> {
-    ghost is_clone = { λ slot copy. slot_seen K.digest_of copy ≡ slot_seen K.digest_of slot };
-
-    fn clone(&self) -> Result<Slot<K, V>, AllocError> {
-        match self {
-            Slot::Few(bucket) => Ok(Slot::Few(bucket.clone()?)),
-            Slot::Many(shift, branch) => Ok(Slot::Many(*shift, branch.clone()?)),
-        }
-    }
-}
-
-impl<K: Digest + Ord, V: Datum> Clone for Branch<K, V> {
-    ghost is_clone = { λ branch copy. copy ≡ branch };
-
-    fn clone(&self) -> Result<Branch<K, V>, AllocError> {
-        let slots = self.slots.clone()?;
-        Ok(Branch { slots })
-    }
 }
 
 /// The value at a key with this digest, or nothing.
@@ -88,11 +71,24 @@ pub fn get<'a, K: Digest + Ord, V: Datum>(
     ensures { option_copied result ≡ lookup (K.eq key.now) (slot_entries K.digest_of slot.now) }
 {
     match slot {
-        Slot::Few(bucket) => bucket.get(key),
-        Slot::Many(shift, shared) => {
-            let branch: &Branch<K, V> = shared;
-            get(&branch.slots[choice(*shift, digest)], digest, key)
+        Slot::Empty => None,
+        Slot::One(entry) => value_at(entry, key),
+        Slot::Few(table) => table.get(key),
+        Slot::Many(boxed) => {
+            let branch: &Branch<K, V> = boxed;
+            get(&branch.slots[choice(branch.shift, digest)], digest, key)
         }
+    }
+}
+
+// The value of an entry, if it is at this key.
+fn value_at<'a, K: Digest + Ord, V: Datum>(entry: &'a (K, V), key: &K) -> Option<&'a V>
+    ensures { option_copied result ≡ lookup (K.eq key.now) (entry.now ∷ []) }
+{
+    if *key == entry.0 {
+        Some(&entry.1)
+    } else {
+        None
     }
 }
 
@@ -123,10 +119,18 @@ pub fn insert<K: Digest + Ord, V: Datum>(
 {
     divide(slot, alloc, place.shift, &entry.0)?;
     match slot {
-        Slot::Few(bucket) => bucket.insert(alloc, entry.0, entry.1),
-        Slot::Many(shift, shared) => {
-            let index = choice(*shift, place.digest);
-            let branch = Rc::make_mut(shared)?;
+        Slot::Empty => {
+            *slot = Slot::One(Box::new(alloc, entry)?);
+            Ok(())
+        }
+        Slot::One(one) => {
+            one.1 = entry.1;
+            Ok(())
+        }
+        Slot::Few(table) => table.insert(entry.0, entry.1),
+        Slot::Many(boxed) => {
+            let branch: &mut Branch<K, V> = boxed;
+            let index = choice(branch.shift, place.digest);
             insert(&mut branch.slots[index], alloc, below(place), entry)
         }
     }
@@ -143,7 +147,7 @@ fn below(place: Place) -> Place
     }
 }
 
-// Makes a branch of a slot whose one entry is of another key, unless the bits are used up.
+// Makes a branch of a slot whose one entry is of another key; or a table, where the bits are used up.
 fn divide<K: Digest + Ord, V: Datum>(
     slot: &mut Slot<K, V>,
     alloc: Global,
@@ -154,46 +158,56 @@ fn divide<K: Digest + Ord, V: Datum>(
         → lookup (K.eq k) (slot_entries K.digest_of slot.new)
         ≡ lookup (K.eq k) (slot_entries K.digest_of slot.old) }
     ensures bits { slot_size slot.new + (30 - (shift + 3)) ≤ slot_size slot.old + (30 - shift) }
+    ensures one { OnOk result (IsOneAt key.now slot.new) }
 {
-    let Slot::Few(bucket) = slot else {
+    let Slot::One(other) = slot else {
         return Ok(());
     };
-    let Some(other) = bucket.only_but(key) else {
-        return Ok(());
-    };
-    if shift >= BITS {
+    if other.0 == *key {
         return Ok(());
     }
-    let index = choice(shift, other.digest());
-    let branch = branch_of(bucket.clone()?, index);
-    *slot = Slot::Many(shift, Rc::new(alloc, branch)?);
+    if shift >= BITS {
+        let table = table_of(alloc, other)?;
+        *slot = Slot::Few(Box::new(alloc, table)?);
+        return Ok(());
+    }
+    let index = choice(shift, other.0.digest());
+    let mut boxed = Box::new(alloc, branch_of(shift, index, Slot::Empty))?;
+    *boxed = branch_of(shift, index, mem::replace(slot, Slot::Empty));
+    *slot = Slot::Many(boxed);
     Ok(())
 }
 
-// The branch that holds a bucket in this slot alone.
-fn branch_of<K: Digest + Ord, V: Datum>(bucket: Bucket<K, V>, index: usize) -> Branch<K, V>
-    requires { index < 8 }
-    ensures { result ≡ branch_of index bucket }
+// The table of one entry.
+fn table_of<K: Digest + Ord, V: Datum>(
+    alloc: Global,
+    entry: &(K, V),
+) -> Result<Table<K, V>, AllocError>
+    ensures { IfOk result (λ table. table ≡ entry.now ∷ []) }
 {
-    let mut slots = [
-        empty(),
-        empty(),
-        empty(),
-        empty(),
-        empty(),
-        empty(),
-        empty(),
-        empty(),
-    ];
-    slots[index] = Slot::Few(bucket);
-    Branch { slots }
+    let mut table = Table::new(alloc);
+    table.insert(entry.0.clone()?, entry.1.clone()?)?;
+    Ok(table)
 }
 
-// The slot without entries.
-fn empty<K: Digest + Ord, V: Datum>() -> Slot<K, V>
-    ensures { result ≡ Few [] }
+// The branch that holds one slot's entries alone, at this place.
+fn branch_of<K: Digest + Ord, V: Datum>(shift: u32, index: usize, slot: Slot<K, V>) -> Branch<K, V>
+    requires place { index < 8 }
+    requires undivided { slot_size slot ≡ 0 }
+    ensures { result ≡ branch_of shift index (slot_entries K.digest_of slot) }
 {
-    Slot::Few(Bucket::new())
+    let mut slots = [
+        Slot::Empty,
+        Slot::Empty,
+        Slot::Empty,
+        Slot::Empty,
+        Slot::Empty,
+        Slot::Empty,
+        Slot::Empty,
+        Slot::Empty,
+    ];
+    slots[index] = slot;
+    Branch { shift, slots }
 }
 
 // Which slot the bits of a digest choose, from a bit on.

@@ -32,8 +32,7 @@ use itoa::Buffer;
 use std::alloc::{AllocError, Global};
 
 /// The answers at their keys, and beside them the paths of the operations and attributes so far of each open scope, and the
-/// prefixes that were in force before the open scopes were opened and before files were entered, the innermost last. Its
-/// copies share all of it.
+/// prefixes that were in force before the open scopes were opened and before files were entered, the innermost last.
 pub struct State {
     pub answers: Map<DigestedKey, Answer>,
     pub inside: SharedList<SharedList<Path>>,
@@ -49,23 +48,6 @@ impl Drop for State {
             opened: _opened,
             entered: _entered,
         } = self;
-    }
-}
-
-impl Clone for State {
-    ghost is_clone = { λ state copy. copy ≡ state };
-
-    fn clone(&self) -> Result<State, AllocError> {
-        let answers = self.answers.clone()?;
-        let inside = self.inside.clone()?;
-        let opened = self.opened.clone()?;
-        let entered = self.entered.clone()?;
-        Ok(State {
-            answers,
-            inside,
-            opened,
-            entered,
-        })
     }
 }
 
