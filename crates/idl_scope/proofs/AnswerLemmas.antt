@@ -1,5 +1,5 @@
 -- Answers at their keys.
-use Rattle.std.proofs.Common.{◌≡◌, ℕ, zero, suc, Bool, true, false, cond, List, [], ◌∷◌, Option, Some, None, map, refl, sym, ap, ◌∙◌}
+use Rattle.std.proofs.Common.{◌≡◌, ℕ, zero, suc, Bool, true, false, cond, List, [], ◌∷◌, Option, Some, None, map, refl, sym, ap, subst, ◌∙◌}
 use Rattle.std.specs.Map.{lookup}
 use Rattle.std.specs.Prelude.{slice_get}
 use Rattle.std.proofs.lemmas.Option.{same_Some}
@@ -45,7 +45,7 @@ HaveOwnKeys-insert_entry (e ∷ entries) a h = own_more e entries a h (HaveOwnKe
 -- the entry at a place has its own key
 pub own_key-at : (entries : List (Key × Addition)) (i : ℕ) (e : Key × Addition) → HaveOwnKeys entries → slice_get entries i ≡ Some e → e.0 ≡ key_of e.1
 own_key-at [] i e h at = cc
-own_key-at (f ∷ entries) zero e h at = rw (same_Some f e at) h.0
+own_key-at (f ∷ entries) zero e h at = subst (λ (x : Key × Addition). x.0 ≡ key_of x.1) (same_Some f e at) h.0
 own_key-at (f ∷ entries) (suc i) e h at = own_key-at entries i e h.1 at
 
 -- the answer over additions of which this is the first
