@@ -3,6 +3,7 @@
 ghost use Rattle.std.specs.Prelude.{◌≡◌, Some, refl};
 ghost use Rattle.idl_scope.specs.Digested.{key_cmp, key_cmp_po, key_cmp_ties, key_cmp_total, key_equiv, key_per};
 ghost use Rattle.idl_scope.specs.Key.{key_digest, key_eq, same_key};
+ghost use Rattle.idl_scope.specs.contracts.key.KeyOrd.TheImpl.{ghosts as own_order};
 
 use crate::key::Key;
 use idl_base::Datum;
@@ -59,10 +60,11 @@ impl PartialEq for DigestedKey {
 
     ghost laws = { key_per };
 
+    #[inline]
     fn eq(&self, other: &DigestedKey) -> bool
         ensures { result ≡ key_eq self.now other.now }
     {
-        self.digest == other.digest && self.key == other.key
+        self.digest == other.digest && are_one(&self.key, &other.key)
     }
 }
 
@@ -93,7 +95,7 @@ impl Ord for DigestedKey {
         ensures { result ≡ key_cmp self.now other.now }
     {
         match self.digest.cmp(&other.digest) {
-            Ordering::Equal => self.key.cmp(&other.key),
+            Ordering::Equal => order_of(&self.key, &other.key),
             order => order,
         }
     }
@@ -111,4 +113,23 @@ impl Digest for DigestedKey {
     fn digest(&self) -> u64 {
         self.digest
     }
+}
+
+// Whether keys of one digest are one. It stands apart, since most keys that are compared differ in their digests.
+#[inline(never)]
+fn are_one(key: &Key, other: &Key) -> bool
+    ensures { result ≡ key_eq key.now other.now }
+{
+    key == other
+}
+
+// Which of two keys of one digest comes first. Most of them are one, which is told sooner than an order.
+#[inline(never)]
+fn order_of(key: &Key, other: &Key) -> Ordering
+    ensures { result ≡ own_order.cmp key.now other.now }
+{
+    if key == other {
+        return Ordering::Equal;
+    }
+    key.cmp(other)
 }

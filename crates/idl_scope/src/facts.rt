@@ -1,8 +1,8 @@
 //! What a unit adds.
 
-ghost use Rattle.std.specs.Prelude.{◌≡◌, [], OnOk, length, slice_get};
-ghost use Rattle.std.specs.Option.{option_copied};
-ghost use Rattle.idl_scope.specs.Facts.{addition_at, with_addition};
+ghost use Rattle.std.specs.Prelude.{◌≡◌, [], IfSome, OnOk, length, slice_get};
+ghost use Rattle.std.specs.Option.{option_copied, option_map};
+ghost use Rattle.idl_scope.specs.Facts.{addition_at, key_of, with_addition};
 ghost use Rattle.idl_scope.specs.declared.addition.Step.TheVariants.{Stays};
 
 use crate::addition::{Addition, Step};
@@ -92,8 +92,17 @@ impl Facts {
     pub fn addition(&self, index: usize) -> Option<&Addition>
         ensures { option_copied result ≡ slice_get self.now.additions index }
     {
-        let (_key, addition) = self.additions.get_index(index)?;
+        let (_key, addition) = self.entry(index)?;
         Some(addition)
+    }
+
+    /// The addition at a place in their order with its key, or nothing past the last.
+    pub fn entry(&self, index: usize) -> Option<(&DigestedKey, &Addition)>
+        ensures addition { option_map (λ e. e.1.now) result ≡ slice_get self.now.additions index }
+        ensures key { IfSome result (λ e. e.0.now ≡ key_of e.1.now) }
+    {
+        let (key, addition) = self.additions.get_index(index)?;
+        Some((key, addition))
     }
 
     /// How the open scopes change.

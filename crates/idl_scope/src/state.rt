@@ -352,10 +352,10 @@ fn put_all(
 {
     let count = facts.len();
     for back in 0..count {
-        let Some(addition) = facts.addition(count - 1 - back) else {
+        let Some((key, addition)) = facts.entry(count - 1 - back) else {
             continue;
         };
-        answers.insert(alloc, addition.key(alloc)?, addition.answer()?)?;
+        answers.insert(alloc, key.clone()?, addition.answer()?)?;
     }
     Ok(())
 }
