@@ -3,7 +3,7 @@ use Rattle.std.specs.Prelude.{◌≡◌, ℕ, Bool, true, List, [], ◌∷◌, �
 use Rattle.std.specs.Cmp.Lexicographic.{pointwise}
 use Rattle.std.proofs.Common.{ap}
 use Rattle.idl_base.specs.Exact.{both, same_list, same_number}
-use Rattle.idl_scope.specs.Path.{path_eq, same_path}
+use Rattle.idl_scope.specs.Path.{same_path}
 use Rattle.idl_scope.specs.Unvalued.{same_unvalued}
 use Rattle.idl_scope.specs.contracts.data_type.ElementPartialEq.TheImpl.{ghosts as element_ghosts}
 use Rattle.idl_scope.specs.contracts.data_type.LayerPartialEq.TheImpl.{ghosts as layer_ghosts}
