@@ -69,19 +69,16 @@ impl<B: RootBank> HintedLog<B> {
     fn is_found(&self, key: &Key) -> bool
         ensures { IsTrue result → is_logged key_eq self.now key.now ≡ true }
     {
-        match self.hints.places_of(key) {
-            Some(places) => stands_at(&self.log, places.first, key)
-                || stands_at(&self.log, places.last, key),
-            None => false,
-        }
+        let places = self.hints.places_of(key);
+        stands_at(&self.log, places.first, key) || stands_at(&self.log, places.last, key)
     }
 }
 
 // Whether a key stands at a place of a log.
-fn stands_at<B: RootBank>(log: &Log<B>, place: usize, key: &Key) -> bool
+fn stands_at<B: RootBank>(log: &Log<B>, place: u32, key: &Key) -> bool
     ensures { IsTrue result → is_logged key_eq log.now key.now ≡ true }
 {
-    match log.get(place) {
+    match log.get(place as usize) {
         Some((logged, _answer)) => key == logged,
         None => false,
     }

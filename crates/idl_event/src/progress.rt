@@ -121,7 +121,7 @@ impl<B: RootBank> Progress<B> {
 fn keep(kept: &mut Vec<Event>, item: Item) -> Result<(), AllocError>
     ensures { OnOk result (kept.new.items ≡ kept.old.items ++ option_to_list (event_of item)) }
 {
-    if let Some(event) = item.event() {
+    if let Item::Kept(event) = item {
         kept.push(event)?;
     }
     Ok(())

@@ -13,6 +13,7 @@ ghost use Rattle.idl_event.specs.Expanding.{Reached, arrival, arrived, reached};
 ghost use Rattle.idl_event.specs.Items.{rules, turns_left};
 ghost use Rattle.idl_lex.specs.Tokens.{Token, tokens_in};
 ghost use Rattle.idl_macro.specs.Output.{given, given_more, item_of};
+ghost use Rattle.idl_macro.specs.declared.replacement.Output.TheVariants.{Text};
 ghost use Rattle.idl_macro.specs.Replace.{operand, replaced, replaced_at, replacement, text};
 
 use crate::definitions::{Definitions, Macros};
@@ -43,21 +44,57 @@ pub fn replace_text<B: RootBank>(
         ≡ reached (B.at macros.now.bank.now)
         (text file.now macros.now.definitions.now tokens.now) progress.old) }
 {
-    let mut output = Output::Text;
     let mut left = tokens.copied();
     'tokens: while let Some((token, rest)) = left.split_first() {
         let place = Place {
             file: file.clone()?,
             line: token.line(),
         };
-        let tokens = TokensAt {
-            place: &place,
-            tokens: from_ref(token.placed()),
-        };
-        replace(macros, tokens, progress, &mut output)?;
+        replace_one(macros, place, token.placed(), progress)?;
         left = rest;
     }
     Ok(())
+}
+
+// A token of a text is replaced at its place, and emitted. Most stand for themselves: no replacement is begun for those.
+fn replace_one<B: RootBank>(
+    macros: &Macros<'_, B>,
+    place: Place,
+    placed: &PlacedToken,
+    progress: &mut Progress<B>,
+) -> Result<(), AllocError>
+    ensures { OnOk result (progress.new
+        ≡ reached (B.at macros.now.bank.now)
+        (replaced_at (item_of Text place) place macros.now.definitions.now
+        (placed.now.token ∷ [])) progress.old) }
+{
+    if body_of(macros, &placed.token, progress)?.is_some() {
+        let tokens = TokensAt {
+            place: &place,
+            tokens: from_ref(placed),
+        };
+        return replace(macros, tokens, progress, &mut Output::Text);
+    }
+    let token = placed.token.clone()?;
+    progress.tell(Item::Kept(Event::Emitted(place, token)))
+}
+
+// The body that a token in no replacement is replaced by: its macro's, if it is a word.
+fn body_of<'a, B: RootBank>(
+    macros: &Macros<'a, B>,
+    token: &Token,
+    progress: &mut Progress<B>,
+) -> Result<Option<&'a [PlacedToken]>, AllocError>
+    ensures { IfOk result (λ body. arrived (option_map tokens_in (option_copied body)) progress.new
+        ≡ arrival (B.at macros.now.bank.now)
+        (replacement macros.now.definitions.now [] token.now) progress.old) }
+{
+    if !token.is_word() {
+        return Ok(None);
+    }
+    macros
+        .definitions
+        .macro_of(token.spelling(), macros.bank, progress)
 }
 
 /// The tokens of a condition or of an operand are replaced at the place of the directive, counted,
