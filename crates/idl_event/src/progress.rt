@@ -6,12 +6,17 @@ ghost use Rattle.idl_memo.specs.Progress.{after_item, after_key};
 ghost use Rattle.idl_event.specs.Items.{event_of, rules, turns_left, beginning};
 ghost use Rattle.idl_event.specs.Key.{key_eq};
 ghost use Rattle.idl_event.specs.Limits.{turns_at_most};
+ghost use Rattle.idl_event.specs.declared.event.Event.TheVariants.{Emitted};
+ghost use Rattle.idl_event.specs.declared.event.Item.TheVariants.{Kept};
 
 use crate::allowance::Allowance;
+use crate::code::Code;
 use crate::event::{Event, Item};
 use crate::hinted_log::HintedLog;
 use crate::key::{Answer, Key};
+use crate::place::Place;
 use crate::root_bank::RootBank;
+use idl_lex::Token;
 use idl_memo::{Bank, Log};
 use std::alloc::{AllocError, Global};
 use std::marker::Model;
@@ -105,6 +110,22 @@ impl<B: RootBank> Progress<B> {
         }
     }
 
+    /// A token of the text more, at its place: most items are such, and this does the same with one as `tell`, at less cost.
+    pub fn emit(&mut self, place: Place, token: Token) -> Result<(), AllocError>
+        ensures { OnOk result (self.new ≡ after_item rules (Kept (Emitted place token)) self.old) }
+    {
+        let Some(left) = self.left else {
+            return Ok(());
+        };
+        self.left = left.after_token();
+        let event = match self.left {
+            Some(_) => Event::Emitted(place, token),
+            None => Event::Fault(place, Code::PastLimit, None),
+        };
+        self.kept.push(event)?;
+        Ok(())
+    }
+
     /// The bank's answer at a key, which is logged.
     pub fn ask<'b>(&mut self, key: &Key, bank: &'b B) -> Result<Option<&'b Answer>, AllocError>
         ensures answer { IfOk result (λ answer. option_copied answer ≡ B.at bank.now key.now) }
@@ -121,7 +142,7 @@ impl<B: RootBank> Progress<B> {
 fn keep(kept: &mut Vec<Event>, item: Item) -> Result<(), AllocError>
     ensures { OnOk result (kept.new.items ≡ kept.old.items ++ option_to_list (event_of item)) }
 {
-    if let Item::Kept(event) = item {
+    if let Some(event) = item.event() {
         kept.push(event)?;
     }
     Ok(())

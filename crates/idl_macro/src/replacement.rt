@@ -18,7 +18,7 @@ ghost use Rattle.idl_macro.specs.Replace.{operand, replaced, replaced_at, replac
 
 use crate::definitions::{Definitions, Macros};
 use idl_base::Table;
-use idl_event::{Answer, Event, FileName, Item, Key, Place, Progress, RootBank};
+use idl_event::{Answer, FileName, Item, Key, Place, Progress, RootBank};
 use idl_lex::{FileTokens, PlacedToken, Spelling, Token};
 use std::alloc::{AllocError, Global};
 use std::slice::from_ref;
@@ -75,8 +75,7 @@ fn replace_one<B: RootBank>(
         };
         return replace(macros, tokens, progress, &mut Output::Text);
     }
-    let token = placed.token.clone()?;
-    progress.tell(Item::Kept(Event::Emitted(place, token)))
+    progress.emit(place, placed.token.clone()?)
 }
 
 // The body that a token in no replacement is replaced by: its macro's, if it is a word.
@@ -228,7 +227,7 @@ impl Output {
         let token = token.clone()?;
         let place = place.clone()?;
         match self {
-            Output::Text => progress.tell(Item::Kept(Event::Emitted(place, token))),
+            Output::Text => progress.emit(place, token),
             Output::Operand(given) => {
                 given.push(token)?;
                 progress.tell(Item::Counted(place))
