@@ -1,5 +1,5 @@
 -- A token whose macro is looked for a second time.
-use Rattle.std.proofs.Common.{◌≡◌, ℕ, ◌+◌, Bool, true, false, cond, not, ◌&&◌, ◌||◌, if◌then◌else◌, List, [], ◌∷◌, ◌++◌, Option, None, Some, refl, sym, ap, ◌∙◌}
+use Rattle.std.proofs.Common.{◌≡◌, ℕ, ◌+◌, Bool, true, false, cond, not, ◌&&◌, ◌||◌, if◌then◌else◌, List, [], ◌∷◌, ◌++◌, Option, None, Some, is_some, refl, sym, ap, ◌∙◌}
 use Rattle.std.specs.Cmp.Lexicographic.{bytes_decides}
 use Rattle.std.specs.List.{list_any}
 use Rattle.std.specs.Map.{lookup}
@@ -24,6 +24,11 @@ use Rattle.idl_macro.specs.Macros.{Definitions, body_in, macro_of}
 use Rattle.idl_macro.specs.Replace.{replaced_at, replacement}
 use Rattle.idl_macro.proofs.AllowanceLemmas.{replacement-found}
 use Rattle.idl_macro.proofs.ReplaceLemmas.{made, reached-pending-first, reached-pending-stands, reached-replaced}
+
+-- nothing is there
+pub no_value : {A : Type 0} (o : Option A) → is_some o ≡ false → o ≡ None
+no_value None h = refl
+no_value (Some x) h = cc
 
 module _ (bank : Key → Option Answer) (k : Key) where
   -- a key that is noted is logged
