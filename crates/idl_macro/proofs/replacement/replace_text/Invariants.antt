@@ -8,7 +8,7 @@ invariant-tokens g l =
     let bank = g.B.Bank.at l.macros.bank.now in
     let definitions = l.macros.definitions.now in
     reached bank (text l.file definitions l.tokens) l.fn.progress
-        ≡ reached bank (text l.file definitions l.left) l.progress
+    ≡ reached bank (text l.file definitions l.left) l.progress
 
 abbrev pub decreases-tokens : goal.decreases-tokens
 decreases-tokens g l = length l.left
