@@ -13,6 +13,7 @@ use crate::allowance::Allowance;
 use crate::code::Code;
 use crate::event::{Event, Item};
 use crate::hinted_log::HintedLog;
+use crate::hints::digest_of;
 use crate::key::{Answer, Key};
 use crate::place::Place;
 use crate::root_bank::RootBank;
@@ -131,10 +132,24 @@ impl<B: RootBank> Progress<B> {
         ensures answer { IfOk result (λ answer. option_copied answer ≡ B.at bank.now key.now) }
         ensures progress { OnOk result (self.new ≡ after_key key_eq (B.at bank.now) key.now self.old) }
     {
+        self.ask_by(key, digest_of(key), bank)
+    }
+
+    /// The same as `ask`, for who has a digest of the key at hand. A key is found soon where it always comes with the same, and
+    /// with another one the answer is no other.
+    pub fn ask_by<'b>(
+        &mut self,
+        key: &Key,
+        digest: u64,
+        bank: &'b B,
+    ) -> Result<Option<&'b Answer>, AllocError>
+        ensures answer { IfOk result (λ answer. option_copied answer ≡ B.at bank.now key.now) }
+        ensures progress { OnOk result (self.new ≡ after_key key_eq (B.at bank.now) key.now self.old) }
+    {
         if self.left.is_none() {
             return Ok(bank.answer(key));
         }
-        self.log.ask(key, bank)
+        self.log.ask(key, digest, bank)
     }
 }
 

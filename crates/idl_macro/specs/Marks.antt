@@ -1,13 +1,14 @@
 -- Marks at the numbers of words. Words share numbers: a word without a mark is known to have none.
-use Rattle.std.specs.Prelude.{◌≡◌, ℕ, ◌+◌, ◌-◌, ◌*◌, ◌%◌, Bool, true, false, List, [], ◌∷◌, length, slice_get, slice_index_or, unwrap_or}
+use Rattle.std.specs.Prelude.{◌≡◌, ℕ, ◌/◌, ◌^◌, Bool, true, false, List, [], ◌∷◌, slice_index_or}
+use Rattle.idl_base.specs.Digest.{with_bytes}
 
--- the byte at a place of a word, or 0 past its end
-abbrev pub byte_at : List ℕ → ℕ → ℕ
-byte_at word place = unwrap_or (slice_get word place) 0
+-- the number of the words with a digest
+abbrev pub number_in : ℕ → ℕ
+number_in digest = digest / 2 ^ 54
 
--- the number of a word: four bits of its first byte, and six of its last
+-- the number of a word
 unfoldable pub word_number : List ℕ → ℕ
-word_number word = 64 * (byte_at word 0 % 16) + byte_at word (length word - 1) % 64
+word_number word = number_in (with_bytes 0 word)
 
 -- whether there is a mark at the number of a word
 abbrev pub is_marked : List Bool → List ℕ → Bool
