@@ -23,7 +23,7 @@ use Rattle.idl_lex.specs.Word.{is_word}
 use Rattle.idl_macro.specs.Macros.{Definitions, body_in, macro_of}
 use Rattle.idl_macro.specs.Replace.{replaced_at, replacement}
 use Rattle.idl_macro.proofs.AllowanceLemmas.{replacement-found}
-use Rattle.idl_macro.proofs.ReplaceLemmas.{made, reached-pending-first, reached-pending-stands, reached-replaced}
+use Rattle.idl_macro.proofs.ReplaceLemmas.{made, reached-pending-first, reached-replaced}
 
 -- nothing is there
 pub no_value : {A : Type 0} (o : Option A) → is_some o ≡ false → o ≡ None

@@ -1,4 +1,4 @@
-use Rattle.std.proofs.Common.{◌≡◌, ◌∷◌, [], List, Option, None, OnOk, Bor, subst, sym, ap, ◌∙◌}
+use Rattle.std.proofs.Common.{◌≡◌, [], List, Option, None, OnOk, Bor, subst, sym, ap, ◌∙◌}
 use Rattle.std.specs.Option.{option_copied, option_map}
 use Rattle.idl_memo.specs.Progress.{after_item}
 use Rattle.idl_event.specs.Expanding.{Reached, arrival, arrived, reached}
