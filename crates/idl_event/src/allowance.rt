@@ -1,7 +1,7 @@
 //! The limits of a root.
 
 ghost use Rattle.std.specs.Prelude.{◌≡◌};
-ghost use Rattle.idl_event.specs.Items.{spend, whole_allowance};
+ghost use Rattle.idl_event.specs.Items.{spend, spend_token, whole_allowance};
 
 use crate::event::{Event, Item};
 
@@ -38,12 +38,19 @@ impl Allowance {
                 turns: self.turns.checked_sub(1)?,
                 tokens: self.tokens,
             }),
-            Item::Kept(Event::Emitted(_, _)) | Item::Counted(_) => Some(Allowance {
-                turns: self.turns,
-                tokens: self.tokens.checked_sub(1)?,
-            }),
+            Item::Kept(Event::Emitted(_, _)) | Item::Counted(_) => self.after_token(),
             Item::TooDeep(_) => None,
             Item::Kept(_) => Some(self),
         }
+    }
+
+    /// What is left after a token, or nothing where it is past the allowance.
+    pub fn after_token(self) -> Option<Allowance>
+        ensures { result ≡ spend_token self }
+    {
+        Some(Allowance {
+            turns: self.turns,
+            tokens: self.tokens.checked_sub(1)?,
+        })
     }
 }

@@ -47,41 +47,44 @@ impl<B: RootBank> HintedLog<B> {
         self.log
     }
 
-    /// The bank's answer at a key, which is logged with the key unless the key was asked before.
+    /// The bank's answer at a key, which is logged with the key unless the key was asked before. By the digest the key is
+    /// found: with whichever, the answer is the same.
     ///
     /// After want of memory nothing is said of the log.
-    pub fn ask<'b>(&mut self, key: &Key, bank: &'b B) -> Result<Option<&'b Answer>, AllocError>
+    pub fn ask<'b>(
+        &mut self,
+        key: &Key,
+        digest: u64,
+        bank: &'b B,
+    ) -> Result<Option<&'b Answer>, AllocError>
         ensures answer { IfOk result (λ answer. option_copied answer ≡ B.at bank.now key.now) }
         ensures logged { OnOk result (self.new ≡ noted key_eq (B.at bank.now) self.old key.now) }
     {
-        if self.is_found(key) {
+        if self.is_found(key, digest) {
             return Ok(bank.answer(key));
         }
         let place = self.log.len();
         let answer = self.log.ask(key, bank)?;
         if place < self.log.len() {
-            self.hints.note(key, place)?;
+            self.hints.note(digest, place)?;
         }
         Ok(answer)
     }
 
     // Whether a key stands where it may stand. One that doesn't may be logged all the same.
-    fn is_found(&self, key: &Key) -> bool
+    fn is_found(&self, key: &Key, digest: u64) -> bool
         ensures { IsTrue result → is_logged key_eq self.now key.now ≡ true }
     {
-        match self.hints.places_of(key) {
-            Some(places) => stands_at(&self.log, places.first, key)
-                || stands_at(&self.log, places.last, key),
-            None => false,
-        }
+        let places = self.hints.places_of(digest);
+        stands_at(&self.log, places.first, key) || stands_at(&self.log, places.last, key)
     }
 }
 
 // Whether a key stands at a place of a log.
-fn stands_at<B: RootBank>(log: &Log<B>, place: usize, key: &Key) -> bool
+fn stands_at<B: RootBank>(log: &Log<B>, place: u32, key: &Key) -> bool
     ensures { IsTrue result → is_logged key_eq log.now key.now ≡ true }
 {
-    match log.get(place) {
+    match log.get(place as usize) {
         Some((logged, _answer)) => key == logged,
         None => false,
     }

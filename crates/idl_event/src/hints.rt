@@ -5,22 +5,28 @@ use idl_base::{mixed, with_bytes};
 use std::alloc::{AllocError, Global};
 
 // So many numbers there are, by one of which a key is found.
-const NUMBERS: usize = 1024;
+const NUMBERS: usize = 2048;
 
-/// Where in a log keys may stand: beside the number of a key the first place that was noted for it, and the last.
+/// Where in a log keys may stand: beside the number of keys the first place that was noted for one, and the last.
 ///
 /// Keys share numbers, so nothing is promised of a place: who looks there compares the key.
 #[derive(Drop)]
 pub struct Hints {
-    noted: Vec<Option<Places>>,
+    noted: Vec<Places>,
 }
 
 /// Two places in a log.
 #[derive(Clone, Copy)]
 pub struct Places {
-    pub first: usize,
-    pub last: usize,
+    pub first: u32,
+    pub last: u32,
 }
+
+// Where nothing is noted: past the end of each log.
+const NOWHERE: Places = Places {
+    first: u32::MAX,
+    last: u32::MAX,
+};
 
 impl Hints {
     /// Nothing is noted. It takes no memory.
@@ -30,33 +36,42 @@ impl Hints {
         }
     }
 
-    /// Where a key may stand, if anything is noted for its number.
-    pub fn places_of(&self, key: &Key) -> Option<Places> {
-        *self.noted.get(number_of(key))?
+    /// Where a key with this digest may stand: nowhere, or at one of two places.
+    pub fn places_of(&self, digest: u64) -> Places {
+        match self.noted.get(number_in(digest)) {
+            Some(places) => *places,
+            None => NOWHERE,
+        }
     }
 
-    /// Notes where a key stands.
-    pub fn note(&mut self, key: &Key, place: usize) -> Result<(), AllocError> {
+    /// Notes where a key with this digest stands.
+    pub fn note(&mut self, digest: u64, place: usize) -> Result<(), AllocError> {
+        let Ok(place) = u32::try_from(place) else {
+            return Ok(());
+        };
         if self.noted.is_empty() {
-            self.noted.resize(NUMBERS, None)?;
+            self.noted.resize(NUMBERS, NOWHERE)?;
         }
-        if let Some(noted) = self.noted.get_mut(number_of(key)) {
-            let first = match noted {
-                Some(places) => places.first,
-                None => place,
-            };
-            *noted = Some(Places { first, last: place });
+        if let Some(places) = self.noted.get_mut(number_in(digest)) {
+            if places.first == NOWHERE.first {
+                places.first = place;
+            }
+            places.last = place;
         }
         Ok(())
     }
 }
 
-// The number of a key.
-fn number_of(key: &Key) -> usize {
-    let digest = match key {
+/// The digest of a key; that of a macro's word is the digest of its bytes alone.
+pub fn digest_of(key: &Key) -> u64 {
+    match key {
         Key::Macro(word) => with_bytes(0, word.as_bytes()),
         Key::File(name) => with_bytes(mixed(0, 256), name.as_bytes()),
         Key::Search => 0,
-    };
-    (digest >> 54) as usize
+    }
+}
+
+// The number of the keys with a digest.
+fn number_in(digest: u64) -> usize {
+    (digest >> 53) as usize
 }

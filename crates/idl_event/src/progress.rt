@@ -6,12 +6,18 @@ ghost use Rattle.idl_memo.specs.Progress.{after_item, after_key};
 ghost use Rattle.idl_event.specs.Items.{event_of, rules, turns_left, beginning};
 ghost use Rattle.idl_event.specs.Key.{key_eq};
 ghost use Rattle.idl_event.specs.Limits.{turns_at_most};
+ghost use Rattle.idl_event.specs.declared.event.Event.TheVariants.{Emitted};
+ghost use Rattle.idl_event.specs.declared.event.Item.TheVariants.{Kept};
 
 use crate::allowance::Allowance;
+use crate::code::Code;
 use crate::event::{Event, Item};
 use crate::hinted_log::HintedLog;
+use crate::hints::digest_of;
 use crate::key::{Answer, Key};
+use crate::place::Place;
 use crate::root_bank::RootBank;
+use idl_lex::Token;
 use idl_memo::{Bank, Log};
 use std::alloc::{AllocError, Global};
 use std::marker::Model;
@@ -105,15 +111,45 @@ impl<B: RootBank> Progress<B> {
         }
     }
 
+    /// A token of the text more, at its place: most items are such, and this does the same with one as `tell`, at less cost.
+    pub fn emit(&mut self, place: Place, token: Token) -> Result<(), AllocError>
+        ensures { OnOk result (self.new ≡ after_item rules (Kept (Emitted place token)) self.old) }
+    {
+        let Some(left) = self.left else {
+            return Ok(());
+        };
+        self.left = left.after_token();
+        let event = match self.left {
+            Some(_) => Event::Emitted(place, token),
+            None => Event::Fault(place, Code::PastLimit, None),
+        };
+        self.kept.push(event)?;
+        Ok(())
+    }
+
     /// The bank's answer at a key, which is logged.
     pub fn ask<'b>(&mut self, key: &Key, bank: &'b B) -> Result<Option<&'b Answer>, AllocError>
+        ensures answer { IfOk result (λ answer. option_copied answer ≡ B.at bank.now key.now) }
+        ensures progress { OnOk result (self.new ≡ after_key key_eq (B.at bank.now) key.now self.old) }
+    {
+        self.ask_by(key, digest_of(key), bank)
+    }
+
+    /// The same as `ask`, for who has a digest of the key at hand. A key is found soon where it always comes with the same, and
+    /// with another one the answer is no other.
+    pub fn ask_by<'b>(
+        &mut self,
+        key: &Key,
+        digest: u64,
+        bank: &'b B,
+    ) -> Result<Option<&'b Answer>, AllocError>
         ensures answer { IfOk result (λ answer. option_copied answer ≡ B.at bank.now key.now) }
         ensures progress { OnOk result (self.new ≡ after_key key_eq (B.at bank.now) key.now self.old) }
     {
         if self.left.is_none() {
             return Ok(bank.answer(key));
         }
-        self.log.ask(key, bank)
+        self.log.ask(key, digest, bank)
     }
 }
 

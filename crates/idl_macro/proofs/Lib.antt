@@ -1,3 +1,4 @@
+pub mod AgainLemmas
 pub mod AllowanceLemmas
 pub mod ArrivalLemmas
 pub mod ConditionLemmas

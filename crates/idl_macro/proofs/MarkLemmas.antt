@@ -5,7 +5,8 @@ use Rattle.std.specs.Cmp.Lexicographic.{bytes_decides}
 use Rattle.std.specs.Map.{keys_of, lookup}
 use Rattle.std.specs.Str.{bytes_eq}
 use Rattle.idl_base.specs.Table.{insert_entry}
-use Rattle.idl_macro.specs.Marks.{AreMarked, is_marked, word_number}
+use Rattle.idl_base.specs.Digest.{with_bytes}
+use Rattle.idl_macro.specs.Marks.{AreMarked, is_marked, number_in, word_number}
 
 -- a mark stays where another is made
 slice_set-kept : (marks : List Bool) (i j : ℕ) → slice_index_or marks j false ≡ true → slice_index_or (slice_set marks i true) j false ≡ true
@@ -22,6 +23,11 @@ AreMarked-slice_set marks i (word ∷ words) h = (slice_set-kept marks i (word_n
 
 pub AreMarked-more : (marks new : List Bool) (i : ℕ) (words : List (List ℕ)) → new ≡ slice_set marks i true → AreMarked marks words → AreMarked new words
 AreMarked-more marks new i words made h = subst (λ after. AreMarked after words) (sym made) (AreMarked-slice_set marks i words h)
+
+-- the mark of a word is found by its digest
+pub is_marked-digest : (marks : List Bool) (word : List ℕ) (digest : ℕ) → digest ≡ with_bytes 0 word → slice_index_or marks (number_in digest) false ≡ is_marked marks word
+unfolding word_number
+is_marked-digest marks word digest h = ap (λ d. slice_index_or marks (number_in d) false) h
 
 module _ {V : Type 0} (marks : List Bool) (word : List ℕ) where
   -- an unmarked word has no entry

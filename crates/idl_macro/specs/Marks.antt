@@ -2,9 +2,13 @@
 use Rattle.std.specs.Prelude.{◌≡◌, ℕ, ◌/◌, ◌^◌, Bool, true, false, List, [], ◌∷◌, slice_index_or}
 use Rattle.idl_base.specs.Digest.{with_bytes}
 
+-- the number of the words with a digest
+abbrev pub number_in : ℕ → ℕ
+number_in digest = digest / 2 ^ 54
+
 -- the number of a word
 unfoldable pub word_number : List ℕ → ℕ
-word_number word = with_bytes 0 word / 2 ^ 54
+word_number word = number_in (with_bytes 0 word)
 
 -- whether there is a mark at the number of a word
 abbrev pub is_marked : List Bool → List ℕ → Bool

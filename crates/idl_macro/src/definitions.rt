@@ -4,13 +4,14 @@ ghost use Rattle.std.specs.Prelude.{◌≡◌, [], Some, None, IfOk, OnOk, OnErr
 ghost use Rattle.std.specs.Map.{lookup};
 ghost use Rattle.std.specs.Option.{option_copied, option_map};
 ghost use Rattle.std.specs.Str.{bytes_eq};
+ghost use Rattle.idl_base.specs.Digest.{with_bytes};
 ghost use Rattle.idl_base.specs.Table.{insert_entry};
 ghost use Rattle.idl_event.specs.Expanding.{arrival, arrived};
 ghost use Rattle.idl_lex.specs.Tokens.{tokens_in};
 ghost use Rattle.idl_macro.specs.Macros.{body_in, macro_of};
 
 use crate::marks::Marks;
-use idl_base::Table;
+use idl_base::{Table, with_bytes};
 use idl_event::{Answer, Key, Progress, RootBank};
 use idl_lex::{PlacedToken, Spelling, TokenRange};
 use std::alloc::{AllocError, Global};
@@ -67,20 +68,22 @@ impl Definitions {
             arrived (option_map tokens_in (option_copied body)) progress.new
             ≡ arrival (B.at bank.now) (macro_of self.now word.now) progress.old) }
     {
-        match self.said_of(word) {
+        let digest = with_bytes(0, word.as_bytes());
+        match self.said_of(word, digest) {
             Some(said) => Ok(tokens_of(said.as_ref())),
             None => {
-                let answer = progress.ask(&Key::Macro(word.clone()?), bank)?;
+                let answer = progress.ask_by(&Key::Macro(word.clone()?), digest, bank)?;
                 Ok(body_in(answer))
             }
         }
     }
 
-    // What was said of a word, if anything was.
-    fn said_of(&self, word: &Spelling) -> Option<&Option<TokenRange>>
+    // What was said of a word with this digest, if anything was.
+    fn said_of(&self, word: &Spelling, digest: u64) -> Option<&Option<TokenRange>>
+        requires { digest ≡ with_bytes 0 word.now }
         ensures { option_copied result ≡ lookup (bytes_eq word.now) self.now }
     {
-        if !self.marks.has(word) {
+        if !self.marks.has(digest) {
             return None;
         }
         self.entries.get(word)

@@ -1,7 +1,7 @@
 //! Which words something may have been said of.
 
-ghost use Rattle.std.specs.Prelude.{◌≡◌, ◌<◌, true, slice_set};
-ghost use Rattle.idl_macro.specs.Marks.{is_marked, word_number};
+ghost use Rattle.std.specs.Prelude.{◌≡◌, ◌<◌, false, true, slice_index_or, slice_set};
+ghost use Rattle.idl_macro.specs.Marks.{is_marked, number_in, word_number};
 
 use idl_base::with_bytes;
 use idl_lex::Spelling;
@@ -31,27 +31,27 @@ impl Marks {
         }
     }
 
-    /// Whether there is a mark at the number of a word.
-    pub fn has(&self, word: &Spelling) -> bool
-        ensures { result ≡ is_marked self.now word.now }
+    /// Whether there is a mark at the number of the words with a digest.
+    pub fn has(&self, digest: u64) -> bool
+        ensures { result ≡ slice_index_or self.now (number_in digest) false }
     {
-        self.marks[number_of(word)]
+        self.marks[number_in(digest)]
     }
 
     /// Marks a word.
+    #[tactic(auto, unfolding(crate::specs::Marks::word_number))]
     pub fn mark(&mut self, word: &Spelling)
         ensures marks { self.new ≡ slice_set self.old (word_number word.now) true }
         ensures marked { is_marked self.new word.now ≡ true }
     {
-        self.marks[number_of(word)] = true;
+        self.marks[number_in(with_bytes(0, word.as_bytes()))] = true;
     }
 }
 
-// The number of a word.
-#[tactic(auto, unfolding(crate::specs::Marks::word_number))]
-fn number_of(word: &Spelling) -> usize
-    ensures number { result ≡ word_number word.now }
+// The number of the words with a digest.
+fn number_in(digest: u64) -> usize
+    ensures number { result ≡ number_in digest }
     ensures below { result < 1024 }
 {
-    (with_bytes(0, word.as_bytes()) >> 54) as usize
+    (digest >> 54) as usize
 }

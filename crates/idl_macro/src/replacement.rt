@@ -13,11 +13,12 @@ ghost use Rattle.idl_event.specs.Expanding.{Reached, arrival, arrived, reached};
 ghost use Rattle.idl_event.specs.Items.{rules, turns_left};
 ghost use Rattle.idl_lex.specs.Tokens.{Token, tokens_in};
 ghost use Rattle.idl_macro.specs.Output.{given, given_more, item_of};
+ghost use Rattle.idl_macro.specs.declared.replacement.Output.TheVariants.{Text};
 ghost use Rattle.idl_macro.specs.Replace.{operand, replaced, replaced_at, replacement, text};
 
 use crate::definitions::{Definitions, Macros};
 use idl_base::Table;
-use idl_event::{Answer, Event, FileName, Item, Key, Place, Progress, RootBank};
+use idl_event::{Answer, FileName, Item, Key, Place, Progress, RootBank};
 use idl_lex::{FileTokens, PlacedToken, Spelling, Token};
 use std::alloc::{AllocError, Global};
 use std::slice::from_ref;
@@ -43,21 +44,56 @@ pub fn replace_text<B: RootBank>(
         ≡ reached (B.at macros.now.bank.now)
         (text file.now macros.now.definitions.now tokens.now) progress.old) }
 {
-    let mut output = Output::Text;
     let mut left = tokens.copied();
     'tokens: while let Some((token, rest)) = left.split_first() {
         let place = Place {
             file: file.clone()?,
             line: token.line(),
         };
-        let tokens = TokensAt {
-            place: &place,
-            tokens: from_ref(token.placed()),
-        };
-        replace(macros, tokens, progress, &mut output)?;
+        replace_one(macros, place, token.placed(), progress)?;
         left = rest;
     }
     Ok(())
+}
+
+// A token of a text is replaced at its place, and emitted. Most stand for themselves: no replacement is begun for those.
+fn replace_one<B: RootBank>(
+    macros: &Macros<'_, B>,
+    place: Place,
+    placed: &PlacedToken,
+    progress: &mut Progress<B>,
+) -> Result<(), AllocError>
+    ensures { OnOk result (progress.new
+        ≡ reached (B.at macros.now.bank.now)
+        (replaced_at (item_of Text place) place macros.now.definitions.now
+        (placed.now.token ∷ [])) progress.old) }
+{
+    if body_of(macros, &placed.token, progress)?.is_some() {
+        let tokens = TokensAt {
+            place: &place,
+            tokens: from_ref(placed),
+        };
+        return replace(macros, tokens, progress, &mut Output::Text);
+    }
+    progress.emit(place, placed.token.clone()?)
+}
+
+// The body that a token in no replacement is replaced by: its macro's, if it is a word.
+fn body_of<'a, B: RootBank>(
+    macros: &Macros<'a, B>,
+    token: &Token,
+    progress: &mut Progress<B>,
+) -> Result<Option<&'a [PlacedToken]>, AllocError>
+    ensures { IfOk result (λ body. arrived (option_map tokens_in (option_copied body)) progress.new
+        ≡ arrival (B.at macros.now.bank.now)
+        (replacement macros.now.definitions.now [] token.now) progress.old) }
+{
+    if !token.is_word() {
+        return Ok(None);
+    }
+    macros
+        .definitions
+        .macro_of(token.spelling(), macros.bank, progress)
 }
 
 /// The tokens of a condition or of an operand are replaced at the place of the directive, counted,
@@ -191,7 +227,7 @@ impl Output {
         let token = token.clone()?;
         let place = place.clone()?;
         match self {
-            Output::Text => progress.tell(Item::Kept(Event::Emitted(place, token))),
+            Output::Text => progress.emit(place, token),
             Output::Operand(given) => {
                 given.push(token)?;
                 progress.tell(Item::Counted(place))

@@ -190,6 +190,8 @@ impl Bank for SessionBank {
     #[tactic(auto, unfolding(crate::specs::Bank::bank_of))]
     fn answer(&self, key: &Key) -> Option<&Answer> {
         match key {
+            // Most sessions have no macros, and each word of a text is asked for.
+            Key::Macro(_) if self.macros.is_empty() => None,
             Key::Macro(word) => match self.macros.get(word) {
                 Some(body) => Some(body.answer()),
                 None => None,
