@@ -1,6 +1,4 @@
-use Rattle.std.proofs.Common.{ap}
-use Rattle.idl_repo.specs.TypeCode.{listed_value}
-use Rattle.idl_repo.proofs.WriteLemmas.{says-then, text-as, writes-text, writes-then}
+use Rattle.idl_repo.proofs.WriteLemmas.{says-then, writes-text, writes-then}
 use Rattle.idl_repo.proofs.row.push_constant.Goals as goal
 
 pub returns-in_ok-push_listed : goal.returns-in_ok-push_listed
@@ -8,7 +6,7 @@ returns-in_ok-push_listed c =
     rw (c.in-Some.is, ← c.get.ensures)
     (says-then c.in_ok-extend_from_slice.ensures.items
     (writes-then c.in_ok-push_type.ensures
-    (says-then c.in_ok-extend_from_slice-2.ensures.items (text-as c.in_ok-push_listed.ensures (ap listed_value c.get.ensures)))))
+    (says-then c.in_ok-extend_from_slice-2.ensures.items (writes-text c.in_ok-push_listed.ensures))))
 
 pub returns-in_default : goal.returns-in_default
 returns-in_default c =
