@@ -1,5 +1,5 @@
 -- The table of keywords: a search among those that begin with one letter finds what a search among all does.
-use Rattle.std.proofs.Common.{◌≡◌, ◌≢◌, ◌∙◌, ◌<◌, ◌≤◌, ◌+◌, ◌-◌, take, drop, ℕ, Bool, true, false, ◌&&◌, ltb, cond, List, [], ◌∷◌, map, length, find, Option, Some, None, refl, sym, ap, arith, inl, inr}
+use Rattle.std.proofs.Common.{◌≡◌, ◌∙◌, ◌<◌, ◌≤◌, ◌+◌, ◌-◌, take, drop, ℕ, Bool, true, false, ◌&&◌, ltb, cond, List, [], ◌∷◌, map, length, find, Some, None, refl, sym, ap, arith, inl, inr}
 use Rattle.std.proofs.Math.ListN.{get_or}
 use Rattle.std.proofs.lemmas.Bool.{false≢true, ltb-true, ne_eqb}
 use Rattle.std.proofs.lemmas.Bool.Decides.{eqb_tells}

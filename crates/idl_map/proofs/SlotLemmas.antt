@@ -1,15 +1,17 @@
 -- Look-ups in what is gathered of slots.
 use Rattle.std.proofs.Common.{◌≡◌, ℕ, zero, suc, inl, inr, ◌<◌, ◌+◌, ◌≢◌, Bool, true, false, cond, List, [], ◌∷◌, ◌++◌, Option, Some, None, length, refl, sym, ap, ◌∙◌, arith}
 use Rattle.std.proofs.Math.Dec.{eqb}
-use Rattle.std.proofs.lemmas.Bool.{ne_eqb}
+use Rattle.std.proofs.lemmas.Bool.{false≢true, ne_eqb}
 use Rattle.std.proofs.lemmas.Bool.Decides.{eqb_tells}
 use Rattle.std.proofs.lemmas.List.{length-map, get_or-map, get_or-set_same, get_or-set_other, map-set}
 use Rattle.std.proofs.lemmas.Map.Entries.{lookup-filter-keys}
 use Rattle.std.proofs.Math.ListN.{get_or, set}
+use Rattle.std.specs.Cmp.{IsEquivalence}
 use Rattle.std.specs.List.{filter}
 use Rattle.std.specs.Map.{lookup}
 use Rattle.std.specs.Prelude.{map}
-use Rattle.idl_map.specs.Slots.{branch_seen, choice, gathered, slot_entries}
+use Rattle.idl_base.specs.Table.{insert_entry}
+use Rattle.idl_map.specs.Slots.{branch_of, branch_seen, choice, gathered, slot_entries}
 use Rattle.idl_map.specs.declared.slot.Slot.{Slot}
 
 -- a test of numbers that are one
@@ -107,13 +109,56 @@ module _ {K V : Type 0} (eq : K → K → Bool) (same : (x y : K) → eq x y ≡
       → ((k : K) (o : Option V) → choice shift (digest_of k) ≢ i → change k o ≡ o)
       → branch_seen digest_of shift slots ≡ old → new ≡ branch_seen digest_of shift (set slots i child)
       → ((k : K) → lookup (eq k) (slot_entries digest_of child) ≡ change k (lookup (eq k) (slot_entries digest_of (get_or slots i d))))
-      → (k : K) → lookup (eq k) (gathered (λ x. choice shift (digest_of x)) 0 new.2) ≡ change k (lookup (eq k) (gathered (λ x. choice shift (digest_of x)) 0 old.2))
+      → (k : K) → lookup (eq k) (gathered (λ x. choice new.1 (digest_of x)) 0 new.2) ≡ change k (lookup (eq k) (gathered (λ x. choice old.1 (digest_of x)) 0 old.2))
   changed_branch change slots i child d old new within others seen put below k =
       let entries : Slot K V → List (K × V) = slot_entries digest_of in
       let chosen : K → ℕ = λ x. choice shift (digest_of x) in
       let long : i < length (map entries slots) = omega (arith, within, length-map slots entries) in
-      ap (λ v. lookup (eq k) (gathered chosen 0 v.2)) put
+      ap (λ v. lookup (eq k) (gathered (λ x. choice v.1 (digest_of x)) 0 v.2)) put
       ∙ ap (λ lists. lookup (eq k) (gathered chosen 0 lists)) (map-set entries slots i child)
       ∙ changed_below eq same chosen change (map entries slots) i (entries child) long others
       (λ x. below x ∙ ap (λ es. change x (lookup (eq x) es)) (sym (get_or-map entries slots i d [] within))) k
-      ∙ ap (λ v. change k (lookup (eq k) (gathered chosen 0 v.2))) seen
+      ∙ ap (λ v. change k (lookup (eq k) (gathered (λ x. choice v.1 (digest_of x)) 0 v.2))) seen
+
+  -- a branch with one entry alone has what the entry has
+  pub lookup-branch_of : (index : ℕ) (key : K) (v : V) (new : ℕ × ℕ × List (List (K × V))) → new ≡ branch_of shift index ((key, v) ∷ [])
+      → choice shift (digest_of key) ≡ index → index < 8
+      → (k : K) → lookup (eq k) (gathered (λ x. choice new.1 (digest_of x)) 0 new.2) ≡ lookup (eq k) ((key, v) ∷ [])
+  lookup-branch_of index key v new made at within k =
+      let chosen : K → ℕ = λ x. choice shift (digest_of x) in
+      let none : List (List (K × V)) = [] ∷ [] ∷ [] ∷ [] ∷ [] ∷ [] ∷ [] ∷ [] ∷ [] in
+      let knows : (x : K) → eq k x ≡ true → chosen x ≡ chosen k = λ x h. ap chosen (sym (same k x h)) in
+      ap (λ b. lookup (eq k) (gathered (λ x. choice b.1 (digest_of x)) 0 b.2)) made
+      ∙ elim (eqb_tells (chosen k) index) [
+        | inl t ↦ lookup-gathered-set_same chosen (eq k) (chosen k) knows none index ((key, v) ∷ []) within t.1
+        | inr f ↦
+            lookup-gathered-set_other chosen (eq k) (chosen k) knows none index ((key, v) ∷ []) f.1
+            ∙ sym (put_elsewhere eq same chosen key v index at k None f.1)
+      ]
+
+-- look-ups after a put into a table
+module _ {K V : Type 0} (eq : K → K → Bool) (same : (x y : K) → eq x y ≡ true → x ≡ y) (laws : IsEquivalence eq) (key : K) (v : V) (q : K) where
+  first_twice : (b : Bool) (w : V) (o : Option V) → cond b (Some v) o ≡ cond b (Some v) (cond b (Some w) o)
+  first_twice true w o = refl
+  first_twice false w o = refl
+
+  one_apart : (a b : Bool) (w : V) (o : Option V) → (a ≡ true → b ≡ true → ⊥) → cond a (Some w) (cond b (Some v) o) ≡ cond b (Some v) (cond a (Some w) o)
+  one_apart true true w o apart = absurd (apart refl refl)
+  one_apart true false w o apart = refl
+  one_apart false b w o apart = refl
+
+  pub lookup-insert_entry : (es : List (K × V)) → lookup (eq q) (insert_entry eq es key v) ≡ cond (eq q key) (Some v) (lookup (eq q) es)
+  lookup-insert_entry [] = refl
+  lookup-insert_entry (e ∷ es) = by (eq key e.0) refl (lookup-insert_entry es)
+    where
+      by : (b : Bool) → eq key e.0 ≡ b → lookup (eq q) (insert_entry eq es key v) ≡ cond (eq q key) (Some v) (lookup (eq q) es)
+          → lookup (eq q) (insert_entry eq (e ∷ es) key v) ≡ cond (eq q key) (Some v) (lookup (eq q) (e ∷ es))
+      by true t rest =
+          ap (λ b. lookup (eq q) (cond b ((e.0, v) ∷ es) (e ∷ insert_entry eq es key v))) t
+          ∙ first_twice (eq q e.0) e.1 (lookup (eq q) es)
+          ∙ ap (λ k. cond (eq q k) (Some v) (lookup (eq q) (e ∷ es))) (sym (same key e.0 t))
+      by false t rest =
+          ap (λ b. lookup (eq q) (cond b ((e.0, v) ∷ es) (e ∷ insert_entry eq es key v))) t
+          ∙ ap (cond (eq q e.0) (Some e.1)) rest
+          ∙ one_apart (eq q e.0) (eq q key) e.1 (lookup (eq q) es)
+          (λ here there. false≢true (sym t ∙ ap (λ x. eq x e.0) (sym (same q key there)) ∙ here))

@@ -160,7 +160,7 @@ fn divide<K: Digest + Ord, V: Datum>(
     ensures bits { slot_size slot.new + (30 - (shift + 3)) ≤ slot_size slot.old + (30 - shift) }
     ensures one { OnOk result (IsOneAt key.now slot.new) }
 {
-    let Slot::One(other) = slot else {
+    let Slot::One(other) = &*slot else {
         return Ok(());
     };
     if other.0 == *key {

@@ -1,4 +1,4 @@
-use Rattle.std.proofs.Common.{◌∙◌, ◌-◌, ap, sym, arith, drop, filter, map, take}
+use Rattle.std.proofs.Common.{◌∙◌, ◌-◌, ap, sym, arith, drop, filter, take}
 use Rattle.std.proofs.lemmas.List.{drop-map, take-map}
 use Rattle.idl_lex.specs.Keywords.{folded, keywords}
 use Rattle.idl_lex.specs.KeywordTable.{begins_with}

@@ -1,4 +1,4 @@
-use Rattle.std.proofs.Common.{◌<◌, ◌≤◌, ◌+◌, arith, refl}
+use Rattle.std.proofs.Common.{◌+◌, arith, refl}
 use Rattle.idl_lex.proofs.TableLemmas.{part-beginning, starts-length, starts-rise}
 use Rattle.idl_lex.proofs.keyword_table.part.Goals as goal
 

@@ -3,7 +3,7 @@ use Rattle.idl_repo.proofs.row.push_constant.Goals as goal
 
 pub returns-in_ok-push_listed : goal.returns-in_ok-push_listed
 returns-in_ok-push_listed c =
-    rw c.in-Some.is
+    rw (c.in-Some.is, ← c.get.ensures)
     (says-then c.in_ok-extend_from_slice.ensures.items
     (writes-then c.in_ok-push_type.ensures
     (says-then c.in_ok-extend_from_slice-2.ensures.items (writes-text c.in_ok-push_listed.ensures))))
