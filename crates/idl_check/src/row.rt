@@ -41,7 +41,8 @@ pub fn row_of(
 {
     let mut text = Vec::with_capacity(alloc, 64)?;
     push_sites(&mut text, sites, unit)?;
-    let mut row = Vec::with_capacity(alloc, text.len())?;
+    let room = text.len().saturating_add(depth).saturating_add(depth);
+    let mut row = Vec::with_capacity(alloc, room)?;
     push_blanks(&mut row, depth)?;
     row.extend_from_slice(behind(text.as_slice(), 1))?;
     Shared::new(alloc, Text::from_vec(row))
