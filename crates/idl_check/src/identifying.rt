@@ -112,7 +112,8 @@ pub fn first_identity(
 ) -> Result<Shared<Identity>, AllocError>
     ensures { IfOk result (λ d. d ≡ first_identity prefix.now path.now) }
 {
-    let mut id = Vec::from_slice(alloc, b"IDL:")?;
+    let mut id = Vec::with_capacity(alloc, 64)?;
+    id.extend_from_slice(b"IDL:")?;
     push_prefix(&mut id, prefix.text.as_bytes())?;
     let names = path.names(alloc)?;
     let scope = prefix.scope.names(alloc)?;

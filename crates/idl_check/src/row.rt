@@ -1,7 +1,8 @@
 //! The row of a unit in the dump.
 
-ghost use Rattle.std.specs.Prelude.{◌≡◌, ◌≤◌, ◌++◌, codes, IfOk, OnOk, drop, flat_map, map};
+ghost use Rattle.std.specs.Prelude.{◌≡◌, ◌≤◌, ◌++◌, ◌||◌, codes, IfOk, OnOk, drop, flat_map, map};
 ghost use Rattle.std.specs.List.{repeat};
+ghost use Rattle.std.specs.Str.{bytes_eq};
 ghost use Rattle.idl_check.specs.Row.{behind_site, character, escaped, next_path, next_value, octal, path_word, row_of, site_text, spaced, text_word, token_text, unit_text};
 ghost use Rattle.idl_check.specs.HeldRow.{rest_at};
 ghost use Rattle.idl_site.specs.Item.{item_at, item_length, items_length};
@@ -40,7 +41,8 @@ pub fn row_of(
 {
     let mut text = Vec::with_capacity(alloc, 64)?;
     push_sites(&mut text, sites, unit)?;
-    let mut row = Vec::with_capacity(alloc, text.len())?;
+    let room = text.len().saturating_add(depth).saturating_add(depth);
+    let mut row = Vec::with_capacity(alloc, room)?;
     push_blanks(&mut row, depth)?;
     row.extend_from_slice(behind(text.as_slice(), 1))?;
     Shared::new(alloc, Text::from_vec(row))
@@ -164,13 +166,23 @@ fn push_tokens(text: &mut Vec<u8>, tokens: &[Token]) -> Result<(), AllocError>
 fn push_token(text: &mut Vec<u8>, token: &[u8]) -> Result<(), AllocError>
     ensures { OnOk result (text.new.items ≡ text.old.items ++ token_text token.now) }
 {
-    if token == b";".as_slice() || token == b",".as_slice() {
+    if is_close(token) {
         text.extend_from_slice(token)?;
         return Ok(());
     }
     text.push(b' ')?;
     text.extend_from_slice(token)?;
     Ok(())
+}
+
+// Whether no blank stands before it: `;` and `,`.
+fn is_close(token: &[u8]) -> bool
+    ensures { result ≡ (bytes_eq token.now (codes ";") || bytes_eq token.now (codes ",")) }
+{
+    match token {
+        [byte] => *byte == b';' || *byte == b',',
+        _ => false,
+    }
 }
 
 // A declared name.
