@@ -2,6 +2,8 @@
 
 mod editor;
 mod failures;
+mod listings;
 mod options;
 mod room;
+mod scripts;
 mod support;

@@ -1,6 +1,6 @@
 //! Listings: ids, TypeCodes, and what is never defined.
 
-use super::support::have_replies;
+use super::scripts::have_replies;
 use std::test::Fail;
 
 static LISTINGS: [&str; 8] = [

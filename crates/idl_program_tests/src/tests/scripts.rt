@@ -1,4 +1,4 @@
-//! What the tests share: scripts with their replies.
+//! Scripts with the replies that a new session must give to them.
 
 ghost use Rattle.std.specs.Prelude.{◌≡◌, IfOk};
 

@@ -1,5 +1,0 @@
-//! Listings of sessions, shown by scripts with the replies that a session must give to them.
-#![tactic(auto)]
-
-#[cfg(test)]
-mod tests;

@@ -1,4 +1,0 @@
-//! The tests, by subject.
-
-mod listings;
-mod support;
