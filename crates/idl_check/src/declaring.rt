@@ -211,7 +211,7 @@ impl Written {
             is_oneway: is_oneway_in(way),
             stage: stage_of(way),
             bases: Seq::new(alloc),
-            operations: Seq::new(alloc),
+            operations: SharedList::new(),
             data_type,
             value,
             enumerators,

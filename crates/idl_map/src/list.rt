@@ -1,6 +1,8 @@
 //! A list whose copies share their items.
 
-ghost use Rattle.std.specs.Prelude.{◌≡◌, ◌<◌, ◌↔◌, ◌++◌, ◌∷◌, [], IfOk, IfSome, IsNone, OnOk, OnErr, length};
+ghost use Rattle.std.specs.Prelude.{◌≡◌, ◌<◌, ◌↔◌, ◌++◌, ◌∷◌, [], IfOk, IfSome, IsNone, IsTrue, OnOk, OnErr, length};
+ghost use Rattle.std.specs.Cmp.Lexicographic.{pointwise, lists_per, lists_equiv};
+ghost use Rattle.idl_base.specs.Exact.{same_list};
 ghost use Rattle.idl_map.specs.Items.{items_of};
 
 use idl_base::Datum;
@@ -135,4 +137,42 @@ impl<T: Drop> Clone for SharedList<T> {
         let last = self.last.clone()?;
         Ok(SharedList { last })
     }
+}
+
+impl<T: Datum> PartialEq for SharedList<T> {
+    ghost eq = { pointwise T.eq };
+
+    ghost laws = { lists_per T.PartialEq.laws };
+
+    // From the last item back, in a loop.
+    fn eq(&self, other: &SharedList<T>) -> bool
+        ensures by_item { result ≡ pointwise T.eq self.now other.now }
+        ensures exact { IsTrue result ↔ (self.now ≡ other.now) }
+    {
+        let mut one = &self.last;
+        let mut two = &other.last;
+        while let Some(shared) = one {
+            let node: &Node<T> = shared;
+            let Some(beside) = two else {
+                return false;
+            };
+            let beside: &Node<T> = beside;
+            if node.item != beside.item {
+                return false;
+            }
+            one = &node.before;
+            two = &beside.before;
+        }
+        two.is_none()
+    }
+}
+
+impl<T: Datum> Eq for SharedList<T> {
+    ghost laws = { lists_equiv T.Eq.laws };
+}
+
+impl<T: Datum> Datum for SharedList<T> {
+    ghost same = { same_list T.eq T.same };
+
+    ghost copy = { λ x y h. h };
 }
