@@ -18,6 +18,7 @@ use crate::types::names_of;
 use idl_base::Seq;
 use idl_event::Code;
 use idl_lex::Spelling;
+use idl_map::SharedList;
 use idl_scope::{
     Addition, DataType, Element, Entity, Facts, Kind, Path, Scope, Shared, Stage, shared_name,
 };
