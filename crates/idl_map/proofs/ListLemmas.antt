@@ -33,15 +33,15 @@ module _ {X : Type 0} (eq : X → X → Bool) where
       ap (λ b. eq z w && b) (pointwise-last xs ys x y) ∙ swapped (eq z w) (eq x y) (pointwise eq xs ys)
 
   -- lists whose last items are one are so where those before them are
-  pub pointwise-same : (xs ys : List X) (x y : X) → eq x y ≡ true → pointwise eq (xs ++ x ∷ []) (ys ++ y ∷ []) ≡ pointwise eq xs ys
-  pointwise-same xs ys x y h = pointwise-last xs ys x y ∙ ap (λ b. b && pointwise eq xs ys) h
+  pub same_last : (xs ys : List X) (x y : X) → eq x y ≡ true → pointwise eq (xs ++ x ∷ []) (ys ++ y ∷ []) ≡ pointwise eq xs ys
+  same_last xs ys x y h = pointwise-last xs ys x y ∙ ap (λ b. b && pointwise eq xs ys) h
 
   -- and lists whose last items differ are not
-  pub pointwise-other : (xs ys : List X) (x y : X) → eq x y ≡ false → pointwise eq (xs ++ x ∷ []) (ys ++ y ∷ []) ≡ false
-  pointwise-other xs ys x y h = pointwise-last xs ys x y ∙ ap (λ b. b && pointwise eq xs ys) h
+  pub other_last : (xs ys : List X) (x y : X) → eq x y ≡ false → pointwise eq (xs ++ x ∷ []) (ys ++ y ∷ []) ≡ false
+  other_last xs ys x y h = pointwise-last xs ys x y ∙ ap (λ b. b && pointwise eq xs ys) h
 
-  pub pointwise-longer : (xs : List X) (x : X) → pointwise eq (xs ++ x ∷ []) [] ≡ false
-  pointwise-longer = none_right
+  pub longer : (xs : List X) (x : X) → pointwise eq (xs ++ x ∷ []) [] ≡ false
+  longer = none_right
 
-  pub pointwise-shorter : (ys : List X) (y : X) → pointwise eq [] (ys ++ y ∷ []) ≡ false
-  pointwise-shorter = none_left
+  pub shorter : (ys : List X) (y : X) → pointwise eq [] (ys ++ y ∷ []) ≡ false
+  shorter = none_left
