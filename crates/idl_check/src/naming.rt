@@ -286,7 +286,7 @@ impl<'a> Walker<'a> {
             entity,
             constants: &constants,
         };
-        let code = used_code(alloc, way, &self.bases, denoted)?;
+        let code = used_code(alloc, way, &mut self.bases, denoted)?;
         let last = last_at(self.at, name);
         self.note(last, code);
         self.at = last + 1;

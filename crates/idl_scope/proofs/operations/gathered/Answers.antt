@@ -1,0 +1,21 @@
+use Rattle.std.proofs.Common.{◌≡◌, sym, ap, ◌∙◌, ◌+◌, drop, [], refl}
+use Rattle.std.specs.List.{list_any}
+use Rattle.std.specs.Map.{keys_of}
+use Rattle.idl_scope.specs.Facts.{gathered, joined}
+use Rattle.idl_scope.specs.Path.{path_eq}
+use Rattle.idl_scope.proofs.PlaceLemmas.{from_here}
+use Rattle.idl_scope.proofs.QueueLemmas.{list_any-joined}
+use Rattle.idl_scope.proofs.StateLemmas.{kept}
+use Rattle.idl_scope.proofs.operations.gathered.Goals as goal
+
+pub loop-base-init : goal.loop-base-init
+loop-base-init c = ?
+
+pub loop-base-preserved : goal.loop-base-preserved
+loop-base-preserved c =
+    let entries = c.args.answers.now in
+    let bases = c.args.bases.now in
+    let at = c.loop-base.base-index in
+    let found = c.loop-base.found in
+    let here = from_here bases at c.base-item.result c.loop-base-test.true c.base-item.is in
+    (?, ?)
