@@ -21,8 +21,9 @@ loop-base-preserved c =
     let at = c.loop-base.base-index in
     let found = c.loop-base.found in
     let here = from_here bases at c.base-item.result c.loop-base-test.true c.base-item.is in
-    let paths = c.as_slice-in-loop-base.ensures.value ∙ c.in_ok-paths.ensures ∙ c.in_ok-operations_at.ensures in
-    (ap (λ l. gathered (kept entries) l (drop (at + 1) bases)) (c.in_ok-join_new.ensures.joined ∙ ap (joined found) paths)
-    ∙ ap (gathered (kept entries) found) (sym here)
-    ∙ c.loop-base.invariant.0,
-    c.in_ok-join_new.ensures.there)
+    let paths = c.as_slice-in-loop-base.ensures.value ∙ c.in_ok-paths.ensures ∙ c.in_ok-operations_at.ensures in (
+      ap (λ l. gathered (kept entries) l (drop (at + 1) bases)) (c.in_ok-join_new.ensures.joined ∙ ap (joined found) paths)
+          ∙ ap (gathered (kept entries) found) (sym here)
+          ∙ c.loop-base.invariant.0,
+      c.in_ok-join_new.ensures.there,
+    )

@@ -12,7 +12,7 @@ returns-in_ok-found-in-len1-up c =
     let found = c.in_ok-found-in-len1-up.found in
     let here = from_here bases 0 c.base-item-2.result (omega arith) c.base-item-2.is in
     let same =
-        ap (gathered (kept entries) found) (behind_first bases)
-        ∙ ap (λ l. gathered (kept entries) l (drop 1 bases)) c.in_ok-found-in-len1-up.ensures
-        ∙ sym (ap (inherited (kept entries)) here) in
+    ap (gathered (kept entries) found) (behind_first bases)
+    ∙ ap (λ l. gathered (kept entries) l (drop 1 bases)) c.in_ok-found-in-len1-up.ensures
+    ∙ sym (ap (inherited (kept entries)) here) in
     subst (λ (l : List (List (List ℕ))). IfOk c.gathered.result (λ paths. paths ≡ l)) same c.gathered.ensures
