@@ -1,4 +1,4 @@
-use Rattle.std.proofs.Common.{◌≡◌, sym, ap, ◌∙◌, List, ℕ, drop, arith}
+use Rattle.std.proofs.Common.{◌≡◌, sym, ap, ◌∙◌, List, ℕ, drop, subst, arith}
 use Rattle.std.specs.Prelude.{IfOk}
 use Rattle.idl_scope.specs.Facts.{gathered, inherited}
 use Rattle.idl_scope.proofs.PlaceLemmas.{behind_first, from_here}
