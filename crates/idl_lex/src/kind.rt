@@ -91,7 +91,7 @@ pub fn kind_of_word(word: &[u8]) -> Kind
     ensures { result ≡ kind_of word.now }
 {
     match word {
-        [b'_', rest @ ..] => escaped_kind(rest),
+        [b'_', escaped @ ..] => escaped_kind(escaped),
         _ => word_kind(word),
     }
 }

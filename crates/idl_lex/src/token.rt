@@ -175,20 +175,23 @@ impl PlacedToken {
     pub fn new(context: Context, spelling: Spelling, line: u32) -> PlacedToken
         ensures { result ≡ token_of context spelling line }
     {
-        PlacedToken {
-            token: Token::new(spelling),
-            line,
-            starts_line: context.beginning.is_nothing(),
-            follows_word: context.follows_word,
-        }
+        PlacedToken::placed(context, Token::new(spelling), line)
     }
+
     /// The token that a word is, on this line.
     pub(crate) fn word(context: Context, spelling: Spelling, line: u32) -> PlacedToken
         requires { is_word spelling ≡ true }
         ensures { result ≡ token_of context spelling line }
     {
+        PlacedToken::placed(context, Token::word(spelling), line)
+    }
+
+    // The token on this line.
+    fn placed(context: Context, token: Token, line: u32) -> PlacedToken
+        ensures { result ≡ token_of context token line }
+    {
         PlacedToken {
-            token: Token::word(spelling),
+            token,
             line,
             starts_line: context.beginning.is_nothing(),
             follows_word: context.follows_word,
