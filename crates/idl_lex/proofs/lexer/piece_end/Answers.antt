@@ -16,5 +16,5 @@ returns-clause-end c =
     ap (λ n. i + 1 + n) (c.further.ensures.len ∙ ap (λ bs. further c.if-is_include.includes first bs) (take_rest bytes (i + 1)) ∙ elim c.if-is_include.branch [
       | then-is_include w ↦ ap (λ b. further b first rest) w.includes-is
           ∙ further-before w.is_before-includes.result includes first bytes (i + 1) (sym c.is_include.ensures ∙ w.if-is_include.true) (λ none. w.is_before-includes.ensures (closing_end bytes) c.requires.closing none)
-      | else-is_include w ↦ ap (λ b. further b first rest) (w.includes-is ∙ sym w.if-is_include.false ∙ c.is_include.ensures)
+      | else-is_include w ↦ ap (λ b. further b first rest) (w.includes-is ∙ c.is_include.ensures)
     ])
