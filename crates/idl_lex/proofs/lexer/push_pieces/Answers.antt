@@ -80,9 +80,11 @@ pieces-preserved-then-begins_word c =
 
 pub pieces-smaller-then-begins_word : goal.pieces-smaller-then-begins_word
 pieces-smaller-then-begins_word c =
-    let later = (IsWordAt-read c.pieces.now c.args.line.now c.as_bytes-bytes.result.now c.pieces.i c.word_len-len.result c.as_bytes-bytes.ensures c.pieces-test.true
-    (sym c.is_space.ensures ∙ c.if-is_space.false) (sym c.begins_word.ensures ∙ c.if-begins_word.true) c.word_len-len.ensures.len).later in
-    omega (arith, later, c.pieces-test.true)
+    let i = c.pieces.i in
+    let at : IsWordAt c.pieces.now c.args.line.now i (i + c.word_len-len.result) =
+    IsWordAt-read c.pieces.now c.args.line.now c.as_bytes-bytes.result.now i c.word_len-len.result c.as_bytes-bytes.ensures c.pieces-test.true
+    (sym c.is_space.ensures ∙ c.if-is_space.false) (sym c.begins_word.ensures ∙ c.if-begins_word.true) c.word_len-len.ensures.len in
+    omega (arith, at.later, at.within)
 
 pub returns-then-is_open : goal.returns-then-is_open
 returns-then-is_open c = λ newline rest.
