@@ -1,5 +1,5 @@
 -- Words that differ in one byte, whatever its case, are not alike.
-use Rattle.std.proofs.Common.{◌≡◌, ◌≢◌, ◌∙◌, ℕ, List, get_or, ap, sym}
+use Rattle.std.proofs.Common.{◌≢◌, ◌∙◌, ℕ, List, get_or, ap, sym}
 use Rattle.std.proofs.Math.ListN.{get_or-map}
 use Rattle.std.specs.Char.{to_ascii_lowercase}
 use Rattle.idl_lex.specs.Keywords.{folded}

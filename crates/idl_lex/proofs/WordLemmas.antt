@@ -1,5 +1,5 @@
 -- White space, a word and a mark, of which the longest piece is told without a walk from state to state.
-use Rattle.std.proofs.Common.{◌≡◌, ◌≢◌, ◌∙◌, ◌++◌, ℕ, suc, ◌+◌, ◌-◌, ◌<◌, ◌≤◌, inl, inr, ◌⊎◌, nat_eq, Bool, true, false, ◌&&◌, ◌||◌, if◌then◌else◌, List, [], ◌∷◌, length, drop, take, get_or, Option, None, Some, refl, sym, ap, subst, arith}
+use Rattle.std.proofs.Common.{◌≡◌, ◌≢◌, ◌∙◌, ◌++◌, ℕ, suc, ◌+◌, ◌-◌, ◌<◌, ◌≤◌, inl, inr, ◌⊎◌, nat_eq, Bool, true, false, ◌&&◌, ◌||◌, if◌then◌else◌, List, [], ◌∷◌, length, drop, take, get_or, None, Some, refl, sym, ap, subst, arith}
 use Rattle.std.proofs.lemmas.Bool.{false≢true, eqb-true, leb-true}
 use Rattle.std.proofs.lemmas.Bool.Decides.{eqb_tells}
 use Rattle.std.proofs.lemmas.List.{drop_more, length-drop, take_rest}
@@ -19,9 +19,7 @@ use Rattle.idl_lex.specs.Text.{Placed, bytes_of}
 use Rattle.idl_lex.specs.Tokens.{spelled, token_if, token_of, tokens_after}
 use Rattle.idl_lex.specs.Word.{is_word}
 use Rattle.idl_lex.specs.declared.context.Context.{Context}
-use Rattle.idl_lex.specs.declared.state.State.{State}
 use Rattle.idl_lex.specs.declared.state.State.TheVariants.{Word, Wide, Zero, Number, Dot, Literal, Slash, Mark, Whole}
-use Rattle.idl_lex.specs.declared.token.PlacedToken.{PlacedToken}
 
 -- a mark of two bytes, one of one byte before another, and one at the end
 pub taken-pair : (a : ℕ) (bs : List ℕ) → 1 ≤ length bs → is_pair a (get_or bs 0 0) ≡ true → 1 ≡ taken (Mark a) bs
