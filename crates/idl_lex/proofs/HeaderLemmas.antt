@@ -82,3 +82,8 @@ further-unnamed includes angle o m e = kept (includes && angle) ∙ ap (λ p. if
 pub further-past : (includes : Bool) (b : ℕ) (bs : List ℕ) (i : ℕ) → closing_end bs ≤ i → further false b (drop i bs) ≡ further includes b (drop i bs)
 further-past includes b bs i le =
     further-unnamed includes (nat_eq b 60) (header_len (drop i bs)) (taken (start_of b) (drop i bs)) (header_len-none (drop i bs) (closing_end-drop bs i le))
+
+-- a place that isn't known to be past it may have a name
+pub further-before : (known includes : Bool) (b : ℕ) (bs : List ℕ) (i : ℕ) → includes ≡ true → (known ≡ false → closing_end bs ≤ i) → further known b (drop i bs) ≡ further includes b (drop i bs)
+further-before true includes b bs i is past = ap (λ c. further c b (drop i bs)) (sym is)
+further-before false includes b bs i is past = further-past includes b bs i (past refl)

@@ -1,10 +1,13 @@
+pub mod AlikeLemmas
 pub mod BlockLemmas
 pub mod CountLemmas
 pub mod CutLemmas
 pub mod HeaderLemmas
+pub mod KindLemmas
 pub mod LineLemmas
 pub mod LiteralLemmas
 pub mod LogicalLemmas
+pub mod MarkLemmas
 pub mod MovedLemmas
 pub mod NumberLemmas
 pub mod PartLemmas
@@ -12,3 +15,4 @@ pub mod PieceLemmas
 pub mod TableLemmas
 pub mod TokensLemmas
 pub mod WalkLemmas
+pub mod WordLemmas

@@ -43,7 +43,7 @@ accepts-taken-step : (o : Option State) (bs : List ℕ) → ((t : State) → acc
 accepts-taken-step None bs ih s b e = refl
 accepts-taken-step (Some t) bs ih s b e = ap (λ o. elim o [ None ↦ false | Some u ↦ accepts u (take (taken t bs) bs) ]) e ∙ ih t
 
-accepts-taken : (s : State) (bs : List ℕ) → accepts s (take (taken s bs) bs) ≡ true
+pub accepts-taken : (s : State) (bs : List ℕ) → accepts s (take (taken s bs) bs) ≡ true
 unfolding taken
 accepts-taken s [] = refl
 accepts-taken s (b ∷ bs) = accepts-taken-step (step_of s b) bs (λ t. accepts-taken t bs) s b refl
@@ -69,7 +69,7 @@ accepts-whole : (bs : List ℕ) → accepts Whole bs ≡ is_empty bs
 accepts-whole [] = refl
 accepts-whole (b ∷ bs) = refl
 
-accepts-word : (bs : List ℕ) → accepts Word bs ≡ list_all is_word_byte bs
+pub accepts-word : (bs : List ℕ) → accepts Word bs ≡ list_all is_word_byte bs
 accepts-word [] = refl
 accepts-word (b ∷ bs) = when (is_word_byte b) Word bs ∙ ap (λ c. is_word_byte b && c) (accepts-word bs)
 
@@ -223,7 +223,7 @@ unfolding header_len
 header_len-within [] = tt {0}
 header_len-within (b ∷ bs) = within-more (nat_eq b newline) (nat_eq b 62) (header_len bs) (length bs) (header_len-within bs)
 
-taken-whole : (bs : List ℕ) → taken Whole bs ≡ 0
+pub taken-whole : (bs : List ℕ) → taken Whole bs ≡ 0
 unfolding taken
 taken-whole [] = refl
 taken-whole (b ∷ bs) = refl

@@ -226,7 +226,7 @@ piece_of line from to = take (to - from) (drop from (bytes_of line))
 abbrev pub EndsAt : Context → List Placed → ℕ → ℕ → Type 0
 EndsAt c line i end = end ≡ i + 1 + further (is_include c.beginning) (get_or (bytes_of line) i 0) (drop (i + 1) (bytes_of line))
 
-piece_of-cons : (line : List Placed) (i end n : ℕ) → i < length line → end ≡ i + 1 + n → piece_of line i end ≡ get_or (bytes_of line) i 0 ∷ take n (bytes_of (drop (i + 1) line))
+pub piece_of-cons : (line : List Placed) (i end n : ℕ) → i < length line → end ≡ i + 1 + n → piece_of line i end ≡ get_or (bytes_of line) i 0 ∷ take n (bytes_of (drop (i + 1) line))
 piece_of-cons line i end n lt is =
     let size : end - i ≡ suc n = omega (arith, is) in
     ap (λ k. take k (drop i (bytes_of line))) size

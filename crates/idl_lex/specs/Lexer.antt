@@ -1,6 +1,7 @@
 -- The tokens that are still to come, by what a line begins in.
-use Rattle.std.specs.Prelude.{ℕ, Bool, false, not, List, [], ◌∷◌, nat_eq, if◌then◌else◌}
+use Rattle.std.specs.Prelude.{ℕ, Bool, false, not, ◌&&◌, List, [], ◌∷◌, nat_eq, if◌then◌else◌}
 use Rattle.idl_source.specs.Line.{newline}
+use Rattle.idl_lex.specs.Byte.{is_quote, is_word_start}
 use Rattle.idl_lex.specs.Context.{line_start, ends_block}
 use Rattle.idl_lex.specs.Scan.{taken}
 use Rattle.idl_lex.specs.Text.{Placed, bytes_of}
@@ -22,6 +23,17 @@ after_comment opening c text =
 abbrev pub coming : Before → List Placed → List PlacedToken
 coming Fresh text = tokens_after line_start 0 text
 coming (Comment opening c) text = after_comment opening c text
+
+-- a quote comes first
+abbrev pub begins_quote : List ℕ → Bool
+begins_quote [] = false
+begins_quote (b ∷ rest) = is_quote b
+
+-- a word begins here, and no wide literal
+abbrev pub begins_word : List ℕ → Bool
+begins_word [] = false
+begins_word (b ∷ rest) =
+    if nat_eq b 76 && begins_quote rest then false else is_word_start b
 
 -- the newline that ends a line, and what comes after it
 abbrev pub ended : ℕ → List Placed → List Placed

@@ -67,8 +67,10 @@ impl Beginning {
 }
 
 impl Context {
-    ghost use Rattle.std.specs.Prelude.{◌≡◌};
+    ghost use Rattle.std.specs.Prelude.{◌≡◌, ◌∷◌, [], true};
+    ghost use Rattle.idl_lex.specs.Byte.{is_space};
     ghost use Rattle.idl_lex.specs.Context.{line_start, context_after};
+    ghost use Rattle.idl_lex.specs.Word.{is_word};
 
     /// Where a line begins.
     pub fn line_start() -> Context
@@ -77,6 +79,31 @@ impl Context {
         Context {
             beginning: Beginning::Nothing,
             follows_word: false,
+        }
+    }
+
+    /// What stands before a place where one white byte more stands before it.
+    pub fn after_space(self, b: u8) -> Context
+        requires { is_space b ≡ true }
+        ensures { result ≡ context_after self (b ∷ []) }
+    {
+        if b == NEWLINE {
+            return Context::line_start();
+        }
+        Context {
+            beginning: self.beginning,
+            follows_word: false,
+        }
+    }
+
+    /// What stands before a place where one word more stands before it.
+    pub fn after_word(self, word: &[u8]) -> Context
+        requires { is_word word.now ≡ true }
+        ensures { result ≡ context_after self word.now }
+    {
+        Context {
+            beginning: self.beginning.with(word),
+            follows_word: true,
         }
     }
 

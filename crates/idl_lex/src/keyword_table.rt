@@ -1,6 +1,6 @@
 //! The table of keywords, and the look-up of a word in it.
 
-ghost use Rattle.std.specs.Prelude.{◌≡◌, ◌≤◌, ◌<◌, ◌+◌, ◌-◌, drop, find, length, map, take};
+ghost use Rattle.std.specs.Prelude.{◌≡◌, ◌≤◌, ◌<◌, ◌+◌, ◌-◌, ◌↔◌, IsTrue, drop, find, length, map, take};
 ghost use Rattle.std.specs.List.{filter};
 ghost use Rattle.std.specs.Option.{option_map};
 ghost use Rattle.std.specs.Str.{bytes_eq};
@@ -142,9 +142,24 @@ fn look_up(entries: &[Entry<Kind>], word: &[u8]) -> Option<Entry<Kind>>
         ≡ find (λ k. bytes_eq (folded k.0) (folded word.now)) (map entry_of entries.entry.now) }
 {
     for entry in entries {
-        if entry.0.eq_ignore_ascii_case(word) {
+        if are_alike(entry.0, word) {
             return Some(*entry);
         }
     }
     None
+}
+
+// Whether two words are the same but for the case of letters.
+fn are_alike(a: &[u8], b: &[u8]) -> bool
+    ensures { IsTrue result ↔ (folded a.now ≡ folded b.now) }
+{
+    if a.len() != b.len() {
+        return false;
+    }
+    for (i, byte) in a.iter().enumerate() {
+        if *byte != b[i] && !byte.eq_ignore_ascii_case(&b[i]) {
+            return false;
+        }
+    }
+    true
 }

@@ -1,7 +1,9 @@
 //! Kinds of tokens, each decided by the token's spelling.
 
-ghost use Rattle.std.specs.Prelude.{◌≡◌, ◌∷◌};
+ghost use Rattle.std.specs.Prelude.{◌≡◌, ◌∷◌, true};
+ghost use Rattle.std.specs.Str.{bytes_eq};
 ghost use Rattle.idl_lex.specs.Kind.{kind_of, word_kind, escaped_kind, letter_kind, other_kind, is_fraction, unmarked_kind, is_like_keyword};
+ghost use Rattle.idl_lex.specs.Word.{is_word};
 
 use crate::byte::{is_digit, is_letter, is_quote};
 use crate::keyword::Keyword;
@@ -82,6 +84,18 @@ pub fn kind_of(spelling: &[u8]) -> Kind
     }
 }
 
+/// The kind of a word.
+#[tactic(auto, unfolding(crate::specs::Kind::kind_of))]
+pub fn kind_of_word(word: &[u8]) -> Kind
+    requires { is_word word.now ≡ true }
+    ensures { result ≡ kind_of word.now }
+{
+    match word {
+        [b'_', escaped @ ..] => escaped_kind(escaped),
+        _ => word_kind(word),
+    }
+}
+
 /// Whether the word is a keyword but for the case of letters, or is one.
 pub fn is_like_keyword(word: &[u8]) -> bool
     ensures { result ≡ is_like_keyword word.now }
@@ -105,10 +119,25 @@ fn word_kind(word: &[u8]) -> Kind
     ensures { result ≡ word_kind word.now }
 {
     match like_keyword(word) {
-        Some((spelling, kind)) if spelling == word => kind,
+        Some((spelling, kind)) if are_same(spelling, word) => kind,
         Some(_) => Kind::Miscased,
         None => Kind::Identifier,
     }
+}
+
+// Whether two words are the same. Words are short, and so compared byte by byte.
+fn are_same(a: &[u8], b: &[u8]) -> bool
+    ensures { result ≡ bytes_eq a.now b.now }
+{
+    if a.len() != b.len() {
+        return false;
+    }
+    for (i, byte) in a.iter().enumerate() {
+        if *byte != b[i] {
+            return false;
+        }
+    }
+    true
 }
 
 // The kind of `_` and these bytes.

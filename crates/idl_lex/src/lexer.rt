@@ -1,17 +1,19 @@
 //! Cutting a text into tokens, line by line of the joined text.
 
-ghost use Rattle.std.specs.Prelude.{◌≡◌, ◌≤◌, ◌<◌, ◌+◌, ◌++◌, ◌-◌, false, ℕ, List, drop, length, slice_index, take, IfOk, IsTrue, OnOk};
+ghost use Rattle.std.specs.Prelude.{◌≡◌, ◌≤◌, ◌<◌, ◌+◌, ◌++◌, ◌-◌, false, ℕ, List, drop, length, slice_index, take, true, IfOk, IfSome, IsTrue, OnOk, ◌∷◌, []};
 ghost use Rattle.idl_lex.specs.Context.{is_include};
-ghost use Rattle.idl_lex.specs.Lexer.{coming, ended, is_open};
+ghost use Rattle.idl_lex.specs.Lexer.{begins_word, coming, ended, is_open};
 ghost use Rattle.idl_lex.specs.Logical.{line_at};
 ghost use Rattle.idl_lex.specs.Scan.{closing_end, further};
 ghost use Rattle.idl_lex.specs.Text.{Placed, bytes_of};
-ghost use Rattle.idl_lex.specs.Tokens.{token_if, tokens_after};
+ghost use Rattle.idl_lex.specs.Tokens.{token_if, token_of, tokens_after};
+ghost use Rattle.idl_lex.specs.Word.{is_word};
 ghost use Rattle.idl_lex.specs.declared.lexer.Before.TheVariants.{Fresh};
 
+use crate::byte::{is_quote, is_space, is_word_start};
 use crate::context::{Context, ends_block, is_gap};
 use crate::logical::Logical;
-use crate::state::{State, closing_end, further, taken};
+use crate::state::{State, closing_end, further, taken, word_len};
 use crate::token::PlacedToken;
 use std::alloc::AllocError;
 use std::ops::Range;
@@ -72,10 +74,25 @@ fn push_pieces(
         tokens.new.items ++ coming after rest ≡ tokens.old.items ++ tokens_after context 0 (drop from line.now ++ ended newline rest)) }
 {
     let bytes = line.as_bytes();
-    let closing = closing_end(bytes);
+    let mut closing = None;
     let mut i = from;
     let mut now = context;
     'pieces: while i < bytes.len() {
+        let first = bytes[i];
+        if is_space(first) {
+            now = now.after_space(first);
+            i += 1;
+            continue;
+        }
+        if begins_word(&bytes[i..]) {
+            let len = word_len(&bytes[i..]);
+            let end = i + len;
+            push_word(tokens, now, line, i..end)?;
+            now = now.after_word(&bytes[i..end]);
+            i = end;
+            continue;
+        }
+        closing = closing_for(first, bytes, closing);
         let end = piece_end(now, bytes, i, closing);
         let piece = &bytes[i..end];
         if is_open(piece) {
@@ -88,6 +105,37 @@ fn push_pieces(
         i = end;
     }
     Ok(Before::Fresh)
+}
+
+// Puts in the token that a word of a line is.
+fn push_word(
+    tokens: &mut Vec<PlacedToken>,
+    context: Context,
+    line: &Logical,
+    word: Range<usize>,
+) -> Result<(), AllocError>
+    requires order { word.start < word.end }
+    requires within { word.end ≤ length line.now }
+    requires word { is_word (take (word.end - word.start) (drop word.start (bytes_of line.now))) ≡ true }
+    ensures { let bytes = take (word.end - word.start) (drop word.start (bytes_of line.now)) in
+        OnOk result (tokens.new.items
+        ≡ tokens.old.items ++ token_of context bytes (line_at line.now word.start) ∷ []) }
+{
+    let Range { start, end } = word;
+    let spelling = line.spelling(start, end)?;
+    tokens.push(PlacedToken::word(context, spelling, line.line_at(start)))?;
+    Ok(())
+}
+
+// Whether a word begins here, and no wide literal.
+fn begins_word(bytes: &[u8]) -> bool
+    ensures { result ≡ begins_word bytes.now }
+{
+    match bytes {
+        [b'L', quote, ..] if is_quote(*quote) => false,
+        [first, ..] => is_word_start(*first),
+        [] => false,
+    }
 }
 
 // Puts in the token that a piece of a line is, if it is one.
@@ -115,17 +163,38 @@ fn push_piece(
 }
 
 // Where the longest piece ends that begins at a place, of the bytes that stand there, the last `>` of which ends at another place.
-fn piece_end(context: Context, bytes: &[u8], i: usize, closing: usize) -> usize
+fn piece_end(context: Context, bytes: &[u8], i: usize, closing: Option<usize>) -> usize
     requires here { i < length bytes.now }
-    requires closing { closing ≡ closing_end bytes.now }
+    requires closing { IfSome closing (λ end. end ≡ closing_end bytes.now) }
     ensures end { result
         ≡ i + 1 + further (is_include context.beginning) (slice_index bytes.now i)
         (drop (i + 1) bytes.now) }
     ensures within { result ≤ length bytes.now }
 {
     // Past the last `>` no name begins, and none is searched for.
-    let includes = i + 1 < closing && context.beginning.is_include();
+    let includes = context.beginning.is_include() && is_before(i + 1, closing);
     i + 1 + further(includes, bytes[i], &bytes[i + 1..])
+}
+
+// Where the last `>` ends, as far as it is known: it is looked up before the first `<`, which alone asks for it.
+fn closing_for(first: u8, bytes: &[u8], known: Option<usize>) -> Option<usize>
+    requires { IfSome known (λ end. end ≡ closing_end bytes.now) }
+    ensures { IfSome result (λ end. end ≡ closing_end bytes.now) }
+{
+    match known {
+        None if first == b'<' => Some(closing_end(bytes)),
+        _ => known,
+    }
+}
+
+// Whether a place is before another, unless that is known not to be so.
+fn is_before(i: usize, end: Option<usize>) -> bool
+    ensures { (n : ℕ) → IfSome end (λ end. end ≡ n) → result ≡ false → n ≤ i }
+{
+    match end {
+        Some(end) => i < end,
+        None => true,
+    }
 }
 
 // Whether a piece is a comment that isn't closed.

@@ -1,62 +1,73 @@
-//! The table of marks.
+//! The marks by their bytes.
 
-ghost use Rattle.std.specs.Prelude.{◌≡◌, map};
-ghost use Rattle.idl_lex.specs.Marks.{marks, mark_kind};
-ghost use Rattle.idl_lex.specs.WordTable.{entry_of};
+ghost use Rattle.std.specs.Prelude.{◌≡◌, ◌∷◌, []};
+ghost use Rattle.idl_lex.specs.Marks.{mark_kind};
 
 use crate::kind::Kind;
 use crate::mark::{Mark, PreprocessorMark};
-use crate::word_table::{Entry, value_of};
-
-// The most frequent ones first.
-const MARKS: [Entry<Kind>; 35] = [
-    (b";", Kind::Punctuation(Mark::Semicolon)),
-    (b",", Kind::Punctuation(Mark::Comma)),
-    (b"{", Kind::Punctuation(Mark::OpenBrace)),
-    (b"}", Kind::Punctuation(Mark::CloseBrace)),
-    (b"(", Kind::Punctuation(Mark::OpenParenthesis)),
-    (b")", Kind::Punctuation(Mark::CloseParenthesis)),
-    (b"::", Kind::Punctuation(Mark::ColonColon)),
-    (b":", Kind::Punctuation(Mark::Colon)),
-    (b"<", Kind::Punctuation(Mark::Less)),
-    (b">", Kind::Punctuation(Mark::Greater)),
-    (b"=", Kind::Punctuation(Mark::Equals)),
-    (b"[", Kind::Punctuation(Mark::OpenBracket)),
-    (b"]", Kind::Punctuation(Mark::CloseBracket)),
-    (b"+", Kind::Punctuation(Mark::Plus)),
-    (b"-", Kind::Punctuation(Mark::Minus)),
-    (b"*", Kind::Punctuation(Mark::Star)),
-    (b"/", Kind::Punctuation(Mark::Slash)),
-    (b"%", Kind::Punctuation(Mark::Percent)),
-    (b"~", Kind::Punctuation(Mark::Tilde)),
-    (b"|", Kind::Punctuation(Mark::Bar)),
-    (b"^", Kind::Punctuation(Mark::Caret)),
-    (b"&", Kind::Punctuation(Mark::Ampersand)),
-    (b"<<", Kind::Punctuation(Mark::ShiftLeft)),
-    (b">>", Kind::Punctuation(Mark::ShiftRight)),
-    (b"#", Kind::Preprocessing(PreprocessorMark::Hash)),
-    (b"##", Kind::Preprocessing(PreprocessorMark::HashHash)),
-    (b"!", Kind::Preprocessing(PreprocessorMark::Exclamation)),
-    (b"?", Kind::Preprocessing(PreprocessorMark::Question)),
-    (b".", Kind::Preprocessing(PreprocessorMark::Dot)),
-    (b"&&", Kind::Preprocessing(PreprocessorMark::AndAnd)),
-    (b"||", Kind::Preprocessing(PreprocessorMark::OrOr)),
-    (b"==", Kind::Preprocessing(PreprocessorMark::EqualsEquals)),
-    (b"!=", Kind::Preprocessing(PreprocessorMark::NotEquals)),
-    (b"<=", Kind::Preprocessing(PreprocessorMark::LessEquals)),
-    (b">=", Kind::Preprocessing(PreprocessorMark::GreaterEquals)),
-];
 
 /// The kind of the mark that is spelled so.
 pub fn mark_kind(spelling: &[u8]) -> Option<Kind>
     ensures { result ≡ mark_kind spelling.now }
 {
-    value_of(table(), spelling)
+    match spelling {
+        [a] => single(*a),
+        [a, b] => double(*a, *b),
+        _ => None,
+    }
 }
 
+// The kind of the mark of one byte.
 #[tactic(auto, unfolding(crate::specs::Marks::marks))]
-fn table() -> &'static [Entry<Kind>]
-    ensures { map entry_of result.now ≡ marks }
+fn single(a: u8) -> Option<Kind>
+    ensures { result ≡ mark_kind (a ∷ []) }
 {
-    &MARKS
+    match a {
+        b';' => Some(Kind::Punctuation(Mark::Semicolon)),
+        b',' => Some(Kind::Punctuation(Mark::Comma)),
+        b'{' => Some(Kind::Punctuation(Mark::OpenBrace)),
+        b'}' => Some(Kind::Punctuation(Mark::CloseBrace)),
+        b'(' => Some(Kind::Punctuation(Mark::OpenParenthesis)),
+        b')' => Some(Kind::Punctuation(Mark::CloseParenthesis)),
+        b':' => Some(Kind::Punctuation(Mark::Colon)),
+        b'<' => Some(Kind::Punctuation(Mark::Less)),
+        b'>' => Some(Kind::Punctuation(Mark::Greater)),
+        b'=' => Some(Kind::Punctuation(Mark::Equals)),
+        b'[' => Some(Kind::Punctuation(Mark::OpenBracket)),
+        b']' => Some(Kind::Punctuation(Mark::CloseBracket)),
+        b'+' => Some(Kind::Punctuation(Mark::Plus)),
+        b'-' => Some(Kind::Punctuation(Mark::Minus)),
+        b'*' => Some(Kind::Punctuation(Mark::Star)),
+        b'/' => Some(Kind::Punctuation(Mark::Slash)),
+        b'%' => Some(Kind::Punctuation(Mark::Percent)),
+        b'~' => Some(Kind::Punctuation(Mark::Tilde)),
+        b'|' => Some(Kind::Punctuation(Mark::Bar)),
+        b'^' => Some(Kind::Punctuation(Mark::Caret)),
+        b'&' => Some(Kind::Punctuation(Mark::Ampersand)),
+        b'#' => Some(Kind::Preprocessing(PreprocessorMark::Hash)),
+        b'!' => Some(Kind::Preprocessing(PreprocessorMark::Exclamation)),
+        b'?' => Some(Kind::Preprocessing(PreprocessorMark::Question)),
+        b'.' => Some(Kind::Preprocessing(PreprocessorMark::Dot)),
+        _ => None,
+    }
+}
+
+// The kind of the mark of two bytes.
+#[tactic(auto, unfolding(crate::specs::Marks::marks))]
+fn double(a: u8, b: u8) -> Option<Kind>
+    ensures { result ≡ mark_kind (a ∷ b ∷ []) }
+{
+    match (a, b) {
+        (b':', b':') => Some(Kind::Punctuation(Mark::ColonColon)),
+        (b'<', b'<') => Some(Kind::Punctuation(Mark::ShiftLeft)),
+        (b'>', b'>') => Some(Kind::Punctuation(Mark::ShiftRight)),
+        (b'#', b'#') => Some(Kind::Preprocessing(PreprocessorMark::HashHash)),
+        (b'&', b'&') => Some(Kind::Preprocessing(PreprocessorMark::AndAnd)),
+        (b'|', b'|') => Some(Kind::Preprocessing(PreprocessorMark::OrOr)),
+        (b'=', b'=') => Some(Kind::Preprocessing(PreprocessorMark::EqualsEquals)),
+        (b'!', b'=') => Some(Kind::Preprocessing(PreprocessorMark::NotEquals)),
+        (b'<', b'=') => Some(Kind::Preprocessing(PreprocessorMark::LessEquals)),
+        (b'>', b'=') => Some(Kind::Preprocessing(PreprocessorMark::GreaterEquals)),
+        _ => None,
+    }
 }

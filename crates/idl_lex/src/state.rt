@@ -3,6 +3,7 @@
 ghost use Rattle.std.specs.Prelude.{◌≡◌, ◌≤◌, length, IfSome};
 ghost use Rattle.idl_lex.specs.Piece.{is_pair};
 ghost use Rattle.idl_lex.specs.Scan.{number_step, literal_step, taken, header_len, closing_end, further};
+ghost use Rattle.idl_lex.specs.declared.state.State.TheVariants.{Mark, Word};
 
 use crate::byte::{is_digit, is_e, is_quote, is_sign, is_word_byte, is_word_start, is_x};
 use idl_source::NEWLINE;
@@ -97,7 +98,34 @@ pub fn further(includes: bool, first: u8, rest: &[u8]) -> usize
             return len;
         }
     }
-    taken(State::start(first), rest)
+    match State::start(first) {
+        State::Mark(first) => mark_len(first, rest),
+        state => taken(state, rest),
+    }
+}
+
+/// How many bytes a word takes of these.
+pub fn word_len(bytes: &[u8]) -> usize
+    ensures len { result ≡ taken Word bytes.now }
+    ensures within { result ≤ length bytes.now }
+{
+    for (i, b) in bytes.iter().enumerate() {
+        if !is_word_byte(*b) {
+            return i;
+        }
+    }
+    bytes.len()
+}
+
+// How many bytes a mark has after its first one, of those that stand there.
+fn mark_len(first: u8, rest: &[u8]) -> usize
+    ensures len { result ≡ taken (Mark first) rest.now }
+    ensures within { result ≤ length rest.now }
+{
+    match rest {
+        [second, ..] if is_pair(first, *second) => 1,
+        _ => 0,
+    }
 }
 
 // How many bytes an included file's name has after its `<`, if a `>` stands on the line.

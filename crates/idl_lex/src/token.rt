@@ -1,6 +1,6 @@
 //! Tokens, and where they stand in a file.
 
-ghost use Rattle.std.specs.Prelude.{◌≡◌, ◌↔◌, IsTrue};
+ghost use Rattle.std.specs.Prelude.{◌≡◌, ◌↔◌, IsTrue, true};
 ghost use Rattle.std.specs.Cmp.{partial_equiv_from_equiv};
 ghost use Rattle.std.specs.Cmp.Lexicographic.{bytes_decides, nat_list_eq_equiv};
 ghost use Rattle.std.specs.Hash as fed;
@@ -12,7 +12,7 @@ ghost use Rattle.idl_lex.specs.Tokens.{token_of};
 ghost use Rattle.idl_lex.specs.Word.{is_word};
 
 use crate::context::Context;
-use crate::kind::{Kind, kind_of};
+use crate::kind::{Kind, kind_of, kind_of_word};
 use crate::spelling::Spelling;
 use crate::word::is_word;
 use idl_base::Datum;
@@ -50,6 +50,18 @@ impl Token {
         Token {
             kind: kind_of(spelling.as_bytes()),
             word: is_word(spelling.as_bytes()),
+            spelling,
+        }
+    }
+
+    /// The token that a word is.
+    pub(crate) fn word(spelling: Spelling) -> Token
+        requires { is_word spelling ≡ true }
+        ensures { result ≡ spelling }
+    {
+        Token {
+            kind: kind_of_word(spelling.as_bytes()),
+            word: true,
             spelling,
         }
     }
@@ -163,8 +175,23 @@ impl PlacedToken {
     pub fn new(context: Context, spelling: Spelling, line: u32) -> PlacedToken
         ensures { result ≡ token_of context spelling line }
     {
+        PlacedToken::placed(context, Token::new(spelling), line)
+    }
+
+    /// The token that a word is, on this line.
+    pub(crate) fn word(context: Context, spelling: Spelling, line: u32) -> PlacedToken
+        requires { is_word spelling ≡ true }
+        ensures { result ≡ token_of context spelling line }
+    {
+        PlacedToken::placed(context, Token::word(spelling), line)
+    }
+
+    // The token on this line.
+    fn placed(context: Context, token: Token, line: u32) -> PlacedToken
+        ensures { result ≡ token_of context token line }
+    {
         PlacedToken {
-            token: Token::new(spelling),
+            token,
             line,
             starts_line: context.beginning.is_nothing(),
             follows_word: context.follows_word,

@@ -10,14 +10,14 @@ use Rattle.idl_lex.specs.WordTable.{entry_of}
 use Rattle.idl_lex.specs.declared.kind.Kind.{Kind}
 use Rattle.idl_lex.proofs.keyword_table.look_up.Goals as goal
 
-pub returns-then-eq_ignore_ascii_case : goal.returns-then-eq_ignore_ascii_case
-returns-then-eq_ignore_ascii_case c =
+pub returns-then-are_alike : goal.returns-then-are_alike
+returns-then-are_alike c =
     let word = c.args.word.now in
     let entries = c.args.entries.now in
     let i = c.loop-entry.entry-index in
     let search_in : List (Bor (List ℕ) × Kind) → _ = λ es. find (λ k. bytes_eq (folded k.0) (folded word)) (map entry_of es) in
     let entry = get_or entries i _ in
-    let hit : bytes_eq (folded entry.0.now) (folded word) ≡ true = (bytes_decides _ _).1 (c.eq_ignore_ascii_case.ensures.test.0 c.if-eq_ignore_ascii_case.true) in
+    let hit : bytes_eq (folded entry.0.now) (folded word) ≡ true = (bytes_decides _ _).1 (c.are_alike.ensures.0 c.if-are_alike.true) in
     sym (sym c.loop-entry.invariant ∙ at_drop_more search_in entries i _ c.loop-entry-test.true ∙ ap (λ b. cond b (Some (entry_of entry)) (search_in (drop (i + 1) entries))) hit)
 
 pub loop-entry-preserved : goal.loop-entry-preserved
@@ -28,7 +28,7 @@ loop-entry-preserved c =
     let search_in : List (Bor (List ℕ) × Kind) → _ = λ es. find (λ k. bytes_eq (folded k.0) (folded word)) (map entry_of es) in
     let entry = get_or entries i _ in
     let other : (b : Bool) → bytes_eq (folded entry.0.now) (folded word) ≡ b → b ≡ false = λ b h. elim b as (λ b. bytes_eq (folded entry.0.now) (folded word) ≡ b → b ≡ false) [
-      | true ↦ λ one. absurd (false≢true (sym c.if-eq_ignore_ascii_case.false ∙ c.eq_ignore_ascii_case.ensures.test.1 ((bytes_decides _ _).0 one)))
+      | true ↦ λ one. absurd (false≢true (sym c.if-are_alike.false ∙ c.are_alike.ensures.1 ((bytes_decides _ _).0 one)))
       | false ↦ λ one. refl
     ] h in
     let miss = other (bytes_eq (folded entry.0.now) (folded word)) refl in

@@ -1,11 +1,10 @@
-use Rattle.std.proofs.Common.{◌∙◌, ◌+◌, drop, get_or, ap, arith}
-use Rattle.std.proofs.lemmas.Bool.{le-ltb}
+use Rattle.std.proofs.Common.{◌∙◌, ◌+◌, drop, get_or, ap, sym}
 use Rattle.std.proofs.lemmas.List.{take_rest}
 use Rattle.idl_lex.specs.Context.{is_include}
-use Rattle.idl_lex.specs.Scan.{further}
-use Rattle.idl_lex.proofs.HeaderLemmas.{further-past}
+use Rattle.idl_lex.specs.Scan.{closing_end, further}
+use Rattle.idl_lex.proofs.HeaderLemmas.{further-before}
 use Rattle.idl_lex.proofs.lexer.piece_end.Goals as goal
-use Rattle.idl_lex.proofs.lexer.piece_end.Goals.{then-i-closing, else-i-closing}
+use Rattle.idl_lex.proofs.lexer.piece_end.Goals.{then-is_include, else-is_include}
 
 pub returns-clause-end : goal.returns-clause-end
 returns-clause-end c =
@@ -14,7 +13,8 @@ returns-clause-end c =
     let first = get_or bytes i 0 in
     let rest = drop (i + 1) bytes in
     let includes = is_include c.args.context.beginning in
-    ap (λ n. i + 1 + n) (c.further.ensures.len ∙ ap (λ bs. further c.if-i-closing.includes first bs) (take_rest bytes (i + 1)) ∙ elim c.if-i-closing.branch [
-      | then-i-closing w ↦ ap (λ b. further b first rest) (w.includes-is ∙ w.is_include-includes.ensures)
-      | else-i-closing w ↦ ap (λ b. further b first rest) (w.includes-is ∙ le-ltb (i + 1) c.args.closing w.if-i-closing.false) ∙ further-past includes first bytes (i + 1) (omega (arith, w.if-i-closing.false, c.requires.closing))
+    ap (λ n. i + 1 + n) (c.further.ensures.len ∙ ap (λ bs. further c.if-is_include.includes first bs) (take_rest bytes (i + 1)) ∙ elim c.if-is_include.branch [
+      | then-is_include w ↦ ap (λ b. further b first rest) w.includes-is
+          ∙ further-before w.is_before-includes.result includes first bytes (i + 1) (sym c.is_include.ensures ∙ w.if-is_include.true) (λ none. w.is_before-includes.ensures (closing_end bytes) c.requires.closing none)
+      | else-is_include w ↦ ap (λ b. further b first rest) (w.includes-is ∙ c.is_include.ensures)
     ])

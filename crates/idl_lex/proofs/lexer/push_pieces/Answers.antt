@@ -1,12 +1,90 @@
-use Rattle.std.proofs.Common.{◌≡◌, ◌∙◌, ◌++◌, ◌+◌, ◌-◌, ◌≤◌, ◌<◌, append_assoc, ap, arith, codes, drop, get_or, length, sym, subst, false, take, true}
+use Rattle.std.proofs.Common.{◌≡◌, ◌∙◌, ◌++◌, [], ◌∷◌, ◌+◌, ◌-◌, ◌≤◌, ◌<◌, append_assoc, ap, arith, codes, drop, get_or, length, sym, subst, false, take, true}
 use Rattle.std.proofs.lemmas.List.{drop_all}
 use Rattle.idl_lex.specs.Context.{is_include, context_after}
 use Rattle.idl_lex.specs.Lexer.{after_comment, ended, is_open}
 use Rattle.idl_lex.specs.Logical.{line_at}
 use Rattle.idl_lex.specs.Scan.{further}
+use Rattle.idl_lex.specs.Text.{bytes_of}
 use Rattle.idl_lex.specs.Tokens.{token_if, token_of, tokens_after}
 use Rattle.idl_lex.proofs.TokensLemmas.{length-bytes_of, piece_of, EndsAt, tokens_after-piece_of, tokens_after-comment, tokens_after-newline, opening-spelled}
+use Rattle.idl_lex.proofs.WordLemmas.{IsWordAt, IsWordAt-read, tokens_after-space}
+use Rattle.idl_lex.specs.Byte.{is_space}
+use Rattle.idl_lex.specs.Word.{is_word}
 use Rattle.idl_lex.proofs.lexer.push_pieces.Goals as goal
+
+pub pieces-preserved-then-is_space : goal.pieces-preserved-then-is_space
+pieces-preserved-then-is_space c =
+    let line = c.args.line.now in
+    let i = c.pieces.i in
+    let now = c.pieces.now in
+    let same = c.as_bytes-bytes.ensures in
+    let within : i < length line = omega (arith, c.pieces-test.true, ap length same, length-bytes_of line) in
+    let white : is_space (get_or (bytes_of line) i 0) ≡ true = sym (c.is_space.ensures ∙ ap (λ bs. is_space (get_or bs i 0)) same) ∙ c.if-is_space.true in
+    let after : c.after_space-now.result ≡ context_after now (get_or (bytes_of line) i 0 ∷ []) = c.after_space-now.ensures ∙ ap (λ bs. context_after now (get_or bs i 0 ∷ [])) same in
+    record {
+      within = omega (arith, within);
+      closing = c.pieces.invariant.closing;
+      tokens = λ newline rest.
+          ap (λ x. c.pieces.tokens.items ++ tokens_after x 0 (drop (i + 1) line ++ ended newline rest)) after
+          ∙ ap (λ ts. c.pieces.tokens.items ++ ts) (sym (tokens_after-space now line i newline rest within white))
+          ∙ c.pieces.invariant.tokens newline rest;
+    }
+
+pub push_word-requires-clause-word : goal.push_word-requires-clause-word
+push_word-requires-clause-word c =
+    (IsWordAt-read c.pieces.now c.args.line.now c.as_bytes-bytes.result.now c.pieces.i c.word_len-len.result c.as_bytes-bytes.ensures c.pieces-test.true
+    (sym c.is_space.ensures ∙ c.if-is_space.false) (sym c.begins_word.ensures ∙ c.if-begins_word.true) c.word_len-len.ensures.len).word
+
+pub push_word-requires-clause-order : goal.push_word-requires-clause-order
+push_word-requires-clause-order c =
+    (IsWordAt-read c.pieces.now c.args.line.now c.as_bytes-bytes.result.now c.pieces.i c.word_len-len.result c.as_bytes-bytes.ensures c.pieces-test.true
+    (sym c.is_space.ensures ∙ c.if-is_space.false) (sym c.begins_word.ensures ∙ c.if-begins_word.true) c.word_len-len.ensures.len).later
+
+pub push_word-requires-clause-within : goal.push_word-requires-clause-within
+push_word-requires-clause-within c =
+    (IsWordAt-read c.pieces.now c.args.line.now c.as_bytes-bytes.result.now c.pieces.i c.word_len-len.result c.as_bytes-bytes.ensures c.pieces-test.true
+    (sym c.is_space.ensures ∙ c.if-is_space.false) (sym c.begins_word.ensures ∙ c.if-begins_word.true) c.word_len-len.ensures.len).within
+
+pub after_word-now-requires : goal.after_word-now-requires
+after_word-now-requires c =
+    let i = c.pieces.i in
+    let end = i + c.word_len-len.result in
+    let same = c.as_bytes-bytes.ensures in
+    let at : IsWordAt c.pieces.now c.args.line.now i end =
+    IsWordAt-read c.pieces.now c.args.line.now c.as_bytes-bytes.result.now i c.word_len-len.result same c.pieces-test.true
+    (sym c.is_space.ensures ∙ c.if-is_space.false) (sym c.begins_word.ensures ∙ c.if-begins_word.true) c.word_len-len.ensures.len in
+    ap (λ bs. is_word (take (end - i) (drop i bs))) same ∙ at.word
+
+pub pieces-preserved-then-begins_word : goal.pieces-preserved-then-begins_word
+pieces-preserved-then-begins_word c =
+    let line = c.args.line.now in
+    let i = c.pieces.i in
+    let now = c.pieces.now in
+    let end = i + c.word_len-len.result in
+    let same = c.as_bytes-bytes.ensures in
+    let at : IsWordAt now line i end =
+    IsWordAt-read now line c.as_bytes-bytes.result.now i c.word_len-len.result same c.pieces-test.true
+    (sym c.is_space.ensures ∙ c.if-is_space.false) (sym c.begins_word.ensures ∙ c.if-begins_word.true) c.word_len-len.ensures.len in
+    let after : c.after_word-now.result ≡ context_after now (piece_of line i end) = c.after_word-now.ensures ∙ ap (λ bs. context_after now (take (end - i) (drop i bs))) same in
+    let token = token_of now (piece_of line i end) (line_at line i) in
+    record {
+      within = at.within;
+      closing = c.pieces.invariant.closing;
+      tokens = λ newline rest.
+          ap (λ ts. ts ++ tokens_after c.after_word-now.result 0 (drop end line ++ ended newline rest)) c.in_ok-push_word.ensures
+          ∙ append_assoc c.pieces.tokens.items (token ∷ []) (tokens_after c.after_word-now.result 0 (drop end line ++ ended newline rest))
+          ∙ ap (λ x. c.pieces.tokens.items ++ (token ∷ tokens_after x 0 (drop end line ++ ended newline rest))) after
+          ∙ ap (λ ts. c.pieces.tokens.items ++ ts) (sym (at.token newline rest))
+          ∙ c.pieces.invariant.tokens newline rest;
+    }
+
+pub pieces-smaller-then-begins_word : goal.pieces-smaller-then-begins_word
+pieces-smaller-then-begins_word c =
+    let i = c.pieces.i in
+    let at : IsWordAt c.pieces.now c.args.line.now i (i + c.word_len-len.result) =
+    IsWordAt-read c.pieces.now c.args.line.now c.as_bytes-bytes.result.now i c.word_len-len.result c.as_bytes-bytes.ensures c.pieces-test.true
+    (sym c.is_space.ensures ∙ c.if-is_space.false) (sym c.begins_word.ensures ∙ c.if-begins_word.true) c.word_len-len.ensures.len in
+    omega (arith, at.later, at.within)
 
 pub returns-then-is_open : goal.returns-then-is_open
 returns-then-is_open c = λ newline rest.
@@ -41,6 +119,7 @@ pieces-preserved c =
     let after : c.after-now.result ≡ context_after now (piece_of line i end) = c.after-now.ensures ∙ ap (λ bs. context_after now (take (end - i) (drop i bs))) same in
     let token = token_if now (piece_of line i end) (line_at line i) in
     record {
+      closing = c.closing_for-closing.ensures;
       within = omega (arith, c.piece_end-end.ensures.within, ap length same, length-bytes_of line);
       tokens = λ newline rest.
           ap (λ ts. ts ++ tokens_after c.after-now.result 0 (drop end line ++ ended newline rest)) c.in_ok-push_piece.ensures

@@ -1,5 +1,6 @@
-use Rattle.std.proofs.Common.{◌≡◌, ◌++◌, ◌-◌, ◌≤◌, ℕ, List, length, drop}
+use Rattle.std.proofs.Common.{◌≡◌, ◌++◌, ◌-◌, ◌≤◌, ℕ, List, length, drop, IfSome}
 use Rattle.idl_lex.specs.Lexer.{ended}
+use Rattle.idl_lex.specs.Scan.{closing_end}
 use Rattle.idl_lex.specs.Text.{Placed}
 use Rattle.idl_lex.specs.Tokens.{tokens_after}
 use Rattle.idl_lex.proofs.lexer.push_pieces.Given as goal
@@ -7,6 +8,7 @@ use Rattle.idl_lex.proofs.lexer.push_pieces.Given as goal
 abbrev pub invariant-pieces : goal.invariant-pieces
 invariant-pieces l = record {
   within : l.i ≤ length l.line;
+  closing : IfSome l.closing (λ end. end ≡ closing_end l.bytes);
   tokens : (newline : ℕ) → (rest : List Placed) →
       l.tokens.items ++ tokens_after l.now 0 (drop l.i l.line ++ ended newline rest)
       ≡ l.initial.tokens.items ++ tokens_after l.fn.context 0 (drop l.fn.from l.line ++ ended newline rest);

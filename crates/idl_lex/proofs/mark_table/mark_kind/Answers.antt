@@ -1,6 +1,8 @@
-use Rattle.std.proofs.Common.{◌∙◌, ap}
-use Rattle.idl_lex.specs.WordTable.{value_of}
+use Rattle.idl_lex.proofs.MarkLemmas.{mark_kind-empty, mark_kind-long}
 use Rattle.idl_lex.proofs.mark_table.mark_kind.Goals as goal
 
-pub returns : goal.returns
-returns c = c.value_of.ensures ∙ ap (λ ms. value_of ms c.args.spelling.now) c.table.ensures
+pub returns-in_default : goal.returns-in_default
+returns-in_default c = mark_kind-empty c.args.spelling.now c.in_default.len_below
+
+pub returns-in_default-2 : goal.returns-in_default-2
+returns-in_default-2 c = mark_kind-long c.args.spelling.now c.in_default.len_at_least
