@@ -23,9 +23,9 @@ line-before bytes n within none found =
 pub newline-behind : (bytes : List ℕ) (n : ℕ) → n < length bytes → Passes (is_byte 10) bytes n → take (n + 1) bytes ≡ take n bytes ++ 10 ∷ []
 newline-behind bytes n within passes = take_more bytes n 0 within ∙ ap (λ b. take n bytes ++ b ∷ []) (eqb-true _ _ passes)
 
-no_newline : (b : ℕ) (t : Bool) → eqb b 10 ≡ t → (t ≡ true → ⊥) → not (eqb b 10) ≡ true
-no_newline b true e no = absurd (no refl)
-no_newline b false e no = ap not e
+no_newline : (b : ℕ) (t : Bool) → eqb b 10 ≡ t → (t ≡ true → ⊥) → not t ≡ true
+no_newline b true e other = absurd (other refl)
+no_newline b false e other = refl
 
 pub line-all : (bytes : List ℕ) → IsLine bytes → list_all (λ b. not (eqb b 10)) bytes ≡ true
 line-all bytes one_line =

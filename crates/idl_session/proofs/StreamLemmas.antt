@@ -4,11 +4,11 @@ use Rattle.std.specs.Bool.{MatchBool}
 use Rattle.std.specs.Option.{option_map}
 use Rattle.std.specs.List.{list_all, onto_first}
 use Rattle.std.proofs.lemmas.Bool.Decides.{nat_tests}
-use Rattle.std.proofs.lemmas.List.{append-nil, take-append-drop}
+use Rattle.std.proofs.lemmas.List.{append-nil, length-drop, take-append-drop}
 use Rattle.std.proofs.lemmas.List.Folds.{list_all-append}
 use Rattle.idl_source.specs.Device.{prepend}
 use Rattle.idl_session.specs.Lines.{lines_of, onto_next, whole_lines, line_within}
-use Rattle.idl_session.specs.Streams.{Fed, Stream, stream_of, rest_after, onto, unread, IsOver, TakesWhole, TakesLines, TakesLine, FailsWithin}
+use Rattle.idl_session.specs.Streams.{Fed, Stream, stream_of, rest_after, fuel, onto, unread, IsOver, TakesWhole, TakesLines, TakesLine, FailsWithin}
 use Rattle.idl_session.specs.Reading.{IsReading, line_with}
 
 -- two pieces that are to come, one after the other, are one
@@ -41,6 +41,27 @@ fed-onto rest fed n =
     let rest' = rest_after fed.ended rest in
     let whole = ap (λ (xs : List ℕ). prepend xs rest') (sym (take-append-drop n fed.bytes)) ∙ sym (prepend-prepend rest' (take n fed.bytes) (drop n fed.bytes)) in
     λ i. record { bytes = whole i; ended = fed.ended }
+
+-- the first bytes that were read were taken
+pub fed-taken : (rest : Option (List ℕ)) (fed new : Fed) (n : ℕ) (part : List ℕ) → take n fed.bytes ≡ part → new ≡ record fed { bytes = drop n fed.bytes } → stream_of rest fed ≡ onto part (stream_of rest new)
+fed-taken rest fed new n part first is =
+    fed-onto rest fed n ∙ ap (λ (xs : List ℕ). onto xs (stream_of rest (record fed { bytes = drop n fed.bytes }))) first ∙ ap (λ (f : Fed). onto part (stream_of rest f)) (sym is)
+
+-- and so fewer may still come
+pub fed-nearer : (reads n : ℕ) (fed new : Fed) → 0 < n → 0 < length fed.bytes → new ≡ record fed { bytes = drop n fed.bytes } → fuel reads new < fuel reads fed
+fed-nearer reads n fed new some more is = omega (arith, ap (λ (f : Fed). length f.bytes) is, length-drop n fed.bytes, some, more)
+
+over_after : (rest : Option (List ℕ)) → IsOver (prepend [] (rest_after true rest))
+over_after None = tt
+over_after (Some bytes) = refl
+
+-- all was taken, and the end was told before
+pub fed-end : (rest : Option (List ℕ)) (fed : Fed) → fed.ended ≡ true → fed.bytes ≡ [] → (stream_of rest fed ≡ record (stream_of rest fed) { ended = true }) × IsOver (stream_of rest fed).bytes
+fed-end rest fed ended none = (
+  λ i. record { bytes = prepend fed.bytes (rest_after fed.ended rest); ended = ended i },
+  subst (λ (xs : List ℕ). IsOver (prepend xs (rest_after fed.ended rest))) (sym none)
+  (subst (λ (b : Bool). IsOver (prepend [] (rest_after b rest))) (sym ended) (over_after rest)),
+)
 
 -- the end has come or not
 pub clash : (b : Bool) → b ≡ true → b ≡ false → ⊥
