@@ -60,7 +60,7 @@ pub fed-end : (rest : Option (List ℕ)) (fed : Fed) → fed.ended ≡ true → 
 fed-end rest fed ended none = (
   λ i. record { bytes = prepend fed.bytes (rest_after fed.ended rest); ended = ended i },
   subst (λ (xs : List ℕ). IsOver (prepend xs (rest_after fed.ended rest))) (sym none)
-  (subst (λ (b : Bool). IsOver (prepend [] (rest_after b rest))) (sym ended) (over_after rest)),
+      (subst (λ (b : Bool). IsOver (prepend [] (rest_after b rest))) (sym ended) (over_after rest)),
 )
 
 -- the end has come or not

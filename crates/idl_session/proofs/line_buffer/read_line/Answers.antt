@@ -49,7 +49,7 @@ parts-preserved g c =
     let nearer = fed-nearer (g.S.Source.reads_left c.fill.new.source) (length bytes) c.fill.new.self c.take-in-parts.new.self more some c.take-in-parts.ensures in
     record {
       reading = reading-more g.row.N old (stream_of rest c.fill.new.self) (stream_of rest c.take-in-parts.new.self) c.parts.line c.extend-in-parts.new.self c.parts.any bytes reading
-      (fed-taken rest c.fill.new.self c.take-in-parts.new.self (length bytes) bytes all c.take-in-parts.ensures) one_line c.extend-in-parts.ensures more;
+          (fed-taken rest c.fill.new.self c.take-in-parts.new.self (length bytes) bytes all c.take-in-parts.ensures) one_line c.extend-in-parts.ensures more;
       nearer = omega (arith, nearer, c.in_ok-fill.ensures.nearer, c.parts.invariant.nearer);
       moved = λ _. omega (arith, nearer, c.in_ok-fill.ensures.nearer, c.parts.invariant.nearer);
       failures = c.in_ok-fill.ensures.ok ∙ c.parts.invariant.failures;
