@@ -4,7 +4,7 @@ use Rattle.std.specs.Bool.{MatchBool}
 use Rattle.std.specs.Option.{option_map}
 use Rattle.std.specs.List.{list_all, onto_first}
 use Rattle.std.proofs.lemmas.Bool.Decides.{nat_tests}
-use Rattle.std.proofs.lemmas.List.{append-nil, length-drop, take-append-drop}
+use Rattle.std.proofs.lemmas.List.{append-nil, length-drop, length-take-le, take-append-drop}
 use Rattle.std.proofs.lemmas.List.Folds.{list_all-append}
 use Rattle.idl_source.specs.Device.{prepend}
 use Rattle.idl_session.specs.Lines.{lines_of, onto_next, whole_lines, line_within}
@@ -50,6 +50,10 @@ fed-taken rest fed new n part first is =
 -- and so fewer may still come
 pub fed-nearer : (reads n : ℕ) (fed new : Fed) → 0 < n → 0 < length fed.bytes → new ≡ record fed { bytes = drop n fed.bytes } → fuel reads new < fuel reads fed
 fed-nearer reads n fed new some more is = omega (arith, ap (λ (f : Fed). length f.bytes) is, length-drop n fed.bytes, some, more)
+
+-- something is left between two places
+pub fed-some : (bytes : List ℕ) (start end : ℕ) → start < end → end ≤ length bytes → drop start (take end bytes) ≡ [] → ⊥
+fed-some bytes start end less within none = omega (arith, ap length none, length-drop start (take end bytes), length-take-le end bytes within)
 
 over_after : (rest : Option (List ℕ)) → IsOver (prepend [] (rest_after true rest))
 over_after None = tt
