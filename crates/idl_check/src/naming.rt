@@ -28,7 +28,7 @@ use crate::using::{Denoted, Denoting, introduce, last_at, name_code, part_at, us
 use crate::walk::Walker;
 use idl_base::{Seq, Text};
 use idl_event::Code;
-use idl_memo::Log;
+use idl_memo::Journal;
 use idl_scope::{
     Addition, Entity, Env, Facts, Found, Kind, NameCode, NameFault, Scope, Shared, Stage,
     Standpoint, resolve, shared_name,
@@ -43,7 +43,7 @@ impl<'a> Walker<'a> {
     #[tactic(auto, unfolding(crate::specs::Walk::visit))]
     pub fn declare(
         &mut self,
-        log: &mut Log<Env>,
+        log: &mut Journal<Env>,
         way: Declaration,
         name: &Text,
     ) -> Result<(), AllocError>
@@ -100,7 +100,7 @@ impl<'a> Walker<'a> {
     #[tactic(auto, unfolding(crate::specs::Walk::visit))]
     pub fn use_name(
         &mut self,
-        log: &mut Log<Env>,
+        log: &mut Journal<Env>,
         way: Use,
         name: &ScopedName,
     ) -> Result<(), AllocError>
@@ -127,7 +127,7 @@ impl<'a> Walker<'a> {
     // looked at.
     fn use_given(
         &mut self,
-        log: &mut Log<Env>,
+        log: &mut Journal<Env>,
         way: Use,
         name: &ScopedName,
     ) -> Result<(), AllocError>
@@ -153,7 +153,7 @@ impl<'a> Walker<'a> {
     }
 
     // The first part of a name of several.
-    fn use_head(&mut self, log: &mut Log<Env>, name: &ScopedName) -> Result<(), AllocError>
+    fn use_head(&mut self, log: &mut Journal<Env>, name: &ScopedName) -> Result<(), AllocError>
         requires room { last_at self.old.at name.now + 1 ≤ 18446744073709551615 }
         requires local { name.now.is_global ≡ false }
         ensures run { OnOk result ((turns : ℕ) → TURNS ≤ turns →
@@ -192,7 +192,12 @@ impl<'a> Walker<'a> {
     }
 
     // A used name that isn't given back by a oneway operation.
-    fn use_any(&mut self, log: &mut Log<Env>, way: Use, name: &ScopedName) -> Result<(), AllocError>
+    fn use_any(
+        &mut self,
+        log: &mut Journal<Env>,
+        way: Use,
+        name: &ScopedName,
+    ) -> Result<(), AllocError>
         requires room { last_at self.old.at name.now + 1 ≤ 18446744073709551615 }
         ensures run { OnOk result ((turns : ℕ) → TURNS ≤ turns →
             (held self.new, log.new)
@@ -281,7 +286,7 @@ impl<'a> Walker<'a> {
             entity,
             constants: &constants,
         };
-        let code = used_code(alloc, way, &self.bases, denoted)?;
+        let code = used_code(alloc, way, &mut self.bases, denoted)?;
         let last = last_at(self.at, name);
         self.note(last, code);
         self.at = last + 1;
