@@ -1,5 +1,5 @@
 use Rattle.std.proofs.Common.{◌≡◌, ◌<◌, ◌++◌, ◌∷◌, ◌∙◌, ◌+◌, [], ap, sym, subst, arith, rules, length, take}
-use Rattle.std.proofs.lemmas.List.{take_all}
+use Rattle.std.proofs.lemmas.List.{nil_from_length, take_all}
 use Rattle.idl_session.specs.Reading.{IsReading}
 use Rattle.idl_session.specs.Streams.{Stream, stream_of}
 use Rattle.idl_session.proofs.ReplyLemmas.{on_err}
@@ -12,7 +12,8 @@ returns-in_err-fill-clause-fails g c = on_err c.from_residual.result (reading-fa
 
 pub returns-then-is_empty-clause-line : goal.returns-then-is_empty-clause-line
 returns-then-is_empty-clause-line g c =
-    let none : c.fill.new.self.bytes ≡ [] = search rules in
+    let count : length c.bytes-bytes.result.now ≡ 0 = search rules in
+    let none : c.fill.new.self.bytes ≡ [] = sym c.bytes-bytes.ensures ∙ nil_from_length c.bytes-bytes.result.now count in
     let over = c.in_ok-fill.ensures.end none in
     reading-end g.row.N _ _ _ c.parts.line c.parts.any c.parts.invariant.reading over.0 over.1
 

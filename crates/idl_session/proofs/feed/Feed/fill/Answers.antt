@@ -1,4 +1,5 @@
-use Rattle.std.proofs.Common.{◌≡◌, ◌<◌, ◌≤◌, true, arith, rules, length}
+use Rattle.std.proofs.Common.{◌≡◌, ◌<◌, ◌≤◌, ◌∙◌, true, ap, arith, rules, length}
+use Rattle.idl_session.specs.Streams.{Fed}
 use Rattle.idl_session.proofs.StreamLemmas.{fed-end, fed-some}
 use Rattle.idl_session.proofs.feed.Feed.fill.Goals.{else-self-via-then-self+else-not-self, else-self-via-else-self}
 use Rattle.idl_session.proofs.feed.Feed.fill.Goals as goal
@@ -12,5 +13,5 @@ returns-else-self-clause-end g c =
       | else-self-via-else-self w ↦
           let less : c.self.inside.start < c.self.inside.end = search rules in
           let within : c.self.inside.end ≤ length c.self.inside.bytes = search rules in
-          λ none. absurd (fed-some c.self.inside.bytes c.self.inside.start c.self.inside.end less within none)
+          λ none. absurd (fed-some c.self.inside.bytes c.self.inside.start c.self.inside.end less within (ap (λ (fed : Fed). fed.bytes) c.self.view_is ∙ none))
     ]
