@@ -1,4 +1,4 @@
-use Rattle.std.proofs.Common.{◌≡◌, ◌<◌, ◌≤◌, ◌∙◌, true, ap, arith, rules, length}
+use Rattle.std.proofs.Common.{◌≡◌, ◌<◌, ◌≤◌, ◌∙◌, true, ap, rules, length}
 use Rattle.idl_session.specs.Streams.{Fed}
 use Rattle.idl_session.proofs.StreamLemmas.{fed-end, fed-some}
 use Rattle.idl_session.proofs.feed.Feed.fill.Goals.{else-self-via-then-self+else-not-self, else-self-via-else-self}
