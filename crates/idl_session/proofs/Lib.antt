@@ -4,4 +4,5 @@ pub mod HeadingLemmas
 pub mod ReplyLemmas
 pub mod RunLemmas
 pub mod ServeLemmas
+pub mod SearchLemmas
 pub mod StreamLemmas

@@ -1,14 +1,15 @@
--- Lines that come byte by byte.
-use Rattle.std.proofs.Common.{◌≡◌, ◌∷◌, ◌++◌, ◌∙◌, ◌&&◌, Bool, true, false, cond, not, eqb, ltb, leb, ℕ, ◌+◌, ◌≤◌, List, [], Option, Some, None, length, sym, ap, refl, arith, subst, length-append, append_assoc}
+-- Lines that come in parts.
+use Rattle.std.proofs.Common.{◌≡◌, ◌∷◌, ◌++◌, ◌∙◌, ◌&&◌, Bool, true, false, cond, not, eqb, ltb, leb, ℕ, ◌+◌, ◌<◌, ◌≤◌, List, [], Option, Some, None, length, take, drop, sym, ap, refl, arith, subst, length-append, append_assoc}
 use Rattle.std.specs.Bool.{MatchBool}
 use Rattle.std.specs.Option.{option_map}
 use Rattle.std.specs.List.{list_all, onto_first}
 use Rattle.std.proofs.lemmas.Bool.Decides.{nat_tests}
-use Rattle.std.proofs.lemmas.List.{append-nil}
+use Rattle.std.proofs.lemmas.List.{append-nil, length-drop, length-take-le, take-append-drop}
+use Rattle.std.proofs.lemmas.List.Folds.{list_all-append}
 use Rattle.idl_source.specs.Device.{prepend}
-use Rattle.idl_session.specs.Lines.{lines_of, onto_next, whole_lines, line_within, line_with}
-use Rattle.idl_session.specs.Streams.{Stream, onto, unread, IsOver, TakesWhole, TakesLines, TakesLine, FailsWithin}
-use Rattle.idl_session.specs.Reading.{IsReading}
+use Rattle.idl_session.specs.Lines.{lines_of, onto_next, whole_lines, line_within}
+use Rattle.idl_session.specs.Streams.{Fed, Stream, stream_of, rest_after, fuel, onto, unread, IsOver, TakesWhole, TakesLines, TakesLine, FailsWithin}
+use Rattle.idl_session.specs.Reading.{IsReading, line_with}
 
 -- two pieces that are to come, one after the other, are one
 pub prepend-prepend : {X : Type 0} (o : Option (List X)) (xs ys : List X) → prepend xs (prepend ys o) ≡ prepend (xs ++ ys) o
@@ -33,6 +34,38 @@ onto-onto stream xs ys = λ i. record { bytes = prepend-prepend stream.bytes xs 
 
 pub onto-none : (stream : Stream) → stream ≡ onto [] stream
 onto-none stream = λ i. record { bytes = prepend-none stream.bytes i; ended = stream.ended }
+
+-- bytes that were read come before all others
+pub fed-onto : (rest : Option (List ℕ)) (fed : Fed) (n : ℕ) → stream_of rest fed ≡ onto (take n fed.bytes) (stream_of rest (record fed { bytes = drop n fed.bytes }))
+fed-onto rest fed n =
+    let rest' = rest_after fed.ended rest in
+    let whole = ap (λ (xs : List ℕ). prepend xs rest') (sym (take-append-drop n fed.bytes)) ∙ sym (prepend-prepend rest' (take n fed.bytes) (drop n fed.bytes)) in
+    λ i. record { bytes = whole i; ended = fed.ended }
+
+-- the first bytes that were read were taken
+pub fed-taken : (rest : Option (List ℕ)) (fed new : Fed) (n : ℕ) (part : List ℕ) → take n fed.bytes ≡ part → new ≡ record fed { bytes = drop n fed.bytes } → stream_of rest fed ≡ onto part (stream_of rest new)
+fed-taken rest fed new n part first is =
+    fed-onto rest fed n ∙ ap (λ (xs : List ℕ). onto xs (stream_of rest (record fed { bytes = drop n fed.bytes }))) first ∙ ap (λ (f : Fed). onto part (stream_of rest f)) (sym is)
+
+-- and so fewer may still come
+pub fed-nearer : (reads n : ℕ) (fed new : Fed) → 0 < n → 0 < length fed.bytes → new ≡ record fed { bytes = drop n fed.bytes } → fuel reads new < fuel reads fed
+fed-nearer reads n fed new some more is = omega (arith, ap (λ (f : Fed). length f.bytes) is, length-drop n fed.bytes, some, more)
+
+-- something is left between two places
+pub fed-some : (bytes : List ℕ) (start end : ℕ) → start < end → end ≤ length bytes → drop start (take end bytes) ≡ [] → ⊥
+fed-some bytes start end less within none = omega (arith, ap length none, length-drop start (take end bytes), length-take-le end bytes within)
+
+over_after : (rest : Option (List ℕ)) → IsOver (prepend [] (rest_after true rest))
+over_after None = tt
+over_after (Some bytes) = refl
+
+-- all was taken, and the end was told before
+pub fed-end : (rest : Option (List ℕ)) (fed : Fed) → fed.ended ≡ true → fed.bytes ≡ [] → (stream_of rest fed ≡ record (stream_of rest fed) { ended = true }) × IsOver (stream_of rest fed).bytes
+fed-end rest fed ended none = (
+  λ i. record { bytes = prepend fed.bytes (rest_after fed.ended rest); ended = ended i },
+  subst (λ (xs : List ℕ). IsOver (prepend xs (rest_after fed.ended rest))) (sym none)
+      (subst (λ (b : Bool). IsOver (prepend [] (rest_after b rest))) (sym ended) (over_after rest)),
+)
 
 -- the end has come or not
 pub clash : (b : Bool) → b ≡ true → b ≡ false → ⊥
@@ -73,49 +106,45 @@ whole_lines-part (b ∷ part) e =
     ap (λ t. cond t ([] ∷ whole_lines part) (onto_next b (whole_lines part))) (not_so (eqb b 10) both.0)
     ∙ ap (onto_next b) (whole_lines-part part both.1)
 
-kept_by_bound : (n : ℕ) (part : List ℕ) (b : ℕ) (t : Bool) → leb (length part) n ≡ t → line_with n (cond t (Some part) None) b ≡ line_within n (part ++ b ∷ [])
-kept_by_bound n part b true h =
-    let e : ltb (length part) n ≡ leb (length (part ++ b ∷ [])) n = grind (arith, nat_tests, length-append part (b ∷ [])) in
-    ap (λ t. cond t (Some (part ++ b ∷ [])) None) e
-kept_by_bound n part b false h =
-    let e : leb (length (part ++ b ∷ [])) n ≡ false = grind (arith, nat_tests, length-append part (b ∷ [])) in
-    sym (ap (λ t. cond t (Some (part ++ b ∷ [])) None) e)
+kept_by_bound : (n : ℕ) (part more : List ℕ) (t : Bool) → leb (length part) n ≡ t → line_with n (cond t (Some part) None) more ≡ line_within n (part ++ more)
+kept_by_bound n part more true h = refl
+kept_by_bound n part more false h =
+    let e : leb (length (part ++ more)) n ≡ false = grind (arith, nat_tests, length-append part more) in
+    sym (ap (λ t. cond t (Some (part ++ more)) None) e)
 
-line_with-line_within : (n : ℕ) (part : List ℕ) (b : ℕ) → line_with n (line_within n part) b ≡ line_within n (part ++ b ∷ [])
-line_with-line_within n part b = kept_by_bound n part b (leb (length part) n) refl
+line_with-line_within : (n : ℕ) (part more : List ℕ) → line_with n (line_within n part) more ≡ line_within n (part ++ more)
+line_with-line_within n part more = kept_by_bound n part more (leb (length part) n) refl
 
 both_so : (a b : Bool) → a ≡ true → b ≡ true → (a && b) ≡ true
 both_so true b e f = f
 both_so false b e f = absurd (cc)
 
-all-push : (part : List ℕ) (b : ℕ) → list_all (λ x. not (eqb x 10)) part ≡ true → (b ≡ 10 → ⊥) → list_all (λ x. not (eqb x 10)) (part ++ b ∷ []) ≡ true
-all-push [] b e n = let t : eqb b 10 ≡ false = grind (arith, nat_tests) in ap (λ x. not x && true) t
-all-push (x ∷ part) b e n =
-    let both = first_so (not (eqb x 10)) (list_all (λ y. not (eqb y 10)) part) e in
-    both_so _ _ both.0 (all-push part b both.1 n)
-
-some_pushed : (part : List ℕ) (b : ℕ) → true ≡ ltb 0 (length (part ++ b ∷ []))
-some_pushed part b = grind (arith, nat_tests, length-append part (b ∷ []))
-
 not_none : (b : ℕ) (part : List ℕ) → ltb 0 (length (b ∷ part)) ≡ false → ⊥
 not_none b part e = grind (arith, nat_tests)
 
-pub reading-more : (n : ℕ) (old mid new : Stream) (held held' : Option (List ℕ)) (any : Bool) (b : ℕ) → IsReading n old mid held any → mid ≡ onto (b ∷ []) new → (b ≡ 10 → ⊥) → held' ≡ line_with n held b → IsReading n old new held' true
-reading-more n old mid new held held' any b r taken other is = record {
-  part = r.part ++ b ∷ [];
-  one_line = all-push r.part b r.one_line other;
-  taken = r.taken ∙ ap (onto r.part) taken ∙ onto-onto new r.part (b ∷ []);
-  keeps = is ∙ ap (λ h. line_with n h b) r.keeps ∙ line_with-line_within n r.part b;
-  has_byte = some_pushed r.part b;
+-- further bytes of the line were taken
+reading-part : (n : ℕ) (old mid new : Stream) (held held' : Option (List ℕ)) (any any' : Bool) (more : List ℕ) → (r : IsReading n old mid held any) → mid ≡ onto more new → list_all (λ b. not (eqb b 10)) more ≡ true → held' ≡ line_with n held more
+    → any' ≡ ltb 0 (length (r.part ++ more)) → IsReading n old new held' any'
+reading-part n old mid new held held' any any' more r taken one_line is some = record {
+  part = r.part ++ more;
+  one_line = list_all-append (λ b. not (eqb b 10)) r.part more ∙ both_so _ _ r.one_line one_line;
+  taken = r.taken ∙ ap (onto r.part) taken ∙ onto-onto new r.part more;
+  keeps = is ∙ ap (λ h. line_with n h more) r.keeps ∙ line_with-line_within n r.part more;
+  has_byte = some;
 }
+
+pub reading-more : (n : ℕ) (old mid new : Stream) (held held' : Option (List ℕ)) (any : Bool) (more : List ℕ) → IsReading n old mid held any → mid ≡ onto more new → list_all (λ b. not (eqb b 10)) more ≡ true → held' ≡ line_with n held more → 0 < length more
+    → IsReading n old new held' true
+reading-more n old mid new held held' any more r taken one_line is some =
+    reading-part n old mid new held held' any true more r taken one_line is (grind (arith, nat_tests, length-append r.part more))
 
 newline_taken : (part : List ℕ) (new : Option (List ℕ)) → list_all (λ b. not (eqb b 10)) part ≡ true
     → option_map lines_of (prepend part (prepend (10 ∷ []) new)) ≡ prepend (part ∷ []) (option_map lines_of new)
 newline_taken part None e = refl
 newline_taken part (Some rest) e = ap Some (lines_of-newline part rest e)
 
-pub reading-newline : (n : ℕ) (old mid new : Stream) (held : Option (List ℕ)) (any : Bool) → IsReading n old mid held any → mid ≡ onto (10 ∷ []) new → TakesLine n old new held
-reading-newline n old mid new held any r taken = (
+line_taken : (n : ℕ) (old mid new : Stream) (held : Option (List ℕ)) (any : Bool) → IsReading n old mid held any → mid ≡ onto (10 ∷ []) new → TakesLine n old new held
+line_taken n old mid new held any r taken = (
   r.part,
   record {
     taken = ap (λ (s : Stream). option_map lines_of s.bytes) (r.taken ∙ ap (onto r.part) taken) ∙ newline_taken r.part new.bytes r.one_line;
@@ -127,6 +156,14 @@ reading-newline n old mid new held any r taken = (
   },
   r.keeps,
 )
+
+-- the last bytes of the line were taken, and its newline
+pub reading-newline : (n : ℕ) (old mid new : Stream) (held held' : Option (List ℕ)) (any : Bool) (more : List ℕ) → IsReading n old mid held any → mid ≡ onto (more ++ 10 ∷ []) new → list_all (λ b. not (eqb b 10)) more ≡ true → held' ≡ line_with n held more
+    → TakesLine n old new held'
+reading-newline n old mid new held held' any more r taken one_line is =
+    let some = ltb 0 (length (r.part ++ more)) in
+    line_taken n old (onto (10 ∷ []) new) new held' some
+    (reading-part n old mid (onto (10 ∷ []) new) held held' any some more r (taken ∙ sym (onto-onto new more (10 ∷ []))) one_line is refl) refl
 
 last_taken : (part : List ℕ) (mid : Option (List ℕ)) → list_all (λ b. not (eqb b 10)) part ≡ true → IsOver mid → ltb 0 (length part) ≡ true
     → option_map lines_of (prepend part mid) ≡ prepend (part ∷ []) (option_map lines_of mid)

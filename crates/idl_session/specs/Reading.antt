@@ -1,8 +1,13 @@
 -- A line that is being read.
-use Rattle.std.specs.Prelude.{◌≡◌, ℕ, Bool, true, not, List, nat_eq, nat_lt, length, Option}
+use Rattle.std.specs.Prelude.{◌≡◌, ◌++◌, ℕ, Bool, true, not, List, nat_eq, nat_lt, length, Option, None, Some}
 use Rattle.std.specs.List.{list_all}
 use Rattle.idl_session.specs.Lines.{line_within}
 use Rattle.idl_session.specs.Streams.{Stream, onto}
+
+-- what is kept of a line after further bytes
+abbrev pub line_with : ℕ → Option (List ℕ) → List ℕ → Option (List ℕ)
+line_with n None bytes = None
+line_with n (Some line) bytes = line_within n (line ++ bytes)
 
 -- a part of a line was taken: what is kept of it, and whether it has a byte
 pub record IsReading (n : ℕ) (old new : Stream) (held : Option (List ℕ)) (any : Bool)

@@ -1,7 +1,7 @@
-//! The bytes of a source, one by one: they are read in large pieces.
+//! The bytes of a source, as they are read: in large pieces.
 
-ghost use Rattle.std.specs.Prelude.{◌≡◌, ◌≤◌, ◌<◌, ◌+◌, ◌-◌, ◌^◌, [], ◌∷◌, true, false, IfOk, OnOk, OnErr, MatchBool, MatchOption, length};
-ghost use Rattle.idl_session.specs.Streams.{stream_of, onto, unread, IsOver, fuel};
+ghost use Rattle.std.specs.Prelude.{◌≡◌, ◌≤◌, ◌<◌, ◌+◌, ◌-◌, ◌^◌, [], true, false, OnOk, OnErr, MatchBool, length, drop};
+ghost use Rattle.idl_session.specs.Streams.{stream_of, unread, IsOver, fuel};
 
 use idl_source::{ReadFailed, Source};
 use std::marker::Model;
@@ -42,36 +42,50 @@ impl Feed {
         }
     }
 
-    /// Takes the next byte, or answers `None` at the end. A read that failed took none.
-    pub fn next<S: Source>(&mut self, source: &mut S) -> Result<Option<u8>, ReadFailed>
+    /// Reads once, where nothing is left and the end has not come. So nothing is left only at the end.
+    ///
+    /// A read that failed took no byte.
+    pub fn fill<S: Source>(&mut self, source: &mut S) -> Result<(), ReadFailed>
         requires counts { S.failures source.old < 2 ^ 64 - 1 }
 
-        ensures byte { let old = stream_of (S.remaining source.old) self.old in
+        ensures same { let old = stream_of (S.remaining source.old) self.old in
             let new = stream_of (S.remaining source.new) self.new in
-            IfOk result (λ b. MatchOption b
-            ((new ≡ record old { ended = true }) × IsOver old.bytes)
-            (λ b. old ≡ onto (b ∷ []) new)) }
-        ensures nearer { IfOk result (λ b. MatchOption b
-            (fuel (S.reads_left source.new) self.new ≤ fuel (S.reads_left source.old) self.old)
-            (λ _. fuel (S.reads_left source.new) self.new
-            < fuel (S.reads_left source.old) self.old)) }
+            OnOk result (0 < length self.new.bytes → old ≡ new) }
+        ensures end { let old = stream_of (S.remaining source.old) self.old in
+            let new = stream_of (S.remaining source.new) self.new in
+            OnOk result (self.new.bytes ≡ []
+            → (new ≡ record old { ended = true }) × IsOver old.bytes) }
+        ensures nearer { OnOk result
+            (fuel (S.reads_left source.new) self.new ≤ fuel (S.reads_left source.old) self.old) }
         ensures ok { OnOk result (S.failures source.new ≡ S.failures source.old) }
 
         ensures err { OnErr result (S.failures source.new ≡ S.failures source.old + 1) }
         ensures none { OnErr result
             (stream_of (S.remaining source.old) self.old ≡ unread (S.remaining source.new)) }
     {
-        if let Some(b) = self.pop() {
-            return Ok(Some(b));
+        if self.start == self.end && !self.ended {
+            self.read(source)?;
         }
-        if !self.ended {
-            self.fill(source)?;
-        }
-        Ok(self.pop())
+        Ok(())
     }
 
-    // Reads once, where nothing is left and the end has not come.
-    fn fill<S: Source>(&mut self, source: &mut S) -> Result<(), ReadFailed>
+    /// The bytes that were read and not yet taken.
+    pub fn bytes(&self) -> &[u8]
+        ensures { result.now ≡ self.now.bytes }
+    {
+        &self.bytes[self.start..self.end]
+    }
+
+    /// Takes so many of them.
+    pub fn take(&mut self, count: usize)
+        requires { count ≤ length self.old.bytes }
+        ensures { self.new ≡ record self.old { bytes = drop count self.old.bytes } }
+    {
+        self.start += count;
+    }
+
+    // Reads, where nothing is left.
+    fn read<S: Source>(&mut self, source: &mut S) -> Result<(), ReadFailed>
         requires empty { self.old.bytes ≡ [] }
         requires more { self.old.ended ≡ false }
         requires counts { S.failures source.old < 2 ^ 64 - 1 }
@@ -94,19 +108,5 @@ impl Feed {
         self.end = source.read(&mut self.bytes)?;
         self.ended = self.end == 0;
         Ok(())
-    }
-
-    // Takes the first of the bytes that were read.
-    fn pop(&mut self) -> Option<u8>
-        ensures { MatchOption result
-            ((self.old.bytes ≡ []) × (self.new ≡ self.old))
-            (λ b. self.old ≡ record self.new { bytes = b ∷ self.new.bytes }) }
-    {
-        if self.start == self.end {
-            return None;
-        }
-        let b = self.bytes[self.start];
-        self.start += 1;
-        Some(b)
     }
 }

@@ -1,14 +1,15 @@
 //! A line of bounded length, and how one is taken from a feed.
 
-ghost use Rattle.std.specs.Prelude.{◌≡◌, ◌≢◌, ◌≤◌, ◌<◌, ◌+◌, ◌-◌, ◌^◌, [], true, Some, IfOk, IfSome, OnOk, OnErr, MatchBool};
+ghost use Rattle.std.specs.Prelude.{◌≡◌, ◌≤◌, ◌<◌, ◌+◌, ◌-◌, ◌^◌, [], true, Some, IfOk, IfSome, OnOk, OnErr, MatchBool};
 ghost use Rattle.std.specs.Option.{option_copied};
-ghost use Rattle.idl_source.specs.Line.{IsLine, newline};
-ghost use Rattle.idl_session.specs.Lines.{line_with};
+ghost use Rattle.idl_source.specs.Line.{IsLine};
+ghost use Rattle.idl_session.specs.Reading.{line_with};
 ghost use Rattle.idl_session.specs.Streams.{stream_of, IsOver, fuel, TakesLine, FailsWithin};
 
 use crate::feed::Feed;
 use arrayvec::ArrayVec;
 use idl_source::{NEWLINE, ReadFailed, Source};
+use memchr::memchr;
 use std::marker::Model;
 
 /// A line of at most `N` bytes, none of them a newline. Of a longer one only that it is longer is known.
@@ -48,12 +49,12 @@ impl<const N: usize> LineBuffer<N> {
         self.over = false;
     }
 
-    /// Adds a byte, or finds that the line is too long.
-    pub fn push(&mut self, byte: u8)
-        requires { byte ≢ newline }
-        ensures { self.new ≡ line_with N self.old byte }
+    /// Adds bytes, or finds that the line is too long.
+    pub fn extend(&mut self, bytes: &[u8])
+        requires { IsLine bytes.now }
+        ensures { self.new ≡ line_with N self.old bytes.now }
     {
-        if !self.over && self.bytes.try_push(byte).is_err() {
+        if !self.over && self.bytes.try_extend_from_slice(bytes).is_err() {
             self.over = true;
         }
     }
@@ -91,14 +92,20 @@ pub fn read_line<S: Source, const N: usize>(
 {
     line.clear();
     let mut any = false;
-    'bytes: loop {
-        match feed.next(source)? {
-            None => return Ok(any),
-            Some(NEWLINE) => return Ok(true),
-            Some(b) => {
-                line.push(b);
-                any = true;
-            }
+    'parts: loop {
+        feed.fill(source)?;
+        let bytes = feed.bytes();
+        if bytes.is_empty() {
+            return Ok(any);
         }
+        if let Some(place) = memchr(NEWLINE, bytes) {
+            line.extend(&bytes[..place]);
+            feed.take(place + 1);
+            return Ok(true);
+        }
+        let count = bytes.len();
+        line.extend(bytes);
+        feed.take(count);
+        any = true;
     }
 }
