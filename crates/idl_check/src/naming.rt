@@ -95,7 +95,7 @@ impl<'a> Walker<'a> {
             self.old.fault) }
         ensures env { OnOk result (self.new.env.now ≡ self.old.env.now) }
     {
-        let code = declared_code(self.env.alloc(), scope, standing, entity.get())?;
+        let code = declared_code(scope, standing, entity.get());
         self.note(self.at, code);
         self.at += 1;
         keep_begun(&mut self.begun, &entity)?;
