@@ -13,26 +13,29 @@ use crate::codes::first_code;
 use idl_base::{Seq, Table};
 use idl_event::Code;
 use idl_lex::Spelling;
+use idl_map::SharedList;
 use idl_scope::{Entity, Path, Stage};
 use std::alloc::{AllocError, Global};
 use std::marker::Model;
 
 /// The paths of the bases that were named so far, and those of the operations and attributes that
-/// they bring, by the folded names.
+/// they bring, by the folded names: those of the last base wait, as the list that the base has, until another is named.
 pub struct Bases {
     paths: Table<Path, ()>,
     operations: Table<Spelling, Path>,
+    waiting: SharedList<Path>,
 }
 
 impl Model for Bases {
     ghost use Rattle.std.specs.Map.{keys_of};
-    ghost use Rattle.idl_check.specs.Using.{Bases as NamedBases};
+    ghost use Rattle.std.specs.Prelude.{fold};
+    ghost use Rattle.idl_check.specs.Using.{Bases as NamedBases, with_operation};
 
     ghost Value = { NamedBases };
 
     ghost view = { λ bases. record {
       paths = keys_of bases.paths;
-      operations = bases.operations;
+      operations = fold with_operation bases.operations bases.waiting;
     } };
 }
 
@@ -41,6 +44,7 @@ impl Drop for Bases {
         let Bases {
             paths: _paths,
             operations: _operations,
+            waiting: _waiting,
         } = self;
     }
 }
@@ -53,20 +57,23 @@ impl Bases {
         Bases {
             paths: Table::new(alloc),
             operations: Table::new(alloc),
+            waiting: SharedList::new(),
         }
     }
 
     /// The code of the least fault of a base of an interface, which is local or not.
     pub fn code(
-        &self,
+        &mut self,
         alloc: Global,
         is_local: bool,
         base: &Entity,
     ) -> Result<Option<Code>, AllocError>
-        ensures { IfOk result (λ code.
-            code ≡ first (codes_in (base_table is_local self.now base.now))) }
+        ensures code { IfOk result (λ code.
+            code ≡ first (codes_in (base_table is_local self.old base.now))) }
+        ensures same { OnOk result (self.new ≡ self.old) }
     {
-        let brings_another = self.brings_another(alloc, base)?;
+        bring(alloc, &mut self.operations, &mut self.waiting)?;
+        let brings_another = brings_another(alloc, &self.operations, base)?;
         Ok(first_code(&[
             (base.stage != Stage::Complete, Code::IncompleteBase),
             (contains(&self.paths, &base.path), Code::RepeatedBase),
@@ -75,35 +82,12 @@ impl Bases {
         ]))
     }
 
-    // Whether a base brings an operation or attribute that stands beside another one.
-    fn brings_another(&self, alloc: Global, base: &Entity) -> Result<bool, AllocError>
-        ensures { IfOk result (λ b.
-            b ≡ list_any (is_another self.now.operations) base.now.operations) }
-    {
-        for path in base.operations.as_slice() {
-            if self.is_another(alloc, path)? {
-                return Ok(true);
-            }
-        }
-        Ok(false)
-    }
-
-    // Whether another operation or attribute was brought under the name of this one.
-    fn is_another(&self, alloc: Global, path: &Path) -> Result<bool, AllocError>
-        ensures { IfOk result (λ b. b ≡ is_another self.now.operations path.now) }
-    {
-        let name = path.folded(alloc)?;
-        match self.operations.get(&name) {
-            Some(other) => Ok(*path != *other),
-            None => Ok(false),
-        }
-    }
-
     /// One base more.
     pub fn add(&mut self, alloc: Global, base: &Entity) -> Result<(), AllocError>
         ensures { OnOk result (self.new ≡ with_base base.now self.old) }
     {
-        add_operations(alloc, &mut self.operations, base.operations.as_slice())?;
+        bring(alloc, &mut self.operations, &mut self.waiting)?;
+        self.waiting = base.operations.clone()?;
         add_path(&mut self.paths, &base.path)
     }
 
@@ -113,6 +97,69 @@ impl Bases {
     {
         let paths = listed(alloc, &self.paths)?;
         Ok(Seq::from_vec(paths))
+    }
+}
+
+// Puts those that wait into the table.
+fn bring(
+    alloc: Global,
+    operations: &mut Table<Spelling, Path>,
+    waiting: &mut SharedList<Path>,
+) -> Result<(), AllocError>
+    ensures operations { OnOk result
+        (operations.new ≡ fold with_operation operations.old waiting.old) }
+    ensures waiting { OnOk result (waiting.new ≡ []) }
+{
+    let paths = waiting.to_vec(alloc)?;
+    add_operations(alloc, operations, paths.as_slice())?;
+    *waiting = SharedList::new();
+    Ok(())
+}
+
+// Whether a base brings an operation or attribute that stands beside another one.
+fn brings_another(
+    alloc: Global,
+    operations: &Table<Spelling, Path>,
+    base: &Entity,
+) -> Result<bool, AllocError>
+    ensures { IfOk result (λ b.
+        b ≡ list_any (is_another operations.now) base.now.operations) }
+{
+    if operations.is_empty() {
+        return Ok(false);
+    }
+    let paths = base.operations.to_vec(alloc)?;
+    any_another(alloc, operations, paths.as_slice())
+}
+
+// Whether one of these stands beside another operation or attribute.
+fn any_another(
+    alloc: Global,
+    operations: &Table<Spelling, Path>,
+    paths: &[Path],
+) -> Result<bool, AllocError>
+    ensures { IfOk result (λ b. b ≡ list_any (is_another operations.now) paths.now) }
+{
+    for path in paths {
+        if is_another(alloc, operations, path)? {
+            return Ok(true);
+        }
+    }
+    Ok(false)
+}
+
+// Whether another operation or attribute was brought under the name of this one.
+fn is_another(
+    alloc: Global,
+    operations: &Table<Spelling, Path>,
+    path: &Path,
+) -> Result<bool, AllocError>
+    ensures { IfOk result (λ b. b ≡ is_another operations.now path.now) }
+{
+    let name = path.folded(alloc)?;
+    match operations.get(&name) {
+        Some(other) => Ok(*path != *other),
+        None => Ok(false),
     }
 }
 

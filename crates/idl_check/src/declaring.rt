@@ -18,6 +18,7 @@ use crate::types::names_of;
 use idl_base::Seq;
 use idl_event::Code;
 use idl_lex::Spelling;
+use idl_map::SharedList;
 use idl_scope::{
     Addition, DataType, Element, Entity, Facts, Kind, Path, Scope, Shared, Stage, shared_name,
 };
@@ -211,7 +212,7 @@ impl Written {
             is_oneway: is_oneway_in(way),
             stage: stage_of(way),
             bases: Seq::new(alloc),
-            operations: Seq::new(alloc),
+            operations: SharedList::new(),
             data_type,
             value,
             enumerators,

@@ -9,7 +9,7 @@ ghost use Rattle.idl_scope.specs.Key.{key_eq};
 ghost use Rattle.idl_scope.specs.Lookup.{under};
 
 use idl_lex::Spelling;
-use idl_memo::Log;
+use idl_memo::Journal;
 use idl_scope::{Entity, Env, Fixed, Identity, Kind, Path, Prefix, Shared, View, shared_name};
 use itoa::Buffer;
 use std::alloc::{AllocError, Global};
@@ -65,7 +65,7 @@ pub fn has_id(kind: Kind) -> bool
 /// What a declared name is told of ids, under which that stands already.
 pub fn ids_of(
     view: View<'_>,
-    log: &mut Log<Env>,
+    log: &mut Journal<Env>,
     there: &Option<Shared<Entity>>,
     new: &Entity,
 ) -> Result<Option<Ids>, AllocError>
@@ -85,7 +85,7 @@ pub fn ids_of(
 // Its id, if it was declared before and may have been declared ahead.
 fn id_before(
     view: View<'_>,
-    log: &mut Log<Env>,
+    log: &mut Journal<Env>,
     there: &Option<Shared<Entity>>,
     new: &Entity,
 ) -> Result<Option<Shared<Identity>>, AllocError>

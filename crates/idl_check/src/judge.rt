@@ -31,7 +31,7 @@ use crate::verdict::{Verdict, adding};
 use crate::walk::Walker;
 use idl_event::Code;
 use idl_lex::Token;
-use idl_memo::Log;
+use idl_memo::Journal;
 use idl_scope::{DigestedKey, Env, Facts, Key, Path, Scope, Shared, Step, View, folded_name};
 use idl_site::{Site, sites};
 use idl_syntax::{SyntaxFault, UnitTree, parse};
@@ -56,7 +56,7 @@ struct Spelled<'t> {
 
 impl<'a> Judge<'a> {
     /// The verdict of the unit, whose text this is.
-    pub fn verdict(self, log: &mut Log<Env>, text: &UnitText) -> Result<Verdict, AllocError>
+    pub fn verdict(self, log: &mut Journal<Env>, text: &UnitText) -> Result<Verdict, AllocError>
         requires { text.now ≡ unit.Tokens self.tokens.now }
         ensures { IfOk result (λ v. (turns : ℕ) → TURNS ≤ turns →
             (v, log.new)
@@ -84,7 +84,7 @@ impl<'a> Judge<'a> {
     }
 
     // The verdict of a unit that has no tree, though no rule of tokens refuses it.
-    fn without_tree(self, log: &mut Log<Env>) -> Result<Verdict, AllocError>
+    fn without_tree(self, log: &mut Journal<Env>) -> Result<Verdict, AllocError>
         requires rules { least_fault (token_faults self.tokens.now) ≡ None }
         requires none { tree_of self.tokens.now ≡ None }
         ensures { IfOk result (λ v. (turns : ℕ) → TURNS ≤ turns →
@@ -99,7 +99,7 @@ impl<'a> Judge<'a> {
     }
 
     // The verdict of a unit that has a tree, and that no rule of tokens refuses.
-    fn with_tree(self, log: &mut Log<Env>, tree: &UnitTree) -> Result<Verdict, AllocError>
+    fn with_tree(self, log: &mut Journal<Env>, tree: &UnitTree) -> Result<Verdict, AllocError>
         requires rules { least_fault (token_faults self.tokens.now) ≡ None }
         requires tree { IsTreeOf (unit.Tokens self.tokens.now) tree.now }
         ensures { IfOk result (λ v. (turns : ℕ) → TURNS ≤ turns →
@@ -117,7 +117,7 @@ impl<'a> Judge<'a> {
     }
 
     // The verdict of a faulty unit.
-    fn refused(self, log: &mut Log<Env>, fault: Fault) -> Result<Verdict, AllocError>
+    fn refused(self, log: &mut Journal<Env>, fault: Fault) -> Result<Verdict, AllocError>
         ensures { IfOk result (λ v.
             (v, log.new)
             ≡ run key_eq (refused self.entry.tokens.now fault)
@@ -131,7 +131,7 @@ impl<'a> Judge<'a> {
     }
 
     // The verdict of a unit that has this tree.
-    fn by_names(self, log: &mut Log<Env>, tree: &Tree) -> Result<Verdict, AllocError>
+    fn by_names(self, log: &mut Journal<Env>, tree: &Tree) -> Result<Verdict, AllocError>
         requires { lexemes self.tokens.now ≡ spell tree.now }
         ensures { IfOk result (λ v. (turns : ℕ) → TURNS ≤ turns →
             (v, log.new)
@@ -163,7 +163,7 @@ impl<'a> Judge<'a> {
     }
 
     // The verdict of a unit that its scope doesn't hold.
-    fn misplaced(self, log: &mut Log<Env>, sites: &[Site<'_>]) -> Result<Verdict, AllocError>
+    fn misplaced(self, log: &mut Journal<Env>, sites: &[Site<'_>]) -> Result<Verdict, AllocError>
         ensures { IfOk result (λ v. (turns : ℕ) → TURNS ≤ turns →
             (tree : UnitsTree) → map item_at sites.now ≡ items (unit_parts tree) →
             (v, log.new)
@@ -178,7 +178,7 @@ impl<'a> Judge<'a> {
     }
 
     // Asks what the first part of a name asks.
-    fn ask_outward(self, log: &mut Log<Env>, name: &[u8]) -> Result<(), AllocError>
+    fn ask_outward(self, log: &mut Journal<Env>, name: &[u8]) -> Result<(), AllocError>
         ensures { OnOk result ((turns : ℕ) → TURNS ≤ turns →
             log.new
             ≡ (run key_eq (outward turns self.entry.scopes.now (folded name.now))
@@ -197,7 +197,7 @@ impl<'a> Judge<'a> {
     // The verdict of a unit without fault, over which a walk has come so far.
     fn sound(
         self,
-        log: &mut Log<Env>,
+        log: &mut Journal<Env>,
         unit: Spelled<'_>,
         walker: &mut Walker<'_>,
     ) -> Result<Verdict, AllocError>
@@ -232,7 +232,7 @@ impl<'a> Judge<'a> {
     }
 
     // Of a scope that is opened it is asked how often it was before.
-    fn ask_step(self, log: &mut Log<Env>, step: &Step) -> Result<(), AllocError>
+    fn ask_step(self, log: &mut Journal<Env>, step: &Step) -> Result<(), AllocError>
         ensures { OnOk result ((v : UnitVerdict) →
             (v, log.new) ≡ run key_eq (asking step.now v) (answers self.entry.env.now) log.old) }
     {

@@ -29,5 +29,5 @@ mod verdict;
 mod walk;
 
 pub use laws::{acceptance, least, numbering, questions, refusal, wording};
-pub use task::DeclarationTask;
+pub use task::{DeclarationTask, verdict_of};
 pub use verdict::Verdict;

@@ -29,7 +29,7 @@ use crate::walk::Walker;
 use idl_base::{Seq, Text};
 use idl_event::Code;
 use idl_lex::Spelling;
-use idl_memo::Log;
+use idl_memo::Journal;
 use idl_scope::{
     Addition, Entity, Env, Facts, Found, Kind, NameCode, NameFault, Scope, Shared, Stage,
     Standpoint, resolve, shared_name,
@@ -44,7 +44,7 @@ impl<'a> Walker<'a> {
     #[tactic(auto, unfolding(crate::specs::Walk::visit))]
     pub fn declare(
         &mut self,
-        log: &mut Log<Env>,
+        log: &mut Journal<Env>,
         way: Declaration,
         name: &Text,
     ) -> Result<(), AllocError>
@@ -111,7 +111,7 @@ impl<'a> Walker<'a> {
     #[tactic(auto, unfolding(crate::specs::Walk::visit))]
     pub fn use_name(
         &mut self,
-        log: &mut Log<Env>,
+        log: &mut Journal<Env>,
         way: Use,
         name: &ScopedName,
     ) -> Result<(), AllocError>
@@ -138,7 +138,7 @@ impl<'a> Walker<'a> {
     // looked at.
     fn use_given(
         &mut self,
-        log: &mut Log<Env>,
+        log: &mut Journal<Env>,
         way: Use,
         name: &ScopedName,
     ) -> Result<(), AllocError>
@@ -164,7 +164,7 @@ impl<'a> Walker<'a> {
     }
 
     // The first part of a name of several.
-    fn use_head(&mut self, log: &mut Log<Env>, name: &ScopedName) -> Result<(), AllocError>
+    fn use_head(&mut self, log: &mut Journal<Env>, name: &ScopedName) -> Result<(), AllocError>
         requires room { last_at self.old.at name.now + 1 ≤ 18446744073709551615 }
         requires local { name.now.is_global ≡ false }
         ensures run { OnOk result ((turns : ℕ) → TURNS ≤ turns →
@@ -203,7 +203,12 @@ impl<'a> Walker<'a> {
     }
 
     // A used name that isn't given back by a oneway operation.
-    fn use_any(&mut self, log: &mut Log<Env>, way: Use, name: &ScopedName) -> Result<(), AllocError>
+    fn use_any(
+        &mut self,
+        log: &mut Journal<Env>,
+        way: Use,
+        name: &ScopedName,
+    ) -> Result<(), AllocError>
         requires room { last_at self.old.at name.now + 1 ≤ 18446744073709551615 }
         ensures run { OnOk result ((turns : ℕ) → TURNS ≤ turns →
             (held self.new, log.new)
@@ -292,7 +297,7 @@ impl<'a> Walker<'a> {
             entity,
             constants: &constants,
         };
-        let code = used_code(alloc, way, &self.bases, denoted)?;
+        let code = used_code(alloc, way, &mut self.bases, denoted)?;
         let last = last_at(self.at, name);
         self.note(last, code);
         self.at = last + 1;

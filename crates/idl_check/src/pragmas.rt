@@ -27,7 +27,7 @@ use crate::using::{last_at, name_code, part_at};
 use crate::verdict::{Verdict, adding};
 use idl_event::Code;
 use idl_lex::TokenRange;
-use idl_memo::Log;
+use idl_memo::Journal;
 use idl_scope::{
     Addition, Env, Facts, Identity, NameFault, Path, Scope, Shared, Standpoint, Step, View, resolve,
 };
@@ -65,7 +65,7 @@ const OPERANDS: usize = 2;
 
 impl<'a> Speaker<'a> {
     /// The verdict of the pragma, whose text this is.
-    pub fn verdict(self, log: &mut Log<Env>, text: &UnitText) -> Result<Verdict, AllocError>
+    pub fn verdict(self, log: &mut Journal<Env>, text: &UnitText) -> Result<Verdict, AllocError>
         requires { text.now ≡ unit.Pragma self.tokens.now self.inside }
         ensures { IfOk result (λ v. (turns : ℕ) → TURNS ≤ turns →
             (v, log.new)
@@ -82,7 +82,7 @@ impl<'a> Speaker<'a> {
     }
 
     // The verdict of a pragma that has a tree, and that no rule refuses.
-    fn with_tree(self, log: &mut Log<Env>, tree: &UnitTree) -> Result<Verdict, AllocError>
+    fn with_tree(self, log: &mut Journal<Env>, tree: &UnitTree) -> Result<Verdict, AllocError>
         requires rules { least_fault (pragma_faults self.tokens.now self.inside) ≡ None }
         requires tree { IsTreeOf (unit.Pragma self.tokens.now self.inside) tree.now }
         ensures { IfOk result (λ v. (turns : ℕ) → TURNS ≤ turns →
@@ -98,7 +98,7 @@ impl<'a> Speaker<'a> {
     }
 
     // The verdict of a pragma without fault so far.
-    fn said(self, log: &mut Log<Env>, pragma: &Pragma) -> Result<Verdict, AllocError>
+    fn said(self, log: &mut Journal<Env>, pragma: &Pragma) -> Result<Verdict, AllocError>
         requires { pragma_of self.tokens.now ≡ Some pragma.now }
         ensures { IfOk result (λ v. (turns : ℕ) → TURNS ≤ turns →
             (v, log.new)
@@ -114,7 +114,12 @@ impl<'a> Speaker<'a> {
     }
 
     // The verdict of an id that is given.
-    fn id(self, log: &mut Log<Env>, name: &ScopedName, text: &[u16]) -> Result<Verdict, AllocError>
+    fn id(
+        self,
+        log: &mut Journal<Env>,
+        name: &ScopedName,
+        text: &[u16],
+    ) -> Result<Verdict, AllocError>
         requires { last_at 2 name.now + 1 ≤ 18446744073709551615 }
         ensures { IfOk result (λ v. (turns : ℕ) → TURNS ≤ turns →
             (v, log.new)
@@ -143,7 +148,7 @@ impl<'a> Speaker<'a> {
     // The verdict of a version that is given.
     fn version(
         self,
-        log: &mut Log<Env>,
+        log: &mut Journal<Env>,
         name: &ScopedName,
         version: (u16, u16),
     ) -> Result<Verdict, AllocError>
@@ -170,7 +175,7 @@ impl<'a> Speaker<'a> {
     // What a name denotes that has an id, or the fault at the name.
     fn named(
         self,
-        log: &mut Log<Env>,
+        log: &mut Journal<Env>,
         name: &ScopedName,
     ) -> Result<Result<Option<Named>, Fault>, AllocError>
         requires { last_at 2 name.now ≤ 18446744073709551615 }
@@ -205,7 +210,7 @@ impl<'a> Speaker<'a> {
     }
 
     // What identifies the name at a path, if it has an id.
-    fn identified(self, log: &mut Log<Env>, path: &Path) -> Result<Option<Named>, AllocError>
+    fn identified(self, log: &mut Journal<Env>, path: &Path) -> Result<Option<Named>, AllocError>
         ensures named { IfOk result (λ named.
             named
             ≡ option_map (λ d. record { path = path.now; identity = d })

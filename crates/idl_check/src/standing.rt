@@ -13,7 +13,7 @@ ghost use Rattle.idl_scope.specs.declared.lookup.TheConstants.{TURNS};
 
 use crate::identifying::{Ids, ids_of};
 use idl_lex::Spelling;
-use idl_memo::Log;
+use idl_memo::Journal;
 use idl_scope::{DigestedKey, Entity, Env, Key, Path, Scope, Shared, View};
 use std::alloc::AllocError;
 
@@ -43,7 +43,7 @@ impl Drop for Standing {
 /// What stands under the name of an entity in the scope in which it is declared.
 pub fn standing_of(
     view: View<'_>,
-    log: &mut Log<Env>,
+    log: &mut Journal<Env>,
     scope: &Scope,
     new: &Entity,
 ) -> Result<Standing, AllocError>
@@ -68,7 +68,7 @@ pub fn standing_of(
 // What a folded name is declared as already.
 fn there(
     view: View<'_>,
-    log: &mut Log<Env>,
+    log: &mut Journal<Env>,
     scope: &Scope,
     name: &Spelling,
 ) -> Result<Option<Shared<Entity>>, AllocError>
@@ -96,7 +96,7 @@ fn copied(entity: Option<&Shared<Entity>>) -> Result<Option<Shared<Entity>>, All
 // Whether a use has introduced a folded name into a body.
 fn is_used(
     view: View<'_>,
-    log: &mut Log<Env>,
+    log: &mut Journal<Env>,
     scope: &Scope,
     name: &Spelling,
 ) -> Result<bool, AllocError>
@@ -120,7 +120,7 @@ fn is_used(
 // Whether an operation or attribute is inherited under a folded name.
 fn is_inherited(
     view: View<'_>,
-    log: &mut Log<Env>,
+    log: &mut Journal<Env>,
     scope: &Scope,
     name: &Spelling,
 ) -> Result<bool, AllocError>

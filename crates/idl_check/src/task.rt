@@ -10,7 +10,7 @@ ghost use Rattle.idl_scope.specs.declared.lookup.TheConstants.{TURNS};
 use crate::judge::Judge;
 use crate::pragmas::Speaker;
 use crate::verdict::Verdict;
-use idl_memo::{Log, Task, TaskKind};
+use idl_memo::{Journal, Log, Task, TaskKind};
 use idl_scope::{DigestedKey, Env, Key, scopes_in};
 use idl_unit::UnitText;
 use std::alloc::{AllocError, Global};
@@ -42,14 +42,19 @@ impl Task<Env> for DeclarationTask {
         &self.text
     }
 
-    fn run(&self, _alloc: Global, bank: &Env, log: &mut Log<Env>) -> Result<Verdict, AllocError> {
-        verdict_of(bank, log, &self.text)
+    fn run(&self, alloc: Global, bank: &Env, log: &mut Log<Env>) -> Result<Verdict, AllocError> {
+        let mut journal = Journal::taking(alloc, log);
+        let verdict = verdict_of(bank, &mut journal, &self.text);
+        journal.give_back(log)?;
+        verdict
     }
 }
 
-// The verdict of a unit.
+/// The verdict of a unit. What it asks goes into the journal, behind what is there.
+///
+/// After want of memory nothing is said of the journal.
 #[tactic(auto, unfolding(crate::specs::Verdict::verdict))]
-fn verdict_of(env: &Env, log: &mut Log<Env>, text: &UnitText) -> Result<Verdict, AllocError>
+pub fn verdict_of(env: &Env, log: &mut Journal<Env>, text: &UnitText) -> Result<Verdict, AllocError>
     ensures { IfOk result (λ v. (turns : ℕ) → TURNS ≤ turns →
         (v, log.new) ≡ run key_eq (verdict turns text.now) (answers env.now) log.old) }
 {

@@ -13,7 +13,7 @@ ghost use Rattle.idl_scope.specs.declared.lookup.TheConstants.{TURNS};
 
 use idl_base::Seq;
 use idl_lex::Spelling;
-use idl_memo::Log;
+use idl_memo::Journal;
 use idl_scope::{
     DataType, Element, Entity, Env, Key, Kind, Layer, Path, Shared, Stage, TURNS, Unvalued, View,
 };
@@ -35,7 +35,7 @@ pub fn is_incomplete(entity: &Entity) -> bool
 #[tactic(auto, unfolding(crate::specs::Types::looked_through))]
 pub fn looked_through(
     view: View<'_>,
-    log: &mut Log<Env>,
+    log: &mut Journal<Env>,
     way: Use,
     entity: &Shared<Entity>,
 ) -> Result<Shared<Entity>, AllocError>
@@ -53,7 +53,7 @@ pub fn looked_through(
 // What stands behind a name through typedefs.
 fn behind_typedefs(
     view: View<'_>,
-    log: &mut Log<Env>,
+    log: &mut Journal<Env>,
     entity: &Shared<Entity>,
 ) -> Result<Shared<Entity>, AllocError>
     ensures { IfOk result (λ behind.

@@ -102,12 +102,13 @@ pub struct Denoted<'a> {
 pub fn used_code(
     alloc: Global,
     way: Use,
-    bases: &Bases,
+    bases: &mut Bases,
     denoted: Denoted<'_>,
 ) -> Result<Option<Code>, AllocError>
-    ensures { IfOk result (λ code. (behind : ScopeEntity) →
+    ensures code { IfOk result (λ code. (behind : ScopeEntity) →
         denoted.entry.constants.now ≡ constants_of behind →
-        code ≡ first (codes_in (used_table way bases.now denoted.entry.entity.now behind))) }
+        code ≡ first (codes_in (used_table way bases.old denoted.entry.entity.now behind))) }
+    ensures same { OnOk result (bases.new ≡ bases.old) }
 {
     if !suits(way, denoted.entity) {
         return Ok(Some(Code::WrongKind));

@@ -24,7 +24,7 @@ use crate::values::Values;
 use idl_base::{Seq, Text};
 use idl_event::Code;
 use idl_lex::Token;
-use idl_memo::Log;
+use idl_memo::Journal;
 use idl_scope::{Addition, Entity, Env, Facts, Kind, Path, Scope, Shared, Step, View};
 use idl_site::{Declaration, Site};
 use idl_tree::Several;
@@ -115,7 +115,7 @@ impl<'a> Walker<'a> {
     }
 
     /// Walks over sites.
-    pub fn walk(&mut self, log: &mut Log<Env>, sites: &[Site<'_>]) -> Result<(), AllocError>
+    pub fn walk(&mut self, log: &mut Journal<Env>, sites: &[Site<'_>]) -> Result<(), AllocError>
         requires { HasRoomFor (held self.old) (map item_at sites.now) }
         ensures walked { OnOk result ((turns : ℕ) → TURNS ≤ turns →
             (held self.new, log.new)
@@ -158,7 +158,7 @@ impl<'a> Walker<'a> {
 
     // A site.
     #[tactic(auto, unfolding(crate::specs::Walk::visit))]
-    fn visit(&mut self, log: &mut Log<Env>, site: Site<'_>) -> Result<(), AllocError>
+    fn visit(&mut self, log: &mut Journal<Env>, site: Site<'_>) -> Result<(), AllocError>
         requires { HasRoomFor (held self.old) (item_at site ∷ []) }
         ensures visited { OnOk result ((turns : ℕ) → TURNS ≤ turns →
             (held self.new, log.new)

@@ -1,6 +1,8 @@
 //! A list whose copies share their items.
 
-ghost use Rattle.std.specs.Prelude.{◌≡◌, ◌<◌, ◌↔◌, ◌++◌, ◌∷◌, [], IfOk, IfSome, IsNone, OnOk, OnErr, length};
+ghost use Rattle.std.specs.Prelude.{◌≡◌, ◌<◌, ◌↔◌, ◌++◌, ◌∷◌, [], IfOk, IfSome, IsNone, IsTrue, OnOk, OnErr, length};
+ghost use Rattle.std.specs.Cmp.Lexicographic.{pointwise, lists_per, lists_equiv};
+ghost use Rattle.idl_base.specs.Exact.{same_list};
 ghost use Rattle.idl_map.specs.Items.{items_of};
 
 use idl_base::Datum;
@@ -135,4 +137,65 @@ impl<T: Drop> Clone for SharedList<T> {
         let last = self.last.clone()?;
         Ok(SharedList { last })
     }
+}
+
+impl<T: Datum> PartialEq for SharedList<T> {
+    ghost eq = { pointwise T.eq };
+
+    ghost laws = { lists_per T.PartialEq.laws };
+
+    fn eq(&self, other: &SharedList<T>) -> bool
+        ensures by_item { result ≡ pointwise T.eq self.now other.now }
+        ensures exact { IsTrue result ↔ (self.now ≡ other.now) }
+    {
+        are_one(&self.last, &other.last)
+    }
+}
+
+impl<T: Datum> Node<T> {
+    // Those before its item, and that.
+    fn parts(&self) -> (&Option<Rc<Node<T>>>, &T)
+        ensures { self.now ≡ items_of result.0.now ++ result.1.now ∷ [] }
+    {
+        (&self.before, &self.item)
+    }
+}
+
+// Whether the items are one, compared from the last one on: a loop, so that long lists are compared in little stack.
+#[tactic(auto, using(crate::proofs::ListLemmas::same_last, crate::proofs::ListLemmas::other_last, crate::proofs::ListLemmas::longer, crate::proofs::ListLemmas::shorter))]
+fn are_one<T: Datum>(first: &Option<Rc<Node<T>>>, second: &Option<Rc<Node<T>>>) -> bool
+    ensures { result ≡ pointwise T.eq (items_of first.now) (items_of second.now) }
+{
+    let mut one = first;
+    let mut two = second;
+    while let Some(shared) = one {
+        let node: &Node<T> = shared;
+        let (before, item) = node.parts();
+        let Some(beside) = two else {
+            return false;
+        };
+        let beside: &Node<T> = beside;
+        let (others, other) = beside.parts();
+        if *item != *other {
+            return false;
+        }
+        one = before;
+        two = others;
+    }
+    let Some(more) = two else {
+        return true;
+    };
+    let more: &Node<T> = more;
+    let _parts = more.parts();
+    false
+}
+
+impl<T: Datum> Eq for SharedList<T> {
+    ghost laws = { lists_equiv T.Eq.laws };
+}
+
+impl<T: Datum> Datum for SharedList<T> {
+    ghost same = { same_list T.eq T.same };
+
+    ghost copy = { λ x y h. h };
 }

@@ -1,6 +1,8 @@
+pub mod Asked
 pub mod Buckets
 pub mod Cause
 pub mod Fresh
+pub mod Journal
 pub mod Kept
 pub mod Meter
 pub mod Obtained

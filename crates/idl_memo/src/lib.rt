@@ -4,9 +4,11 @@
 //! were: where they are what they were, the result is what it was. Nothing here knows what a key or an answer is about.
 #![tactic(auto)]
 
+mod asked;
 mod bank;
 mod edited;
 mod fresh;
+mod journal;
 mod kept;
 mod kept_table;
 mod log;
@@ -15,9 +17,11 @@ mod obtained;
 mod query;
 mod task;
 
+pub use asked::Asked;
 pub use bank::Bank;
 pub use edited::Edited;
 pub use fresh::freshness;
+pub use journal::Journal;
 pub use kept::{Kept, keep};
 pub use kept_table::{KeptTable, reuse};
 pub use log::Log;

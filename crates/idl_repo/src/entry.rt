@@ -9,7 +9,7 @@ ghost use Rattle.idl_scope.specs.Key.{key_eq};
 use crate::row::push_row;
 use idl_base::Text;
 use idl_event::Code;
-use idl_memo::{Log, Task, TaskKind};
+use idl_memo::{Journal, Log, Task, TaskKind};
 use idl_scope::{Entity, Env, Key, Kind, Path, Shared, Stage, entity_in};
 use std::alloc::{AllocError, Global};
 
@@ -60,13 +60,23 @@ impl Task<Env> for EntryTask {
     }
 
     fn run(&self, alloc: Global, bank: &Env, log: &mut Log<Env>) -> Result<Entry, AllocError> {
-        entry_of(alloc, bank, log, &self.path)
+        let mut journal = Journal::taking(alloc, log);
+        let entry = entry_of(alloc, bank, &mut journal, &self.path);
+        journal.give_back(log)?;
+        entry
     }
 }
 
-// The entry of the name at a path.
+/// The entry of the name at a path. What it asks goes into the journal, behind what is there.
+///
+/// After want of memory nothing is said of the journal.
 #[tactic(auto, unfolding(crate::specs::Entry::entry))]
-fn entry_of(alloc: Global, env: &Env, log: &mut Log<Env>, path: &Path) -> Result<Entry, AllocError>
+pub fn entry_of(
+    alloc: Global,
+    env: &Env,
+    log: &mut Journal<Env>,
+    path: &Path,
+) -> Result<Entry, AllocError>
     ensures { IfOk result (λ e.
         (e, log.new) ≡ run key_eq (entry path.now) (answers env.now) log.old) }
 {

@@ -5,7 +5,7 @@ ghost use Rattle.idl_repo.specs.Pieces.{IdOf, Writes};
 ghost use Rattle.idl_repo.specs.TypeCode.{listed_value};
 ghost use Rattle.idl_scope.specs.Facts.{answers};
 
-use idl_memo::Log;
+use idl_memo::Journal;
 use idl_scope::{DigestedKey, Env, Key, Path, identity_in};
 use idl_value::{Value, push_value};
 use itoa::Buffer;
@@ -33,7 +33,7 @@ pub fn push_listed(text: &mut Vec<u8>, value: &Value) -> Result<(), AllocError>
 pub fn push_id(
     text: &mut Vec<u8>,
     env: &Env,
-    log: &mut Log<Env>,
+    log: &mut Journal<Env>,
     path: &Path,
 ) -> Result<(), AllocError>
     ensures { OnOk result

@@ -9,7 +9,7 @@ use crate::piece::{push_id, push_listed};
 use crate::type_code::{TypeCode, members_of, push_reference, push_type, push_typed, signature_of};
 use idl_base::Seq;
 use idl_lex::Spelling;
-use idl_memo::Log;
+use idl_memo::Journal;
 use idl_scope::{Entity, Env, Kind, Member, Path};
 use idl_value::Value;
 use std::alloc::AllocError;
@@ -18,7 +18,7 @@ use std::alloc::AllocError;
 pub fn push_row(
     text: &mut Vec<u8>,
     env: &Env,
-    log: &mut Log<Env>,
+    log: &mut Journal<Env>,
     entity: &Entity,
 ) -> Result<(), AllocError>
     ensures { OnOk result
@@ -75,7 +75,7 @@ fn push_path(text: &mut Vec<u8>, names: &[Spelling]) -> Result<(), AllocError>
 fn push_behind_id(
     text: &mut Vec<u8>,
     env: &Env,
-    log: &mut Log<Env>,
+    log: &mut Journal<Env>,
     entity: &Entity,
 ) -> Result<(), AllocError>
     ensures { OnOk result
@@ -94,7 +94,7 @@ fn push_behind_id(
 fn push_coded(
     text: &mut Vec<u8>,
     env: &Env,
-    log: &mut Log<Env>,
+    log: &mut Journal<Env>,
     entity: &Entity,
 ) -> Result<(), AllocError>
     ensures { OnOk result
@@ -118,7 +118,7 @@ fn push_coded(
 fn push_constant(
     text: &mut Vec<u8>,
     env: &Env,
-    log: &mut Log<Env>,
+    log: &mut Journal<Env>,
     entity: &Entity,
 ) -> Result<(), AllocError>
     ensures { OnOk result
@@ -138,7 +138,7 @@ fn push_constant(
 fn push_attribute(
     text: &mut Vec<u8>,
     env: &Env,
-    log: &mut Log<Env>,
+    log: &mut Journal<Env>,
     entity: &Entity,
 ) -> Result<(), AllocError>
     ensures { OnOk result
@@ -159,7 +159,7 @@ fn push_attribute(
 fn push_operation(
     text: &mut Vec<u8>,
     env: &Env,
-    log: &mut Log<Env>,
+    log: &mut Journal<Env>,
     entity: &Entity,
 ) -> Result<(), AllocError>
     ensures { OnOk result
@@ -219,7 +219,7 @@ fn contexts_of(entity: &Entity) -> &[Seq<u16>]
 fn push_references(
     text: &mut Vec<u8>,
     env: &Env,
-    log: &mut Log<Env>,
+    log: &mut Journal<Env>,
     paths: &[Path],
 ) -> Result<(), AllocError>
     ensures { OnOk result
@@ -241,7 +241,7 @@ fn push_references(
 fn push_parameters(
     text: &mut Vec<u8>,
     env: &Env,
-    log: &mut Log<Env>,
+    log: &mut Journal<Env>,
     parameters: &[Member],
 ) -> Result<(), AllocError>
     ensures { OnOk result
@@ -263,7 +263,7 @@ fn push_parameters(
 fn push_parameter(
     text: &mut Vec<u8>,
     env: &Env,
-    log: &mut Log<Env>,
+    log: &mut Journal<Env>,
     parameter: &Member,
 ) -> Result<(), AllocError>
     ensures { OnOk result

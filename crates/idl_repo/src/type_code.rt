@@ -8,7 +8,7 @@ ghost use Rattle.idl_scope.specs.Facts.{answers};
 
 use crate::piece::{push_id, push_listed, push_number};
 use idl_lex::Spelling;
-use idl_memo::Log;
+use idl_memo::Journal;
 use idl_scope::{
     DataType, Element, Entity, Env, Kind, Layer, Member, Path, Shared, Signature, Unvalued,
 };
@@ -78,7 +78,7 @@ impl<'a> TypeCode<'a> {
         self,
         text: &mut Vec<u8>,
         env: &Env,
-        log: &mut Log<Env>,
+        log: &mut Journal<Env>,
     ) -> Result<(), AllocError>
         ensures { OnOk result
             (Writes (answers env.now) (code_pieces self.entry.kind self.entry.entity.now)
@@ -95,7 +95,12 @@ impl<'a> TypeCode<'a> {
     }
 
     // What stands behind the name.
-    fn push_parts(self, text: &mut Vec<u8>, env: &Env, log: &mut Log<Env>) -> Result<(), AllocError>
+    fn push_parts(
+        self,
+        text: &mut Vec<u8>,
+        env: &Env,
+        log: &mut Journal<Env>,
+    ) -> Result<(), AllocError>
         ensures { OnOk result
             (Writes (answers env.now) (part_pieces self.entry.kind self.entry.entity.now)
             (text.old.items, log.old) (text.new.items, log.new)) }
@@ -143,7 +148,7 @@ pub fn signature_of(entity: &Entity) -> Option<&Signature>
 fn push_members(
     text: &mut Vec<u8>,
     env: &Env,
-    log: &mut Log<Env>,
+    log: &mut Journal<Env>,
     members: &[Member],
 ) -> Result<(), AllocError>
     ensures { OnOk result
@@ -161,7 +166,7 @@ fn push_members(
 pub fn push_typed(
     text: &mut Vec<u8>,
     env: &Env,
-    log: &mut Log<Env>,
+    log: &mut Journal<Env>,
     member: &Member,
 ) -> Result<(), AllocError>
     ensures { OnOk result
@@ -178,7 +183,7 @@ pub fn push_typed(
 fn push_entries(
     text: &mut Vec<u8>,
     env: &Env,
-    log: &mut Log<Env>,
+    log: &mut Journal<Env>,
     members: &[Member],
 ) -> Result<(), AllocError>
     ensures { OnOk result
@@ -228,7 +233,7 @@ fn default_at(members: &[Member]) -> Result<Option<usize>, AllocError>
 fn push_labelled(
     text: &mut Vec<u8>,
     env: &Env,
-    log: &mut Log<Env>,
+    log: &mut Journal<Env>,
     member: &Member,
 ) -> Result<(), AllocError>
     ensures { OnOk result
@@ -272,7 +277,7 @@ fn push_enumerators(text: &mut Vec<u8>, names: &[Spelling]) -> Result<(), AllocE
 fn push_type_behind(
     text: &mut Vec<u8>,
     env: &Env,
-    log: &mut Log<Env>,
+    log: &mut Journal<Env>,
     data_type: &Option<Shared<DataType>>,
 ) -> Result<(), AllocError>
     ensures { OnOk result
@@ -288,7 +293,7 @@ fn push_type_behind(
 pub fn push_type(
     text: &mut Vec<u8>,
     env: &Env,
-    log: &mut Log<Env>,
+    log: &mut Journal<Env>,
     data_type: &Option<Shared<DataType>>,
 ) -> Result<(), AllocError>
     ensures { OnOk result
@@ -354,7 +359,7 @@ fn size_of(layer: Layer) -> u32
 fn push_element(
     text: &mut Vec<u8>,
     env: &Env,
-    log: &mut Log<Env>,
+    log: &mut Journal<Env>,
     element: &Element,
 ) -> Result<(), AllocError>
     ensures { OnOk result
@@ -372,7 +377,7 @@ fn push_element(
 pub fn push_reference(
     text: &mut Vec<u8>,
     env: &Env,
-    log: &mut Log<Env>,
+    log: &mut Journal<Env>,
     path: &Path,
 ) -> Result<(), AllocError>
     ensures { OnOk result

@@ -10,8 +10,8 @@ ghost use Rattle.idl_unit.specs.declared.unit.Unit.{Unit as RootUnit};
 use crate::compiled::Row;
 use crate::finding::{Finding, Spelled, push_fault};
 use crate::printing::{Listed, Printed, print_all, push_listed};
-use idl_check::{DeclarationTask, Verdict};
-use idl_memo::{Bank, Log, Task};
+use idl_check::{Verdict, verdict_of};
+use idl_memo::{Bank, Journal};
 use idl_scope::{DigestedKey, Env, Facts, Key, Step, scopes_in};
 use idl_unit::{Unit, UnitText};
 use std::alloc::{AllocError, Global};
@@ -58,21 +58,15 @@ impl<'a> Judging<'a> {
         ensures { IfOk result (λ judging. held judging ≡ to_come (held self.entry) units.now) }
     {
         let mut judging = self;
-        let mut log = Log::new(alloc);
         for unit in units {
-            judging = judging.with(alloc, unit, &mut log)?;
+            judging = judging.with(alloc, unit)?;
         }
         Ok(judging)
     }
 
-    // After one unit more, which takes the memory of the log for what it asks.
+    // After one unit more.
     #[tactic(auto, unfolding(crate::specs::Judged::judged_after, crate::specs::Judged::facts_after))]
-    fn with(
-        self,
-        alloc: Global,
-        unit: &'a Unit,
-        log: &mut Log<Env>,
-    ) -> Result<Judging<'a>, AllocError>
+    fn with(self, alloc: Global, unit: &'a Unit) -> Result<Judging<'a>, AllocError>
         ensures { IfOk result (λ judging. (units : List RootUnit)
             → to_come (held judging) units ≡ to_come (held self.entry) (unit.now ∷ units)) }
     {
@@ -82,7 +76,7 @@ impl<'a> Judging<'a> {
                     text,
                     sites: sites.as_slice(),
                 };
-                Ok(self.with_spelled(alloc, unit, log)?)
+                Ok(self.with_spelled(alloc, unit)?)
             }
             Unit::Entered(_file) => Ok(self.with_boundary(alloc, Step::Enters)?),
             Unit::Left(_file) => Ok(self.with_boundary(alloc, Step::Leaves)?),
@@ -114,18 +108,13 @@ impl<'a> Judging<'a> {
     }
 
     // After a unit with tokens.
-    fn with_spelled(
-        self,
-        alloc: Global,
-        unit: Spelled<'a>,
-        log: &mut Log<Env>,
-    ) -> Result<Judging<'a>, AllocError>
+    fn with_spelled(self, alloc: Global, unit: Spelled<'a>) -> Result<Judging<'a>, AllocError>
         ensures { IfOk result (λ judging.
             held judging
             ≡ with_judged (held self.entry)
             (judged_over self.entry.env unit.entry.text.now unit.entry.sites.now)) }
     {
-        let verdict = verdict_over(alloc, &self.env, unit.text, log)?;
+        let verdict = verdict_over(&self.env, unit.text)?;
         Ok(self.with_verdict(alloc, unit, &verdict)?)
     }
 
@@ -194,20 +183,11 @@ impl<'a> Judging<'a> {
     }
 }
 
-// The verdict of a text over facts. What the log held before is forgotten.
-fn verdict_over(
-    alloc: Global,
-    env: &Env,
-    text: &UnitText,
-    log: &mut Log<Env>,
-) -> Result<Verdict, AllocError>
+// The verdict of a text over facts. What it asks is not kept.
+fn verdict_over(env: &Env, text: &UnitText) -> Result<Verdict, AllocError>
     ensures { IfOk result (λ verdict. verdict ≡ verdict_over env.now text.now) }
 {
-    let task = DeclarationTask {
-        text: text.clone()?,
-    };
-    log.clear();
-    task.run(alloc, env, log)
+    verdict_of(env, &mut Journal::told(), text)
 }
 
 // Puts in the row of a unit, if it has one.

@@ -9,8 +9,8 @@ ghost use Rattle.idl_unit.specs.TokenRules.{fault_at};
 
 use crate::compiled::Row;
 use crate::finding::{Finding, Spelled, push_fault};
-use idl_memo::{Log, Task};
-use idl_repo::{Entry, EntryTask};
+use idl_memo::Journal;
+use idl_repo::{Entry, entry_of};
 use idl_scope::{Addition, Env, Facts, Fixed, Path};
 use idl_unit::{Fault, UnitText};
 use std::alloc::{AllocError, Global};
@@ -100,9 +100,8 @@ pub fn print_all(alloc: Global, env: &Env, listed: &[Listed<'_>]) -> Result<Prin
         findings: Vec::new(alloc),
         rows: Vec::new(alloc),
     };
-    let mut log = Log::new(alloc);
     for name in listed {
-        let entry = entry_over(alloc, env, &name.path, &mut log)?;
+        let entry = entry_over(alloc, env, &name.path)?;
         printed.add(alloc, name.unit, entry)?;
     }
     Ok(printed)
@@ -145,18 +144,9 @@ fn name_index(text: &UnitText) -> usize
     count.saturating_sub(2)
 }
 
-// The entry of the name at a path over facts. What the log held before is forgotten.
-fn entry_over(
-    alloc: Global,
-    env: &Env,
-    path: &Path,
-    log: &mut Log<Env>,
-) -> Result<Entry, AllocError>
+// The entry of the name at a path over facts. What it asks is not kept.
+fn entry_over(alloc: Global, env: &Env, path: &Path) -> Result<Entry, AllocError>
     ensures { IfOk result (λ entry. entry ≡ entry_over env.now path.now) }
 {
-    let task = EntryTask {
-        path: path.clone()?,
-    };
-    log.clear();
-    task.run(alloc, env, log)
+    entry_of(alloc, env, &mut Journal::told(), path)
 }

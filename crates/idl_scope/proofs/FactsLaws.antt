@@ -3,7 +3,7 @@ use Rattle.std.proofs.Common.{◌≡◌, ℕ, ◌+◌, Bool, true, false, cond, 
 use Rattle.std.specs.Prelude.{Contains, drop}
 use Rattle.std.proofs.lemmas.List.Elements.{All-weaker, All-contains_itself}
 use Rattle.idl_memo.specs.Query.{Done, Ask, Tell, outcome, asked, Agree}
-use Rattle.idl_scope.specs.Facts.{UnitFacts, World, given_back, prefix_in, with_prefix, entity_key, entity_in, scopes_in, count_in, over, operations_of, joined, inherited, innermost, closed, closing, with_answer, with_additions, after_opening, after_closing, after_nameless, after_step, after, after_all, first_world, world, answers, nameless, path_around, next_body, more_inside, operations_among}
+use Rattle.idl_scope.specs.Facts.{UnitFacts, World, given_back, prefix_in, with_prefix, entity_key, entity_in, scopes_in, count_in, over, operations_of, joined, gathered, inherited, innermost, closed, closing, with_answer, with_additions, after_opening, after_closing, after_nameless, after_step, after, after_all, first_world, world, answers, nameless, path_around, next_body, more_inside, operations_among}
 use Rattle.idl_scope.specs.Key.{key_eq}
 use Rattle.idl_scope.specs.Kind.{kind_eq}
 use Rattle.idl_scope.specs.Lookup.{Lookup, under}
@@ -78,15 +78,21 @@ module _ (keys : List Key) where
         ∙ with_answer-outside Cursor (Open (s ∷ scopes_in (w.answers Cursor))) (Open (s ∷ scopes_in (v.answers Cursor))) (with_answer (Opened s.path) (Count s.body) w.answers) (with_answer (Opened s.path) (Count s.body) v.answers)
         (ap (λ o. Open (s ∷ scopes_in o)) cursor) (with_answer-outside (Opened s.path) (Count s.body) (Count s.body) w.answers v.answers refl same) k out
 
-    inherited-same : (found bases : List (List (List ℕ))) → ((b : List (List ℕ)) → IsIn b bases → v.answers (entity_key b) ≡ w.answers (entity_key b)) → inherited v.answers found bases ≡ inherited w.answers found bases
-    inherited-same found [] h = refl
-    inherited-same found (b ∷ bases) h =
-        ap (λ o. inherited v.answers (joined found (operations_of (entity_in o))) bases) (h b (inl refl))
-        ∙ inherited-same (joined found (operations_of (entity_in (w.answers (entity_key b))))) bases (λ c i. h c (inr i))
+    gathered-same : (found bases : List (List (List ℕ))) → ((b : List (List ℕ)) → IsIn b bases → v.answers (entity_key b) ≡ w.answers (entity_key b)) → gathered v.answers found bases ≡ gathered w.answers found bases
+    gathered-same found [] h = refl
+    gathered-same found (b ∷ bases) h =
+        ap (λ o. gathered v.answers (joined found (operations_of (entity_in o))) bases) (h b (inl refl))
+        ∙ gathered-same (joined found (operations_of (entity_in (w.answers (entity_key b))))) bases (λ c i. h c (inr i))
+
+    inherited-same : (bases : List (List (List ℕ))) → ((b : List (List ℕ)) → IsIn b bases → v.answers (entity_key b) ≡ w.answers (entity_key b)) → inherited v.answers bases ≡ inherited w.answers bases
+    inherited-same [] h = refl
+    inherited-same (b ∷ bases) h =
+        ap (λ o. gathered v.answers (operations_of (entity_in o)) bases) (h b (inl refl))
+        ∙ gathered-same (operations_of (entity_in (w.answers (entity_key b)))) bases (λ c i. h c (inr i))
 
     closed-same : (e : Entity) → ((b : List (List ℕ)) → IsIn b e.bases → v.answers (entity_key b) ≡ w.answers (entity_key b)) → closed v e ≡ closed w e
     closed-same e h =
-        let ops = inherited-same [] e.bases h in
+        let ops = inherited-same e.bases h in
         λ i. record e { stage = Complete; operations = ops i ++ innermost (inside i) }
 
     -- what the closing of a scope declares is the same, where its keys have the same answers

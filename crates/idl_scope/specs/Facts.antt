@@ -156,18 +156,26 @@ abbrev pub operations_of : Option Entity → List (List (List ℕ))
 operations_of None = []
 operations_of (Some e) = e.operations
 
--- these operations and attributes, and those of bases in their order, none twice
-abbrev pub inherited : (Key → Option Answer) → List (List (List ℕ)) → List (List (List ℕ))
+-- these operations and attributes, and those of bases in their order that are not yet there
+abbrev pub gathered : (Key → Option Answer) → List (List (List ℕ)) → List (List (List ℕ))
     → List (List (List ℕ))
-inherited answers found [] = found
-inherited answers found (b ∷ bases) =
-    inherited answers (joined found (operations_of (entity_in (answers (entity_key b))))) bases
+gathered answers found [] = found
+gathered answers found (b ∷ bases) =
+    gathered answers (joined found (operations_of (entity_in (answers (entity_key b))))) bases
+
+-- what an interface with these bases inherits: the operations and attributes of the first base as
+-- they are, and those of the others that are not yet there, in order. So none is there twice where
+-- those of the first base are distinct, as those of an interface are
+abbrev pub inherited : (Key → Option Answer) → List (List (List ℕ)) → List (List (List ℕ))
+inherited answers [] = []
+inherited answers (b ∷ bases) =
+    gathered answers (operations_of (entity_in (answers (entity_key b)))) bases
 
 -- an interface that closes: its operations and attributes are the inherited ones and then its own
 abbrev pub closed : World → Entity → Entity
 closed w e = record e {
   stage = Complete;
-  operations = inherited w.answers [] e.bases ++ innermost w.inside;
+  operations = inherited w.answers e.bases ++ innermost w.inside;
 }
 
 -- what the closing of a scope changes beside the open scopes

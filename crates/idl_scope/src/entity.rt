@@ -10,6 +10,7 @@ use crate::shared::{Shared, copied};
 use crate::signature::Signature;
 use idl_base::{Datum, Seq};
 use idl_lex::Spelling;
+use idl_map::SharedList;
 use idl_value::Value;
 use std::alloc::AllocError;
 
@@ -29,8 +30,8 @@ pub struct Entity {
     /// The paths of the direct bases, in order.
     pub bases: Seq<Path>,
     /// The paths of the operations and attributes of a closed interface: the inherited ones first, by its bases in order and
-    /// none twice, and then its own in order.
-    pub operations: Seq<Path>,
+    /// none twice, and then its own in order. What it inherits by its first base is shared with that.
+    pub operations: SharedList<Path>,
     /// The type that it is declared with: what an operation gives back, if it does, and of a union that of its labels.
     pub data_type: Option<Shared<DataType>>,
     /// The value of a constant, once it is told, and of an enumerator.

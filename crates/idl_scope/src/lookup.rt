@@ -23,7 +23,7 @@ use crate::queue::join;
 use crate::shared::Shared;
 use idl_base::Table;
 use idl_lex::Spelling;
-use idl_memo::Log;
+use idl_memo::Journal;
 use std::alloc::AllocError;
 
 /// A walk over bases makes no more turns than these: memory holds no longer queue.
@@ -47,7 +47,7 @@ impl<'a> View<'a> {
     /// What is declared at a key.
     pub fn entity(
         self,
-        log: &mut Log<Env>,
+        log: &mut Journal<Env>,
         key: &DigestedKey,
     ) -> Result<Option<&'a Shared<Entity>>, AllocError>
         ensures entity { IfOk result (λ e.
@@ -65,7 +65,7 @@ impl<'a> View<'a> {
 
     /// The prefix in force, which no addition changes.
     #[tactic(auto, using(crate::proofs::AnswerLemmas::over_prefix))]
-    pub fn prefix(self, log: &mut Log<Env>) -> Result<Shared<Prefix>, AllocError>
+    pub fn prefix(self, log: &mut Journal<Env>) -> Result<Shared<Prefix>, AllocError>
         ensures prefix { IfOk result (λ prefix.
             prefix
             ≡ prefix_in
@@ -83,7 +83,7 @@ impl<'a> View<'a> {
     /// The id of what is declared at a path.
     pub fn identity(
         self,
-        log: &mut Log<Env>,
+        log: &mut Journal<Env>,
         path: &Path,
     ) -> Result<Option<&'a Shared<Identity>>, AllocError>
         ensures identity { IfOk result (λ d.
@@ -105,7 +105,7 @@ impl<'a> View<'a> {
     // What a scope itself declares a name as.
     fn own(
         self,
-        log: &mut Log<Env>,
+        log: &mut Journal<Env>,
         path: &Path,
         name: &Spelling,
     ) -> Result<Option<&'a Shared<Entity>>, AllocError>
@@ -123,7 +123,7 @@ impl<'a> View<'a> {
     // What a base itself declares a name as, or else its bases, which are entered next.
     fn enter(
         self,
-        log: &mut Log<Env>,
+        log: &mut Journal<Env>,
         name: &Spelling,
         base: &Path,
     ) -> Result<(Option<&'a Shared<Entity>>, &'a [Path]), AllocError>
@@ -143,7 +143,7 @@ impl<'a> View<'a> {
     /// What is reached under a name through bases.
     pub fn reached(
         self,
-        log: &mut Log<Env>,
+        log: &mut Journal<Env>,
         name: &Spelling,
         bases: &[Path],
     ) -> Result<Vec<&'a Shared<Entity>>, AllocError>
@@ -173,7 +173,7 @@ impl<'a> View<'a> {
     /// What a scope has under a name.
     pub fn has(
         self,
-        log: &mut Log<Env>,
+        log: &mut Journal<Env>,
         place: Place<'_>,
         name: &Spelling,
     ) -> Result<Vec<&'a Shared<Entity>>, AllocError>
@@ -202,7 +202,7 @@ impl<'a> View<'a> {
     /// What the innermost of these scopes has that has the name.
     pub fn outward(
         self,
-        log: &mut Log<Env>,
+        log: &mut Journal<Env>,
         scopes: &[Scope],
         name: &Spelling,
     ) -> Result<Vec<&'a Shared<Entity>>, AllocError>

@@ -20,7 +20,7 @@ use crate::lookup::{Place, View};
 use crate::name::folded_name;
 use crate::shared::Shared;
 use idl_base::Text;
-use idl_memo::Log;
+use idl_memo::Journal;
 use idl_tree::ScopedName;
 use std::alloc::AllocError;
 
@@ -40,7 +40,7 @@ pub struct Standpoint<'a> {
 /// cuts a walk short: what is given and logged is the same under each.
 pub fn resolve(
     env: &Env,
-    log: &mut Log<Env>,
+    log: &mut Journal<Env>,
     place: Standpoint<'_>,
     name: &ScopedName,
 ) -> Result<Found, NameFault>
@@ -68,7 +68,7 @@ impl<'a> View<'a> {
     // What a scoped name denotes, and how far its use introduces it.
     fn denoted(
         self,
-        log: &mut Log<Env>,
+        log: &mut Journal<Env>,
         cursor: &[Scope],
         name: &ScopedName,
     ) -> Result<Result<Found, NameFault>, AllocError>
@@ -96,7 +96,7 @@ impl<'a> View<'a> {
     // What the first part of a name denotes.
     fn first_part(
         self,
-        log: &mut Log<Env>,
+        log: &mut Journal<Env>,
         cursor: &[Scope],
         name: &ScopedName,
     ) -> Result<Result<&'a Shared<Entity>, NameFault>, AllocError>
@@ -115,7 +115,7 @@ impl<'a> View<'a> {
     // What there is under the first part of a name.
     fn first_found(
         self,
-        log: &mut Log<Env>,
+        log: &mut Journal<Env>,
         cursor: &[Scope],
         name: &ScopedName,
     ) -> Result<Vec<&'a Shared<Entity>>, AllocError>
@@ -137,7 +137,7 @@ impl<'a> View<'a> {
     // What the part with a number denotes in the entity before it.
     fn next_part(
         self,
-        log: &mut Log<Env>,
+        log: &mut Journal<Env>,
         before: &Entity,
         part: usize,
         name: &Text,
@@ -161,7 +161,7 @@ impl<'a> View<'a> {
     // What the parts behind the first denote.
     fn further(
         self,
-        log: &mut Log<Env>,
+        log: &mut Journal<Env>,
         first: &'a Shared<Entity>,
         names: &[Text],
     ) -> Result<Result<&'a Shared<Entity>, NameFault>, AllocError>

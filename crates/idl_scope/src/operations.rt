@@ -1,9 +1,11 @@
 //! The operations and attributes of interfaces: those so far of the open scopes, and those that an interface has once it
 //! is closed.
 
-ghost use Rattle.std.specs.Prelude.{◌≡◌, ◌∷◌, ◌++◌, [], IfOk, OnOk, drop, reverse};
-ghost use Rattle.idl_scope.specs.Facts.{entity_in, entity_key, inherited, innermost, joined, more_inside, operations_among, operations_of};
+ghost use Rattle.std.specs.Prelude.{◌≡◌, ◌∷◌, ◌++◌, ℕ, List, [], IfOk, OnOk, drop, reverse};
+ghost use Rattle.idl_scope.specs.Facts.{entity_in, entity_key, gathered, inherited, innermost, joined, more_inside, operations_among, operations_of};
 ghost use Rattle.idl_scope.specs.Key.{key_eq};
+ghost use Rattle.idl_scope.specs.Path.{path_eq};
+ghost use Rattle.std.specs.List.{list_any};
 ghost use Rattle.std.specs.Map.{keys_of, lookup};
 
 use crate::addition::Addition;
@@ -17,50 +19,98 @@ use idl_base::Table;
 use idl_map::{Map, SharedList};
 use std::alloc::{AllocError, Global};
 
-/// The operations and attributes of the bases in their order, none twice.
+/// What an interface with these bases inherits: the list of the first base, shared with it, and behind it those of the
+/// others that are not yet there.
 pub fn inherited(
     alloc: Global,
     answers: &Map<DigestedKey, Answer>,
     bases: &[Path],
-) -> Result<Vec<Path>, AllocError>
+) -> Result<SharedList<Path>, AllocError>
     ensures { IfOk result (λ paths.
-        paths.items ≡ inherited (λ k. lookup (key_eq k) answers.now) [] bases.now) }
+        paths ≡ inherited (λ k. lookup (key_eq k) answers.now) bases.now) }
 {
-    let mut found = Table::new(alloc);
-    for base in bases {
-        join(&mut found, operations_at(alloc, answers, base)?)?;
+    match bases {
+        [] => Ok(SharedList::new()),
+        [base] => operations_at(alloc, answers, base),
+        [base, others @ ..] => {
+            let found = operations_at(alloc, answers, base)?;
+            gathered(alloc, answers, found, others)
+        }
     }
-    listed(alloc, &found)
+}
+
+// These operations and attributes, and those of bases that are not yet there.
+fn gathered(
+    alloc: Global,
+    answers: &Map<DigestedKey, Answer>,
+    found: SharedList<Path>,
+    bases: &[Path],
+) -> Result<SharedList<Path>, AllocError>
+    ensures { IfOk result (λ paths.
+        paths ≡ gathered (λ k. lookup (key_eq k) answers.now) found bases.now) }
+{
+    let mut found = found;
+    let mut there = Table::new(alloc);
+    join(&mut there, found.to_vec(alloc)?.as_slice())?;
+    for base in bases {
+        let paths = operations_at(alloc, answers, base)?.to_vec(alloc)?;
+        join_new(alloc, &mut found, &mut there, paths.as_slice())?;
+    }
+    Ok(found)
 }
 
 // The operations and attributes of the closed interface at a path.
-fn operations_at<'a>(
+fn operations_at(
     alloc: Global,
-    answers: &'a Map<DigestedKey, Answer>,
+    answers: &Map<DigestedKey, Answer>,
     path: &Path,
-) -> Result<&'a [Path], AllocError>
+) -> Result<SharedList<Path>, AllocError>
     ensures { IfOk result (λ paths.
-        paths.now ≡ operations_of (entity_in (lookup (key_eq (entity_key path.now)) answers.now))) }
+        paths ≡ operations_of (entity_in (lookup (key_eq (entity_key path.now)) answers.now))) }
 {
     let key = Key::of_entity(alloc, path)?;
     match entity_in(answers.get(&key)) {
-        Some(entity) => Ok(entity.get().operations.as_slice()),
-        None => Ok(&[]),
+        Some(entity) => entity.get().operations.clone(),
+        None => Ok(SharedList::new()),
     }
 }
 
-// The paths of a queue in order.
-fn listed(alloc: Global, found: &Table<Path, ()>) -> Result<Vec<Path>, AllocError>
-    ensures { IfOk result (λ paths. paths.items ≡ keys_of found.now) }
+// Puts those of the paths last that are not yet there, where the paths that are there are these.
+fn join_new(
+    alloc: Global,
+    found: &mut SharedList<Path>,
+    there: &mut Table<Path, ()>,
+    paths: &[Path],
+) -> Result<(), AllocError>
+    requires { (p : List (List ℕ)) → list_any (path_eq p) (keys_of there.old) ≡ list_any (path_eq p) found.old }
+    ensures joined { OnOk result (found.new ≡ joined found.old paths.now) }
+    ensures there { OnOk result
+        ((p : List (List ℕ)) → list_any (path_eq p) (keys_of there.new) ≡ list_any (path_eq p) found.new) }
 {
-    let mut paths = Vec::new(alloc);
-    for index in 0..found.len() {
-        let Some((path, ())) = found.get_index(index) else {
-            continue;
-        };
-        paths.push(path.clone()?)?;
+    for path in paths {
+        join_one_new(alloc, found, there, path)?;
     }
-    Ok(paths)
+    Ok(())
+}
+
+// Puts the path last, unless it is there.
+fn join_one_new(
+    alloc: Global,
+    found: &mut SharedList<Path>,
+    there: &mut Table<Path, ()>,
+    path: &Path,
+) -> Result<(), AllocError>
+    requires { (p : List (List ℕ)) → list_any (path_eq p) (keys_of there.old) ≡ list_any (path_eq p) found.old }
+    ensures joined { OnOk result (found.new ≡ joined found.old (path.now ∷ [])) }
+    ensures there { OnOk result
+        ((p : List (List ℕ)) → list_any (path_eq p) (keys_of there.new) ≡ list_any (path_eq p) found.new) }
+{
+    if there.contains(path) {
+        return Ok(());
+    }
+    there.push(path.clone()?, ())?;
+    found.push(alloc, path.clone()?)?;
+    Ok(())
 }
 
 /// The innermost ones.
@@ -74,16 +124,6 @@ pub fn innermost(
         Some((_outer, own)) => own.to_vec(alloc),
         None => Ok(Vec::new(alloc)),
     }
-}
-
-/// These paths, and copies of the others.
-pub fn append(paths: &mut Vec<Path>, others: &[Path]) -> Result<(), AllocError>
-    ensures { OnOk result (paths.new.items ≡ paths.old.items ++ others.now) }
-{
-    for path in others {
-        paths.push(path.clone()?)?;
-    }
-    Ok(())
 }
 
 /// The paths of the operations and attributes among what is declared.
@@ -136,8 +176,8 @@ pub fn add_inside(
     Ok(())
 }
 
-// Puts copies of the paths last.
-fn put_last(alloc: Global, own: &mut SharedList<Path>, paths: &[Path]) -> Result<(), AllocError>
+/// Puts copies of the paths last.
+pub fn put_last(alloc: Global, own: &mut SharedList<Path>, paths: &[Path]) -> Result<(), AllocError>
     ensures { OnOk result (own.new ≡ own.old ++ paths.now) }
 {
     for path in paths {

@@ -22,7 +22,7 @@ use crate::identity::Prefix;
 use crate::key::Key;
 use crate::kind::{Kind, Stage};
 use crate::name::shared_name;
-use crate::operations::{add_inside, append, inherited, innermost, leave, operations_among};
+use crate::operations::{add_inside, inherited, innermost, leave, operations_among, put_last};
 use crate::path::Path;
 use crate::shared::{Shared, copied};
 use idl_base::Seq;
@@ -254,15 +254,15 @@ impl State {
     }
 
     // The operations and attributes of an interface that closes: the inherited ones and then its own.
-    fn operations(&self, alloc: Global, interface: &Entity) -> Result<Vec<Path>, AllocError>
+    fn operations(&self, alloc: Global, interface: &Entity) -> Result<SharedList<Path>, AllocError>
         ensures { IfOk result (λ paths.
-            paths.items
-            ≡ inherited (λ k. lookup (key_eq k) self.now.answers) [] interface.now.bases
+            paths
+            ≡ inherited (λ k. lookup (key_eq k) self.now.answers) interface.now.bases
             ++ innermost (reverse self.now.inside)) }
     {
         let mut paths = inherited(alloc, &self.answers, interface.bases.as_slice())?;
         let own = innermost(alloc, &self.inside)?;
-        append(&mut paths, own.as_slice())?;
+        put_last(alloc, &mut paths, own.as_slice())?;
         Ok(paths)
     }
 }
@@ -314,9 +314,9 @@ fn taken_last(
 }
 
 // An interface as it is once it is closed, with these operations and attributes.
-fn closed(interface: &Entity, operations: Vec<Path>) -> Result<Entity, AllocError>
+fn closed(interface: &Entity, operations: SharedList<Path>) -> Result<Entity, AllocError>
     ensures { IfOk result (λ entity.
-        entity ≡ record interface.now { stage = stages.Complete; operations = operations.items }) }
+        entity ≡ record interface.now { stage = stages.Complete; operations = operations }) }
 {
     let path = interface.path.clone()?;
     let bases = interface.bases.clone()?;
@@ -332,7 +332,7 @@ fn closed(interface: &Entity, operations: Vec<Path>) -> Result<Entity, AllocErro
         is_oneway: interface.is_oneway,
         stage: Stage::Complete,
         bases,
-        operations: Seq::from_vec(operations),
+        operations,
         data_type,
         value,
         enumerators,

@@ -5,6 +5,7 @@ mod data;
 mod devices;
 mod expansions;
 mod files;
+mod journals;
 mod kinds;
 mod limits;
 mod memory;

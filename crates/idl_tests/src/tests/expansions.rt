@@ -10,9 +10,9 @@ use idl_source::Name;
 use std::alloc::{AllocError, Global};
 use std::test::Fail;
 
-// Files and macros.
+/// Files and macros.
 #[derive(Drop)]
-struct Answers {
+pub struct Answers {
     entries: Table<Key, Answer>,
 }
 
@@ -55,8 +55,8 @@ fn expanded(alloc: Global, name: Name, text: &str) -> Result<Expansion, AllocErr
     RootTask::new(name).run(alloc, &bank, &mut log)
 }
 
-// The one file of this name and text.
-fn answers_of(alloc: Global, name: &Name, text: &str) -> Result<Answers, AllocError> {
+/// The one file of this name and text.
+pub fn answers_of(alloc: Global, name: &Name, text: &str) -> Result<Answers, AllocError> {
     let file = LexedFile::new(alloc, file_of(alloc, text)?, None)?;
     let mut entries = Table::new(alloc);
     entries.insert(Key::File(FileName::new(alloc, name)?), Answer::File(file))?;

@@ -1,17 +1,18 @@
-use Rattle.std.proofs.Common.{sym, ap, ◌∙◌, ◌+◌, drop}
-use Rattle.std.specs.Map.{keys_of}
-use Rattle.idl_scope.specs.Facts.{inherited, joined}
-use Rattle.idl_scope.proofs.PlaceLemmas.{from_here}
+use Rattle.std.proofs.Common.{◌≡◌, sym, ap, ◌∙◌, List, ℕ, drop, subst, arith}
+use Rattle.std.specs.Prelude.{IfOk}
+use Rattle.idl_scope.specs.Facts.{gathered, inherited}
+use Rattle.idl_scope.proofs.PlaceLemmas.{behind_first, from_here}
 use Rattle.idl_scope.proofs.StateLemmas.{kept}
 use Rattle.idl_scope.proofs.operations.inherited.Goals as goal
 
-pub loop-base-preserved : goal.loop-base-preserved
-loop-base-preserved c =
+pub returns-in_ok-found-in-len1-up : goal.returns-in_ok-found-in-len1-up
+returns-in_ok-found-in-len1-up c =
     let entries = c.args.answers.now in
     let bases = c.args.bases.now in
-    let at = c.loop-base.base-index in
-    let found = keys_of c.loop-base.found in
-    let here = from_here bases at c.base-item.result c.loop-base-test.true c.base-item.is in
-    ap (λ l. inherited (kept entries) l (drop (at + 1) bases)) (c.in_ok-join.ensures ∙ ap (joined found) c.in_ok-operations_at.ensures)
-    ∙ ap (inherited (kept entries) found) (sym here)
-    ∙ c.loop-base.invariant
+    let found = c.in_ok-found-in-len1-up.found in
+    let here = from_here bases 0 c.base-item-2.result (omega arith) c.base-item-2.is in
+    let same =
+    ap (gathered (kept entries) found) (behind_first bases)
+    ∙ ap (λ l. gathered (kept entries) l (drop 1 bases)) c.in_ok-found-in-len1-up.ensures
+    ∙ sym (ap (inherited (kept entries)) here) in
+    subst (λ (l : List (List (List ℕ))). IfOk c.gathered.result (λ paths. paths ≡ l)) same c.gathered.ensures

@@ -1,0 +1,29 @@
+//! What no clause says of journals: which of them has a log to give back.
+
+use super::expansions::{Answers, answers_of};
+use idl_event::{FileName, Key};
+use idl_memo::{Journal, Log};
+use idl_source::Name;
+use std::test::Fail;
+
+// One that took a log gives it back, with what was asked; one of which contracts alone are told has none.
+#[test]
+fn a_journal_gives_back_the_log_that_it_took(rt: HostRuntime) -> Result<(), Fail> {
+    let alloc = rt.alloc();
+    let Some(name) = Name::new(b"a.idl") else {
+        return Ok(());
+    };
+    let bank = answers_of(alloc, &name, "x")?;
+    let key = Key::File(FileName::new(alloc, &name)?);
+    let mut log = Log::new(alloc);
+    for _round in 0..2 {
+        let mut journal = Journal::taking(alloc, &mut log);
+        journal.ask(&key, &bank)?;
+        journal.give_back(&mut log)?;
+        assert_eq!(rt; log.len(), 1);
+    }
+    let told: Journal<Answers> = Journal::told();
+    assert!(rt; told.give_back(&mut log).is_err());
+    assert_eq!(rt; log.len(), 1);
+    Ok(())
+}
