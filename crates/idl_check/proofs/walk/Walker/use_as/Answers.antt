@@ -25,7 +25,7 @@ returns-clause-visit c =
     let before = c.note.new.self in
     let last = last_at old.at name in
     let table = used_table way old.bases e behind in
-    let code = c.in_ok-code.ensures behind c.in_ok-constants.ensures ∙ (λ i. first (codes_in (used_table way old.bases (c.get-entity.ensures i) behind))) in
+    let code = c.in_ok-code.ensures.code behind c.in_ok-constants.ensures ∙ (λ i. first (codes_in (used_table way old.bases (c.get-entity.ensures i) behind))) in
     let fault = (λ i. noted old.fault (map (fault_at (c.last_at-last.ensures i)) (option_to_list c.in_ok-code.code)))
     ∙ noted-by old.fault last table c.in_ok-code.code (used-up way old.bases e behind) code in
     let after : Walker → ℕ → List Addition → List (List (List ℕ)) → Clauses → Entity → Walk = λ w at own found clauses f. record (held w) {
@@ -47,4 +47,6 @@ returns-clause-visit c =
     (with_raised way (c.get-entity.ensures i).path before.clauses) e)
     ∙ (λ i. after (c.note.ensures i) last (with_uses (folded name.first) (take reach (c.note.ensures i).cursor.items) (c.note.ensures i).own.additions) ((c.note.ensures i).found.items ++ e.path ∷ [])
     (with_raised way e.path (c.note.ensures i).clauses) e)
+    ∙ (λ i. record (after (record old { bases = c.in_ok-code.ensures.same i }) last (with_uses (folded name.first) (take reach old.cursor.items) old.own.additions) (old.found.items ++ e.path ∷ []) (with_raised way e.path old.clauses) e)
+    { fault = noted old.fault (map (fault_at c.last_at-last.result) (option_to_list c.in_ok-code.code)) })
     ∙ (λ i. record (after old last (with_uses (folded name.first) (take reach old.cursor.items) old.own.additions) (old.found.items ++ e.path ∷ []) (with_raised way e.path old.clauses) e) { fault = fault i })
