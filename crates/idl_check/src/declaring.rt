@@ -354,26 +354,15 @@ fn differs(old: &Entity, new: &Entity) -> bool
 }
 
 // Whether the name is the scope's own.
-fn is_name_of_scope(alloc: Global, scope: &Scope, new: &Entity) -> Result<bool, AllocError>
-    ensures { IfOk result (λ b. b ≡ is_name_of_scope scope.now new.now) }
+fn is_name_of_scope(scope: &Scope, new: &Entity) -> bool
+    ensures { result ≡ is_name_of_scope scope.now new.now }
 {
-    if !scope.kind.is_scope() {
-        return Ok(false);
-    }
-    let own = scope.path.folded(alloc)?;
-    let name = new.path.folded(alloc)?;
-    Ok(own == name)
+    scope.kind.is_scope() && scope.path.name().eq_ignore_ascii_case(new.path.name())
 }
 
 /// The code of the least fault of a declared name.
-pub fn declared_code(
-    alloc: Global,
-    scope: &Scope,
-    standing: &Standing,
-    new: &Entity,
-) -> Result<Option<Code>, AllocError>
-    ensures { IfOk result (λ code.
-        code ≡ first (codes_in (declared_table scope.now standing.now new.now))) }
+pub fn declared_code(scope: &Scope, standing: &Standing, new: &Entity) -> Option<Code>
+    ensures { result ≡ first (codes_in (declared_table scope.now standing.now new.now)) }
 {
     let (is_taken, is_other) = match &standing.there {
         Some(old) => {
@@ -382,15 +371,15 @@ pub fn declared_code(
         }
         None => (false, false),
     };
-    let is_own = is_name_of_scope(alloc, scope, new)?;
-    Ok(first_code(&[
+    let is_own = is_name_of_scope(scope, new);
+    first_code(&[
         (is_taken, Code::AlreadyDeclared),
         (is_own, Code::NameOfScope),
         (standing.is_used, Code::DeclaredAfterUse),
         (is_other, Code::OtherForward),
         (standing.is_inherited, Code::InheritedTwice),
         (is_of_other_prefix(&standing.ids), Code::OtherPrefix),
-    ]))
+    ])
 }
 
 /// Whether what is there already stays as it is.

@@ -13,6 +13,7 @@ use idl_memo::Journal;
 use idl_scope::{Entity, Env, Fixed, Identity, Kind, Path, Prefix, Shared, View, shared_name};
 use itoa::Buffer;
 use std::alloc::{AllocError, Global};
+use std::rc::RcSlice;
 
 /// What a declared name that has an id is told of ids.
 pub struct Ids {
@@ -112,21 +113,43 @@ pub fn first_identity(
 ) -> Result<Shared<Identity>, AllocError>
     ensures { IfOk result (λ d. d ≡ first_identity prefix.now path.now) }
 {
-    let mut id = Vec::with_capacity(alloc, 64)?;
-    id.extend_from_slice(b"IDL:")?;
-    push_prefix(&mut id, prefix.text.as_bytes())?;
     let names = path.names(alloc)?;
     let scope = prefix.scope.names(alloc)?;
-    push_slashed(&mut id, relative(names.as_slice(), scope.as_slice()))?;
+    let parts = relative(names.as_slice(), scope.as_slice());
+    let mut id = Vec::with_capacity(alloc, room_of(prefix.text.as_bytes(), parts))?;
+    id.extend_from_slice(b"IDL:")?;
+    push_prefix(&mut id, prefix.text.as_bytes())?;
+    push_slashed(&mut id, parts)?;
     id.extend_from_slice(b":1.0")?;
     Shared::new(
         alloc,
         Identity {
-            id: shared_name(alloc, id.as_slice())?,
+            id: shared_id(id)?,
             prefix: prefix.text.clone()?,
             fixed: Fixed::Nothing,
         },
     )
+}
+
+// How many bytes an id takes that is told with this prefix and these parts of a path.
+fn room_of(prefix: &[u8], path: &[Spelling]) -> usize {
+    let mut room = 7_usize;
+    if !prefix.is_empty() {
+        room = room.saturating_add(prefix.len()).saturating_add(1);
+    }
+    for name in path {
+        room = room.saturating_add(name.as_bytes().len()).saturating_add(1);
+    }
+    room
+}
+
+// An id, from now on shared. It takes no copy.
+fn shared_id(id: Vec<u8>) -> Result<Spelling, AllocError>
+    ensures { IfOk result (λ shared. shared ≡ id.items) }
+{
+    let length = id.len();
+    let bytes = RcSlice::from_vec(id)?;
+    Ok(Spelling::new(bytes, 0, length))
 }
 
 // A prefix with the `/` behind it.

@@ -142,7 +142,8 @@ impl<'a> Judge<'a> {
         if is_misplaced(tree, self.scopes) {
             return self.misplaced(log, sites.as_slice());
         }
-        let mut walker = Walker::new(self.env, self.scopes)?;
+        let cursor = self.cursor()?;
+        let mut walker = Walker::new(self.env, self.tokens, cursor);
         walker.walk(log, sites.as_slice())?;
         let unit = Spelled {
             tree,
@@ -150,8 +151,15 @@ impl<'a> Judge<'a> {
         };
         match walker.fault {
             Some(fault) => self.refused(log, fault),
-            None => self.sound(log, unit, walker),
+            None => self.sound(log, unit, &mut walker),
         }
+    }
+
+    // The scopes, which a walk changes.
+    fn cursor(self) -> Result<Vec<Scope>, AllocError>
+        ensures { IfOk result (λ cursor. cursor.items ≡ self.entry.scopes.now) }
+    {
+        Vec::from_clones(self.env.alloc(), self.scopes)
     }
 
     // The verdict of a unit that its scope doesn't hold.
@@ -191,7 +199,7 @@ impl<'a> Judge<'a> {
         self,
         log: &mut Journal<Env>,
         unit: Spelled<'_>,
-        walker: Walker<'_>,
+        walker: &mut Walker<'_>,
     ) -> Result<Verdict, AllocError>
         requires sites { map item_at unit.sites.now ≡ items (unit_parts unit.tree.now) }
         requires room { items_length (map item_at unit.sites.now) ≤ 18446744073709551615 }
@@ -200,7 +208,7 @@ impl<'a> Judge<'a> {
             ≡ run key_eq
             (asking (step_of unit.entry.tree.now (path_around self.entry.scopes.now))
             (sound self.entry.tokens.now self.entry.scopes.now unit.entry.tree.now
-            (held walker.entry)))
+            (held walker.old)))
             (answers self.entry.env.now) log.old) }
     {
         let alloc = self.env.alloc();
@@ -214,7 +222,7 @@ impl<'a> Judge<'a> {
         let around = path_around(self.scopes)?;
         let step = step_of(alloc, &walker.own, unit.tree, &around)?;
         self.ask_step(log, &step)?;
-        let facts = walker.into_facts(step)?;
+        let facts = walker.take_facts(step)?;
         let writes = Shared::new(alloc, facts)?;
         Ok(Verdict {
             fault: None,

@@ -28,6 +28,7 @@ use crate::using::{Denoted, Denoting, introduce, last_at, name_code, part_at, us
 use crate::walk::Walker;
 use idl_base::{Seq, Text};
 use idl_event::Code;
+use idl_lex::Spelling;
 use idl_memo::Journal;
 use idl_scope::{
     Addition, Entity, Env, Facts, Found, Kind, NameCode, NameFault, Scope, Shared, Stage,
@@ -62,11 +63,21 @@ impl<'a> Walker<'a> {
             return Ok(());
         };
         let scope = innermost.clone()?;
-        let spelled = shared_name(alloc, name.as_bytes())?;
+        let spelled = self.spelled(name.as_bytes())?;
         let entity = self.written.entity(alloc, way, &spelled, &scope.path)?;
         let standing = standing_of(self.view(), log, &scope, entity.get())?;
         self.declare_as(way, &scope, entity, &standing)?;
         Ok(())
+    }
+
+    // A declared name, shared with the next token where that is spelled so.
+    fn spelled(&self, name: &[u8]) -> Result<Spelling, AllocError>
+        ensures { IfOk result (λ shared. shared ≡ name.now) }
+    {
+        match self.tokens.get(self.at) {
+            Some(token) if token.as_bytes() == name => token.spelling().clone(),
+            _ => shared_name(self.env.alloc(), name),
+        }
     }
 
     // A declared name, by what stands under it in its scope.
@@ -84,7 +95,7 @@ impl<'a> Walker<'a> {
             self.old.fault) }
         ensures env { OnOk result (self.new.env.now ≡ self.old.env.now) }
     {
-        let code = declared_code(self.env.alloc(), scope, standing, entity.get())?;
+        let code = declared_code(scope, standing, entity.get());
         self.note(self.at, code);
         self.at += 1;
         keep_begun(&mut self.begun, &entity)?;

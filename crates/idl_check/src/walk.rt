@@ -23,16 +23,20 @@ use crate::labels::Labels;
 use crate::values::Values;
 use idl_base::{Seq, Text};
 use idl_event::Code;
+use idl_lex::Token;
 use idl_memo::Journal;
 use idl_scope::{Addition, Entity, Env, Facts, Kind, Path, Scope, Shared, Step, View};
 use idl_site::{Declaration, Site};
 use idl_tree::Several;
 use idl_unit::Fault;
 use std::alloc::{AllocError, Global};
+use std::mem::replace;
 
 /// How far a walk has come.
 pub struct Walker<'a> {
     pub env: &'a Env,
+    /// The unit.
+    pub tokens: &'a [Token],
     /// The number of the next token.
     pub at: usize,
     /// The scopes around it, the innermost first.
@@ -64,6 +68,7 @@ impl<'a> Drop for Walker<'a> {
     fn drop(self) {
         let Walker {
             env: _env,
+            tokens: _tokens,
             at: _at,
             cursor: _cursor,
             own: _own,
@@ -83,15 +88,15 @@ impl<'a> Drop for Walker<'a> {
 }
 
 impl<'a> Walker<'a> {
-    /// Before the first site, in these scopes.
-    pub fn new(env: &'a Env, scopes: &[Scope]) -> Result<Walker<'a>, AllocError>
-        ensures walk { IfOk result (λ w. held w ≡ first_walk scopes.now) }
-        ensures env { IfOk result (λ w. w.env.now ≡ env.now) }
+    /// Before the first site of a unit, in these scopes.
+    pub fn new(env: &'a Env, tokens: &'a [Token], cursor: Vec<Scope>) -> Walker<'a>
+        ensures walk { held result ≡ first_walk cursor.items }
+        ensures env { result.env.now ≡ env.now }
     {
         let alloc = env.alloc();
-        let cursor = Vec::from_clones(alloc, scopes)?;
-        Ok(Walker {
+        Walker {
             env,
+            tokens,
             at: 0,
             cursor,
             own: Facts::new(alloc),
@@ -106,7 +111,7 @@ impl<'a> Walker<'a> {
             found: Vec::new(alloc),
             values: Values::new(alloc),
             fault: None,
-        })
+        }
     }
 
     /// Walks over sites.
@@ -307,51 +312,33 @@ impl<'a> Walker<'a> {
         Ok(())
     }
 
-    /// What a unit without fault adds, where it does this to the open scopes.
-    pub fn into_facts(self, step: Step) -> Result<Facts, AllocError>
+    /// What a unit without fault adds, where it does this to the open scopes. It is taken out.
+    pub fn take_facts(&mut self, step: Step) -> Result<Facts, AllocError>
         ensures { IfOk result (λ facts.
             facts
             ≡ record {
               additions =
                   with_finished
-                  (finished self.entry.bases.paths self.entry.values.constant
-                  self.entry.clauses)
-                  self.entry.own.additions
-                  (self.entry.begun.items ++ raising self.entry.last self.entry.clauses);
+                  (finished self.old.bases.paths self.old.values.constant self.old.clauses)
+                  self.old.own.additions
+                  (self.old.begun.items ++ raising self.old.last self.old.clauses);
               step = step;
             }) }
     {
         let alloc = self.env.alloc();
-        let Walker {
-            env: _env,
-            at: _at,
-            cursor: _cursor,
-            mut own,
-            mut begun,
-            bases,
-            written: _written,
-            last,
-            bodies: _bodies,
-            clauses,
-            unions: _unions,
-            gives_back: _gives_back,
-            found: _found,
-            values,
-            fault: _fault,
-        } = self;
-        clauses.add_raising(&mut begun, &last)?;
-        if begun.is_empty() {
-            own.then(step);
+        let mut own = replace(&mut self.own, Facts::new(alloc));
+        own.then(step);
+        self.clauses.add_raising(&mut self.begun, &self.last)?;
+        if self.begun.is_empty() {
             return Ok(own);
         }
-        let paths = bases.paths(alloc)?;
+        let paths = self.bases.paths(alloc)?;
         let ending = Ending {
             bases: &paths,
-            value: &values.constant,
-            clauses: &clauses,
+            value: &self.values.constant,
+            clauses: &self.clauses,
         };
-        finish(alloc, &mut own, ending, begun.as_slice())?;
-        own.then(step);
+        finish(alloc, &mut own, ending, self.begun.as_slice())?;
         Ok(own)
     }
 }

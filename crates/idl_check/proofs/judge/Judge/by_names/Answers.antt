@@ -3,7 +3,7 @@ use Rattle.std.proofs.lemmas.Result.{IfOk-weaker}
 use Rattle.idl_check.proofs.JudgeLemmas.{is_misplaced_by, judged_by, judged_faulty, judged_sound, sites-length}
 use Rattle.idl_check.proofs.VisitLemmas.{runs_over}
 use Rattle.idl_check.specs.Held.{held}
-use Rattle.idl_check.specs.Walk.{walk}
+use Rattle.idl_check.specs.Walk.{first_walk, walk}
 use Rattle.idl_scope.specs.Facts.{answers}
 use Rattle.idl_site.specs.Item.{item_at, items_length}
 use Rattle.idl_check.proofs.judge.Judge.by_names.Goals as goal
@@ -24,7 +24,7 @@ pub walk-requires : goal.walk-requires
 walk-requires c =
     let sites = ap (map item_at) c.as_slice-2.ensures.value ∙ c.in_ok-sites.ensures in
     let all = ap items_length sites ∙ sites-length c.args.self.tokens.now c.args.tree.now c.requires in
-    let at = ap (λ w. w.at) c.in_ok-walker.ensures.walk in
+    let at = ap (λ w. w.at) c.new-walker.ensures.walk in
     omega (arith, all, at)
 
 pub sound-requires : goal.sound-requires
@@ -43,10 +43,11 @@ returns-in-Some c =
     let after = c.walk.new.log in
     let sites = ap (map item_at) c.as_slice-2.ensures.value ∙ c.in_ok-sites.ensures in
     let placed = sym c.is_misplaced.ensures ∙ c.if-is_misplaced.false in
+    let begins = c.new-walker.ensures.walk ∙ ap first_walk c.in_ok-cursor.ensures in
     IfOk-weaker c.refused.result _ _
     (λ v given turns more.
     let gives = c.in_ok-walk.ensures.walked turns more
-    ∙ (λ i. runs_over (answers (c.in_ok-walker.ensures.env i)) (walk turns (sites i) (c.in_ok-walker.ensures.walk i)) c.args.log.now) in
+    ∙ (λ i. runs_over (answers (c.new-walker.ensures.env i)) (walk turns (sites i) (begins i)) c.args.log.now) in
     given ∙ ap (λ q. runs_over bank q after) (sym (judged_faulty bank turns tokens scopes tree w c.in-Some.fault c.in-Some.is))
     ∙ sym (judged_by bank turns tokens scopes tree c.args.log.now w after placed gives))
     c.refused.ensures
@@ -61,10 +62,11 @@ returns c =
     let after = c.walk.new.log in
     let sites = ap (map item_at) c.as_slice-2.ensures.value ∙ c.in_ok-sites.ensures in
     let placed = sym c.is_misplaced.ensures ∙ c.if-is_misplaced.false in
+    let begins = c.new-walker.ensures.walk ∙ ap first_walk c.in_ok-cursor.ensures in
     IfOk-weaker c.sound.result _ _
     (λ v given turns more.
     let gives = c.in_ok-walk.ensures.walked turns more
-    ∙ (λ i. runs_over (answers (c.in_ok-walker.ensures.env i)) (walk turns (sites i) (c.in_ok-walker.ensures.walk i)) c.args.log.now) in
+    ∙ (λ i. runs_over (answers (c.new-walker.ensures.env i)) (walk turns (sites i) (begins i)) c.args.log.now) in
     given ∙ ap (λ q. runs_over bank q after) (sym (judged_sound bank turns tokens scopes tree w c.in-None.is))
     ∙ sym (judged_by bank turns tokens scopes tree c.args.log.now w after placed gives))
     c.sound.ensures
