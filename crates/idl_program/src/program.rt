@@ -14,6 +14,7 @@ use crate::request::{Options, Request, request_of};
 use idl_session::{Session, Sink, Source, WriteFailed, run, write_all};
 use idl_source::Name;
 use std::alloc::Global;
+use std::mem::forget;
 
 /// What the program reads and writes.
 #[derive(Drop)]
@@ -102,6 +103,8 @@ fn fulfil<'a, L: Loader, S: Source, O: Sink, E: Sink>(
         Request::Serve => {
             let mut session = Session::new(alloc);
             run(&mut session, &mut devices.source, &mut devices.output)?;
+            // The program ends here, and all memory goes back at once.
+            forget(session);
             Ok(Status::Sound)
         }
         Request::Compile(options) => compile(alloc, options, devices),
@@ -125,6 +128,8 @@ fn compile<'a, L: Loader, S: Source, O: Sink, E: Sink>(
     let (mut session, roots) = prepared(alloc, options)?;
     load_all(&mut session, &roots, &mut devices.loader)?;
     let status = show_all(&session, &roots, options, devices)?;
+    // The program ends here, and all memory goes back at once.
+    forget(session);
     Ok(status)
 }
 
