@@ -10,7 +10,9 @@ ghost use Rattle.idl_scope.specs.Lookup.{under};
 
 use idl_lex::Spelling;
 use idl_memo::Journal;
-use idl_scope::{Entity, Env, Fixed, Identity, Kind, Path, Prefix, Shared, View, shared_name};
+use idl_scope::{
+    Entity, Env, Fixed, Identity, Kind, Names, Path, Prefix, Shared, View, shared_name,
+};
 use itoa::Buffer;
 use std::alloc::{AllocError, Global};
 use std::rc::RcSlice;
@@ -113,13 +115,10 @@ pub fn first_identity(
 ) -> Result<Shared<Identity>, AllocError>
     ensures { IfOk result (λ d. d ≡ first_identity prefix.now path.now) }
 {
-    let names = path.names(alloc)?;
-    let scope = prefix.scope.names(alloc)?;
-    let parts = relative(names.as_slice(), scope.as_slice());
-    let mut id = Vec::with_capacity(alloc, room_of(prefix.text.as_bytes(), parts))?;
+    let mut id = Vec::with_capacity(alloc, room_of(prefix.text.as_bytes(), path.lent()))?;
     id.extend_from_slice(b"IDL:")?;
     push_prefix(&mut id, prefix.text.as_bytes())?;
-    push_slashed(&mut id, parts)?;
+    push_slashed(&mut id, path.lent(), &prefix.scope)?;
     id.extend_from_slice(b":1.0")?;
     Shared::new(
         alloc,
@@ -132,13 +131,15 @@ pub fn first_identity(
 }
 
 // How many bytes an id takes that is told with this prefix and these parts of a path.
-fn room_of(prefix: &[u8], path: &[Spelling]) -> usize {
+fn room_of(prefix: &[u8], path: Names<'_>) -> usize {
     let mut room = 7_usize;
     if !prefix.is_empty() {
         room = room.saturating_add(prefix.len()).saturating_add(1);
     }
-    for name in path {
-        room = room.saturating_add(name.as_bytes().len()).saturating_add(1);
+    let mut rest = path;
+    while let Some((name, outer)) = rest.split_first() {
+        room = room.saturating_add(name.len()).saturating_add(1);
+        rest = outer;
     }
     room
 }
@@ -164,36 +165,19 @@ fn push_prefix(id: &mut Vec<u8>, text: &[u8]) -> Result<(), AllocError>
     Ok(())
 }
 
-// The parts of a path, the outermost first, with `/` between them.
-fn push_slashed(id: &mut Vec<u8>, path: &[Spelling]) -> Result<(), AllocError>
-    ensures { OnOk result (id.new.items ≡ id.old.items ++ slashed path.now) }
+// The parts of a path as it is told in a scope, the outermost first, with `/` between them.
+fn push_slashed(id: &mut Vec<u8>, path: Names<'_>, scope: &Path) -> Result<(), AllocError>
+    ensures { OnOk result (id.new.items ≡ id.old.items ++ slashed (relative path.entry scope.now)) }
 {
-    let [name, outer @ ..] = path else {
+    let Some((name, around)) = path.split_first() else {
         return Ok(());
     };
-    if !outer.is_empty() {
-        push_slashed(id, outer)?;
+    if !around.is_empty() && !around.are_of(scope) {
+        push_slashed(id, around, scope)?;
         id.push(b'/')?;
     }
-    id.extend_from_slice(name.as_bytes())?;
+    id.extend_from_slice(name)?;
     Ok(())
-}
-
-// A path as it is told in a scope: what is declared elsewhere has its whole path.
-fn relative<'a>(path: &'a [Spelling], scope: &[Spelling]) -> &'a [Spelling]
-    ensures { result.now ≡ relative path.now scope.now }
-{
-    let [_name, outer @ ..] = path else {
-        return path;
-    };
-    let Some(inner) = outer.len().checked_sub(scope.len()) else {
-        return path;
-    };
-    if &outer[inner..] == scope {
-        &path[..inner + 1]
-    } else {
-        path
-    }
 }
 
 /// It with another version in place of `1.0`.

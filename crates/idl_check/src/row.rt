@@ -10,8 +10,8 @@ ghost use Rattle.idl_site.specs.Item.{item_at, item_length, items_length};
 use crate::part::{behind, front};
 use crate::using::name_length;
 use idl_base::{Seq, Text};
-use idl_lex::{Spelling, Token, is_like_keyword};
-use idl_scope::{Path, Shared};
+use idl_lex::{Token, is_like_keyword};
+use idl_scope::{Names, Path, Shared};
 use idl_site::Site;
 use idl_tree::Several;
 use idl_value::{Value, push_value};
@@ -211,20 +211,19 @@ fn push_path(text: &mut Vec<u8>, path: &Path) -> Result<(), AllocError>
     ensures { OnOk result (text.new.items ≡ text.old.items ++ spaced (path_word path.now)) }
 {
     text.push(b' ')?;
-    let names = path.names(*text.allocator())?;
-    push_names(text, names.as_slice())
+    push_names(text, path.lent())
 }
 
-// The names of a path, from the last on.
-fn push_names(text: &mut Vec<u8>, names: &[Spelling]) -> Result<(), AllocError>
-    ensures { OnOk result (text.new.items ≡ text.old.items ++ path_word names.now) }
+// The names of a path, from the outermost on.
+fn push_names(text: &mut Vec<u8>, names: Names<'_>) -> Result<(), AllocError>
+    ensures { OnOk result (text.new.items ≡ text.old.items ++ path_word names.entry) }
 {
-    let count = names.len();
-    for back in 0..count {
-        text.extend_from_slice(b"::")?;
-        push_name(text, names[count - 1 - back].as_bytes())?;
-    }
-    Ok(())
+    let Some((name, outer)) = names.split_first() else {
+        return Ok(());
+    };
+    push_names(text, outer)?;
+    text.extend_from_slice(b"::")?;
+    push_name(text, name)
 }
 
 // String literals as one.

@@ -8,9 +8,8 @@ ghost use Rattle.idl_scope.specs.Facts.{answers};
 use crate::piece::{push_id, push_listed};
 use crate::type_code::{TypeCode, members_of, push_reference, push_type, push_typed, signature_of};
 use idl_base::Seq;
-use idl_lex::Spelling;
 use idl_memo::Journal;
-use idl_scope::{Entity, Env, Kind, Member, Path};
+use idl_scope::{Entity, Env, Kind, Member, Names, Path};
 use idl_value::Value;
 use std::alloc::AllocError;
 
@@ -27,8 +26,7 @@ pub fn push_row(
 {
     text.extend_from_slice(kind_word(entity.kind))?;
     text.extend_from_slice(b" ")?;
-    let names = entity.path.names(env.alloc())?;
-    push_path(text, names.as_slice())?;
+    push_path(text, entity.path.lent())?;
     text.extend_from_slice(b" ")?;
     push_id(text, env, log, &entity.path)?;
     push_behind_id(text, env, log, entity)?;
@@ -56,18 +54,17 @@ fn kind_word(kind: Kind) -> &'static [u8]
 }
 
 // The names of a path, the outermost first, with `::` between them.
-fn push_path(text: &mut Vec<u8>, names: &[Spelling]) -> Result<(), AllocError>
-    ensures { OnOk result
-        (text.new.items ≡ text.old.items ++ path_text names.now) }
+fn push_path(text: &mut Vec<u8>, names: Names<'_>) -> Result<(), AllocError>
+    ensures { OnOk result (text.new.items ≡ text.old.items ++ path_text names.entry) }
 {
-    let [name, outer @ ..] = names else {
+    let Some((name, outer)) = names.split_first() else {
         return Ok(());
     };
     if !outer.is_empty() {
         push_path(text, outer)?;
         text.extend_from_slice(b"::")?;
     }
-    text.extend_from_slice(name.as_bytes())?;
+    text.extend_from_slice(name)?;
     Ok(())
 }
 

@@ -46,7 +46,7 @@ pub use laws::{adding, denotation, found_in_a_scope, introduction, own_facts, ow
 pub use lookup::{Place, TURNS, View};
 pub use name::{folded_name, shared_name};
 pub use naming::{Standpoint, resolve};
-pub use path::Path;
+pub use path::{Names, Path};
 pub use shared::Shared;
 pub use signature::{Member, Signature};
 pub use unvalued::Unvalued;

@@ -1,6 +1,6 @@
 //! Paths: where an entity or a scope stands.
 
-ghost use Rattle.std.specs.Prelude.{◌≡◌, ◌∷◌, [], IfOk, IsFalse, IsTrue, List, Some, false, refl, ℕ};
+ghost use Rattle.std.specs.Prelude.{◌≡◌, ◌↔◌, ◌∷◌, [], IfOk, IfSome, IsFalse, IsTrue, List, None, Some, false, refl, ℕ};
 ghost use Rattle.std.specs.Cmp.{partial_equiv_from_equiv};
 ghost use Rattle.std.specs.Cmp.Lexicographic.{lists_agrees, lists_equiv, lists_per, lists_po, lists_ties, lists_total, nat_list_cmp_total, nat_list_eq_equiv, pointwise, slice_cmp, slice_partial_cmp, texts_po, texts_ties};
 ghost use Rattle.std.specs.Hash as fed;
@@ -155,6 +155,15 @@ impl Path {
         Ok(names)
     }
 
+    /// The names, the innermost first, lent: nothing is copied.
+    pub fn lent(&self) -> Names<'_>
+        ensures { result ≡ self.now }
+    {
+        Names {
+            innermost: &self.innermost,
+        }
+    }
+
     /// A number that paths are found by: those that are alike have one.
     #[tactic(auto, unfolding(crate::specs::Digest::path_digest))]
     pub fn digest(&self) -> u64
@@ -238,6 +247,52 @@ impl Path {
             None => false,
             Some(part) => part.name.as_bytes() == name && are_one(&part.around, &scope.innermost),
         }
+    }
+}
+
+/// Names of a path that are lent: to every contract the list of them, from one of them on, the innermost first.
+#[derive(Drop)]
+pub struct Names<'a> {
+    innermost: &'a Option<Rc<Part>>,
+}
+
+impl<'a> Model for Names<'a> {
+    ghost use Rattle.std.specs.Prelude.{List, ℕ};
+    ghost use Rattle.idl_scope.specs.Path.{path_of};
+
+    ghost Value = { List (List ℕ) };
+
+    ghost view = { λ names. path_of names.innermost.now };
+}
+
+impl<'a> Names<'a> {
+    /// The first name, and those behind it; nothing where there is none.
+    pub fn split_first(self) -> Option<(&'a [u8], Names<'a>)>
+        ensures some { IfSome result (λ p. self.entry ≡ p.0.now ∷ p.1) }
+        ensures none { result ≡ None → self.entry ≡ [] }
+    {
+        let Some(shared) = self.innermost else {
+            return None;
+        };
+        let part: &Part = shared;
+        let behind = Names {
+            innermost: &part.around,
+        };
+        Some((part.name.as_bytes(), behind))
+    }
+
+    /// Whether there is no name.
+    pub fn is_empty(&self) -> bool
+        ensures { IsTrue result ↔ (self.now ≡ []) }
+    {
+        self.innermost.is_none()
+    }
+
+    /// Whether they are the names of a path.
+    pub fn are_of(&self, path: &Path) -> bool
+        ensures { result ≡ path_eq self.now path.now }
+    {
+        are_one(self.innermost, &path.innermost)
     }
 }
 
