@@ -1,3 +1,4 @@
+mod IdLemmas
 mod JudgeLemmas
 mod NameLemmas
 mod NotedLemmas

@@ -166,16 +166,19 @@ fn push_prefix(id: &mut Vec<u8>, text: &[u8]) -> Result<(), AllocError>
 }
 
 // The parts of a path as it is told in a scope, the outermost first, with `/` between them.
+#[tactic(auto, using(crate::proofs::IdLemmas::slashed_none, crate::proofs::IdLemmas::slashed_ends, crate::proofs::IdLemmas::slashed_last, crate::proofs::IdLemmas::slashed_further))]
 fn push_slashed(id: &mut Vec<u8>, path: Names<'_>, scope: &Path) -> Result<(), AllocError>
     ensures { OnOk result (id.new.items ≡ id.old.items ++ slashed (relative path.entry scope.now)) }
 {
     let Some((name, around)) = path.split_first() else {
         return Ok(());
     };
-    if !around.is_empty() && !around.are_of(scope) {
-        push_slashed(id, around, scope)?;
-        id.push(b'/')?;
+    if around.is_empty() || around.are_of(scope) {
+        id.extend_from_slice(name)?;
+        return Ok(());
     }
+    push_slashed(id, around, scope)?;
+    id.push(b'/')?;
     id.extend_from_slice(name)?;
     Ok(())
 }

@@ -2,4 +2,4 @@ use Rattle.std.proofs.Common.{length}
 use Rattle.idl_check.proofs.identifying.+push_slashed.Given as goal
 
 abbrev pub decreases-push_slashed : goal.decreases-push_slashed
-decreases-push_slashed l = length l.path.entry
+decreases-push_slashed l = length l.path
