@@ -5,13 +5,14 @@ use Rattle.std.proofs.lemmas.List.{length-drop}
 use Rattle.idl_check.specs.Identifying.{is_within, relative, slashed}
 use Rattle.idl_scope.specs.Path.{path_eq, same_path}
 
-none-case : (p : List (List ℕ)) (b : Bool) (i : ℕ) → i ≡ 0 → cond b (take i []) [] ≡ []
-none-case p true i h = ap (λ i. take i []) h
-none-case p false i h = refl
+none-case : (none : List (List ℕ)) (b : Bool) (i : ℕ) → none ≡ [] → cond b (take i none) none ≡ none
+none-case none true zero h = sym h
+none-case none true (suc i) h = ap (λ l. take (suc i) l) h ∙ sym h
+none-case none false i h = refl
 
 -- of no names nothing is told
 pub slashed_none : (p : List (List ℕ)) → slashed (relative [] p) ≡ []
-slashed_none p = ap slashed (none-case p (is_within [] p) (0 - length p) (omega arith))
+slashed_none p = ap slashed (none-case [] (is_within [] p) (0 - length p) refl)
 
 -- where the scope is that around a name, it is told alone
 pub slashed_ends : (n : List ℕ) (a p : List (List ℕ)) → path_eq a p ≡ true → slashed (relative (n ∷ a) p) ≡ n
