@@ -1,5 +1,5 @@
 -- Look-ups in what is gathered of slots.
-use Rattle.std.proofs.Common.{◌≡◌, ℕ, zero, suc, inl, inr, ◌<◌, ◌+◌, ◌≢◌, Bool, true, false, cond, List, [], ◌∷◌, ◌++◌, Option, Some, None, length, refl, sym, ap, ◌∙◌, arith}
+use Rattle.std.proofs.Common.{◌≡◌, ℕ, zero, suc, inl, inr, ◌<◌, ◌≤◌, ◌+◌, ◌≢◌, Bool, true, false, cond, List, [], ◌∷◌, ◌++◌, Option, Some, None, length, refl, sym, ap, ◌∙◌, arith}
 use Rattle.std.proofs.Math.Dec.{eqb}
 use Rattle.std.proofs.lemmas.Bool.{false≢true, ne_eqb}
 use Rattle.std.proofs.lemmas.Bool.Decides.{eqb_tells}
@@ -11,8 +11,9 @@ use Rattle.std.specs.List.{filter}
 use Rattle.std.specs.Map.{lookup}
 use Rattle.std.specs.Prelude.{map}
 use Rattle.idl_base.specs.Table.{insert_entry}
-use Rattle.idl_map.specs.Slots.{branch_of, branch_seen, choice, gathered, slot_entries}
+use Rattle.idl_map.specs.Slots.{IsDivided, IsOneAt, branch_seen, choice, empty_branch, gathered, slot_entries, slot_size, slots_size}
 use Rattle.idl_map.specs.declared.slot.Slot.{Slot}
+use Rattle.idl_map.specs.declared.slot.Slot.TheVariants.{Empty, One, Few, Many}
 
 -- a test of numbers that are one
 eqb_same : (a b : ℕ) → a ≡ b → eqb a b ≡ true
@@ -105,36 +106,54 @@ module _ {K V : Type 0} where
 
 -- a branch of which one slot changes, at keys that choose it
 module _ {K V : Type 0} (eq : K → K → Bool) (same : (x y : K) → eq x y ≡ true → x ≡ y) (digest_of : K → ℕ) (shift : ℕ) where
-  pub changed_branch : (change : K → Option V → Option V) (slots : List (Slot K V)) (i : ℕ) (child d : Slot K V) (old new : ℕ × ℕ × List (List (K × V))) → i < length slots
+  pub changed_branch : (change : K → Option V → Option V) (slots : List (Slot K V)) (i : ℕ) (child d : Slot K V) (old new : ℕ × List (List (K × V))) → i < length slots
       → ((k : K) (o : Option V) → choice shift (digest_of k) ≢ i → change k o ≡ o)
-      → branch_seen digest_of shift slots ≡ old → new ≡ branch_seen digest_of shift (set slots i child)
+      → branch_seen digest_of slots ≡ old → new ≡ branch_seen digest_of (set slots i child)
       → ((k : K) → lookup (eq k) (slot_entries digest_of child) ≡ change k (lookup (eq k) (slot_entries digest_of (get_or slots i d))))
-      → (k : K) → lookup (eq k) (gathered (λ x. choice new.1 (digest_of x)) 0 new.2) ≡ change k (lookup (eq k) (gathered (λ x. choice old.1 (digest_of x)) 0 old.2))
+      → (k : K) → lookup (eq k) (gathered (λ x. choice shift (digest_of x)) 0 new.1) ≡ change k (lookup (eq k) (gathered (λ x. choice shift (digest_of x)) 0 old.1))
   changed_branch change slots i child d old new within others seen put below k =
       let entries : Slot K V → List (K × V) = slot_entries digest_of in
       let chosen : K → ℕ = λ x. choice shift (digest_of x) in
       let long : i < length (map entries slots) = omega (arith, within, length-map slots entries) in
-      ap (λ v. lookup (eq k) (gathered (λ x. choice v.1 (digest_of x)) 0 v.2)) put
+      ap (λ v. lookup (eq k) (gathered chosen 0 v.1)) put
       ∙ ap (λ lists. lookup (eq k) (gathered chosen 0 lists)) (map-set entries slots i child)
       ∙ changed_below eq same chosen change (map entries slots) i (entries child) long others
       (λ x. below x ∙ ap (λ es. change x (lookup (eq x) es)) (sym (get_or-map entries slots i d [] within))) k
-      ∙ ap (λ v. change k (lookup (eq k) (gathered (λ x. choice v.1 (digest_of x)) 0 v.2))) seen
+      ∙ ap (λ v. change k (lookup (eq k) (gathered chosen 0 v.1))) seen
 
-  -- a branch with one entry alone has what the entry has
-  pub lookup-branch_of : (index : ℕ) (key : K) (v : V) (new : ℕ × ℕ × List (List (K × V))) → new ≡ branch_of shift index ((key, v) ∷ [])
-      → choice shift (digest_of key) ≡ index → index < 8
-      → (k : K) → lookup (eq k) (gathered (λ x. choice new.1 (digest_of x)) 0 new.2) ≡ lookup (eq k) ((key, v) ∷ [])
-  lookup-branch_of index key v new made at within k =
+  -- an empty branch into which one entry is put has what the entry has
+  pub only_entry : (slots : List (Slot K V)) (index : ℕ) (child : Slot K V) (key : K) (v : V) (new : ℕ × List (List (K × V)))
+      → branch_seen digest_of slots ≡ empty_branch → new ≡ branch_seen digest_of (set slots index child)
+      → slot_entries digest_of child ≡ (key, v) ∷ [] → choice shift (digest_of key) ≡ index → index < 8
+      → (k : K) → lookup (eq k) (gathered (λ x. choice shift (digest_of x)) 0 new.1) ≡ lookup (eq k) ((key, v) ∷ [])
+  only_entry slots index child key v new empty made entry at within k =
+      let entries : Slot K V → List (K × V) = slot_entries digest_of in
       let chosen : K → ℕ = λ x. choice shift (digest_of x) in
       let none : List (List (K × V)) = [] ∷ [] ∷ [] ∷ [] ∷ [] ∷ [] ∷ [] ∷ [] ∷ [] in
       let knows : (x : K) → eq k x ≡ true → chosen x ≡ chosen k = λ x h. ap chosen (sym (same k x h)) in
-      ap (λ b. lookup (eq k) (gathered (λ x. choice b.1 (digest_of x)) 0 b.2)) made
+      ap (λ b. lookup (eq k) (gathered chosen 0 b.1)) made
+      ∙ ap (λ lists. lookup (eq k) (gathered chosen 0 lists)) (map-set entries slots index child)
+      ∙ ap (λ b. lookup (eq k) (gathered chosen 0 (set b.1 index (entries child)))) empty
+      ∙ ap (λ es. lookup (eq k) (gathered chosen 0 (set none index es))) entry
       ∙ elim (eqb_tells (chosen k) index) [
         | inl t ↦ lookup-gathered-set_same chosen (eq k) (chosen k) knows none index ((key, v) ∷ []) within t.1
         | inr f ↦
             lookup-gathered-set_other chosen (eq k) (chosen k) knows none index ((key, v) ∷ []) f.1
             ∙ sym (put_elsewhere eq same chosen key v index at k None f.1)
       ]
+
+-- a slot of a branch is put in place of another: the branches are no more than those there were and those of that slot
+pub slots_size-set : {K V : Type 0} (slots : List (Slot K V)) (i : ℕ) (child : Slot K V) → slots_size (set slots i child) ≤ slots_size slots + slot_size child
+slots_size-set [] i child = omega arith
+slots_size-set (slot ∷ slots) zero child = omega arith
+slots_size-set (slot ∷ slots) (suc i) child = omega (arith, slots_size-set slots i child)
+
+-- a slot that has not one entry alone has none at another key
+pub divided_at : {K V : Type 0} (key : K) (slot : Slot K V) → IsDivided slot → IsOneAt key slot
+divided_at key Empty h = h
+divided_at key (One entry) h = absurd h
+divided_at key (Few table) h = h
+divided_at key (Many shift branch) h = h
 
 -- look-ups after a put into a table
 module _ {K V : Type 0} (eq : K → K → Bool) (same : (x y : K) → eq x y ≡ true → x ≡ y) (laws : IsEquivalence eq) (key : K) (v : V) (q : K) where

@@ -61,6 +61,7 @@ impl<K: Digest + Ord, V: Datum> Map<K, V> {
             digest: key.digest(),
             shift: 0,
         };
-        insert(&mut self.root, alloc, place, (key, value))
+        let entry = Box::new(alloc, (key, value))?;
+        insert(&mut self.root, alloc, place, entry)
     }
 }

@@ -3,7 +3,7 @@
 ghost use Rattle.std.specs.Prelude.{◌≡◌, ◌<◌, ◌≤◌, ◌+◌, ◌-◌, ◌∷◌, [], IfOk, OnOk, OnErr, Some, if◌then◌else◌};
 ghost use Rattle.std.specs.Map.{lookup};
 ghost use Rattle.std.specs.Option.{option_copied};
-ghost use Rattle.idl_map.specs.Slots.{IsOneAt, branch_of, choice, slot_entries, slot_size};
+ghost use Rattle.idl_map.specs.Slots.{IsDivided, IsOneAt, choice, empty_branch, slot_entries, slot_size};
 
 use crate::Digest;
 use idl_base::{Datum, Table};
@@ -14,32 +14,32 @@ use std::mem;
 // How many bits of a digest choose among slots. Keys that are alike in all of them come into one table.
 const BITS: u32 = 30;
 
-/// No entry; one; entries whose keys are alike in all bits; or a branch.
+/// No entry; one; entries whose keys are alike in all bits; or a branch, and the bit from which on digests choose among
+/// its slots.
 #[cycle(slot)]
 #[derive(Drop)]
 pub enum Slot<K: Digest + Ord, V: Datum> {
     Empty,
     One(Box<(K, V)>),
     Few(Box<Table<K, V>>),
-    Many(Box<Branch<K, V>>),
+    Many(u32, Box<Branch<K, V>>),
 }
 
-/// Slots, and the bit from which on digests choose among them.
+/// The slots of a branch.
 #[cycle(slot)]
 #[derive(Drop)]
 pub struct Branch<K: Digest + Ord, V: Datum> {
-    shift: u32,
     slots: [Slot<K, V>; 8],
 }
 
 impl<K: Digest + Ord, V: Datum> Model for Branch<K, V> {
     ghost use Rattle.std.specs.Prelude.{ℕ, List};
 
-    ghost Value = { ℕ × ℕ × List (List (K × V)) };
+    ghost Value = { ℕ × List (List (K × V)) };
 
     ghost use Rattle.idl_map.specs.Slots.{branch_seen};
 
-    ghost view = { λ branch. branch_seen K.digest_of branch.shift branch.slots };
+    ghost view = { λ branch. branch_seen K.digest_of branch.slots };
 
     ghost size = { λ seen. seen.0 };
 
@@ -56,7 +56,7 @@ impl<K: Digest + Ord, V: Datum> Model for Branch<K, V> {
             | Empty ↦ omega arith
             | One entry ↦ omega arith
             | Few table ↦ omega arith
-            | Many branch ↦ omega arith
+            | Many shift branch ↦ omega arith
           ]) a.slots,
         ) };
 }
@@ -74,9 +74,9 @@ pub fn get<'a, K: Digest + Ord, V: Datum>(
         Slot::Empty => None,
         Slot::One(entry) => value_at(entry, key),
         Slot::Few(table) => table.get(key),
-        Slot::Many(boxed) => {
+        Slot::Many(shift, boxed) => {
             let branch: &Branch<K, V> = boxed;
-            get(&branch.slots[choice(branch.shift, digest)], digest, key)
+            get(&branch.slots[choice(*shift, digest)], digest, key)
         }
     }
 }
@@ -104,13 +104,13 @@ pub fn insert<K: Digest + Ord, V: Datum>(
     slot: &mut Slot<K, V>,
     alloc: Global,
     place: Place,
-    entry: (K, V),
+    entry: Box<(K, V)>,
 ) -> Result<(), AllocError>
-    requires { place.digest ≡ K.digest_of entry.0 }
+    requires { place.digest ≡ K.digest_of entry.value.0 }
     ensures each_key { OnOk result
         ((k : K)
         → lookup (K.eq k) (slot_entries K.digest_of slot.new)
-        ≡ (if K.eq k entry.0 then Some entry.1
+        ≡ (if K.eq k entry.value.0 then Some entry.value.1
         else lookup (K.eq k) (slot_entries K.digest_of slot.old))) }
     ensures err { OnErr result
         ((k : K)
@@ -119,18 +119,17 @@ pub fn insert<K: Digest + Ord, V: Datum>(
 {
     divide(slot, alloc, place.shift, &entry.0)?;
     match slot {
-        Slot::Empty => {
-            *slot = Slot::One(Box::new(alloc, entry)?);
+        Slot::Empty | Slot::One(_) => {
+            *slot = Slot::One(entry);
             Ok(())
         }
-        Slot::One(one) => {
-            one.1 = entry.1;
-            Ok(())
+        Slot::Few(table) => {
+            let (key, value) = Box::into_inner(entry);
+            table.insert(key, value)
         }
-        Slot::Few(table) => table.insert(entry.0, entry.1),
-        Slot::Many(boxed) => {
+        Slot::Many(shift, boxed) => {
+            let index = choice(*shift, place.digest);
             let branch: &mut Branch<K, V> = boxed;
-            let index = choice(branch.shift, place.digest);
             insert(&mut branch.slots[index], alloc, below(place), entry)
         }
     }
@@ -148,6 +147,7 @@ fn below(place: Place) -> Place
 }
 
 // Makes a branch of a slot whose one entry is of another key; or a table, where the bits are used up.
+#[inline]
 fn divide<K: Digest + Ord, V: Datum>(
     slot: &mut Slot<K, V>,
     alloc: Global,
@@ -166,15 +166,36 @@ fn divide<K: Digest + Ord, V: Datum>(
     if other.0 == *key {
         return Ok(());
     }
+    divide_one(slot, alloc, shift)
+}
+
+// Makes a branch, or a table, of a slot with one entry. It stands apart, since most slots that an entry comes through are
+// branches.
+#[inline(never)]
+fn divide_one<K: Digest + Ord, V: Datum>(
+    slot: &mut Slot<K, V>,
+    alloc: Global,
+    shift: u32,
+) -> Result<(), AllocError>
+    ensures each_key { (k : K)
+        → lookup (K.eq k) (slot_entries K.digest_of slot.new)
+        ≡ lookup (K.eq k) (slot_entries K.digest_of slot.old) }
+    ensures bits { slot_size slot.new + (30 - (shift + 3)) ≤ slot_size slot.old + (30 - shift) }
+    ensures divided { OnOk result (IsDivided slot.new) }
+{
+    let Slot::One(other) = &*slot else {
+        return Ok(());
+    };
     if shift >= BITS {
         let table = table_of(alloc, other)?;
         *slot = Slot::Few(Box::new(alloc, table)?);
         return Ok(());
     }
     let index = choice(shift, other.0.digest());
-    let mut boxed = Box::new(alloc, branch_of(shift, index, Slot::Empty))?;
-    *boxed = branch_of(shift, index, mem::replace(slot, Slot::Empty));
-    *slot = Slot::Many(boxed);
+    let mut boxed = Box::new(alloc, empty())?;
+    let branch: &mut Branch<K, V> = &mut *boxed;
+    branch.slots[index] = mem::replace(slot, Slot::Empty);
+    *slot = Slot::Many(shift, boxed);
     Ok(())
 }
 
@@ -190,24 +211,22 @@ fn table_of<K: Digest + Ord, V: Datum>(
     Ok(table)
 }
 
-// The branch that holds one slot's entries alone, at this place.
-fn branch_of<K: Digest + Ord, V: Datum>(shift: u32, index: usize, slot: Slot<K, V>) -> Branch<K, V>
-    requires place { index < 8 }
-    requires undivided { slot_size slot ≡ 0 }
-    ensures { result ≡ branch_of shift index (slot_entries K.digest_of slot) }
+// The branch without entries.
+fn empty<K: Digest + Ord, V: Datum>() -> Branch<K, V>
+    ensures { result ≡ empty_branch }
 {
-    let mut slots = [
-        Slot::Empty,
-        Slot::Empty,
-        Slot::Empty,
-        Slot::Empty,
-        Slot::Empty,
-        Slot::Empty,
-        Slot::Empty,
-        Slot::Empty,
-    ];
-    slots[index] = slot;
-    Branch { shift, slots }
+    Branch {
+        slots: [
+            Slot::Empty,
+            Slot::Empty,
+            Slot::Empty,
+            Slot::Empty,
+            Slot::Empty,
+            Slot::Empty,
+            Slot::Empty,
+            Slot::Empty,
+        ],
+    }
 }
 
 // Which slot the bits of a digest choose, from a bit on.

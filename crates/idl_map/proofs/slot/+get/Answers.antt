@@ -13,7 +13,7 @@ returns-in-Many g t c =
     let test = g.K.PartialEq.eq key in
     let digest_of = g.K.Digest.digest_of in
     let entries : Slot g.row.K.Denot g.row.V.Denot → List (g.row.K.Denot × g.row.V.Denot) = slot_entries digest_of in
-    let shift = c.branch.inside.shift in
+    let shift = c.in-Many.shift in
     let chosen : g.row.K.Denot → ℕ = λ k. choice shift (digest_of k) in
     let slots = c.branch.inside.slots in
     let slot : c.choice.result ≡ chosen key = c.choice.ensures.value ∙ ap (choice shift) c.requires in
@@ -21,5 +21,5 @@ returns-in-Many g t c =
     c.get-in-Many.ensures
     ∙ ap (lookup test) (sym (get_or-map entries slots c.choice.result _ [] within))
     ∙ sym (lookup-gathered chosen test c.choice.result (λ k h. ap chosen (sym (g.met.K.Datum.same key k h)) ∙ sym slot) (map entries slots))
-    ∙ ap (λ seen. lookup test (gathered (λ k. choice seen.1 (digest_of k)) 0 seen.2)) (c.branch.view_is ∙ c.deref-branch.ensures)
+    ∙ ap (λ seen. lookup test (gathered chosen 0 seen.1)) (c.branch.view_is ∙ c.deref-branch.ensures)
     ∙ sym (ap (λ s. lookup test (entries s)) c.in-Many.is)

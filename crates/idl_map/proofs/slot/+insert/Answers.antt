@@ -9,16 +9,17 @@ use Rattle.idl_map.proofs.slot.+insert.Goals as goal
 pub returns-in-Few-clause-each_key : goal.returns-in-Few-clause-each_key
 returns-in-Few-clause-each_key g t c =
     let eq = g.K.PartialEq.eq in
-    let key = c.args.entry.0 in
-    let value = c.args.entry.1 in
-    let change : g.row.K.Denot → Option g.row.V.Denot → Option g.row.V.Denot = λ k o. cond (eq k key) (Some value) o in
+    let digest_of = g.K.Digest.digest_of in
+    let entry = c.into_inner-key.result in
+    let put : g.row.K.Denot → g.row.K.Denot × g.row.V.Denot → Option g.row.V.Denot → Option g.row.V.Denot = λ k e o. cond (eq k e.0) (Some e.1) o in
     on_ok_weaker c.insert.result
-    (λ put k.
-    ap (lookup (eq k)) put
-    ∙ lookup-insert_entry eq g.met.K.Datum.same g.met.K.Eq.laws key value k _
-    ∙ ap (λ es. change k (lookup (eq k) es)) c.deref_mut-in-Few.ensures.value
-    ∙ ap (λ s. change k (lookup (eq k) (slot_entries g.K.Digest.digest_of s))) (sym c.in-Few.is)
-    ∙ ap (change k) (c.divide.ensures.each_key k))
+    (λ after k.
+    ap (lookup (eq k)) after
+    ∙ lookup-insert_entry eq g.met.K.Datum.same g.met.K.Eq.laws entry.0 entry.1 k _
+    ∙ ap (λ es. put k entry (lookup (eq k) es)) c.deref_mut.ensures.value
+    ∙ ap (λ s. put k entry (lookup (eq k) (slot_entries digest_of s))) (sym c.in-Few.is)
+    ∙ ap (put k entry) (c.divide.ensures.each_key k)
+    ∙ ap (λ e. put k e (lookup (eq k) (slot_entries digest_of c.args.slot.now))) c.into_inner-key.ensures)
     c.insert.ensures.entries
 
 pub returns-in-Many-clause-each_key : goal.returns-in-Many-clause-each_key
@@ -26,10 +27,10 @@ returns-in-Many-clause-each_key g t c =
     let eq = g.K.PartialEq.eq in
     let same = g.met.K.Datum.same in
     let digest_of = g.K.Digest.digest_of in
-    let key = c.args.entry.0 in
-    let value = c.args.entry.1 in
+    let key = c.args.entry.value.0 in
+    let value = c.args.entry.value.1 in
     let index = c.choice-index.result in
-    let shift = c.branch.inside.shift in
+    let shift = c.in-Many.shift in
     let slots = c.branch.inside.slots in
     let child = c.insert-in-Many.new.slot in
     let chosen : g.row.K.Denot → ℕ = λ k. choice shift (digest_of k) in
@@ -38,7 +39,7 @@ returns-in-Many-clause-each_key g t c =
     let within : index < length slots = search (rules, c.choice-index.ensures.below) in
     on_ok_weaker c.insert-in-Many.result
     (λ below k.
-    changed_branch eq same digest_of shift change slots index child _ _ (branch_seen digest_of shift (set slots index child)) within (put_elsewhere eq same chosen key value index at) (c.branch.view_is ∙ c.deref_mut-branch.ensures.value) refl below k
+    changed_branch eq same digest_of shift change slots index child _ _ (branch_seen digest_of (set slots index child)) within (put_elsewhere eq same chosen key value index at) (c.branch.view_is ∙ c.deref_mut-branch.ensures.value) refl below k
     ∙ ap (λ s. change k (lookup (eq k) (slot_entries digest_of s))) (sym c.in-Many.is)
     ∙ ap (change k) (c.divide.ensures.each_key k))
     c.insert-in-Many.ensures.each_key
@@ -49,14 +50,14 @@ returns-in-Many-clause-err g t c =
     let same = g.met.K.Datum.same in
     let digest_of = g.K.Digest.digest_of in
     let index = c.choice-index.result in
-    let shift = c.branch.inside.shift in
+    let shift = c.in-Many.shift in
     let slots = c.branch.inside.slots in
     let child = c.insert-in-Many.new.slot in
     let change : g.row.K.Denot → Option g.row.V.Denot → Option g.row.V.Denot = λ k o. o in
     let within : index < length slots = search (rules, c.choice-index.ensures.below) in
     on_err_weaker c.insert-in-Many.result
     (λ below k.
-    changed_branch eq same digest_of shift change slots index child _ _ (branch_seen digest_of shift (set slots index child)) within (λ k o other. refl) (c.branch.view_is ∙ c.deref_mut-branch.ensures.value) refl below k
+    changed_branch eq same digest_of shift change slots index child _ _ (branch_seen digest_of (set slots index child)) within (λ k o other. refl) (c.branch.view_is ∙ c.deref_mut-branch.ensures.value) refl below k
     ∙ ap (λ s. lookup (eq k) (slot_entries digest_of s)) (sym c.in-Many.is)
     ∙ c.divide.ensures.each_key k)
     c.insert-in-Many.ensures.err
