@@ -5,6 +5,7 @@ use Rattle.std.specs.Ordering.{nat_cmp}
 use Rattle.std.specs.Str.{bytes_eq}
 use Rattle.std.specs.declared.cmp.Ordering.{Ordering}
 use Rattle.std.proofs.Common.{ap}
+use Rattle.idl_base.specs.Digest.{mixed, with_bytes}
 use Rattle.idl_event.specs.declared.key.Key.{Key}
 use Rattle.idl_event.specs.declared.key.Key.TheVariants.{Macro, File, Search}
 
@@ -33,3 +34,9 @@ same_key (File a) Search h = cc
 same_key Search (Macro b) h = cc
 same_key Search (File b) h = cc
 same_key Search Search h = refl
+
+-- the digest of a key: of its bytes, behind a number that is no byte for a file's name
+unfoldable pub key_digest : Key → ℕ
+key_digest (Macro word) = with_bytes 0 word
+key_digest (File name) = with_bytes (mixed 0 256) name
+key_digest Search = 0

@@ -1,7 +1,7 @@
 //! Where logged keys may stand.
 
 use crate::key::Key;
-use idl_base::{mixed, with_bytes};
+use idl_map::Digest;
 use std::alloc::{AllocError, Global};
 
 // So many numbers there are, by one of which a key is found.
@@ -64,11 +64,7 @@ impl Hints {
 
 /// The digest of a key; that of a macro's word is the digest of its bytes alone.
 pub fn digest_of(key: &Key) -> u64 {
-    match key {
-        Key::Macro(word) => with_bytes(0, word.as_bytes()),
-        Key::File(name) => with_bytes(mixed(0, 256), name.as_bytes()),
-        Key::Search => 0,
-    }
+    key.digest()
 }
 
 // The number of the keys with a digest.

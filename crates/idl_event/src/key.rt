@@ -8,8 +8,9 @@ ghost use Rattle.idl_event.specs.Key.{key_cmp, key_code, key_eq};
 use crate::file_name::FileName;
 use crate::lexed_file::LexedFile;
 use crate::lexed_line::LexedLine;
-use idl_base::{Datum, Seq};
+use idl_base::{Datum, Seq, mixed, with_bytes};
 use idl_lex::Spelling;
+use idl_map::Digest;
 use idl_source::Directory;
 use std::cmp::Ordering;
 
@@ -100,6 +101,21 @@ impl Datum for Key {
       | File a ↦ elim [ Macro b ↦ λ h. absurd h | File b ↦ λ h. ap File h | Search ↦ λ h. absurd h ]
       | Search ↦ elim [ Macro b ↦ λ h. absurd h | File b ↦ λ h. absurd h | Search ↦ λ h. refl ]
     ] };
+}
+
+impl Digest for Key {
+    ghost use Rattle.idl_event.specs.Key.{key_digest};
+
+    ghost digest_of = { key_digest };
+
+    #[tactic(auto, unfolding(crate::specs::Key::key_digest))]
+    fn digest(&self) -> u64 {
+        match self {
+            Key::Macro(word) => with_bytes(0, word.as_bytes()),
+            Key::File(name) => with_bytes(mixed(0, 256), name.as_bytes()),
+            Key::Search => 0,
+        }
+    }
 }
 
 impl Datum for Answer {

@@ -1,3 +1,4 @@
+pub mod DigestTable
 pub mod Items
 pub mod SlotSizes
 pub mod Slots

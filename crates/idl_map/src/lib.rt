@@ -1,11 +1,13 @@
-//! Collections: a map by the digests of its keys, and a list whose copies share their items.
+//! Collections: a map by the digests of its keys, a table with such a map as its index, and a list whose copies share items.
 #![tactic(auto)]
 
 mod digest;
+mod digest_table;
 mod list;
 mod map;
 mod slot;
 
 pub use digest::Digest;
+pub use digest_table::DigestTable;
 pub use list::SharedList;
 pub use map::Map;

@@ -7,7 +7,8 @@ ghost use Rattle.idl_memo.specs.Meter.{ComparesOnly, compared_after};
 ghost use Rattle.idl_memo.specs.Query.{HoldsIn, is_logged, noted};
 
 use crate::{Bank, Meter};
-use idl_base::{Datum, Table};
+use idl_base::Datum;
+use idl_map::DigestTable;
 use std::alloc::{AllocError, Global};
 use std::marker::Model;
 
@@ -16,7 +17,7 @@ use std::marker::Model;
 /// A key without answer is logged as such. To every contract a log is the list of its entries. Only `ask` takes memory.
 #[derive(Drop)]
 pub struct Log<B: Bank> {
-    entries: Table<B::Key, Option<B::Answer>>,
+    entries: DigestTable<B::Key, Option<B::Answer>>,
 }
 
 impl<B: Bank> Model for Log<B> {
@@ -33,7 +34,7 @@ impl<B: Bank> Log<B> {
         ensures { result ≡ [] }
     {
         Log {
-            entries: Table::new(alloc),
+            entries: DigestTable::new(alloc),
         }
     }
 
@@ -78,13 +79,6 @@ impl<B: Bank> Log<B> {
         let copy = copied(answer)?;
         self.entries.push(key.clone()?, copy)?;
         Ok(answer)
-    }
-
-    /// The log before anything is asked, again. Its memory stays, for what is asked next.
-    pub fn clear(&mut self)
-        ensures { self.new ≡ [] }
-    {
-        self.entries.clear();
     }
 
     /// Whether a key was asked, with an answer or without. It takes no memory.
