@@ -64,7 +64,7 @@ impl<B: RootBank> Task<B> for RootTask {
         expand(&mut root, &file, bank)?;
         let (events, logged) = root.into_parts();
         *log = logged;
-        Ok(Expansion::from_vec(events))
+        Ok(events.build(alloc)?)
     }
 }
 

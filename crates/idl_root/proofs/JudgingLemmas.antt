@@ -10,7 +10,7 @@ use Rattle.idl_root.specs.Judged.{Judged, added, boundary, facts_after, judged_a
 use Rattle.idl_root.specs.Printed.{listed_in}
 use Rattle.idl_scope.specs.declared.addition.Step.TheVariants.{Enters, Leaves}
 use Rattle.idl_unit.specs.Units.{units_of}
-use Rattle.idl_unit.specs.declared.unit.Site.{Site}
+use Rattle.idl_event.specs.declared.site.Site.{Site}
 use Rattle.idl_unit.specs.declared.unit.Unit.{Unit as RootUnit}
 use Rattle.idl_unit.specs.declared.unit.Unit.TheVariants.{Spelled, Entered, Left, End}
 use Rattle.idl_unit.specs.declared.unit.UnitText.{UnitText}

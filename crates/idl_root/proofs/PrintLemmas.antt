@@ -8,7 +8,7 @@ use Rattle.idl_scope.specs.Identity.{fixed_eq}
 use Rattle.idl_scope.specs.declared.addition.Addition.{Addition}
 use Rattle.idl_scope.specs.declared.addition.Addition.TheVariants.{Declares, Uses, Identifies}
 use Rattle.idl_scope.specs.declared.identity.Fixed.TheVariants.{Nothing}
-use Rattle.idl_unit.specs.declared.unit.Site.{Site}
+use Rattle.idl_event.specs.declared.site.Site.{Site}
 use Rattle.idl_unit.specs.declared.unit.UnitText.{UnitText}
 
 first_paths-cons : (a : Addition) (additions : List Addition) → first_paths (a ∷ additions) ≡ first_paths (a ∷ []) ++ first_paths additions

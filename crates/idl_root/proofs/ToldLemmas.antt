@@ -17,9 +17,10 @@ use Rattle.idl_scope.specs.declared.key.Key.{Key}
 use Rattle.idl_scope.specs.declared.lookup.TheConstants.{TURNS}
 use Rattle.idl_unit.specs.Cut.{parts}
 use Rattle.idl_unit.specs.TokenRules.{first}
-use Rattle.idl_unit.specs.Units.{Numbered, sites_in, spelled, stretch_ends, stretch_units, tokens_in, unit_in, units_of}
+use Rattle.idl_event.specs.Apart.{Numbered, sites_in, tokens_in}
+use Rattle.idl_unit.specs.Units.{spelled, stretch_ends, stretch_units, unit_in, units_of}
 use Rattle.idl_unit.specs.declared.fault.Fault.{Fault}
-use Rattle.idl_unit.specs.declared.unit.Site.{Site}
+use Rattle.idl_event.specs.declared.site.Site.{Site}
 use Rattle.idl_unit.specs.declared.unit.Unit.{Unit as RootUnit}
 use Rattle.idl_unit.specs.declared.unit.Unit.TheVariants.{Spelled, Entered, Left, End}
 use Rattle.idl_unit.specs.declared.unit.UnitText.{UnitText}

@@ -7,9 +7,9 @@ use Rattle.idl_lex.specs.Tokens.{Token}
 use Rattle.idl_root.specs.Judged.{Judged}
 use Rattle.idl_root.specs.declared.finding.Finding.{Finding}
 use Rattle.idl_unit.specs.TokenRules.{first}
-use Rattle.idl_unit.specs.Units.{Numbered}
+use Rattle.idl_event.specs.Apart.{Numbered}
 use Rattle.idl_unit.specs.declared.fault.Fault.{Fault}
-use Rattle.idl_unit.specs.declared.unit.Site.{Site}
+use Rattle.idl_event.specs.declared.site.Site.{Site}
 use Rattle.idl_unit.specs.declared.unit.UnitText.{UnitText}
 use Rattle.idl_unit.specs.declared.unit.UnitText.TheVariants.{Tokens, Pragma}
 

@@ -10,8 +10,9 @@ use Rattle.idl_unit.specs.Ending.{ends, token_units}
 use Rattle.idl_unit.specs.Held.{other_in, text_in, text_sites}
 use Rattle.idl_unit.specs.Parts.{AreParts, IsCutInto, joined}
 use Rattle.idl_unit.specs.Placing.{Ahead, after_token, begun, begun_of, placed}
-use Rattle.idl_unit.specs.Units.{Numbered, sites_in, tokens_in, unit_in, units_in, units_of}
-use Rattle.idl_unit.specs.declared.unit.Site.{Site}
+use Rattle.idl_event.specs.Apart.{Numbered, sites_in, tokens_in}
+use Rattle.idl_unit.specs.Units.{unit_in, units_in, units_of}
+use Rattle.idl_event.specs.declared.site.Site.{Site}
 use Rattle.idl_unit.specs.declared.unit.Unit.TheVariants.{End}
 use Rattle.idl_unit.proofs.EndingLemmas.{ends-end}
 use Rattle.idl_unit.proofs.PartsLemmas.{are-parts}

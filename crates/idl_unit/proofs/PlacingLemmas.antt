@@ -10,8 +10,9 @@ use Rattle.idl_unit.specs.Cut.{parts_after}
 use Rattle.idl_unit.specs.Ending.{ends, is_empty, token_units}
 use Rattle.idl_unit.specs.Placing.{Ahead, IsWithin, after_begun, after_token, ahead, begun, begun_of, placed, to_come}
 use Rattle.idl_unit.specs.declared.cut.Cut.{Cut}
-use Rattle.idl_unit.specs.Units.{Numbered, site_at, site_in, sites_in, spelled, stretch_ends, stretch_units, token_in, tokens_in, unit_in, units_in}
-use Rattle.idl_unit.specs.declared.unit.Site.{Site}
+use Rattle.idl_event.specs.Apart.{Numbered, site_at, site_in, sites_in, token_in, tokens_in}
+use Rattle.idl_unit.specs.Units.{spelled, stretch_ends, stretch_units, unit_in, units_in}
+use Rattle.idl_event.specs.declared.site.Site.{Site}
 use Rattle.idl_unit.specs.declared.unit.Unit.{Unit as RootUnit}
 use Rattle.idl_unit.specs.declared.unit.Unit.TheVariants.{Spelled}
 use Rattle.idl_unit.specs.declared.unit.UnitText.TheVariants.{Tokens}
