@@ -55,9 +55,9 @@ woven sites tokens others = fold with_event (emitted sites tokens) others
 -- tokens, their sites and other events are all that stand among these
 pub record AreApart (sites : List Site) (tokens : List Token) (others events : List Numbered)
     : Type 0 where
-  pub sites : sites ≡ sites_in events
-  pub tokens : tokens ≡ tokens_in events
-  pub others : others ≡ others_in events
+  pub are_sites : sites ≡ sites_in events
+  pub are_tokens : tokens ≡ tokens_in events
+  pub are_others : others ≡ others_in events
 
 -- they are all that stand among the events that they make, and what is emitted later stands behind
 -- these

@@ -1,8 +1,9 @@
 //! What a root expands to, and the walk over it.
 
-ghost use Rattle.std.specs.Prelude.{◌≡◌};
+ghost use Rattle.std.specs.Prelude.{◌≡◌, ◌≢◌, IfNone, IfSome, Some, slice_get};
 ghost use Rattle.std.specs.List.{enumerate_from};
 ghost use Rattle.idl_event.specs.Apart.{StandApart, others_in, sites_in, tokens_in, woven};
+ghost use Rattle.idl_event.specs.declared.event.Event.{Event};
 
 use crate::event::Event;
 use crate::site::Site;
@@ -110,18 +111,6 @@ impl<'a> Model for Events<'a> {
         ArePassed e.sites.now e.text.now e.others.now e.tokens_passed e.others_passed };
 }
 
-impl<'a> Events<'a> {
-    // The event that comes next, where it is no token.
-    fn other(&self) -> Option<&'a Event> {
-        match self.others.get(self.others_passed) {
-            Some((number, event)) if *number == self.tokens_passed + self.others_passed => {
-                Some(event)
-            }
-            _ => None,
-        }
-    }
-}
-
 impl<'a> Iterator for Events<'a> {
     ghost use Rattle.std.specs.Iterator.{YieldsFirstBy, item_count};
     ghost use Rattle.idl_event.specs.Told.{event_told};
@@ -134,13 +123,29 @@ impl<'a> Iterator for Events<'a> {
 
     fn next(&mut self) -> Option<(usize, Told<'a>)> {
         let number = self.tokens_passed + self.others_passed;
-        if let Some(event) = self.other() {
-            self.others_passed += 1;
-            return Some((number, Told::Other(event)));
+        match other_at(self.others, self.others_passed, number) {
+            Some(event) => {
+                self.others_passed += 1;
+                Some((number, Told::Other(event)))
+            }
+            None => {
+                let site = self.sites.get(self.tokens_passed)?;
+                let token = self.text.get(self.tokens_passed)?;
+                self.tokens_passed += 1;
+                Some((number, Told::Emitted(&site.place, token)))
+            }
         }
-        let site = self.sites.get(self.tokens_passed)?;
-        let token = self.text.get(self.tokens_passed)?;
-        self.tokens_passed += 1;
-        Some((number, Told::Emitted(&site.place, token)))
+    }
+}
+
+// The event with a number, where it stands at this place among those that are no tokens.
+fn other_at(others: &[(usize, Event)], place: usize, number: usize) -> Option<&Event>
+    ensures some { IfSome result (λ event. slice_get others.now place ≡ Some (number, event.now)) }
+    ensures none { IfNone result ((event : Event)
+        → slice_get others.now place ≢ Some (number, event)) }
+{
+    match others.get(place) {
+        Some((at, event)) if *at == number => Some(event),
+        _ => None,
     }
 }
