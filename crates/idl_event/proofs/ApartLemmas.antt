@@ -55,11 +55,10 @@ length-parts n (event.Fault place code text ∷ events) = omega (arith, length-p
 
 length-apart : (sites : List Site) (tokens : List Token) (others : List Numbered) (events : List Event) → AreApart sites tokens others (enumerate_from 0 events)
     → (length sites ≡ length tokens) × (length sites + length others ≡ length events)
-length-apart sites tokens others events a =
-    (
-      ap length a.are_sites ∙ length-sites_in (enumerate_from 0 events) ∙ sym (ap length a.are_tokens),
-      omega (arith, ap length a.are_sites, ap length a.are_others, length-parts 0 events)
-    )
+length-apart sites tokens others events a = (
+  ap length a.are_sites ∙ length-sites_in (enumerate_from 0 events) ∙ sym (ap length a.are_tokens),
+  omega (arith, ap length a.are_sites, ap length a.are_others, length-parts 0 events),
+)
 
 emitted-push : (sites : List Site) (tokens : List Token) (site : Site) (token : Token) → length sites ≡ length tokens
     → emitted (sites ++ site ∷ []) (tokens ++ token ∷ []) ≡ emitted sites tokens ++ event.Emitted site.place token ∷ []
@@ -75,7 +74,7 @@ stand_apart-none = record { all = record { are_sites = refl; are_tokens = refl; 
 pub woven-token : (sites : List Site) (tokens : List Token) (others : List Numbered) (n : ℕ) (place : Place) (token : Token) → StandApart sites tokens others
     → n ≡ length sites + length others
     → (woven (sites ++ site_at n place ∷ []) (tokens ++ token ∷ []) others ≡ woven sites tokens others ++ event.Emitted place token ∷ [])
-      × StandApart (sites ++ site_at n place ∷ []) (tokens ++ token ∷ []) others
+    × StandApart (sites ++ site_at n place ∷ []) (tokens ++ token ∷ []) others
 woven-token sites tokens others n place token s is =
     let events = woven sites tokens others in
     let e = event.Emitted place token in
@@ -89,8 +88,7 @@ woven-token sites tokens others n place token s is =
       are_sites = ap (λ k. sites ++ site_at k place ∷ []) (sym number) ∙ pushed.are_sites;
       are_tokens = pushed.are_tokens;
       are_others = sym (append-nil others) ∙ pushed.are_others;
-    } in
-    (
+    } in (
       put,
       record {
         all = subst (λ es. AreApart (sites ++ site_at n place ∷ []) (tokens ++ token ∷ []) others (enumerate_from 0 es)) (sym put) apart;
@@ -100,7 +98,7 @@ woven-token sites tokens others n place token s is =
             ∙ s.later (e ∷ more)
             ∙ sym (append_assoc events (e ∷ []) more)
             ∙ ap (λ es. es ++ more) (sym put);
-      }
+      },
     )
 
 with_event-last : (events more : List Event) (n : ℕ) (e : Event) → length events ≡ n → with_event (events ++ more) (n, e) ≡ (events ++ e ∷ []) ++ more
@@ -132,9 +130,9 @@ woven-other sites tokens others n e s is none =
     let lengths = length-apart sites tokens others events s.all in
     let number : length events ≡ n = sym (is ∙ lengths.1) in
     let later : (more : List Event) → fold with_event (emitted sites tokens ++ more) (others ++ (n, e) ∷ []) ≡ (events ++ e ∷ []) ++ more = λ more.
-        fold-append with_event (emitted sites tokens ++ more) others ((n, e) ∷ [])
-        ∙ ap (λ es. with_event es (n, e)) (s.later more)
-        ∙ with_event-last events more n e number in
+    fold-append with_event (emitted sites tokens ++ more) others ((n, e) ∷ [])
+    ∙ ap (λ es. with_event es (n, e)) (s.later more)
+    ∙ with_event-last events more n e number in
     let put : woven sites tokens (others ++ (n, e) ∷ []) ≡ events ++ e ∷ [] =
     ap (λ es. fold with_event es (others ++ (n, e) ∷ [])) (sym (append-nil (emitted sites tokens))) ∙ later [] ∙ append-nil (events ++ e ∷ []) in
     let pushed = apart-push sites tokens others events e s.all in
@@ -142,13 +140,12 @@ woven-other sites tokens others n e s is none =
       are_sites = sym (ap (λ k. sites ++ site_in (k, e)) number ∙ ap (λ l. sites ++ l) other.no_site ∙ append-nil sites) ∙ pushed.are_sites;
       are_tokens = sym (ap (λ k. tokens ++ token_in (k, e)) number ∙ ap (λ l. tokens ++ l) other.no_token ∙ append-nil tokens) ∙ pushed.are_tokens;
       are_others = sym (ap (λ k. others ++ other_in (k, e)) number ∙ ap (λ l. others ++ l) other.itself) ∙ pushed.are_others;
-    } in
-    (
+    } in (
       put,
       record {
         all = subst (λ es. AreApart sites tokens (others ++ (n, e) ∷ []) (enumerate_from 0 es)) (sym put) apart;
         later = λ more. later more ∙ ap (λ es. es ++ more) (sym put);
-      }
+      },
     )
 
 -- the number of the first
@@ -205,13 +202,12 @@ comes-token n (event.Emitted place t ∷ next) site token sites tokens others no
     let at : site ≡ site_at n place = cc in
     let same : t ≡ token = cc in
     let rest_sites : sites ≡ sites_in (enumerate_from (n + 1) next) = cc in
-    let rest_tokens : tokens ≡ tokens_in (enumerate_from (n + 1) next) = cc in
-    (
+    let rest_tokens : tokens ≡ tokens_in (enumerate_from (n + 1) next) = cc in (
       next,
       (
         ap (λ p. event.Emitted p t ∷ next) (sym (ap (λ s. s.place) at)) ∙ ap (λ u. event.Emitted site.place u ∷ next) same,
-        record { are_sites = rest_sites; are_tokens = rest_tokens; are_others = a.are_others }
-      )
+        record { are_sites = rest_sites; are_tokens = rest_tokens; are_others = a.are_others },
+      ),
     )
 comes-token n (event.Entered file ∷ next) site token sites tokens others none a = absurd (none (event.Entered file) _ a.are_others)
 comes-token n (event.Left file ∷ next) site token sites tokens others none a = absurd (none (event.Left file) _ a.are_others)
@@ -272,14 +268,13 @@ module _ (sites : List Site) (tokens : List Token) (others : List Numbered) (i k
       let comes = comes-other (i + k) (drop (i + k) events) e (drop i sites) (drop i tokens) (drop (k + 1) others) left in
       let rest = drop-next events (i + k) e comes.0 comes.1.0 in
       let number : i + k + 1 ≡ i + (k + 1) = omega arith in
-      let after = ap (enumerate_from (i + k + 1)) rest ∙ ap (λ n. events_from n events) number in
-      (
+      let after = ap (enumerate_from (i + k + 1)) rest ∙ ap (λ n. events_from n events) number in (
         ap (enumerate_from (i + k)) comes.1.0 ∙ ap (λ es. (i + k, e) ∷ es) after,
         record {
           tokens_within = passed.tokens_within;
           others_within = within-some others k (i + k, e) at;
           left = subst (AreApart (drop i sites) (drop i tokens) (drop (k + 1) others)) after comes.1.1;
-        }
+        },
       )
 
   -- it is a token
@@ -292,14 +287,13 @@ module _ (sites : List Site) (tokens : List Token) (others : List Numbered) (i k
       let e = event.Emitted site.place token in
       let rest = drop-next events (i + k) e comes.0 comes.1.0 in
       let number : i + k + 1 ≡ i + 1 + k = omega arith in
-      let after = ap (enumerate_from (i + k + 1)) rest ∙ ap (λ n. events_from n events) number in
-      (
+      let after = ap (enumerate_from (i + k + 1)) rest ∙ ap (λ n. events_from n events) number in (
         ap (enumerate_from (i + k)) comes.1.0 ∙ ap (λ es. (i + k, e) ∷ es) after,
         record {
           tokens_within = within-some sites i site at_site;
           others_within = passed.others_within;
           left = subst (AreApart (drop (i + 1) sites) (drop (i + 1) tokens) (drop k others)) after comes.1.1;
-        }
+        },
       )
 
   -- there is none

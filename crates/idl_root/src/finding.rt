@@ -32,8 +32,9 @@ pub fn event_findings(alloc: Global, expansion: &Expansion) -> Result<Vec<Findin
     ensures { IfOk result (λ findings. findings.items
         ≡ flat_map event_finding (enumerate_from 0 expansion.now)) }
 {
+    let others = expansion.others();
     let mut findings = Vec::new(alloc);
-    for (number, event) in expansion.others() {
+    for (number, event) in others {
         push_event(alloc, &mut findings, *number, event)?;
     }
     Ok(findings)

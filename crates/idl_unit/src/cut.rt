@@ -21,8 +21,8 @@ pub fn split(alloc: Global, expansion: &Expansion) -> Result<Units, AllocError>
     ensures { IfOk result (λ units. units ≡ units_of expansion.now) }
 {
     let mut cut = Cut::new(alloc, expansion);
-    for (number, told) in expansion.events() {
-        cut.put(alloc, number, told)?;
+    for (number, event) in expansion.events() {
+        cut.put(alloc, number, event)?;
     }
     let mut units = cut.units;
     units.push(Unit::End)?;
@@ -66,16 +66,28 @@ impl<'a> Cut<'a> {
             → to_come self.new events ≡ to_come self.old ((number, event_told event) ∷ events)) }
     {
         match event {
-            Told::Emitted(_place, _token) | Told::Other(Event::Emitted(_place, _token)) =>
-                self.put_token()?,
-            Told::Other(Event::Entered(file)) => self.units.push(Unit::Entered(file.clone()?))?,
-            Told::Other(Event::Left(file)) => self.units.push(Unit::Left(file.clone()?))?,
-            Told::Other(Event::Pragma(place, tokens)) => {
+            Told::Emitted(_place, _token) => self.put_token(),
+            Told::Other(event) => self.put_other(alloc, number, event),
+        }
+    }
+
+    // The same of an event.
+    fn put_other(&mut self, alloc: Global, number: usize, event: &Event) -> Result<(), AllocError>
+        requires { IsWithin self.old }
+        ensures within { OnOk result (IsWithin self.new) }
+        ensures units { OnOk result ((events : List Numbered)
+            → to_come self.new events ≡ to_come self.old ((number, event.now) ∷ events)) }
+    {
+        match event {
+            Event::Emitted(_place, _token) => self.put_token()?,
+            Event::Entered(file) => self.units.push(Unit::Entered(file.clone()?))?,
+            Event::Left(file) => self.units.push(Unit::Left(file.clone()?))?,
+            Event::Pragma(place, tokens) => {
                 let text = UnitText::Pragma(tokens.clone()?, self.inside > 0);
                 let sites = one_site(alloc, number, place)?;
                 self.units.push(Unit::Spelled(text, sites))?;
             }
-            Told::Other(Event::Fault(_place, _code, _text)) => {}
+            Event::Fault(_place, _code, _text) => {}
         }
         Ok(())
     }
