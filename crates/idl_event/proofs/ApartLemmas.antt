@@ -1,8 +1,8 @@
 -- Events whose tokens stand apart: one more, and the walk over them.
-use Rattle.std.proofs.Common.{◌≡◌, ◌≢◌, ◌∙◌, ℕ, zero, suc, ◌+◌, ◌≤◌, List, [], ◌∷◌, ◌++◌, Option, None, Some, slice_get, length, take, drop, refl, sym, ap, subst, arith, append_assoc, append-nil}
+use Rattle.std.proofs.Common.{◌≡◌, ◌≢◌, ◌∙◌, ℕ, zero, suc, ◌+◌, ◌≤◌, List, [], ◌∷◌, ◌++◌, None, Some, slice_get, length, drop, refl, sym, ap, subst, arith, append_assoc, append-nil}
 use Rattle.std.specs.Prelude.{flat_map}
 use Rattle.std.specs.List.{enumerate_from, fold}
-use Rattle.std.proofs.lemmas.List.{drop_all, drop_at, drop-drop, take_at, length_push}
+use Rattle.std.proofs.lemmas.List.{drop_at, drop-drop, take_at}
 use Rattle.std.proofs.lemmas.List.Sums.{fold-append}
 use Rattle.idl_event.specs.Apart.{AreApart, ArePassed, Numbered, StandApart, emitted, events_from, other_in, others_in, site_at, site_in, sites_in, token_in, tokens_in, with_event, woven}
 use Rattle.idl_event.specs.declared.event.Event.{Event}

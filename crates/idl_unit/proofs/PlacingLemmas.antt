@@ -4,16 +4,16 @@ use Rattle.std.specs.Prelude.{flat_map, nat_lt}
 use Rattle.std.proofs.lemmas.Bool.{ne_eqb, lt-ltb}
 use Rattle.std.proofs.lemmas.List.{append-nil, drop-drop, drop_all, drop_at, length_push, length-take-le, take_at}
 use Rattle.idl_event.proofs.ApartLemmas.{length-sites_in}
+use Rattle.idl_event.specs.Apart.{Numbered, site_at, site_in, sites_in, token_in, tokens_in}
 use Rattle.idl_event.specs.declared.event.Event.TheVariants as event
 use Rattle.idl_event.specs.declared.place.Place.{Place}
+use Rattle.idl_event.specs.declared.site.Site.{Site}
 use Rattle.idl_lex.specs.Tokens.{Token}
 use Rattle.idl_unit.specs.Cut.{parts_after}
 use Rattle.idl_unit.specs.Ending.{ends, is_empty, token_units}
 use Rattle.idl_unit.specs.Placing.{Ahead, IsWithin, after_begun, after_token, ahead, begun, begun_of, placed, to_come}
 use Rattle.idl_unit.specs.declared.cut.Cut.{Cut}
-use Rattle.idl_event.specs.Apart.{Numbered, site_at, site_in, sites_in, token_in, tokens_in}
 use Rattle.idl_unit.specs.Units.{spelled, stretch_ends, stretch_units, unit_in, units_in}
-use Rattle.idl_event.specs.declared.site.Site.{Site}
 use Rattle.idl_unit.specs.declared.unit.Unit.{Unit as RootUnit}
 use Rattle.idl_unit.specs.declared.unit.Unit.TheVariants.{Spelled}
 use Rattle.idl_unit.specs.declared.unit.UnitText.TheVariants.{Tokens}

@@ -2,11 +2,11 @@
 use Rattle.std.specs.Prelude.{◌≡◌, ℕ, ◌-◌, ◌≤◌, List, [], ◌∷◌, ◌++◌, drop, length, nat_eq, nat_lt, take, if◌then◌else◌}
 use Rattle.idl_event.specs.Apart.{Numbered}
 use Rattle.idl_event.specs.declared.event.Event.TheVariants as event
+use Rattle.idl_event.specs.declared.site.Site.{Site}
 use Rattle.idl_lex.specs.Tokens.{Token}
 use Rattle.idl_unit.specs.Ending.{token_units}
 use Rattle.idl_unit.specs.Units.{unit_in}
 use Rattle.idl_unit.specs.declared.cut.Cut.{Cut}
-use Rattle.idl_event.specs.declared.site.Site.{Site}
 use Rattle.idl_unit.specs.declared.unit.Unit.{Unit as RootUnit}
 use Rattle.idl_unit.specs.declared.unit.Unit.TheVariants.{Spelled}
 use Rattle.idl_unit.specs.declared.unit.UnitText.TheVariants.{Tokens}

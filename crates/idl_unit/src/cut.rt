@@ -63,7 +63,8 @@ impl<'a> Cut<'a> {
         requires { IsWithin self.old }
         ensures within { OnOk result (IsWithin self.new) }
         ensures units { OnOk result ((events : List Numbered)
-            → to_come self.new events ≡ to_come self.old ((number, event_told event) ∷ events)) }
+            → to_come self.new events
+            ≡ to_come self.old ((number, event_told event.entry) ∷ events)) }
     {
         match event {
             Told::Emitted(_place, _token) => self.put_token(),

@@ -1,7 +1,7 @@
 use Rattle.std.proofs.Common.{List, ◌≡◌, ◌∙◌, ◌++◌, ◌∷◌, [], ◌+◌, length, sym, ap, subst, rules}
+use Rattle.idl_event.proofs.ApartLemmas.{woven-other}
 use Rattle.idl_event.specs.Apart.{StandApart, woven}
 use Rattle.idl_event.specs.declared.event.Event.{Event}
-use Rattle.idl_event.proofs.ApartLemmas.{woven-other}
 use Rattle.idl_event.proofs.builder.ExpansionBuilder.push.Goals as goal
 
 pub invariant_of-self-in_default : goal.invariant_of-self-in_default

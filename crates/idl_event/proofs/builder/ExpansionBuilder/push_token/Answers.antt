@@ -1,8 +1,8 @@
-use Rattle.std.proofs.Common.{List, ◌≡◌, ◌∙◌, ◌++◌, ◌∷◌, [], ◌+◌, length, sym, ap, subst₂, arith, rules}
+use Rattle.std.proofs.Common.{List, ◌≡◌, ◌∙◌, ◌++◌, ◌∷◌, [], ◌+◌, length, sym, ap, subst₂, rules}
+use Rattle.idl_event.proofs.ApartLemmas.{woven-token}
 use Rattle.idl_event.specs.Apart.{StandApart, site_at, woven}
 use Rattle.idl_event.specs.declared.event.Event.{Event}
 use Rattle.idl_event.specs.declared.event.Event.TheVariants.{Emitted}
-use Rattle.idl_event.proofs.ApartLemmas.{woven-token}
 use Rattle.idl_event.proofs.builder.ExpansionBuilder.push_token.Goals as goal
 
 pub invariant_of-self-2 : goal.invariant_of-self-2
