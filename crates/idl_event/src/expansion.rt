@@ -1,33 +1,74 @@
 //! What a root expands to, and the walk over it.
 
-ghost use Rattle.std.specs.Prelude.{◌≡◌};
+ghost use Rattle.std.specs.Prelude.{◌≡◌, ◌≢◌, IfNone, IfSome, Some, slice_get};
 ghost use Rattle.std.specs.List.{enumerate_from};
+ghost use Rattle.idl_event.specs.Apart.{StandApart, others_in, sites_in, tokens_in, woven};
+ghost use Rattle.idl_event.specs.declared.event.Event.{Event};
 
 use crate::event::Event;
+use crate::site::Site;
+use crate::told::Told;
+use idl_lex::Token;
 use std::marker::Model;
+use std::rc::Rc;
 
-/// What a root expands to: to every contract the list of its events. They are walked in order, and none is asked for by
-/// its number, so that parts of it can be shared.
+/// What a root expands to: to every contract the list of its events. The tokens of its text stand apart from the others, so
+/// that they are shared.
 #[derive(Drop)]
 pub struct Expansion {
-    events: Vec<Event>,
+    text: Rc<Vec<Token>>,
+    sites: Rc<Vec<Site>>,
+    others: Vec<(usize, Event)>,
 }
 
 impl Model for Expansion {
     ghost use Rattle.std.specs.Prelude.{List};
+    ghost use Rattle.idl_event.specs.Apart.{StandApart, woven};
     ghost use Rattle.idl_event.specs.declared.event.Event.{Event};
 
     ghost Value = { List Event };
 
-    ghost view = { λ expansion. expansion.events.items };
+    ghost view = { λ e. woven e.sites.value.items e.text.value.items e.others.items };
+
+    ghost invariant = { λ e. StandApart e.sites.value.items e.text.value.items e.others.items };
 }
 
 impl Expansion {
-    /// What consists of these events. It takes no memory.
-    pub fn from_vec(events: Vec<Event>) -> Expansion
-        ensures { result ≡ events.items }
+    // What consists of these tokens, at these sites, and of these other events.
+    pub fn from_parts(
+        text: Rc<Vec<Token>>,
+        sites: Rc<Vec<Site>>,
+        others: Vec<(usize, Event)>,
+    ) -> Expansion
+        requires { StandApart sites.value.items text.value.items others.items }
+        ensures { result ≡ woven sites.value.items text.value.items others.items }
     {
-        Expansion { events }
+        Expansion {
+            text,
+            sites,
+            others,
+        }
+    }
+
+    /// The tokens of its text in order.
+    pub fn text(&self) -> &Rc<Vec<Token>>
+        ensures { result.now.value.items ≡ tokens_in (enumerate_from 0 self.now) }
+    {
+        &self.text
+    }
+
+    /// Where each of these tokens stands.
+    pub fn sites(&self) -> &Rc<Vec<Site>>
+        ensures { result.now.value.items ≡ sites_in (enumerate_from 0 self.now) }
+    {
+        &self.sites
+    }
+
+    /// The events that are no tokens of the text in order, each with its number among all, from 0.
+    pub fn others(&self) -> &[(usize, Event)]
+        ensures { result.now ≡ others_in (enumerate_from 0 self.now) }
+    {
+        &self.others
     }
 
     /// The events in order, each with its number, from 0.
@@ -35,16 +76,12 @@ impl Expansion {
         ensures { result ≡ enumerate_from 0 self.now }
     {
         Events {
-            all: &self.events,
-            number: 0,
+            text: self.text.as_slice(),
+            sites: self.sites.as_slice(),
+            others: &self.others,
+            tokens_passed: 0,
+            others_passed: 0,
         }
-    }
-
-    /// All events at once, for who cannot walk them.
-    pub fn as_slice(&self) -> &[Event]
-        ensures { result.now ≡ self.now }
-    {
-        &self.events
     }
 }
 
@@ -52,35 +89,63 @@ impl Expansion {
 /// number.
 #[derive(Drop)]
 pub struct Events<'a> {
-    all: &'a [Event],
-    number: usize,
+    text: &'a [Token],
+    sites: &'a [Site],
+    others: &'a [(usize, Event)],
+    tokens_passed: usize,
+    others_passed: usize,
 }
 
 impl<'a> Model for Events<'a> {
-    ghost use Rattle.std.specs.Prelude.{List, ℕ, ◌≤◌, drop, length};
-    ghost use Rattle.std.specs.List.{enumerate_from};
+    ghost use Rattle.std.specs.Prelude.{List, ℕ, ◌+◌};
+    ghost use Rattle.idl_event.specs.Apart.{ArePassed, events_from, woven};
     ghost use Rattle.idl_event.specs.declared.event.Event.{Event};
 
     ghost Value = { List (ℕ × Event) };
 
-    ghost view = { λ events. enumerate_from events.number (drop events.number events.all.now) };
+    ghost view = { λ e.
+        events_from (e.tokens_passed + e.others_passed)
+        (woven e.sites.now e.text.now e.others.now) };
 
-    ghost invariant = { λ events. events.number ≤ length events.all.now };
+    ghost invariant = { λ e.
+        ArePassed e.sites.now e.text.now e.others.now e.tokens_passed e.others_passed };
 }
 
 impl<'a> Iterator for Events<'a> {
     ghost use Rattle.std.specs.Iterator.{YieldsFirstBy, item_count};
+    ghost use Rattle.idl_event.specs.Told.{event_told};
 
-    type Item = (usize, &'a Event);
+    type Item = (usize, Told<'a>);
 
-    ghost next_gives = { YieldsFirstBy (λ item. (item.0, item.1.now)) (λ events. events) };
+    ghost next_gives = { YieldsFirstBy (λ item. (item.0, event_told item.1)) (λ events. events) };
 
     ghost remaining = { item_count (λ events. events) };
 
-    fn next(&mut self) -> Option<(usize, &'a Event)> {
-        let number = self.number;
-        let event = self.all.get(number)?;
-        self.number = number + 1;
-        Some((number, event))
+    fn next(&mut self) -> Option<(usize, Told<'a>)> {
+        let number = self.tokens_passed + self.others_passed;
+        match other_at(self.others, self.others_passed, number) {
+            Some(event) => {
+                self.others_passed += 1;
+                Some((number, Told::Other(event)))
+            }
+            None => {
+                let site = self.sites.get(self.tokens_passed)?;
+                let token = self.text.get(self.tokens_passed)?;
+                self.tokens_passed += 1;
+                Some((number, Told::Emitted(&site.place, token)))
+            }
+        }
+    }
+}
+
+// The event with a number, where it stands at this place among those that are no tokens.
+fn other_at(others: &[(usize, Event)], place: usize, number: usize) -> Option<&Event>
+    ensures some { IfSome result (λ event. slice_get others.now place ≡ Some (number, event.now)) }
+    ensures none { IfNone result ((event : Event)
+        → slice_get others.now place ≢ Some (number, event)) }
+{
+    match others.get(place) {
+        Some((at, event)) if *at == number => Some(event),
+        _ => None,
     }
 }

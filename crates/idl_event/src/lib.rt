@@ -5,6 +5,7 @@
 #![tactic(auto)]
 
 mod allowance;
+mod builder;
 mod code;
 mod diagnostic;
 mod event;
@@ -18,8 +19,11 @@ mod lexed_line;
 mod place;
 mod progress;
 mod root_bank;
+mod site;
+mod told;
 
 pub use allowance::{Allowance, MAX_TOKENS, MAX_TURNS};
+pub use builder::ExpansionBuilder;
 pub use code::Code;
 pub use diagnostic::diagnostic_row;
 pub use event::{Event, Item};
@@ -31,3 +35,5 @@ pub use lexed_line::LexedLine;
 pub use place::Place;
 pub use progress::Progress;
 pub use root_bank::RootBank;
+pub use site::Site;
+pub use told::Told;

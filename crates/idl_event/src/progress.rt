@@ -10,6 +10,7 @@ ghost use Rattle.idl_event.specs.declared.event.Event.TheVariants.{Emitted};
 ghost use Rattle.idl_event.specs.declared.event.Item.TheVariants.{Kept};
 
 use crate::allowance::Allowance;
+use crate::builder::ExpansionBuilder;
 use crate::code::Code;
 use crate::event::{Event, Item};
 use crate::hinted_log::HintedLog;
@@ -28,7 +29,7 @@ use std::marker::Model;
 /// of memory nothing is said of it.
 #[derive(Drop)]
 pub struct Progress<B: RootBank> {
-    kept: Vec<Event>,
+    kept: ExpansionBuilder,
     left: Option<Allowance>,
     log: HintedLog<B>,
 }
@@ -45,7 +46,7 @@ impl<B: RootBank> Model for Progress<B> {
 
     ghost Value = { Reached Key (Option Answer) Event Allowance };
 
-    ghost view = { λ p. record { kept = p.kept.items; left = p.left; log = p.log } };
+    ghost view = { λ p. record { kept = p.kept; left = p.left; log = p.log } };
 
     ghost invariant = { λ p. turns_left p.left ≤ turns_at_most };
 }
@@ -57,30 +58,23 @@ impl<B: RootBank> Progress<B> {
         ensures { result ≡ beginning log }
     {
         Progress {
-            kept: Vec::new(alloc),
+            kept: ExpansionBuilder::new(alloc),
             left: Some(Allowance::new()),
             log: HintedLog::new(alloc, log),
         }
     }
 
     /// The events, and the log.
-    pub fn into_parts(self) -> (Vec<Event>, Log<B>)
-        ensures events { result.0.items ≡ self.kept }
+    pub fn into_parts(self) -> (ExpansionBuilder, Log<B>)
+        ensures events { result.0 ≡ self.kept }
         ensures log { result.1 ≡ self.log }
     {
         (self.kept, self.log.into_log())
     }
 
-    /// The events so far.
-    pub fn events(&self) -> &[Event]
-        ensures { result.now ≡ self.now.kept }
-    {
-        &self.kept
-    }
-
     /// Where its memory comes from.
     pub fn allocator(&self) -> Global {
-        *self.kept.allocator()
+        self.kept.allocator()
     }
 
     /// Whether an item was past the limits.
@@ -105,8 +99,7 @@ impl<B: RootBank> Progress<B> {
             }
             None => {
                 self.left = None;
-                self.kept.push(item.past_limit())?;
-                Ok(())
+                self.kept.push(item.past_limit())
             }
         }
     }
@@ -119,12 +112,10 @@ impl<B: RootBank> Progress<B> {
             return Ok(());
         };
         self.left = left.after_token();
-        let event = match self.left {
-            Some(_) => Event::Emitted(place, token),
-            None => Event::Fault(place, Code::PastLimit, None),
-        };
-        self.kept.push(event)?;
-        Ok(())
+        match self.left {
+            Some(_) => self.kept.push_token(place, token),
+            None => self.kept.push(Event::Fault(place, Code::PastLimit, None)),
+        }
     }
 
     /// The bank's answer at a key, which is logged.
@@ -154,8 +145,8 @@ impl<B: RootBank> Progress<B> {
 }
 
 // What is kept of an item goes behind the events.
-fn keep(kept: &mut Vec<Event>, item: Item) -> Result<(), AllocError>
-    ensures { OnOk result (kept.new.items ≡ kept.old.items ++ option_to_list (event_of item)) }
+fn keep(kept: &mut ExpansionBuilder, item: Item) -> Result<(), AllocError>
+    ensures { OnOk result (kept.new ≡ kept.old ++ option_to_list (event_of item)) }
 {
     if let Some(event) = item.event() {
         kept.push(event)?;

@@ -26,7 +26,10 @@ use crate::line::Directive;
 use crate::operand::Operand;
 use crate::replaced_operand::operand_of;
 use crate::site::Site;
-use idl_event::{Answer, Code, Event, FileName, Item, Key, LexedFile, Place, Progress, RootBank};
+use idl_event::{
+    Answer, Code, Event, ExpansionBuilder, FileName, Item, Key, LexedFile, Place, Progress,
+    RootBank,
+};
 use idl_groups::Test;
 use idl_lex::{FileTokens, Spelling};
 use idl_macro::{Definitions, Macros, condition, define, ifdef, ifndef, replace_text, undef};
@@ -78,8 +81,8 @@ impl<B: RootBank> Root<B> {
     }
 
     /// The events, and the log.
-    pub fn into_parts(self) -> (Vec<Event>, Log<B>)
-        ensures events { result.0.items ≡ self.progress.kept }
+    pub fn into_parts(self) -> (ExpansionBuilder, Log<B>)
+        ensures events { result.0 ≡ self.progress.kept }
         ensures log { result.1 ≡ self.progress.log }
     {
         let Root {

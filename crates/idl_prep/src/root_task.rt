@@ -64,7 +64,8 @@ impl<B: RootBank> Task<B> for RootTask {
         expand(&mut root, &file, bank)?;
         let (events, logged) = root.into_parts();
         *log = logged;
-        Ok(Expansion::from_vec(events))
+        let expansion = events.build(alloc)?;
+        Ok(expansion)
     }
 }
 

@@ -3,6 +3,7 @@ use Rattle.std.proofs.Common.{◌≡◌, ℕ, List, [], ◌∷◌, ◌++◌, fla
 use Rattle.std.specs.List.{enumerate_from}
 use Rattle.std.proofs.lemmas.Grind.{flat_map-append}
 use Rattle.idl_event.specs.declared.event.Event.{Event}
+use Rattle.idl_event.specs.declared.site.Site.{Site}
 use Rattle.idl_root.specs.Compile.{Outcome, outcome_of, row_in}
 use Rattle.idl_root.specs.Findings.{event_finding, unit_finding}
 use Rattle.idl_root.specs.Held.{to_come, with_judged}
@@ -10,7 +11,6 @@ use Rattle.idl_root.specs.Judged.{Judged, added, boundary, facts_after, judged_a
 use Rattle.idl_root.specs.Printed.{listed_in}
 use Rattle.idl_scope.specs.declared.addition.Step.TheVariants.{Enters, Leaves}
 use Rattle.idl_unit.specs.Units.{units_of}
-use Rattle.idl_unit.specs.declared.unit.Site.{Site}
 use Rattle.idl_unit.specs.declared.unit.Unit.{Unit as RootUnit}
 use Rattle.idl_unit.specs.declared.unit.Unit.TheVariants.{Spelled, Entered, Left, End}
 use Rattle.idl_unit.specs.declared.unit.UnitText.{UnitText}

@@ -1,3 +1,4 @@
+mod FindingLemmas
 mod JudgingLemmas
 mod OrderLemmas
 mod PrintLemmas

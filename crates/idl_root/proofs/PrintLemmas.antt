@@ -2,13 +2,13 @@
 use Rattle.std.proofs.Common.{◌≡◌, ◌+◌, ℕ, Bool, true, false, List, [], ◌∷◌, ◌++◌, Some, cond, drop, refl, ap, sym, ◌∙◌, append_assoc}
 use Rattle.std.specs.Prelude.{slice_get}
 use Rattle.std.proofs.lemmas.List.{map-append}
+use Rattle.idl_event.specs.declared.site.Site.{Site}
 use Rattle.idl_root.specs.Printed.{Listed, first_paths, listed_with}
 use Rattle.idl_scope.proofs.PlaceLemmas.{drop-at1}
 use Rattle.idl_scope.specs.Identity.{fixed_eq}
 use Rattle.idl_scope.specs.declared.addition.Addition.{Addition}
 use Rattle.idl_scope.specs.declared.addition.Addition.TheVariants.{Declares, Uses, Identifies}
 use Rattle.idl_scope.specs.declared.identity.Fixed.TheVariants.{Nothing}
-use Rattle.idl_unit.specs.declared.unit.Site.{Site}
 use Rattle.idl_unit.specs.declared.unit.UnitText.{UnitText}
 
 first_paths-cons : (a : Addition) (additions : List Addition) → first_paths (a ∷ additions) ≡ first_paths (a ∷ []) ++ first_paths additions

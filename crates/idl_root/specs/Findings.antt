@@ -1,15 +1,15 @@
 -- What is found in a root, and the order in which it is told.
 use Rattle.std.specs.Prelude.{ℕ, List, [], ◌∷◌, nat_le, slice_get, Option, None, Some, if◌then◌else◌}
+use Rattle.idl_event.specs.Apart.{Numbered}
 use Rattle.idl_event.specs.Diagnostic.{diagnostic_row}
 use Rattle.idl_event.specs.declared.code.Code.{Code}
 use Rattle.idl_event.specs.declared.event.Event.TheVariants as event
+use Rattle.idl_event.specs.declared.site.Site.{Site}
 use Rattle.idl_lex.specs.Tokens.{Token}
 use Rattle.idl_root.specs.Judged.{Judged}
 use Rattle.idl_root.specs.declared.finding.Finding.{Finding}
 use Rattle.idl_unit.specs.TokenRules.{first}
-use Rattle.idl_unit.specs.Units.{Numbered}
 use Rattle.idl_unit.specs.declared.fault.Fault.{Fault}
-use Rattle.idl_unit.specs.declared.unit.Site.{Site}
 use Rattle.idl_unit.specs.declared.unit.UnitText.{UnitText}
 use Rattle.idl_unit.specs.declared.unit.UnitText.TheVariants.{Tokens, Pragma}
 

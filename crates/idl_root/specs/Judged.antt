@@ -3,12 +3,12 @@
 use Rattle.std.specs.Prelude.{List, [], ◌∷◌, ◌++◌}
 use Rattle.idl_check.specs.Verdict.{verdict}
 use Rattle.idl_check.specs.declared.verdict.Verdict.{Verdict}
+use Rattle.idl_event.specs.declared.site.Site.{Site}
 use Rattle.idl_memo.specs.Query.{outcome}
 use Rattle.idl_scope.specs.Facts.{UnitFacts, answers}
 use Rattle.idl_scope.specs.declared.addition.Step.{Step}
 use Rattle.idl_scope.specs.declared.addition.Step.TheVariants.{Enters, Leaves}
 use Rattle.idl_scope.specs.declared.lookup.TheConstants.{TURNS}
-use Rattle.idl_unit.specs.declared.unit.Site.{Site}
 use Rattle.idl_unit.specs.declared.unit.Unit.{Unit as RootUnit}
 use Rattle.idl_unit.specs.declared.unit.Unit.TheVariants.{Spelled, Entered, Left, End}
 use Rattle.idl_unit.specs.declared.unit.UnitText.{UnitText}

@@ -1,6 +1,7 @@
 -- The names of a root that have an id, and what comes of them at its end.
 use Rattle.std.specs.Prelude.{ℕ, ◌-◌, List, [], ◌∷◌, length, map, option_to_list, if◌then◌else◌}
 use Rattle.std.specs.Option.{option_map}
+use Rattle.idl_event.specs.declared.site.Site.{Site}
 use Rattle.idl_memo.specs.Query.{outcome}
 use Rattle.idl_repo.specs.Entry.{entry}
 use Rattle.idl_repo.specs.declared.entry.Entry.{Entry}
@@ -13,7 +14,6 @@ use Rattle.idl_scope.specs.declared.addition.Addition.{Addition}
 use Rattle.idl_scope.specs.declared.addition.Addition.TheVariants.{Declares, Uses, Identifies}
 use Rattle.idl_scope.specs.declared.identity.Fixed.TheVariants.{Nothing}
 use Rattle.idl_unit.specs.TokenRules.{fault_at}
-use Rattle.idl_unit.specs.declared.unit.Site.{Site}
 use Rattle.idl_unit.specs.declared.unit.UnitText.{UnitText}
 
 -- a name that has an id: its path, and the text of the unit that declares it first, with the places

@@ -7,9 +7,9 @@ ghost use Rattle.idl_root.specs.Compile.{has_error};
 ghost use Rattle.idl_root.specs.Findings.{event_finding, fault_finding, finding_at, in_order, site_of, tokens_of};
 
 use idl_base::Text;
-use idl_event::{Code, Event, Expansion, Place, diagnostic_row};
+use idl_event::{Code, Event, Expansion, Place, Site, diagnostic_row};
 use idl_scope::Shared;
-use idl_unit::{Fault, Site, UnitText};
+use idl_unit::{Fault, UnitText};
 use std::alloc::{AllocError, Global};
 
 /// A diagnostic: the number of the event that it names, its code, and its row.
@@ -32,9 +32,10 @@ pub fn event_findings(alloc: Global, expansion: &Expansion) -> Result<Vec<Findin
     ensures { IfOk result (λ findings. findings.items
         ≡ flat_map event_finding (enumerate_from 0 expansion.now)) }
 {
+    let others = expansion.others();
     let mut findings = Vec::new(alloc);
-    for (number, event) in expansion.events() {
-        push_event(alloc, &mut findings, number, event)?;
+    for (number, event) in others {
+        push_event(alloc, &mut findings, *number, event)?;
     }
     Ok(findings)
 }

@@ -3,19 +3,21 @@ use Rattle.std.proofs.Common.{◌≡◌, ◌≢◌, ◌∙◌, ℕ, zero, suc, �
 use Rattle.std.specs.Prelude.{flat_map, nat_eq, ⊤}
 use Rattle.std.specs.List.{enumerate_from}
 use Rattle.std.proofs.lemmas.List.{append-nil, nil_from_length}
+use Rattle.idl_event.proofs.ApartLemmas.{length-sites_in}
+use Rattle.idl_event.specs.Apart.{Numbered, sites_in, tokens_in}
 use Rattle.idl_event.specs.declared.event.Event.{Event}
 use Rattle.idl_event.specs.declared.event.Event.TheVariants as event
+use Rattle.idl_event.specs.declared.site.Site.{Site}
 use Rattle.idl_lex.specs.Tokens.{Token}
 use Rattle.idl_unit.specs.Ending.{ends, token_units}
 use Rattle.idl_unit.specs.Held.{other_in, text_in, text_sites}
 use Rattle.idl_unit.specs.Parts.{AreParts, IsCutInto, joined}
 use Rattle.idl_unit.specs.Placing.{Ahead, after_token, begun, begun_of, placed}
-use Rattle.idl_unit.specs.Units.{Numbered, sites_in, tokens_in, unit_in, units_in, units_of}
-use Rattle.idl_unit.specs.declared.unit.Site.{Site}
+use Rattle.idl_unit.specs.Units.{unit_in, units_in, units_of}
 use Rattle.idl_unit.specs.declared.unit.Unit.TheVariants.{End}
 use Rattle.idl_unit.proofs.EndingLemmas.{ends-end}
 use Rattle.idl_unit.proofs.PartsLemmas.{are-parts}
-use Rattle.idl_unit.proofs.PlacingLemmas.{ahead_of, length-sites_in, placed-inside, placed-units}
+use Rattle.idl_unit.proofs.PlacingLemmas.{ahead_of, placed-inside, placed-units}
 
 flat_map-append : {A B : Type 0} (f : A → List B) (xs ys : List A) → flat_map f (xs ++ ys) ≡ flat_map f xs ++ flat_map f ys
 flat_map-append f [] ys = refl

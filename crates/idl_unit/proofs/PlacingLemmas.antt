@@ -3,15 +3,17 @@ use Rattle.std.proofs.Common.{◌≡◌, ◌≢◌, ◌∙◌, ℕ, ◌+◌, ◌
 use Rattle.std.specs.Prelude.{flat_map, nat_lt}
 use Rattle.std.proofs.lemmas.Bool.{ne_eqb, lt-ltb}
 use Rattle.std.proofs.lemmas.List.{append-nil, drop-drop, drop_all, drop_at, length_push, length-take-le, take_at}
+use Rattle.idl_event.proofs.ApartLemmas.{length-sites_in}
+use Rattle.idl_event.specs.Apart.{Numbered, site_at, site_in, sites_in, token_in, tokens_in}
 use Rattle.idl_event.specs.declared.event.Event.TheVariants as event
 use Rattle.idl_event.specs.declared.place.Place.{Place}
+use Rattle.idl_event.specs.declared.site.Site.{Site}
 use Rattle.idl_lex.specs.Tokens.{Token}
 use Rattle.idl_unit.specs.Cut.{parts_after}
 use Rattle.idl_unit.specs.Ending.{ends, is_empty, token_units}
 use Rattle.idl_unit.specs.Placing.{Ahead, IsWithin, after_begun, after_token, ahead, begun, begun_of, placed, to_come}
 use Rattle.idl_unit.specs.declared.cut.Cut.{Cut}
-use Rattle.idl_unit.specs.Units.{Numbered, site_at, site_in, sites_in, spelled, stretch_ends, stretch_units, token_in, tokens_in, unit_in, units_in}
-use Rattle.idl_unit.specs.declared.unit.Site.{Site}
+use Rattle.idl_unit.specs.Units.{spelled, stretch_ends, stretch_units, unit_in, units_in}
 use Rattle.idl_unit.specs.declared.unit.Unit.{Unit as RootUnit}
 use Rattle.idl_unit.specs.declared.unit.Unit.TheVariants.{Spelled}
 use Rattle.idl_unit.specs.declared.unit.UnitText.TheVariants.{Tokens}
@@ -28,15 +30,6 @@ flat_map-push f (y ∷ front) x = ap (λ l. f y ++ l) (flat_map-push f front x) 
 or-true : (a : Bool) → (a || true) ≡ true
 or-true true = refl
 or-true false = refl
-
--- each token has one site
-pub length-sites_in : (events : List Numbered) → length (sites_in events) ≡ length (tokens_in events)
-length-sites_in [] = refl
-length-sites_in ((n, event.Emitted place token) ∷ events) = omega (arith, length-sites_in events)
-length-sites_in ((n, event.Entered file) ∷ events) = length-sites_in events
-length-sites_in ((n, event.Left file) ∷ events) = length-sites_in events
-length-sites_in ((n, event.Pragma place tokens) ∷ events) = length-sites_in events
-length-sites_in ((n, event.Fault place code text) ∷ events) = length-sites_in events
 
 empty-push : (front : List Token) (t : Token) → is_empty (front ++ t ∷ []) ≡ false
 empty-push [] t = refl
@@ -329,7 +322,7 @@ begin-none text sites from inside outside le =
     )
 
 -- where the cut begins, it is within the text
-pub start-within : (cut : Cut) (events : List Numbered) → cut.gathered.now.text.value.items ≡ tokens_in events → cut.gathered.now.sites.value.items ≡ sites_in events
+pub start-within : (cut : Cut) (events : List Numbered) → cut.text.now.value.items ≡ tokens_in events → cut.sites.now.value.items ≡ sites_in events
     → cut.taken ≡ 0 → IsWithin cut
 start-within cut events text sites taken = record {
   length_same = ap length sites ∙ length-sites_in events ∙ sym (ap length text);
@@ -337,12 +330,12 @@ start-within cut events text sites taken = record {
 }
 
 -- and all units are to come
-pub start-to_come : (cut : Cut) (events : List Numbered) → cut.gathered.now.text.value.items ≡ tokens_in events → cut.gathered.now.sites.value.items ≡ sites_in events
+pub start-to_come : (cut : Cut) (events : List Numbered) → cut.text.now.value.items ≡ tokens_in events → cut.sites.now.value.items ≡ sites_in events
     → cut.units.items ≡ [] → cut.taken ≡ 0 → cut.inside ≡ 0 → to_come cut events ≡ units_in events
 start-to_come cut events text sites units taken inside =
     ap (λ l. l ++ placed (ahead cut) events) units
-    ∙ ap (λ n. placed (ahead_of (token_units (drop n cut.gathered.now.text.value.items)) (drop n cut.gathered.now.sites.value.items) cut.inside) events) taken
-    ∙ ap (λ l. placed (ahead_of (token_units l) cut.gathered.now.sites.value.items cut.inside) events) text
+    ∙ ap (λ n. placed (ahead_of (token_units (drop n cut.text.now.value.items)) (drop n cut.sites.now.value.items) cut.inside) events) taken
+    ∙ ap (λ l. placed (ahead_of (token_units l) cut.sites.now.value.items cut.inside) events) text
     ∙ ap (λ l. placed (ahead_of (token_units (tokens_in events)) l cut.inside) events) sites
     ∙ ap (λ n. placed (ahead_of (token_units (tokens_in events)) (sites_in events) n) events) inside
     ∙ placed-units events

@@ -1,11 +1,12 @@
 -- Words for the steps of the cut of events.
 use Rattle.std.specs.Prelude.{◌≡◌, ℕ, ◌-◌, ◌≤◌, List, [], ◌∷◌, ◌++◌, drop, length, nat_eq, nat_lt, take, if◌then◌else◌}
+use Rattle.idl_event.specs.Apart.{Numbered}
 use Rattle.idl_event.specs.declared.event.Event.TheVariants as event
+use Rattle.idl_event.specs.declared.site.Site.{Site}
 use Rattle.idl_lex.specs.Tokens.{Token}
 use Rattle.idl_unit.specs.Ending.{token_units}
-use Rattle.idl_unit.specs.Units.{Numbered, unit_in}
+use Rattle.idl_unit.specs.Units.{unit_in}
 use Rattle.idl_unit.specs.declared.cut.Cut.{Cut}
-use Rattle.idl_unit.specs.declared.unit.Site.{Site}
 use Rattle.idl_unit.specs.declared.unit.Unit.{Unit as RootUnit}
 use Rattle.idl_unit.specs.declared.unit.Unit.TheVariants.{Spelled}
 use Rattle.idl_unit.specs.declared.unit.UnitText.TheVariants.{Tokens}
@@ -46,8 +47,8 @@ placed a ((n, other) ∷ events) = unit_in (nat_lt 0 a.inside) (n, other) ++ pla
 -- what is still to come of a cut
 abbrev pub ahead : Cut → Ahead
 ahead cut = record {
-  units = token_units (drop cut.taken cut.gathered.now.text.value.items);
-  sites = drop cut.taken cut.gathered.now.sites.value.items;
+  units = token_units (drop cut.taken cut.text.now.value.items);
+  sites = drop cut.taken cut.sites.now.value.items;
   inside = cut.inside;
 }
 
@@ -57,6 +58,6 @@ to_come cut events = cut.units.items ++ placed (ahead cut) events
 
 -- a token has one site, and the cut is within the text
 pub record IsWithin (cut : Cut) : Type 0 where
-  pub length_same : length cut.gathered.now.sites.value.items
-      ≡ length cut.gathered.now.text.value.items
-  pub taken_at_most : cut.taken ≤ length cut.gathered.now.text.value.items
+  pub length_same : length cut.sites.now.value.items
+      ≡ length cut.text.now.value.items
+  pub taken_at_most : cut.taken ≤ length cut.text.now.value.items

@@ -1,39 +1,16 @@
 -- The units of a root, from the events that it expands to.
 use Rattle.std.specs.Prelude.{ℕ, Bool, ◌||◌, List, [], ◌∷◌, ◌++◌, flat_map, not}
 use Rattle.std.specs.List.{enumerate_from}
+use Rattle.idl_event.specs.Apart.{Numbered, site_at, sites_in, tokens_in}
 use Rattle.idl_event.specs.declared.event.Event.{Event}
 use Rattle.idl_event.specs.declared.event.Event.TheVariants as event
-use Rattle.idl_event.specs.declared.place.Place.{Place}
+use Rattle.idl_event.specs.declared.site.Site.{Site}
 use Rattle.idl_lex.specs.Tokens.{Token}
 use Rattle.idl_unit.specs.Cut.{parts}
 use Rattle.idl_unit.specs.Ending.{ends, is_empty}
-use Rattle.idl_unit.specs.declared.unit.Site.{Site}
 use Rattle.idl_unit.specs.declared.unit.Unit.{Unit as RootUnit}
 use Rattle.idl_unit.specs.declared.unit.Unit.TheVariants.{Spelled, Entered, Left, End}
 use Rattle.idl_unit.specs.declared.unit.UnitText.TheVariants.{Tokens, Pragma}
-
--- an event with its number
-abbrev pub Numbered : Type 0
-Numbered = ℕ × Event
-
-abbrev pub site_at : ℕ → Place → Site
-site_at n place = record { event = n; place = place }
-
--- the token that an event is: one, or none
-abbrev pub token_in : Numbered → List Token
-token_in (n, event.Emitted place token) = token ∷ []
-token_in (n, other) = []
-
--- where it stands
-abbrev pub site_in : Numbered → List Site
-site_in (n, event.Emitted place token) = site_at n place ∷ []
-site_in (n, other) = []
-
-abbrev pub tokens_in : List Numbered → List Token
-tokens_in events = flat_map token_in events
-
-abbrev pub sites_in : List Numbered → List Site
-sites_in events = flat_map site_in events
 
 -- A stretch of events ends where it has no token, and else where its tokens are a unit before those
 -- of the rest. So it is a unit from its first token through its last one, or one event outside of

@@ -1,14 +1,17 @@
 //! The cut of an expansion into units.
 
 ghost use Rattle.std.specs.Prelude.{◌≡◌, ◌∷◌, ◌++◌, [], List, IfOk, OnOk};
+ghost use Rattle.std.specs.List.{enumerate_from};
+ghost use Rattle.idl_event.specs.Apart.{Numbered, site_at, sites_in, tokens_in};
+ghost use Rattle.idl_event.specs.Told.{event_told};
 ghost use Rattle.idl_unit.specs.Placing.{ahead, after_token, begun, IsWithin, to_come};
-ghost use Rattle.idl_unit.specs.Units.{Numbered, site_at, units_of};
+ghost use Rattle.idl_unit.specs.Units.{units_of};
 
 use crate::ending::first_unit;
-use crate::gathered::Gathered;
 use crate::run::Run;
-use crate::unit::{Site, Unit, UnitText, Units};
-use idl_event::{Event, Expansion, Place};
+use crate::unit::{Unit, UnitText, Units};
+use idl_event::{Event, Expansion, Place, Site, Told};
+use idl_lex::Token;
 use std::alloc::{AllocError, Global};
 use std::rc::Rc;
 
@@ -17,8 +20,7 @@ use std::rc::Rc;
 pub fn split(alloc: Global, expansion: &Expansion) -> Result<Units, AllocError>
     ensures { IfOk result (λ units. units ≡ units_of expansion.now) }
 {
-    let gathered = Gathered::new(alloc, expansion)?;
-    let mut cut = Cut::new(alloc, &gathered);
+    let mut cut = Cut::new(alloc, expansion);
     for (number, event) in expansion.events() {
         cut.put(alloc, number, event)?;
     }
@@ -30,7 +32,8 @@ pub fn split(alloc: Global, expansion: &Expansion) -> Result<Units, AllocError>
 // How far the cut has come.
 #[derive(Drop)]
 struct Cut<'a> {
-    gathered: &'a Gathered,
+    text: &'a Rc<Vec<Token>>,
+    sites: &'a Rc<Vec<Site>>,
     units: Vec<Unit>,
     // How many tokens stand in the units so far.
     taken: usize,
@@ -39,14 +42,16 @@ struct Cut<'a> {
 }
 
 impl<'a> Cut<'a> {
-    fn new(alloc: Global, gathered: &'a Gathered) -> Cut<'a>
-        ensures gathered { result.gathered.now ≡ gathered.now }
+    fn new(alloc: Global, expansion: &'a Expansion) -> Cut<'a>
+        ensures text { result.text.now.value.items ≡ tokens_in (enumerate_from 0 expansion.now) }
+        ensures sites { result.sites.now.value.items ≡ sites_in (enumerate_from 0 expansion.now) }
         ensures units { result.units.items ≡ [] }
         ensures taken { result.taken ≡ 0 }
         ensures inside { result.inside ≡ 0 }
     {
         Cut {
-            gathered,
+            text: expansion.text(),
+            sites: expansion.sites(),
             units: Vec::new(alloc),
             taken: 0,
             inside: 0,
@@ -54,15 +59,28 @@ impl<'a> Cut<'a> {
     }
 
     // Puts in what one event more gives.
-    fn put(&mut self, alloc: Global, number: usize, event: &Event) -> Result<(), AllocError>
+    fn put(&mut self, alloc: Global, number: usize, event: Told<'_>) -> Result<(), AllocError>
+        requires { IsWithin self.old }
+        ensures within { OnOk result (IsWithin self.new) }
+        ensures units { OnOk result ((events : List Numbered)
+            → to_come self.new events
+            ≡ to_come self.old ((number, event_told event.entry) ∷ events)) }
+    {
+        match event {
+            Told::Emitted(_place, _token) => self.put_token(),
+            Told::Other(event) => self.put_other(alloc, number, event),
+        }
+    }
+
+    // The same of an event.
+    fn put_other(&mut self, alloc: Global, number: usize, event: &Event) -> Result<(), AllocError>
         requires { IsWithin self.old }
         ensures within { OnOk result (IsWithin self.new) }
         ensures units { OnOk result ((events : List Numbered)
             → to_come self.new events ≡ to_come self.old ((number, event.now) ∷ events)) }
     {
         match event {
-            Event::Emitted(_place, _token) if self.inside > 0 => self.inside -= 1,
-            Event::Emitted(_place, _token) => self.begin()?,
+            Event::Emitted(_place, _token) => self.put_token()?,
             Event::Entered(file) => self.units.push(Unit::Entered(file.clone()?))?,
             Event::Left(file) => self.units.push(Unit::Left(file.clone()?))?,
             Event::Pragma(place, tokens) => {
@@ -75,6 +93,21 @@ impl<'a> Cut<'a> {
         Ok(())
     }
 
+    // Puts in what a token more gives: a unit, unless it stands inside one.
+    fn put_token(&mut self) -> Result<(), AllocError>
+        requires within { IsWithin self.old }
+        ensures within { OnOk result (IsWithin self.new) }
+        ensures units { OnOk result (self.new.units.items
+            ≡ self.old.units.items ++ begun (ahead self.old)) }
+        ensures ahead { OnOk result (ahead self.new ≡ after_token (ahead self.old)) }
+    {
+        if self.inside > 0 {
+            self.inside -= 1;
+            return Ok(());
+        }
+        self.begin()
+    }
+
     // Puts in the unit that begins here.
     fn begin(&mut self) -> Result<(), AllocError>
         requires within { IsWithin self.old }
@@ -85,15 +118,15 @@ impl<'a> Cut<'a> {
         ensures ahead { OnOk result (ahead self.new ≡ after_token (ahead self.old)) }
     {
         let from = self.taken;
-        let text = self.gathered.text.as_slice();
+        let text = self.text.as_slice();
         // Where no token is left, none begins.
         if from == text.len() {
             return Ok(());
         }
         let len = first_unit(&text[from..]);
         let to = from + len;
-        let text = Run::new(self.gathered.text.clone()?, from, to);
-        let sites = Run::new(self.gathered.sites.clone()?, from, to);
+        let text = Run::new(self.text.clone()?, from, to);
+        let sites = Run::new(self.sites.clone()?, from, to);
         let unit = Unit::Spelled(UnitText::Tokens(text), sites);
         self.units.push(unit)?;
         self.taken = to;

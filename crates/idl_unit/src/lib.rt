@@ -8,7 +8,6 @@
 mod cut;
 mod ending;
 mod fault;
-mod gathered;
 mod laws;
 mod role;
 mod run;
@@ -22,4 +21,4 @@ pub use laws::{nothing_lost, one_cut};
 pub use role::{Role, Rule, role_of, rule_of};
 pub use run::Run;
 pub use token_rules::token_fault;
-pub use unit::{Site, Unit, UnitText, Units};
+pub use unit::{Unit, UnitText, Units};

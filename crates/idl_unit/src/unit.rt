@@ -6,17 +6,10 @@ ghost use Rattle.idl_unit.specs.declared.unit.UnitText.TheVariants.{Tokens, Prag
 
 use crate::run::Run;
 use idl_base::Datum;
-use idl_event::{FileName, Place};
+use idl_event::{FileName, Site};
 use idl_lex::{Token, TokenRange};
 use std::hash::Hash;
 use std::marker::Model;
-
-/// Where a token stands: the number of its event, and its place.
-#[derive(Drop)]
-pub struct Site {
-    pub event: usize,
-    pub place: Place,
-}
 
 /// The tokens of a unit, wherever they stand. Two are equal where these are, and clones share them.
 #[derive(Clone, PartialEq, Eq, Hash, Drop)]

@@ -2,7 +2,7 @@
 
 use super::support::{Telling, are_told, file_of};
 use idl_base::Table;
-use idl_event::{Answer, Event, Expansion, FileName, Key, LexedFile};
+use idl_event::{Answer, Expansion, ExpansionBuilder, FileName, Key, LexedFile, Told};
 use idl_lex::Token;
 use idl_memo::{Bank, Log, Task};
 use idl_prep::RootTask;
@@ -37,7 +37,7 @@ struct Replaced;
 
 impl Telling for Replaced {
     fn told(alloc: Global, text: &str) -> Result<String, AllocError> {
-        emitted(alloc, expansion_of(alloc, text)?.as_slice())
+        emitted(alloc, &expansion_of(alloc, text)?)
     }
 }
 
@@ -45,7 +45,7 @@ impl Telling for Replaced {
 pub fn expansion_of(alloc: Global, text: &str) -> Result<Expansion, AllocError> {
     match Name::new(b"a.idl") {
         Some(name) => expanded(alloc, name, text),
-        None => Ok(Expansion::from_vec(Vec::new(alloc))),
+        None => ExpansionBuilder::new(alloc).build(alloc),
     }
 }
 
@@ -63,10 +63,10 @@ pub fn answers_of(alloc: Global, name: &Name, text: &str) -> Result<Answers, All
     Ok(Answers { entries })
 }
 
-fn emitted(alloc: Global, events: &[Event]) -> Result<String, AllocError> {
+fn emitted(alloc: Global, expansion: &Expansion) -> Result<String, AllocError> {
     let mut text = String::new(alloc);
-    for event in events {
-        if let Event::Emitted(_, token) = event {
+    for (_, event) in expansion.events() {
+        if let Told::Emitted(_, token) = event {
             emit(alloc, &mut text, token)?;
         }
     }

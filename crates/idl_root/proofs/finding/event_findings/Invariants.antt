@@ -1,8 +1,6 @@
-use Rattle.std.proofs.Common.{◌≡◌, ◌++◌, flat_map}
-use Rattle.std.specs.List.{enumerate_from}
+use Rattle.std.proofs.Common.{◌≡◌, flat_map, take}
 use Rattle.idl_root.specs.Findings.{event_finding}
 use Rattle.idl_root.proofs.finding.event_findings.Given as goal
 
 abbrev pub invariant-loop-number : goal.invariant-loop-number
-invariant-loop-number l =
-    l.findings.items ++ flat_map event_finding l.number-iterator ≡ flat_map event_finding (enumerate_from 0 l.expansion)
+invariant-loop-number l = l.findings.items ≡ flat_map event_finding (take l.number-index l.others)

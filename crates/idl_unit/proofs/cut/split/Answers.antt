@@ -3,7 +3,6 @@ use Rattle.std.proofs.lemmas.List.{append-nil}
 use Rattle.std.specs.List.{enumerate_from}
 use Rattle.idl_unit.specs.Placing.{to_come}
 use Rattle.idl_unit.specs.Units.{units_in, units_of}
-use Rattle.idl_unit.specs.declared.gathered.Gathered.{Gathered}
 use Rattle.idl_unit.specs.declared.unit.Unit.TheVariants.{End}
 use Rattle.idl_unit.proofs.PlacingLemmas.{start-within, start-to_come}
 use Rattle.idl_unit.proofs.cut.split.Goals as goal
@@ -12,12 +11,10 @@ pub loop-number-init : goal.loop-number-init
 loop-number-init c =
     let cut = c.new-cut.result in
     let events = enumerate_from 0 c.args.expansion.now in
-    let text = ap (λ (g : Gathered). g.text.value.items) c.new-cut.ensures.gathered ∙ c.in_ok-gathered.ensures.text in
-    let sites = ap (λ (g : Gathered). g.sites.value.items) c.new-cut.ensures.gathered ∙ c.in_ok-gathered.ensures.sites in
     let walk : c.into_iter-number-iterator.result ≡ events = search rules in
     record {
-      within = start-within cut events text sites c.new-cut.ensures.taken;
-      units = ap (to_come cut) walk ∙ start-to_come cut events text sites c.new-cut.ensures.units c.new-cut.ensures.taken c.new-cut.ensures.inside;
+      within = start-within cut events c.new-cut.ensures.text c.new-cut.ensures.sites c.new-cut.ensures.taken;
+      units = ap (to_come cut) walk ∙ start-to_come cut events c.new-cut.ensures.text c.new-cut.ensures.sites c.new-cut.ensures.units c.new-cut.ensures.taken c.new-cut.ensures.inside;
     }
 
 pub returns : goal.returns

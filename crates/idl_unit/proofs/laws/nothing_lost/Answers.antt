@@ -1,7 +1,7 @@
 use Rattle.std.proofs.Common.{◌∙◌, ap}
 use Rattle.std.specs.List.{enumerate_from}
+use Rattle.idl_event.specs.Apart.{tokens_in}
 use Rattle.idl_unit.specs.Parts.{joined}
-use Rattle.idl_unit.specs.Units.{tokens_in}
 use Rattle.idl_unit.proofs.HeldLemmas.{others-units, sites-units, texts-units, tokens-cut}
 use Rattle.idl_unit.proofs.laws.nothing_lost.Goals as goal
 

@@ -11,7 +11,7 @@ returns g c =
     let bank = g.B.Bank.at c.args.bank.now in
     let name = c.args.self.now.name in
     let p = c.expand.new.root.progress in
-    ap (λ es. (es, c.into_parts-events.result.1)) (c.from_vec.ensures ∙ c.into_parts-events.ensures.events)
+    ap (λ es. (es, c.into_parts-events.result.1)) (c.in_ok-expansion.ensures ∙ c.into_parts-events.ensures.events)
     ∙ ap (λ log. (p.kept, log)) c.into_parts-events.ensures.log
     ∙ run-expansion bank name p c.args.log.now
     (c.in_ok-expand.ensures

@@ -1,0 +1,88 @@
+//! The events of a root while it is expanded.
+
+ghost use Rattle.std.specs.Prelude.{◌≡◌, ◌++◌, ◌∷◌, [], IfOk, OnOk};
+ghost use Rattle.idl_event.specs.declared.event.Event.TheVariants.{Emitted};
+
+use crate::event::Event;
+use crate::expansion::Expansion;
+use crate::place::Place;
+use crate::site::Site;
+use idl_lex::Token;
+use std::alloc::{AllocError, Global};
+use std::marker::Model;
+use std::rc::Rc;
+
+/// The events of a root so far: to every contract the list of them.
+///
+/// The tokens of the text stand apart from the other events, so that units share them. Each token's site has the number of
+/// its event, and each other event its own.
+#[derive(Drop)]
+pub struct ExpansionBuilder {
+    text: Vec<Token>,
+    sites: Vec<Site>,
+    others: Vec<(usize, Event)>,
+}
+
+impl Model for ExpansionBuilder {
+    ghost use Rattle.std.specs.Prelude.{List};
+    ghost use Rattle.idl_event.specs.Apart.{StandApart, woven};
+    ghost use Rattle.idl_event.specs.declared.event.Event.{Event};
+
+    ghost Value = { List Event };
+
+    ghost view = { λ b. woven b.sites.items b.text.items b.others.items };
+
+    ghost invariant = { λ b. StandApart b.sites.items b.text.items b.others.items };
+}
+
+impl ExpansionBuilder {
+    /// No events. It takes no memory.
+    pub fn new(alloc: Global) -> ExpansionBuilder
+        ensures { result ≡ [] }
+    {
+        ExpansionBuilder {
+            text: Vec::new(alloc),
+            sites: Vec::new(alloc),
+            others: Vec::new(alloc),
+        }
+    }
+
+    /// Where its memory comes from.
+    pub fn allocator(&self) -> Global {
+        *self.others.allocator()
+    }
+
+    /// A token of the text more, at its place.
+    pub fn push_token(&mut self, place: Place, token: Token) -> Result<(), AllocError>
+        ensures { OnOk result (self.new ≡ self.old ++ Emitted place token ∷ []) }
+    {
+        let event = self.sites.len() + self.others.len();
+        self.text.reserve(1)?;
+        self.sites.push(Site { event, place })?;
+        self.text.push(token)?;
+        Ok(())
+    }
+
+    /// An event more.
+    pub fn push(&mut self, event: Event) -> Result<(), AllocError>
+        ensures { OnOk result (self.new ≡ self.old ++ event ∷ []) }
+    {
+        match event {
+            Event::Emitted(place, token) => self.push_token(place, token),
+            other => {
+                let number = self.sites.len() + self.others.len();
+                self.others.push((number, other))?;
+                Ok(())
+            }
+        }
+    }
+
+    /// What the events are at the end.
+    pub fn build(self, alloc: Global) -> Result<Expansion, AllocError>
+        ensures { IfOk result (λ expansion. expansion ≡ self) }
+    {
+        let text = Rc::new(alloc, self.text)?;
+        let sites = Rc::new(alloc, self.sites)?;
+        Ok(Expansion::from_parts(text, sites, self.others))
+    }
+}

@@ -1,0 +1,16 @@
+-- What is found in the events of a root.
+use Rattle.std.proofs.Common.{◌≡◌, List, [], ◌∷◌, flat_map, refl, ap}
+use Rattle.idl_event.specs.Apart.{Numbered, others_in}
+use Rattle.idl_event.specs.Diagnostic.{diagnostic_row}
+use Rattle.idl_event.specs.declared.event.Event.TheVariants as event
+use Rattle.idl_root.specs.Findings.{event_finding}
+
+-- nothing is found in tokens
+pub flat_map-others_in : (events : List Numbered) → flat_map event_finding (others_in events) ≡ flat_map event_finding events
+flat_map-others_in [] = refl
+flat_map-others_in ((n, event.Emitted place token) ∷ events) = flat_map-others_in events
+flat_map-others_in ((n, event.Entered file) ∷ events) = flat_map-others_in events
+flat_map-others_in ((n, event.Left file) ∷ events) = flat_map-others_in events
+flat_map-others_in ((n, event.Pragma place tokens) ∷ events) = flat_map-others_in events
+flat_map-others_in ((n, event.Fault place code text) ∷ events) =
+    ap (λ found. record { event = n; code = code; row = diagnostic_row place code text } ∷ found) (flat_map-others_in events)
