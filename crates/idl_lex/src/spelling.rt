@@ -1,6 +1,6 @@
 //! The bytes of a token, shared with the text that they stand in.
 
-ghost use Rattle.std.specs.Prelude.{◌≡◌, ◌≤◌, ◌↔◌, IsTrue, Some, length, refl, slice_range};
+ghost use Rattle.std.specs.Prelude.{◌≡◌, ◌≤◌, ◌↔◌, IfOk, IsTrue, Some, length, refl, slice_range};
 ghost use Rattle.std.specs.Cmp.{partial_equiv_from_equiv};
 ghost use Rattle.std.specs.Cmp.Lexicographic.{bytes_decides, nat_list_cmp_total, nat_list_eq_equiv, slice_cmp, texts_po, texts_ties};
 ghost use Rattle.std.specs.Hash as fed;
@@ -8,6 +8,7 @@ ghost use Rattle.std.specs.Ordering.{nat_cmp};
 ghost use Rattle.std.specs.Rc.{rc_slice_items};
 ghost use Rattle.std.specs.Str.{bytes_eq};
 ghost use Rattle.std.proofs.Common.{ap};
+ghost use Rattle.idl_lex.specs.Kind.{unescaped};
 
 use idl_base::Datum;
 use std::alloc::AllocError;
@@ -52,6 +53,21 @@ impl Spelling {
         ensures { result.now ≡ self.now }
     {
         &self.bytes.as_slice()[self.from..self.to]
+    }
+
+    /// What stands after its first byte, shared, if it has one.
+    pub(crate) fn unescaped(&self) -> Result<Option<Spelling>, AllocError>
+        ensures { IfOk result (λ name. name ≡ unescaped self.now) }
+    {
+        if self.from == self.to {
+            return Ok(None);
+        }
+        let bytes = self.bytes.clone()?;
+        Ok(Some(Spelling {
+            bytes,
+            from: self.from + 1,
+            to: self.to,
+        }))
     }
 }
 
