@@ -13,7 +13,6 @@ use idl_memo::Journal;
 use idl_scope::{Entity, Env, Fixed, Identity, Kind, Path, Prefix, Shared, View, shared_name};
 use itoa::Buffer;
 use std::alloc::{AllocError, Global};
-use std::rc::RcSlice;
 
 /// What a declared name that has an id is told of ids.
 pub struct Ids {
@@ -147,9 +146,7 @@ fn room_of(prefix: &[u8], path: &[Spelling]) -> usize {
 fn shared_id(id: Vec<u8>) -> Result<Spelling, AllocError>
     ensures { IfOk result (λ shared. shared ≡ id.items) }
 {
-    let length = id.len();
-    let bytes = RcSlice::from_vec(id)?;
-    Ok(Spelling::new(bytes, 0, length))
+    Spelling::from_vec(id)
 }
 
 // A prefix with the `/` behind it.

@@ -9,49 +9,116 @@ ghost use Rattle.std.specs.Rc.{rc_slice_items};
 ghost use Rattle.std.specs.Str.{bytes_eq};
 ghost use Rattle.std.proofs.Common.{ap};
 
+use crate::form::{Form, Short};
 use idl_base::Datum;
-use std::alloc::AllocError;
+use std::alloc::{AllocError, Global};
 use std::cmp::Ordering;
 use std::hash::{Hash, Hasher};
 use std::marker::Model;
 use std::rc::RcSlice;
 
-/// A part of shared bytes. Neither making nor cloning one copies a byte. Two are equal where their bytes are.
-#[derive(Drop)]
+/// The bytes of a token or a name. Few of them stand in place, and take no memory; more are a part of shared bytes.
+/// Cloning copies no shared byte. Two are equal where their bytes are.
 pub struct Spelling {
-    bytes: RcSlice<u8>,
-    from: usize,
-    to: usize,
+    form: Form,
 }
 
+// A file has a hundred thousands of tokens.
+const _: () = prove!(size_of::<Spelling>() <= 24);
+
 impl Model for Spelling {
-    ghost use Rattle.std.specs.Prelude.{List, ℕ, slice_range, length, ◌≤◌};
-    ghost use Rattle.std.specs.Rc.{rc_slice_items};
+    ghost use Rattle.std.specs.Prelude.{List, ℕ};
 
     ghost Value = { List ℕ };
 
-    ghost view = { λ spelling. slice_range
-        (rc_slice_items spelling.bytes) spelling.from spelling.to };
+    ghost view = { λ spelling. bytes_of spelling.form };
+}
 
-    ghost invariant = { λ spelling. (spelling.from ≤ spelling.to)
-        × (spelling.to ≤ length (rc_slice_items spelling.bytes)) };
+impl Drop for Spelling {
+    fn drop(self) {
+        let Spelling { form: _form } = self;
+    }
 }
 
 impl Spelling {
     /// The bytes from one place up to another.
-    pub fn new(bytes: RcSlice<u8>, from: usize, to: usize) -> Spelling
+    pub fn new(
+        alloc: Global,
+        bytes: &RcSlice<u8>,
+        from: usize,
+        to: usize,
+    ) -> Result<Spelling, AllocError>
         requires order { from ≤ to }
-        requires within { to ≤ length (rc_slice_items bytes) }
-        ensures { result ≡ slice_range (rc_slice_items bytes) from to }
+        requires within { to ≤ length (rc_slice_items bytes.now) }
+        ensures { IfOk result (λ spelling.
+            spelling ≡ slice_range (rc_slice_items bytes.now) from to) }
     {
-        Spelling { bytes, from, to }
+        let part = &bytes.as_slice()[from..to];
+        if let Some(short) = Short::new(part) {
+            return Ok(Spelling {
+                form: Form::Short(short),
+            });
+        }
+        match (u32::try_from(from), u32::try_from(to)) {
+            (Ok(from), Ok(to)) => {
+                let bytes = bytes.clone()?;
+                Ok(Spelling {
+                    form: Form::Part(bytes, from, to),
+                })
+            }
+            _ => Spelling::from_slice(alloc, part),
+        }
+    }
+
+    /// A copy of these bytes.
+    pub fn from_slice(alloc: Global, bytes: &[u8]) -> Result<Spelling, AllocError>
+        ensures { IfOk result (λ spelling. spelling ≡ bytes.now) }
+    {
+        match Short::new(bytes) {
+            Some(short) => Ok(Spelling {
+                form: Form::Short(short),
+            }),
+            None => Ok(Spelling {
+                form: Form::Rest(RcSlice::from_slice(alloc, bytes)?, 0),
+            }),
+        }
+    }
+
+    /// These bytes, from now on shared.
+    pub fn from_vec(bytes: Vec<u8>) -> Result<Spelling, AllocError>
+        ensures { IfOk result (λ spelling. spelling ≡ bytes.items) }
+    {
+        match Short::new(bytes.as_slice()) {
+            Some(short) => Ok(Spelling {
+                form: Form::Short(short),
+            }),
+            None => Ok(Spelling {
+                form: Form::Rest(RcSlice::from_vec(bytes)?, 0),
+            }),
+        }
+    }
+
+    /// The bytes with each capital letter made small.
+    pub fn folded(alloc: Global, bytes: &[u8]) -> Result<Spelling, AllocError>
+        ensures { IfOk result (λ spelling. spelling ≡ folded bytes.now) }
+    {
+        match Short::new(bytes) {
+            Some(short) => Ok(Spelling {
+                form: Form::Short(short.folded()),
+            }),
+            None => Spelling::from_vec(bytes.to_ascii_lowercase(alloc)?),
+        }
     }
 
     /// The bytes in order.
+    #[inline(always)]
     pub fn as_bytes(&self) -> &[u8]
         ensures { result.now ≡ self.now }
     {
-        &self.bytes.as_slice()[self.from..self.to]
+        match &self.form {
+            Form::Short(short) => short.as_bytes(),
+            form => form.as_bytes(),
+        }
     }
 }
 
@@ -59,12 +126,14 @@ impl Clone for Spelling {
     ghost is_clone = { λ spelling copy. copy ≡ spelling };
 
     fn clone(&self) -> Result<Spelling, AllocError> {
-        let bytes = self.bytes.clone()?;
-        Ok(Spelling {
-            bytes,
-            from: self.from,
-            to: self.to,
-        })
+        match &self.form {
+            Form::Short(short) => Ok(Spelling {
+                form: Form::Short(short.copied()),
+            }),
+            form => Ok(Spelling {
+                form: form.clone()?,
+            }),
+        }
     }
 }
 
