@@ -1,18 +1,58 @@
-//! How the bytes of a spelling are held.
+//! The forms in which the bytes of a spelling are held: few in place, and more in shared bytes.
 
-ghost use Rattle.std.specs.Prelude.{◌≡◌, ◌≤◌, IfNone, IfSome, length};
+ghost use Rattle.std.specs.Prelude.{◌≡◌, ◌≤◌, ◌<◌, IfNone, IfOk, IfSome, drop, length, slice_range};
+ghost use Rattle.std.specs.Rc.{rc_slice_items};
+ghost use Rattle.idl_lex.specs.Form.{form_bytes};
+ghost use Rattle.idl_lex.specs.Keywords.{folded};
 
 use std::alloc::AllocError;
 use std::marker::Model;
 use std::rc::RcSlice;
 
-// As many bytes stand in place.
+// Up to so many bytes stand in place: with them a form is no larger than one of shared bytes.
 const MOST: usize = 22;
+
+/// The bytes of a spelling.
+#[derive(Drop)]
+pub enum Form {
+    /// Few of them, in place.
+    Short(Short),
+    /// Shared ones from one place up to another.
+    Part(Part),
+    /// All shared ones from a place on.
+    Rest(Rest),
+}
+
+impl Form {
+    /// The bytes in order.
+    #[inline(never)]
+    pub fn as_bytes(&self) -> &[u8]
+        ensures { result.now ≡ form_bytes self.now }
+    {
+        match self {
+            Form::Short(short) => short.as_bytes(),
+            Form::Part(part) => part.as_bytes(),
+            Form::Rest(rest) => rest.as_bytes(),
+        }
+    }
+
+    /// The same bytes again: those in place are copied, and the others stay shared.
+    #[inline(never)]
+    pub fn copied(&self) -> Result<Form, AllocError>
+        ensures { IfOk result (λ form. form_bytes form ≡ form_bytes self.now) }
+    {
+        match self {
+            Form::Short(short) => Ok(Form::Short(short.copied())),
+            Form::Part(part) => Ok(Form::Part(part.shared()?)),
+            Form::Rest(rest) => Ok(Form::Rest(rest.shared()?)),
+        }
+    }
+}
 
 /// Few bytes, in place.
 #[derive(Drop)]
 pub struct Short {
-    length: u8,
+    count: u8,
     bytes: [u8; MOST],
 }
 
@@ -21,15 +61,16 @@ impl Model for Short {
 
     ghost Value = { List ℕ };
 
-    ghost view = { λ short. take short.length short.bytes };
+    ghost view = { λ short. take short.count short.bytes };
 
-    ghost invariant = { λ short. short.length ≤ 22 };
+    ghost invariant = { λ short. short.count ≤ 22 };
 }
 
 impl Short {
     /// These bytes, if they are few.
     pub fn new(bytes: &[u8]) -> Option<Short>
         ensures same { IfSome result (λ short. short ≡ bytes.now) }
+        ensures few { IfNone result (22 < length bytes.now) }
     {
         if bytes.len() > MOST {
             return None;
@@ -37,21 +78,17 @@ impl Short {
         let mut array = [0; MOST];
         array[..bytes.len()].copy_from_slice(bytes);
         Some(Short {
-            length: bytes.len() as u8,
+            count: bytes.len() as u8,
             bytes: array,
         })
     }
 
     /// The bytes in order.
+    #[inline(always)]
     pub fn as_bytes(&self) -> &[u8]
         ensures { result.now ≡ self.now }
     {
-        &self.bytes[..self.length as usize]
-    }
-
-    /// Whether the bytes are the same.
-    pub fn equals(&self, other: &Short) -> bool {
-        self.length == other.length && self.bytes == other.bytes
+        &self.bytes[..self.count as usize]
     }
 
     /// The same bytes again.
@@ -59,52 +96,112 @@ impl Short {
         ensures { result ≡ self.now }
     {
         Short {
-            length: self.length,
+            count: self.count,
             bytes: self.bytes,
         }
     }
 
     /// The bytes with each capital letter made small.
     pub fn folded(mut self) -> Short
+        ensures { result ≡ folded self }
     {
         self.bytes.make_ascii_lowercase();
         self
     }
 }
 
-/// How the bytes of a spelling are held.
+/// Shared bytes from one place up to another.
 #[derive(Drop)]
-pub enum Form {
-    /// Few, in place.
-    Short(Short),
-    /// Shared ones from one place up to another.
-    Part(RcSlice<u8>, u32, u32),
-    /// All shared ones from a place on.
-    Rest(RcSlice<u8>, usize),
+pub struct Part {
+    bytes: RcSlice<u8>,
+    from: u32,
+    to: u32,
 }
 
-impl Form {
-    /// The bytes in order.
-    #[inline(never)]
-    pub fn as_bytes(&self) -> &[u8]
+impl Model for Part {
+    ghost use Rattle.std.specs.Prelude.{List, ℕ, slice_range, length, ◌≤◌};
+    ghost use Rattle.std.specs.Rc.{rc_slice_items};
+
+    ghost Value = { List ℕ };
+
+    ghost view = { λ part. slice_range (rc_slice_items part.bytes) part.from part.to };
+
+    ghost invariant = { λ part. (part.from ≤ part.to)
+        × (part.to ≤ length (rc_slice_items part.bytes)) };
+}
+
+impl Part {
+    /// The bytes from one place up to another.
+    pub fn new(bytes: RcSlice<u8>, from: u32, to: u32) -> Part
+        requires order { from ≤ to }
+        requires within { to ≤ length (rc_slice_items bytes) }
+        ensures { result ≡ slice_range (rc_slice_items bytes) from to }
     {
-        match self {
-            Form::Short(short) => short.as_bytes(),
-            Form::Part(bytes, from, to) => &bytes.as_slice()[*from as usize..*to as usize],
-            Form::Rest(bytes, from) => &bytes.as_slice()[*from..],
-        }
+        Part { bytes, from, to }
+    }
+
+    /// The bytes in order.
+    pub fn as_bytes(&self) -> &[u8]
+        ensures { result.now ≡ self.now }
+    {
+        &self.bytes.as_slice()[self.from as usize..self.to as usize]
+    }
+
+    /// The same bytes, shared.
+    pub fn shared(&self) -> Result<Part, AllocError>
+        ensures { IfOk result (λ part. part ≡ self.now) }
+    {
+        let bytes = self.bytes.clone()?;
+        Ok(Part {
+            bytes,
+            from: self.from,
+            to: self.to,
+        })
     }
 }
 
-impl Clone for Form {
-    ghost is_clone = { λ part copy. copy ≡ part };
+/// All shared bytes from a place on.
+#[derive(Drop)]
+pub struct Rest {
+    bytes: RcSlice<u8>,
+    from: usize,
+}
 
-    #[inline(never)]
-    fn clone(&self) -> Result<Form, AllocError> {
-        match self {
-            Form::Short(short) => Ok(Form::Short(short.copied())),
-            Form::Part(bytes, from, to) => Ok(Form::Part(bytes.clone()?, *from, *to)),
-            Form::Rest(bytes, from) => Ok(Form::Rest(bytes.clone()?, *from)),
-        }
+impl Model for Rest {
+    ghost use Rattle.std.specs.Prelude.{List, ℕ, drop, length, ◌≤◌};
+    ghost use Rattle.std.specs.Rc.{rc_slice_items};
+
+    ghost Value = { List ℕ };
+
+    ghost view = { λ rest. drop rest.from (rc_slice_items rest.bytes) };
+
+    ghost invariant = { λ rest. rest.from ≤ length (rc_slice_items rest.bytes) };
+}
+
+impl Rest {
+    /// The bytes from a place on.
+    pub fn new(bytes: RcSlice<u8>, from: usize) -> Rest
+        requires { from ≤ length (rc_slice_items bytes) }
+        ensures { result ≡ drop from (rc_slice_items bytes) }
+    {
+        Rest { bytes, from }
+    }
+
+    /// The bytes in order.
+    pub fn as_bytes(&self) -> &[u8]
+        ensures { result.now ≡ self.now }
+    {
+        &self.bytes.as_slice()[self.from..]
+    }
+
+    /// The same bytes, shared.
+    pub fn shared(&self) -> Result<Rest, AllocError>
+        ensures { IfOk result (λ rest. rest ≡ self.now) }
+    {
+        let bytes = self.bytes.clone()?;
+        Ok(Rest {
+            bytes,
+            from: self.from,
+        })
     }
 }

@@ -1,6 +1,6 @@
-//! The bytes of a token, shared with the text that they stand in.
+//! The bytes of a token or a name: few stand in place, and more are shared.
 
-ghost use Rattle.std.specs.Prelude.{◌≡◌, ◌≤◌, ◌↔◌, IsTrue, Some, length, refl, slice_range};
+ghost use Rattle.std.specs.Prelude.{◌≡◌, ◌≤◌, ◌↔◌, IfOk, IsTrue, Some, length, refl, slice_range};
 ghost use Rattle.std.specs.Cmp.{partial_equiv_from_equiv};
 ghost use Rattle.std.specs.Cmp.Lexicographic.{bytes_decides, nat_list_cmp_total, nat_list_eq_equiv, slice_cmp, texts_po, texts_ties};
 ghost use Rattle.std.specs.Hash as fed;
@@ -8,8 +8,9 @@ ghost use Rattle.std.specs.Ordering.{nat_cmp};
 ghost use Rattle.std.specs.Rc.{rc_slice_items};
 ghost use Rattle.std.specs.Str.{bytes_eq};
 ghost use Rattle.std.proofs.Common.{ap};
+ghost use Rattle.idl_lex.specs.Keywords.{folded};
 
-use crate::form::{Form, Short};
+use crate::form::{Form, Part, Rest, Short};
 use idl_base::Datum;
 use std::alloc::{AllocError, Global};
 use std::cmp::Ordering;
@@ -17,8 +18,8 @@ use std::hash::{Hash, Hasher};
 use std::marker::Model;
 use std::rc::RcSlice;
 
-/// The bytes of a token or a name. Few of them stand in place, and take no memory; more are a part of shared bytes.
-/// Cloning copies no shared byte. Two are equal where their bytes are.
+/// The bytes of a token or a name. Few of them stand in place, and take no memory; more are shared. Two are equal where
+/// their bytes are.
 pub struct Spelling {
     form: Form,
 }
@@ -28,10 +29,11 @@ const _: () = prove!(size_of::<Spelling>() <= 24);
 
 impl Model for Spelling {
     ghost use Rattle.std.specs.Prelude.{List, ℕ};
+    ghost use Rattle.idl_lex.specs.Form.{form_bytes};
 
     ghost Value = { List ℕ };
 
-    ghost view = { λ spelling. bytes_of spelling.form };
+    ghost view = { λ spelling. form_bytes spelling.form };
 }
 
 impl Drop for Spelling {
@@ -41,7 +43,7 @@ impl Drop for Spelling {
 }
 
 impl Spelling {
-    /// The bytes from one place up to another.
+    /// The bytes from one place up to another: a copy of few, and more are shared.
     pub fn new(
         alloc: Global,
         bytes: &RcSlice<u8>,
@@ -54,19 +56,17 @@ impl Spelling {
             spelling ≡ slice_range (rc_slice_items bytes.now) from to) }
     {
         let part = &bytes.as_slice()[from..to];
-        if let Some(short) = Short::new(part) {
-            return Ok(Spelling {
-                form: Form::Short(short),
-            });
-        }
-        match (u32::try_from(from), u32::try_from(to)) {
-            (Ok(from), Ok(to)) => {
-                let bytes = bytes.clone()?;
-                Ok(Spelling {
-                    form: Form::Part(bytes, from, to),
-                })
-            }
-            _ => Spelling::from_slice(alloc, part),
+        match Short::new(part) {
+            Some(short) => Ok(Spelling::short(short)),
+            None => match (u32::try_from(from), u32::try_from(to)) {
+                (Ok(from), Ok(to)) => {
+                    let part = Part::new(bytes.clone()?, from, to);
+                    Ok(Spelling {
+                        form: Form::Part(part),
+                    })
+                }
+                _ => Ok(Spelling::whole(RcSlice::from_slice(alloc, part)?)),
+            },
         }
     }
 
@@ -75,12 +75,8 @@ impl Spelling {
         ensures { IfOk result (λ spelling. spelling ≡ bytes.now) }
     {
         match Short::new(bytes) {
-            Some(short) => Ok(Spelling {
-                form: Form::Short(short),
-            }),
-            None => Ok(Spelling {
-                form: Form::Rest(RcSlice::from_slice(alloc, bytes)?, 0),
-            }),
+            Some(short) => Ok(Spelling::short(short)),
+            None => Ok(Spelling::whole(RcSlice::from_slice(alloc, bytes)?)),
         }
     }
 
@@ -89,12 +85,8 @@ impl Spelling {
         ensures { IfOk result (λ spelling. spelling ≡ bytes.items) }
     {
         match Short::new(bytes.as_slice()) {
-            Some(short) => Ok(Spelling {
-                form: Form::Short(short),
-            }),
-            None => Ok(Spelling {
-                form: Form::Rest(RcSlice::from_vec(bytes)?, 0),
-            }),
+            Some(short) => Ok(Spelling::short(short)),
+            None => Ok(Spelling::whole(RcSlice::from_vec(bytes)?)),
         }
     }
 
@@ -103,9 +95,7 @@ impl Spelling {
         ensures { IfOk result (λ spelling. spelling ≡ folded bytes.now) }
     {
         match Short::new(bytes) {
-            Some(short) => Ok(Spelling {
-                form: Form::Short(short.folded()),
-            }),
+            Some(short) => Ok(Spelling::short(short.folded())),
             None => Spelling::from_vec(bytes.to_ascii_lowercase(alloc)?),
         }
     }
@@ -120,19 +110,37 @@ impl Spelling {
             form => form.as_bytes(),
         }
     }
+
+    // Few bytes.
+    fn short(short: Short) -> Spelling
+        ensures { result ≡ short }
+    {
+        Spelling {
+            form: Form::Short(short),
+        }
+    }
+
+    // All of shared bytes.
+    fn whole(bytes: RcSlice<u8>) -> Spelling
+        ensures { result ≡ rc_slice_items bytes }
+    {
+        Spelling {
+            form: Form::Rest(Rest::new(bytes, 0)),
+        }
+    }
 }
 
 impl Clone for Spelling {
     ghost is_clone = { λ spelling copy. copy ≡ spelling };
 
+    #[inline]
     fn clone(&self) -> Result<Spelling, AllocError> {
         match &self.form {
-            Form::Short(short) => Ok(Spelling {
-                form: Form::Short(short.copied()),
-            }),
-            form => Ok(Spelling {
-                form: form.clone()?,
-            }),
+            Form::Short(short) => Ok(Spelling::short(short.copied())),
+            form => {
+                let form = form.copied()?;
+                Ok(Spelling { form })
+            }
         }
     }
 }
