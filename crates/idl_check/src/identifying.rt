@@ -15,7 +15,6 @@ use idl_scope::{
 };
 use itoa::Buffer;
 use std::alloc::{AllocError, Global};
-use std::rc::RcSlice;
 
 /// What a declared name that has an id is told of ids.
 pub struct Ids {
@@ -148,9 +147,7 @@ fn room_of(prefix: &[u8], path: Names<'_>) -> usize {
 fn shared_id(id: Vec<u8>) -> Result<Spelling, AllocError>
     ensures { IfOk result (λ shared. shared ≡ id.items) }
 {
-    let length = id.len();
-    let bytes = RcSlice::from_vec(id)?;
-    Ok(Spelling::new(bytes, 0, length))
+    Spelling::from_vec(id)
 }
 
 // A prefix with the `/` behind it.

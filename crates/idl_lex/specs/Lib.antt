@@ -1,6 +1,7 @@
 pub mod Byte
 pub mod Word
 pub mod WordTable
+pub mod Form
 pub mod Keywords
 pub mod KeywordTable
 pub mod Marks

@@ -9,6 +9,7 @@ mod blocks;
 mod byte;
 mod context;
 mod file_tokens;
+mod form;
 mod keyword;
 mod keyword_table;
 mod kind;

@@ -78,7 +78,7 @@ impl Logical {
         ensures { IfOk result
             (λ spelling. spelling ≡ take (to - from) (drop from (bytes_of self.now))) }
     {
-        Ok(Spelling::new(self.bytes.clone()?, from, to))
+        Spelling::new(*self.numbers.allocator(), &self.bytes, from, to)
     }
 }
 

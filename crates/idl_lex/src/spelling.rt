@@ -1,4 +1,4 @@
-//! The bytes of a token, shared with the text that they stand in.
+//! The bytes of a token or a name: few stand in place, and more are shared.
 
 ghost use Rattle.std.specs.Prelude.{◌≡◌, ◌≤◌, ◌↔◌, IfOk, IsTrue, Some, length, refl, slice_range};
 ghost use Rattle.std.specs.Cmp.{partial_equiv_from_equiv};
@@ -8,79 +8,151 @@ ghost use Rattle.std.specs.Ordering.{nat_cmp};
 ghost use Rattle.std.specs.Rc.{rc_slice_items};
 ghost use Rattle.std.specs.Str.{bytes_eq};
 ghost use Rattle.std.proofs.Common.{ap};
+ghost use Rattle.idl_lex.specs.Keywords.{folded};
 ghost use Rattle.idl_lex.specs.Kind.{unescaped};
 
+use crate::form::{Form, Part, Rest, Short};
 use idl_base::Datum;
-use std::alloc::AllocError;
+use std::alloc::{AllocError, Global};
 use std::cmp::Ordering;
 use std::hash::{Hash, Hasher};
 use std::marker::Model;
 use std::rc::RcSlice;
 
-/// A part of shared bytes. Neither making nor cloning one copies a byte. Two are equal where their bytes are.
-#[derive(Drop)]
+/// The bytes of a token or a name. Few of them stand in place, and take no memory; more are shared. Two are equal where
+/// their bytes are.
 pub struct Spelling {
-    bytes: RcSlice<u8>,
-    from: usize,
-    to: usize,
+    form: Form,
 }
 
+// A file has a hundred thousands of tokens.
+const _: () = prove!(size_of::<Spelling>() <= 24);
+
 impl Model for Spelling {
-    ghost use Rattle.std.specs.Prelude.{List, ℕ, slice_range, length, ◌≤◌};
-    ghost use Rattle.std.specs.Rc.{rc_slice_items};
+    ghost use Rattle.std.specs.Prelude.{List, ℕ};
+    ghost use Rattle.idl_lex.specs.Form.{form_bytes};
 
     ghost Value = { List ℕ };
 
-    ghost view = { λ spelling. slice_range
-        (rc_slice_items spelling.bytes) spelling.from spelling.to };
+    ghost view = { λ spelling. form_bytes spelling.form };
+}
 
-    ghost invariant = { λ spelling. (spelling.from ≤ spelling.to)
-        × (spelling.to ≤ length (rc_slice_items spelling.bytes)) };
+impl Drop for Spelling {
+    fn drop(self) {
+        let Spelling { form: _form } = self;
+    }
 }
 
 impl Spelling {
-    /// The bytes from one place up to another.
-    pub fn new(bytes: RcSlice<u8>, from: usize, to: usize) -> Spelling
+    /// The bytes from one place up to another: a copy of few, and more are shared.
+    pub fn new(
+        alloc: Global,
+        bytes: &RcSlice<u8>,
+        from: usize,
+        to: usize,
+    ) -> Result<Spelling, AllocError>
         requires order { from ≤ to }
-        requires within { to ≤ length (rc_slice_items bytes) }
-        ensures { result ≡ slice_range (rc_slice_items bytes) from to }
+        requires within { to ≤ length (rc_slice_items bytes.now) }
+        ensures { IfOk result (λ spelling.
+            spelling ≡ slice_range (rc_slice_items bytes.now) from to) }
     {
-        Spelling { bytes, from, to }
+        let part = &bytes.as_slice()[from..to];
+        match Short::new(part) {
+            Some(short) => Ok(Spelling::short(short)),
+            None => match (u32::try_from(from), u32::try_from(to)) {
+                (Ok(from), Ok(to)) => {
+                    let part = Part::new(bytes.clone()?, from, to);
+                    Ok(Spelling {
+                        form: Form::Part(part),
+                    })
+                }
+                _ => Ok(Spelling::whole(RcSlice::from_slice(alloc, part)?)),
+            },
+        }
+    }
+
+    /// A copy of these bytes.
+    pub fn from_slice(alloc: Global, bytes: &[u8]) -> Result<Spelling, AllocError>
+        ensures { IfOk result (λ spelling. spelling ≡ bytes.now) }
+    {
+        match Short::new(bytes) {
+            Some(short) => Ok(Spelling::short(short)),
+            None => Ok(Spelling::whole(RcSlice::from_slice(alloc, bytes)?)),
+        }
+    }
+
+    /// These bytes, from now on shared.
+    pub fn from_vec(bytes: Vec<u8>) -> Result<Spelling, AllocError>
+        ensures { IfOk result (λ spelling. spelling ≡ bytes.items) }
+    {
+        match Short::new(bytes.as_slice()) {
+            Some(short) => Ok(Spelling::short(short)),
+            None => Ok(Spelling::whole(RcSlice::from_vec(bytes)?)),
+        }
+    }
+
+    /// The bytes with each capital letter made small.
+    pub fn folded(alloc: Global, bytes: &[u8]) -> Result<Spelling, AllocError>
+        ensures { IfOk result (λ spelling. spelling ≡ folded bytes.now) }
+    {
+        match Short::new(bytes) {
+            Some(short) => Ok(Spelling::short(short.folded())),
+            None => Spelling::from_vec(bytes.to_ascii_lowercase(alloc)?),
+        }
     }
 
     /// The bytes in order.
+    #[inline(always)]
     pub fn as_bytes(&self) -> &[u8]
         ensures { result.now ≡ self.now }
     {
-        &self.bytes.as_slice()[self.from..self.to]
+        match &self.form {
+            Form::Short(short) => short.as_bytes(),
+            form => form.as_bytes(),
+        }
     }
 
-    /// What stands after its first byte, shared, if it has one.
+    /// What stands after its first byte, if it has one: shared, as it is itself.
     pub(crate) fn unescaped(&self) -> Result<Option<Spelling>, AllocError>
         ensures { IfOk result (λ name. name ≡ unescaped self.now) }
     {
-        if self.from == self.to {
-            return Ok(None);
+        match self.form.behind_first()? {
+            Some(form) => Ok(Some(Spelling { form })),
+            None => Ok(None),
         }
-        let bytes = self.bytes.clone()?;
-        Ok(Some(Spelling {
-            bytes,
-            from: self.from + 1,
-            to: self.to,
-        }))
+    }
+
+    // Few bytes.
+    fn short(short: Short) -> Spelling
+        ensures { result ≡ short }
+    {
+        Spelling {
+            form: Form::Short(short),
+        }
+    }
+
+    // All of shared bytes.
+    fn whole(bytes: RcSlice<u8>) -> Spelling
+        ensures { result ≡ rc_slice_items bytes }
+    {
+        Spelling {
+            form: Form::Rest(Rest::new(bytes, 0)),
+        }
     }
 }
 
 impl Clone for Spelling {
     ghost is_clone = { λ spelling copy. copy ≡ spelling };
 
+    #[inline]
     fn clone(&self) -> Result<Spelling, AllocError> {
-        let bytes = self.bytes.clone()?;
-        Ok(Spelling {
-            bytes,
-            from: self.from,
-            to: self.to,
-        })
+        match &self.form {
+            Form::Short(short) => Ok(Spelling::short(short.copied())),
+            form => {
+                let form = form.copied()?;
+                Ok(Spelling { form })
+            }
+        }
     }
 }
 

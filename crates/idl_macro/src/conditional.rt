@@ -19,7 +19,6 @@ use idl_condition::{Symbol, evaluate};
 use idl_event::{Code, Event, Item, Progress, RootBank};
 use idl_lex::{PlacedToken, Spelling, Token};
 use std::alloc::{AllocError, Global};
-use std::rc::RcSlice;
 
 /// `if` and `elif`: whether the condition of the tokens after the directive's word holds.
 ///
@@ -106,7 +105,7 @@ fn truth_at(alloc: Global, first: &PlacedToken, is_there: bool) -> Result<Placed
     ensures { IfOk result (λ placed. placed.token ≡ truth is_there) }
 {
     let digit = if is_there { b"1" } else { b"0" };
-    let spelling = Spelling::new(RcSlice::from_slice(alloc, digit)?, 0, 1);
+    let spelling = Spelling::from_slice(alloc, digit)?;
     Ok(PlacedToken {
         token: Token::new(spelling),
         line: first.line,

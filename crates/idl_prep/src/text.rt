@@ -5,14 +5,12 @@ ghost use Rattle.idl_prep.specs.Directive.{parted};
 
 use idl_lex::{PlacedToken, Spelling};
 use std::alloc::{AllocError, Global};
-use std::rc::RcSlice;
 
 /// A text of these bytes.
 pub fn text_of(alloc: Global, bytes: &[u8]) -> Result<Spelling, AllocError>
     ensures { IfOk result (λ text. text ≡ bytes.now) }
 {
-    let shared = RcSlice::from_slice(alloc, bytes)?;
-    Ok(Spelling::new(shared, 0, bytes.len()))
+    Spelling::from_slice(alloc, bytes)
 }
 
 /// The text of the tokens, parted by one blank.

@@ -17,7 +17,7 @@ use crate::fault::{NameCode, NameFault};
 use crate::found::Found;
 use crate::kind::Kind;
 use crate::lookup::{Place, View};
-use crate::name::folded_spelling;
+use crate::name::folded_name;
 use crate::shared::Shared;
 use idl_lex::Spelling;
 use idl_memo::Journal;
@@ -126,7 +126,7 @@ impl<'a> View<'a> {
             (outward turns (searched name.now.is_global cursor.now) (folded name.now.first)))
             (answers self.entry.env.now) log.old) }
     {
-        let folded = folded_spelling(self.env.alloc(), &name.first)?;
+        let folded = folded_name(self.env.alloc(), name.first.as_bytes())?;
         if name.is_global {
             let global = Scope::global();
             return self.outward(log, &[global], &folded);
@@ -149,7 +149,7 @@ impl<'a> View<'a> {
             (part_of part name.now (has turns before.now.kind before.now.path (folded name.now))))
             (answers self.entry.env.now) log.old) }
     {
-        let folded = folded_spelling(self.env.alloc(), name)?;
+        let folded = folded_name(self.env.alloc(), name.as_bytes())?;
         let place = Place {
             kind: before.kind,
             path: &before.path,

@@ -12,7 +12,7 @@ ghost use Rattle.idl_scope.specs.Digest.{outermost_digest, path_digest};
 ghost use Rattle.idl_scope.specs.Path.{name_of, path_eq, path_of, same_path, scope_of};
 
 use crate::digest::with_child;
-use crate::name::{folded_spelling, shared_name};
+use crate::name::{folded_name, shared_name};
 use idl_base::Datum;
 use idl_lex::Spelling;
 use std::alloc::{AllocError, Global};
@@ -113,7 +113,7 @@ impl Path {
     pub fn child(&self, alloc: Global, name: &Spelling) -> Result<Path, AllocError>
         ensures { IfOk result (λ path. path ≡ name.now ∷ self.now) }
     {
-        let folded_name = folded_spelling(alloc, name)?;
+        let folded_name = folded_name(alloc, name.as_bytes())?;
         let digest = with_child(self.digest(), name.as_bytes());
         let outermost = self.outermost_around(digest);
         let name = name.clone()?;

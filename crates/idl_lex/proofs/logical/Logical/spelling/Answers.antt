@@ -1,4 +1,4 @@
-use Rattle.std.proofs.Common.{◌∙◌, ◌≤◌, ◌-◌, drop, length, take, ap, subst, sym}
+use Rattle.std.proofs.Common.{◌≡◌, ◌∙◌, ◌≤◌, ◌-◌, List, ℕ, IfOk, drop, length, take, ap, subst, sym}
 use Rattle.std.specs.Rc.{rc_slice_items}
 use Rattle.idl_lex.specs.Text.{bytes_of}
 use Rattle.idl_lex.proofs.LogicalLemmas.{bytes_of-placed, length-placed}
@@ -9,12 +9,11 @@ new-requires-clause-within c =
     let inside = c.self.inside in
     let bytes = rc_slice_items inside.bytes in
     let len = ap length (sym c.self.view_is) ∙ length-placed inside.numbers.items inside.last bytes in
-    subst (λ n. c.args.to ≤ n) (len ∙ sym (ap length c.in_ok-clone.ensures.cases)) c.requires.within
+    subst (λ n. c.args.to ≤ n) len c.requires.within
 
 pub returns : goal.returns
 returns c =
     let inside = c.self.inside in
     let bytes = rc_slice_items inside.bytes in
-    c.new.ensures
-    ∙ ap (λ bs. take (c.args.to - c.args.from) (drop c.args.from bs)) c.in_ok-clone.ensures.cases
-    ∙ ap (λ bs. take (c.args.to - c.args.from) (drop c.args.from bs)) (sym (bytes_of-placed inside.numbers.items inside.last bytes) ∙ ap bytes_of c.self.view_is)
+    let same : bytes ≡ bytes_of c.args.self.now = sym (bytes_of-placed inside.numbers.items inside.last bytes) ∙ ap bytes_of c.self.view_is in
+    subst (λ (bs : List ℕ). IfOk c.new.result (λ spelling. spelling ≡ take (c.args.to - c.args.from) (drop c.args.from bs))) same c.new.ensures

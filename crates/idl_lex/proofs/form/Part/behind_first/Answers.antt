@@ -2,7 +2,7 @@ use Rattle.std.proofs.Common.{◌≡◌, ◌≤◌, ◌<◌, ◌+◌, ◌-◌, �
 use Rattle.std.proofs.Math.Seq.{drop-cons}
 use Rattle.std.specs.Rc.{rc_slice_items}
 use Rattle.idl_lex.specs.Kind.{unescaped}
-use Rattle.idl_lex.proofs.spelling.Spelling.unescaped.Goals as goal
+use Rattle.idl_lex.proofs.form.Part.behind_first.Goals as goal
 
 -- a part of bytes is its first byte, and the part from the next place on
 unescaped-slice_range : (bytes : List ℕ) (from to : ℕ) → from < to → to ≤ length bytes → unescaped (slice_range bytes from to) ≡ Some (slice_range bytes (from + 1) to)
@@ -13,8 +13,8 @@ unescaped-slice_range bytes from to order within =
 
 pub returns : goal.returns
 returns c =
-    let spelling = c.self.inside in
-    let order : spelling.from < spelling.to = omega (arith, c.self.invariant.0, c.if-self.false) in
-    ap (λ bytes. Some (slice_range bytes (spelling.from + 1) spelling.to)) c.in_ok-bytes.ensures.cases
-    ∙ sym (unescaped-slice_range (rc_slice_items spelling.bytes) spelling.from spelling.to order c.self.invariant.1)
+    let part = c.self.inside in
+    let order : part.from < part.to = omega (arith, c.self.invariant.0, c.if-self.false) in
+    ap (λ bytes. Some (slice_range bytes (part.from + 1) part.to)) c.in_ok-bytes.ensures.cases
+    ∙ sym (unescaped-slice_range (rc_slice_items part.bytes) part.from part.to order c.self.invariant.1)
     ∙ ap unescaped c.self.view_is
