@@ -20,7 +20,7 @@ use idl_event::Code;
 use idl_lex::Spelling;
 use idl_map::SharedList;
 use idl_scope::{
-    Addition, DataType, Element, Entity, Facts, Kind, Path, Scope, Shared, Stage, shared_name,
+    Addition, DataType, Element, Entity, Facts, Kind, Path, Scope, Shared, Stage,
 };
 use idl_site::Declaration;
 use idl_value::{Target, Value};
@@ -250,14 +250,13 @@ impl Written {
 
 /// The path of a name in the scope with this path: that of what was added last, if this is declared
 /// so, and else a new one.
-pub fn path_in(alloc: Global, own: &Facts, name: &[u8], scope: &Path) -> Result<Path, AllocError>
+pub fn path_in(alloc: Global, own: &Facts, name: &Spelling, scope: &Path) -> Result<Path, AllocError>
     ensures { IfOk result (λ path. path ≡ name.now ∷ scope.now) }
 {
-    if let Some(path) = declared_path(own, name, scope) {
+    if let Some(path) = declared_path(own, name.as_bytes(), scope) {
         return path.clone();
     }
-    let spelled = shared_name(alloc, name)?;
-    scope.child(alloc, &spelled)
+    scope.child(alloc, name)
 }
 
 // The path of what was added last, if it is that of a name in the scope with a path.

@@ -143,7 +143,7 @@ impl<'a> Judge<'a> {
             return self.misplaced(log, sites.as_slice());
         }
         let cursor = self.cursor()?;
-        let mut walker = Walker::new(self.env, self.tokens, cursor);
+        let mut walker = Walker::new(self.env, cursor);
         walker.walk(log, sites.as_slice())?;
         let unit = Spelled {
             tree,

@@ -26,13 +26,13 @@ use crate::standing::{Standing, standing_of};
 use crate::types::{constants_of, looked_through};
 use crate::using::{Denoted, Denoting, introduce, last_at, name_code, part_at, used_code};
 use crate::walk::Walker;
-use idl_base::{Seq, Text};
+use idl_base::Seq;
 use idl_event::Code;
 use idl_lex::Spelling;
 use idl_memo::Journal;
 use idl_scope::{
     Addition, Entity, Env, Facts, Found, Kind, NameCode, NameFault, Scope, Shared, Stage,
-    Standpoint, resolve, shared_name,
+    Standpoint, resolve,
 };
 use idl_site::{Declaration, Use};
 use idl_tree::ScopedName;
@@ -46,7 +46,7 @@ impl<'a> Walker<'a> {
         &mut self,
         log: &mut Journal<Env>,
         way: Declaration,
-        name: &Text,
+        name: &Spelling,
     ) -> Result<(), AllocError>
         requires { HasRoomFor (held self.old) (item.Declared way name.now ∷ []) }
         ensures visited { OnOk result ((turns : ℕ) → TURNS ≤ turns →
@@ -63,21 +63,10 @@ impl<'a> Walker<'a> {
             return Ok(());
         };
         let scope = innermost.clone()?;
-        let spelled = self.spelled(name.as_bytes())?;
-        let entity = self.written.entity(alloc, way, &spelled, &scope.path)?;
+        let entity = self.written.entity(alloc, way, name, &scope.path)?;
         let standing = standing_of(self.view(), log, &scope, entity.get())?;
         self.declare_as(way, &scope, entity, &standing)?;
         Ok(())
-    }
-
-    // A declared name, shared with the next token where that is spelled so.
-    fn spelled(&self, name: &[u8]) -> Result<Spelling, AllocError>
-        ensures { IfOk result (λ shared. shared ≡ name.now) }
-    {
-        match self.tokens.get(self.at) {
-            Some(token) if token.as_bytes() == name => token.spelling().clone(),
-            _ => shared_name(self.env.alloc(), name),
-        }
     }
 
     // A declared name, by what stands under it in its scope.

@@ -115,11 +115,11 @@ pub fn step_of(alloc: Global, own: &Facts, tree: &Tree, scope: &Path) -> Result<
     match tree {
         Tree::Closing => Ok(Step::Closes),
         Tree::Module(name) => {
-            let path = path_in(alloc, own, name.as_bytes(), scope)?;
+            let path = path_in(alloc, own, name, scope)?;
             Ok(Step::Opens(path, Kind::Module))
         }
         Tree::Interface(interface) => {
-            let path = path_in(alloc, own, interface.name.as_bytes(), scope)?;
+            let path = path_in(alloc, own, &interface.name, scope)?;
             Ok(Step::Opens(path, Kind::Interface))
         }
         _ => Ok(Step::Stays),

@@ -22,10 +22,10 @@ use crate::labels::Labels;
 use crate::types::{target_in, written_as};
 use crate::values::{Types, code_of};
 use crate::walk::Walker;
-use idl_base::{Seq, Text};
+use idl_base::Seq;
 use idl_event::Code;
 use idl_lex::Spelling;
-use idl_scope::{Addition, DataType, Element, shared_name};
+use idl_scope::{Addition, DataType, Element};
 use idl_site::{Shape, Target as Purpose};
 use idl_tree::{DiscreteType, Expression, Several};
 use idl_value::{Fault, Outcome, Target, Value};
@@ -198,7 +198,7 @@ impl<'a> Walker<'a> {
     }
 
     /// The enum that is declared next has these enumerators.
-    pub fn enumerate(&mut self, names: &Several<Text>) -> Result<(), AllocError>
+    pub fn enumerate(&mut self, names: &Several<Spelling>) -> Result<(), AllocError>
         ensures visit { OnOk result
             (held self.new
             ≡ record (held self.old) {
@@ -209,7 +209,7 @@ impl<'a> Walker<'a> {
         ensures at { OnOk result (self.new.at ≡ self.old.at) }
         ensures env { OnOk result (self.new.env.now ≡ self.old.env.now) }
     {
-        self.written.enumerators = spelled(self.env.alloc(), names)?;
+        self.written.enumerators = listed(self.env.alloc(), names)?;
         Ok(())
     }
 
@@ -268,22 +268,22 @@ impl<'a> Walker<'a> {
     }
 }
 
-// Names as they are spelled.
-fn spelled(alloc: Global, names: &Several<Text>) -> Result<Seq<Spelling>, AllocError>
-    ensures { IfOk result (λ spelled. spelled ≡ names.now.first ∷ names.now.rest) }
+// Names in a list, shared.
+fn listed(alloc: Global, names: &Several<Spelling>) -> Result<Seq<Spelling>, AllocError>
+    ensures { IfOk result (λ listed. listed ≡ names.now.first ∷ names.now.rest) }
 {
-    let mut spelled = Vec::new(alloc);
-    spelled.push(shared_name(alloc, names.first.as_bytes())?)?;
-    spell_each(alloc, &mut spelled, names.rest.as_slice())?;
-    Ok(Seq::from_vec(spelled))
+    let mut listed = Vec::new(alloc);
+    listed.push(names.first.clone()?)?;
+    list_each(&mut listed, names.rest.as_slice())?;
+    Ok(Seq::from_vec(listed))
 }
 
-// Names more as they are spelled.
-fn spell_each(alloc: Global, spelled: &mut Vec<Spelling>, names: &[Text]) -> Result<(), AllocError>
-    ensures { OnOk result (spelled.new.items ≡ spelled.old.items ++ names.now) }
+// Puts in names more.
+fn list_each(listed: &mut Vec<Spelling>, names: &[Spelling]) -> Result<(), AllocError>
+    ensures { OnOk result (listed.new.items ≡ listed.old.items ++ names.now) }
 {
     for name in names {
-        spelled.push(shared_name(alloc, name.as_bytes())?)?;
+        listed.push(name.clone()?)?;
     }
     Ok(())
 }

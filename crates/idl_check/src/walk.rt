@@ -21,9 +21,9 @@ use crate::codes::lesser;
 use crate::declaring::{Ending, Written, finished, kind_of, path_in};
 use crate::labels::Labels;
 use crate::values::Values;
-use idl_base::{Seq, Text};
+use idl_base::Seq;
 use idl_event::Code;
-use idl_lex::Token;
+use idl_lex::Spelling;
 use idl_memo::Journal;
 use idl_scope::{Addition, Entity, Env, Facts, Kind, Path, Scope, Shared, Step, View};
 use idl_site::{Declaration, Site};
@@ -35,8 +35,6 @@ use std::mem::replace;
 /// How far a walk has come.
 pub struct Walker<'a> {
     pub env: &'a Env,
-    /// The unit.
-    pub tokens: &'a [Token],
     /// The number of the next token.
     pub at: usize,
     /// The scopes around it, the innermost first.
@@ -68,7 +66,6 @@ impl<'a> Drop for Walker<'a> {
     fn drop(self) {
         let Walker {
             env: _env,
-            tokens: _tokens,
             at: _at,
             cursor: _cursor,
             own: _own,
@@ -89,14 +86,13 @@ impl<'a> Drop for Walker<'a> {
 
 impl<'a> Walker<'a> {
     /// Before the first site of a unit, in these scopes.
-    pub fn new(env: &'a Env, tokens: &'a [Token], cursor: Vec<Scope>) -> Walker<'a>
+    pub fn new(env: &'a Env, cursor: Vec<Scope>) -> Walker<'a>
         ensures walk { held result ≡ first_walk cursor.items }
         ensures env { result.env.now ≡ env.now }
     {
         let alloc = env.alloc();
         Walker {
             env,
-            tokens,
             at: 0,
             cursor,
             own: Facts::new(alloc),
@@ -244,7 +240,7 @@ impl<'a> Walker<'a> {
     }
 
     // The scope of what is declared so begins.
-    fn begin_scope(&mut self, way: Declaration, name: &Text) -> Result<(), AllocError>
+    fn begin_scope(&mut self, way: Declaration, name: &Spelling) -> Result<(), AllocError>
         ensures walk { OnOk result
             (held self.new
             ≡ record (held self.old) {
@@ -261,7 +257,7 @@ impl<'a> Walker<'a> {
         let Some(innermost) = self.cursor.first() else {
             return Ok(());
         };
-        let path = path_in(alloc, &self.own, name.as_bytes(), &innermost.path)?;
+        let path = path_in(alloc, &self.own, name, &innermost.path)?;
         let scope = Scope {
             path,
             kind: kind_of(way),

@@ -4,6 +4,8 @@ ghost use Rattle.std.specs.Prelude.{◌≡◌, ◌≤◌, ◌<◌, IfNone, IfOk,
 ghost use Rattle.std.specs.Rc.{rc_slice_items};
 ghost use Rattle.idl_lex.specs.Form.{form_bytes};
 ghost use Rattle.idl_lex.specs.Keywords.{folded};
+ghost use Rattle.idl_lex.specs.Kind.{unescaped};
+ghost use Rattle.std.specs.Option.{option_map};
 
 use std::alloc::AllocError;
 use std::marker::Model;
@@ -45,6 +47,27 @@ impl Form {
             Form::Short(short) => Ok(Form::Short(short.copied())),
             Form::Part(part) => Ok(Form::Part(part.shared()?)),
             Form::Rest(rest) => Ok(Form::Rest(rest.shared()?)),
+        }
+    }
+
+    /// What stands after the first byte, if there is one.
+    pub fn unescaped(&self) -> Result<Option<Form>, AllocError>
+        ensures { IfOk result (λ form.
+            option_map form_bytes form ≡ unescaped (form_bytes self.now)) }
+    {
+        match self {
+            Form::Short(short) => match short.unescaped() {
+                Some(short) => Ok(Some(Form::Short(short))),
+                None => Ok(None),
+            },
+            Form::Part(part) => match part.unescaped()? {
+                Some(part) => Ok(Some(Form::Part(part))),
+                None => Ok(None),
+            },
+            Form::Rest(rest) => match rest.unescaped()? {
+                Some(rest) => Ok(Some(Form::Rest(rest))),
+                None => Ok(None),
+            },
         }
     }
 }
@@ -98,6 +121,16 @@ impl Short {
         Short {
             count: self.count,
             bytes: self.bytes,
+        }
+    }
+
+    /// What stands after the first byte, if there is one.
+    pub fn unescaped(&self) -> Option<Short>
+        ensures { result ≡ unescaped self.now }
+    {
+        match self.as_bytes() {
+            [_, rest @ ..] => Short::new(rest),
+            [] => None,
         }
     }
 
@@ -158,6 +191,21 @@ impl Part {
             to: self.to,
         })
     }
+
+    /// What stands after the first byte, shared, if there is one.
+    pub fn unescaped(&self) -> Result<Option<Part>, AllocError>
+        ensures { IfOk result (λ name. name ≡ unescaped self.now) }
+    {
+        if self.from == self.to {
+            return Ok(None);
+        }
+        let bytes = self.bytes.clone()?;
+        Ok(Some(Part {
+            bytes,
+            from: self.from + 1,
+            to: self.to,
+        }))
+    }
 }
 
 /// All shared bytes from a place on.
@@ -203,5 +251,19 @@ impl Rest {
             bytes,
             from: self.from,
         })
+    }
+
+    /// What stands after the first byte, shared, if there is one.
+    pub fn unescaped(&self) -> Result<Option<Rest>, AllocError>
+        ensures { IfOk result (λ name. name ≡ unescaped self.now) }
+    {
+        if self.from == self.bytes.len() {
+            return Ok(None);
+        }
+        let bytes = self.bytes.clone()?;
+        Ok(Some(Rest {
+            bytes,
+            from: self.from + 1,
+        }))
     }
 }

@@ -9,6 +9,7 @@ ghost use Rattle.std.specs.Rc.{rc_slice_items};
 ghost use Rattle.std.specs.Str.{bytes_eq};
 ghost use Rattle.std.proofs.Common.{ap};
 ghost use Rattle.idl_lex.specs.Keywords.{folded};
+ghost use Rattle.idl_lex.specs.Kind.{unescaped};
 
 use crate::form::{Form, Part, Rest, Short};
 use idl_base::Datum;
@@ -108,6 +109,16 @@ impl Spelling {
         match &self.form {
             Form::Short(short) => short.as_bytes(),
             form => form.as_bytes(),
+        }
+    }
+
+    /// What stands after its first byte, if it has one.
+    pub(crate) fn unescaped(&self) -> Result<Option<Spelling>, AllocError>
+        ensures { IfOk result (λ name. name ≡ unescaped self.now) }
+    {
+        match self.form.unescaped()? {
+            Some(form) => Ok(Some(Spelling { form })),
+            None => Ok(None),
         }
     }
 

@@ -1,6 +1,6 @@
 //! Tokens, and where they stand in a file.
 
-ghost use Rattle.std.specs.Prelude.{◌≡◌, ◌↔◌, IsTrue, true};
+ghost use Rattle.std.specs.Prelude.{◌≡◌, ◌↔◌, IfOk, IsTrue, true};
 ghost use Rattle.std.specs.Cmp.{partial_equiv_from_equiv};
 ghost use Rattle.std.specs.Cmp.Lexicographic.{bytes_decides, nat_list_eq_equiv};
 ghost use Rattle.std.specs.Hash as fed;
@@ -92,6 +92,17 @@ impl Token {
         ensures { result.now ≡ self.now }
     {
         self.spelling.as_bytes()
+    }
+
+    /// Its name, as `name` gives it, shared.
+    pub fn shared_name(&self) -> Result<Option<Spelling>, AllocError>
+        ensures { IfOk result (λ name. name ≡ name_of self.now) }
+    {
+        match self.kind {
+            Kind::Identifier => Ok(Some(self.spelling.clone()?)),
+            Kind::Escaped => self.spelling.unescaped(),
+            _ => Ok(None),
+        }
     }
 
     /// The name that an identifier is, without the `_` of an escaped one; `None` of any other token.

@@ -17,9 +17,9 @@ use crate::fault::{NameCode, NameFault};
 use crate::found::Found;
 use crate::kind::Kind;
 use crate::lookup::{Place, View};
-use crate::name::folded_name;
+use crate::name::folded_spelling;
 use crate::shared::Shared;
-use idl_base::Text;
+use idl_lex::Spelling;
 use idl_memo::Journal;
 use idl_tree::ScopedName;
 use std::alloc::AllocError;
@@ -126,7 +126,7 @@ impl<'a> View<'a> {
             (outward turns (searched name.now.is_global cursor.now) (folded name.now.first)))
             (answers self.entry.env.now) log.old) }
     {
-        let folded = folded_name(self.env.alloc(), name.first.as_bytes())?;
+        let folded = folded_spelling(self.env.alloc(), &name.first)?;
         if name.is_global {
             let global = Scope::global();
             return self.outward(log, &[global], &folded);
@@ -140,7 +140,7 @@ impl<'a> View<'a> {
         log: &mut Journal<Env>,
         before: &Entity,
         part: usize,
-        name: &Text,
+        name: &Spelling,
     ) -> Result<Result<&'a Shared<Entity>, NameFault>, AllocError>
         ensures { IfOk result (λ r.
             (turns : ℕ) → TURNS ≤ turns →
@@ -149,7 +149,7 @@ impl<'a> View<'a> {
             (part_of part name.now (has turns before.now.kind before.now.path (folded name.now))))
             (answers self.entry.env.now) log.old) }
     {
-        let folded = folded_name(self.env.alloc(), name.as_bytes())?;
+        let folded = folded_spelling(self.env.alloc(), name)?;
         let place = Place {
             kind: before.kind,
             path: &before.path,
@@ -163,7 +163,7 @@ impl<'a> View<'a> {
         self,
         log: &mut Journal<Env>,
         first: &'a Shared<Entity>,
-        names: &[Text],
+        names: &[Spelling],
     ) -> Result<Result<&'a Shared<Entity>, NameFault>, AllocError>
         ensures { IfOk result (λ r.
             (turns : ℕ) → TURNS ≤ turns →

@@ -1,6 +1,7 @@
 //! Sites.
 
-use idl_base::{Seq, Text};
+use idl_base::Seq;
+use idl_lex::Spelling;
 use idl_tree::{BasicType, Direction, DiscreteType, Expression, ScopedName, Several};
 
 /// What a name is declared as.
@@ -80,7 +81,7 @@ pub enum Site<'a> {
     /// So many tokens that declare and use nothing.
     Tokens(usize),
     /// A name that is declared.
-    Declared(Declaration, &'a Text),
+    Declared(Declaration, &'a Spelling),
     /// A name that is used.
     Used(Use, &'a ScopedName),
     /// String literals that are joined.
@@ -90,7 +91,7 @@ pub enum Site<'a> {
     /// That expression ends: what it is for, and its tree.
     ValueEnds(Target, &'a Expression),
     /// The scope of what is declared so, by this name, begins.
-    ScopeBegins(Declaration, &'a Text),
+    ScopeBegins(Declaration, &'a Spelling),
     /// That scope ends.
     ScopeEnds,
     /// A type ends that is no name.
@@ -98,7 +99,7 @@ pub enum Site<'a> {
     /// The lengths of the array that was declared last are told.
     ArrayEnds,
     /// The enum that is declared next has these enumerators.
-    Enumerates(&'a Several<Text>),
+    Enumerates(&'a Several<Spelling>),
     /// The discriminator of a union is this type, whose keywords follow.
     Switches(DiscreteType),
     /// The label `default` follows.

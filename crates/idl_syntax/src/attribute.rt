@@ -10,8 +10,7 @@ use crate::cursor::{behind_word, identifier, is_at_word, keyword};
 use crate::data_type::data_type;
 use crate::error::ReadError;
 use crate::name::{more_identifiers, raises, raises_if};
-use idl_base::Text;
-use idl_lex::{Keyword, Token};
+use idl_lex::{Keyword, Spelling, Token};
 use idl_tree::{
     Attribute, AttributeNames, AttributeRaises, ReadonlyAttribute, ReadonlyNames, Several,
 };
@@ -40,7 +39,7 @@ fn readonly_names(alloc: Global, tokens: &[Token]) -> Result<(ReadonlyNames, &[T
     ensures reads { Reads readonly_names_at tokens.now result }
     ensures shorter { Advances tokens.now result }
 {
-    let (name, rest) = identifier(alloc, tokens)?;
+    let (name, rest) = identifier(tokens)?;
     readonly_names_rest(alloc, name, rest)
 }
 
@@ -48,7 +47,7 @@ fn readonly_names(alloc: Global, tokens: &[Token]) -> Result<(ReadonlyNames, &[T
 #[tactic(auto, unfolding(idl_tree::specs::ReadInterface::readonly_rest))]
 fn readonly_names_rest(
     alloc: Global,
-    name: Text,
+    name: Spelling,
     tokens: &[Token],
 ) -> Result<(ReadonlyNames, &[Token]), ReadError>
     ensures reads { Reads (readonly_rest name) tokens.now result }
@@ -89,14 +88,14 @@ fn attribute_names(alloc: Global, tokens: &[Token]) -> Result<(AttributeNames, &
     ensures reads { Reads attribute_names_at tokens.now result }
     ensures shorter { Advances tokens.now result }
 {
-    let (name, rest) = identifier(alloc, tokens)?;
+    let (name, rest) = identifier(tokens)?;
     attribute_names_rest(alloc, name, rest)
 }
 
 /// What stands behind its first name.
 fn attribute_names_rest(
     alloc: Global,
-    name: Text,
+    name: Spelling,
     tokens: &[Token],
 ) -> Result<(AttributeNames, &[Token]), ReadError>
     ensures reads { Reads (λ ts. attribute_by name (keyword_of (first ts)) ts) tokens.now result }

@@ -15,8 +15,8 @@ use crate::declarator::{declarator, declarators};
 use crate::error::ReadError;
 use crate::expression::expression;
 use crate::name::{identifiers, scoped_name};
-use idl_base::{Boxed, Seq, Text};
-use idl_lex::{Keyword, Mark, Token};
+use idl_base::{Boxed, Seq};
+use idl_lex::{Keyword, Mark, Spelling, Token};
 use idl_tree::{
     Case, Construction, Discriminator, Enumeration, Label, Member, MemberType, Several, Structure,
     Union,
@@ -30,7 +30,7 @@ pub fn enumeration(alloc: Global, tokens: &[Token]) -> Result<(Enumeration, &[To
     ensures shorter { Advances tokens.now result }
 {
     let rest = behind_word(tokens, Keyword::Enum)?;
-    let (name, rest) = identifier(alloc, rest)?;
+    let (name, rest) = identifier(rest)?;
     let rest = behind(rest, Mark::OpenBrace)?;
     let (enumerators, rest) = identifiers(alloc, rest)?;
     closed(Enumeration { name, enumerators }, rest, Mark::CloseBrace)
@@ -234,7 +234,7 @@ fn structure(
     ensures shorter { Advances tokens.now result }
 {
     let rest = behind_word(tokens, Keyword::Struct)?;
-    let (name, rest) = identifier(alloc, rest)?;
+    let (name, rest) = identifier(rest)?;
     structure_rest(alloc, depth, name, rest)
 }
 
@@ -244,7 +244,7 @@ fn structure(
 pub fn structure_rest(
     alloc: Global,
     depth: usize,
-    name: Text,
+    name: Spelling,
     tokens: &[Token],
 ) -> Result<(Structure, &[Token]), ReadError>
     ensures reads { Reads (nested structure_rest_with depth name) tokens.now result }
@@ -269,7 +269,7 @@ fn union_type(alloc: Global, depth: usize, tokens: &[Token]) -> Result<(Union, &
     ensures shorter { Advances tokens.now result }
 {
     let rest = behind_word(tokens, Keyword::Union)?;
-    let (name, rest) = identifier(alloc, rest)?;
+    let (name, rest) = identifier(rest)?;
     union_rest(alloc, depth, name, rest)
 }
 
@@ -279,7 +279,7 @@ fn union_type(alloc: Global, depth: usize, tokens: &[Token]) -> Result<(Union, &
 pub fn union_rest(
     alloc: Global,
     depth: usize,
-    name: Text,
+    name: Spelling,
     tokens: &[Token],
 ) -> Result<(Union, &[Token]), ReadError>
     ensures reads { Reads (nested union_rest_with depth name) tokens.now result }
@@ -298,7 +298,7 @@ pub fn union_rest(
 fn union_cases(
     alloc: Global,
     depth: usize,
-    head: (Text, Discriminator),
+    head: (Spelling, Discriminator),
     tokens: &[Token],
 ) -> Result<(Union, &[Token]), ReadError>
     ensures reads { Reads (nested cases_with depth head.0 head.1) tokens.now result }

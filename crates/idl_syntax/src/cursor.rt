@@ -9,9 +9,8 @@ ghost use Rattle.idl_syntax.specs.Gives.{Advances, Passes, Reads};
 ghost use Rattle.idl_syntax.specs.Next.{closed_with, mark_of, named_with};
 
 use crate::error::ReadError;
-use idl_base::Text;
-use idl_lex::{Keyword, Kind, Mark, Token};
-use std::alloc::Global;
+use idl_lex::{Keyword, Kind, Mark, Spelling, Token};
+use std::alloc::AllocError;
 
 /// The mark that the next token is.
 #[tactic(auto, unfolding(idl_tree::specs::Lexeme::lexeme_of))]
@@ -74,15 +73,11 @@ pub fn behind(tokens: &[Token], mark: Mark) -> Result<&[Token], ReadError>
 }
 
 /// What was read, with an identifier behind it.
-pub fn named<T: Drop>(
-    alloc: Global,
-    read: T,
-    tokens: &[Token],
-) -> Result<((T, Text), &[Token]), ReadError>
+pub fn named<T: Drop>(read: T, tokens: &[Token]) -> Result<((T, Spelling), &[Token]), ReadError>
     ensures reads { Reads (named_with read) tokens.now result }
     ensures shorter { Advances tokens.now result }
 {
-    let (name, rest) = identifier(alloc, tokens)?;
+    let (name, rest) = identifier(tokens)?;
     Ok(((read, name), rest))
 }
 
@@ -131,13 +126,24 @@ pub fn name(tokens: &[Token]) -> Option<&[u8]>
     }
 }
 
+/// The same, shared with the token.
+#[tactic(auto, unfolding(idl_tree::specs::Lexeme::lexeme_of))]
+fn shared_name(tokens: &[Token]) -> Result<Option<Spelling>, AllocError>
+    ensures { IfOk result (λ name. name ≡ identifier_of (first (lexemes tokens.now))) }
+{
+    match tokens {
+        [token, ..] => token.shared_name(),
+        [] => Ok(None),
+    }
+}
+
 /// An identifier.
-pub fn identifier(alloc: Global, tokens: &[Token]) -> Result<(Text, &[Token]), ReadError>
+pub fn identifier(tokens: &[Token]) -> Result<(Spelling, &[Token]), ReadError>
     ensures reads { Reads identifier_at tokens.now result }
     ensures shorter { Advances tokens.now result }
 {
-    match name(tokens) {
-        Some(name) => Ok((Text::from_slice(alloc, name)?, &tokens[1..])),
+    match shared_name(tokens)? {
+        Some(name) => Ok((name, &tokens[1..])),
         None => Err(ReadError::Syntax(tokens.len())),
     }
 }

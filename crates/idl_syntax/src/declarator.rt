@@ -61,7 +61,7 @@ pub fn declarator(
     ensures reads { Reads (declarator_with (expression_at depth)) tokens.now result }
     ensures shorter { Advances tokens.now result }
 {
-    let (name, rest) = identifier(alloc, tokens)?;
+    let (name, rest) = identifier(tokens)?;
     let (lengths, rest) = array_lengths(alloc, depth, rest)?;
     Ok((Declarator { name, lengths }, rest))
 }

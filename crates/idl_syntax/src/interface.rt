@@ -6,8 +6,7 @@ ghost use Rattle.idl_syntax.specs.Gives.{Advances, Reads, Remains};
 use crate::cursor::{behind, behind_word, closed, identifier, is_at, is_at_word};
 use crate::error::ReadError;
 use crate::name::scoped_names;
-use idl_base::Text;
-use idl_lex::{Keyword, Mark, Token};
+use idl_lex::{Keyword, Mark, Spelling, Token};
 use idl_tree::{Forward, Interface, ScopedName, Several, Tree};
 use std::alloc::Global;
 
@@ -24,12 +23,12 @@ pub fn closing(tokens: &[Token]) -> Result<(Tree, &[Token]), ReadError>
 
 /// The opening of a module.
 #[tactic(auto, unfolding(idl_tree::specs::ReadUnit::module_at))]
-pub fn module(alloc: Global, tokens: &[Token]) -> Result<(Tree, &[Token]), ReadError>
+pub fn module(tokens: &[Token]) -> Result<(Tree, &[Token]), ReadError>
     ensures reads { Reads module_at tokens.now result }
     ensures shorter { Advances tokens.now result }
 {
     let rest = behind_word(tokens, Keyword::Module)?;
-    let (name, rest) = identifier(alloc, rest)?;
+    let (name, rest) = identifier(rest)?;
     closed(Tree::Module(name), rest, Mark::OpenBrace)
 }
 
@@ -42,7 +41,7 @@ pub fn interface(alloc: Global, tokens: &[Token]) -> Result<(Tree, &[Token]), Re
     let is_local = is_at_word(tokens, Keyword::Local);
     let rest = if is_local { &tokens[1..] } else { tokens };
     let rest = behind_word(rest, Keyword::Interface)?;
-    let (name, rest) = identifier(alloc, rest)?;
+    let (name, rest) = identifier(rest)?;
     interface_rest(alloc, is_local, name, rest)
 }
 
@@ -51,7 +50,7 @@ pub fn interface(alloc: Global, tokens: &[Token]) -> Result<(Tree, &[Token]), Re
 fn interface_rest(
     alloc: Global,
     is_local: bool,
-    name: Text,
+    name: Spelling,
     tokens: &[Token],
 ) -> Result<(Tree, &[Token]), ReadError>
     ensures reads { Reads (interface_rest is_local name) tokens.now result }

@@ -11,8 +11,8 @@ ghost use Rattle.idl_syntax.specs.Gives.{Advances, Reads, Remains};
 
 use crate::cursor::{behind, behind_word, closed, identifier, is_at, is_at_word};
 use crate::error::ReadError;
-use idl_base::{Seq, Text};
-use idl_lex::{Keyword, Mark, Token};
+use idl_base::Seq;
+use idl_lex::{Keyword, Mark, Spelling, Token};
 use idl_tree::{ScopedName, Several};
 use std::alloc::Global;
 
@@ -24,7 +24,7 @@ pub fn scoped_name(alloc: Global, tokens: &[Token]) -> Result<(ScopedName, &[Tok
 {
     let is_global = is_at(tokens, Mark::ColonColon);
     let rest = if is_global { &tokens[1..] } else { tokens };
-    let (first, rest) = identifier(alloc, rest)?;
+    let (first, rest) = identifier(rest)?;
     let (more, rest) = parts(alloc, rest)?;
     let name = ScopedName {
         is_global,
@@ -36,23 +36,23 @@ pub fn scoped_name(alloc: Global, tokens: &[Token]) -> Result<(ScopedName, &[Tok
 
 /// A further part of a name.
 #[tactic(auto, unfolding(idl_tree::specs::ReadName::part_at))]
-fn part(alloc: Global, tokens: &[Token]) -> Result<(Text, &[Token]), ReadError>
+fn part(tokens: &[Token]) -> Result<(Spelling, &[Token]), ReadError>
     ensures reads { Reads part_at tokens.now result }
     ensures shorter { Advances tokens.now result }
 {
     let rest = behind(tokens, Mark::ColonColon)?;
-    identifier(alloc, rest)
+    identifier(rest)
 }
 
 /// The further parts of a name.
-fn parts(alloc: Global, tokens: &[Token]) -> Result<(Seq<Text>, &[Token]), ReadError>
+fn parts(alloc: Global, tokens: &[Token]) -> Result<(Seq<Spelling>, &[Token]), ReadError>
     ensures reads { Reads parts_at tokens.now result }
     ensures within { Remains tokens.now result }
 {
     let mut parts = Vec::new(alloc);
     let mut rest = tokens;
     'parts: while is_at(rest, Mark::ColonColon) {
-        let (one, after) = part(alloc, rest)?;
+        let (one, after) = part(rest)?;
         parts.push(one)?;
         rest = after;
     }
@@ -93,24 +93,24 @@ fn more_scoped_names(
 
 /// One identifier or more, with commas between.
 #[tactic(auto, unfolding(idl_tree::specs::ReadExpression::parted_with))]
-pub fn identifiers(alloc: Global, tokens: &[Token]) -> Result<(Several<Text>, &[Token]), ReadError>
+pub fn identifiers(alloc: Global, tokens: &[Token]) -> Result<(Several<Spelling>, &[Token]), ReadError>
     ensures reads { Reads (listed_with identifier_at) tokens.now result }
     ensures shorter { Advances tokens.now result }
 {
-    let (first, rest) = identifier(alloc, tokens)?;
+    let (first, rest) = identifier(tokens)?;
     let (more, rest) = more_identifiers(alloc, rest)?;
     Ok((Several { first, rest: more }, rest))
 }
 
 /// Identifiers, each behind a comma.
-pub fn more_identifiers(alloc: Global, tokens: &[Token]) -> Result<(Seq<Text>, &[Token]), ReadError>
+pub fn more_identifiers(alloc: Global, tokens: &[Token]) -> Result<(Seq<Spelling>, &[Token]), ReadError>
     ensures reads { Reads more_names_at tokens.now result }
     ensures within { Remains tokens.now result }
 {
     let mut names = Vec::new(alloc);
     let mut rest = tokens;
     'names: while is_at(rest, Mark::Comma) {
-        let (one, after) = identifier(alloc, &rest[1..])?;
+        let (one, after) = identifier(&rest[1..])?;
         names.push(one)?;
         rest = after;
     }

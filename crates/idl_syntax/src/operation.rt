@@ -16,8 +16,8 @@ use crate::data_type::data_type;
 use crate::error::ReadError;
 use crate::literal::text;
 use crate::name::raises_if;
-use idl_base::{Seq, Text};
-use idl_lex::{Keyword, Mark, Token};
+use idl_base::Seq;
+use idl_lex::{Keyword, Mark, Spelling, Token};
 use idl_tree::{DataType, Direction, Operation, Parameter, ScopedName, Several};
 use std::alloc::Global;
 
@@ -47,7 +47,7 @@ fn parameter(
         return Err(ReadError::Syntax(tokens.len()));
     };
     let (kind, rest) = data_type(alloc, depth, &tokens[1..])?;
-    let ((kind, name), rest) = named(alloc, kind, rest)?;
+    let ((kind, name), rest) = named(kind, rest)?;
     let parameter = Parameter {
         direction,
         kind,
@@ -203,7 +203,7 @@ pub fn operation(
     let is_oneway = is_at_word(tokens, Keyword::Oneway);
     let rest = if is_oneway { &tokens[1..] } else { tokens };
     let (result, rest) = operation_result(alloc, depth, rest)?;
-    let (head, rest) = named(alloc, (is_oneway, result), rest)?;
+    let (head, rest) = named((is_oneway, result), rest)?;
     operation_rest(alloc, depth, head, rest)
 }
 
@@ -213,7 +213,7 @@ pub fn operation(
 fn operation_rest(
     alloc: Global,
     depth: usize,
-    head: ((bool, Option<DataType>), Text),
+    head: ((bool, Option<DataType>), Spelling),
     tokens: &[Token],
 ) -> Result<(Operation, &[Token]), ReadError>
     ensures reads { Reads (operation_rest_with (type_at depth) head.0.0 head.0.1 head.1)

@@ -11,8 +11,8 @@ ghost use Rattle.idl_tree.specs.Pragma.{further_parts, id_of, is_separator, name
 ghost use Rattle.idl_syntax.specs.Behind.{behind_view};
 
 use crate::version::version;
-use idl_base::{Seq, Text};
-use idl_lex::{Kind, Mark, PlacedToken, decode};
+use idl_base::Seq;
+use idl_lex::{Kind, Mark, PlacedToken, Spelling, decode};
 use idl_tree::{Pragma, ScopedName};
 use std::alloc::{AllocError, Global};
 
@@ -106,7 +106,7 @@ fn name_from(
     let [first, rest @ ..] = tokens else {
         return Ok(None);
     };
-    let Some(first) = part(alloc, first)? else {
+    let Some(first) = part(first)? else {
         return Ok(None);
     };
     let Some((rest, last)) = further_parts(alloc, rest)? else {
@@ -124,7 +124,7 @@ fn name_from(
 fn further_parts(
     alloc: Global,
     tokens: &[PlacedToken],
-) -> Result<Option<(Seq<Text>, &PlacedToken)>, AllocError>
+) -> Result<Option<(Seq<Spelling>, &PlacedToken)>, AllocError>
     ensures { IfOk result (λ read. behind_view read ≡ further_parts (tokens_in tokens.now)) }
 {
     let mut parts = Vec::new(alloc);
@@ -133,7 +133,7 @@ fn further_parts(
         if !is_separator(separator) {
             return Ok(None);
         }
-        let Some(part) = part(alloc, name)? else {
+        let Some(part) = part(name)? else {
             return Ok(None);
         };
         parts.push(part)?;
@@ -145,23 +145,13 @@ fn further_parts(
     }
 }
 
-/// The name that a token is.
-fn part(alloc: Global, token: &PlacedToken) -> Result<Option<Text>, AllocError>
+/// The name that a token is, without an escape, shared with it.
+fn part(token: &PlacedToken) -> Result<Option<Spelling>, AllocError>
     ensures { IfOk result (λ part. part ≡ part_of token.now.token) }
 {
-    match part_bytes(token) {
-        Some(bytes) => Ok(Some(Text::from_slice(alloc, bytes)?)),
-        None => Ok(None),
-    }
-}
-
-/// The bytes of the name that a token is, without an escape.
-fn part_bytes(token: &PlacedToken) -> Option<&[u8]>
-    ensures { option_copied result ≡ part_of token.now.token }
-{
     match token.token.kind() {
-        Kind::Miscased => Some(token.token.as_bytes()),
-        _ => token.token.name(),
+        Kind::Miscased => Ok(Some(token.token.spelling().clone()?)),
+        _ => token.token.shared_name(),
     }
 }
 

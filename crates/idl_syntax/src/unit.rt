@@ -24,8 +24,7 @@ use crate::expression::expression;
 use crate::interface::{closing, interface, module};
 use crate::name::scoped_name;
 use crate::operation::operation;
-use idl_base::Text;
-use idl_lex::{Keyword, Mark, Token};
+use idl_lex::{Keyword, Mark, Spelling, Token};
 use idl_tree::{Constant, ConstantType, Construction, Exception, Forward, Tree, Typedef, reading};
 use std::alloc::Global;
 
@@ -57,13 +56,13 @@ fn unit(alloc: Global, depth: usize, tokens: &[Token]) -> Result<(Tree, &[Token]
         return closing(tokens);
     }
     match keyword(tokens) {
-        Some(Keyword::Module) => module(alloc, tokens),
+        Some(Keyword::Module) => module(tokens),
         Some(Keyword::Local | Keyword::Interface) => interface(alloc, tokens),
         Some(Keyword::Struct) => structure_unit(alloc, depth, tokens),
         Some(Keyword::Union) => union_unit(alloc, depth, tokens),
         Some(Keyword::Enum) => enumeration_unit(alloc, tokens),
         Some(Keyword::Typedef) => typedef_unit(alloc, depth, tokens),
-        Some(Keyword::Native) => native_unit(alloc, tokens),
+        Some(Keyword::Native) => native_unit(tokens),
         Some(Keyword::Const) => constant_unit(alloc, depth, tokens),
         Some(Keyword::Exception) => exception_unit(alloc, depth, tokens),
         Some(Keyword::Readonly) => readonly_attribute_unit(alloc, depth, tokens),
@@ -83,7 +82,7 @@ fn structure_unit(
     ensures shorter { Advances tokens.now result }
 {
     let rest = behind_word(tokens, Keyword::Struct)?;
-    let (name, rest) = identifier(alloc, rest)?;
+    let (name, rest) = identifier(rest)?;
     if is_at(rest, Mark::OpenBrace) {
         let (structure, rest) = structure_rest(alloc, depth, name, rest)?;
         closed(
@@ -107,7 +106,7 @@ fn union_unit(alloc: Global, depth: usize, tokens: &[Token]) -> Result<(Tree, &[
     ensures shorter { Advances tokens.now result }
 {
     let rest = behind_word(tokens, Keyword::Union)?;
-    let (name, rest) = identifier(alloc, rest)?;
+    let (name, rest) = identifier(rest)?;
     if is_at_word(rest, Keyword::Switch) {
         let (union, rest) = union_rest(alloc, depth, name, rest)?;
         closed(
@@ -160,21 +159,21 @@ fn typedef_unit(
 
 /// `native` and a name, without the `;`.
 #[tactic(auto, unfolding(idl_tree::specs::ReadUnit::native_at))]
-fn native(alloc: Global, tokens: &[Token]) -> Result<(Text, &[Token]), ReadError>
+fn native(tokens: &[Token]) -> Result<(Spelling, &[Token]), ReadError>
     ensures reads { Reads native_at tokens.now result }
     ensures shorter { Advances tokens.now result }
 {
     let rest = behind_word(tokens, Keyword::Native)?;
-    identifier(alloc, rest)
+    identifier(rest)
 }
 
 /// A native type.
 #[tactic(auto, unfolding(idl_tree::specs::ReadUnit::ended_with))]
-fn native_unit(alloc: Global, tokens: &[Token]) -> Result<(Tree, &[Token]), ReadError>
+fn native_unit(tokens: &[Token]) -> Result<(Tree, &[Token]), ReadError>
     ensures reads { Reads (ended_with tree.Native native_at) tokens.now result }
     ensures shorter { Advances tokens.now result }
 {
-    let (name, rest) = native(alloc, tokens)?;
+    let (name, rest) = native(tokens)?;
     closed(Tree::Native(name), rest, Mark::Semicolon)
 }
 
@@ -216,7 +215,7 @@ fn constant(
 {
     let rest = behind_word(tokens, Keyword::Const)?;
     let (kind, rest) = constant_type(alloc, depth, rest)?;
-    let (head, rest) = named(alloc, kind, rest)?;
+    let (head, rest) = named(kind, rest)?;
     let ((kind, name), rest) = closed(head, rest, Mark::Equals)?;
     let (value, rest) = expression(alloc, depth, rest)?;
     Ok((Constant { kind, name, value }, rest))
@@ -248,7 +247,7 @@ fn exception(
     ensures shorter { Advances tokens.now result }
 {
     let rest = behind_word(tokens, Keyword::Exception)?;
-    let (name, rest) = identifier(alloc, rest)?;
+    let (name, rest) = identifier(rest)?;
     let rest = behind(rest, Mark::OpenBrace)?;
     let (members, rest) = members(alloc, depth, rest)?;
     closed(Exception { name, members }, rest, Mark::CloseBrace)

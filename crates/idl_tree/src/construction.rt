@@ -5,12 +5,13 @@ use crate::declarator::Declarator;
 use crate::expression::Expression;
 use crate::name::ScopedName;
 use crate::several::Several;
-use idl_base::{Boxed, Seq, Text};
+use idl_base::{Boxed, Seq};
+use idl_lex::Spelling;
 
 /// An enum, with its enumerators.
 pub struct Enumeration {
-    pub name: Text,
-    pub enumerators: Several<Text>,
+    pub name: Spelling,
+    pub enumerators: Several<Spelling>,
 }
 
 impl Drop for Enumeration {
@@ -73,7 +74,7 @@ pub enum Construction {
 #[cycle(construction)]
 #[derive(Drop)]
 pub struct Structure {
-    pub name: Text,
+    pub name: Spelling,
     pub first: Member,
     pub rest: Seq<Member>,
 }
@@ -90,7 +91,7 @@ pub struct Member {
 #[cycle(construction)]
 #[derive(Drop)]
 pub struct Union {
-    pub name: Text,
+    pub name: Spelling,
     pub discriminator: Discriminator,
     pub first: Case,
     pub rest: Seq<Case>,

@@ -1,11 +1,12 @@
 //! Declared names.
 
 use crate::expression::Expression;
-use idl_base::{Seq, Text};
+use idl_base::Seq;
+use idl_lex::Spelling;
 
 /// A declared name, and the lengths of its array if it is one.
 pub struct Declarator {
-    pub name: Text,
+    pub name: Spelling,
     pub lengths: Seq<Expression>,
 }
 

@@ -2,12 +2,12 @@
 
 use crate::name::ScopedName;
 use crate::several::Several;
-use idl_base::Text;
+use idl_lex::Spelling;
 
 /// The opening of an interface.
 pub struct Interface {
     pub is_local: bool,
-    pub name: Text,
+    pub name: Spelling,
     pub bases: Option<Several<ScopedName>>,
 }
 
@@ -23,9 +23,9 @@ impl Drop for Interface {
 
 /// A forward declaration.
 pub enum Forward {
-    Interface(bool, Text),
-    Structure(Text),
-    Union(Text),
+    Interface(bool, Spelling),
+    Structure(Spelling),
+    Union(Spelling),
 }
 
 impl Drop for Forward {

@@ -1,12 +1,13 @@
 //! Scoped names.
 
-use idl_base::{Seq, Text};
+use idl_base::Seq;
+use idl_lex::Spelling;
 
 /// A scoped name: `["::"] ID ( "::" ID )*`, each part without an escape.
 pub struct ScopedName {
     pub is_global: bool,
-    pub first: Text,
-    pub rest: Seq<Text>,
+    pub first: Spelling,
+    pub rest: Seq<Spelling>,
 }
 
 impl Drop for ScopedName {

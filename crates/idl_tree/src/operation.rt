@@ -3,7 +3,8 @@
 use crate::data_type::DataType;
 use crate::name::ScopedName;
 use crate::several::Several;
-use idl_base::{Seq, Text};
+use idl_base::Seq;
+use idl_lex::Spelling;
 
 /// `in`, `out` or `inout`.
 #[derive(Clone, Copy)]
@@ -17,7 +18,7 @@ pub enum Direction {
 pub struct Parameter {
     pub direction: Direction,
     pub kind: DataType,
-    pub name: Text,
+    pub name: Spelling,
 }
 
 impl Drop for Parameter {
@@ -34,7 +35,7 @@ impl Drop for Parameter {
 pub struct Operation {
     pub is_oneway: bool,
     pub result: Option<DataType>,
-    pub name: Text,
+    pub name: Spelling,
     pub parameters: Option<Several<Parameter>>,
     pub raises: Option<Several<ScopedName>>,
     pub context: Option<Several<Several<Seq<u16>>>>,

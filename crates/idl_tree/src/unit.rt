@@ -9,7 +9,8 @@ use crate::interface::{Forward, Interface};
 use crate::name::ScopedName;
 use crate::operation::Operation;
 use crate::several::Several;
-use idl_base::{Seq, Text};
+use idl_base::Seq;
+use idl_lex::Spelling;
 
 /// A typedef.
 pub struct Typedef {
@@ -46,7 +47,7 @@ impl Drop for ConstantType {
 /// A constant.
 pub struct Constant {
     pub kind: ConstantType,
-    pub name: Text,
+    pub name: Spelling,
     pub value: Expression,
 }
 
@@ -62,7 +63,7 @@ impl Drop for Constant {
 
 /// An exception, with its members.
 pub struct Exception {
-    pub name: Text,
+    pub name: Spelling,
     pub members: Seq<Member>,
 }
 
@@ -78,12 +79,12 @@ impl Drop for Exception {
 /// What a unit is.
 pub enum Tree {
     Closing,
-    Module(Text),
+    Module(Spelling),
     Interface(Interface),
     Forward(Forward),
     Typedef(Typedef),
     Construction(Construction),
-    Native(Text),
+    Native(Spelling),
     Constant(Constant),
     Exception(Exception),
     ReadonlyAttribute(ReadonlyAttribute),
