@@ -49,23 +49,22 @@ impl Form {
             Form::Rest(rest) => Ok(Form::Rest(rest.shared()?)),
         }
     }
-}
 
-impl Form {
-    /// What stands after the first byte, if there is one: shared, as the whole is.
-    pub fn behind_first(&self) -> Result<Option<Form>, AllocError>
-        ensures { IfOk result (λ form. option_map form_bytes form ≡ unescaped (form_bytes self.now)) }
+    /// What stands after the first byte, if there is one.
+    pub fn unescaped(&self) -> Result<Option<Form>, AllocError>
+        ensures { IfOk result (λ form.
+            option_map form_bytes form ≡ unescaped (form_bytes self.now)) }
     {
         match self {
-            Form::Short(short) => match short.behind_first() {
+            Form::Short(short) => match short.unescaped() {
                 Some(short) => Ok(Some(Form::Short(short))),
                 None => Ok(None),
             },
-            Form::Part(part) => match part.behind_first()? {
+            Form::Part(part) => match part.unescaped()? {
                 Some(part) => Ok(Some(Form::Part(part))),
                 None => Ok(None),
             },
-            Form::Rest(rest) => match rest.behind_first()? {
+            Form::Rest(rest) => match rest.unescaped()? {
                 Some(rest) => Ok(Some(Form::Rest(rest))),
                 None => Ok(None),
             },
@@ -126,11 +125,11 @@ impl Short {
     }
 
     /// What stands after the first byte, if there is one.
-    pub fn behind_first(&self) -> Option<Short>
+    pub fn unescaped(&self) -> Option<Short>
         ensures { result ≡ unescaped self.now }
     {
         match self.as_bytes() {
-            [_first, rest @ ..] => Short::new(rest),
+            [_, rest @ ..] => Short::new(rest),
             [] => None,
         }
     }
@@ -181,21 +180,6 @@ impl Part {
         &self.bytes.as_slice()[self.from as usize..self.to as usize]
     }
 
-    /// What stands after the first byte, if there is one, shared.
-    pub fn behind_first(&self) -> Result<Option<Part>, AllocError>
-        ensures { IfOk result (λ part. part ≡ unescaped self.now) }
-    {
-        if self.from == self.to {
-            return Ok(None);
-        }
-        let bytes = self.bytes.clone()?;
-        Ok(Some(Part {
-            bytes,
-            from: self.from + 1,
-            to: self.to,
-        }))
-    }
-
     /// The same bytes, shared.
     pub fn shared(&self) -> Result<Part, AllocError>
         ensures { IfOk result (λ part. part ≡ self.now) }
@@ -206,6 +190,21 @@ impl Part {
             from: self.from,
             to: self.to,
         })
+    }
+
+    /// What stands after the first byte, shared, if there is one.
+    pub fn unescaped(&self) -> Result<Option<Part>, AllocError>
+        ensures { IfOk result (λ name. name ≡ unescaped self.now) }
+    {
+        if self.from == self.to {
+            return Ok(None);
+        }
+        let bytes = self.bytes.clone()?;
+        Ok(Some(Part {
+            bytes,
+            from: self.from + 1,
+            to: self.to,
+        }))
     }
 }
 
@@ -243,20 +242,6 @@ impl Rest {
         &self.bytes.as_slice()[self.from..]
     }
 
-    /// What stands after the first byte, if there is one, shared.
-    pub fn behind_first(&self) -> Result<Option<Rest>, AllocError>
-        ensures { IfOk result (λ rest. rest ≡ unescaped self.now) }
-    {
-        if self.from == self.bytes.as_slice().len() {
-            return Ok(None);
-        }
-        let bytes = self.bytes.clone()?;
-        Ok(Some(Rest {
-            bytes,
-            from: self.from + 1,
-        }))
-    }
-
     /// The same bytes, shared.
     pub fn shared(&self) -> Result<Rest, AllocError>
         ensures { IfOk result (λ rest. rest ≡ self.now) }
@@ -266,5 +251,19 @@ impl Rest {
             bytes,
             from: self.from,
         })
+    }
+
+    /// What stands after the first byte, shared, if there is one.
+    pub fn unescaped(&self) -> Result<Option<Rest>, AllocError>
+        ensures { IfOk result (λ name. name ≡ unescaped self.now) }
+    {
+        if self.from == self.bytes.len() {
+            return Ok(None);
+        }
+        let bytes = self.bytes.clone()?;
+        Ok(Some(Rest {
+            bytes,
+            from: self.from + 1,
+        }))
     }
 }

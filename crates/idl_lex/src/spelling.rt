@@ -112,11 +112,11 @@ impl Spelling {
         }
     }
 
-    /// What stands after its first byte, if it has one: shared, as it is itself.
+    /// What stands after its first byte, if it has one.
     pub(crate) fn unescaped(&self) -> Result<Option<Spelling>, AllocError>
         ensures { IfOk result (λ name. name ≡ unescaped self.now) }
     {
-        match self.form.behind_first()? {
+        match self.form.unescaped()? {
             Some(form) => Ok(Some(Spelling { form })),
             None => Ok(None),
         }

@@ -2,7 +2,7 @@ use Rattle.std.proofs.Common.{◌≡◌, ◌≤◌, ◌<◌, ◌+◌, ◌-◌, �
 use Rattle.std.proofs.Math.Seq.{drop-cons}
 use Rattle.std.specs.Rc.{rc_slice_items}
 use Rattle.idl_lex.specs.Kind.{unescaped}
-use Rattle.idl_lex.proofs.form.Part.behind_first.Goals as goal
+use Rattle.idl_lex.proofs.form.Part.unescaped.Goals as goal
 
 -- a part of bytes is its first byte, and the part from the next place on
 unescaped-slice_range : (bytes : List ℕ) (from to : ℕ) → from < to → to ≤ length bytes → unescaped (slice_range bytes from to) ≡ Some (slice_range bytes (from + 1) to)
