@@ -98,12 +98,20 @@ impl Short {
         if bytes.len() > MOST {
             return None;
         }
+        Some(Short::of(bytes))
+    }
+
+    // These few bytes.
+    fn of(bytes: &[u8]) -> Short
+        requires { length bytes.now ≤ 22 }
+        ensures { result ≡ bytes.now }
+    {
         let mut array = [0; MOST];
         array[..bytes.len()].copy_from_slice(bytes);
-        Some(Short {
+        Short {
             count: bytes.len() as u8,
             bytes: array,
-        })
+        }
     }
 
     /// The bytes in order.
@@ -128,10 +136,10 @@ impl Short {
     pub fn unescaped(&self) -> Option<Short>
         ensures { result ≡ unescaped self.now }
     {
-        match self.as_bytes() {
-            [_, rest @ ..] => Short::new(rest),
-            [] => None,
+        if self.count == 0 {
+            return None;
         }
+        Some(Short::of(&self.bytes[1..self.count as usize]))
     }
 
     /// The bytes with each capital letter made small.
