@@ -1,5 +1,5 @@
 -- The units of a root, from the events that it expands to.
-use Rattle.std.specs.Prelude.{ℕ, Bool, ◌||◌, List, [], ◌∷◌, ◌++◌, flat_map, not}
+use Rattle.std.specs.Prelude.{Bool, ◌||◌, List, [], ◌∷◌, ◌++◌, flat_map, not}
 use Rattle.std.specs.List.{enumerate_from}
 use Rattle.idl_event.specs.Apart.{Numbered, site_at, sites_in, tokens_in}
 use Rattle.idl_event.specs.declared.event.Event.{Event}

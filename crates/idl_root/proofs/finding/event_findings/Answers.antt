@@ -6,5 +6,5 @@ use Rattle.idl_root.proofs.finding.event_findings.Goals as goal
 
 pub returns : goal.returns
 returns c =
-    let all : c.loop-number.findings.items ≡ flat_map event_finding c.others.result.now = search rules in
-    all ∙ ap (flat_map event_finding) c.others.ensures ∙ flat_map-others_in (enumerate_from 0 c.args.expansion.now)
+    let all : c.loop-number.findings.items ≡ flat_map event_finding c.others-others.result.now = search rules in
+    all ∙ ap (flat_map event_finding) c.others-others.ensures ∙ flat_map-others_in (enumerate_from 0 c.args.expansion.now)
