@@ -1,5 +1,5 @@
 -- What is read after something was read.
-use Rattle.std.proofs.Common.{◌≡◌, ℕ, Bool, List, [], ◌∷◌, Result, Ok, Err, drop, length, slice_range, refl, ap, sym, ◌∙◌}
+use Rattle.std.proofs.Common.{◌≡◌, ℕ, Bool, List, [], ◌∷◌, Result, Ok, Err, drop, length, slice_range, refl, ap, ◌∙◌}
 use Rattle.idl_syntax.specs.Gives.{Fails}
 use Rattle.idl_syntax.specs.declared.error.ReadError.{ReadError}
 use Rattle.idl_syntax.specs.declared.error.ReadError.TheVariants as errors

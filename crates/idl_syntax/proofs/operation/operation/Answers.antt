@@ -1,12 +1,11 @@
-use Rattle.std.proofs.Common.{◌≡◌, Bool, List, ℕ, [], ◌∷◌, drop, length, slice_range, if◌then◌else◌, refl, sym, ap, subst, ◌∙◌}
-use Rattle.idl_lex.specs.declared.keyword.Keyword.TheVariants as word
+use Rattle.std.proofs.Common.{◌≡◌, drop, if◌then◌else◌, sym, ap, subst, ◌∙◌}
 use Rattle.idl_syntax.specs.Gives.{Gives}
 use Rattle.idl_syntax.proofs.Steps.{lexemes-rest, operation_step}
 use Rattle.idl_tree.specs.Lexeme.{lexemes}
 use Rattle.idl_tree.specs.ReadInterface.{operation_rest_with, operation_with, result_with}
 use Rattle.idl_tree.specs.ReadType.{type_at}
-use Rattle.idl_tree.specs.Reading.{◌>>=◌, first}
-use Rattle.idl_tree.specs.Tests.{identifier_at, is_word}
+use Rattle.idl_tree.specs.Reading.{◌>>=◌}
+use Rattle.idl_tree.specs.Tests.{identifier_at}
 use Rattle.idl_syntax.proofs.operation.operation.Goals as goal
 use Rattle.idl_syntax.proofs.operation.operation.Goals.{then-is_oneway, else-is_oneway}
 
