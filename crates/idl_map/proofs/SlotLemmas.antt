@@ -11,9 +11,8 @@ use Rattle.std.specs.List.{filter}
 use Rattle.std.specs.Map.{lookup}
 use Rattle.std.specs.Prelude.{map}
 use Rattle.idl_base.specs.Table.{insert_entry}
-use Rattle.idl_map.specs.Slots.{IsDivided, IsOneAt, branch_seen, choice, empty_branch, gathered, slot_entries, slot_size, slots_size}
+use Rattle.idl_map.specs.Slots.{branch_seen, choice, empty_branch, gathered, slot_entries, slot_size, slots_size}
 use Rattle.idl_map.specs.declared.slot.Slot.{Slot}
-use Rattle.idl_map.specs.declared.slot.Slot.TheVariants.{Empty, One, Few, Many}
 
 -- a test of numbers that are one
 eqb_same : (a b : ℕ) → a ≡ b → eqb a b ≡ true
@@ -147,13 +146,6 @@ pub slots_size-set : {K V : Type 0} (slots : List (Slot K V)) (i : ℕ) (child :
 slots_size-set [] i child = omega arith
 slots_size-set (slot ∷ slots) zero child = omega arith
 slots_size-set (slot ∷ slots) (suc i) child = omega (arith, slots_size-set slots i child)
-
--- a slot that has not one entry alone has none at another key
-pub divided_at : {K V : Type 0} (key : K) (slot : Slot K V) → IsDivided slot → IsOneAt key slot
-divided_at key Empty h = h
-divided_at key (One entry) h = absurd h
-divided_at key (Few table) h = h
-divided_at key (Many shift branch) h = h
 
 -- look-ups after a put into a table
 module _ {K V : Type 0} (eq : K → K → Bool) (same : (x y : K) → eq x y ≡ true → x ≡ y) (laws : IsEquivalence eq) (key : K) (v : V) (q : K) where

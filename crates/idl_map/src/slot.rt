@@ -70,13 +70,16 @@ pub fn get<'a, K: Digest + Ord, V: Datum>(
     requires { digest ≡ K.digest_of key.now }
     ensures { option_copied result ≡ lookup (K.eq key.now) (slot_entries K.digest_of slot.now) }
 {
-    match slot {
-        Slot::Empty => None,
-        Slot::One(entry) => value_at(entry, key),
-        Slot::Few(table) => table.get(key),
-        Slot::Many(shift, boxed) => {
-            let branch: &Branch<K, V> = boxed;
-            get(&branch.slots[choice(*shift, digest)], digest, key)
+    let mut slot = slot;
+    'slots: loop {
+        match slot {
+            Slot::Empty => return None,
+            Slot::One(entry) => return value_at(entry, key),
+            Slot::Few(table) => return table.get(key),
+            Slot::Many(shift, boxed) => {
+                let branch: &Branch<K, V> = boxed;
+                slot = &branch.slots[choice(*shift, digest)];
+            }
         }
     }
 }

@@ -1,4 +1,4 @@
-use Rattle.std.proofs.Common.{arith, ◌≡◌, refl, sym, ap, ◌∙◌}
+use Rattle.std.proofs.Common.{rules, arith, ◌≡◌, ◌<◌, refl, sym, ap, ◌∙◌}
 use Rattle.std.proofs.Math.ListN.{set}
 use Rattle.std.specs.Map.{lookup}
 use Rattle.idl_map.specs.Slots.{branch_seen, choice, empty_branch, slot_entries, slot_size}
@@ -28,10 +28,11 @@ returns-clause-bits g c =
     let slots = c.branch.inside.slots in
     let empty : branch_seen digest_of slots ≡ empty_branch =
     c.branch.view_is ∙ c.deref_mut-branch.ensures.value ∙ c.in_ok-boxed.ensures.ok ∙ c.empty.ensures in
+    let left : c.args.shift < 30 = search rules in
     omega (
       arith,
       slots_size-set slots c.choice-index.result c.replace.result,
       ap (λ b. b.0) empty,
       ap slot_size (c.replace.ensures.value ∙ c.in-One.is),
-      c.if-shift-ge-BITS.false,
+      left,
     )
