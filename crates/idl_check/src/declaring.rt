@@ -19,9 +19,7 @@ use idl_base::Seq;
 use idl_event::Code;
 use idl_lex::Spelling;
 use idl_map::SharedList;
-use idl_scope::{
-    Addition, DataType, Element, Entity, Facts, Kind, Path, Scope, Shared, Stage,
-};
+use idl_scope::{Addition, DataType, Element, Entity, Facts, Kind, Path, Scope, Shared, Stage};
 use idl_site::Declaration;
 use idl_value::{Target, Value};
 use std::alloc::{AllocError, Global};
@@ -250,7 +248,12 @@ impl Written {
 
 /// The path of a name in the scope with this path: that of what was added last, if this is declared
 /// so, and else a new one.
-pub fn path_in(alloc: Global, own: &Facts, name: &Spelling, scope: &Path) -> Result<Path, AllocError>
+pub fn path_in(
+    alloc: Global,
+    own: &Facts,
+    name: &Spelling,
+    scope: &Path,
+) -> Result<Path, AllocError>
     ensures { IfOk result (λ path. path ≡ name.now ∷ scope.now) }
 {
     if let Some(path) = declared_path(own, name.as_bytes(), scope) {

@@ -209,7 +209,7 @@ impl<'a> Walker<'a> {
         ensures at { OnOk result (self.new.at ≡ self.old.at) }
         ensures env { OnOk result (self.new.env.now ≡ self.old.env.now) }
     {
-        self.written.enumerators = listed(self.env.alloc(), names)?;
+        self.written.enumerators = spelled(self.env.alloc(), names)?;
         Ok(())
     }
 
@@ -268,22 +268,22 @@ impl<'a> Walker<'a> {
     }
 }
 
-// Names in a list, shared.
-fn listed(alloc: Global, names: &Several<Spelling>) -> Result<Seq<Spelling>, AllocError>
-    ensures { IfOk result (λ listed. listed ≡ names.now.first ∷ names.now.rest) }
+// Names as they are spelled.
+fn spelled(alloc: Global, names: &Several<Spelling>) -> Result<Seq<Spelling>, AllocError>
+    ensures { IfOk result (λ spelled. spelled ≡ names.now.first ∷ names.now.rest) }
 {
-    let mut listed = Vec::new(alloc);
-    listed.push(names.first.clone()?)?;
-    list_each(&mut listed, names.rest.as_slice())?;
-    Ok(Seq::from_vec(listed))
+    let mut spelled = Vec::new(alloc);
+    spelled.push(names.first.clone()?)?;
+    spell_each(&mut spelled, names.rest.as_slice())?;
+    Ok(Seq::from_vec(spelled))
 }
 
-// Puts in names more.
-fn list_each(listed: &mut Vec<Spelling>, names: &[Spelling]) -> Result<(), AllocError>
-    ensures { OnOk result (listed.new.items ≡ listed.old.items ++ names.now) }
+// Names more as they are spelled.
+fn spell_each(spelled: &mut Vec<Spelling>, names: &[Spelling]) -> Result<(), AllocError>
+    ensures { OnOk result (spelled.new.items ≡ spelled.old.items ++ names.now) }
 {
     for name in names {
-        listed.push(name.clone()?)?;
+        spelled.push(name.clone()?)?;
     }
     Ok(())
 }

@@ -98,18 +98,27 @@ impl Short {
         if bytes.len() > MOST {
             return None;
         }
+        Some(Short::of(bytes))
+    }
+
+    // These bytes, which are few.
+    fn of(bytes: &[u8]) -> Short
+        requires { length bytes.now ≤ 22 }
+        ensures { result ≡ bytes.now }
+    {
         let mut array = [0; MOST];
         array[..bytes.len()].copy_from_slice(bytes);
-        Some(Short {
+        Short {
             count: bytes.len() as u8,
             bytes: array,
-        })
+        }
     }
 
     /// The bytes in order.
     #[inline(always)]
     pub fn as_bytes(&self) -> &[u8]
-        ensures { result.now ≡ self.now }
+        ensures bytes { result.now ≡ self.now }
+        ensures few { length self.now ≤ 22 }
     {
         &self.bytes[..self.count as usize]
     }
@@ -129,7 +138,7 @@ impl Short {
         ensures { result ≡ unescaped self.now }
     {
         match self.as_bytes() {
-            [_, rest @ ..] => Short::new(rest),
+            [_, rest @ ..] => Some(Short::of(rest)),
             [] => None,
         }
     }

@@ -28,7 +28,7 @@ pub fn push_construction<'a>(
 {
     match construction {
         Construction::Structure(structure) => push_structure(sites, structure),
-        Construction::Union(union) => push_union(sites, union),
+        Construction::Union(union) => push_union(sites, union.get()),
         Construction::Enumeration(enumeration) => push_enumeration(sites, enumeration),
     }
 }

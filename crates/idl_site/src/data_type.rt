@@ -63,7 +63,7 @@ fn push_string<'a>(sites: &mut Vec<Site<'a>>, string: &'a StringType) -> Result<
     sites.push(Site::Tokens(1))?;
     if let Some(bound) = &string.bound {
         sites.push(Site::Tokens(1))?;
-        push_value(sites, Target::Bound, bound)?;
+        push_value(sites, Target::Bound, bound.get())?;
         sites.push(Site::Tokens(1))?;
     }
     sites.push(Site::TypeEnds(Shape::Text(string.is_wide, string.bound.is_some())))?;

@@ -10,7 +10,7 @@ ghost use Rattle.idl_site.specs.UnitParts.{attribute_parts, context_parts, direc
 use crate::data_type::push_type;
 use crate::listed::{push_declared, push_raised, push_used};
 use crate::site::{Declaration, Site, Use};
-use idl_base::Seq;
+use idl_base::{Boxed, Seq};
 use idl_tree::{
     Attribute, AttributeNames, AttributeRaises, DataType, Direction, Forward, Interface, Operation,
     Parameter, ReadonlyAttribute, ReadonlyNames, ScopedName, Several,
@@ -274,13 +274,13 @@ fn push_raises<'a>(
 /// The context of an operation, if it has one.
 fn push_context<'a>(
     sites: &mut Vec<Site<'a>>,
-    context: &'a Option<Several<Several<Seq<u16>>>>,
+    context: &'a Option<Boxed<Several<Several<Seq<u16>>>>>,
 ) -> Result<(), AllocError>
     ensures { OnOk result
         (Pushes sites.old.items sites.new.items (if_some context_parts context.now)) }
 {
     match context {
-        Some(texts) => push_texts(sites, texts),
+        Some(texts) => push_texts(sites, texts.get()),
         None => Ok(()),
     }
 }

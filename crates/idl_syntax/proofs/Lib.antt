@@ -1,6 +1,7 @@
-pub mod Turns
 pub mod Literals
 pub mod Names
 pub mod Parses
-pub mod VersionLemmas
 pub mod PragmaLemmas
+pub mod Steps
+pub mod Turns
+pub mod VersionLemmas

@@ -75,7 +75,7 @@ unfolding behind_with
 behind_mark m item [] h = absurd cc
 behind_mark m item (t ∷ rest) h = rw h refl
 
-rest_is : (rest : List (List ℕ)) → slice_range rest 1 (length rest) ≡ drop 1 rest
+pub rest_is : (rest : List (List ℕ)) → slice_range rest 1 (length rest) ≡ drop 1 rest
 rest_is rest = take_all (length rest - 1) (drop 1 rest) (omega (arith, length-drop 1 rest))
 
 shorter_rest : (rest after : List (List ℕ)) → length after < length (drop 1 rest) → length after < length rest

@@ -159,7 +159,7 @@ fn construction_inside(
         }
         Some(Keyword::Union) => {
             let (union, rest) = union_type(alloc, depth, tokens)?;
-            Ok((Construction::Union(union), rest))
+            Ok((Construction::Union(Boxed::new(alloc, union)?), rest))
         }
         _ => {
             let (enumeration, rest) = enumeration(alloc, tokens)?;

@@ -139,7 +139,7 @@ fn string_bound(
     alloc: Global,
     depth: usize,
     tokens: &[Token],
-) -> Result<(Option<Expression>, &[Token]), ReadError>
+) -> Result<(Option<Boxed<Expression>>, &[Token]), ReadError>
     ensures reads { Reads (bound_with (expression_at depth)) tokens.now result }
     ensures within { Remains tokens.now result }
 {
@@ -148,6 +148,7 @@ fn string_bound(
     }
     let rest = behind(tokens, Mark::Less)?;
     let (bound, rest) = expression(alloc, depth, rest)?;
+    let bound = Boxed::new(alloc, bound)?;
     closed(Some(bound), rest, Mark::Greater)
 }
 

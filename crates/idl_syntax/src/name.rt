@@ -93,7 +93,10 @@ fn more_scoped_names(
 
 /// One identifier or more, with commas between.
 #[tactic(auto, unfolding(idl_tree::specs::ReadExpression::parted_with))]
-pub fn identifiers(alloc: Global, tokens: &[Token]) -> Result<(Several<Spelling>, &[Token]), ReadError>
+pub fn identifiers(
+    alloc: Global,
+    tokens: &[Token],
+) -> Result<(Several<Spelling>, &[Token]), ReadError>
     ensures reads { Reads (listed_with identifier_at) tokens.now result }
     ensures shorter { Advances tokens.now result }
 {
@@ -103,7 +106,10 @@ pub fn identifiers(alloc: Global, tokens: &[Token]) -> Result<(Several<Spelling>
 }
 
 /// Identifiers, each behind a comma.
-pub fn more_identifiers(alloc: Global, tokens: &[Token]) -> Result<(Seq<Spelling>, &[Token]), ReadError>
+pub fn more_identifiers(
+    alloc: Global,
+    tokens: &[Token],
+) -> Result<(Seq<Spelling>, &[Token]), ReadError>
     ensures reads { Reads more_names_at tokens.now result }
     ensures within { Remains tokens.now result }
 {

@@ -16,7 +16,7 @@ use crate::data_type::data_type;
 use crate::error::ReadError;
 use crate::literal::text;
 use crate::name::raises_if;
-use idl_base::Seq;
+use idl_base::{Boxed, Seq};
 use idl_lex::{Keyword, Mark, Spelling, Token};
 use idl_tree::{DataType, Direction, Operation, Parameter, ScopedName, Several};
 use std::alloc::Global;
@@ -179,7 +179,7 @@ fn context(
 fn context_if(
     alloc: Global,
     tokens: &[Token],
-) -> Result<(Option<Several<Several<Seq<u16>>>>, &[Token]), ReadError>
+) -> Result<(Option<Boxed<Several<Several<Seq<u16>>>>>, &[Token]), ReadError>
     ensures reads { Reads context_if tokens.now result }
     ensures within { Remains tokens.now result }
 {
@@ -187,7 +187,7 @@ fn context_if(
         return Ok((None, tokens));
     }
     let (texts, rest) = context(alloc, tokens)?;
-    Ok((Some(texts), rest))
+    Ok((Some(Boxed::new(alloc, texts)?), rest))
 }
 
 /// An operation.

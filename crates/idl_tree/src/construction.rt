@@ -66,7 +66,7 @@ pub enum MemberType {
 #[derive(Drop)]
 pub enum Construction {
     Structure(Structure),
-    Union(Union),
+    Union(Boxed<Union>),
     Enumeration(Enumeration),
 }
 

@@ -43,7 +43,7 @@ pub enum BasicType {
 /// `string` or `wstring`, with or without a bound.
 pub struct StringType {
     pub is_wide: bool,
-    pub bound: Option<Expression>,
+    pub bound: Option<Boxed<Expression>>,
 }
 
 impl Drop for StringType {

@@ -3,7 +3,7 @@
 use crate::data_type::DataType;
 use crate::name::ScopedName;
 use crate::several::Several;
-use idl_base::Seq;
+use idl_base::{Boxed, Seq};
 use idl_lex::Spelling;
 
 /// `in`, `out` or `inout`.
@@ -38,7 +38,7 @@ pub struct Operation {
     pub name: Spelling,
     pub parameters: Option<Several<Parameter>>,
     pub raises: Option<Several<ScopedName>>,
-    pub context: Option<Several<Several<Seq<u16>>>>,
+    pub context: Option<Boxed<Several<Several<Seq<u16>>>>>,
 }
 
 impl Drop for Operation {

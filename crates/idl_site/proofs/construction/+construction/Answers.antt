@@ -15,7 +15,7 @@ pub push_construction-returns-in-Structure : goal.push_construction-returns-in-S
 push_construction-returns-in-Structure t c = rw (c.in-Structure.is, construction_parts-structure) c.push_structure.ensures
 
 pub push_construction-returns-in-Union : goal.push_construction-returns-in-Union
-push_construction-returns-in-Union t c = rw (c.in-Union.is, construction_parts-union) c.push_union.ensures
+push_construction-returns-in-Union t c = rw (c.in-Union.is, construction_parts-union) (rw c.get.ensures at c.push_union.ensures)
 
 pub push_member_type-returns-in-Construction : goal.push_member_type-returns-in-Construction
 push_member_type-returns-in-Construction t c =

@@ -21,8 +21,7 @@ returns-clause-visited c = λ turns more.
     let there = c.in_ok-standing.standing in
     let parts = c.in_ok-scope.ensures.cases in
     let scope : c.in_ok-scope.scope ≡ s = λ i. record { path = parts.0 i; kind = parts.1.0 i; body = parts.1.1 i } in
-    let spelled = c.in_ok-spelled.ensures ∙ c.as_bytes.ensures in
-    let entity = c.in_ok-entity.ensures ∙ (λ i. entity_of w.written way (spelled i) (scope i).path) in
+    let entity = c.in_ok-entity.ensures ∙ (λ i. entity_of w.written way name (scope i).path) in
     let new = c.get.ensures ∙ entity in
     let innermost : first w.cursor ≡ Some s = first-at w.cursor ∙ ap (λ scopes. slice_get scopes 0) (sym c.deref.ensures.value) ∙ sym c.in-Some.ensures.value in
     let gives = c.in_ok-standing.ensures turns more
