@@ -10,7 +10,8 @@ returns c turns more =
     let own = c.args.self.own.now.additions in
     let bank = answers c.args.self.env.now in
     let before = c.args.before.now in
-    let gives = c.in_ok-found.ensures turns more ∙ ap (λ n. runs own bank (has turns before.kind before.path n) c.args.log.now) c.in_ok-folded.ensures in
-    let judged_is = c.judged.ensures ∙ (λ i. placed c.args.part (judged (c.as_bytes.ensures i) (map (λ e. e.now) (c.as_slice.ensures.value i)))) in
+    let same = c.in_ok-folded.ensures ∙ ap folded c.as_bytes.ensures in
+    let gives = c.in_ok-found.ensures turns more ∙ ap (λ n. runs own bank (has turns before.kind before.path n) c.args.log.now) same in
+    let judged_is = c.judged.ensures ∙ (λ i. placed c.args.part (judged (c.as_bytes-2.ensures i) (map (λ e. e.now) (c.as_slice.ensures.value i)))) in
     (λ i. (judged_is i, c.has.new.log))
     ∙ sym (part_on own bank c.args.part c.args.name.now (has turns before.kind before.path (folded c.args.name.now)) c.args.log.now _ _ gives)
