@@ -10,7 +10,7 @@ returns t c =
     let apart : path_eq c.in-Some.around c.args.scope.now ≡ false = sym c.are_of.ensures ∙ c.if-are_of.false in
     let around = slashed (relative c.in-Some.around c.args.scope.now) in
     let whole = ap (λ path. slashed (relative path c.args.scope.now)) c.in-Some.ensures.some
-        ∙ slashed_further c.in-Some.name.now c.in-Some.around c.args.scope.now some apart in
+    ∙ slashed_further c.in-Some.name.now c.in-Some.around c.args.scope.now some apart in
     c.in_ok-extend_from_slice-2.ensures.items
     ∙ ap (λ l. l ++ c.in-Some.name.now) (c.in_ok-push.ensures.items ∙ ap (λ l. l ++ 47 ∷ []) c.in_ok-push_slashed.ensures)
     ∙ append_assoc (c.args.id.now.items ++ around) (47 ∷ []) c.in-Some.name.now
