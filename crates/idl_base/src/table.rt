@@ -146,14 +146,6 @@ impl<K: Datum + Ord, V: Drop> Table<K, V> {
         Some((key, value))
     }
 
-    /// Takes all entries out. The memory of the entries stays, for those that are put in next.
-    pub fn clear(&mut self)
-        ensures { self.new ≡ [] }
-    {
-        self.entries.clear();
-        self.index = None;
-    }
-
     /// Copies of the keys, in their order.
     pub fn keys(&self, alloc: Global) -> Result<Vec<K>, AllocError>
         ensures { IfOk result (λ keys. keys.items ≡ keys_of self.now) }

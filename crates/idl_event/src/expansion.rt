@@ -34,7 +34,7 @@ impl Model for Expansion {
 }
 
 impl Expansion {
-    // What consists of these tokens, at these sites, and of these other events.
+    /// What consists of these tokens, at these sites, and of these other events.
     pub fn from_parts(
         text: Rc<Vec<Token>>,
         sites: Rc<Vec<Site>>,

@@ -14,11 +14,11 @@ use crate::builder::ExpansionBuilder;
 use crate::code::Code;
 use crate::event::{Event, Item};
 use crate::hinted_log::HintedLog;
-use crate::hints::digest_of;
 use crate::key::{Answer, Key};
 use crate::place::Place;
 use crate::root_bank::RootBank;
 use idl_lex::Token;
+use idl_map::Digest;
 use idl_memo::{Bank, Log};
 use std::alloc::{AllocError, Global};
 use std::marker::Model;
@@ -123,7 +123,7 @@ impl<B: RootBank> Progress<B> {
         ensures answer { IfOk result (λ answer. option_copied answer ≡ B.at bank.now key.now) }
         ensures progress { OnOk result (self.new ≡ after_key key_eq (B.at bank.now) key.now self.old) }
     {
-        self.ask_by(key, digest_of(key), bank)
+        self.ask_by(key, key.digest(), bank)
     }
 
     /// The same as `ask`, for who has a digest of the key at hand. A key is found soon where it always comes with the same, and
