@@ -12,6 +12,10 @@ use idl_source::Line;
 use std::alloc::{AllocError, Global};
 use std::rc::Rc;
 
+// A block has seldom more lines than so many, and they have seldom more tokens.
+const USUAL_LINES: usize = 64;
+const TOKENS_OF_LINE: usize = 8;
+
 /// Lines that are cut into tokens as if they were a file of their own: how many they are, and their tokens.
 #[derive(Drop)]
 pub struct Block {
@@ -67,7 +71,7 @@ pub fn cut_block(alloc: Global, lines: &[Line], ends: Ends<'_>) -> Result<Block,
     ensures whole { ends.entry.old ≡ None → length lines.now ≤ ends.entry.lines
         → IfOk result (λ block. block.lines ≡ length lines.now) }
 {
-    let mut tokens = Vec::new(alloc);
+    let mut tokens = Vec::with_capacity(alloc, usual_room(lines.len()))?;
     let mut before = Before::Fresh;
     let mut count = 0;
     'lines: while count < lines.len() {
@@ -86,15 +90,18 @@ pub fn cut_block(alloc: Global, lines: &[Line], ends: Ends<'_>) -> Result<Block,
     })
 }
 
-// Puts in what is left at the end of a text: a comment that isn't closed.
+// Room for the tokens of a block, which begins so many lines, as they are usually.
+fn usual_room(lines: usize) -> usize {
+    TOKENS_OF_LINE * lines.min(USUAL_LINES)
+}
+
+// Puts in what is left at the end of a text, a comment that isn't closed, and gives back the room that is left.
 fn finish(tokens: &mut Vec<PlacedToken>, before: Before) -> Result<(), AllocError>
     ensures { OnOk result (tokens.new.items ≡ tokens.old.items ++ coming before []) }
 {
-    match before {
-        Before::Fresh => Ok(()),
-        Before::Comment(opening, _) => {
-            tokens.push(opening)?;
-            Ok(())
-        }
+    if let Before::Comment(opening, _) = before {
+        tokens.push(opening)?;
     }
+    tokens.shrink_to_fit();
+    Ok(())
 }

@@ -53,6 +53,16 @@ impl Beginning {
         }
     }
 
+    // The beginning with one token more that is neither `#` nor `include`.
+    fn with_other(self) -> Beginning
+        ensures { (b : ℕ) → is_lone_mark b ≡ true → result ≡ beginning_after self (b ∷ []) }
+    {
+        match self {
+            Beginning::Include => Beginning::Include,
+            _ => Beginning::Other,
+        }
+    }
+
     /// The beginning with one token more.
     fn with(self, spelling: &[u8]) -> Beginning
         ensures { result ≡ beginning_after self spelling.now }
@@ -104,6 +114,16 @@ impl Context {
         Context {
             beginning: self.beginning.with(word),
             follows_word: true,
+        }
+    }
+
+    /// What stands before a place where one lone mark more stands before it.
+    pub fn after_mark(self) -> Context
+        ensures { (b : ℕ) → is_lone_mark b ≡ true → result ≡ context_after self (b ∷ []) }
+    {
+        Context {
+            beginning: self.beginning.with_other(),
+            follows_word: false,
         }
     }
 

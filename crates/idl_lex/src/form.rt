@@ -101,6 +101,15 @@ impl Short {
         Some(Short::of(bytes))
     }
 
+    /// This byte.
+    pub fn of_byte(b: u8) -> Short
+        ensures { result ≡ b ∷ [] }
+    {
+        let mut bytes = [0; MOST];
+        bytes[0] = b;
+        Short { count: 1, bytes }
+    }
+
     // These few bytes.
     fn of(bytes: &[u8]) -> Short
         requires { length bytes.now ≤ 22 }

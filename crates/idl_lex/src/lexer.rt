@@ -13,6 +13,7 @@ ghost use Rattle.idl_lex.specs.declared.lexer.Before.TheVariants.{Fresh};
 use crate::byte::{is_quote, is_space, is_word_start};
 use crate::context::{Context, ends_block, is_gap};
 use crate::logical::Logical;
+use crate::mark_table::is_lone_mark;
 use crate::state::{State, closing_end, further, taken, word_len};
 use crate::token::PlacedToken;
 use std::alloc::AllocError;
@@ -92,6 +93,12 @@ fn push_pieces(
             i = end;
             continue;
         }
+        if is_lone_mark(first) {
+            push_token(tokens, PlacedToken::mark(now, first, line.line_at(i)))?;
+            now = now.after_mark();
+            i += 1;
+            continue;
+        }
         closing = closing_for(first, bytes, closing);
         let end = piece_end(now, bytes, i, closing);
         let piece = &bytes[i..end];
@@ -123,7 +130,18 @@ fn push_word(
 {
     let Range { start, end } = word;
     let spelling = line.spelling(start, end)?;
-    tokens.push(PlacedToken::word(context, spelling, line.line_at(start)))?;
+    push_token(
+        tokens,
+        PlacedToken::word(context, spelling, line.line_at(start)),
+    )
+}
+
+// Puts in a token. Room is made first, so that a token that finds none need not be handed back.
+fn push_token(tokens: &mut Vec<PlacedToken>, token: PlacedToken) -> Result<(), AllocError>
+    ensures { OnOk result (tokens.new.items ≡ tokens.old.items ++ token ∷ []) }
+{
+    tokens.reserve(1)?;
+    tokens.push_reserved(token);
     Ok(())
 }
 
@@ -158,8 +176,10 @@ fn push_piece(
         return Ok(());
     }
     let spelling = line.spelling(start, end)?;
-    tokens.push(PlacedToken::new(context, spelling, line.line_at(start)))?;
-    Ok(())
+    push_token(
+        tokens,
+        PlacedToken::new(context, spelling, line.line_at(start)),
+    )
 }
 
 // Where the longest piece ends that begins at a place, of the bytes that stand there, the last `>` of which ends at another place.

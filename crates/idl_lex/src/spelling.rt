@@ -71,6 +71,13 @@ impl Spelling {
         }
     }
 
+    /// This byte.
+    pub(crate) fn of_byte(b: u8) -> Spelling
+        ensures { result ≡ b ∷ [] }
+    {
+        Spelling::short(Short::of_byte(b))
+    }
+
     /// A copy of these bytes.
     pub fn from_slice(alloc: Global, bytes: &[u8]) -> Result<Spelling, AllocError>
         ensures { IfOk result (λ spelling. spelling ≡ bytes.now) }

@@ -13,6 +13,7 @@ ghost use Rattle.idl_lex.specs.Word.{is_word};
 
 use crate::context::Context;
 use crate::kind::{Kind, kind_of, kind_of_word};
+use crate::mark_table::lone_kind;
 use crate::spelling::Spelling;
 use crate::word::is_word;
 use idl_base::Datum;
@@ -63,6 +64,18 @@ impl Token {
             kind: kind_of_word(spelling.as_bytes()),
             word: true,
             spelling,
+        }
+    }
+
+    /// The token that a mark is which none other begins with.
+    pub(crate) fn mark(b: u8) -> Token
+        requires { is_lone_mark b ≡ true }
+        ensures { result ≡ b ∷ [] }
+    {
+        Token {
+            kind: lone_kind(b),
+            word: false,
+            spelling: Spelling::of_byte(b),
         }
     }
 
@@ -195,6 +208,14 @@ impl PlacedToken {
         ensures { result ≡ token_of context spelling line }
     {
         PlacedToken::placed(context, Token::word(spelling), line)
+    }
+
+    /// The token that a mark is which none other begins with, on this line.
+    pub(crate) fn mark(context: Context, b: u8, line: u32) -> PlacedToken
+        requires { is_lone_mark b ≡ true }
+        ensures { result ≡ token_of context (b ∷ []) line }
+    {
+        PlacedToken::placed(context, Token::mark(b), line)
     }
 
     // The token on this line.

@@ -94,5 +94,10 @@ fn line_rest(tokens: &[PlacedToken]) -> usize
     ensures len { result ≡ followers_on_line tokens.now }
     ensures within { result ≤ length tokens.now }
 {
-    tokens.iter().take_while(|token| !token.starts_line).count()
+    for (i, token) in tokens.iter().enumerate() {
+        if token.starts_line {
+            return i;
+        }
+    }
+    tokens.len()
 }
