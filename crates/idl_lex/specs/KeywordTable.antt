@@ -31,4 +31,4 @@ places =
 -- one byte or of more than 11
 abbrev pub place : List ℕ → ℕ
 place word =
-    if nat_lt (length word) 2 || nat_lt 11 (length word) then 64 else get_or places (mixed word) 64
+    if nat_lt (length word) 2 || nat_lt 11 (length word) then 64 else get_or places (mixed word) 0

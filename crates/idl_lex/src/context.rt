@@ -30,8 +30,9 @@ pub struct Context {
 }
 
 impl Beginning {
-    ghost use Rattle.std.specs.Prelude.{◌≡◌};
+    ghost use Rattle.std.specs.Prelude.{◌≡◌, ◌∷◌, [], ℕ, true};
     ghost use Rattle.idl_lex.specs.Context.{is_nothing, is_include, beginning_after};
+    ghost use Rattle.idl_lex.specs.Marks.{is_lone_mark};
 
     /// Whether there is no token.
     pub fn is_nothing(self) -> bool
@@ -77,9 +78,10 @@ impl Beginning {
 }
 
 impl Context {
-    ghost use Rattle.std.specs.Prelude.{◌≡◌, ◌∷◌, [], true};
+    ghost use Rattle.std.specs.Prelude.{◌≡◌, ◌∷◌, [], ℕ, true};
     ghost use Rattle.idl_lex.specs.Byte.{is_space};
     ghost use Rattle.idl_lex.specs.Context.{line_start, context_after};
+    ghost use Rattle.idl_lex.specs.Marks.{is_lone_mark};
     ghost use Rattle.idl_lex.specs.Word.{is_word};
 
     /// Where a line begins.

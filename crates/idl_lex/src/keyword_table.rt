@@ -1,11 +1,10 @@
 //! The table of keywords, and the look-up of a word in it.
 
-ghost use Rattle.std.specs.Prelude.{◌≡◌, ◌≤◌, ◌<◌, ◌+◌, ◌-◌, ◌↔◌, IsTrue, drop, find, length, map, take};
-ghost use Rattle.std.specs.List.{filter};
+ghost use Rattle.std.specs.Prelude.{◌≡◌, ◌<◌, ◌↔◌, IsTrue, length, map};
+ghost use Rattle.std.specs.Char.{to_ascii_lowercase};
 ghost use Rattle.std.specs.Option.{option_map};
-ghost use Rattle.std.specs.Str.{bytes_eq};
 ghost use Rattle.idl_lex.specs.Keywords.{folded, keywords, like_keyword};
-ghost use Rattle.idl_lex.specs.KeywordTable.{begins_with, starts};
+ghost use Rattle.idl_lex.specs.KeywordTable.{place, places};
 ghost use Rattle.idl_lex.specs.WordTable.{entry_of};
 
 use crate::keyword::Keyword;
@@ -102,12 +101,16 @@ const LONGEST: usize = 11;
 pub fn like_keyword(word: &[u8]) -> Option<Entry<Kind>>
     ensures { option_map entry_of result ≡ like_keyword word.now }
 {
-    let entry = table().get(place_of(word))?;
-    if are_alike(entry.0, word) {
-        Some(*entry)
-    } else {
-        None
+    let keywords = table();
+    let place = place_of(word);
+    if keywords.len() <= place {
+        return None;
     }
+    let entry = keywords[place];
+    if !are_alike(entry.0, word) {
+        return None;
+    }
+    Some(entry)
 }
 
 #[tactic(auto, unfolding(crate::specs::Keywords::keywords))]

@@ -1,7 +1,8 @@
 //! The marks by their bytes.
 
-ghost use Rattle.std.specs.Prelude.{◌≡◌, ◌∷◌, []};
-ghost use Rattle.idl_lex.specs.Marks.{mark_kind};
+ghost use Rattle.std.specs.Prelude.{◌≡◌, ◌∷◌, [], true};
+ghost use Rattle.idl_lex.specs.Kind.{kind_of};
+ghost use Rattle.idl_lex.specs.Marks.{is_lone_mark, mark_kind};
 
 use crate::kind::{Defect, Kind};
 use crate::mark::{Mark, PreprocessorMark};
