@@ -34,7 +34,7 @@ either : (P : ℕ → Type 0) (b n : ℕ) (same others : Bool) → nat_eq b n �
 either P b n true others e here there h = subst P (sym (eqb-true b n e)) here
 either P b n false others e here there h = there h
 
-pub one_of : (P : ℕ → Type 0) → Lone P → (b : ℕ) → is_lone_mark b ≡ true → P b
+one_of : (P : ℕ → Type 0) → Lone P → (b : ℕ) → is_lone_mark b ≡ true → P b
 one_of P lone b h =
     either P b 59 (nat_eq b 59) _ refl lone.semicolon
     (either P b 44 (nat_eq b 44) _ refl lone.comma

@@ -84,24 +84,27 @@ pub fn cut_block(alloc: Global, lines: &[Line], ends: Ends<'_>) -> Result<Block,
         count = end;
     }
     finish(&mut tokens, before)?;
+    tokens.shrink_to_fit();
     Ok(Block {
         lines: count,
         tokens,
     })
 }
 
-// Room for the tokens of a block, which begins so many lines, as they are usually.
+// Room for as many tokens as a block has seldom more, where so many lines are left.
 fn usual_room(lines: usize) -> usize {
     TOKENS_OF_LINE * lines.min(USUAL_LINES)
 }
 
-// Puts in what is left at the end of a text, a comment that isn't closed, and gives back the room that is left.
+// Puts in what is left at the end of a text: a comment that isn't closed.
 fn finish(tokens: &mut Vec<PlacedToken>, before: Before) -> Result<(), AllocError>
     ensures { OnOk result (tokens.new.items ≡ tokens.old.items ++ coming before []) }
 {
-    if let Before::Comment(opening, _) = before {
-        tokens.push(opening)?;
+    match before {
+        Before::Fresh => Ok(()),
+        Before::Comment(opening, _) => {
+            tokens.push(opening)?;
+            Ok(())
+        }
     }
-    tokens.shrink_to_fit();
-    Ok(())
 }

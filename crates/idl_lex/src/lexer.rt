@@ -94,7 +94,7 @@ fn push_pieces(
             continue;
         }
         if is_lone_mark(first) {
-            push_token(tokens, PlacedToken::mark(now, first, line.line_at(i)))?;
+            tokens.push(PlacedToken::mark(now, first, line.line_at(i)))?;
             now = now.after_mark();
             i += 1;
             continue;
@@ -130,18 +130,7 @@ fn push_word(
 {
     let Range { start, end } = word;
     let spelling = line.spelling(start, end)?;
-    push_token(
-        tokens,
-        PlacedToken::word(context, spelling, line.line_at(start)),
-    )
-}
-
-// Puts in a token. Room is made first, so that a token that finds none need not be handed back.
-fn push_token(tokens: &mut Vec<PlacedToken>, token: PlacedToken) -> Result<(), AllocError>
-    ensures { OnOk result (tokens.new.items ≡ tokens.old.items ++ token ∷ []) }
-{
-    tokens.reserve(1)?;
-    tokens.push_reserved(token);
+    tokens.push(PlacedToken::word(context, spelling, line.line_at(start)))?;
     Ok(())
 }
 
@@ -176,10 +165,8 @@ fn push_piece(
         return Ok(());
     }
     let spelling = line.spelling(start, end)?;
-    push_token(
-        tokens,
-        PlacedToken::new(context, spelling, line.line_at(start)),
-    )
+    tokens.push(PlacedToken::new(context, spelling, line.line_at(start)))?;
+    Ok(())
 }
 
 // Where the longest piece ends that begins at a place, of the bytes that stand there, the last `>` of which ends at another place.

@@ -94,10 +94,5 @@ fn line_rest(tokens: &[PlacedToken]) -> usize
     ensures len { result ≡ followers_on_line tokens.now }
     ensures within { result ≤ length tokens.now }
 {
-    for (i, token) in tokens.iter().enumerate() {
-        if token.starts_line {
-            return i;
-        }
-    }
-    tokens.len()
+    tokens.iter().take_while(|token| !token.starts_line).count()
 }
