@@ -1,5 +1,5 @@
 -- A mark that stands alone: its piece, its token and what stands behind it are told by its byte.
-use Rattle.std.proofs.Common.{◌≡◌, ◌∙◌, ◌++◌, ℕ, suc, ◌+◌, ◌<◌, nat_eq, Bool, true, false, ◌&&◌, ◌||◌, if◌then◌else◌, List, [], ◌∷◌, length, drop, get_or, None, Some, refl, sym, ap, subst, arith}
+use Rattle.std.proofs.Common.{◌≡◌, ◌∙◌, ◌++◌, ℕ, ◌+◌, ◌<◌, nat_eq, Bool, true, false, ◌||◌, List, [], ◌∷◌, length, drop, get_or, refl, sym, ap, subst, arith}
 use Rattle.std.proofs.lemmas.Bool.{false≢true, eqb-true}
 use Rattle.idl_lex.proofs.TokensLemmas.{EndsAt, piece_of, piece_of-cons, tokens_after-piece_of}
 use Rattle.idl_lex.proofs.WordLemmas.{further-plain, unpaired}
@@ -12,7 +12,6 @@ use Rattle.idl_lex.specs.Scan.{start_of, taken, further}
 use Rattle.idl_lex.specs.Text.{Placed, bytes_of}
 use Rattle.idl_lex.specs.Tokens.{token_if, token_of, tokens_after}
 use Rattle.idl_lex.specs.Word.{is_word}
-use Rattle.idl_lex.specs.declared.context.Beginning.{Beginning}
 use Rattle.idl_lex.specs.declared.context.Beginning.TheVariants.{Nothing, Hash, Include, Other}
 use Rattle.idl_lex.specs.declared.context.Context.{Context}
 use Rattle.idl_lex.specs.declared.kind.Defect.TheVariants.{UnknownByte}
@@ -29,21 +28,22 @@ record Lone (P : ℕ → Type 0) : Type 0 where
   open_bracket : P 91
   close_bracket : P 93
 
--- one byte, or one of the others
-either : (P : ℕ → Type 0) (b n : ℕ) (same others : Bool) → nat_eq b n ≡ same → P n → (others ≡ true → P b) → same || others ≡ true → P b
-either P b n true others e here there h = subst P (sym (eqb-true b n e)) here
-either P b n false others e here there h = there h
+-- one of some bytes, or another
+either : (P : ℕ → Type 0) (b n : ℕ) (others same : Bool) → nat_eq b n ≡ same → P n → (others ≡ true → P b) → others || same ≡ true → P b
+either P b n true same e here there h = there refl
+either P b n false true e here there h = subst P (sym (eqb-true b n e)) here
+either P b n false false e here there h = absurd (false≢true h)
 
 one_of : (P : ℕ → Type 0) → Lone P → (b : ℕ) → is_lone_mark b ≡ true → P b
 one_of P lone b h =
-    either P b 59 (nat_eq b 59) _ refl lone.semicolon
-    (either P b 44 (nat_eq b 44) _ refl lone.comma
-    (either P b 123 (nat_eq b 123) _ refl lone.open_brace
-    (either P b 125 (nat_eq b 125) _ refl lone.close_brace
-    (either P b 40 (nat_eq b 40) _ refl lone.open_parenthesis
-    (either P b 41 (nat_eq b 41) _ refl lone.close_parenthesis
-    (either P b 91 (nat_eq b 91) _ refl lone.open_bracket
-    (λ e. subst P (sym (eqb-true b 93 e)) lone.close_bracket))))))) h
+    either P b 93 _ (nat_eq b 93) refl lone.close_bracket
+    (either P b 91 _ (nat_eq b 91) refl lone.open_bracket
+    (either P b 41 _ (nat_eq b 41) refl lone.close_parenthesis
+    (either P b 40 _ (nat_eq b 40) refl lone.open_parenthesis
+    (either P b 125 _ (nat_eq b 125) refl lone.close_brace
+    (either P b 123 _ (nat_eq b 123) refl lone.open_brace
+    (either P b 44 (nat_eq b 59) (nat_eq b 44) refl lone.comma
+    (λ e. subst P (sym (eqb-true b 59 e)) lone.semicolon))))))) h
 
 -- it is no word
 pub is_word-lone : (b : ℕ) → is_lone_mark b ≡ true → is_word (b ∷ []) ≡ false

@@ -12,8 +12,10 @@ use idl_source::Line;
 use std::alloc::{AllocError, Global};
 use std::rc::Rc;
 
-// A block has seldom more lines than so many, and they have seldom more tokens.
+// Few blocks have more lines.
 const USUAL_LINES: usize = 64;
+
+// Few lines have more tokens.
 const TOKENS_OF_LINE: usize = 8;
 
 /// Lines that are cut into tokens as if they were a file of their own: how many they are, and their tokens.
@@ -91,7 +93,7 @@ pub fn cut_block(alloc: Global, lines: &[Line], ends: Ends<'_>) -> Result<Block,
     })
 }
 
-// Room for as many tokens as a block has seldom more, where so many lines are left.
+// Room for as many tokens as few blocks have more, where so many lines are left.
 fn usual_room(lines: usize) -> usize {
     TOKENS_OF_LINE * lines.min(USUAL_LINES)
 }

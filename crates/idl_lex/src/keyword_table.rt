@@ -79,7 +79,7 @@ const KEYWORDS: [Entry<Kind>; 64] = [
     (b"wstring", Kind::Accepted(Keyword::Wstring)),
 ];
 
-// Where each keyword stands in the table, by what its letters and its length make together; 64 for what no keyword makes.
+// Where each keyword stands in the table, by what three of its letters and its length make together; 64 for what none makes.
 const PLACES: [u8; 256] = [
     64, 64, 23, 64, 64, 64, 46, 64, 64, 64, 64, 64, 64, 6, 64, 64, 64, 29, 64, 53, 64, 64, 40, 64,
     64, 64, 64, 64, 0, 56, 64, 64, 64, 64, 62, 64, 64, 52, 64, 64, 33, 64, 24, 64, 64, 64, 64, 64,
@@ -93,6 +93,9 @@ const PLACES: [u8; 256] = [
     64, 59, 64, 58, 64, 64, 64, 64, 64, 64, 64, 64, 61, 64, 64, 64, 64, 50, 64, 64, 64, 41, 64, 32,
     64, 64, 64, 64, 64, 12, 64, 64, 64, 64, 64, 64, 1, 64, 30, 64,
 ];
+
+// A place past the table.
+const NOWHERE: usize = 64;
 
 // A keyword has at least two bytes, and so many at the most.
 const LONGEST: usize = 11;
@@ -121,13 +124,13 @@ fn table() -> &'static [Entry<Kind>]
     &KEYWORDS
 }
 
-// Where the table has the one keyword that the word can be, but for the case of letters; 64 where it can be none.
+// Where the table has the one keyword that the word can be, but for the case of letters, if it can be one.
 fn place_of(word: &[u8]) -> usize
     ensures { result ≡ place (folded word.now) }
 {
     let len = word.len();
     if len < 2 || LONGEST < len {
-        return 64;
+        return NOWHERE;
     }
     let mixed = folded(word[0]) + 9 * folded(word[1]) + 11 * folded(word[len - 2]) + len;
     places()[mixed % 256] as usize

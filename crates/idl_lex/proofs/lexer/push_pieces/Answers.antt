@@ -98,7 +98,7 @@ pieces-preserved-then-is_lone_mark c =
     let within : i < length line = omega (arith, c.pieces-test.true, ap length same, length-bytes_of line) in
     let lone : is_lone_mark b ≡ true = sym (c.is_lone_mark.ensures ∙ ap (λ bs. is_lone_mark (get_or bs i 0)) same) ∙ c.if-is_lone_mark.true in
     let after : c.after_mark-now.result ≡ context_after now (b ∷ []) = c.after_mark-now.ensures b lone in
-    let token : c.mark.result ≡ token_of now (b ∷ []) (line_at line i) = c.mark.ensures ∙ (λ k. token_of now (get_or (same k) i 0 ∷ []) (c.line_at-then-is_lone_mark.ensures k)) in
+    let token : c.mark.result ≡ token_of now (b ∷ []) (line_at line i) = c.mark.ensures ∙ (λ k. token_of now (get_or (same k) i 0 ∷ []) (c.line_at.ensures k)) in
     record {
       within = omega (arith, within);
       closing = c.pieces.invariant.closing;
