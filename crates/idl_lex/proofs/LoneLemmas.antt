@@ -12,7 +12,7 @@ use Rattle.idl_lex.specs.Scan.{start_of, taken, further}
 use Rattle.idl_lex.specs.Text.{Placed, bytes_of}
 use Rattle.idl_lex.specs.Tokens.{token_if, token_of, tokens_after}
 use Rattle.idl_lex.specs.Word.{is_word}
-use Rattle.idl_lex.specs.declared.context.Beginning.TheVariants.{Nothing, Hash, Include, Other}
+use Rattle.idl_lex.specs.declared.context.Beginning.TheVariants.{Nothing, Hash, Other}
 use Rattle.idl_lex.specs.declared.context.Context.{Context}
 use Rattle.idl_lex.specs.declared.kind.Defect.TheVariants.{UnknownByte}
 use Rattle.idl_lex.specs.declared.kind.Kind.TheVariants.{Bad}

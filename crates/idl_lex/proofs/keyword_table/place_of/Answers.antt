@@ -1,4 +1,4 @@
-use Rattle.std.proofs.Common.{◌≡◌, ◌∙◌, ◌+◌, ◌-◌, ◌*◌, ◌%◌, ap, arith, length, refl, slice_index_or, sym}
+use Rattle.std.proofs.Common.{◌∙◌, ◌+◌, ◌*◌, ◌%◌, ap, arith, length, refl, sym}
 use Rattle.std.proofs.Math.ListN.{get_or}
 use Rattle.idl_lex.specs.KeywordTable.{places}
 use Rattle.idl_lex.proofs.TableLemmas.{place-folded, places-length}
