@@ -7,6 +7,7 @@ pub mod KindLemmas
 pub mod LineLemmas
 pub mod LiteralLemmas
 pub mod LogicalLemmas
+pub mod LoneLemmas
 pub mod MarkLemmas
 pub mod MovedLemmas
 pub mod NumberLemmas

@@ -1,138 +1,150 @@
--- The table of keywords: a search among those that begin with one letter finds what a search among all does.
-use Rattle.std.proofs.Common.{◌≡◌, ◌∙◌, ◌<◌, ◌≤◌, ◌+◌, ◌-◌, take, drop, ℕ, Bool, true, false, ◌&&◌, ltb, cond, List, [], ◌∷◌, map, length, find, Some, None, refl, sym, ap, arith, inl, inr}
-use Rattle.std.proofs.Math.ListN.{get_or}
-use Rattle.std.proofs.lemmas.Bool.{false≢true, ltb-true, ne_eqb}
-use Rattle.std.proofs.lemmas.Bool.Decides.{eqb_tells}
-use Rattle.std.proofs.lemmas.List.Folds.{list_all_at}
-use Rattle.std.proofs.lemmas.List.FromFn.{get_or-range_with_len, get_or-map-range_with_len, length-range_with_len}
-use Rattle.std.specs.Cmp.Lexicographic.{bytes_decides}
+-- The table of keywords: the place that a word tells has the one keyword that it can be.
+use Rattle.std.proofs.Common.{◌≡◌, ◌≢◌, ◌∙◌, ◌<◌, ◌≤◌, ◌+◌, ◌-◌, ◌*◌, ◌%◌, drop, ℕ, suc, zero, Bool, true, false, ◌&&◌, ◌||◌, if◌then◌else◌, nat_lt, ltb, cond, List, [], ◌∷◌, map, length, find, Option, Some, None, refl, sym, ap, subst, arith}
+use Rattle.std.proofs.Math.ListN.{get_or, get_or-map}
+use Rattle.std.proofs.lemmas.Bool.{false≢true, le-ltb, ltb-true}
+use Rattle.std.proofs.lemmas.List.{length-map, get_or-map as get_or-map-within}
+use Rattle.std.specs.Borrow.{Bor}
 use Rattle.std.specs.Char.{to_ascii_lowercase}
-use Rattle.std.specs.List.{filter, list_all, range_with_len}
+use Rattle.std.specs.Cmp.Lexicographic.{bytes_decides}
+use Rattle.std.specs.List.{list_all}
 use Rattle.std.specs.Str.{bytes_eq}
 use Rattle.idl_lex.specs.Keywords.{folded, keywords, like_keyword}
-use Rattle.idl_lex.specs.KeywordTable.{begins_with, starts}
+use Rattle.idl_lex.specs.KeywordTable.{place, places}
+use Rattle.idl_lex.specs.WordTable.{entry_of}
 use Rattle.idl_lex.specs.declared.kind.Kind.{Kind}
+use Rattle.idl_lex.specs.declared.kind.Kind.TheVariants.{Refused}
+
+pub places-length : length places ≡ 256
+unfolding places
+places-length = refl
 
 abbrev Keyed : Type 0
 Keyed = List ℕ × Kind
 
--- a search among those that pass a second test, which all pass that are searched for
-module _ {X : Type 0} (p q : X → Bool) where
-  one : (x : X) (xs : List X) (a b : Bool) → p x ≡ a → (a ≡ true → b ≡ true) → find p (filter q xs) ≡ find p xs
-      → find p (cond b (x ∷ filter q xs) (filter q xs)) ≡ cond a (Some x) (find p xs)
-  one x xs true true is weaker rest = ap (λ a. cond a (Some x) (find p (filter q xs))) is
-  one x xs true false is weaker rest = absurd (false≢true (weaker refl))
-  one x xs false true is weaker rest = ap (λ a. cond a (Some x) (find p (filter q xs))) is ∙ rest
-  one x xs false false is weaker rest = rest
+-- the keyword at a place, and what stands for none
+abbrev pub at : ℕ → Keyed
+at i = get_or keywords i ([], Refused)
 
-  pub find-filter : ((x : X) → p x ≡ true → q x ≡ true) → (xs : List X) → find p (filter q xs) ≡ find p xs
-  find-filter weaker [] = refl
-  find-filter weaker (x ∷ xs) = one x xs (p x) (q x) refl (weaker x) (find-filter weaker xs)
+-- where a keyword has its place
+home : Keyed → ℕ
+home k = place (folded k.0)
 
--- words of no byte are no keywords, and others are sought among those that begin alike
-pub like_keyword-empty : (word : List ℕ) → length word < 1 → like_keyword word ≡ None
-unfolding keywords
-like_keyword-empty [] h = refl
-like_keyword-empty (b ∷ word) h = absurd (omega (arith, h))
+stand_at_home : map (λ k. at (home k)) keywords ≡ keywords
+unfolding keywords places home
+stand_at_home = refl
 
-begins_itself : (b c : ℕ) (word : List ℕ) → b ≡ c → begins_with c (b ∷ word) ≡ true
-begins_itself b c word h = elim (eqb_tells b c) [ inl t ↦ t.0 | inr f ↦ absurd (f.1 h) ]
-
--- words that are alike begin alike
-begin_alike : (a : List ℕ) (b : ℕ) (word : List ℕ) → bytes_eq a (b ∷ word) ≡ true → begins_with b a ≡ true
-begin_alike a b word h = ap (begins_with b) ((bytes_decides a (b ∷ word)).0 h) ∙ begins_itself b b word refl
-
--- what a word is like stands among the keywords that begin as it does
-find-beginning : (b : ℕ) (word : List ℕ)
-    → find (λ k. bytes_eq (folded k.0) (folded (b ∷ word))) (filter (λ k. begins_with (to_ascii_lowercase b) (folded k.0)) keywords)
-    ≡ find (λ k. bytes_eq (folded k.0) (folded (b ∷ word))) keywords
-find-beginning b word =
-    find-filter (λ k. bytes_eq (folded k.0) (folded (b ∷ word))) (λ k. begins_with (to_ascii_lowercase b) (folded k.0))
-    (λ k h. begin_alike (folded k.0) (to_ascii_lowercase b) (folded word) h) keywords
-
-pub like_keyword-beginning : (word : List ℕ) → 1 ≤ length word
-    → find (λ k. bytes_eq (folded k.0) (folded word)) (filter (λ k. begins_with (to_ascii_lowercase (get_or word 0 0)) (folded k.0)) keywords) ≡ like_keyword word
-like_keyword-beginning [] h = absurd (omega (arith, h))
-like_keyword-beginning (b ∷ word) h = find-beginning b word
-
-abbrev begins_with_letter : List ℕ → Bool
-begins_with_letter [] = false
-begins_with_letter (b ∷ word) = ltb 96 b && ltb b 123
-
-begin_with_letters : list_all (λ k. begins_with_letter (folded k.0)) keywords ≡ true
-unfolding keywords
-begin_with_letters = refl
+have_home : list_all (λ k. ltb (home k) 64) keywords ≡ true
+unfolding keywords places home
+have_home = refl
 
 both : (a b : Bool) → a && b ≡ true → (a ≡ true) × (b ≡ true)
 both true b h = (refl, h)
 both false b h = absurd (false≢true h)
 
-begins_otherwise : (letter : ℕ) (word : List ℕ) → (97 ≤ letter → letter ≤ 122 → ⊥) → begins_with_letter word ≡ true → begins_with letter word ≡ false
-begins_otherwise letter [] outside h = refl
-begins_otherwise letter (b ∷ word) outside h =
-    let sides = both (ltb 96 b) (ltb b 123) h in
-    let low = ltb-true 96 b sides.0 in
-    let high = ltb-true b 123 sides.1 in
-    ne_eqb b letter (λ one. outside (omega (arith, low, one)) (omega (arith, high, one)))
+is_there : Option Keyed → Bool
+is_there None = false
+is_there (Some k) = true
 
-none_begin : (letter : ℕ) (ks : List Keyed) → (97 ≤ letter → letter ≤ 122 → ⊥) → list_all (λ k. begins_with_letter (folded k.0)) ks ≡ true → filter (λ k. begins_with letter (folded k.0)) ks ≡ []
-none_begin letter [] outside h = refl
-none_begin letter (k ∷ ks) outside h =
-    let parts = both (begins_with_letter (folded k.0)) (list_all (λ k. begins_with_letter (folded k.0)) ks) h in
-    ap (λ b. cond b (k ∷ filter (λ k. begins_with letter (folded k.0)) ks) (filter (λ k. begins_with letter (folded k.0)) ks)) (begins_otherwise letter (folded k.0) outside parts.0)
-    ∙ none_begin letter ks outside parts.1
+the : Keyed → Option Keyed → Keyed
+the d None = d
+the d (Some k) = k
 
--- no keyword begins with what is no letter in lower case
-pub filter-outside : (letter : ℕ) → (97 ≤ letter → letter ≤ 122 → ⊥) → filter (λ k. begins_with letter (folded k.0)) keywords ≡ []
-filter-outside letter outside = none_begin letter keywords outside begin_with_letters
+-- a keyword that is found stands where the word tells
+record Found (w : List ℕ) (k : Keyed) : Type 0 where
+  within : place w < 64
+  here : at (place w) ≡ k
+  alike : folded k.0 ≡ w
 
--- where the keywords that begin with a letter stand
-abbrev start : ℕ → ℕ
-start i = get_or starts i 0
+found_first : (w : List ℕ) (x : Keyed) (ks : List Keyed) (k : Keyed) (b : Bool) → at (home x) ≡ x → home x < 64
+    → (find (λ k. bytes_eq (folded k.0) w) ks ≡ Some k → Found w k)
+    → bytes_eq (folded x.0) w ≡ b → cond b (Some x) (find (λ k. bytes_eq (folded k.0) w) ks) ≡ Some k → Found w k
+unfolding the home
+found_first w x ks k true same within more e h =
+    let is : x ≡ k = ap (the x) h in
+    let one : folded x.0 ≡ w = (bytes_decides (folded x.0) w).0 e in
+    record {
+      within = subst (λ v. place v < 64) one within;
+      here = ap (λ v. at (place v)) (sym one) ∙ same ∙ is;
+      alike = ap (λ k. folded k.0) (sym is) ∙ one;
+    }
+found_first w x ks k false same within more e h = more h
 
-abbrev letters : List ℕ
-letters = range_with_len 0 26
+found : (w : List ℕ) (ks : List Keyed) (k : Keyed) → map (λ k. at (home k)) ks ≡ ks → list_all (λ k. ltb (home k) 64) ks ≡ true
+    → find (λ k. bytes_eq (folded k.0) w) ks ≡ Some k → Found w k
+unfolding is_there
+found w [] k same within h = absurd (false≢true (ap is_there h))
+found w (x ∷ ks) k same within h =
+    let parts = both (ltb (home x) 64) (list_all (λ k. ltb (home k) 64) ks) within in
+    found_first w x ks k (bytes_eq (folded x.0) w) (ap (λ l. get_or l 0 x) same) (ltb-true (home x) 64 parts.0)
+    (found w ks k (ap (drop 1) same) parts.1) refl h
 
-pub starts-length : length starts ≡ 27
-unfolding starts
-starts-length = refl
+-- none is found where none is alike
+misses : (x : Keyed) (o : Option Keyed) (b : Bool) → cond b (Some x) o ≡ None → (b ≡ false) × (o ≡ None)
+unfolding is_there
+misses x o true h = absurd (false≢true (sym (ap is_there h)))
+misses x o false h = (refl, h)
 
-rise : ℕ → Bool
-rise i = ltb (start i) (start (i + 1) + 1) && ltb (start (i + 1)) 65
+behind : (p : Keyed → Bool) (x : Keyed) (ks : List Keyed) (d : Keyed) (i : ℕ) → p x ≡ false → ((j : ℕ) → j < length ks → p (get_or ks j d) ≡ false)
+    → i < length (x ∷ ks) → p (get_or (x ∷ ks) i d) ≡ false
+behind p x ks d zero first more lt = first
+behind p x ks d (suc j) first more lt = more j (omega (arith, lt))
 
-all_rise : list_all rise letters ≡ true
-unfolding starts rise
-all_rise = refl
+missed : (p : Keyed → Bool) (ks : List Keyed) (d : Keyed) → find p ks ≡ None → (i : ℕ) → i < length ks → p (get_or ks i d) ≡ false
+missed p [] d h i lt = absurd (omega (arith, lt))
+missed p (x ∷ ks) d h i lt =
+    let parts = misses x (find p ks) (p x) h in
+    behind p x ks d i parts.0 (missed p ks d parts.1) lt
 
-passes : (p : ℕ → Bool) (i : ℕ) → i < 26 → list_all p letters ≡ true → p i ≡ true
-passes p i lt all = decided (p i) refl where
-  decided : (b : Bool) → p i ≡ b → p i ≡ true
-  decided true h = h
-  decided false h =
-      let here : get_or letters i 0 ≡ i = get_or-range_with_len 0 26 i 0 lt ∙ omega arith in
-      absurd (false≢true (sym (list_all_at p letters i 0 (omega (arith, lt, length-range_with_len 0 26)) (ap p here ∙ h)) ∙ all))
+found_here : (word : List ℕ) (k : Keyed) → like_keyword word ≡ Some k → Found (folded word) k
+found_here word k h = found (folded word) keywords k stand_at_home have_home h
 
-pub starts-rise : (i : ℕ) → i < 26 → (start i ≤ start (i + 1)) × (start (i + 1) ≤ 64)
-unfolding rise
-starts-rise i lt =
-    let sides = both (ltb (start i) (start (i + 1) + 1)) (ltb (start (i + 1)) 65) (passes rise i lt all_rise) in
-    (omega (arith, ltb-true _ _ sides.0), omega (arith, ltb-true _ _ sides.1))
+keywords-length : length keywords ≡ 64
+unfolding keywords
+keywords-length = refl
 
-part : ℕ → List Keyed
-part i = take (start (i + 1) - start i) (drop (start i) keywords)
+-- a word with no place is like none
+pub like_keyword-nowhere : (word : List ℕ) → 64 ≤ place (folded word) → None ≡ like_keyword word
+like_keyword-nowhere word past = by (like_keyword word) refl where
+  by : (o : Option Keyed) → like_keyword word ≡ o → None ≡ o
+  by None h = refl
+  by (Some k) h = absurd (omega (arith, past, (found_here word k h).within))
 
-beginning : ℕ → List Keyed
-beginning i = filter (λ k. begins_with (97 + i) (folded k.0)) keywords
+-- a word is like the keyword at its place, or none
+pub like_keyword-at : (word : List ℕ) → place (folded word) < 64 → folded (at (place (folded word))).0 ≡ folded word
+    → Some (at (place (folded word))) ≡ like_keyword word
+like_keyword-at word lt alike = by (like_keyword word) refl where
+  by : (o : Option Keyed) → like_keyword word ≡ o → Some (at (place (folded word))) ≡ o
+  by None h =
+      absurd (false≢true (sym (missed (λ k. bytes_eq (folded k.0) (folded word)) keywords ([], Refused) h (place (folded word)) (omega (arith, lt, keywords-length)))
+      ∙ (bytes_decides _ _).1 alike))
+  by (Some k) h = ap Some (found_here word k h).here
 
-parts : map part letters ≡ map beginning letters
-unfolding keywords starts part beginning
-parts = refl
+pub like_keyword-other : (word : List ℕ) → folded (at (place (folded word))).0 ≢ folded word → None ≡ like_keyword word
+like_keyword-other word other = by (like_keyword word) refl where
+  by : (o : Option Keyed) → like_keyword word ≡ o → None ≡ o
+  by None h = refl
+  by (Some k) h = let it = found_here word k h in absurd (other (ap (λ k. folded k.0) it.here ∙ it.alike))
 
--- the keywords that begin with a letter are those from its start to the next one's
-pub part-beginning : (i letter : ℕ) → i < 26 → 97 + i ≡ letter → take (start (i + 1) - start i) (drop (start i) keywords) ≡ filter (λ k. begins_with letter (folded k.0)) keywords
-unfolding part beginning
-part-beginning i letter lt at =
-    sym (get_or-map-range_with_len part 0 26 i i [] lt (omega arith))
-    ∙ ap (λ ps. get_or ps i []) parts
-    ∙ get_or-map-range_with_len beginning 0 26 i i [] lt (omega arith)
-    ∙ ap (λ l. filter (λ k. begins_with l (folded k.0)) keywords) at
+-- a letter of a word in lower case
+abbrev low : List ℕ → ℕ → ℕ
+low word i = to_ascii_lowercase (get_or word i 0)
+
+low-folded : (word : List ℕ) (i : ℕ) → get_or (folded word) i 0 ≡ low word i
+low-folded word i = get_or-map to_ascii_lowercase word i 0
+
+of_some_length : (n : ℕ) → 2 ≤ n → n ≤ 11 → nat_lt n 2 || nat_lt 11 n ≡ false
+of_some_length n long short = ap (λ b. b || nat_lt 11 n) (le-ltb n 2 long) ∙ le-ltb 11 n short
+
+-- where a word of some length stands, by its letters
+pub place-folded : (word : List ℕ) (n : ℕ) → length word ≡ n → 2 ≤ n → n ≤ 11
+    → place (folded word) ≡ get_or places ((low word 0 + 9 * low word 1 + 11 * low word (n - 2) + n) % 256) 0
+place-folded word n len long short =
+    ap (λ m. if nat_lt m 2 || nat_lt 11 m then 64 else get_or places ((get_or (folded word) 0 0 + 9 * get_or (folded word) 1 0 + 11 * get_or (folded word) (m - 2) 0 + m) % 256) 0) (length-map word to_ascii_lowercase ∙ len)
+    ∙ ap (λ b. if b then 64 else get_or places ((get_or (folded word) 0 0 + 9 * get_or (folded word) 1 0 + 11 * get_or (folded word) (n - 2) 0 + n) % 256) 0) (of_some_length n long short)
+    ∙ (λ i. get_or places ((low-folded word 0 i + 9 * low-folded word 1 i + 11 * low-folded word (n - 2) i + n) % 256) 0)
+
+-- what is read at the place that a word tells
+pub entry_of-at : (entries : List (Bor (List ℕ) × Kind)) (word : List ℕ) (i : ℕ) (d : Bor (List ℕ) × Kind) → map entry_of entries ≡ keywords
+    → i ≡ place (folded word) → i < length entries → entry_of (get_or entries i d) ≡ at (place (folded word))
+entry_of-at entries word i d all is lt =
+    sym (get_or-map-within entry_of entries i d ([], Refused) lt) ∙ ap (λ ks. get_or ks i ([], Refused)) all ∙ ap at is

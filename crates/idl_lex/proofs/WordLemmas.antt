@@ -89,7 +89,7 @@ one_of P white b h = elim (white-cases b (nat_eq b 32) refl h) [
         last : b ≢ 9 → b ≢ 10 → b ≢ 11 → b ≢ 12 → b ≡ 13
         last no9 no10 no11 no12 = omega (arith, low, high, no9, no10, no11, no12)
 
-unpaired : (same equals : Bool) (bs : List ℕ) → ◌≡◌ {A = ℕ} (elim (if ((same && false) || (equals && false)) then Some Whole else None) [ None ↦ 0 | Some t ↦ suc (taken t bs) ]) 0
+pub unpaired : (same equals : Bool) (bs : List ℕ) → ◌≡◌ {A = ℕ} (elim (if ((same && false) || (equals && false)) then Some Whole else None) [ None ↦ 0 | Some t ↦ suc (taken t bs) ]) 0
 unpaired true true bs = refl
 unpaired true false bs = refl
 unpaired false true bs = refl
@@ -114,7 +114,7 @@ white-slash : White (λ b. nat_eq b 47 ≡ false)
 white-slash = record { tab = refl; line_feed = refl; vertical = refl; form_feed = refl; return = refl; blank = refl }
 
 -- but for `<` the longest piece is the same on any line
-further-plain : (includes : Bool) (b : ℕ) (bs : List ℕ) → nat_eq b 60 ≡ false → further includes b bs ≡ taken (start_of b) bs
+pub further-plain : (includes : Bool) (b : ℕ) (bs : List ℕ) → nat_eq b 60 ≡ false → further includes b bs ≡ taken (start_of b) bs
 further-plain includes b bs other =
     ap (λ x. if includes && x then (elim (header_len bs) [ None ↦ taken (start_of b) bs | Some n ↦ n ]) else taken (start_of b) bs) other
     ∙ kept includes

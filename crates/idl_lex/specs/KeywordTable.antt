@@ -1,13 +1,34 @@
--- How the table of keywords is laid out: those that begin with one letter stand together.
-use Rattle.std.specs.Prelude.{ℕ, ◌==◌, Bool, false, List, [], ◌∷◌}
+-- How a keyword is found in the table of keywords: what its letters and its length make together
+-- tells where it stands.
+use Rattle.std.specs.Prelude.{ℕ, ◌+◌, ◌*◌, ◌-◌, ◌%◌, ◌||◌, nat_lt, List, [], ◌∷◌, get_or, length, if◌then◌else◌}
 
--- whether a word begins with this byte
-abbrev pub begins_with : ℕ → List ℕ → Bool
-begins_with letter [] = false
-begins_with letter (b ∷ word) = b == letter
+-- what the first two letters of a word in lower case, its last but one and its length make together
+abbrev pub mixed : List ℕ → ℕ
+mixed word =
+    (get_or word 0 0 + 9 * get_or word 1 0 + 11 * get_or word (length word - 2) 0 + length word)
+    % 256
 
--- how many keywords begin with a letter before each, and how many with any
-unfoldable pub starts : List ℕ
-starts =
-    0 ∷ 3 ∷ 4 ∷ 11 ∷ 13 ∷ 17 ∷ 22 ∷ 23 ∷ 24 ∷ 28 ∷ 28 ∷ 28 ∷ 30 ∷ 32 ∷ 33 ∷ 37 ∷ 42 ∷ 42 ∷ 44 ∷ 51
-    ∷ 56 ∷ 59 ∷ 62 ∷ 64 ∷ 64 ∷ 64 ∷ 64 ∷ []
+-- where each keyword stands, by what it makes; 64 for what no keyword makes
+unfoldable pub places : List ℕ
+places =
+    64 ∷ 64 ∷ 23 ∷ 64 ∷ 64 ∷ 64 ∷ 46 ∷ 64 ∷ 64 ∷ 64 ∷ 64 ∷ 64 ∷ 64 ∷ 6 ∷ 64 ∷ 64 ∷ 64 ∷ 29 ∷ 64
+    ∷ 53 ∷ 64 ∷ 64 ∷ 40 ∷ 64 ∷ 64 ∷ 64 ∷ 64 ∷ 64 ∷ 0 ∷ 56 ∷ 64 ∷ 64 ∷ 64 ∷ 64 ∷ 62 ∷ 64 ∷ 64
+    ∷ 52 ∷ 64 ∷ 64 ∷ 33 ∷ 64 ∷ 24 ∷ 64 ∷ 64 ∷ 64 ∷ 64 ∷ 64 ∷ 64 ∷ 64 ∷ 64 ∷ 64 ∷ 64 ∷ 64 ∷ 31
+    ∷ 64 ∷ 42 ∷ 64 ∷ 5 ∷ 13 ∷ 64 ∷ 64 ∷ 54 ∷ 64 ∷ 7 ∷ 64 ∷ 55 ∷ 63 ∷ 64 ∷ 64 ∷ 34 ∷ 47 ∷ 64
+    ∷ 44 ∷ 64 ∷ 10 ∷ 64 ∷ 64 ∷ 14 ∷ 64 ∷ 64 ∷ 64 ∷ 64 ∷ 26 ∷ 22 ∷ 64 ∷ 64 ∷ 64 ∷ 64 ∷ 64 ∷ 64
+    ∷ 64 ∷ 64 ∷ 64 ∷ 64 ∷ 64 ∷ 45 ∷ 64 ∷ 21 ∷ 64 ∷ 15 ∷ 64 ∷ 64 ∷ 64 ∷ 64 ∷ 64 ∷ 64 ∷ 16 ∷ 64
+    ∷ 64 ∷ 64 ∷ 64 ∷ 64 ∷ 64 ∷ 64 ∷ 20 ∷ 19 ∷ 38 ∷ 64 ∷ 64 ∷ 64 ∷ 9 ∷ 2 ∷ 3 ∷ 64 ∷ 64 ∷ 35 ∷ 64
+    ∷ 64 ∷ 51 ∷ 64 ∷ 28 ∷ 64 ∷ 64 ∷ 64 ∷ 64 ∷ 64 ∷ 64 ∷ 64 ∷ 64 ∷ 64 ∷ 64 ∷ 64 ∷ 64 ∷ 64 ∷ 27
+    ∷ 64 ∷ 64 ∷ 49 ∷ 64 ∷ 36 ∷ 64 ∷ 64 ∷ 64 ∷ 64 ∷ 64 ∷ 11 ∷ 64 ∷ 64 ∷ 64 ∷ 64 ∷ 64 ∷ 64 ∷ 64
+    ∷ 64 ∷ 64 ∷ 64 ∷ 64 ∷ 64 ∷ 8 ∷ 64 ∷ 43 ∷ 64 ∷ 64 ∷ 64 ∷ 64 ∷ 64 ∷ 64 ∷ 57 ∷ 64 ∷ 64 ∷ 64
+    ∷ 64 ∷ 64 ∷ 60 ∷ 64 ∷ 64 ∷ 64 ∷ 17 ∷ 64 ∷ 64 ∷ 64 ∷ 64 ∷ 4 ∷ 64 ∷ 64 ∷ 64 ∷ 18 ∷ 64 ∷ 64
+    ∷ 64 ∷ 64 ∷ 64 ∷ 64 ∷ 25 ∷ 64 ∷ 48 ∷ 64 ∷ 64 ∷ 39 ∷ 64 ∷ 37 ∷ 64 ∷ 64 ∷ 64 ∷ 64 ∷ 64 ∷ 59
+    ∷ 64 ∷ 58 ∷ 64 ∷ 64 ∷ 64 ∷ 64 ∷ 64 ∷ 64 ∷ 64 ∷ 64 ∷ 61 ∷ 64 ∷ 64 ∷ 64 ∷ 64 ∷ 50 ∷ 64 ∷ 64
+    ∷ 64 ∷ 41 ∷ 64 ∷ 32 ∷ 64 ∷ 64 ∷ 64 ∷ 64 ∷ 64 ∷ 12 ∷ 64 ∷ 64 ∷ 64 ∷ 64 ∷ 64 ∷ 64 ∷ 1 ∷ 64
+    ∷ 30 ∷ 64 ∷ []
+
+-- where the keyword stands that a word in lower case can be; 64 where it can be none, as a word of
+-- one byte or of more than 11
+abbrev pub place : List ℕ → ℕ
+place word =
+    if nat_lt (length word) 2 || nat_lt 11 (length word) then 64 else get_or places (mixed word) 0

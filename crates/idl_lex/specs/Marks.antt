@@ -1,5 +1,5 @@
 -- The marks.
-use Rattle.std.specs.Prelude.{ℕ, List, [], ◌∷◌, codes, Option}
+use Rattle.std.specs.Prelude.{ℕ, Bool, ◌||◌, List, [], ◌∷◌, codes, nat_eq, Option}
 use Rattle.idl_lex.specs.WordTable.{value_of}
 use Rattle.idl_lex.specs.declared.mark.Mark.TheVariants.{Semicolon, Comma, OpenBrace, CloseBrace, OpenParenthesis, CloseParenthesis, ColonColon, Colon, Less, Greater, Equals, OpenBracket, CloseBracket, Plus, Minus, Star, Slash, Percent, Tilde, Bar, Caret, Ampersand, ShiftLeft, ShiftRight}
 use Rattle.idl_lex.specs.declared.mark.PreprocessorMark.TheVariants.{Hash, HashHash, Exclamation, Question, Dot, AndAnd, OrOr, EqualsEquals, NotEquals, LessEquals, GreaterEquals}
@@ -35,3 +35,9 @@ marks =
 -- the kind of the mark that is spelled so
 abbrev pub mark_kind : List ℕ → Option Kind
 mark_kind spelling = value_of marks spelling
+
+-- a mark that no byte behind it makes another token: one of ; , { } ( ) [ ]
+abbrev pub is_lone_mark : ℕ → Bool
+is_lone_mark b =
+    nat_eq b 59 || nat_eq b 44 || nat_eq b 123 || nat_eq b 125 || nat_eq b 40 || nat_eq b 41
+    || nat_eq b 91 || nat_eq b 93

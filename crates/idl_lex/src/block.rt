@@ -12,6 +12,12 @@ use idl_source::Line;
 use std::alloc::{AllocError, Global};
 use std::rc::Rc;
 
+// Few blocks have more lines.
+const USUAL_LINES: usize = 64;
+
+// Few lines have more tokens.
+const TOKENS_OF_LINE: usize = 8;
+
 /// Lines that are cut into tokens as if they were a file of their own: how many they are, and their tokens.
 #[derive(Drop)]
 pub struct Block {
@@ -67,7 +73,7 @@ pub fn cut_block(alloc: Global, lines: &[Line], ends: Ends<'_>) -> Result<Block,
     ensures whole { ends.entry.old ≡ None → length lines.now ≤ ends.entry.lines
         → IfOk result (λ block. block.lines ≡ length lines.now) }
 {
-    let mut tokens = Vec::new(alloc);
+    let mut tokens = Vec::with_capacity(alloc, usual_room(lines.len()))?;
     let mut before = Before::Fresh;
     let mut count = 0;
     'lines: while count < lines.len() {
@@ -80,10 +86,16 @@ pub fn cut_block(alloc: Global, lines: &[Line], ends: Ends<'_>) -> Result<Block,
         count = end;
     }
     finish(&mut tokens, before)?;
+    tokens.shrink_to_fit();
     Ok(Block {
         lines: count,
         tokens,
     })
+}
+
+// Room for as many tokens as few blocks have more, where so many lines are left.
+fn usual_room(lines: usize) -> usize {
+    TOKENS_OF_LINE * lines.min(USUAL_LINES)
 }
 
 // Puts in what is left at the end of a text: a comment that isn't closed.

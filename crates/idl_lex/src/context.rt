@@ -30,8 +30,9 @@ pub struct Context {
 }
 
 impl Beginning {
-    ghost use Rattle.std.specs.Prelude.{◌≡◌};
+    ghost use Rattle.std.specs.Prelude.{◌≡◌, ◌∷◌, [], ℕ, true};
     ghost use Rattle.idl_lex.specs.Context.{is_nothing, is_include, beginning_after};
+    ghost use Rattle.idl_lex.specs.Marks.{is_lone_mark};
 
     /// Whether there is no token.
     pub fn is_nothing(self) -> bool
@@ -53,6 +54,16 @@ impl Beginning {
         }
     }
 
+    // The beginning with one token more that is neither `#` nor `include`.
+    fn with_other(self) -> Beginning
+        ensures { (b : ℕ) → is_lone_mark b ≡ true → result ≡ beginning_after self (b ∷ []) }
+    {
+        match self {
+            Beginning::Include => Beginning::Include,
+            _ => Beginning::Other,
+        }
+    }
+
     /// The beginning with one token more.
     fn with(self, spelling: &[u8]) -> Beginning
         ensures { result ≡ beginning_after self spelling.now }
@@ -67,9 +78,10 @@ impl Beginning {
 }
 
 impl Context {
-    ghost use Rattle.std.specs.Prelude.{◌≡◌, ◌∷◌, [], true};
+    ghost use Rattle.std.specs.Prelude.{◌≡◌, ◌∷◌, [], ℕ, true};
     ghost use Rattle.idl_lex.specs.Byte.{is_space};
     ghost use Rattle.idl_lex.specs.Context.{line_start, context_after};
+    ghost use Rattle.idl_lex.specs.Marks.{is_lone_mark};
     ghost use Rattle.idl_lex.specs.Word.{is_word};
 
     /// Where a line begins.
@@ -104,6 +116,16 @@ impl Context {
         Context {
             beginning: self.beginning.with(word),
             follows_word: true,
+        }
+    }
+
+    /// What stands before a place where one lone mark more stands before it.
+    pub fn after_mark(self) -> Context
+        ensures { (b : ℕ) → is_lone_mark b ≡ true → result ≡ context_after self (b ∷ []) }
+    {
+        Context {
+            beginning: self.beginning.with_other(),
+            follows_word: false,
         }
     }
 

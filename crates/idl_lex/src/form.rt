@@ -1,6 +1,6 @@
 //! The forms in which the bytes of a spelling are held: few in place, and more in shared bytes.
 
-ghost use Rattle.std.specs.Prelude.{◌≡◌, ◌≤◌, ◌<◌, IfNone, IfOk, IfSome, drop, length, slice_range};
+ghost use Rattle.std.specs.Prelude.{◌≡◌, ◌≤◌, ◌<◌, ◌∷◌, [], IfNone, IfOk, IfSome, drop, length, slice_range};
 ghost use Rattle.std.specs.Rc.{rc_slice_items};
 ghost use Rattle.idl_lex.specs.Form.{form_bytes};
 ghost use Rattle.idl_lex.specs.Keywords.{folded};
@@ -99,6 +99,15 @@ impl Short {
             return None;
         }
         Some(Short::of(bytes))
+    }
+
+    /// This byte.
+    pub fn of_byte(b: u8) -> Short
+        ensures { result ≡ b ∷ [] }
+    {
+        let mut bytes = [0; MOST];
+        bytes[0] = b;
+        Short { count: 1, bytes }
     }
 
     // These few bytes.

@@ -1,17 +1,15 @@
 //! The table of keywords, and the look-up of a word in it.
 
-ghost use Rattle.std.specs.Prelude.{◌≡◌, ◌≤◌, ◌<◌, ◌+◌, ◌-◌, ◌↔◌, IsTrue, drop, find, length, map, take};
-ghost use Rattle.std.specs.List.{filter};
+ghost use Rattle.std.specs.Prelude.{◌≡◌, ◌<◌, ◌↔◌, IsTrue, length, map};
+ghost use Rattle.std.specs.Char.{to_ascii_lowercase};
 ghost use Rattle.std.specs.Option.{option_map};
-ghost use Rattle.std.specs.Str.{bytes_eq};
 ghost use Rattle.idl_lex.specs.Keywords.{folded, keywords, like_keyword};
-ghost use Rattle.idl_lex.specs.KeywordTable.{begins_with, starts};
+ghost use Rattle.idl_lex.specs.KeywordTable.{place, places};
 ghost use Rattle.idl_lex.specs.WordTable.{entry_of};
 
 use crate::keyword::Keyword;
 use crate::kind::Kind;
 use crate::word_table::Entry;
-use std::ops::Range;
 
 // Each keyword with the kind of its spelling. Those that begin with one letter, whatever its case, stand together.
 const KEYWORDS: [Entry<Kind>; 64] = [
@@ -81,32 +79,41 @@ const KEYWORDS: [Entry<Kind>; 64] = [
     (b"wstring", Kind::Accepted(Keyword::Wstring)),
 ];
 
-// How many keywords begin with a letter before each, and how many with any.
-const STARTS: [usize; 27] = [
-    0, 3, 4, 11, 13, 17, 22, 23, 24, 28, 28, 28, 30, 32, 33, 37, 42, 42, 44, 51, 56, 59, 62, 64,
-    64, 64, 64,
+// Where each keyword stands in the table, by what three of its letters and its length make together; 64 for what none makes.
+const PLACES: [u8; 256] = [
+    64, 64, 23, 64, 64, 64, 46, 64, 64, 64, 64, 64, 64, 6, 64, 64, 64, 29, 64, 53, 64, 64, 40, 64,
+    64, 64, 64, 64, 0, 56, 64, 64, 64, 64, 62, 64, 64, 52, 64, 64, 33, 64, 24, 64, 64, 64, 64, 64,
+    64, 64, 64, 64, 64, 64, 31, 64, 42, 64, 5, 13, 64, 64, 54, 64, 7, 64, 55, 63, 64, 64, 34, 47,
+    64, 44, 64, 10, 64, 64, 14, 64, 64, 64, 64, 26, 22, 64, 64, 64, 64, 64, 64, 64, 64, 64, 64, 64,
+    45, 64, 21, 64, 15, 64, 64, 64, 64, 64, 64, 16, 64, 64, 64, 64, 64, 64, 64, 20, 19, 38, 64, 64,
+    64, 9, 2, 3, 64, 64, 35, 64, 64, 51, 64, 28, 64, 64, 64, 64, 64, 64, 64, 64, 64, 64, 64, 64,
+    64, 27, 64, 64, 49, 64, 36, 64, 64, 64, 64, 64, 11, 64, 64, 64, 64, 64, 64, 64, 64, 64, 64, 64,
+    64, 8, 64, 43, 64, 64, 64, 64, 64, 64, 57, 64, 64, 64, 64, 64, 60, 64, 64, 64, 17, 64, 64, 64,
+    64, 4, 64, 64, 64, 18, 64, 64, 64, 64, 64, 64, 25, 64, 48, 64, 64, 39, 64, 37, 64, 64, 64, 64,
+    64, 59, 64, 58, 64, 64, 64, 64, 64, 64, 64, 64, 61, 64, 64, 64, 64, 50, 64, 64, 64, 41, 64, 32,
+    64, 64, 64, 64, 64, 12, 64, 64, 64, 64, 64, 64, 1, 64, 30, 64,
 ];
+
+// A place past the table.
+const NOWHERE: usize = 64;
+
+// A keyword has at least two bytes, and so many at the most.
+const LONGEST: usize = 11;
 
 /// The keyword that the word is but for the case of letters.
 pub fn like_keyword(word: &[u8]) -> Option<Entry<Kind>>
     ensures { option_map entry_of result ≡ like_keyword word.now }
 {
-    match word {
-        [first, ..] => look_up(beginning_with(first.to_ascii_lowercase()), word),
-        [] => None,
+    let keywords = table();
+    let place = place_of(word);
+    if keywords.len() <= place {
+        return None;
     }
-}
-
-// The keywords that begin with this byte, once they are in lower case.
-fn beginning_with(letter: u8) -> &'static [Entry<Kind>]
-    ensures { map entry_of result.now ≡ filter (λ k. begins_with letter (folded k.0)) keywords }
-{
-    let i = letter.wrapping_sub(b'a') as usize;
-    if i >= 26 {
-        return &[];
+    let entry = keywords[place];
+    if !are_alike(entry.0, word) {
+        return None;
     }
-    let Range { start, end } = part(i);
-    &table()[start..end]
+    Some(entry)
 }
 
 #[tactic(auto, unfolding(crate::specs::Keywords::keywords))]
@@ -117,36 +124,31 @@ fn table() -> &'static [Entry<Kind>]
     &KEYWORDS
 }
 
-// Which part of the table begins with this letter, counted from 0 on.
-fn part(i: usize) -> Range<usize>
-    requires { i < 26 }
-    ensures order { result.start ≤ result.end }
-    ensures within { result.end ≤ 64 }
-    ensures part { take (result.end - result.start) (drop result.start keywords)
-        ≡ filter (λ k. begins_with (97 + i) (folded k.0)) keywords }
+// Where the table has the one keyword that the word can be, but for the case of letters, if it can be one.
+fn place_of(word: &[u8]) -> usize
+    ensures { result ≡ place (folded word.now) }
 {
-    let starts = starts();
-    starts[i]..starts[i + 1]
-}
-
-#[tactic(auto, unfolding(crate::specs::KeywordTable::starts))]
-fn starts() -> &'static [usize]
-    ensures { result.now ≡ starts }
-{
-    &STARTS
-}
-
-// The first of these keywords that the word is but for the case of letters.
-fn look_up(entries: &[Entry<Kind>], word: &[u8]) -> Option<Entry<Kind>>
-    ensures { option_map entry_of result
-        ≡ find (λ k. bytes_eq (folded k.0) (folded word.now)) (map entry_of entries.entry.now) }
-{
-    for entry in entries {
-        if are_alike(entry.0, word) {
-            return Some(*entry);
-        }
+    let len = word.len();
+    if len < 2 || LONGEST < len {
+        return NOWHERE;
     }
-    None
+    let mixed = folded(word[0]) + 9 * folded(word[1]) + 11 * folded(word[len - 2]) + len;
+    places()[mixed % 256] as usize
+}
+
+// The byte, in lower case if it is a letter.
+fn folded(b: u8) -> usize
+    ensures value { result ≡ to_ascii_lowercase b }
+    ensures small { result < 256 }
+{
+    b.to_ascii_lowercase() as usize
+}
+
+#[tactic(auto, unfolding(crate::specs::KeywordTable::places))]
+fn places() -> &'static [u8]
+    ensures { result.now ≡ places }
+{
+    &PLACES
 }
 
 // Whether two words are the same but for the case of letters.

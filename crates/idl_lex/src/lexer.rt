@@ -13,6 +13,7 @@ ghost use Rattle.idl_lex.specs.declared.lexer.Before.TheVariants.{Fresh};
 use crate::byte::{is_quote, is_space, is_word_start};
 use crate::context::{Context, ends_block, is_gap};
 use crate::logical::Logical;
+use crate::mark_table::is_lone_mark;
 use crate::state::{State, closing_end, further, taken, word_len};
 use crate::token::PlacedToken;
 use std::alloc::AllocError;
@@ -90,6 +91,12 @@ fn push_pieces(
             push_word(tokens, now, line, i..end)?;
             now = now.after_word(&bytes[i..end]);
             i = end;
+            continue;
+        }
+        if is_lone_mark(first) {
+            tokens.push(PlacedToken::mark(now, first, line.line_at(i)))?;
+            now = now.after_mark();
+            i += 1;
             continue;
         }
         closing = closing_for(first, bytes, closing);

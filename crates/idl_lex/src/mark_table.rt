@@ -1,9 +1,10 @@
 //! The marks by their bytes.
 
-ghost use Rattle.std.specs.Prelude.{◌≡◌, ◌∷◌, []};
-ghost use Rattle.idl_lex.specs.Marks.{mark_kind};
+ghost use Rattle.std.specs.Prelude.{◌≡◌, ◌∷◌, [], true};
+ghost use Rattle.idl_lex.specs.Kind.{kind_of};
+ghost use Rattle.idl_lex.specs.Marks.{is_lone_mark, mark_kind};
 
-use crate::kind::Kind;
+use crate::kind::{Defect, Kind};
 use crate::mark::{Mark, PreprocessorMark};
 
 /// The kind of the mark that is spelled so.
@@ -14,6 +15,27 @@ pub fn mark_kind(spelling: &[u8]) -> Option<Kind>
         [a] => single(*a),
         [a, b] => double(*a, *b),
         _ => None,
+    }
+}
+
+/// Whether the byte is a mark that none other begins with, and neither a number nor a comment.
+pub fn is_lone_mark(b: u8) -> bool
+    ensures { result ≡ is_lone_mark b }
+{
+    match b {
+        b';' | b',' | b'{' | b'}' | b'(' | b')' | b'[' | b']' => true,
+        _ => false,
+    }
+}
+
+/// The kind of a mark that none other begins with.
+pub fn lone_kind(b: u8) -> Kind
+    requires { is_lone_mark b ≡ true }
+    ensures { result ≡ kind_of (b ∷ []) }
+{
+    match single(b) {
+        Some(kind) => kind,
+        None => Kind::Bad(Defect::UnknownByte),
     }
 }
 

@@ -1,6 +1,6 @@
 //! The bytes of a token or a name: few stand in place, and more are shared.
 
-ghost use Rattle.std.specs.Prelude.{◌≡◌, ◌≤◌, ◌↔◌, IfOk, IsTrue, Some, length, refl, slice_range};
+ghost use Rattle.std.specs.Prelude.{◌≡◌, ◌≤◌, ◌↔◌, ◌∷◌, [], IfOk, IsTrue, Some, length, refl, slice_range};
 ghost use Rattle.std.specs.Cmp.{partial_equiv_from_equiv};
 ghost use Rattle.std.specs.Cmp.Lexicographic.{bytes_decides, nat_list_cmp_total, nat_list_eq_equiv, slice_cmp, texts_po, texts_ties};
 ghost use Rattle.std.specs.Hash as fed;
@@ -69,6 +69,13 @@ impl Spelling {
                 _ => Ok(Spelling::whole(RcSlice::from_slice(alloc, part)?)),
             },
         }
+    }
+
+    /// This byte.
+    pub(crate) fn of_byte(b: u8) -> Spelling
+        ensures { result ≡ b ∷ [] }
+    {
+        Spelling::short(Short::of_byte(b))
     }
 
     /// A copy of these bytes.

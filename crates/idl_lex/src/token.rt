@@ -1,6 +1,6 @@
 //! Tokens, and where they stand in a file.
 
-ghost use Rattle.std.specs.Prelude.{◌≡◌, ◌↔◌, IfOk, IsTrue, true};
+ghost use Rattle.std.specs.Prelude.{◌≡◌, ◌∷◌, [], ◌↔◌, IfOk, IsTrue, true};
 ghost use Rattle.std.specs.Cmp.{partial_equiv_from_equiv};
 ghost use Rattle.std.specs.Cmp.Lexicographic.{bytes_decides, nat_list_eq_equiv};
 ghost use Rattle.std.specs.Hash as fed;
@@ -8,11 +8,13 @@ ghost use Rattle.std.specs.Option.{option_copied};
 ghost use Rattle.std.specs.Str.{bytes_eq};
 ghost use Rattle.std.proofs.Common.{ap};
 ghost use Rattle.idl_lex.specs.Kind.{kind_of, name_of};
+ghost use Rattle.idl_lex.specs.Marks.{is_lone_mark};
 ghost use Rattle.idl_lex.specs.Tokens.{token_of};
 ghost use Rattle.idl_lex.specs.Word.{is_word};
 
 use crate::context::Context;
 use crate::kind::{Kind, kind_of, kind_of_word};
+use crate::mark_table::lone_kind;
 use crate::spelling::Spelling;
 use crate::word::is_word;
 use idl_base::Datum;
@@ -63,6 +65,18 @@ impl Token {
             kind: kind_of_word(spelling.as_bytes()),
             word: true,
             spelling,
+        }
+    }
+
+    /// The token that a mark is which none other begins with.
+    pub(crate) fn mark(b: u8) -> Token
+        requires { is_lone_mark b ≡ true }
+        ensures { result ≡ b ∷ [] }
+    {
+        Token {
+            kind: lone_kind(b),
+            word: false,
+            spelling: Spelling::of_byte(b),
         }
     }
 
@@ -195,6 +209,14 @@ impl PlacedToken {
         ensures { result ≡ token_of context spelling line }
     {
         PlacedToken::placed(context, Token::word(spelling), line)
+    }
+
+    /// The token that a mark is which none other begins with, on this line.
+    pub(crate) fn mark(context: Context, b: u8, line: u32) -> PlacedToken
+        requires { is_lone_mark b ≡ true }
+        ensures { result ≡ token_of context (b ∷ []) line }
+    {
+        PlacedToken::placed(context, Token::mark(b), line)
     }
 
     // The token on this line.

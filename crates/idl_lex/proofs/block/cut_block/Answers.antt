@@ -16,7 +16,7 @@ use Rattle.idl_lex.proofs.block.cut_block.Goals as goal
 pub lines-init : goal.lines-init
 lines-init c = record {
   within = omega arith;
-  tokens = λ rest closed. ap (λ ts. ts ++ tokens_after line_start 0 (joined 1 rest)) c.new-tokens.ensures.items ∙ sym (tokens_of-joined rest);
+  tokens = λ rest closed. ap (λ ts. ts ++ tokens_after line_start 0 (joined 1 rest)) c.in_ok-tokens.ensures.items ∙ sym (tokens_of-joined rest);
 }
 
 pub lines-preserved : goal.lines-preserved
@@ -46,8 +46,9 @@ returns-clause-block c =
     let lines = c.args.lines.now in
     let count = c.lines.count in
     let front = take count lines in
-    let cut : c.finish.new.tokens.items ≡ tokens_of front =
-    c.in_ok-finish.ensures
+    let cut : c.shrink_to_fit.new.self.items ≡ tokens_of front =
+    c.shrink_to_fit.ensures.items
+    ∙ c.in_ok-finish.ensures
     ∙ ap (λ ps. c.lines.tokens.items ++ coming c.lines.before ps) (sym (joined-nil (count + 1)))
     ∙ c.lines.invariant.tokens [] (inr refl)
     ∙ ap tokens_of (append-nil front) in
@@ -62,6 +63,6 @@ returns-clause-block c =
           sym (c.lines.invariant.tokens rest (inl here))
           ∙ ap (λ b. c.lines.tokens.items ++ coming b (joined (count + 1) rest)) fresh
           ∙ (λ i. (sym (append-nil c.lines.tokens.items) ∙ ap (λ ts. c.lines.tokens.items ++ ts) (sym (tokens_after-nil line_start)) ∙ ap (λ b. c.lines.tokens.items ++ coming b []) (sym fresh)
-          ∙ sym c.in_ok-finish.ensures ∙ cut) i ++ (tokens_of-behind count rest ∙ ap (λ n. moved_tokens n (tokens_of rest)) (sym (length-take-le count lines c.lines.invariant.within))) i) in
+          ∙ sym c.in_ok-finish.ensures ∙ sym c.shrink_to_fit.ensures.items ∙ cut) i ++ (tokens_of-behind count rest ∙ ap (λ n. moved_tokens n (tokens_of rest)) (sym (length-take-le count lines c.lines.invariant.within))) i) in
           record { some = w.is_end.ensures.some w.if-is_end.true; within = c.lines.invariant.within; own = cut; apart = inr apart }
     ]

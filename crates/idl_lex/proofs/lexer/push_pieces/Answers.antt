@@ -7,6 +7,8 @@ use Rattle.idl_lex.specs.Scan.{further}
 use Rattle.idl_lex.specs.Text.{bytes_of}
 use Rattle.idl_lex.specs.Tokens.{token_if, token_of, tokens_after}
 use Rattle.idl_lex.proofs.TokensLemmas.{length-bytes_of, piece_of, EndsAt, tokens_after-piece_of, tokens_after-comment, tokens_after-newline, opening-spelled}
+use Rattle.idl_lex.specs.Marks.{is_lone_mark}
+use Rattle.idl_lex.proofs.LoneLemmas.{tokens_after-lone}
 use Rattle.idl_lex.proofs.WordLemmas.{IsWordAt, IsWordAt-read, tokens_after-space}
 use Rattle.idl_lex.specs.Byte.{is_space}
 use Rattle.idl_lex.specs.Word.{is_word}
@@ -86,6 +88,28 @@ pieces-smaller-then-begins_word c =
     (sym c.is_space.ensures ∙ c.if-is_space.false) (sym c.begins_word.ensures ∙ c.if-begins_word.true) c.word_len-len.ensures.len in
     omega (arith, at.later, at.within)
 
+pub pieces-preserved-then-is_lone_mark : goal.pieces-preserved-then-is_lone_mark
+pieces-preserved-then-is_lone_mark c =
+    let line = c.args.line.now in
+    let i = c.pieces.i in
+    let now = c.pieces.now in
+    let same = c.as_bytes-bytes.ensures in
+    let b = get_or (bytes_of line) i 0 in
+    let within : i < length line = omega (arith, c.pieces-test.true, ap length same, length-bytes_of line) in
+    let lone : is_lone_mark b ≡ true = sym (c.is_lone_mark.ensures ∙ ap (λ bs. is_lone_mark (get_or bs i 0)) same) ∙ c.if-is_lone_mark.true in
+    let after : c.after_mark-now.result ≡ context_after now (b ∷ []) = c.after_mark-now.ensures b lone in
+    let token : c.mark.result ≡ token_of now (b ∷ []) (line_at line i) = c.mark.ensures ∙ (λ k. token_of now (get_or (same k) i 0 ∷ []) (c.line_at.ensures k)) in
+    record {
+      within = omega (arith, within);
+      closing = c.pieces.invariant.closing;
+      tokens = λ newline rest.
+          ap (λ ts. ts ++ tokens_after c.after_mark-now.result 0 (drop (i + 1) line ++ ended newline rest)) c.in_ok-push.ensures.items
+          ∙ append_assoc c.pieces.tokens.items (c.mark.result ∷ []) (tokens_after c.after_mark-now.result 0 (drop (i + 1) line ++ ended newline rest))
+          ∙ (λ k. c.pieces.tokens.items ++ (token k ∷ tokens_after (after k) 0 (drop (i + 1) line ++ ended newline rest)))
+          ∙ ap (λ ts. c.pieces.tokens.items ++ ts) (sym (tokens_after-lone now line i newline rest within lone))
+          ∙ c.pieces.invariant.tokens newline rest;
+    }
+
 pub returns-then-is_open : goal.returns-then-is_open
 returns-then-is_open c = λ newline rest.
     let line = c.args.line.now in
@@ -98,8 +122,8 @@ returns-then-is_open c = λ newline rest.
     let opened : is_open (piece_of line i end) ≡ true = sym (c.is_open.ensures ∙ ap (λ bs. is_open (take (end - i) (drop i bs))) same) ∙ c.if-is_open.true in
     let opening : c.new-opening.result ≡ token_of now (codes "/*") (line_at line i) =
     c.new-opening.ensures
-    ∙ ap (λ bs. token_of now bs c.line_at.result) (c.in_ok-spelling.ensures ∙ opening-spelled now line i end within is opened)
-    ∙ ap (λ n. token_of now (codes "/*") n) c.line_at.ensures in
+    ∙ ap (λ bs. token_of now bs c.line_at-then-is_open.result) (c.in_ok-spelling.ensures ∙ opening-spelled now line i end within is opened)
+    ∙ ap (λ n. token_of now (codes "/*") n) c.line_at-then-is_open.ensures in
     ap (λ ts. c.pieces.tokens.items ++ ts)
     (ap (λ t. after_comment t c.after.result rest) opening
     ∙ ap (λ x. after_comment (token_of now (codes "/*") (line_at line i)) x rest) c.after.ensures
