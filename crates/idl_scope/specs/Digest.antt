@@ -4,15 +4,15 @@ use Rattle.std.specs.Prelude.{ℕ, ◌+◌, ◌*◌, ◌/◌, ◌%◌, ◌^◌, 
 use Rattle.idl_base.specs.Digest.{mixed, with_bytes}
 use Rattle.idl_lex.specs.Keywords.{folded}
 
--- a digest behind the last 6 bits of another, which are its last: they choose first among answers
+-- a digest with the last 6 bits of another in place of its own: they choose first among answers
 unfoldable pub behind : ℕ → ℕ → ℕ
-behind first digest = digest % 2 ^ 58 * 64 + first % 64
+behind first digest = digest / 64 * 64 + first % 64
 
 -- of a folded name in a scope with this digest, behind a number that is no byte. What stands in one
 -- outermost scope has the last 6 bits of that, so that its answers lie together
 unfoldable pub under : ℕ → List ℕ → ℕ
 under scope name =
-    let whole = with_bytes (mixed (scope / 64) 258) name in
+    let whole = with_bytes (mixed scope 256) name in
     behind (if nat_eq scope 0 then whole / 2 ^ 58 else scope) whole
 
 -- of a path: of its folded names, from the outermost on

@@ -1,5 +1,5 @@
 -- When two keys are one, and what number a key is found by.
-use Rattle.std.specs.Prelude.{◌≡◌, ◌/◌, ℕ, Bool, true, refl}
+use Rattle.std.specs.Prelude.{◌≡◌, ℕ, Bool, true, refl}
 use Rattle.std.specs.Cmp.Lexicographic.{bytes_decides}
 use Rattle.std.proofs.Common.{ap}
 use Rattle.idl_base.specs.Exact.{both, same_number}
@@ -138,8 +138,8 @@ unfoldable pub key_digest : Key → ℕ
 key_digest Cursor = 257
 key_digest (Declared n path) = under (path_digest path) n
 key_digest (Introduced n path body) =
-    behind (path_digest path) (mixed (with_bytes (mixed (path_digest path / 64) 259) n) body)
-key_digest (Opened path) = behind (path_digest path) (mixed (path_digest path / 64) 260)
+    behind (path_digest path) (mixed (with_bytes (mixed (path_digest path) 259) n) body)
+key_digest (Opened path) = behind (path_digest path) (mixed (path_digest path) 260)
 key_digest Nameless = 261
 key_digest Prefix = 262
-key_digest (IdOf path) = behind (path_digest path) (mixed (path_digest path / 64) 263)
+key_digest (IdOf path) = behind (path_digest path) (mixed (path_digest path) 263)

@@ -10,7 +10,7 @@ use idl_base::{mixed, with_bytes};
 pub fn under(scope: u64, name: &[u8]) -> u64
     ensures { result ≡ under scope name.now }
 {
-    let whole = with_bytes(mixed(scope / 64, 258), name);
+    let whole = with_bytes(mixed(scope, 256), name);
     if scope == 0 {
         behind(whole / (1 << 58), whole)
     } else {
@@ -18,10 +18,10 @@ pub fn under(scope: u64, name: &[u8]) -> u64
     }
 }
 
-/// A digest behind the last 6 bits of another, by which it is found first.
+/// A digest with the last 6 bits of another in place of its own, by which it is found first.
 #[tactic(auto, unfolding(crate::specs::Digest::behind))]
 pub fn behind(first: u64, digest: u64) -> u64
     ensures { result ≡ behind first digest }
 {
-    digest % (1 << 58) * 64 + first % 64
+    digest / 64 * 64 + first % 64
 }

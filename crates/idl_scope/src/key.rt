@@ -72,13 +72,13 @@ impl Digest for Key {
             Key::Cursor => 257,
             Key::Declared(name, path) => under(path.digest(), name.as_bytes()),
             Key::Introduced(name, path, body) => {
-                let named = with_bytes(mixed(path.digest() / 64, 259), name.as_bytes());
+                let named = with_bytes(mixed(path.digest(), 259), name.as_bytes());
                 behind(path.digest(), mixed(named, *body as u64))
             }
-            Key::Opened(path) => behind(path.digest(), mixed(path.digest() / 64, 260)),
+            Key::Opened(path) => behind(path.digest(), mixed(path.digest(), 260)),
             Key::Nameless => 261,
             Key::Prefix => 262,
-            Key::IdOf(path) => behind(path.digest(), mixed(path.digest() / 64, 263)),
+            Key::IdOf(path) => behind(path.digest(), mixed(path.digest(), 263)),
         }
     }
 }
