@@ -124,6 +124,20 @@ impl<K: Datum + Ord, V: Drop> Table<K, V> {
         ensures entries { OnOk result (self.new ≡ self.old ++ (key, value) ∷ []) }
         ensures err { OnErr result (self.new ≡ self.old) }
     {
+        if self.index.is_none() && self.entries.len() < FEW {
+            self.entries.push((key, value))?;
+            return Ok(());
+        }
+        self.push_indexed(key, value)
+    }
+
+    // The same, where an index is there or is made. It stands apart, since most tables stay small.
+    #[inline(never)]
+    fn push_indexed(&mut self, key: K, value: V) -> Result<(), AllocError>
+        requires { is_some (lookup (K.eq key) self.old) ≡ false }
+        ensures entries { OnOk result (self.new ≡ self.old ++ (key, value) ∷ []) }
+        ensures err { OnErr result (self.new ≡ self.old) }
+    {
         self.index_many()?;
         let place = self.entries.len();
         self.entries.reserve(1)?;

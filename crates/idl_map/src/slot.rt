@@ -3,6 +3,7 @@
 ghost use Rattle.std.specs.Prelude.{◌≡◌, ◌<◌, ◌≤◌, ◌+◌, ◌-◌, ◌∷◌, [], IfOk, OnOk, OnErr, Some, if◌then◌else◌};
 ghost use Rattle.std.specs.Map.{lookup};
 ghost use Rattle.std.specs.Option.{option_copied};
+ghost use Rattle.idl_map.specs.declared.slot.Slot.TheVariants.{One};
 ghost use Rattle.idl_map.specs.Slots.{IsDivided, IsOneAt, choice, empty_branch, slot_entries, slot_size};
 
 use crate::Digest;
@@ -103,6 +104,9 @@ pub struct Place {
 }
 
 /// Puts in an entry whose key has the digest of the place. Want of memory leaves what each key has.
+///
+/// Most slots on the way are branches. What is done at the others stands in functions of its own, so that the way down is a
+/// loop without a frame at each level.
 pub fn insert<K: Digest + Ord, V: Datum>(
     slot: &mut Slot<K, V>,
     alloc: Global,
@@ -123,19 +127,40 @@ pub fn insert<K: Digest + Ord, V: Datum>(
     divide(slot, alloc, place.shift, &entry.0)?;
     match slot {
         Slot::Empty | Slot::One(_) => {
-            *slot = Slot::One(entry);
+            hold(slot, entry);
             Ok(())
         }
-        Slot::Few(table) => {
-            let (key, value) = Box::into_inner(entry);
-            table.insert(key, value)
-        }
+        Slot::Few(table) => put_among(table, entry),
         Slot::Many(shift, boxed) => {
             let index = choice(*shift, place.digest);
             let branch: &mut Branch<K, V> = boxed;
             insert(&mut branch.slots[index], alloc, below(place), entry)
         }
     }
+}
+
+// Holds the entry alone.
+#[inline(never)]
+fn hold<K: Digest + Ord, V: Datum>(slot: &mut Slot<K, V>, entry: Box<(K, V)>)
+    ensures { slot.new ≡ One entry }
+{
+    *slot = Slot::One(entry);
+}
+
+// Puts the entry into a table.
+#[inline(never)]
+fn put_among<K: Digest + Ord, V: Datum>(
+    table: &mut Table<K, V>,
+    entry: Box<(K, V)>,
+) -> Result<(), AllocError>
+    ensures each_key { OnOk result
+        ((k : K)
+        → lookup (K.eq k) table.new
+        ≡ (if K.eq k entry.value.0 then Some entry.value.1 else lookup (K.eq k) table.old)) }
+    ensures err { OnErr result (table.new ≡ table.old) }
+{
+    let (key, value) = Box::into_inner(entry);
+    table.insert(key, value)
 }
 
 // The place a level below.
@@ -163,6 +188,26 @@ fn divide<K: Digest + Ord, V: Datum>(
     ensures bits { slot_size slot.new + (30 - (shift + 3)) ≤ slot_size slot.old + (30 - shift) }
     ensures one { OnOk result (IsOneAt key.now slot.new) }
 {
+    match slot {
+        Slot::One(_) => divide_from(slot, alloc, shift, key),
+        _ => Ok(()),
+    }
+}
+
+// The same of a slot with one entry.
+#[inline(never)]
+fn divide_from<K: Digest + Ord, V: Datum>(
+    slot: &mut Slot<K, V>,
+    alloc: Global,
+    shift: u32,
+    key: &K,
+) -> Result<(), AllocError>
+    ensures each_key { (k : K)
+        → lookup (K.eq k) (slot_entries K.digest_of slot.new)
+        ≡ lookup (K.eq k) (slot_entries K.digest_of slot.old) }
+    ensures bits { slot_size slot.new + (30 - (shift + 3)) ≤ slot_size slot.old + (30 - shift) }
+    ensures one { OnOk result (IsOneAt key.now slot.new) }
+{
     let Slot::One(other) = &*slot else {
         return Ok(());
     };
@@ -172,9 +217,7 @@ fn divide<K: Digest + Ord, V: Datum>(
     divide_one(slot, alloc, shift)
 }
 
-// Makes a branch, or a table, of a slot with one entry. It stands apart, since most slots that an entry comes through are
-// branches.
-#[inline(never)]
+// Makes a branch, or a table, of a slot with one entry.
 fn divide_one<K: Digest + Ord, V: Datum>(
     slot: &mut Slot<K, V>,
     alloc: Global,

@@ -1,20 +1,21 @@
 -- Digests of paths: numbers of 64 bits by which answers are found. No promise rests on how they are
 -- spread.
-use Rattle.std.specs.Prelude.{ℕ, ◌+◌, ◌*◌, ◌/◌, ◌%◌, ◌^◌, List, [], ◌∷◌}
+use Rattle.std.specs.Prelude.{ℕ, ◌+◌, ◌*◌, ◌/◌, ◌%◌, ◌^◌, List, [], ◌∷◌, if◌then◌else◌, nat_eq}
 use Rattle.idl_base.specs.Digest.{mixed, with_bytes}
+use Rattle.idl_lex.specs.Keywords.{folded}
 
--- of a path: from the outermost name on, each behind a number that is no byte
+-- a digest with the last 6 bits of another in place of its own: they choose first among answers
+unfoldable pub behind : ℕ → ℕ → ℕ
+behind first digest = digest / 64 * 64 + first % 64
+
+-- of a folded name in a scope with this digest, behind a number that is no byte. What stands in one
+-- outermost scope has the last 6 bits of that, so that its answers lie together
+unfoldable pub under : ℕ → List ℕ → ℕ
+under scope name =
+    let whole = with_bytes (mixed scope 256) name in
+    behind (if nat_eq scope 0 then whole / 2 ^ 58 else scope) whole
+
+-- of a path: of its folded names, from the outermost on
 unfoldable pub path_digest : List (List ℕ) → ℕ
 path_digest [] = 0
-path_digest (name ∷ scope) = with_bytes (mixed (path_digest scope) 256) name
-
--- of the outermost scope around: of the path of the outermost name alone
-unfoldable pub outermost_digest : List (List ℕ) → ℕ
-outermost_digest [] = 0
-outermost_digest (name ∷ []) = path_digest (name ∷ [])
-outermost_digest (name ∷ outer ∷ scope) = outermost_digest (outer ∷ scope)
-
--- a digest behind 6 bits of that of an outermost scope, which are its last: they choose first among
--- answers, so that those of one outermost scope lie together
-unfoldable pub behind : ℕ → ℕ → ℕ
-behind outermost digest = digest % 2 ^ 58 * 64 + outermost / 2 ^ 58
+path_digest (name ∷ scope) = under (path_digest scope) (folded name)

@@ -4,7 +4,7 @@ use Rattle.std.specs.Cmp.Lexicographic.{bytes_decides}
 use Rattle.std.proofs.Common.{ap}
 use Rattle.idl_base.specs.Exact.{both, same_number}
 use Rattle.idl_base.specs.Digest.{mixed, with_bytes}
-use Rattle.idl_scope.specs.Digest.{behind, outermost_digest, path_digest}
+use Rattle.idl_scope.specs.Digest.{behind, path_digest, under}
 use Rattle.idl_scope.specs.Path.{same_path}
 use Rattle.idl_scope.specs.contracts.key.KeyPartialEq.TheImpl.{ghosts}
 use Rattle.idl_scope.specs.declared.key.Key.{Key}
@@ -136,11 +136,10 @@ copied_key (IdOf p) (IdOf q) h = ap IdOf h
 -- the digest of a key: of the path and the name, with a number that is no byte for what is asked
 unfoldable pub key_digest : Key → ℕ
 key_digest Cursor = 257
-key_digest (Declared n path) =
-    behind (outermost_digest path) (with_bytes (mixed (path_digest path) 258) n)
+key_digest (Declared n path) = under (path_digest path) n
 key_digest (Introduced n path body) =
-    behind (outermost_digest path) (mixed (with_bytes (mixed (path_digest path) 259) n) body)
-key_digest (Opened path) = behind (outermost_digest path) (mixed (path_digest path) 260)
+    behind (path_digest path) (mixed (with_bytes (mixed (path_digest path) 259) n) body)
+key_digest (Opened path) = behind (path_digest path) (mixed (path_digest path) 260)
 key_digest Nameless = 261
 key_digest Prefix = 262
-key_digest (IdOf path) = behind (outermost_digest path) (mixed (path_digest path) 263)
+key_digest (IdOf path) = behind (path_digest path) (mixed (path_digest path) 263)

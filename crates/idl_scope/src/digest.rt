@@ -1,23 +1,27 @@
 //! Digests of paths, and of what is found by its outermost scope first.
 
-ghost use Rattle.std.specs.Prelude.{◌≡◌, ◌∷◌, [], List, ℕ};
-ghost use Rattle.idl_scope.specs.Digest.{behind, path_digest};
+ghost use Rattle.std.specs.Prelude.{◌≡◌};
+ghost use Rattle.idl_scope.specs.Digest.{behind, under};
 
 use idl_base::{mixed, with_bytes};
 
-/// The digest of the path of a name, from that of the scope around.
-#[tactic(auto, unfolding(crate::specs::Digest::path_digest))]
-pub fn with_child(scope: u64, name: &[u8]) -> u64
-    ensures { (path : List (List ℕ))
-        → path_digest path ≡ scope → result ≡ path_digest (name.now ∷ path) }
+/// The digest of a folded name in the scope with this digest.
+#[tactic(auto, unfolding(crate::specs::Digest::under))]
+pub fn under(scope: u64, name: &[u8]) -> u64
+    ensures { result ≡ under scope name.now }
 {
-    with_bytes(mixed(scope, 256), name)
+    let whole = with_bytes(mixed(scope, 256), name);
+    if scope == 0 {
+        behind(whole / (1 << 58), whole)
+    } else {
+        behind(scope, whole)
+    }
 }
 
-/// A digest behind 6 bits of that of an outermost scope, by which it is found first.
+/// A digest with the last 6 bits of another in place of its own, by which it is found first.
 #[tactic(auto, unfolding(crate::specs::Digest::behind))]
-pub fn behind(outermost: u64, digest: u64) -> u64
-    ensures { result ≡ behind outermost digest }
+pub fn behind(first: u64, digest: u64) -> u64
+    ensures { result ≡ behind first digest }
 {
-    digest % (1 << 58) * 64 + outermost / (1 << 58)
+    digest / 64 * 64 + first % 64
 }

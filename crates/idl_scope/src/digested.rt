@@ -1,12 +1,16 @@
 //! Keys with their digests beside them.
 
 ghost use Rattle.std.specs.Prelude.{◌≡◌, Some, refl};
+ghost use Rattle.idl_scope.specs.Digest.{path_digest, under};
 ghost use Rattle.idl_scope.specs.Digested.{key_cmp, key_cmp_po, key_cmp_ties, key_cmp_total, key_equiv, key_per};
 ghost use Rattle.idl_scope.specs.Key.{key_digest, key_eq, same_key};
 ghost use Rattle.idl_scope.specs.contracts.key.KeyOrd.TheImpl.{ghosts as own_order};
+ghost use Rattle.idl_scope.specs.declared.key.Key.TheVariants.{Declared};
 
 use crate::key::Key;
+use crate::path::Path;
 use idl_base::Datum;
+use idl_lex::Spelling;
 use idl_map::Digest;
 use std::alloc::AllocError;
 use std::cmp::Ordering;
@@ -39,6 +43,16 @@ impl DigestedKey {
         ensures { result ≡ key }
     {
         let digest = key.digest();
+        DigestedKey { digest, key }
+    }
+
+    /// What a folded name is declared as in the scope at a path, with the digest of the name there.
+    #[tactic(auto, unfolding(crate::specs::Key::key_digest))]
+    pub(crate) fn declared(digest: u64, name: Spelling, scope: Path) -> DigestedKey
+        requires { digest ≡ under (path_digest scope) name }
+        ensures { result ≡ Declared name scope }
+    {
+        let key = Key::Declared(name, scope);
         DigestedKey { digest, key }
     }
 }

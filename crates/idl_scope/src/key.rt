@@ -3,7 +3,7 @@
 ghost use Rattle.std.specs.Prelude.{◌≡◌, IfOk};
 ghost use Rattle.idl_scope.specs.Facts.{entity_key};
 
-use crate::digest::behind;
+use crate::digest::{behind, under};
 use crate::digested::DigestedKey;
 use crate::path::Path;
 use idl_base::{Datum, mixed, with_bytes};
@@ -57,7 +57,7 @@ impl Key {
     {
         let name = path.folded(alloc)?;
         let scope = path.scope()?;
-        Ok(DigestedKey::of(Key::Declared(name, scope)))
+        Ok(DigestedKey::declared(path.entity_digest(), name, scope))
     }
 }
 
@@ -70,18 +70,15 @@ impl Digest for Key {
     fn digest(&self) -> u64 {
         match self {
             Key::Cursor => 257,
-            Key::Declared(name, path) => {
-                let named = with_bytes(mixed(path.digest(), 258), name.as_bytes());
-                behind(path.outermost_digest(), named)
-            }
+            Key::Declared(name, path) => under(path.digest(), name.as_bytes()),
             Key::Introduced(name, path, body) => {
                 let named = with_bytes(mixed(path.digest(), 259), name.as_bytes());
-                behind(path.outermost_digest(), mixed(named, *body as u64))
+                behind(path.digest(), mixed(named, *body as u64))
             }
-            Key::Opened(path) => { behind(path.outermost_digest(), mixed(path.digest(), 260)) }
+            Key::Opened(path) => behind(path.digest(), mixed(path.digest(), 260)),
             Key::Nameless => 261,
             Key::Prefix => 262,
-            Key::IdOf(path) => behind(path.outermost_digest(), mixed(path.digest(), 263)),
+            Key::IdOf(path) => behind(path.digest(), mixed(path.digest(), 263)),
         }
     }
 }

@@ -11,6 +11,7 @@ ghost use Rattle.idl_scope.specs.declared.lookup.TheConstants.{TURNS};
 
 use crate::addition::Addition;
 use crate::answer::{Answer, Scope, entity_in, identity_in, prefix_in};
+use crate::digest::under;
 use crate::digested::DigestedKey;
 use crate::entity::Entity;
 use crate::env::Env;
@@ -116,7 +117,8 @@ impl<'a> View<'a> {
         ensures logged { OnOk result
             (log.new ≡ noted key_eq (answers self.entry.env.now) log.old (Declared name.now path.now)) }
     {
-        let key = DigestedKey::of(Key::Declared(name.clone()?, path.clone()?));
+        let digest = under(path.digest(), name.as_bytes());
+        let key = DigestedKey::declared(digest, name.clone()?, path.clone()?);
         self.entity(log, &key)
     }
 

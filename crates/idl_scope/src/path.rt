@@ -8,10 +8,10 @@ ghost use Rattle.std.specs.Ordering.{nat_cmp};
 ghost use Rattle.std.specs.Str.{bytes_eq};
 ghost use Rattle.std.proofs.Common.{ap};
 ghost use Rattle.idl_lex.specs.Keywords.{folded};
-ghost use Rattle.idl_scope.specs.Digest.{outermost_digest, path_digest};
+ghost use Rattle.idl_scope.specs.Digest.{path_digest, under};
 ghost use Rattle.idl_scope.specs.Path.{name_of, path_eq, path_of, same_path, scope_of};
 
-use crate::digest::with_child;
+use crate::digest::under;
 use crate::name::{folded_name, shared_name};
 use idl_base::Datum;
 use idl_lex::Spelling;
@@ -40,20 +40,18 @@ impl Model for Path {
     ghost view = { λ path. path_of path.innermost };
 }
 
-// A name of a path with the path around, and beside it its folded form, the digest of the path from there on, and that of
-// its outermost scope.
+// A name of a path with the path around, and beside it its folded form and the digest of the path from there on.
 struct Part {
     name: Spelling,
     folded_name: Spelling,
     digest: u64,
-    outermost: u64,
     around: Option<Rc<Part>>,
 }
 
 impl Model for Part {
     ghost use Rattle.std.specs.Prelude.{List, ℕ, ◌≡◌, ◌∷◌, length};
     ghost use Rattle.idl_lex.specs.Keywords.{folded};
-    ghost use Rattle.idl_scope.specs.Digest.{outermost_digest, path_digest};
+    ghost use Rattle.idl_scope.specs.Digest.{path_digest};
     ghost use Rattle.idl_scope.specs.Path.{path_of};
 
     ghost Value = { List ℕ × List (List ℕ) };
@@ -62,8 +60,7 @@ impl Model for Part {
 
     ghost invariant = { λ part.
         (part.folded_name ≡ folded part.name)
-        × (part.digest ≡ path_digest (part.name ∷ path_of part.around))
-        × (part.outermost ≡ outermost_digest (part.name ∷ path_of part.around)) };
+        × (part.digest ≡ path_digest (part.name ∷ path_of part.around)) };
 
     ghost size = { λ seen. length seen.1 };
 
@@ -94,7 +91,6 @@ impl Part {
             name: _name,
             folded_name: _folded_name,
             digest: _digest,
-            outermost: _outermost,
             around,
         } = self;
         around
@@ -110,35 +106,22 @@ impl Path {
     }
 
     /// The path of a name in the scope with this path.
+    #[tactic(auto, unfolding(crate::specs::Digest::path_digest))]
     pub fn child(&self, alloc: Global, name: &Spelling) -> Result<Path, AllocError>
         ensures { IfOk result (λ path. path ≡ name.now ∷ self.now) }
     {
         let folded_name = folded_name(alloc, name.as_bytes())?;
-        let digest = with_child(self.digest(), name.as_bytes());
-        let outermost = self.outermost_around(digest);
+        let digest = under(self.digest(), folded_name.as_bytes());
         let name = name.clone()?;
         let around = self.innermost.clone()?;
         let part = Part {
             name,
             folded_name,
             digest,
-            outermost,
             around,
         };
         let innermost = Some(Rc::new(alloc, part)?);
         Ok(Path { innermost })
-    }
-
-    // The digest of the outermost scope around what stands here with this digest.
-    #[tactic(auto, unfolding(crate::specs::Digest::outermost_digest))]
-    fn outermost_around(&self, digest: u64) -> u64
-        ensures { (name : List ℕ) → digest ≡ path_digest (name ∷ self.now)
-            → result ≡ outermost_digest (name ∷ self.now) }
-    {
-        match &self.innermost {
-            None => digest,
-            Some(part) => part.outermost,
-        }
     }
 
     /// The names, the innermost first.
@@ -175,14 +158,14 @@ impl Path {
         }
     }
 
-    /// The digest of the outermost scope around, or of a path of one name that path's own.
-    #[tactic(auto, unfolding(crate::specs::Digest::outermost_digest))]
-    pub fn outermost_digest(&self) -> u64
-        ensures { result ≡ outermost_digest self.now }
+    /// The digest of its own name, folded, in the scope around.
+    #[tactic(auto, unfolding(crate::specs::Digest::path_digest))]
+    pub(crate) fn entity_digest(&self) -> u64
+        ensures { result ≡ under (path_digest (scope_of self.now)) (folded (name_of self.now)) }
     {
         match &self.innermost {
-            None => 0,
-            Some(part) => part.outermost,
+            None => under(0, &[]),
+            Some(part) => part.digest,
         }
     }
 
