@@ -12,7 +12,10 @@ abbrev pub Numbered : Type 0
 Numbered = ℕ × Event
 
 abbrev pub site_at : ℕ → Place → Site
-site_at n place = record { event = n; place = place }
+site_at n place = record { file = place.file; line = place.line; event = n }
+
+abbrev pub place_in : Site → Place
+place_in site = record { file = site.file; line = site.line }
 
 -- the token that an event is: one, or none
 abbrev pub token_in : Numbered → List Token
@@ -42,7 +45,7 @@ others_in events = flat_map other_in events
 abbrev pub emitted : List Site → List Token → List Event
 emitted [] tokens = []
 emitted (site ∷ sites) [] = []
-emitted (site ∷ sites) (token ∷ tokens) = event.Emitted site.place token ∷ emitted sites tokens
+emitted (site ∷ sites) (token ∷ tokens) = event.Emitted (place_in site) token ∷ emitted sites tokens
 
 -- an event more, at its number
 abbrev pub with_event : List Event → Numbered → List Event

@@ -132,7 +132,7 @@ impl<'a> Iterator for Events<'a> {
                 let site = self.sites.get(self.tokens_passed)?;
                 let token = self.text.get(self.tokens_passed)?;
                 self.tokens_passed += 1;
-                Some((number, Told::Emitted(&site.place, token)))
+                Some((number, Told::Emitted(site, token)))
             }
         }
     }

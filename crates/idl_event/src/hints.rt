@@ -1,7 +1,5 @@
 //! Where logged keys may stand.
 
-use crate::key::Key;
-use idl_map::Digest;
 use std::alloc::{AllocError, Global};
 
 // So many numbers there are, by one of which a key is found.
@@ -60,11 +58,6 @@ impl Hints {
         }
         Ok(())
     }
-}
-
-/// The digest of a key; that of a macro's word is the digest of its bytes alone.
-pub fn digest_of(key: &Key) -> u64 {
-    key.digest()
 }
 
 // The number of the keys with a digest.

@@ -8,17 +8,17 @@ ghost use Rattle.idl_event.specs.Key.{key_eq};
 ghost use Rattle.idl_event.specs.Limits.{turns_at_most};
 ghost use Rattle.idl_event.specs.declared.event.Event.TheVariants.{Emitted};
 ghost use Rattle.idl_event.specs.declared.event.Item.TheVariants.{Kept};
+ghost use Rattle.idl_event.specs.declared.key.Key.TheVariants.{Macro};
 
 use crate::allowance::Allowance;
 use crate::builder::ExpansionBuilder;
 use crate::code::Code;
 use crate::event::{Event, Item};
 use crate::hinted_log::HintedLog;
-use crate::hints::digest_of;
 use crate::key::{Answer, Key};
 use crate::place::Place;
 use crate::root_bank::RootBank;
-use idl_lex::Token;
+use idl_lex::{Spelling, Token};
 use idl_memo::{Bank, Log};
 use std::alloc::{AllocError, Global};
 use std::marker::Model;
@@ -123,24 +123,28 @@ impl<B: RootBank> Progress<B> {
         ensures answer { IfOk result (λ answer. option_copied answer ≡ B.at bank.now key.now) }
         ensures progress { OnOk result (self.new ≡ after_key key_eq (B.at bank.now) key.now self.old) }
     {
-        self.ask_by(key, digest_of(key), bank)
-    }
-
-    /// The same as `ask`, for who has a digest of the key at hand. A key is found soon where it always comes with the same, and
-    /// with another one the answer is no other.
-    pub fn ask_by<'b>(
-        &mut self,
-        key: &Key,
-        digest: u64,
-        bank: &'b B,
-    ) -> Result<Option<&'b Answer>, AllocError>
-        ensures answer { IfOk result (λ answer. option_copied answer ≡ B.at bank.now key.now) }
-        ensures progress { OnOk result (self.new ≡ after_key key_eq (B.at bank.now) key.now self.old) }
-    {
         if self.left.is_none() {
             return Ok(bank.answer(key));
         }
-        self.log.ask(key, digest, bank)
+        self.log.ask(key, bank)
+    }
+
+    /// The same at the key of a macro's word, for who has a digest of the word at hand. The word is found soon where it always
+    /// comes with the same, and with another one the answer is no other.
+    pub fn ask_word<'b>(
+        &mut self,
+        word: &Spelling,
+        digest: u64,
+        bank: &'b B,
+    ) -> Result<Option<&'b Answer>, AllocError>
+        ensures answer { IfOk result (λ answer. option_copied answer ≡ B.at bank.now (Macro word.now)) }
+        ensures progress { OnOk result
+            (self.new ≡ after_key key_eq (B.at bank.now) (Macro word.now) self.old) }
+    {
+        if self.left.is_none() {
+            return Ok(bank.answer(&Key::Macro(word.clone()?)));
+        }
+        self.log.ask_word(word, digest, bank)
     }
 }
 

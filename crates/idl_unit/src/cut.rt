@@ -67,7 +67,7 @@ impl<'a> Cut<'a> {
             ≡ to_come self.old ((number, event_told event.entry) ∷ events)) }
     {
         match event {
-            Told::Emitted(_place, _token) => self.put_token(),
+            Told::Emitted(_site, _token) => self.put_token(),
             Told::Other(event) => self.put_other(alloc, number, event),
         }
     }
@@ -139,10 +139,14 @@ impl<'a> Cut<'a> {
 fn one_site(alloc: Global, event: usize, place: &Place) -> Result<Run<Site>, AllocError>
     ensures { IfOk result (λ sites. sites ≡ site_at event place.now ∷ []) }
 {
+    let Ok(event) = u32::try_from(event) else {
+        return Err(AllocError);
+    };
     let mut sites = Vec::new(alloc);
     sites.push(Site {
+        file: place.file.clone()?,
+        line: place.line,
         event,
-        place: place.clone()?,
     })?;
     Ok(Run::new(Rc::new(alloc, sites)?, 0, 1))
 }
