@@ -74,6 +74,13 @@ pub record StandApart (sites : List Site) (tokens : List Token) (others : List N
 abbrev pub events_from : ℕ → List Event → List Numbered
 events_from n events = enumerate_from n (drop n events)
 
+-- so many tokens come first, and then the rest
+pub record TokensFirst (count : ℕ) (events rest : List Numbered) : Type 0 where
+  pub tokens : List Numbered
+  pub long : length tokens ≡ count
+  pub alone : others_in tokens ≡ []
+  pub all : events ≡ tokens ++ rest
+
 -- so many tokens and so many other events were passed by
 pub record ArePassed (sites : List Site) (tokens : List Token) (others : List Numbered) (n k : ℕ)
     : Type 0 where

@@ -53,11 +53,7 @@ impl<B: RootBank> HintedLog<B> {
     /// The bank's answer at a key, which is logged with the key unless the key was asked before.
     ///
     /// After want of memory nothing is said of the log.
-    pub fn ask<'b>(
-        &mut self,
-        key: &Key,
-        bank: &'b B,
-    ) -> Result<Option<&'b Answer>, AllocError>
+    pub fn ask<'b>(&mut self, key: &Key, bank: &'b B) -> Result<Option<&'b Answer>, AllocError>
         ensures answer { IfOk result (λ answer. option_copied answer ≡ B.at bank.now key.now) }
         ensures logged { OnOk result (self.new ≡ noted key_eq (B.at bank.now) self.old key.now) }
     {
