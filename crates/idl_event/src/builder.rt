@@ -53,9 +53,10 @@ impl ExpansionBuilder {
     }
 
     /// A token of the text more, at its place.
-    pub fn push_token(&mut self, place: Place, token: Token) -> Result<(), AllocError>
-        ensures { OnOk result (self.new ≡ self.old ++ Emitted place token ∷ []) }
+    pub fn push_token(&mut self, place: Place, token: &Token) -> Result<(), AllocError>
+        ensures { OnOk result (self.new ≡ self.old ++ Emitted place token.now ∷ []) }
     {
+        let token = token.clone()?;
         let Ok(event) = u32::try_from(self.sites.len() + self.others.len()) else {
             return Err(AllocError);
         };
@@ -74,7 +75,7 @@ impl ExpansionBuilder {
         ensures { OnOk result (self.new ≡ self.old ++ event ∷ []) }
     {
         match event {
-            Event::Emitted(place, token) => self.push_token(place, token),
+            Event::Emitted(place, token) => self.push_token(place, &token),
             other => {
                 let number = self.sites.len() + self.others.len();
                 self.others.push((number, other))?;

@@ -105,8 +105,9 @@ impl<B: RootBank> Progress<B> {
     }
 
     /// A token of the text more, at its place: most items are such, and this does the same with one as `tell`, at less cost.
-    pub fn emit(&mut self, place: Place, token: Token) -> Result<(), AllocError>
-        ensures { OnOk result (self.new ≡ after_item rules (Kept (Emitted place token)) self.old) }
+    pub fn emit(&mut self, place: Place, token: &Token) -> Result<(), AllocError>
+        ensures { OnOk result
+            (self.new ≡ after_item rules (Kept (Emitted place token.now)) self.old) }
     {
         let Some(left) = self.left else {
             return Ok(());
