@@ -10,7 +10,6 @@ use crate::hints::Hints;
 use crate::key::{Answer, Key};
 use crate::root_bank::RootBank;
 use idl_lex::Spelling;
-use idl_map::Digest;
 use idl_memo::{Bank, Log};
 use std::alloc::{AllocError, Global};
 use std::marker::Model;
@@ -57,7 +56,7 @@ impl<B: RootBank> HintedLog<B> {
         ensures answer { IfOk result (λ answer. option_copied answer ≡ B.at bank.now key.now) }
         ensures logged { OnOk result (self.new ≡ noted key_eq (B.at bank.now) self.old key.now) }
     {
-        self.look_up(key, key.digest(), bank)
+        self.log.ask(key, bank)
     }
 
     /// The same at the key of a macro's word, for who has a digest of the word at hand. The word is found soon where it always
@@ -75,21 +74,8 @@ impl<B: RootBank> HintedLog<B> {
         if let Some(key) = self.logged(word, digest) {
             return Ok(bank.answer(key));
         }
-        self.look_up(&Key::Macro(word.clone()?), digest, bank)
-    }
-
-    // The same, where no hint helps.
-    fn look_up<'b>(
-        &mut self,
-        key: &Key,
-        digest: u64,
-        bank: &'b B,
-    ) -> Result<Option<&'b Answer>, AllocError>
-        ensures answer { IfOk result (λ answer. option_copied answer ≡ B.at bank.now key.now) }
-        ensures logged { OnOk result (self.new ≡ noted key_eq (B.at bank.now) self.old key.now) }
-    {
         let place = self.log.len();
-        let answer = self.log.ask(key, bank)?;
+        let answer = self.log.ask(&Key::Macro(word.clone()?), bank)?;
         if place < self.log.len() {
             self.hints.note(digest, place)?;
         }
