@@ -1,10 +1,10 @@
 -- Events whose tokens stand apart: one more, and the walk over them.
-use Rattle.std.proofs.Common.{◌≡◌, ◌≢◌, ◌∙◌, ℕ, zero, suc, ◌+◌, ◌≤◌, List, [], ◌∷◌, ◌++◌, None, Some, slice_get, length, drop, refl, sym, ap, subst, arith, append_assoc, append-nil}
+use Rattle.std.proofs.Common.{◌≡◌, ◌≢◌, ◌∙◌, ℕ, zero, suc, ◌+◌, ◌-◌, ◌<◌, ◌≤◌, List, [], ◌∷◌, ◌++◌, None, Some, slice_get, length, drop, refl, sym, ap, subst, arith, append_assoc, append-nil}
 use Rattle.std.specs.Prelude.{flat_map}
 use Rattle.std.specs.List.{enumerate_from, fold}
 use Rattle.std.proofs.lemmas.List.{drop_at, drop-drop, take_at}
 use Rattle.std.proofs.lemmas.List.Sums.{fold-append}
-use Rattle.idl_event.specs.Apart.{AreApart, ArePassed, Numbered, StandApart, emitted, events_from, other_in, others_in, site_at, site_in, sites_in, token_in, tokens_in, with_event, woven}
+use Rattle.idl_event.specs.Apart.{AreApart, ArePassed, Numbered, StandApart, TokensFirst, emitted, events_from, other_in, others_in, place_in, site_at, site_in, sites_in, token_in, tokens_in, with_event, woven}
 use Rattle.idl_event.specs.declared.event.Event.{Event}
 use Rattle.idl_event.specs.declared.event.Event.TheVariants as event
 use Rattle.idl_event.specs.declared.place.Place.{Place}
@@ -61,11 +61,11 @@ length-apart sites tokens others events a = (
 )
 
 emitted-push : (sites : List Site) (tokens : List Token) (site : Site) (token : Token) → length sites ≡ length tokens
-    → emitted (sites ++ site ∷ []) (tokens ++ token ∷ []) ≡ emitted sites tokens ++ event.Emitted site.place token ∷ []
+    → emitted (sites ++ site ∷ []) (tokens ++ token ∷ []) ≡ emitted sites tokens ++ event.Emitted (place_in site) token ∷ []
 emitted-push [] [] site token long = refl
 emitted-push [] (t ∷ tokens) site token long = absurd (omega (arith, long))
 emitted-push (s ∷ sites) [] site token long = absurd (omega (arith, long))
-emitted-push (s ∷ sites) (t ∷ tokens) site token long = ap (λ l. event.Emitted s.place t ∷ l) (emitted-push sites tokens site token (omega (arith, long)))
+emitted-push (s ∷ sites) (t ∷ tokens) site token long = ap (λ l. event.Emitted (place_in s) t ∷ l) (emitted-push sites tokens site token (omega (arith, long)))
 
 pub stand_apart-none : StandApart [] [] []
 stand_apart-none = record { all = record { are_sites = refl; are_tokens = refl; are_others = refl }; later = λ more. refl }
@@ -194,7 +194,7 @@ comes-other n (event.Pragma place text ∷ next) e sites tokens others a = comes
 comes-other n (event.Fault place code text ∷ next) e sites tokens others a = comes-that n next e (event.Fault place code text) sites tokens others a.are_sites a.are_tokens a.are_others
 
 comes-token : (n : ℕ) (rest : List Event) (site : Site) (token : Token) (sites : List Site) (tokens : List Token) (others : List Numbered) → IsNoOther n others
-    → AreApart (site ∷ sites) (token ∷ tokens) others (enumerate_from n rest) → Comes n rest (event.Emitted site.place token) sites tokens others
+    → AreApart (site ∷ sites) (token ∷ tokens) others (enumerate_from n rest) → Comes n rest (event.Emitted (place_in site) token) sites tokens others
 comes-token n [] site token sites tokens others none a = absurd (let is = a.are_sites in cc)
 comes-token n (event.Emitted place t ∷ next) site token sites tokens others none a =
     let are_sites : site ∷ sites ≡ site_at n place ∷ sites_in (enumerate_from (n + 1) next) = a.are_sites in
@@ -205,7 +205,7 @@ comes-token n (event.Emitted place t ∷ next) site token sites tokens others no
     let rest_tokens : tokens ≡ tokens_in (enumerate_from (n + 1) next) = cc in (
       next,
       (
-        ap (λ p. event.Emitted p t ∷ next) (sym (ap (λ s. s.place) at)) ∙ ap (λ u. event.Emitted site.place u ∷ next) same,
+        ap (λ p. event.Emitted p t ∷ next) (sym (ap place_in at)) ∙ ap (λ u. event.Emitted (place_in site) u ∷ next) same,
         record { are_sites = rest_sites; are_tokens = rest_tokens; are_others = a.are_others },
       ),
     )
@@ -279,12 +279,12 @@ module _ (sites : List Site) (tokens : List Token) (others : List Numbered) (i k
 
   -- it is a token
   pub passed-token : (site : Site) (token : Token) → ((e : Event) → slice_get others k ≢ Some (i + k, e)) → slice_get sites i ≡ Some site → slice_get tokens i ≡ Some token
-      → (events_from (i + k) events ≡ (i + k, event.Emitted site.place token) ∷ events_from (i + 1 + k) events) × ArePassed sites tokens others (i + 1) k
+      → (events_from (i + k) events ≡ (i + k, event.Emitted (place_in site) token) ∷ events_from (i + 1 + k) events) × ArePassed sites tokens others (i + 1) k
   passed-token site token none at_site at_token =
       let left = subst (λ ts. AreApart (site ∷ drop (i + 1) sites) ts (drop k others) (events_from (i + k) events)) (drop-some tokens i token at_token)
       (subst (λ ss. AreApart ss (drop i tokens) (drop k others) (events_from (i + k) events)) (drop-some sites i site at_site) passed.left) in
       let comes = comes-token (i + k) (drop (i + k) events) site token (drop (i + 1) sites) (drop (i + 1) tokens) (drop k others) (none-other others (i + k) k none) left in
-      let e = event.Emitted site.place token in
+      let e = event.Emitted (place_in site) token in
       let rest = drop-next events (i + k) e comes.0 comes.1.0 in
       let number : i + k + 1 ≡ i + 1 + k = omega arith in
       let after = ap (enumerate_from (i + k + 1)) rest ∙ ap (λ n. events_from n events) number in (
@@ -306,3 +306,40 @@ module _ (sites : List Site) (tokens : List Token) (others : List Numbered) (i k
   passed-no_token none at_token =
       let left = subst (λ ts. AreApart (drop i sites) ts (drop k others) (events_from (i + k) events)) (drop-none tokens i at_token) passed.left in
       ap (enumerate_from (i + k)) (comes-no_token (i + k) (drop (i + k) events) (drop i sites) (drop k others) (none-other others (i + k) k none) left)
+
+there : {X : Type 0} (xs : List X) (i : ℕ) → i < length xs → (x : X) × (slice_get xs i ≡ Some x)
+there [] i lt = absurd (omega (arith, lt))
+there (x ∷ xs) zero lt = (x, refl)
+there (x ∷ xs) (suc i) lt = there xs i (omega (arith, lt))
+
+-- tokens are passed by before the next other event
+pub passed-tokens : (sites : List Site) (tokens : List Token) (others : List Numbered) (count i k : ℕ) → ArePassed sites tokens others i k
+    → ((j : ℕ) (e : Event) → j < count → slice_get others k ≢ Some (i + k + j, e)) → count ≤ length sites - i → count ≤ length tokens - i
+    → TokensFirst count (events_from (i + k) (woven sites tokens others)) (events_from (i + count + k) (woven sites tokens others)) × ArePassed sites tokens others (i + count) k
+passed-tokens sites tokens others zero i k passed free short long =
+    let same : i ≡ i + 0 = omega arith in (
+      record { tokens = []; long = refl; alone = refl; all = ap (λ n. events_from (n + k) (woven sites tokens others)) same },
+      subst (λ n. ArePassed sites tokens others n k) same passed,
+    )
+passed-tokens sites tokens others (suc count) i k passed free short long =
+    let site = there sites i (omega (arith, short)) in
+    let token = there tokens i (omega (arith, long)) in
+    let here : i + k ≡ i + k + 0 = omega arith in
+    let step = passed-token sites tokens others i k passed site.0 token.0
+    (λ e at. free 0 e (omega arith) (at ∙ ap (λ n. Some (n, e)) here)) site.1 token.1 in
+    let next : (j : ℕ) → i + 1 + k + j ≡ i + k + (j + 1) = λ j. omega arith in
+    let rest = passed-tokens sites tokens others count (i + 1) k step.1
+    (λ j e lt at. free (j + 1) e (omega (arith, lt)) (at ∙ ap (λ n. Some (n, e)) (next j))) (omega (arith, short)) (omega (arith, long)) in
+    let shift : i + 1 + count ≡ i + suc count = omega arith in
+    let x : Numbered = (i + k, event.Emitted (place_in site.0) token.0) in (
+      record {
+        tokens = x ∷ rest.0.tokens;
+        long = ap suc rest.0.long;
+        alone = rest.0.alone;
+        all =
+            step.0
+            ∙ ap (λ es. x ∷ es) rest.0.all
+            ∙ ap (λ n. x ∷ (rest.0.tokens ++ events_from (n + k) (woven sites tokens others))) shift;
+      },
+      subst (λ n. ArePassed sites tokens others n k) shift rest.1,
+    )

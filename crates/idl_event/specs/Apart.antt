@@ -12,7 +12,10 @@ abbrev pub Numbered : Type 0
 Numbered = ℕ × Event
 
 abbrev pub site_at : ℕ → Place → Site
-site_at n place = record { event = n; place = place }
+site_at n place = record { file = place.file; line = place.line; event = n }
+
+abbrev pub place_in : Site → Place
+place_in site = record { file = site.file; line = site.line }
 
 -- the token that an event is: one, or none
 abbrev pub token_in : Numbered → List Token
@@ -42,7 +45,7 @@ others_in events = flat_map other_in events
 abbrev pub emitted : List Site → List Token → List Event
 emitted [] tokens = []
 emitted (site ∷ sites) [] = []
-emitted (site ∷ sites) (token ∷ tokens) = event.Emitted site.place token ∷ emitted sites tokens
+emitted (site ∷ sites) (token ∷ tokens) = event.Emitted (place_in site) token ∷ emitted sites tokens
 
 -- an event more, at its number
 abbrev pub with_event : List Event → Numbered → List Event
@@ -70,6 +73,13 @@ pub record StandApart (sites : List Site) (tokens : List Token) (others : List N
 -- the events from a number on
 abbrev pub events_from : ℕ → List Event → List Numbered
 events_from n events = enumerate_from n (drop n events)
+
+-- so many tokens come first, and then the rest
+pub record TokensFirst (count : ℕ) (events rest : List Numbered) : Type 0 where
+  pub tokens : List Numbered
+  pub long : length tokens ≡ count
+  pub alone : others_in tokens ≡ []
+  pub all : events ≡ tokens ++ rest
 
 -- so many tokens and so many other events were passed by
 pub record ArePassed (sites : List Site) (tokens : List Token) (others : List Numbered) (n k : ℕ)

@@ -53,13 +53,20 @@ impl ExpansionBuilder {
     }
 
     /// A token of the text more, at its place.
-    pub fn push_token(&mut self, place: Place, token: Token) -> Result<(), AllocError>
-        ensures { OnOk result (self.new ≡ self.old ++ Emitted place token ∷ []) }
+    pub fn push_token(&mut self, place: Place, token: &Token) -> Result<(), AllocError>
+        ensures { OnOk result (self.new ≡ self.old ++ Emitted place token.now ∷ []) }
     {
-        let event = self.sites.len() + self.others.len();
+        let token = token.clone()?;
+        let Ok(event) = u32::try_from(self.sites.len() + self.others.len()) else {
+            return Err(AllocError);
+        };
         self.text.reserve(1)?;
-        self.sites.push(Site { event, place })?;
-        self.text.push(token)?;
+        self.sites.push(Site {
+            file: place.file,
+            line: place.line,
+            event,
+        })?;
+        self.text.push_reserved(token);
         Ok(())
     }
 
@@ -68,7 +75,7 @@ impl ExpansionBuilder {
         ensures { OnOk result (self.new ≡ self.old ++ event ∷ []) }
     {
         match event {
-            Event::Emitted(place, token) => self.push_token(place, token),
+            Event::Emitted(place, token) => self.push_token(place, &token),
             other => {
                 let number = self.sites.len() + self.others.len();
                 self.others.push((number, other))?;
@@ -78,9 +85,11 @@ impl ExpansionBuilder {
     }
 
     /// What the events are at the end.
-    pub fn build(self, alloc: Global) -> Result<Expansion, AllocError>
+    pub fn build(mut self, alloc: Global) -> Result<Expansion, AllocError>
         ensures { IfOk result (λ expansion. expansion ≡ self) }
     {
+        self.text.shrink_to_fit();
+        self.sites.shrink_to_fit();
         let text = Rc::new(alloc, self.text)?;
         let sites = Rc::new(alloc, self.sites)?;
         Ok(Expansion::from_parts(text, sites, self.others))

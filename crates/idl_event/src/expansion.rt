@@ -1,8 +1,8 @@
 //! What a root expands to, and the walk over it.
 
-ghost use Rattle.std.specs.Prelude.{◌≡◌, ◌≢◌, IfNone, IfSome, Some, slice_get};
+ghost use Rattle.std.specs.Prelude.{◌≡◌, ◌≢◌, ℕ, ◌+◌, ◌<◌, ◌≤◌, IfNone, IfSome, Some, slice_get};
 ghost use Rattle.std.specs.List.{enumerate_from};
-ghost use Rattle.idl_event.specs.Apart.{StandApart, others_in, sites_in, tokens_in, woven};
+ghost use Rattle.idl_event.specs.Apart.{StandApart, TokensFirst, others_in, sites_in, tokens_in, woven};
 ghost use Rattle.idl_event.specs.declared.event.Event.{Event};
 
 use crate::event::Event;
@@ -111,6 +111,25 @@ impl<'a> Model for Events<'a> {
         ArePassed e.sites.now e.text.now e.others.now e.tokens_passed e.others_passed };
 }
 
+impl<'a> Events<'a> {
+    /// Passes tokens by that come next, as many as asked for at most, up to the next event that is none: tells how many.
+    pub fn pass_tokens(&mut self, most: usize) -> usize
+        ensures most { result ≤ most }
+        ensures passed { TokensFirst result self.old self.new }
+    {
+        let number = self.tokens_passed + self.others_passed;
+        let free = tokens_before(self.others, self.others_passed, number);
+        let left = self
+            .text
+            .len()
+            .min(self.sites.len())
+            .saturating_sub(self.tokens_passed);
+        let count = most.min(free).min(left);
+        self.tokens_passed += count;
+        count
+    }
+}
+
 impl<'a> Iterator for Events<'a> {
     ghost use Rattle.std.specs.Iterator.{YieldsFirstBy, item_count};
     ghost use Rattle.idl_event.specs.Told.{event_told};
@@ -132,7 +151,7 @@ impl<'a> Iterator for Events<'a> {
                 let site = self.sites.get(self.tokens_passed)?;
                 let token = self.text.get(self.tokens_passed)?;
                 self.tokens_passed += 1;
-                Some((number, Told::Emitted(&site.place, token)))
+                Some((number, Told::Emitted(site, token)))
             }
         }
     }
@@ -147,5 +166,16 @@ fn other_at(others: &[(usize, Event)], place: usize, number: usize) -> Option<&E
     match others.get(place) {
         Some((at, event)) if *at == number => Some(event),
         _ => None,
+    }
+}
+
+// How many numbers there are from one on before that of the event at this place among those that are no tokens.
+fn tokens_before(others: &[(usize, Event)], place: usize, number: usize) -> usize
+    ensures { (j : ℕ) (event : Event) → j < result
+        → slice_get others.now place ≢ Some (number + j, event) }
+{
+    match others.get(place) {
+        Some((at, _event)) => at.saturating_sub(number),
+        None => usize::MAX,
     }
 }

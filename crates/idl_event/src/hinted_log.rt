@@ -1,13 +1,15 @@
 //! A log in which keys that are asked again are found soon.
 
-ghost use Rattle.std.specs.Prelude.{◌≡◌, IfOk, IsTrue, OnOk, true};
+ghost use Rattle.std.specs.Prelude.{◌≡◌, IfOk, IfSome, OnOk, true};
 ghost use Rattle.std.specs.Option.{option_copied};
 ghost use Rattle.idl_event.specs.Key.{key_eq};
+ghost use Rattle.idl_event.specs.declared.key.Key.TheVariants.{Macro};
 ghost use Rattle.idl_memo.specs.Query.{is_logged, noted};
 
 use crate::hints::Hints;
 use crate::key::{Answer, Key};
 use crate::root_bank::RootBank;
+use idl_lex::Spelling;
 use idl_memo::{Bank, Log};
 use std::alloc::{AllocError, Global};
 use std::marker::Model;
@@ -47,45 +49,60 @@ impl<B: RootBank> HintedLog<B> {
         self.log
     }
 
-    /// The bank's answer at a key, which is logged with the key unless the key was asked before. By the digest the key is
-    /// found: with whichever, the answer is the same.
+    /// The bank's answer at a key, which is logged with the key unless the key was asked before.
     ///
     /// After want of memory nothing is said of the log.
-    pub fn ask<'b>(
-        &mut self,
-        key: &Key,
-        digest: u64,
-        bank: &'b B,
-    ) -> Result<Option<&'b Answer>, AllocError>
+    pub fn ask<'b>(&mut self, key: &Key, bank: &'b B) -> Result<Option<&'b Answer>, AllocError>
         ensures answer { IfOk result (λ answer. option_copied answer ≡ B.at bank.now key.now) }
         ensures logged { OnOk result (self.new ≡ noted key_eq (B.at bank.now) self.old key.now) }
     {
-        if self.is_found(key, digest) {
+        self.log.ask(key, bank)
+    }
+
+    /// The same at the key of a macro's word, for who has a digest of the word at hand. The word is found soon where it always
+    /// comes with the same: then no key is made. With another one the answer is no other.
+    pub fn ask_word<'b>(
+        &mut self,
+        word: &Spelling,
+        digest: u64,
+        bank: &'b B,
+    ) -> Result<Option<&'b Answer>, AllocError>
+        ensures answer { IfOk result (λ answer. option_copied answer ≡ B.at bank.now (Macro word.now)) }
+        ensures logged { OnOk result
+            (self.new ≡ noted key_eq (B.at bank.now) self.old (Macro word.now)) }
+    {
+        if let Some(key) = self.logged(word, digest) {
             return Ok(bank.answer(key));
         }
         let place = self.log.len();
-        let answer = self.log.ask(key, bank)?;
+        let answer = self.log.ask(&Key::Macro(word.clone()?), bank)?;
         if place < self.log.len() {
             self.hints.note(digest, place)?;
         }
         Ok(answer)
     }
 
-    // Whether a key stands where it may stand. One that doesn't may be logged all the same.
-    fn is_found(&self, key: &Key, digest: u64) -> bool
-        ensures { IsTrue result → is_logged key_eq self.now key.now ≡ true }
+    // The key of a word, where it stands at one of the places where it may. One that doesn't may be logged all the same.
+    fn logged(&self, word: &Spelling, digest: u64) -> Option<&Key>
+        ensures { IfSome result (λ key. (key.now ≡ Macro word.now)
+            × (is_logged key_eq self.now (Macro word.now) ≡ true)) }
     {
         let places = self.hints.places_of(digest);
-        stands_at(&self.log, places.first, key) || stands_at(&self.log, places.last, key)
+        match word_at(&self.log, places.first, word) {
+            Some(key) => Some(key),
+            None => word_at(&self.log, places.last, word),
+        }
     }
 }
 
-// Whether a key stands at a place of a log.
-fn stands_at<B: RootBank>(log: &Log<B>, place: u32, key: &Key) -> bool
-    ensures { IsTrue result → is_logged key_eq log.now key.now ≡ true }
+// The key at a place of a log, if it is that of a word.
+fn word_at<'a, B: RootBank>(log: &'a Log<B>, place: u32, word: &Spelling) -> Option<&'a Key>
+    ensures { IfSome result (λ key. (key.now ≡ Macro word.now)
+        × (is_logged key_eq log.now (Macro word.now) ≡ true)) }
 {
-    match log.get(place as usize) {
-        Some((logged, _answer)) => key == logged,
-        None => false,
+    let (key, _answer) = log.get(place as usize)?;
+    match key {
+        Key::Macro(logged) if logged == word => Some(key),
+        _ => None,
     }
 }

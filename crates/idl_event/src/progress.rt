@@ -8,6 +8,7 @@ ghost use Rattle.idl_event.specs.Key.{key_eq};
 ghost use Rattle.idl_event.specs.Limits.{turns_at_most};
 ghost use Rattle.idl_event.specs.declared.event.Event.TheVariants.{Emitted};
 ghost use Rattle.idl_event.specs.declared.event.Item.TheVariants.{Kept};
+ghost use Rattle.idl_event.specs.declared.key.Key.TheVariants.{Macro};
 
 use crate::allowance::Allowance;
 use crate::builder::ExpansionBuilder;
@@ -17,8 +18,7 @@ use crate::hinted_log::HintedLog;
 use crate::key::{Answer, Key};
 use crate::place::Place;
 use crate::root_bank::RootBank;
-use idl_lex::Token;
-use idl_map::Digest;
+use idl_lex::{Spelling, Token};
 use idl_memo::{Bank, Log};
 use std::alloc::{AllocError, Global};
 use std::marker::Model;
@@ -105,8 +105,9 @@ impl<B: RootBank> Progress<B> {
     }
 
     /// A token of the text more, at its place: most items are such, and this does the same with one as `tell`, at less cost.
-    pub fn emit(&mut self, place: Place, token: Token) -> Result<(), AllocError>
-        ensures { OnOk result (self.new ≡ after_item rules (Kept (Emitted place token)) self.old) }
+    pub fn emit(&mut self, place: Place, token: &Token) -> Result<(), AllocError>
+        ensures { OnOk result
+            (self.new ≡ after_item rules (Kept (Emitted place token.now)) self.old) }
     {
         let Some(left) = self.left else {
             return Ok(());
@@ -123,24 +124,28 @@ impl<B: RootBank> Progress<B> {
         ensures answer { IfOk result (λ answer. option_copied answer ≡ B.at bank.now key.now) }
         ensures progress { OnOk result (self.new ≡ after_key key_eq (B.at bank.now) key.now self.old) }
     {
-        self.ask_by(key, key.digest(), bank)
-    }
-
-    /// The same as `ask`, for who has a digest of the key at hand. A key is found soon where it always comes with the same, and
-    /// with another one the answer is no other.
-    pub fn ask_by<'b>(
-        &mut self,
-        key: &Key,
-        digest: u64,
-        bank: &'b B,
-    ) -> Result<Option<&'b Answer>, AllocError>
-        ensures answer { IfOk result (λ answer. option_copied answer ≡ B.at bank.now key.now) }
-        ensures progress { OnOk result (self.new ≡ after_key key_eq (B.at bank.now) key.now self.old) }
-    {
         if self.left.is_none() {
             return Ok(bank.answer(key));
         }
-        self.log.ask(key, digest, bank)
+        self.log.ask(key, bank)
+    }
+
+    /// The same at the key of a macro's word, for who has a digest of the word at hand. The word is found soon where it always
+    /// comes with the same, and with another one the answer is no other.
+    pub fn ask_word<'b>(
+        &mut self,
+        word: &Spelling,
+        digest: u64,
+        bank: &'b B,
+    ) -> Result<Option<&'b Answer>, AllocError>
+        ensures answer { IfOk result (λ answer. option_copied answer ≡ B.at bank.now (Macro word.now)) }
+        ensures progress { OnOk result
+            (self.new ≡ after_key key_eq (B.at bank.now) (Macro word.now) self.old) }
+    {
+        if self.left.is_none() {
+            return Ok(bank.answer(&Key::Macro(word.clone()?)));
+        }
+        self.log.ask_word(word, digest, bank)
     }
 }
 

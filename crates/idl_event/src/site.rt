@@ -1,10 +1,31 @@
 //! Where tokens of the text stand.
 
-use crate::place::Place;
+ghost use Rattle.std.specs.Prelude.{◌≡◌, IfOk};
+ghost use Rattle.idl_event.specs.Apart.{place_in};
 
-/// Where a token stands: the number of its event, and its place.
+use crate::file_name::FileName;
+use crate::place::Place;
+use std::alloc::AllocError;
+
+/// Where a token stands: its file, its line there, and the number of its event.
 #[derive(Drop)]
 pub struct Site {
-    pub event: usize,
-    pub place: Place,
+    pub file: FileName,
+    pub line: u32,
+    pub event: u32,
+}
+
+// A root has a hundred thousands of tokens.
+const _: () = prove!(size_of::<Site>() <= 16);
+
+impl Site {
+    /// The place: file and line.
+    pub fn place(&self) -> Result<Place, AllocError>
+        ensures { IfOk result (λ place. place ≡ place_in self.now) }
+    {
+        Ok(Place {
+            file: self.file.clone()?,
+            line: self.line,
+        })
+    }
 }

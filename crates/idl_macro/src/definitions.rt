@@ -12,7 +12,7 @@ ghost use Rattle.idl_macro.specs.Macros.{body_in, macro_of};
 
 use crate::marks::Marks;
 use idl_base::{Table, with_bytes};
-use idl_event::{Answer, Key, Progress, RootBank};
+use idl_event::{Answer, Progress, RootBank};
 use idl_lex::{PlacedToken, Spelling, TokenRange};
 use std::alloc::{AllocError, Global};
 use std::marker::Model;
@@ -72,7 +72,7 @@ impl Definitions {
         match self.said_of(word, digest) {
             Some(said) => Ok(tokens_of(said.as_ref())),
             None => {
-                let answer = progress.ask_by(&Key::Macro(word.clone()?), digest, bank)?;
+                let answer = progress.ask_word(word, digest, bank)?;
                 Ok(body_in(answer))
             }
         }

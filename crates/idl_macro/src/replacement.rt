@@ -75,7 +75,7 @@ fn replace_one<B: RootBank>(
         };
         return replace(macros, tokens, progress, &mut Output::Text);
     }
-    progress.emit(place, placed.token.clone()?)
+    progress.emit(place, &placed.token)
 }
 
 // The body that a token in no replacement is replaced by: its macro's, if it is a word.
@@ -224,12 +224,11 @@ impl Output {
         ensures progress { OnOk result
             (progress.new ≡ after_item rules (item_of self.old place.now token.now) progress.old) }
     {
-        let token = token.clone()?;
         let place = place.clone()?;
         match self {
             Output::Text => progress.emit(place, token),
             Output::Operand(given) => {
-                given.push(token)?;
+                given.push(token.clone()?)?;
                 progress.tell(Item::Counted(place))
             }
         }

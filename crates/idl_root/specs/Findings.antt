@@ -1,6 +1,6 @@
 -- What is found in a root, and the order in which it is told.
 use Rattle.std.specs.Prelude.{ℕ, List, [], ◌∷◌, nat_le, slice_get, Option, None, Some, if◌then◌else◌}
-use Rattle.idl_event.specs.Apart.{Numbered}
+use Rattle.idl_event.specs.Apart.{Numbered, place_in}
 use Rattle.idl_event.specs.Diagnostic.{diagnostic_row}
 use Rattle.idl_event.specs.declared.code.Code.{Code}
 use Rattle.idl_event.specs.declared.event.Event.TheVariants as event
@@ -27,7 +27,7 @@ site_of (Pragma tokens inside) sites index = first sites
 abbrev pub finding_at : Code → Option Site → Option Token → List Finding
 finding_at code None token = []
 finding_at code (Some site) token =
-    record { event = site.event; code = code; row = diagnostic_row site.place code token } ∷ []
+    record { event = site.event; code = code; row = diagnostic_row (place_in site) code token } ∷ []
 
 -- what is found in a unit: its fault, at the token with that number
 abbrev pub fault_finding : UnitText → List Site → Option Fault → List Finding

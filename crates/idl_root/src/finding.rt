@@ -132,10 +132,10 @@ fn finding_at(
     let Some(site) = site else {
         return Ok(None);
     };
-    let row = diagnostic_row(alloc, &site.place, code, token)?;
+    let row = diagnostic_row(alloc, &site.place()?, code, token)?;
     let row = Shared::new(alloc, row)?;
     Ok(Some(Finding {
-        event: site.event,
+        event: site.event as usize,
         code,
         row,
     }))

@@ -1,10 +1,10 @@
 -- The cut of events, event by event.
-use Rattle.std.proofs.Common.{◌≡◌, ◌≢◌, ◌∙◌, ℕ, ◌+◌, ◌-◌, ◌<◌, ◌≤◌, Bool, true, false, cond, not, ◌||◌, List, [], ◌∷◌, ◌++◌, length, take, drop, refl, sym, ap, arith, append_assoc}
+use Rattle.std.proofs.Common.{◌≡◌, ◌≢◌, ◌∙◌, ℕ, suc, ◌+◌, ◌-◌, ◌<◌, ◌≤◌, Bool, true, false, cond, not, ◌||◌, List, [], ◌∷◌, ◌++◌, length, take, drop, refl, sym, ap, arith, append_assoc}
 use Rattle.std.specs.Prelude.{flat_map, nat_lt}
 use Rattle.std.proofs.lemmas.Bool.{ne_eqb, lt-ltb}
 use Rattle.std.proofs.lemmas.List.{append-nil, drop-drop, drop_all, drop_at, length_push, length-take-le, take_at}
 use Rattle.idl_event.proofs.ApartLemmas.{length-sites_in}
-use Rattle.idl_event.specs.Apart.{Numbered, site_at, site_in, sites_in, token_in, tokens_in}
+use Rattle.idl_event.specs.Apart.{Numbered, others_in, site_at, site_in, sites_in, token_in, tokens_in}
 use Rattle.idl_event.specs.declared.event.Event.TheVariants as event
 use Rattle.idl_event.specs.declared.place.Place.{Place}
 use Rattle.idl_event.specs.declared.site.Site.{Site}
@@ -45,6 +45,20 @@ pub placed-inside : (units : List (List Token)) (sites : List Site) (inside n : 
 placed-inside units sites inside n place t events lt =
     ap (λ b. cond b (begun_of units sites) [] ++ placed (cond b (after_begun units sites) (ahead_of units sites (inside - 1))) events)
     (ne_eqb inside 0 (λ e. omega arith))
+
+-- tokens inside a unit
+pub placed-run : (units : List (List Token)) (sites : List Site) (inside : ℕ) (run rest : List Numbered) → length run ≤ inside → others_in run ≡ []
+    → placed (ahead_of units sites inside) (run ++ rest) ≡ placed (ahead_of units sites (inside - length run)) rest
+placed-run units sites inside [] rest le alone = let same : inside ≡ inside - 0 = omega arith in ap (λ n. placed (ahead_of units sites n) rest) same
+placed-run units sites inside ((n, event.Emitted place t) ∷ run) rest le alone =
+    let fewer : inside - 1 - length run ≡ inside - suc (length run) = omega arith in
+    placed-inside units sites inside n place t (run ++ rest) (omega (arith, le))
+    ∙ placed-run units sites (inside - 1) run rest (omega (arith, le)) alone
+    ∙ ap (λ m. placed (ahead_of units sites m) rest) fewer
+placed-run units sites inside ((n, event.Entered file) ∷ run) rest le alone = cc
+placed-run units sites inside ((n, event.Left file) ∷ run) rest le alone = cc
+placed-run units sites inside ((n, event.Pragma place tokens) ∷ run) rest le alone = cc
+placed-run units sites inside ((n, event.Fault place code text) ∷ run) rest le alone = cc
 
 -- what stands inside a stretch beside its tokens
 abbrev inner : List Numbered → List RootUnit

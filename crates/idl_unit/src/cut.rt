@@ -1,6 +1,6 @@
 //! The cut of an expansion into units.
 
-ghost use Rattle.std.specs.Prelude.{◌≡◌, ◌∷◌, ◌++◌, [], List, IfOk, OnOk};
+ghost use Rattle.std.specs.Prelude.{◌≡◌, ◌∷◌, ◌++◌, ◌≤◌, [], List, IfOk, OnOk, length};
 ghost use Rattle.std.specs.List.{enumerate_from};
 ghost use Rattle.idl_event.specs.Apart.{Numbered, site_at, sites_in, tokens_in};
 ghost use Rattle.idl_event.specs.Told.{event_told};
@@ -10,7 +10,7 @@ ghost use Rattle.idl_unit.specs.Units.{units_of};
 use crate::ending::first_unit;
 use crate::run::Run;
 use crate::unit::{Unit, UnitText, Units};
-use idl_event::{Event, Expansion, Place, Site, Told};
+use idl_event::{Event, Events, Expansion, Place, Site, Told};
 use idl_lex::Token;
 use std::alloc::{AllocError, Global};
 use std::rc::Rc;
@@ -21,11 +21,14 @@ pub fn split(alloc: Global, expansion: &Expansion) -> Result<Units, AllocError>
     ensures { IfOk result (λ units. units ≡ units_of expansion.now) }
 {
     let mut cut = Cut::new(alloc, expansion);
-    for (number, event) in expansion.events() {
+    let mut events = expansion.events();
+    'events: while let Some((number, event)) = events.next() {
         cut.put(alloc, number, event)?;
+        cut.pass(&mut events);
     }
     let mut units = cut.units;
     units.push(Unit::End)?;
+    units.shrink_to_fit();
     Ok(Units::from_vec(units))
 }
 
@@ -58,6 +61,16 @@ impl<'a> Cut<'a> {
         }
     }
 
+    // The tokens inside the present unit are passed by, up to what stands between them.
+    fn pass(&mut self, events: &mut Events<'_>)
+        requires { IsWithin self.old }
+        ensures within { IsWithin self.new }
+        ensures fewer { length events.new ≤ length events.old }
+        ensures units { to_come self.new events.new ≡ to_come self.old events.old }
+    {
+        self.inside -= events.pass_tokens(self.inside);
+    }
+
     // Puts in what one event more gives.
     fn put(&mut self, alloc: Global, number: usize, event: Told<'_>) -> Result<(), AllocError>
         requires { IsWithin self.old }
@@ -67,7 +80,7 @@ impl<'a> Cut<'a> {
             ≡ to_come self.old ((number, event_told event.entry) ∷ events)) }
     {
         match event {
-            Told::Emitted(_place, _token) => self.put_token(),
+            Told::Emitted(_site, _token) => self.put_token(),
             Told::Other(event) => self.put_other(alloc, number, event),
         }
     }
@@ -139,10 +152,14 @@ impl<'a> Cut<'a> {
 fn one_site(alloc: Global, event: usize, place: &Place) -> Result<Run<Site>, AllocError>
     ensures { IfOk result (λ sites. sites ≡ site_at event place.now ∷ []) }
 {
+    let Ok(event) = u32::try_from(event) else {
+        return Err(AllocError);
+    };
     let mut sites = Vec::new(alloc);
     sites.push(Site {
+        file: place.file.clone()?,
+        line: place.line,
         event,
-        place: place.clone()?,
     })?;
     Ok(Run::new(Rc::new(alloc, sites)?, 0, 1))
 }

@@ -1,10 +1,6 @@
 use Rattle.std.proofs.Common.{◌≡◌, [], List, Option, None, OnOk, Bor, subst, sym, ap, ◌∙◌}
 use Rattle.std.specs.Option.{option_copied, option_map}
-use Rattle.idl_memo.specs.Progress.{after_item}
 use Rattle.idl_event.specs.Expanding.{Reached, arrival, arrived, reached}
-use Rattle.idl_event.specs.Items.{rules}
-use Rattle.idl_event.specs.declared.event.Event.TheVariants.{Emitted}
-use Rattle.idl_event.specs.declared.event.Item.TheVariants.{Kept}
 use Rattle.idl_lex.specs.Tokens.{Token, tokens_in}
 use Rattle.idl_lex.specs.declared.token.PlacedToken.{PlacedToken}
 use Rattle.idl_macro.specs.Output.{item_of}
@@ -37,6 +33,5 @@ returns g c =
     let none : c.in_ok-body_of.field-0 ≡ None = no_value c.in_ok-body_of.field-0 (sym c.is_some.ensures ∙ c.if-is_some.false) in
     let found : arrived None asked ≡ arrival bank (replacement definitions [] t) c.args.progress.now = ap (λ o. arrived (body o) asked) (sym none) ∙ c.in_ok-body_of.ensures in
     subst (λ (there : Reached). OnOk c.emit.result (c.emit.new.self ≡ there))
-    (ap (λ (u : Token). after_item rules (Kept (Emitted place u)) asked) c.in_ok-clone.ensures.cases
-    ∙ reached-replaced_at-stands bank definitions (item_of Text place) place t c.args.progress.now asked found)
+    (reached-replaced_at-stands bank definitions (item_of Text place) place t c.args.progress.now asked found)
     c.emit.ensures

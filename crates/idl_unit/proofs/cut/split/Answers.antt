@@ -7,11 +7,11 @@ use Rattle.idl_unit.specs.declared.unit.Unit.TheVariants.{End}
 use Rattle.idl_unit.proofs.PlacingLemmas.{start-within, start-to_come}
 use Rattle.idl_unit.proofs.cut.split.Goals as goal
 
-pub loop-number-init : goal.loop-number-init
-loop-number-init c =
+pub events-init : goal.events-init
+events-init c =
     let cut = c.new-cut.result in
     let events = enumerate_from 0 c.args.expansion.now in
-    let walk : c.into_iter-number-iterator.result ≡ events = search rules in
+    let walk : c.events-events.result ≡ events = search rules in
     record {
       within = start-within cut events c.new-cut.ensures.text c.new-cut.ensures.sites c.new-cut.ensures.taken;
       units = ap (to_come cut) walk ∙ start-to_come cut events c.new-cut.ensures.text c.new-cut.ensures.sites c.new-cut.ensures.units c.new-cut.ensures.taken c.new-cut.ensures.inside;
@@ -20,8 +20,8 @@ loop-number-init c =
 pub returns : goal.returns
 unfolding units_of
 returns c =
-    let cut = c.loop-number.cut in
-    let none : c.loop-number.number-iterator ≡ [] = search rules in
-    let all : cut.units.items ≡ units_in (enumerate_from 0 c.args.expansion.now) = sym (append-nil cut.units.items) ∙ ap (to_come cut) (sym none) ∙ c.loop-number.invariant.units in
+    let cut = c.events.cut in
+    let none : c.events.events ≡ [] = search rules in
+    let all : cut.units.items ≡ units_in (enumerate_from 0 c.args.expansion.now) = sym (append-nil cut.units.items) ∙ ap (to_come cut) (sym none) ∙ c.events.invariant.units in
     let pushed : c.from_vec.result ≡ cut.units.items ++ End ∷ [] = search rules in
     pushed ∙ ap (λ l. l ++ End ∷ []) all

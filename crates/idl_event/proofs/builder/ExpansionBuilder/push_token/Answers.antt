@@ -8,21 +8,23 @@ use Rattle.idl_event.proofs.builder.ExpansionBuilder.push_token.Goals as goal
 pub invariant_of-self-2 : goal.invariant_of-self-2
 invariant_of-self-2 c =
     let b = c.self.inside in
-    let n = c.len.result + c.len-2.result in
+    let n = c.in-Ok.event in
     let number : n ≡ length b.sites.items + length b.others.items = search rules in
     let sites : c.push.new.self.items ≡ b.sites.items ++ site_at n c.args.place ∷ [] = search rules in
-    let text : c.push-2.new.self.items ≡ b.text.items ++ c.args.token ∷ [] = search rules in
+    let copy : c.in_ok-token.token ≡ c.args.token.now = c.in_ok-token.ensures.cases in
+    let text : c.push_reserved.new.self.items ≡ b.text.items ++ c.args.token.now ∷ [] = search rules in
     subst₂ (λ ss ts. StandApart ss ts b.others.items) (sym sites) (sym text)
-    (woven-token b.sites.items b.text.items b.others.items n c.args.place c.args.token c.self.invariant number).1
+    (woven-token b.sites.items b.text.items b.others.items n c.args.place c.args.token.now c.self.invariant number).1
 
 pub returns : goal.returns
 returns c =
     let b = c.self.inside in
-    let n = c.len.result + c.len-2.result in
+    let n = c.in-Ok.event in
     let number : n ≡ length b.sites.items + length b.others.items = search rules in
     let sites : c.push.new.self.items ≡ b.sites.items ++ site_at n c.args.place ∷ [] = search rules in
-    let text : c.push-2.new.self.items ≡ b.text.items ++ c.args.token ∷ [] = search rules in
-    ap (λ ss. woven ss c.push-2.new.self.items b.others.items) sites
+    let copy : c.in_ok-token.token ≡ c.args.token.now = c.in_ok-token.ensures.cases in
+    let text : c.push_reserved.new.self.items ≡ b.text.items ++ c.args.token.now ∷ [] = search rules in
+    ap (λ ss. woven ss c.push_reserved.new.self.items b.others.items) sites
     ∙ ap (λ ts. woven (b.sites.items ++ site_at n c.args.place ∷ []) ts b.others.items) text
-    ∙ (woven-token b.sites.items b.text.items b.others.items n c.args.place c.args.token c.self.invariant number).0
-    ∙ ap (λ (es : List Event). es ++ Emitted c.args.place c.args.token ∷ []) c.self.view_is
+    ∙ (woven-token b.sites.items b.text.items b.others.items n c.args.place c.args.token.now c.self.invariant number).0
+    ∙ ap (λ (es : List Event). es ++ Emitted c.args.place c.args.token.now ∷ []) c.self.view_is

@@ -21,6 +21,5 @@ returns-in_ok-answer-in-None g c =
     let unsaid : lookup (bytes_eq c.args.word.now) c.args.self.now ≡ None = sym c.in-None.ensures in
     let asked = c.in_ok-answer-in-None.ensures in
     (λ i. arrived (c.body_in.ensures i) (asked.progress i))
-    ∙ ap (λ found. arrived (body_in found) (after_key key_eq bank (key.Macro c.in_ok-clone-in-None.field-0) c.args.progress.now)) asked.answer
-    ∙ ap (λ word. arrived (body_in (bank (key.Macro word))) (after_key key_eq bank (key.Macro word) c.args.progress.now)) c.in_ok-clone-in-None.ensures.cases
+    ∙ ap (λ found. arrived (body_in found) (after_key key_eq bank (key.Macro c.args.word.now) c.args.progress.now)) asked.answer
     ∙ sym (ap (λ query. arrival bank query c.args.progress.now) (macro_of-asked c.args.self.now c.args.word.now unsaid))
