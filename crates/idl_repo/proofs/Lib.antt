@@ -1,4 +1,5 @@
 mod WriteLemmas
+mod RowLemmas
 mod ReferredLemmas
 mod EntryLaws
 mod NestingLaws

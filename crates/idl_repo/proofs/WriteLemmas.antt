@@ -1,10 +1,12 @@
 -- Pieces that are written, one after another.
-use Rattle.std.proofs.Common.{◌≡◌, ◌∙◌, ℕ, ◌+◌, ◌-◌, ◌<◌, ◌≤◌, List, [], ◌∷◌, ◌++◌, Option, None, Some, Result, Ok, Err, refl, sym, ap, append_assoc, arith, codes, drop, flat_map, get_or, length, take}
+use Rattle.std.proofs.Common.{◌≡◌, ◌∙◌, ℕ, ◌+◌, ◌-◌, ◌<◌, ◌≤◌, List, [], ◌∷◌, ◌++◌, Bool, true, false, cond, ◌||◌, Option, None, Some, Result, Ok, Err, refl, sym, ap, append_assoc, arith, codes, drop, flat_map, get_or, length, take}
 use Rattle.std.specs.Prelude.{OnOk, is_ok, if◌then◌else◌}
+use Rattle.std.proofs.lemmas.List.Folds.{list_any-append}
 use Rattle.std.proofs.lemmas.List.{append-nil, flat_map_more, take_all, take_more}
-use Rattle.idl_memo.specs.Query.{asked, noted, noted_all, outcome, run}
+use Rattle.idl_memo.specs.Query.{asked, is_logged, noted, noted_all, outcome, run}
 use Rattle.idl_memo.proofs.QueryLaws.{noted_all-append}
 use Rattle.idl_repo.specs.Pieces.{IdOf, Pieces, Says, Writes, commas, id_in, ids_in, says, text_over, written}
+use Rattle.idl_scope.specs.Digested.{key_equiv}
 use Rattle.idl_scope.specs.Facts.{identity_in}
 use Rattle.idl_scope.specs.Key.{key_eq}
 use Rattle.idl_scope.specs.declared.answer.Answer.{Answer}
@@ -58,6 +60,10 @@ says-as {told} {word} {old} {new} e is h = says-then (e ∙ ap (λ w. old ++ w) 
 pub text-as : {bank : Key → Option Answer} {told word old new : List ℕ} {log : List (Key × Option Answer)} → new ≡ old ++ told → told ≡ word → Writes bank (says word) (old, log) (new, log)
 text-as {told} {word} {old} {new} e is = writes-text (e ∙ ap (λ w. old ++ w) is)
 
+-- a text that is two to be said
+pub says-two : {bank : Key → Option Answer} {told first second old new : List ℕ} {log : List (Key × Option Answer)} {p : Pieces} {u : State} → new ≡ old ++ told → told ≡ first ++ second → Writes bank p (new, log) u → Writes bank (Says first ∷ Says second ∷ p) (old, log) u
+says-two {told} {first} {second} {old} {new} e is h = says-then refl (says-then (e ∙ ap (λ w. old ++ w) is ∙ sym (append_assoc old first second)) h)
+
 -- an id, and then pieces
 pub id-then : {bank : Key → Option Answer} {path : List (List ℕ)} {p : Pieces} {s t u : State} → Writes bank (IdOf path ∷ []) s t → Writes bank p t u → Writes bank (IdOf path ∷ p) s u
 id-then {bank} {path} {p} {s} {t} {u} h g = writes-then h g
@@ -66,6 +72,26 @@ id-then {bank} {path} {p} {s} {t} {u} h g = writes-then h g
 pub writes-id : {bank : Key → Option Answer} {path : List (List ℕ)} {old new : List ℕ} {log after : List (Key × Option Answer)} → new ≡ old ++ id_in (bank (key.IdOf path)) → after ≡ noted key_eq bank log (key.IdOf path) → Writes bank (IdOf path ∷ []) (old, log) (new, after)
 unfolding text_over ids_in
 writes-id {bank} {path} {old} {new} {log} {after} e l = record { text = e ∙ ap (λ x. old ++ x) (sym (append-nil (id_in (bank (key.IdOf path))))); log = l }
+
+-- and a text that is that id
+pub writes-id-as : {bank : Key → Option Answer} {path : List (List ℕ)} {told old new : List ℕ} {log after : List (Key × Option Answer)} → new ≡ old ++ told → told ≡ id_in (bank (key.IdOf path)) → after ≡ noted key_eq bank log (key.IdOf path) → Writes bank (IdOf path ∷ []) (old, log) (new, after)
+writes-id-as {told} {old} e is l = writes-id (e ∙ ap (λ w. old ++ w) is) l
+
+-- a key that is noted is not noted again
+noted-by : (bank : Key → Option Answer) (log : List (Key × Option Answer)) (k : Key) (b : Bool) → is_logged key_eq log k ≡ b → noted key_eq bank (cond b log (log ++ (k, bank k) ∷ [])) k ≡ cond b log (log ++ (k, bank k) ∷ [])
+noted-by bank log k true h = ap (λ b. cond b log (log ++ (k, bank k) ∷ [])) h
+noted-by bank log k false h =
+    let more = log ++ (k, bank k) ∷ [] in
+    let last : is_logged key_eq ((k, bank k) ∷ []) k ≡ true = ap (λ b. b || false) (key_equiv.refl k) in
+    let there : is_logged key_eq more k ≡ true = list_any-append (λ (e : Key × Option Answer). key_eq k e.0) log ((k, bank k) ∷ []) ∙ ap (λ b. b || is_logged key_eq ((k, bank k) ∷ []) k) h ∙ last in
+    ap (λ b. cond b more (more ++ (k, bank k) ∷ [])) there
+
+noted-again : (bank : Key → Option Answer) (log : List (Key × Option Answer)) (k : Key) → noted key_eq bank (noted key_eq bank log k) k ≡ noted key_eq bank log k
+noted-again bank log k = noted-by bank log k (is_logged key_eq log k) refl
+
+-- an id that was asked already
+pub writes-known : {bank : Key → Option Answer} {path : List (List ℕ)} {id old new : List ℕ} {after : List (Key × Option Answer)} (log : List (Key × Option Answer)) → new ≡ old ++ id → id ≡ id_in (bank (key.IdOf path)) → after ≡ noted key_eq bank log (key.IdOf path) → Writes bank (IdOf path ∷ []) (old, after) (new, after)
+writes-known {bank} {path} {id} {old} {new} {after} log e is l = writes-id-as e is (l ∙ sym (noted-again bank log (key.IdOf path)) ∙ ap (λ a. noted key_eq bank a (key.IdOf path)) (sym l))
 
 -- the same pieces
 pub writes-as : {bank : Key → Option Answer} {p q : Pieces} {s t : State} → p ≡ q → Writes bank p s t → Writes bank q s t

@@ -186,7 +186,15 @@ part_pieces code.Union e = type_behind e.data_type ++ entries_of (members_of e)
 part_pieces code.Enumeration e = says (flat_map enumerator_word e.enumerators)
 part_pieces code.Alias e = type_behind e.data_type
 
+-- behind the id the name and the parts
+abbrev pub rest_pieces : TypeCodeKind → Entity → Pieces
+rest_pieces k e =
+    Says (codes ",") ∷ Says (name_of e.path) ∷ (part_pieces k e ++ says (codes ")"))
+
 abbrev pub code_pieces : TypeCodeKind → Entity → Pieces
 code_pieces k e =
-    Says (code_word k) ∷ Says (codes "(") ∷ IdOf e.path ∷ Says (codes ",")
-    ∷ Says (name_of e.path) ∷ (part_pieces k e ++ says (codes ")"))
+    Says (code_word k) ∷ Says (codes "(") ∷ IdOf e.path ∷ rest_pieces k e
+
+-- the beginning of a TypeCode with this id, behind a blank
+abbrev pub code_head : TypeCodeKind → List ℕ → List ℕ
+code_head k id = codes " " ++ (code_word k ++ (codes "(" ++ id))

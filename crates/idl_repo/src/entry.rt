@@ -70,7 +70,6 @@ impl Task<Env> for EntryTask {
 /// The entry of the name at a path. What it asks goes into the journal, behind what is there.
 ///
 /// After want of memory nothing is said of the journal.
-#[tactic(auto, unfolding(crate::specs::Entry::entry))]
 pub fn entry_of(
     alloc: Global,
     env: &Env,
@@ -80,6 +79,23 @@ pub fn entry_of(
     ensures { IfOk result (λ e.
         (e, log.new) ≡ run key_eq (entry path.now) (answers env.now) log.old) }
 {
+    let mut buffer = Vec::with_capacity(alloc, USUAL)?;
+    entry_by(&mut buffer, env, log, path)
+}
+
+/// The same, where the row is written in a buffer before it is copied. What stands in the buffer is given up, and many entries
+/// may be written in one.
+#[tactic(auto, unfolding(crate::specs::Entry::entry))]
+pub fn entry_by(
+    buffer: &mut Vec<u8>,
+    env: &Env,
+    log: &mut Journal<Env>,
+    path: &Path,
+) -> Result<Entry, AllocError>
+    ensures { IfOk result (λ e.
+        (e, log.new) ≡ run key_eq (entry path.now) (answers env.now) log.old) }
+{
+    let alloc = env.alloc();
     let key = Key::of_entity(alloc, path)?;
     let Some(entity) = entity_in(log.ask(&key, env)?) else {
         return Ok(Entry {
@@ -87,9 +103,9 @@ pub fn entry_of(
             fault: None,
         });
     };
-    let mut text = Vec::with_capacity(alloc, USUAL)?;
-    push_row(&mut text, env, log, entity.get())?;
-    let row = Text::from_slice(alloc, text.as_slice())?;
+    buffer.clear();
+    push_row(buffer, env, log, entity.get())?;
+    let row = Text::from_slice(alloc, buffer.as_slice())?;
     Ok(Entry {
         row: Some(Shared::new(alloc, row)?),
         fault: closing_fault(entity.get()),

@@ -11,6 +11,6 @@ mod piece;
 mod row;
 mod type_code;
 
-pub use entry::{Entry, EntryTask, entry_of};
+pub use entry::{Entry, EntryTask, entry_by, entry_of};
 pub use laws::{asked_ids, listed_row, references};
 pub use type_code::{TypeCode, TypeCodeKind};

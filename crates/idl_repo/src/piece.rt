@@ -1,9 +1,12 @@
 //! What rows are made of: numbers, values, and repository ids, each of which is asked where it is told.
 
-ghost use Rattle.std.specs.Prelude.{◌≡◌, ◌∷◌, ◌++◌, [], OnOk, decimal};
-ghost use Rattle.idl_repo.specs.Pieces.{IdOf, Writes};
+ghost use Rattle.std.specs.Prelude.{◌≡◌, ◌∷◌, ◌++◌, [], IfOk, OnOk, decimal};
+ghost use Rattle.idl_memo.specs.Query.{noted};
+ghost use Rattle.idl_repo.specs.Pieces.{IdOf, Writes, id_in};
 ghost use Rattle.idl_repo.specs.TypeCode.{listed_value};
 ghost use Rattle.idl_scope.specs.Facts.{answers};
+ghost use Rattle.idl_scope.specs.Key.{key_eq};
+ghost use Rattle.idl_scope.specs.declared.key.Key.TheVariants as key;
 
 use idl_memo::Journal;
 use idl_scope::{DigestedKey, Env, Key, Path, identity_in};
@@ -29,7 +32,20 @@ pub fn push_listed(text: &mut Vec<u8>, value: &Value) -> Result<(), AllocError>
     }
 }
 
-/// The id of what is declared at a path, which is asked for.
+/// The id of what is declared at a path, which is asked for; no bytes where none is told.
+pub fn id_of<'e>(env: &'e Env, log: &mut Journal<Env>, path: &Path) -> Result<&'e [u8], AllocError>
+    ensures id { IfOk result (λ id. id.now ≡ id_in (answers env.now (key.IdOf path.now))) }
+    ensures logged { OnOk result
+        (log.new ≡ noted key_eq (answers env.now) log.old (key.IdOf path.now)) }
+{
+    let key = DigestedKey::of(Key::IdOf(path.clone()?));
+    match identity_in(log.ask(&key, env)?) {
+        Some(identity) => Ok(identity.get().id.as_bytes()),
+        None => Ok(&[]),
+    }
+}
+
+/// The same, written.
 pub fn push_id(
     text: &mut Vec<u8>,
     env: &Env,
@@ -40,9 +56,7 @@ pub fn push_id(
         (Writes (answers env.now) (IdOf path.now ∷ [])
         (text.old.items, log.old) (text.new.items, log.new)) }
 {
-    let key = DigestedKey::of(Key::IdOf(path.clone()?));
-    match identity_in(log.ask(&key, env)?) {
-        Some(identity) => text.extend_from_slice(identity.get().id.as_bytes()),
-        None => Ok(()),
-    }
+    let id = id_of(env, log, path)?;
+    text.extend_from_slice(id)?;
+    Ok(())
 }

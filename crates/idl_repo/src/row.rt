@@ -1,11 +1,12 @@
 //! Rows of a listing.
 
-ghost use Rattle.std.specs.Prelude.{◌≡◌, ◌++◌, OnOk};
+ghost use Rattle.std.specs.Prelude.{◌≡◌, ◌++◌, None, OnOk, codes};
 ghost use Rattle.idl_repo.specs.Pieces.{Writes, commas};
-ghost use Rattle.idl_repo.specs.Row.{attribute_pieces, behind_id, coded_pieces, constant_pieces, context_word, contexts_of, contexts_word, direction_word, flag, kind_word, operation_pieces, parameter_pieces, path_text, raised_by_set_of, raised_of, references, row_pieces};
+ghost use Rattle.idl_repo.specs.Row.{attribute_pieces, bases_pieces, behind_id, constant_pieces, context_word, contexts_of, contexts_word, direction_word, flag, kind_word, operation_pieces, parameter_pieces, path_text, raised_by_set_of, raised_of, references, row_pieces};
+ghost use Rattle.idl_repo.specs.TypeCode.{kind_in};
 ghost use Rattle.idl_scope.specs.Facts.{answers};
 
-use crate::piece::{push_id, push_listed};
+use crate::piece::{id_of, push_listed};
 use crate::type_code::{TypeCode, members_of, push_reference, push_type, push_typed, signature_of};
 use idl_base::Seq;
 use idl_memo::Journal;
@@ -24,32 +25,39 @@ pub fn push_row(
         (Writes (answers env.now) (row_pieces entity.now)
         (text.old.items, log.old) (text.new.items, log.new)) }
 {
-    text.extend_from_slice(kind_word(entity.kind))?;
-    text.extend_from_slice(b" ")?;
+    text.extend_from_slice(kind_head(entity.kind))?;
     push_path(text, entity.path.lent())?;
     text.extend_from_slice(b" ")?;
-    push_id(text, env, log, &entity.path)?;
-    push_behind_id(text, env, log, entity)?;
+    let id = id_of(env, log, &entity.path)?;
+    text.extend_from_slice(id)?;
+    match TypeCode::of(entity) {
+        Some(code) => {
+            code.push_head(text, id)?;
+            code.push_rest(text, env, log)?;
+            push_bases(text, env, log, entity)?;
+        }
+        None => push_uncoded(text, env, log, entity)?,
+    }
     Ok(())
 }
 
-// The word of a row.
-fn kind_word(kind: Kind) -> &'static [u8]
-    ensures { result.now ≡ kind_word kind }
+// The word of a row, with a blank behind it.
+fn kind_head(kind: Kind) -> &'static [u8]
+    ensures { result.now ≡ kind_word kind ++ codes " " }
 {
     match kind {
-        Kind::Module => b"module",
-        Kind::Interface => b"interface",
-        Kind::Structure => b"struct",
-        Kind::Union => b"union",
-        Kind::Exception => b"exception",
-        Kind::Enumeration => b"enum",
-        Kind::Alias => b"alias",
-        Kind::Native => b"native",
-        Kind::Constant => b"const",
-        Kind::Attribute => b"attribute",
-        Kind::Operation => b"operation",
-        Kind::Enumerator | Kind::Parameter | Kind::Member => b"",
+        Kind::Module => b"module ",
+        Kind::Interface => b"interface ",
+        Kind::Structure => b"struct ",
+        Kind::Union => b"union ",
+        Kind::Exception => b"exception ",
+        Kind::Enumeration => b"enum ",
+        Kind::Alias => b"alias ",
+        Kind::Native => b"native ",
+        Kind::Constant => b"const ",
+        Kind::Attribute => b"attribute ",
+        Kind::Operation => b"operation ",
+        Kind::Enumerator | Kind::Parameter | Kind::Member => b" ",
     }
 }
 
@@ -68,13 +76,14 @@ fn push_path(text: &mut Vec<u8>, names: Names<'_>) -> Result<(), AllocError>
     Ok(())
 }
 
-// What stands behind the id.
-fn push_behind_id(
+// What stands behind the id of a name that has no TypeCode.
+fn push_uncoded(
     text: &mut Vec<u8>,
     env: &Env,
     log: &mut Journal<Env>,
     entity: &Entity,
 ) -> Result<(), AllocError>
+    requires { kind_in entity.now ≡ None }
     ensures { OnOk result
         (Writes (answers env.now) (behind_id entity.now)
         (text.old.items, log.old) (text.new.items, log.new)) }
@@ -83,26 +92,21 @@ fn push_behind_id(
         Kind::Constant => push_constant(text, env, log, entity),
         Kind::Attribute => push_attribute(text, env, log, entity),
         Kind::Operation => push_operation(text, env, log, entity),
-        _ => push_coded(text, env, log, entity),
+        _ => Ok(()),
     }
 }
 
-// A name that has a TypeCode, or a module; behind that of an interface its bases.
-fn push_coded(
+// Behind the TypeCode of an interface its bases.
+fn push_bases(
     text: &mut Vec<u8>,
     env: &Env,
     log: &mut Journal<Env>,
     entity: &Entity,
 ) -> Result<(), AllocError>
     ensures { OnOk result
-        (Writes (answers env.now) (coded_pieces entity.now)
+        (Writes (answers env.now) (bases_pieces entity.now)
         (text.old.items, log.old) (text.new.items, log.new)) }
 {
-    let Some(code) = TypeCode::of(entity) else {
-        return Ok(());
-    };
-    text.extend_from_slice(b" ")?;
-    code.push_to(text, env, log)?;
     if entity.kind == Kind::Interface {
         text.extend_from_slice(b" bases(")?;
         push_references(text, env, log, entity.bases.as_slice())?;
@@ -267,20 +271,19 @@ fn push_parameter(
         (Writes (answers env.now) (parameter_pieces parameter.now)
         (text.old.items, log.old) (text.new.items, log.new)) }
 {
-    text.extend_from_slice(direction_word(parameter.goes_in, parameter.comes_out))?;
-    text.extend_from_slice(b" ")?;
+    text.extend_from_slice(direction_head(parameter.goes_in, parameter.comes_out))?;
     push_typed(text, env, log, parameter)?;
     Ok(())
 }
 
-// Where a parameter goes.
-fn direction_word(goes_in: bool, comes_out: bool) -> &'static [u8]
-    ensures { result.now ≡ direction_word goes_in comes_out }
+// Where a parameter goes, with a blank behind it.
+fn direction_head(goes_in: bool, comes_out: bool) -> &'static [u8]
+    ensures { result.now ≡ direction_word goes_in comes_out ++ codes " " }
 {
     match (goes_in, comes_out) {
-        (true, true) => b"inout",
-        (false, true) => b"out",
-        _ => b"in",
+        (true, true) => b"inout ",
+        (false, true) => b"out ",
+        _ => b"in ",
     }
 }
 

@@ -1,9 +1,9 @@
 //! TypeCodes, and how they and types are written.
 
-ghost use Rattle.std.specs.Prelude.{◌≡◌, ◌++◌, IfOk, IfSome, OnOk, flat_map};
+ghost use Rattle.std.specs.Prelude.{◌≡◌, ◌++◌, IfOk, IfSome, OnOk, codes, flat_map};
 ghost use Rattle.std.specs.Option.{option_copied, option_map};
 ghost use Rattle.idl_repo.specs.Pieces.{Writes};
-ghost use Rattle.idl_repo.specs.TypeCode.{code_pieces, code_word, default_at, default_word, element_pieces, entries_of, enumerator_word, integer_word, kind_in, label_word, labelled_pieces, layer_end, layer_word, layers_begin, member_pieces, members_of, part_pieces, reference, size_of, string_word, target_word, type_behind, type_pieces, typed_pieces, unvalued_word};
+ghost use Rattle.idl_repo.specs.TypeCode.{code_head, code_word, default_at, default_word, element_pieces, entries_of, enumerator_word, integer_word, kind_in, label_word, labelled_pieces, layer_end, layer_word, layers_begin, member_pieces, members_of, part_pieces, reference, rest_pieces, size_of, string_word, target_word, type_behind, type_pieces, typed_pieces, unvalued_word};
 ghost use Rattle.idl_scope.specs.Facts.{answers};
 
 use crate::piece::{push_id, push_listed, push_number};
@@ -36,19 +36,19 @@ pub struct TypeCode<'a> {
 }
 
 impl TypeCodeKind {
-    /// The word of it.
-    pub fn word(self) -> &'static [u8]
-        ensures { result.now ≡ code_word self }
+    /// The word of it, behind a blank, and the parenthesis behind it.
+    pub fn head(self) -> &'static [u8]
+        ensures { result.now ≡ codes " " ++ (code_word self ++ codes "(") }
     {
         match self {
-            TypeCodeKind::ObjectReference => b"tk_objref",
-            TypeCodeKind::LocalInterface => b"tk_local_interface",
-            TypeCodeKind::Structure => b"tk_struct",
-            TypeCodeKind::Exception => b"tk_except",
-            TypeCodeKind::Union => b"tk_union",
-            TypeCodeKind::Enumeration => b"tk_enum",
-            TypeCodeKind::Alias => b"tk_alias",
-            TypeCodeKind::Native => b"tk_native",
+            TypeCodeKind::ObjectReference => b" tk_objref(",
+            TypeCodeKind::LocalInterface => b" tk_local_interface(",
+            TypeCodeKind::Structure => b" tk_struct(",
+            TypeCodeKind::Exception => b" tk_except(",
+            TypeCodeKind::Union => b" tk_union(",
+            TypeCodeKind::Enumeration => b" tk_enum(",
+            TypeCodeKind::Alias => b" tk_alias(",
+            TypeCodeKind::Native => b" tk_native(",
         }
     }
 }
@@ -73,20 +73,27 @@ impl<'a> TypeCode<'a> {
         Some(TypeCode { kind, entity })
     }
 
-    /// Writes it: its word, and in parentheses its id, its name and its parts.
-    pub fn push_to(
+    /// Writes its beginning, behind a blank: its word, and in parentheses its id, which is this.
+    pub fn push_head(self, text: &mut Vec<u8>, id: &[u8]) -> Result<(), AllocError>
+        ensures { OnOk result
+            (text.new.items ≡ text.old.items ++ code_head self.entry.kind id.now) }
+    {
+        text.extend_from_slice(self.kind.head())?;
+        text.extend_from_slice(id)?;
+        Ok(())
+    }
+
+    /// Writes what stands behind its id: its name and its parts.
+    pub fn push_rest(
         self,
         text: &mut Vec<u8>,
         env: &Env,
         log: &mut Journal<Env>,
     ) -> Result<(), AllocError>
         ensures { OnOk result
-            (Writes (answers env.now) (code_pieces self.entry.kind self.entry.entity.now)
+            (Writes (answers env.now) (rest_pieces self.entry.kind self.entry.entity.now)
             (text.old.items, log.old) (text.new.items, log.new)) }
     {
-        text.extend_from_slice(self.kind.word())?;
-        text.extend_from_slice(b"(")?;
-        push_id(text, env, log, &self.entity.path)?;
         text.extend_from_slice(b",")?;
         text.extend_from_slice(self.entity.path.name())?;
         self.push_parts(text, env, log)?;

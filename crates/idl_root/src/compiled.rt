@@ -49,7 +49,7 @@ pub fn compile(alloc: Global, end: &Place, expansion: &Expansion) -> Result<Comp
 {
     let units = split(alloc, expansion)?;
     let findings = event_findings(alloc, expansion)?;
-    let first = Judging::new(alloc, findings)?;
+    let first = Judging::new(alloc, findings, units.as_slice().len())?;
     let judging = first.with_all(alloc, units.as_slice())?;
     Ok(told(alloc, end, judging)?)
 }

@@ -3,22 +3,27 @@
 ghost use Rattle.std.specs.Prelude.{◌≡◌, ◌∷◌, ◌++◌, [], IfOk, List, OnOk, flat_map, option_to_list};
 ghost use Rattle.idl_root.specs.Compile.{is_open};
 ghost use Rattle.idl_root.specs.Printed.{closing_finding, entry_row};
-ghost use Rattle.idl_root.specs.Held.{held, to_come, with_judged};
-ghost use Rattle.idl_root.specs.Judged.{boundary, judged_over, verdict_over};
-ghost use Rattle.idl_unit.specs.declared.unit.Unit.{Unit as RootUnit};
+ghost use Rattle.idl_root.specs.Held.{held, to_come, with_gathered, with_judged, with_units};
+ghost use Rattle.idl_root.specs.Judged.{added, boundary, judged_at, judged_over, verdict_over};
+ghost use Rattle.idl_scope.specs.Facts.{UnitFacts};
 
 use crate::compiled::Row;
 use crate::finding::{Finding, Spelled, push_fault};
 use crate::printing::{Listed, Printed, print_all, push_listed};
 use idl_check::{Verdict, verdict_of};
 use idl_memo::{Bank, Journal};
-use idl_scope::{DigestedKey, Env, Facts, Key, Step, scopes_in};
+use idl_scope::{DigestedKey, Env, Facts, Key, Shared, Step, scopes_in};
 use idl_unit::{Unit, UnitText};
 use std::alloc::{AllocError, Global};
 
-/// What has come of a root so far.
+/// What has come of a root so far: what its units added, and what was gathered of them.
 pub struct Judging<'a> {
     pub env: Env,
+    pub gathered: Gathered<'a>,
+}
+
+/// What was gathered of a root's units so far.
+pub struct Gathered<'a> {
     pub findings: Vec<Finding>,
     /// The rows of the dump.
     pub rows: Vec<Row>,
@@ -30,6 +35,14 @@ impl<'a> Drop for Judging<'a> {
     fn drop(self) {
         let Judging {
             env: _env,
+            gathered: _gathered,
+        } = self;
+    }
+}
+
+impl<'a> Drop for Gathered<'a> {
+    fn drop(self) {
+        let Gathered {
             findings: _findings,
             rows: _rows,
             listed: _listed,
@@ -38,18 +51,26 @@ impl<'a> Drop for Judging<'a> {
 }
 
 impl<'a> Judging<'a> {
-    /// Before the first unit, where this is found in the events.
-    pub fn new(alloc: Global, findings: Vec<Finding>) -> Result<Judging<'a>, AllocError>
+    /// Before the first of so many units, where this is found in the events.
+    pub fn new(
+        alloc: Global,
+        findings: Vec<Finding>,
+        count: usize,
+    ) -> Result<Judging<'a>, AllocError>
         ensures { IfOk result (λ judging.
             held judging
             ≡ record { facts = []; found = findings.items; rows = []; listed = [] }) }
     {
+        let rows = Vec::with_capacity(alloc, count)?;
+        let listed = Vec::with_capacity(alloc, count)?;
         let env = Env::new(alloc)?;
         Ok(Judging {
             env,
-            findings,
-            rows: Vec::new(alloc),
-            listed: Vec::new(alloc),
+            gathered: Gathered {
+                findings,
+                rows,
+                listed,
+            },
         })
     }
 
@@ -57,98 +78,16 @@ impl<'a> Judging<'a> {
     pub fn with_all(self, alloc: Global, units: &'a [Unit]) -> Result<Judging<'a>, AllocError>
         ensures { IfOk result (λ judging. held judging ≡ to_come (held self.entry) units.now) }
     {
-        let mut judging = self;
+        let Judging {
+            mut env,
+            mut gathered,
+        } = self;
         for unit in units {
-            judging = judging.with(alloc, unit)?;
-        }
-        Ok(judging)
-    }
-
-    // After one unit more.
-    #[tactic(auto, unfolding(crate::specs::Judged::judged_after, crate::specs::Judged::facts_after))]
-    fn with(self, alloc: Global, unit: &'a Unit) -> Result<Judging<'a>, AllocError>
-        ensures { IfOk result (λ judging. (units : List RootUnit)
-            → to_come (held judging) units ≡ to_come (held self.entry) (unit.now ∷ units)) }
-    {
-        match unit {
-            Unit::Spelled(text, sites) => {
-                let unit = Spelled {
-                    text,
-                    sites: sites.as_slice(),
-                };
-                Ok(self.with_spelled(alloc, unit)?)
+            if let Some(facts) = gathered.add(alloc, &env, unit)? {
+                env = env.add(facts.get())?;
             }
-            Unit::Entered(_file) => Ok(self.with_boundary(alloc, Step::Enters)?),
-            Unit::Left(_file) => Ok(self.with_boundary(alloc, Step::Leaves)?),
-            Unit::End => Ok(self),
         }
-    }
-
-    // After a file boundary.
-    fn with_boundary(self, alloc: Global, step: Step) -> Result<Judging<'a>, AllocError>
-        ensures { IfOk result (λ judging.
-            held judging
-            ≡ record (held self.entry) { facts = self.entry.env ++ boundary step ∷ [] }) }
-    {
-        let mut facts = Facts::new(alloc);
-        facts.then(step);
-        let Judging {
-            env,
-            findings,
-            rows,
-            listed,
-        } = self;
-        let env = env.add(&facts)?;
-        Ok(Judging {
-            env,
-            findings,
-            rows,
-            listed,
-        })
-    }
-
-    // After a unit with tokens.
-    fn with_spelled(self, alloc: Global, unit: Spelled<'a>) -> Result<Judging<'a>, AllocError>
-        ensures { IfOk result (λ judging.
-            held judging
-            ≡ with_judged (held self.entry)
-            (judged_over self.entry.env unit.entry.text.now unit.entry.sites.now)) }
-    {
-        let verdict = verdict_over(&self.env, unit.text)?;
-        Ok(self.with_verdict(alloc, unit, &verdict)?)
-    }
-
-    // After a unit with this verdict.
-    fn with_verdict(
-        self,
-        alloc: Global,
-        unit: Spelled<'a>,
-        verdict: &Verdict,
-    ) -> Result<Judging<'a>, AllocError>
-        ensures { IfOk result (λ judging.
-            held judging
-            ≡ with_judged (held self.entry) (record {
-              text = unit.entry.text.now;
-              sites = unit.entry.sites.now;
-              verdict = verdict.now;
-            })) }
-    {
-        let Judging {
-            env,
-            mut findings,
-            mut rows,
-            mut listed,
-        } = self;
-        push_fault(alloc, &mut findings, unit, verdict.fault)?;
-        push_row(&mut rows, &verdict.row)?;
-        push_listed(&mut listed, unit, verdict.writes.get())?;
-        let env = env.add(verdict.writes.get())?;
-        Ok(Judging {
-            env,
-            findings,
-            rows,
-            listed,
-        })
+        Ok(Judging { env, gathered })
     }
 
     /// Whether a scope beside the global one is open.
@@ -165,22 +104,110 @@ impl<'a> Judging<'a> {
         ensures rows { IfOk result (λ printed. printed.rows.items
             ≡ flat_map (entry_row self.now.env) (held self.now).listed) }
     {
-        print_all(alloc, &self.env, self.listed.as_slice())
+        print_all(alloc, &self.env, self.gathered.listed.as_slice())
     }
 
     /// What was found, and the rows of the dump.
     pub fn ended(self) -> (Vec<Finding>, Vec<Row>)
-        ensures found { result.0 ≡ self.entry.findings }
-        ensures rows { result.1 ≡ self.entry.rows }
+        ensures found { result.0 ≡ self.entry.gathered.findings }
+        ensures rows { result.1 ≡ self.entry.gathered.rows }
     {
         let Judging {
             env: _env,
+            gathered,
+        } = self;
+        gathered.ended()
+    }
+}
+
+impl<'a> Gathered<'a> {
+    // The findings, and the rows.
+    fn ended(self) -> (Vec<Finding>, Vec<Row>)
+        ensures found { result.0 ≡ self.entry.findings }
+        ensures rows { result.1 ≡ self.entry.rows }
+    {
+        let Gathered {
             findings,
             rows,
             listed: _listed,
         } = self;
         (findings, rows)
     }
+
+    // Puts in what comes of one unit more over these facts, and gives what it adds to them.
+    fn add(
+        &mut self,
+        alloc: Global,
+        env: &Env,
+        unit: &'a Unit,
+    ) -> Result<Option<Shared<Facts>>, AllocError>
+        ensures added { IfOk result (λ facts. option_to_list facts ≡ added env.now unit.now) }
+        ensures gathered { OnOk result ((facts : List UnitFacts)
+            → with_gathered facts self.new
+            ≡ with_units (with_gathered facts self.old) (judged_at env.now unit.now)) }
+    {
+        match unit {
+            Unit::Spelled(text, sites) => {
+                let unit = Spelled {
+                    text,
+                    sites: sites.as_slice(),
+                };
+                Ok(Some(self.add_spelled(alloc, env, unit)?))
+            }
+            Unit::Entered(_file) => Ok(Some(boundary(alloc, Step::Enters)?)),
+            Unit::Left(_file) => Ok(Some(boundary(alloc, Step::Leaves)?)),
+            Unit::End => Ok(None),
+        }
+    }
+
+    // The same of a unit with tokens.
+    fn add_spelled(
+        &mut self,
+        alloc: Global,
+        env: &Env,
+        unit: Spelled<'a>,
+    ) -> Result<Shared<Facts>, AllocError>
+        ensures added { IfOk result (λ facts.
+            facts ≡ (verdict_over env.now unit.entry.text.now).writes) }
+        ensures gathered { OnOk result ((facts : List UnitFacts)
+            → with_gathered facts self.new
+            ≡ with_judged (with_gathered facts self.old)
+            (judged_over env.now unit.entry.text.now unit.entry.sites.now)) }
+    {
+        let verdict = verdict_over(env, unit.text)?;
+        self.add_verdict(alloc, unit, &verdict)?;
+        Ok(verdict.writes.clone()?)
+    }
+
+    // Puts in what comes of a unit with this verdict.
+    fn add_verdict(
+        &mut self,
+        alloc: Global,
+        unit: Spelled<'a>,
+        verdict: &Verdict,
+    ) -> Result<(), AllocError>
+        ensures { OnOk result ((facts : List UnitFacts)
+            → with_gathered facts self.new
+            ≡ with_judged (with_gathered facts self.old) (record {
+              text = unit.entry.text.now;
+              sites = unit.entry.sites.now;
+              verdict = verdict.now;
+            })) }
+    {
+        push_fault(alloc, &mut self.findings, unit, verdict.fault)?;
+        push_row(&mut self.rows, &verdict.row)?;
+        push_listed(&mut self.listed, unit, verdict.writes.get())?;
+        Ok(())
+    }
+}
+
+// What a file boundary adds.
+fn boundary(alloc: Global, step: Step) -> Result<Shared<Facts>, AllocError>
+    ensures { IfOk result (λ facts. facts ≡ boundary step) }
+{
+    let mut facts = Facts::new(alloc);
+    facts.then(step);
+    Shared::new(alloc, facts)
 }
 
 // The verdict of a text over facts. What it asks is not kept.

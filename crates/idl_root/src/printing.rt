@@ -10,7 +10,7 @@ ghost use Rattle.idl_unit.specs.TokenRules.{fault_at};
 use crate::compiled::Row;
 use crate::finding::{Finding, Spelled, push_fault};
 use idl_memo::Journal;
-use idl_repo::{Entry, entry_of};
+use idl_repo::{Entry, entry_by};
 use idl_scope::{Addition, Env, Facts, Fixed, Path};
 use idl_unit::{Fault, UnitText};
 use std::alloc::{AllocError, Global};
@@ -100,8 +100,9 @@ pub fn print_all(alloc: Global, env: &Env, listed: &[Listed<'_>]) -> Result<Prin
         findings: Vec::new(alloc),
         rows: Vec::new(alloc),
     };
+    let mut buffer = Vec::new(alloc);
     for name in listed {
-        let entry = entry_over(alloc, env, &name.path)?;
+        let entry = entry_over(&mut buffer, env, &name.path)?;
         printed.add(alloc, name.unit, entry)?;
     }
     Ok(printed)
@@ -144,9 +145,9 @@ fn name_index(text: &UnitText) -> usize
     count.saturating_sub(2)
 }
 
-// The entry of the name at a path over facts. What it asks is not kept.
-fn entry_over(alloc: Global, env: &Env, path: &Path) -> Result<Entry, AllocError>
+// The entry of the name at a path over facts, written in a buffer. What it asks is not kept.
+fn entry_over(buffer: &mut Vec<u8>, env: &Env, path: &Path) -> Result<Entry, AllocError>
     ensures { IfOk result (λ entry. entry ≡ entry_over env.now path.now) }
 {
-    entry_of(alloc, env, &mut Journal::told(), path)
+    entry_by(buffer, env, &mut Journal::told(), path)
 }

@@ -26,30 +26,12 @@ use crate::name::scoped_name;
 use crate::operation::operation;
 use idl_base::Boxed;
 use idl_lex::{Keyword, Mark, Spelling, Token};
-use idl_tree::{Constant, ConstantType, Construction, Exception, Forward, Tree, Typedef, reading};
+use idl_tree::{Constant, ConstantType, Construction, Exception, Forward, Tree, Typedef};
 use std::alloc::Global;
-
-/// The tree that all of these tokens spell.
-///
-/// `ReadError::Syntax` says that no tree is spelled so, and how many tokens are left where they stop
-/// being the beginning of a unit. Calls go as deep as the unit nests, which the caller bounds.
-pub fn tree(alloc: Global, tokens: &[Token]) -> Result<Tree, ReadError>
-    ensures tree { IfOk result (λ tree. lexemes tokens.now ≡ spell tree) }
-    ensures fault { IfErr result (IsFault (lexemes tokens.now)) }
-{
-    // It does nothing: it carries the laws of what is read.
-    reading();
-    let (tree, rest) = unit(alloc, tokens.len() + 1, tokens)?;
-    if rest.is_empty() {
-        Ok(tree)
-    } else {
-        Err(ReadError::Syntax(rest.len()))
-    }
-}
 
 /// A unit, with parts of less than so many levels.
 #[tactic(auto, unfolding(idl_tree::specs::ReadUnit::unit_at, idl_tree::specs::ReadUnit::unit_with))]
-fn unit(alloc: Global, depth: usize, tokens: &[Token]) -> Result<(Tree, &[Token]), ReadError>
+pub fn unit(alloc: Global, depth: usize, tokens: &[Token]) -> Result<(Tree, &[Token]), ReadError>
     ensures reads { Reads (unit_at depth) tokens.now result }
     ensures shorter { Advances tokens.now result }
 {

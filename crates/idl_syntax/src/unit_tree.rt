@@ -13,10 +13,10 @@ ghost use Rattle.idl_unit.specs.declared.unit.UnitText.TheVariants as unit;
 
 use crate::error::ReadError;
 use crate::pragma::pragma;
-use crate::unit::tree;
+use crate::unit::unit;
 use idl_event::Code;
 use idl_lex::{Token, TokenRange};
-use idl_tree::{Pragma, Tree};
+use idl_tree::{Pragma, Tree, reading};
 use idl_unit::{Fault, UnitText, token_fault};
 use std::alloc::{AllocError, Global};
 
@@ -85,25 +85,26 @@ pub fn parse(alloc: Global, unit: &UnitText) -> Result<UnitTree, SyntaxFault>
     ensures fault { IfErr result (IsFaultOf unit.now (least_fault (rule_faults unit.now))) }
 {
     match unit {
-        UnitText::Tokens(run) => Ok(UnitTree::Tokens(tokens_tree(alloc, run.as_slice())?)),
-        UnitText::Pragma(tokens, inside) => {
-            Ok(UnitTree::Pragma(pragma_tree(alloc, tokens, *inside)?))
-        }
+        UnitText::Tokens(run) => tokens_tree(alloc, run.as_slice()),
+        UnitText::Pragma(tokens, inside) => pragma_tree(alloc, tokens, *inside),
     }
 }
 
-/// The tree of a unit of tokens.
-fn tokens_tree(alloc: Global, tokens: &[Token]) -> Result<Tree, SyntaxFault>
+/// The tree of a unit of tokens. It is made where it is given back, since trees are large.
+fn tokens_tree(alloc: Global, tokens: &[Token]) -> Result<UnitTree, SyntaxFault>
     ensures rules { IfOk result (λ tree. least_fault (token_faults tokens.now) ≡ None) }
-    ensures tree { IfOk result (λ tree. lexemes tokens.now ≡ spell tree) }
+    ensures tree { IfOk result (IsTreeOf (unit.Tokens tokens.now)) }
     ensures fault { IfErr result
         (IsFaultOf (unit.Tokens tokens.now) (least_fault (token_faults tokens.now))) }
 {
     if let Some(fault) = token_fault(tokens) {
         return Err(SyntaxFault::Rule(fault));
     }
-    match tree(alloc, tokens) {
-        Ok(tree) => Ok(tree),
+    // It does nothing: it carries the laws of what is read.
+    reading();
+    match unit(alloc, tokens.len() + 1, tokens) {
+        Ok((tree, [])) => Ok(UnitTree::Tokens(tree)),
+        Ok((_tree, rest)) => Err(SyntaxFault::NoTree(stop(tokens, rest.len()))),
         Err(ReadError::Memory) => Err(SyntaxFault::Memory),
         Err(ReadError::Syntax(left)) => Err(SyntaxFault::NoTree(stop(tokens, left))),
     }
@@ -120,9 +121,9 @@ fn stop(tokens: &[Token], left: usize) -> Option<usize>
 }
 
 /// The tree of a pragma, which stands inside a unit of tokens or outside.
-fn pragma_tree(alloc: Global, tokens: &TokenRange, inside: bool) -> Result<Pragma, SyntaxFault>
+fn pragma_tree(alloc: Global, tokens: &TokenRange, inside: bool) -> Result<UnitTree, SyntaxFault>
     ensures rules { IfOk result (λ tree. least_fault (pragma_faults tokens.now inside) ≡ None) }
-    ensures tree { IfOk result (λ tree. pragma_of tokens.now ≡ Some tree) }
+    ensures tree { IfOk result (IsTreeOf (unit.Pragma tokens.now inside)) }
     ensures fault { IfErr result (IsFaultOf (unit.Pragma tokens.now inside)
         (least_fault (pragma_faults tokens.now inside))) }
 {
@@ -133,7 +134,7 @@ fn pragma_tree(alloc: Global, tokens: &TokenRange, inside: bool) -> Result<Pragm
         }));
     }
     match pragma(alloc, tokens.as_slice())? {
-        Some(tree) => Ok(tree),
+        Some(tree) => Ok(UnitTree::Pragma(tree)),
         None => Err(SyntaxFault::Rule(Fault {
             index: 0,
             code: Code::MalformedPragma,

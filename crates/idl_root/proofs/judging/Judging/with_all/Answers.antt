@@ -1,11 +1,30 @@
-use Rattle.std.proofs.Common.{◌∙◌, sym}
-use Rattle.std.proofs.lemmas.List.{at_drop_all}
-use Rattle.idl_root.specs.Held.{held, to_come}
-use Rattle.idl_root.proofs.JudgingLemmas.{to_come-end}
+use Rattle.std.proofs.Common.{◌≡◌, ◌∙◌, ◌+◌, ◌∷◌, ◌++◌, [], Option, ap, append-nil, drop, sym}
+use Rattle.std.specs.Prelude.{option_to_list}
+use Rattle.std.proofs.lemmas.List.{at_drop_all, at_drop_more}
+use Rattle.idl_root.specs.Held.{held, to_come, with_gathered}
+use Rattle.idl_root.proofs.JudgingLemmas.{to_come-end, to_come-more}
+use Rattle.idl_scope.specs.Facts.{UnitFacts}
+use Rattle.idl_root.proofs.judging.Judging.with_all.Goals.{in-Some+in_ok-env, in_default}
 use Rattle.idl_root.proofs.judging.Judging.with_all.Goals as goal
+
+pub loop-unit-preserved : goal.loop-unit-preserved
+loop-unit-preserved c =
+    let env = c.loop-unit.env in
+    let gathered = c.loop-unit.gathered in
+    let unit = c.unit-item.result in
+    let rest = drop (c.loop-unit.unit-index + 1) c.args.units.now in
+    let before = with_gathered env gathered in
+    let own = option_to_list c.in_ok-facts.field-0 in
+    let back : to_come before (unit ∷ rest) ≡ to_come (held c.args.self) c.args.units.now =
+    ap (λ u. to_come before (u ∷ rest)) c.unit-item.is ∙ sym (at_drop_more (to_come before) c.args.units.now c.loop-unit.unit-index unit c.loop-unit-test.true) ∙ c.loop-unit.invariant in
+    let more : c.match-branch-2.env ≡ env ++ own → to_come (with_gathered c.match-branch-2.env c.add.new.self) rest ≡ to_come before (unit ∷ rest) = λ adds.
+    to_come-more env own c.match-branch-2.env gathered c.add.new.self unit rest c.in_ok-facts.ensures.added adds c.in_ok-facts.ensures.gathered in
+    elim c.match-branch-2.branch
+    [ in-Some+in_ok-env w ↦ more (w.env-is ∙ w.in_ok-env.ensures ∙ ap (λ f. env ++ f ∷ []) w.get.ensures ∙ ap (λ (fs : Option UnitFacts). env ++ option_to_list fs) (sym w.in-Some.is)) ∙ back
+    | in_default w ↦ more (w.env-is ∙ sym (append-nil env) ∙ ap (λ (fs : Option UnitFacts). env ++ option_to_list fs) (sym w.in_default.is)) ∙ back ]
 
 pub returns : goal.returns
 returns c =
-    let last = held c.loop-unit.judging in
+    let last = with_gathered c.loop-unit.env c.loop-unit.gathered in
     let over = at_drop_all (to_come last) c.args.units.now c.loop-unit.unit-index c.loop-unit-test.false in
     sym (sym c.loop-unit.invariant ∙ over ∙ to_come-end last)

@@ -4,7 +4,7 @@ use Rattle.idl_repo.proofs.EntryLaws.{entry-run}
 use Rattle.idl_repo.specs.Entry.{closing_fault}
 use Rattle.idl_scope.specs.Facts.{answers, entity_in, entity_key}
 use Rattle.idl_scope.specs.Key.{key_eq}
-use Rattle.idl_repo.proofs.entry.entry_of.Goals as goal
+use Rattle.idl_repo.proofs.entry.entry_by.Goals as goal
 
 pub returns : goal.returns
 returns c =
@@ -13,7 +13,7 @@ returns c =
     let log = c.args.log.now in
     let e = c.in-Some.entity.now in
     let is : entity_in (bank (entity_key path)) ≡ Some e = ap entity_in (sym (c.in_ok-ask.ensures.answer ∙ ap bank c.in_ok-key.ensures)) ∙ sym c.in-Some.ensures in
-    entry-run path bank log e c.get.result.now c.in_ok-new.field-0 c.closing_fault.result is c.get.ensures c.in_ok-text.ensures.items
+    entry-run path bank log e c.get.result.now c.in_ok-new.field-0 c.closing_fault.result is c.get.ensures c.clear.ensures.items
     (c.in_ok-ask.ensures.logged ∙ ap (noted key_eq bank log) c.in_ok-key.ensures)
     c.in_ok-push_row.ensures
     (c.in_ok-new.ensures ∙ c.in_ok-row.ensures ∙ c.as_slice.ensures.value)

@@ -1,0 +1,10 @@
+use Rattle.std.proofs.Common.{◌∙◌, ap}
+use Rattle.idl_check.specs.declared.verdict.Verdict.{Verdict}
+use Rattle.idl_root.specs.Held.{with_gathered, with_judged}
+use Rattle.idl_root.proofs.judging.Gathered.add_spelled.Goals as goal
+
+pub returns-clause-gathered : goal.returns-clause-gathered
+returns-clause-gathered c = λ facts.
+    let o = with_gathered facts c.args.self.now in
+    c.in_ok-add_verdict.ensures facts
+    ∙ ap (λ (v : Verdict). with_judged o (record { text = c.args.unit.text.now; sites = c.args.unit.sites.now; verdict = v })) c.in_ok-verdict.ensures
