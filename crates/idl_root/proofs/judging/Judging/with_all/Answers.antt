@@ -19,9 +19,10 @@ loop-unit-preserved c =
     ap (λ u. to_come before (u ∷ rest)) c.unit-item.is ∙ sym (at_drop_more (to_come before) c.args.units.now c.loop-unit.unit-index unit c.loop-unit-test.true) ∙ c.loop-unit.invariant in
     let more : c.match-branch-2.env ≡ env ++ own → to_come (with_gathered c.match-branch-2.env c.add.new.self) rest ≡ to_come before (unit ∷ rest) = λ adds.
     to_come-more env own c.match-branch-2.env gathered c.add.new.self unit rest c.in_ok-facts.ensures.added adds c.in_ok-facts.ensures.gathered in
-    elim c.match-branch-2.branch
-    [ in-Some+in_ok-env w ↦ more (w.env-is ∙ w.in_ok-env.ensures ∙ ap (λ f. env ++ f ∷ []) w.get.ensures ∙ ap (λ (fs : Option UnitFacts). env ++ option_to_list fs) (sym w.in-Some.is)) ∙ back
-    | in_default w ↦ more (w.env-is ∙ sym (append-nil env) ∙ ap (λ (fs : Option UnitFacts). env ++ option_to_list fs) (sym w.in_default.is)) ∙ back ]
+    elim c.match-branch-2.branch [
+      | in-Some+in_ok-env w ↦ more (w.env-is ∙ w.in_ok-env.ensures ∙ ap (λ f. env ++ f ∷ []) w.get.ensures ∙ ap (λ (fs : Option UnitFacts). env ++ option_to_list fs) (sym w.in-Some.is)) ∙ back
+      | in_default w ↦ more (w.env-is ∙ sym (append-nil env) ∙ ap (λ (fs : Option UnitFacts). env ++ option_to_list fs) (sym w.in_default.is)) ∙ back
+    ]
 
 pub returns : goal.returns
 returns c =
