@@ -142,8 +142,7 @@ impl<'a> Judge<'a> {
         if is_misplaced(tree, self.scopes) {
             return self.misplaced(log, sites.as_slice());
         }
-        let cursor = self.cursor()?;
-        let mut walker = Walker::new(self.env, cursor);
+        let mut walker = Walker::new(self.env, self.scopes);
         walker.walk(log, sites.as_slice())?;
         let unit = Spelled {
             tree,
@@ -153,13 +152,6 @@ impl<'a> Judge<'a> {
             Some(fault) => self.refused(log, fault),
             None => self.sound(log, unit, &mut walker),
         }
-    }
-
-    // The scopes, which a walk changes.
-    fn cursor(self) -> Result<Vec<Scope>, AllocError>
-        ensures { IfOk result (λ cursor. cursor.items ≡ self.entry.scopes.now) }
-    {
-        Vec::from_clones(self.env.alloc(), self.scopes)
     }
 
     // The verdict of a unit that its scope doesn't hold.
