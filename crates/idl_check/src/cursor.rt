@@ -1,6 +1,6 @@
 //! The open scopes around a token of a unit.
 
-ghost use Rattle.std.specs.Prelude.{◌≡◌, ◌∷◌, ◌++◌, [], IfOk, OnOk, drop, first};
+ghost use Rattle.std.specs.Prelude.{◌≡◌, ◌∷◌, ◌++◌, [], IfOk, OnOk, drop, slice_get};
 ghost use Rattle.std.specs.Option.{option_copied};
 ghost use Rattle.idl_check.specs.Cursor.{kept_or_around};
 
@@ -48,7 +48,7 @@ impl<'a> Cursor<'a> {
 
     /// The scopes.
     pub fn as_slice(&self) -> &[Scope]
-        ensures { result.now ≡ self.now }
+        ensures value { result.now ≡ self.now }
     {
         match self.kept.as_slice() {
             [] => self.around,
@@ -58,7 +58,7 @@ impl<'a> Cursor<'a> {
 
     /// The innermost.
     pub fn innermost(&self) -> Option<&Scope>
-        ensures { option_copied result ≡ first self.now }
+        ensures value { option_copied result ≡ slice_get self.now 0 }
     {
         self.as_slice().first()
     }

@@ -321,9 +321,7 @@ fn is_finished(ending: Ending<'_>, begun: &Entity) -> bool
 {
     match begun.kind {
         Kind::Interface | Kind::Attribute => false,
-        _ => {
-            begun.stage == Stage::Complete && begun.value.is_none() && ending.value.is_none()
-        }
+        _ => { begun.stage == Stage::Complete && begun.value.is_none() && ending.value.is_none() }
     }
 }
 
