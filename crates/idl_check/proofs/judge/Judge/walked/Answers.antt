@@ -27,8 +27,8 @@ returns-in-Some c =
     ∙ sym (judged_from bank turns tokens scopes tree log from w after gives))
     c.refused.ensures
 
-pub returns : goal.returns
-returns c =
+pub returns-in-None : goal.returns-in-None
+returns-in-None c =
     let bank = answers c.args.self.env.now in
     let tokens = c.args.self.tokens.now in
     let scopes = c.args.self.scopes.now in
