@@ -116,6 +116,12 @@ pub is_misplaced_by : (turns : ℕ) (tokens : List Token) (scopes : List Scope) 
 is_misplaced_by turns tokens scopes tree h =
     ap (λ b. cond b (misplaced turns tokens scopes tree) (and_then (walk turns (items (unit_parts tree)) (first_walk scopes)) (λ w. judged tokens scopes tree w))) h
 
+-- and one that doesn't
+pub is_placed_by : (turns : ℕ) (tokens : List Token) (scopes : List Scope) (tree : Tree) → is_misplaced tree scopes ≡ false
+    → by_names turns tokens scopes tree ≡ and_then (walk turns (items (unit_parts tree)) (first_walk scopes)) (λ w. judged tokens scopes tree w)
+is_placed_by turns tokens scopes tree h =
+    ap (λ b. cond b (misplaced turns tokens scopes tree) (and_then (walk turns (items (unit_parts tree)) (first_walk scopes)) (λ w. judged tokens scopes tree w))) h
+
 module _ (bank : Key → Option Answer) (turns : ℕ) (tokens : List Token) (scopes : List Scope) (tree : Tree) where
   -- what its first token asks
   abbrev first_asks : Option (List ℕ) → Lookup (List Entity)
@@ -134,13 +140,12 @@ module _ (bank : Key → Option Answer) (turns : ℕ) (tokens : List Token) (sco
       ∙ run-and_then_at key_eq (outward turns scopes (folded name)) (λ found. refused tokens (fault_at 0 MisplacedUnit)) bank log
       (runs_over bank (outward turns scopes (folded name)) log).0 after (λ i. ((runs_over bank (outward turns scopes (folded name)) log).0, asks i))
 
-  -- a walk that comes to this
-  pub judged_by : (log : List (Key × Option Answer)) (w : Walk) (after : List (Key × Option Answer)) → is_misplaced tree scopes ≡ false
-      → (w, after) ≡ runs_over bank (walk turns (items (unit_parts tree)) (first_walk scopes)) log
-      → runs_over bank (by_names turns tokens scopes tree) log ≡ runs_over bank (judged tokens scopes tree w) after
-  judged_by log w after h gives =
-      ap (λ b. runs_over bank (cond b (misplaced turns tokens scopes tree) (and_then (walk turns (items (unit_parts tree)) (first_walk scopes)) (λ w. judged tokens scopes tree w))) log) h
-      ∙ run-and_then_at key_eq (walk turns (items (unit_parts tree)) (first_walk scopes)) (λ w. judged tokens scopes tree w) bank log w after gives
+  -- a walk that comes to this, from here on
+  pub judged_from : (log : List (Key × Option Answer)) (from w : Walk) (after : List (Key × Option Answer))
+      → (w, after) ≡ runs_over bank (walk turns (items (unit_parts tree)) from) log
+      → runs_over bank (and_then (walk turns (items (unit_parts tree)) from) (λ w. judged tokens scopes tree w)) log ≡ runs_over bank (judged tokens scopes tree w) after
+  judged_from log from w after gives =
+      run-and_then_at key_eq (walk turns (items (unit_parts tree)) from) (λ w. judged tokens scopes tree w) bank log w after gives
 
   pub judged_faulty : (w : Walk) (fault : Fault) → w.fault ≡ Some fault → judged tokens scopes tree w ≡ refused tokens fault
   judged_faulty w fault h =

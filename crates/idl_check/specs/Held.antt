@@ -43,7 +43,7 @@ held_written written = record {
 abbrev pub held : Walker → Walk
 held w = record {
   at = w.at;
-  cursor = w.cursor.items;
+  cursor = w.cursor;
   own = w.own.additions;
   begun = w.begun.items;
   bases = w.bases;

@@ -8,6 +8,7 @@ pub mod Identifying
 pub mod Pragmas
 pub mod Using
 pub mod Walk
+pub mod Cursor
 pub mod Placing
 pub mod Row
 pub mod HeldRow

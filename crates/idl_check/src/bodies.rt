@@ -231,7 +231,7 @@ impl Body {
         let Body {
             entity,
             data_type,
-            members,
+            mut members,
             labels: _labels,
         } = self;
         let Some(entity) = entity else {
@@ -241,6 +241,7 @@ impl Body {
         if told.kind == Kind::Union {
             told.data_type = data_type;
         }
+        members.shrink_to_fit();
         told.signature = Some(clauses.signature(alloc, members)?);
         Ok(Some(Shared::new(alloc, told)?))
     }

@@ -1,6 +1,6 @@
 //! Declared names: what they are declared as, and what is wrong with that.
 
-ghost use Rattle.std.specs.Prelude.{◌≡◌, ◌∷◌, [], IfOk, IfSome, None, OnOk, Some};
+ghost use Rattle.std.specs.Prelude.{◌≡◌, ◌∷◌, [], IfOk, IfSome, None, OnOk, Some, true};
 ghost use Rattle.idl_check.specs.Declaring.{are_modules, come_ahead, data_type_in, declared_table, differs, entity_of, enumerators_in, finished, is_local_in, is_name_of_scope, is_oneway_in, is_readonly_in, kind_of, may_follow, stage_of, stays, value_in, written_after};
 ghost use Rattle.idl_check.specs.Held.{held_written};
 ghost use Rattle.idl_check.specs.Bodies.{array_of};
@@ -282,15 +282,18 @@ fn declared_path<'a>(own: &'a Facts, name: &[u8], scope: &Path) -> Option<&'a Pa
 pub fn finished(
     alloc: Global,
     ending: Ending<'_>,
-    begun: &Entity,
+    begun: &Shared<Entity>,
 ) -> Result<Shared<Entity>, AllocError>
     ensures { IfOk result (λ entity.
         entity
         ≡ finished ending.entry.bases.now ending.entry.value.now ending.entry.clauses.now
         begun.now) }
 {
-    let mut entity = begun.clone()?;
-    match begun.kind {
+    if is_finished(ending, begun.get()) {
+        return begun.clone();
+    }
+    let mut entity = begun.get().clone()?;
+    match begun.get().kind {
         Kind::Interface => {
             entity.stage = Stage::Open;
             entity.bases = ending.bases.clone()?;
@@ -308,6 +311,18 @@ pub fn finished(
         }
     }
     Shared::new(alloc, entity)
+}
+
+// Whether the end of its unit leaves it as it is, so that it can be shared.
+fn is_finished(ending: Ending<'_>, begun: &Entity) -> bool
+    ensures { result ≡ true
+        → finished ending.entry.bases.now ending.entry.value.now ending.entry.clauses.now
+        begun.now ≡ begun.now }
+{
+    match begun.kind {
+        Kind::Interface | Kind::Attribute => false,
+        _ => { begun.stage == Stage::Complete && begun.value.is_none() && ending.value.is_none() }
+    }
 }
 
 /// An entity as an array of these lengths, if it has a type.

@@ -1,10 +1,11 @@
 //! The verdict of a unit of tokens.
 
 ghost use Rattle.std.specs.Prelude.{◌≡◌, ◌≤◌, ◌++◌, [], ℕ, IfOk, List, None, OnOk, Some, map};
-ghost use Rattle.idl_check.specs.Held.{held};
+ghost use Rattle.idl_check.specs.Held.{HasRoomFor, held};
 ghost use Rattle.idl_check.specs.Placing.{opening_faults, step_of};
 ghost use Rattle.idl_check.specs.Verdict.{asking, by_names, first_part, judged, misplaced, refused, row_depth, sound, token_verdict, tree_of};
-ghost use Rattle.idl_memo.specs.Query.{run};
+ghost use Rattle.idl_check.specs.Walk.{walk};
+ghost use Rattle.idl_memo.specs.Query.{and_then, run};
 ghost use Rattle.idl_scope.specs.Facts.{answers, path_around};
 ghost use Rattle.idl_scope.specs.Key.{key_eq};
 ghost use Rattle.idl_scope.specs.declared.lookup.TheConstants.{TURNS};
@@ -142,24 +143,36 @@ impl<'a> Judge<'a> {
         if is_misplaced(tree, self.scopes) {
             return self.misplaced(log, sites.as_slice());
         }
-        let cursor = self.cursor()?;
-        let mut walker = Walker::new(self.env, cursor);
-        walker.walk(log, sites.as_slice())?;
         let unit = Spelled {
             tree,
             sites: sites.as_slice(),
         };
-        match walker.fault {
-            Some(fault) => self.refused(log, fault),
-            None => self.sound(log, unit, &mut walker),
-        }
+        let mut walker = Walker::new(self.env, self.scopes);
+        self.walked(log, unit, &mut walker)
     }
 
-    // The scopes, which a walk changes.
-    fn cursor(self) -> Result<Vec<Scope>, AllocError>
-        ensures { IfOk result (λ cursor. cursor.items ≡ self.entry.scopes.now) }
+    // The verdict of a unit that its scope holds, over whose sites this walk goes.
+    fn walked(
+        self,
+        log: &mut Journal<Env>,
+        unit: Spelled<'_>,
+        walker: &mut Walker<'_>,
+    ) -> Result<Verdict, AllocError>
+        requires sites { map item_at unit.sites.now ≡ items (unit_parts unit.tree.now) }
+        requires room { HasRoomFor (held walker.old) (map item_at unit.sites.now) }
+        requires env { walker.old.env.now ≡ self.env.now }
+        ensures { IfOk result (λ v. (turns : ℕ) → TURNS ≤ turns →
+            (v, log.new)
+            ≡ run key_eq
+            (and_then (walk turns (items (unit_parts unit.entry.tree.now)) (held walker.old))
+            (λ w. judged self.entry.tokens.now self.entry.scopes.now unit.entry.tree.now w))
+            (answers self.entry.env.now) log.old) }
     {
-        Vec::from_clones(self.env.alloc(), self.scopes)
+        walker.walk(log, unit.sites)?;
+        match walker.fault {
+            Some(fault) => self.refused(log, fault),
+            None => self.sound(log, unit, walker),
+        }
     }
 
     // The verdict of a unit that its scope doesn't hold.

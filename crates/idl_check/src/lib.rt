@@ -9,6 +9,7 @@
 mod bases;
 mod bodies;
 mod codes;
+mod cursor;
 mod declaring;
 mod identifying;
 mod judge;

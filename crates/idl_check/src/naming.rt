@@ -57,7 +57,7 @@ impl<'a> Walker<'a> {
         ensures env { OnOk result (self.new.env.now ≡ self.old.env.now) }
     {
         let alloc = self.env.alloc();
-        let Some(innermost) = self.cursor.first() else {
+        let Some(innermost) = self.cursor.innermost() else {
             self.at += 1;
             self.gives_back = false;
             return Ok(());

@@ -1,6 +1,6 @@
 //! The row of a unit in the dump.
 
-ghost use Rattle.std.specs.Prelude.{◌≡◌, ◌≤◌, ◌++◌, ◌||◌, codes, IfOk, OnOk, drop, flat_map, map};
+ghost use Rattle.std.specs.Prelude.{◌≡◌, ◌≤◌, ◌∷◌, ◌++◌, ◌||◌, [], codes, IfOk, OnOk, drop, flat_map, map};
 ghost use Rattle.std.specs.List.{repeat};
 ghost use Rattle.std.specs.Str.{bytes_eq};
 ghost use Rattle.idl_check.specs.Row.{behind_site, character, escaped, next_path, next_value, octal, path_word, row_of, site_text, spaced, text_word, token_text, unit_text};
@@ -166,23 +166,34 @@ fn push_tokens(text: &mut Vec<u8>, tokens: &[Token]) -> Result<(), AllocError>
 fn push_token(text: &mut Vec<u8>, token: &[u8]) -> Result<(), AllocError>
     ensures { OnOk result (text.new.items ≡ text.old.items ++ token_text token.now) }
 {
-    if is_close(token) {
-        text.extend_from_slice(token)?;
+    match token {
+        [byte] => push_mark(text, *byte),
+        _ => {
+            text.push(b' ')?;
+            text.extend_from_slice(token)?;
+            Ok(())
+        }
+    }
+}
+
+// A token of one byte.
+fn push_mark(text: &mut Vec<u8>, byte: u8) -> Result<(), AllocError>
+    ensures { OnOk result (text.new.items ≡ text.old.items ++ token_text (byte ∷ [])) }
+{
+    if is_close(byte) {
+        text.push(byte)?;
         return Ok(());
     }
     text.push(b' ')?;
-    text.extend_from_slice(token)?;
+    text.push(byte)?;
     Ok(())
 }
 
 // Whether no blank stands before it: `;` and `,`.
-fn is_close(token: &[u8]) -> bool
-    ensures { result ≡ (bytes_eq token.now (codes ";") || bytes_eq token.now (codes ",")) }
+fn is_close(byte: u8) -> bool
+    ensures { result ≡ (bytes_eq (byte ∷ []) (codes ";") || bytes_eq (byte ∷ []) (codes ",")) }
 {
-    match token {
-        [byte] => *byte == b';' || *byte == b',',
-        _ => false,
-    }
+    byte == b';' || byte == b','
 }
 
 // A declared name.

@@ -18,6 +18,7 @@ ghost use Rattle.idl_unit.specs.TokenRules.{fault_at};
 use crate::bases::Bases;
 use crate::bodies::{Body, Clauses, end_innermost};
 use crate::codes::lesser;
+use crate::cursor::Cursor;
 use crate::declaring::{Ending, Written, finished, kind_of, path_in};
 use crate::labels::Labels;
 use crate::values::Values;
@@ -38,7 +39,7 @@ pub struct Walker<'a> {
     /// The number of the next token.
     pub at: usize,
     /// The scopes around it, the innermost first.
-    pub cursor: Vec<Scope>,
+    pub cursor: Cursor<'a>,
     /// What the tokens before it add.
     pub own: Facts,
     /// Those of the declared names that the unit's end finishes.
@@ -86,15 +87,15 @@ impl<'a> Drop for Walker<'a> {
 
 impl<'a> Walker<'a> {
     /// Before the first site of a unit, in these scopes.
-    pub fn new(env: &'a Env, cursor: Vec<Scope>) -> Walker<'a>
-        ensures walk { held result ≡ first_walk cursor.items }
+    pub fn new(env: &'a Env, scopes: &'a [Scope]) -> Walker<'a>
+        ensures walk { held result ≡ first_walk scopes.now }
         ensures env { result.env.now ≡ env.now }
     {
         let alloc = env.alloc();
         Walker {
             env,
             at: 0,
-            cursor,
+            cursor: Cursor::new(alloc, scopes),
             own: Facts::new(alloc),
             begun: Vec::new(alloc),
             bases: Bases::new(alloc),
@@ -123,7 +124,7 @@ impl<'a> Walker<'a> {
             if self.is_over() {
                 return Ok(());
             }
-            self.visit(log, *site)?;
+            self.visit(log, site)?;
         }
         Ok(())
     }
@@ -152,9 +153,27 @@ impl<'a> Walker<'a> {
         self.fault = Some(least_of(self.fault, fault));
     }
 
-    // A site.
+    // A site. Most are tokens.
     #[tactic(auto, unfolding(crate::specs::Walk::visit))]
-    fn visit(&mut self, log: &mut Journal<Env>, site: Site<'_>) -> Result<(), AllocError>
+    fn visit(&mut self, log: &mut Journal<Env>, site: &Site<'_>) -> Result<(), AllocError>
+        requires { HasRoomFor (held self.old) (item_at site.now ∷ []) }
+        ensures visited { OnOk result ((turns : ℕ) → TURNS ≤ turns →
+            (held self.new, log.new)
+            ≡ run key_eq (visited turns (item_at site.now) (held self.old))
+            (answers self.old.env.now) log.old) }
+        ensures at { OnOk result (self.new.at ≡ self.old.at + item_length (item_at site.now)) }
+        ensures env { OnOk result (self.new.env.now ≡ self.old.env.now) }
+    {
+        match *site {
+            Site::Tokens(count) => self.pass(count),
+            other => self.visit_any(log, other),
+        }
+    }
+
+    // A site, whatever it is.
+    #[inline(never)]
+    #[tactic(auto, unfolding(crate::specs::Walk::visit))]
+    fn visit_any(&mut self, log: &mut Journal<Env>, site: Site<'_>) -> Result<(), AllocError>
         requires { HasRoomFor (held self.old) (item_at site ∷ []) }
         ensures visited { OnOk result ((turns : ℕ) → TURNS ≤ turns →
             (held self.new, log.new)
@@ -244,7 +263,7 @@ impl<'a> Walker<'a> {
         ensures walk { OnOk result
             (held self.new
             ≡ record (held self.old) {
-              cursor = with_scope way name.now self.old.cursor.items;
+              cursor = with_scope way name.now self.old.cursor;
               bodies =
                   begun_body self.old.last self.old.written.data_type
                   ∷ self.old.bodies.items;
@@ -254,7 +273,7 @@ impl<'a> Walker<'a> {
         let alloc = self.env.alloc();
         let body = Body::new(alloc, &self.last, &self.written.data_type)?;
         self.bodies.insert(0, body)?;
-        let Some(innermost) = self.cursor.first() else {
+        let Some(innermost) = self.cursor.innermost() else {
             return Ok(());
         };
         let path = path_in(alloc, &self.own, name, &innermost.path)?;
@@ -263,8 +282,7 @@ impl<'a> Walker<'a> {
             kind: kind_of(way),
             body: 1,
         };
-        self.cursor.insert(0, scope)?;
-        Ok(())
+        self.cursor.begin(alloc, scope)
     }
 
     // It ends: it is a type from then on. The labels of a union are complete.
@@ -274,7 +292,7 @@ impl<'a> Walker<'a> {
         ensures at { OnOk result (self.new.at ≡ self.old.at) }
         ensures env { OnOk result (self.new.env.now ≡ self.old.env.now) }
     {
-        let Some(innermost) = self.cursor.first() else {
+        let Some(innermost) = self.cursor.innermost() else {
             return Ok(());
         };
         let path = innermost.path.clone()?;
@@ -282,7 +300,7 @@ impl<'a> Walker<'a> {
         let alloc = self.env.alloc();
         self.written.name_type(alloc, &path)?;
         end_innermost(alloc, &mut self.bodies, &self.clauses, &mut self.begun)?;
-        leave(&mut self.cursor);
+        self.cursor.end();
         if is_union { self.end_union() } else { Ok(()) }
     }
 
@@ -349,15 +367,6 @@ fn least_of(before: Option<Fault>, fault: Fault) -> Fault
     }
 }
 
-// All but the innermost.
-fn leave(scopes: &mut Vec<Scope>)
-    ensures { scopes.new.items ≡ drop 1 scopes.old.items }
-{
-    if !scopes.is_empty() {
-        scopes.remove(0);
-    }
-}
-
 // Puts in what has begun, as the unit's end finishes it.
 fn finish(
     alloc: Global,
@@ -375,7 +384,7 @@ fn finish(
         }) }
 {
     for entity in begun {
-        own.add(Addition::Declares(finished(alloc, ending, entity.get())?))?;
+        own.add(Addition::Declares(finished(alloc, ending, entity)?))?;
     }
     Ok(())
 }

@@ -15,12 +15,15 @@ use idl_lex::Spelling;
 use idl_tree::{Constant, Exception, Tree, Typedef};
 use std::alloc::{AllocError, Global};
 
+// For so many sites there is room from the start. Few units have more.
+const ROOM: usize = 16;
+
 /// The sites of a unit, in the order of its tokens: its parts, as `specs/UnitParts.antt` gives them
 /// for each production.
 pub fn sites(alloc: Global, tree: &Tree) -> Result<Vec<Site<'_>>, AllocError>
     ensures { IfOk result (λ sites. map item_at sites.items ≡ items (unit_parts tree.now)) }
 {
-    let mut sites = Vec::new(alloc);
+    let mut sites = Vec::with_capacity(alloc, ROOM)?;
     push_unit(&mut sites, tree)?;
     Ok(sites)
 }

@@ -1,5 +1,4 @@
-use Rattle.std.proofs.Common.{◌≡◌, Some, sym, ap, ◌∙◌}
-use Rattle.std.specs.Prelude.{slice_get}
+use Rattle.std.proofs.Common.{◌≡◌, Some, sym, ◌∙◌}
 use Rattle.idl_check.proofs.VisitLemmas.{declared_in, first-at, runs_over}
 use Rattle.idl_check.specs.Declaring.{entity_of, standing}
 use Rattle.idl_check.specs.Held.{held}
@@ -23,7 +22,7 @@ returns-clause-visited c = λ turns more.
     let scope : c.in_ok-scope.scope ≡ s = λ i. record { path = parts.0 i; kind = parts.1.0 i; body = parts.1.1 i } in
     let entity = c.in_ok-entity.ensures ∙ (λ i. entity_of w.written way name (scope i).path) in
     let new = c.get.ensures ∙ entity in
-    let innermost : first w.cursor ≡ Some s = first-at w.cursor ∙ ap (λ scopes. slice_get scopes 0) (sym c.deref.ensures.value) ∙ sym c.in-Some.ensures.value in
+    let innermost : first w.cursor ≡ Some s = first-at w.cursor ∙ sym c.in-Some.ensures.value in
     let gives = c.in_ok-standing.ensures turns more
     ∙ (λ i. runs_over (answers (c.view.ensures.env i)) (under (c.view.ensures.own i).additions (standing turns (scope i) (new i))) log) in
     (λ i. (c.in_ok-declare_as.ensures.visit i, after))
