@@ -1,5 +1,5 @@
 -- What has come of a root so far, and what is still to come.
-use Rattle.std.specs.Prelude.{List, [], ◌∷◌, ◌++◌, flat_map, map}
+use Rattle.std.specs.Prelude.{List, ◌++◌, flat_map, map}
 use Rattle.idl_root.specs.Compile.{Outcome, row_in}
 use Rattle.idl_root.specs.Findings.{unit_finding}
 use Rattle.idl_root.specs.Judged.{Judged, facts_after, judged_after}
