@@ -1,6 +1,6 @@
 //! The labels of a union.
 
-ghost use Rattle.std.specs.Prelude.{◌≡◌, IfOk, OnOk, length, pos};
+ghost use Rattle.std.specs.Prelude.{◌≡◌, OnOk, length, pos};
 ghost use Rattle.std.specs.Option.{option_copied};
 ghost use Rattle.std.specs.Map.{keys_of};
 ghost use Rattle.idl_check.specs.Labels.{count_of, is_among, is_idle, is_labelled, no_labels, with_default, with_label, with_one};

@@ -1,6 +1,6 @@
 //! The walk over declared and used names.
 
-ghost use Rattle.std.specs.Prelude.{◌≡◌, ◌≤◌, ◌+◌, ◌∷◌, ◌++◌, [], ℕ, IfOk, None, OnOk, Some, false, length, if◌then◌else◌};
+ghost use Rattle.std.specs.Prelude.{◌≡◌, ◌≤◌, ◌+◌, ◌∷◌, ◌++◌, [], ℕ, None, OnOk, Some, false, length, if◌then◌else◌};
 ghost use Rattle.idl_check.specs.Declaring.{stays};
 ghost use Rattle.idl_check.specs.Identifying.{with_identity};
 ghost use Rattle.idl_scope.specs.declared.addition.Addition.TheVariants.{Declares};

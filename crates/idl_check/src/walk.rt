@@ -12,7 +12,7 @@ ghost use Rattle.idl_memo.specs.Query.{run};
 ghost use Rattle.idl_scope.specs.Facts.{answers};
 ghost use Rattle.idl_scope.specs.Key.{key_eq};
 ghost use Rattle.idl_scope.specs.declared.lookup.TheConstants.{TURNS};
-ghost use Rattle.idl_site.specs.Item.{Item as item, item_at, item_length, items_length};
+ghost use Rattle.idl_site.specs.Item.{Item as item, item_at, item_length};
 ghost use Rattle.idl_unit.specs.TokenRules.{fault_at};
 
 use crate::bases::Bases;
