@@ -1,9 +1,12 @@
 -- Paths as they are told in a scope, from the innermost name on.
-use Rattle.std.proofs.Common.{◌≡◌, ℕ, zero, suc, ◌-◌, Bool, true, false, List, [], ◌∷◌, ◌++◌, length, take, drop, cond, refl, sym, ap, ◌∙◌, arith}
+use Rattle.std.proofs.Common.{◌≡◌, ◌≤◌, ℕ, zero, suc, ◌+◌, ◌-◌, Bool, true, false, List, [], ◌∷◌, ◌++◌, length, take, drop, cond, refl, sym, ap, append_assoc, ◌∙◌, arith}
+use Rattle.std.proofs.Math.Seq.{take-append-add}
 use Rattle.std.proofs.lemmas.Bool.{cond-true, cond-false}
-use Rattle.std.proofs.lemmas.List.{length-drop}
-use Rattle.idl_check.specs.Identifying.{is_within, relative, slashed}
-use Rattle.idl_scope.specs.Path.{path_eq, same_path}
+use Rattle.std.proofs.lemmas.List.{length-append, length-drop, take-append-drop}
+use Rattle.std.specs.Prelude.{codes, decimal}
+use Rattle.idl_check.specs.Identifying.{first_identity, is_within, prefixed, relative, slashed, versioned}
+use Rattle.idl_scope.specs.Path.{path_eq, same_path, scope_of}
+use Rattle.idl_scope.specs.declared.identity.Prefix.{Prefix}
 
 none-case : (none : List (List ℕ)) (b : Bool) (i : ℕ) → none ≡ [] → cond b (take i none) none ≡ none
 none-case none true zero h = sym h
@@ -60,3 +63,32 @@ further n m t p h false w =
 pub slashed_further : (n : List ℕ) (a p : List (List ℕ)) → (a ≡ [] → ⊥) → path_eq a p ≡ false → slashed (relative (n ∷ a) p) ≡ slashed (relative a p) ++ 47 ∷ n
 slashed_further n [] p some h = absurd (some refl)
 slashed_further n (m ∷ t) p some h = further n m t p h (is_within t p) refl
+
+-- a path in a scope is what is told of it there, and the path of the scope
+pub relative-inside : (path p : List (List ℕ)) → is_within (scope_of path) p ≡ true → relative path p ++ p ≡ path
+relative-inside [] p h =
+    let none : 0 - length p ≡ 0 = omega arith in
+    let same : path_eq [] p ≡ true = sym (ap (λ i. path_eq (drop i []) p) none) ∙ h in
+    ap (λ l. l ++ p) (none-case [] (is_within [] p) (0 - length p) refl) ∙ sym (same_path [] p same)
+relative-inside (n ∷ t) p h =
+    let tail : drop (length t - length p) t ≡ p = same_path (drop (length t - length p) t) p h in
+    let len : length t - (length t - length p) ≡ length p = sym (length-drop (length t - length p) t) ∙ ap length tail in
+    let one : suc (length t) - length p ≡ suc (length t - length p) = omega (arith, len) in
+    let told : relative (n ∷ t) p ≡ n ∷ take (length t - length p) t = cond-true (is_within t p) (take (suc (length t) - length p) (n ∷ t)) (n ∷ t) h ∙ ap (λ i. take i (n ∷ t)) one in
+    ap (λ l. l ++ p) told ∙ sym (ap (λ l. n ∷ (take (length t - length p) t ++ l)) tail) ∙ ap (λ l. n ∷ l) (take-append-drop (length t - length p) t)
+
+-- and one elsewhere is told whole
+pub relative-elsewhere : (path p : List (List ℕ)) → is_within (scope_of path) p ≡ false → relative path p ≡ path
+relative-elsewhere path p h = cond-false (is_within (scope_of path) p) (take (length path - length p) path) path h
+
+without-last : (xs ys : List ℕ) → 3 ≤ length ys → take (length (xs ++ ys) - 3) (xs ++ ys) ≡ xs ++ take (length ys - 3) ys
+without-last xs ys h =
+    let len : length (xs ++ ys) - 3 ≡ length xs + (length ys - 3) = omega (arith, length-append xs ys, h) in
+    ap (λ n. take n (xs ++ ys)) len ∙ take-append-add xs ys (length ys - 3)
+
+-- a version stands in the place of the first one
+pub version-told : (p : Prefix) (path : List (List ℕ)) (major minor : ℕ) → (versioned major minor (first_identity p path)).id ≡ codes "IDL:" ++ prefixed p.text ++ slashed (relative path p.scope) ++ codes ":" ++ decimal major ++ codes "." ++ decimal minor
+version-told p path major minor =
+    let front : List ℕ = codes "IDL:" ++ prefixed p.text ++ slashed (relative path p.scope) in
+    let cut : take (length (front ++ codes ":1.0") - 3) (front ++ codes ":1.0") ≡ front ++ codes ":" = without-last front (codes ":1.0") (omega arith) in
+    ap (λ l. l ++ decimal major ++ 46 ∷ decimal minor) cut ∙ sym (append_assoc (front ++ codes ":" ++ decimal major) (codes ".") (decimal minor))

@@ -3,8 +3,9 @@
 //! Each function does nothing: it carries its laws as clauses. They hold over any answers, and for
 //! any number of turns.
 
-ghost use Rattle.std.specs.Prelude.{◌≡◌, ◌≢◌, ◌↔◌, ◌+◌, ◌<◌, ◌≤◌, Bool, ℕ, List, [], ◌∷◌, All, Contains, codes, false, length, take, None, Option, Some};
+ghost use Rattle.std.specs.Prelude.{◌≡◌, ◌≢◌, ◌↔◌, ◌+◌, ◌++◌, ◌<◌, ◌≤◌, Bool, ℕ, List, [], ◌∷◌, All, Contains, codes, decimal, false, length, take, true, None, Option, Some};
 ghost use Rattle.idl_check.specs.AllFaults.{site_faults, unit_faults};
+ghost use Rattle.idl_check.specs.Identifying.{first_identity, is_within, prefixed, relative, slashed, versioned};
 ghost use Rattle.idl_check.specs.Placing.{faulty_step, step_of};
 ghost use Rattle.idl_check.specs.Judging.{IsNotAfter, IsSound, IsSpoken, refused_keys, spoken_from, spoken_till, used_names, walked, without_name};
 ghost use Rattle.idl_check.specs.Row.{Rest, unit_text};
@@ -13,8 +14,10 @@ ghost use Rattle.idl_check.specs.Walk.{Walk, visit};
 ghost use Rattle.idl_lex.specs.Tokens.{Token};
 ghost use Rattle.idl_memo.specs.Query.{asked, outcome};
 ghost use Rattle.idl_scope.specs.Facts.{scopes_in};
+ghost use Rattle.idl_scope.specs.Path.{scope_of};
 ghost use Rattle.idl_scope.specs.declared.addition.Step.TheVariants.{Stays};
 ghost use Rattle.idl_scope.specs.declared.answer.Answer.{Answer};
+ghost use Rattle.idl_scope.specs.declared.identity.Prefix.{Prefix};
 ghost use Rattle.idl_scope.specs.declared.key.Key.{Key};
 ghost use Rattle.idl_scope.specs.declared.key.Key.TheVariants.{Cursor};
 ghost use Rattle.idl_site.specs.Item.{Item, items, items_length};
@@ -136,4 +139,20 @@ pub fn questions()
         (answers : Key → Option Answer) (text : List ℕ)
         → pragma_of tokens ≡ Some (pragma.Prefix text)
         → asked (verdict turns (unit.Pragma tokens inside)) answers ≡ Cursor ∷ [] }
+{}
+
+/// A version that is told stands in the place of `1.0`, and nothing else of the id changes. A path in
+/// the scope of a prefix is told up to that scope, which is what is left out of it, and any other is
+/// told whole.
+pub fn identifying()
+    ensures version { (p : Prefix) (path : List (List ℕ)) (major : ℕ) (minor : ℕ)
+        → (versioned major minor (first_identity p path)).id
+        ≡ codes "IDL:" ++ prefixed p.text ++ slashed (relative path p.scope)
+        ++ codes ":" ++ decimal major ++ codes "." ++ decimal minor }
+    ensures inside { (path : List (List ℕ)) (scope : List (List ℕ))
+        → is_within (scope_of path) scope ≡ true
+        → relative path scope ++ scope ≡ path }
+    ensures elsewhere { (path : List (List ℕ)) (scope : List (List ℕ))
+        → is_within (scope_of path) scope ≡ false
+        → relative path scope ≡ path }
 {}
