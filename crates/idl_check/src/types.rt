@@ -135,7 +135,7 @@ pub fn may_switch(target: &Option<Target>) -> bool
 /// What a type is that is no name, where the last bound in it is this; a sequence is one of the type
 /// that was written last.
 pub fn written_as(
-    alloc: Global,
+    env: &Env,
     shape: Shape,
     bound: Option<u32>,
     before: &Option<Shared<DataType>>,
@@ -148,10 +148,10 @@ pub fn written_as(
         Shape::Text(is_wide, false) => Element::Constants(string_of(is_wide, None)),
         Shape::Sequence(is_bounded) => {
             let bound = bound_or_none(is_bounded, bound);
-            return sequence_of(alloc, bound, before);
+            return sequence_of(env.alloc(), bound, before);
         }
     };
-    Ok(Some(DataType::plain(alloc, element)?))
+    Ok(Some(env.plain(element)?))
 }
 
 // A sequence of a type, if there is one.

@@ -25,7 +25,7 @@ use crate::walk::Walker;
 use idl_base::Seq;
 use idl_event::Code;
 use idl_lex::Spelling;
-use idl_scope::{Addition, DataType, Element};
+use idl_scope::{Addition, Element};
 use idl_site::{Shape, Target as Purpose};
 use idl_tree::{DiscreteType, Expression, Several};
 use idl_value::{Fault, Outcome, Target, Value};
@@ -188,7 +188,7 @@ impl<'a> Walker<'a> {
         ensures env { OnOk result (self.new.env.now ≡ self.old.env.now) }
     {
         let before = &self.written.data_type;
-        let written = written_as(self.env.alloc(), shape, self.values.bound, before)?;
+        let written = written_as(self.env, shape, self.values.bound, before)?;
         self.written.constants = match &written {
             Some(data_type) => target_in(data_type.get())?,
             None => None,
@@ -231,7 +231,7 @@ impl<'a> Walker<'a> {
         let target = Target::of_keywords(discrete);
         let discriminates = target.discriminates();
         let element = Element::Constants(target.clone()?);
-        self.written.data_type = Some(DataType::plain(self.env.alloc(), element)?);
+        self.written.data_type = Some(self.env.plain(element)?);
         let labels = Labels::new(self.env.alloc(), Some(target), 0);
         self.unions.insert(0, labels)?;
         if discriminates {

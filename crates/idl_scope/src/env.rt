@@ -2,13 +2,17 @@
 
 ghost use Rattle.std.specs.Prelude.{◌≡◌, ◌∷◌, ◌++◌, [], IfOk};
 ghost use Rattle.std.specs.Option.{option_copied};
+ghost use Rattle.idl_scope.specs.DataType.{plain_type};
 ghost use Rattle.idl_scope.specs.Facts.{answers};
 
 use crate::answer::Answer;
+use crate::data_type::{DataType, Element};
 use crate::digested::DigestedKey;
 use crate::facts::Facts;
 use crate::key::Key;
 use crate::past::Past;
+use crate::plain::PlainTypes;
+use crate::shared::Shared;
 use crate::state::State;
 use idl_memo::Bank;
 use std::alloc::{AllocError, Global};
@@ -22,6 +26,7 @@ pub struct Env {
     // How many facts there are, since no count among the answers is larger.
     count: usize,
     state: State,
+    plain: PlainTypes,
 }
 
 impl Model for Env {
@@ -44,6 +49,7 @@ impl Drop for Env {
             facts: _facts,
             count: _count,
             state: _state,
+            plain: _plain,
         } = self;
     }
 }
@@ -54,11 +60,13 @@ impl Env {
         ensures { IfOk result (λ env. env ≡ []) }
     {
         let state = State::new(alloc)?;
+        let plain = PlainTypes::new(alloc)?;
         Ok(Env {
             alloc,
             facts: Past::new(),
             count: 0,
             state,
+            plain,
         })
     }
 
@@ -76,6 +84,7 @@ impl Env {
             facts: before,
             count,
             mut state,
+            plain,
         } = self;
         let Some(count) = count.checked_add(1) else {
             return Err(AllocError);
@@ -86,7 +95,18 @@ impl Env {
             facts: before.and(facts),
             count,
             state,
+            plain,
         })
+    }
+
+    /// A type without sequences and arrays. One of keywords is shared by all that is declared with it.
+    pub fn plain(&self, element: Element) -> Result<Shared<DataType>, AllocError>
+        ensures { IfOk result (λ t. t ≡ plain_type element) }
+    {
+        match self.plain.find(&element) {
+            Some(t) => t.clone(),
+            None => DataType::plain(self.alloc, element),
+        }
     }
 }
 

@@ -24,6 +24,7 @@ mod naming;
 mod operations;
 mod past;
 mod path;
+mod plain;
 mod queue;
 mod shared;
 mod signature;

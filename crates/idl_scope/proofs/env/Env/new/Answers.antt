@@ -4,4 +4,4 @@ use Rattle.idl_scope.proofs.CountLemmas.{world-none}
 use Rattle.idl_scope.proofs.env.Env.new.Goals as goal
 
 pub invariant_of-result : goal.invariant_of-result
-invariant_of-result c = (sym (ap length c.new-2.ensures), c.in_ok-state.ensures ∙ sym (ap world c.new-2.ensures ∙ world-none))
+invariant_of-result c = (sym (ap length c.new-3.ensures), c.in_ok-state.ensures ∙ sym (ap world c.new-3.ensures ∙ world-none))
