@@ -194,6 +194,7 @@ pub struct PlacedToken {
 
 // A file has a hundred thousands of tokens.
 const _: () = prove!(size_of::<Token>() <= 24);
+
 const _: () = prove!(size_of::<PlacedToken>() <= 32);
 
 impl PlacedToken {
