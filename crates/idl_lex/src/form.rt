@@ -1,6 +1,7 @@
 //! The forms in which the bytes of a spelling are held: few in place, and more in shared bytes.
 
-ghost use Rattle.std.specs.Prelude.{◌≡◌, ◌≤◌, ◌<◌, ◌∷◌, [], IfNone, IfOk, IfSome, drop, length, slice_range};
+ghost use Rattle.std.specs.Prelude.{◌≡◌, ◌≤◌, ◌<◌, ◌∷◌, ◌↔◌, [], IfNone, IfOk, IfSome, IsTrue, drop, length, slice_range, take};
+ghost use Rattle.std.specs.Int.{to_le_bytes, w64};
 ghost use Rattle.std.specs.Rc.{rc_slice_items};
 ghost use Rattle.idl_lex.specs.Form.{IsWithin, form_bytes};
 ghost use Rattle.idl_lex.specs.Keywords.{folded};
@@ -178,6 +179,13 @@ impl Short {
         Some(Short::of(&self.bytes[1..self.count as usize]))
     }
 
+    /// Whether it is a copy of the other, also in what stands behind the bytes in place. Nothing follows where it is none.
+    pub fn is_copy_of(&self, other: &Short) -> bool
+        ensures { IsTrue result → self.now ≡ other.now }
+    {
+        self.count == other.count && are_same(&self.bytes, &other.bytes)
+    }
+
     /// The bytes with each capital letter made small.
     pub fn folded(mut self) -> Short
         ensures { result ≡ folded self }
@@ -185,6 +193,34 @@ impl Short {
         self.bytes.make_ascii_lowercase();
         self
     }
+}
+
+// Whether these are the same bytes: the first eight are, and the last eight.
+fn are_same(bytes: &[u8; MOST], others: &[u8; MOST]) -> bool
+    ensures { IsTrue result ↔ (bytes.now ≡ others.now) }
+{
+    front(bytes) == front(others) && back(bytes) == back(others)
+}
+
+// The first eight bytes, as a number.
+fn front(bytes: &[u8; MOST]) -> u64
+    ensures { to_le_bytes w64 result ≡ take 8 bytes.now }
+{
+    word(bytes.first_chunk::<8>().unwrap())
+}
+
+// The last eight bytes, as a number.
+fn back(bytes: &[u8; MOST]) -> u64
+    ensures { to_le_bytes w64 result ≡ drop 6 bytes.now }
+{
+    word(bytes.last_chunk::<8>().unwrap())
+}
+
+// Eight bytes, as a number.
+fn word(bytes: &[u8; 8]) -> u64
+    ensures { to_le_bytes w64 result ≡ bytes.now }
+{
+    u64::from_le_bytes(*bytes)
 }
 
 /// Shared bytes from one place up to another.
