@@ -2,6 +2,7 @@ pub mod AlikeLemmas
 pub mod BlockLemmas
 pub mod CountLemmas
 pub mod CutLemmas
+pub mod FormLemmas
 pub mod HeaderLemmas
 pub mod KindLemmas
 pub mod LineLemmas

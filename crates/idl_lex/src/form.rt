@@ -1,71 +1,99 @@
 //! The forms in which the bytes of a spelling are held: few in place, and more in shared bytes.
 
-ghost use Rattle.std.specs.Prelude.{◌≡◌, ◌≤◌, ◌<◌, ◌∷◌, [], IfNone, IfOk, IfSome, drop, length, slice_range};
+ghost use Rattle.std.specs.Prelude.{◌≡◌, ◌≤◌, ◌<◌, ◌∷◌, ◌↔◌, [], IfNone, IfOk, IfSome, IsTrue, drop, length, slice_range, take};
+ghost use Rattle.std.specs.Int.{to_le_bytes, w64};
 ghost use Rattle.std.specs.Rc.{rc_slice_items};
-ghost use Rattle.idl_lex.specs.Form.{form_bytes};
+ghost use Rattle.idl_lex.specs.Form.{IsWithin, form_bytes};
 ghost use Rattle.idl_lex.specs.Keywords.{folded};
 ghost use Rattle.idl_lex.specs.Kind.{unescaped};
 ghost use Rattle.std.specs.Option.{option_map};
 
-use std::alloc::AllocError;
+use std::alloc::{AllocError, Global};
 use std::marker::Model;
 use std::rc::RcSlice;
 
 // Up to so many bytes stand in place: with them a form is no larger than one of shared bytes.
-const MOST: usize = 22;
+const MOST: usize = 14;
 
 /// The bytes of a spelling.
 #[derive(Drop)]
 pub enum Form {
     /// Few of them, in place.
     Short(Short),
+    // The places stand before the pointer, where an enum has room beside its tag.
     /// Shared ones from one place up to another.
-    Part(Part),
-    /// All shared ones from a place on.
-    Rest(Rest),
+    Part(u16, u16, RcSlice<u8>),
+    /// Shared ones whose places are larger numbers.
+    Far(Box<Far>),
 }
 
 impl Form {
+    /// The bytes from one place up to another.
+    pub fn shared(
+        alloc: Global,
+        bytes: RcSlice<u8>,
+        from: usize,
+        to: usize,
+    ) -> Result<Form, AllocError>
+        requires order { from ≤ to }
+        requires within { to ≤ length (rc_slice_items bytes) }
+        ensures same { IfOk result (λ form.
+            form_bytes form ≡ slice_range (rc_slice_items bytes) from to) }
+        ensures within { IfOk result IsWithin }
+    {
+        match (u16::try_from(from), u16::try_from(to)) {
+            (Ok(from), Ok(to)) => Ok(Form::Part(from, to, bytes)),
+            _ => Ok(Form::Far(Box::new(alloc, Far { bytes, from, to })?)),
+        }
+    }
+
     /// The bytes in order.
     #[inline(never)]
     pub fn as_bytes(&self) -> &[u8]
+        requires { IsWithin self.now }
         ensures { result.now ≡ form_bytes self.now }
     {
         match self {
             Form::Short(short) => short.as_bytes(),
-            Form::Part(part) => part.as_bytes(),
-            Form::Rest(rest) => rest.as_bytes(),
+            Form::Part(from, to, bytes) => &bytes.as_slice()[*from as usize..*to as usize],
+            Form::Far(far) => far.as_bytes(),
         }
     }
 
     /// The same bytes again: those in place are copied, and the others stay shared.
     #[inline(never)]
     pub fn copied(&self) -> Result<Form, AllocError>
-        ensures { IfOk result (λ form. form_bytes form ≡ form_bytes self.now) }
+        requires { IsWithin self.now }
+        ensures same { IfOk result (λ form. form_bytes form ≡ form_bytes self.now) }
+        ensures within { IfOk result IsWithin }
     {
         match self {
             Form::Short(short) => Ok(Form::Short(short.copied())),
-            Form::Part(part) => Ok(Form::Part(part.shared()?)),
-            Form::Rest(rest) => Ok(Form::Rest(rest.shared()?)),
+            Form::Part(from, to, bytes) => Ok(Form::Part(*from, *to, bytes.clone()?)),
+            Form::Far(far) => Ok(Form::Far(Box::new(*Box::allocator(far), far.shared()?)?)),
         }
     }
 
     /// What stands after the first byte, if there is one.
     pub fn unescaped(&self) -> Result<Option<Form>, AllocError>
-        ensures { IfOk result (λ form.
+        requires { IsWithin self.now }
+        ensures same { IfOk result (λ form.
             option_map form_bytes form ≡ unescaped (form_bytes self.now)) }
+        ensures within { IfOk result (λ form. IfSome form IsWithin) }
     {
         match self {
             Form::Short(short) => match short.unescaped() {
                 Some(short) => Ok(Some(Form::Short(short))),
                 None => Ok(None),
             },
-            Form::Part(part) => match part.unescaped()? {
-                Some(part) => Ok(Some(Form::Part(part))),
-                None => Ok(None),
-            },
-            Form::Rest(rest) => match rest.unescaped()? {
-                Some(rest) => Ok(Some(Form::Rest(rest))),
+            Form::Part(from, to, bytes) => {
+                if from == to {
+                    return Ok(None);
+                }
+                Ok(Some(Form::Part(*from + 1, *to, bytes.clone()?)))
+            }
+            Form::Far(far) => match far.unescaped()? {
+                Some(rest) => Ok(Some(Form::Far(Box::new(*Box::allocator(far), rest)?))),
                 None => Ok(None),
             },
         }
@@ -86,14 +114,14 @@ impl Model for Short {
 
     ghost view = { λ short. take short.count short.bytes };
 
-    ghost invariant = { λ short. short.count ≤ 22 };
+    ghost invariant = { λ short. short.count ≤ 14 };
 }
 
 impl Short {
     /// These bytes, if they are few.
     pub fn new(bytes: &[u8]) -> Option<Short>
         ensures same { IfSome result (λ short. short ≡ bytes.now) }
-        ensures few { IfNone result (22 < length bytes.now) }
+        ensures few { IfNone result (14 < length bytes.now) }
     {
         if bytes.len() > MOST {
             return None;
@@ -112,7 +140,7 @@ impl Short {
 
     // These few bytes.
     fn of(bytes: &[u8]) -> Short
-        requires { length bytes.now ≤ 22 }
+        requires { length bytes.now ≤ 14 }
         ensures { result ≡ bytes.now }
     {
         let mut array = [0; MOST];
@@ -151,6 +179,13 @@ impl Short {
         Some(Short::of(&self.bytes[1..self.count as usize]))
     }
 
+    /// Whether it is a copy of the other, also in what stands behind the bytes in place. Nothing follows where it is none.
+    pub fn is_copy_of(&self, other: &Short) -> bool
+        ensures { IsTrue result → self.now ≡ other.now }
+    {
+        self.count == other.count && are_same(&self.bytes, &other.bytes)
+    }
+
     /// The bytes with each capital letter made small.
     pub fn folded(mut self) -> Short
         ensures { result ≡ folded self }
@@ -160,49 +195,68 @@ impl Short {
     }
 }
 
-/// Shared bytes from one place up to another.
-#[derive(Drop)]
-pub struct Part {
-    bytes: RcSlice<u8>,
-    from: u32,
-    to: u32,
+// Whether these are the same bytes: the first eight are, and the last eight.
+fn are_same(bytes: &[u8; MOST], others: &[u8; MOST]) -> bool
+    ensures { IsTrue result ↔ (bytes.now ≡ others.now) }
+{
+    front(bytes) == front(others) && back(bytes) == back(others)
 }
 
-impl Model for Part {
+// The first eight bytes, as a number.
+fn front(bytes: &[u8; MOST]) -> u64
+    ensures { to_le_bytes w64 result ≡ take 8 bytes.now }
+{
+    word(bytes.first_chunk::<8>().unwrap())
+}
+
+// The last eight bytes, as a number.
+fn back(bytes: &[u8; MOST]) -> u64
+    ensures { to_le_bytes w64 result ≡ drop 6 bytes.now }
+{
+    word(bytes.last_chunk::<8>().unwrap())
+}
+
+// Eight bytes, as a number.
+fn word(bytes: &[u8; 8]) -> u64
+    ensures { to_le_bytes w64 result ≡ bytes.now }
+{
+    u64::from_le_bytes(*bytes)
+}
+
+/// Shared bytes from one place up to another.
+#[derive(Drop)]
+pub struct Far {
+    bytes: RcSlice<u8>,
+    from: usize,
+    to: usize,
+}
+
+impl Model for Far {
     ghost use Rattle.std.specs.Prelude.{List, ℕ, slice_range, length, ◌≤◌};
     ghost use Rattle.std.specs.Rc.{rc_slice_items};
 
     ghost Value = { List ℕ };
 
-    ghost view = { λ part. slice_range (rc_slice_items part.bytes) part.from part.to };
+    ghost view = { λ far. slice_range (rc_slice_items far.bytes) far.from far.to };
 
-    ghost invariant = { λ part. (part.from ≤ part.to)
-        × (part.to ≤ length (rc_slice_items part.bytes)) };
+    ghost invariant = { λ far. (far.from ≤ far.to)
+        × (far.to ≤ length (rc_slice_items far.bytes)) };
 }
 
-impl Part {
-    /// The bytes from one place up to another.
-    pub fn new(bytes: RcSlice<u8>, from: u32, to: u32) -> Part
-        requires order { from ≤ to }
-        requires within { to ≤ length (rc_slice_items bytes) }
-        ensures { result ≡ slice_range (rc_slice_items bytes) from to }
-    {
-        Part { bytes, from, to }
-    }
-
+impl Far {
     /// The bytes in order.
     pub fn as_bytes(&self) -> &[u8]
         ensures { result.now ≡ self.now }
     {
-        &self.bytes.as_slice()[self.from as usize..self.to as usize]
+        &self.bytes.as_slice()[self.from..self.to]
     }
 
     /// The same bytes, shared.
-    pub fn shared(&self) -> Result<Part, AllocError>
-        ensures { IfOk result (λ part. part ≡ self.now) }
+    pub fn shared(&self) -> Result<Far, AllocError>
+        ensures { IfOk result (λ far. far ≡ self.now) }
     {
         let bytes = self.bytes.clone()?;
-        Ok(Part {
+        Ok(Far {
             bytes,
             from: self.from,
             to: self.to,
@@ -210,77 +264,17 @@ impl Part {
     }
 
     /// What stands after the first byte, shared, if there is one.
-    pub fn unescaped(&self) -> Result<Option<Part>, AllocError>
+    pub fn unescaped(&self) -> Result<Option<Far>, AllocError>
         ensures { IfOk result (λ name. name ≡ unescaped self.now) }
     {
         if self.from == self.to {
             return Ok(None);
         }
         let bytes = self.bytes.clone()?;
-        Ok(Some(Part {
+        Ok(Some(Far {
             bytes,
             from: self.from + 1,
             to: self.to,
-        }))
-    }
-}
-
-/// All shared bytes from a place on.
-#[derive(Drop)]
-pub struct Rest {
-    bytes: RcSlice<u8>,
-    from: usize,
-}
-
-impl Model for Rest {
-    ghost use Rattle.std.specs.Prelude.{List, ℕ, drop, length, ◌≤◌};
-    ghost use Rattle.std.specs.Rc.{rc_slice_items};
-
-    ghost Value = { List ℕ };
-
-    ghost view = { λ rest. drop rest.from (rc_slice_items rest.bytes) };
-
-    ghost invariant = { λ rest. rest.from ≤ length (rc_slice_items rest.bytes) };
-}
-
-impl Rest {
-    /// The bytes from a place on.
-    pub fn new(bytes: RcSlice<u8>, from: usize) -> Rest
-        requires { from ≤ length (rc_slice_items bytes) }
-        ensures { result ≡ drop from (rc_slice_items bytes) }
-    {
-        Rest { bytes, from }
-    }
-
-    /// The bytes in order.
-    pub fn as_bytes(&self) -> &[u8]
-        ensures { result.now ≡ self.now }
-    {
-        &self.bytes.as_slice()[self.from..]
-    }
-
-    /// The same bytes, shared.
-    pub fn shared(&self) -> Result<Rest, AllocError>
-        ensures { IfOk result (λ rest. rest ≡ self.now) }
-    {
-        let bytes = self.bytes.clone()?;
-        Ok(Rest {
-            bytes,
-            from: self.from,
-        })
-    }
-
-    /// What stands after the first byte, shared, if there is one.
-    pub fn unescaped(&self) -> Result<Option<Rest>, AllocError>
-        ensures { IfOk result (λ name. name ≡ unescaped self.now) }
-    {
-        if self.from == self.bytes.len() {
-            return Ok(None);
-        }
-        let bytes = self.bytes.clone()?;
-        Ok(Some(Rest {
-            bytes,
-            from: self.from + 1,
         }))
     }
 }

@@ -11,7 +11,7 @@ ghost use Rattle.std.proofs.Common.{ap};
 ghost use Rattle.idl_lex.specs.Keywords.{folded};
 ghost use Rattle.idl_lex.specs.Kind.{unescaped};
 
-use crate::form::{Form, Part, Rest, Short};
+use crate::form::{Form, Short};
 use idl_base::Datum;
 use std::alloc::{AllocError, Global};
 use std::cmp::Ordering;
@@ -19,22 +19,24 @@ use std::hash::{Hash, Hasher};
 use std::marker::Model;
 use std::rc::RcSlice;
 
-/// The bytes of a token or a name. Few of them stand in place, and take no memory; more are shared. Two are equal where
-/// their bytes are.
+/// The bytes of a token or a name. Up to 14 of them stand in place, and take no memory. More are shared: those of a line with
+/// the line, and others, as a name that was put together, stand in memory of their own. Two are equal where their bytes are.
 pub struct Spelling {
     form: Form,
 }
 
 // A file has a hundred thousands of tokens.
-const _: () = prove!(size_of::<Spelling>() <= 24);
+const _: () = prove!(size_of::<Spelling>() <= 16);
 
 impl Model for Spelling {
     ghost use Rattle.std.specs.Prelude.{List, ℕ};
-    ghost use Rattle.idl_lex.specs.Form.{form_bytes};
+    ghost use Rattle.idl_lex.specs.Form.{IsWithin, form_bytes};
 
     ghost Value = { List ℕ };
 
     ghost view = { λ spelling. form_bytes spelling.form };
+
+    ghost invariant = { λ spelling. IsWithin spelling.form };
 }
 
 impl Drop for Spelling {
@@ -59,15 +61,7 @@ impl Spelling {
         let part = &bytes.as_slice()[from..to];
         match Short::new(part) {
             Some(short) => Ok(Spelling::short(short)),
-            None => match (u32::try_from(from), u32::try_from(to)) {
-                (Ok(from), Ok(to)) => {
-                    let part = Part::new(bytes.clone()?, from, to);
-                    Ok(Spelling {
-                        form: Form::Part(part),
-                    })
-                }
-                _ => Ok(Spelling::whole(RcSlice::from_slice(alloc, part)?)),
-            },
+            None => Spelling::shared(alloc, bytes.clone()?, from, to),
         }
     }
 
@@ -84,7 +78,7 @@ impl Spelling {
     {
         match Short::new(bytes) {
             Some(short) => Ok(Spelling::short(short)),
-            None => Ok(Spelling::whole(RcSlice::from_slice(alloc, bytes)?)),
+            None => Spelling::whole(alloc, RcSlice::from_slice(alloc, bytes)?),
         }
     }
 
@@ -94,7 +88,7 @@ impl Spelling {
     {
         match Short::new(bytes.as_slice()) {
             Some(short) => Ok(Spelling::short(short)),
-            None => Ok(Spelling::whole(RcSlice::from_vec(bytes)?)),
+            None => Spelling::whole(*bytes.allocator(), RcSlice::from_vec(bytes)?),
         }
     }
 
@@ -139,12 +133,26 @@ impl Spelling {
     }
 
     // All of shared bytes.
-    fn whole(bytes: RcSlice<u8>) -> Spelling
-        ensures { result ≡ rc_slice_items bytes }
+    fn whole(alloc: Global, bytes: RcSlice<u8>) -> Result<Spelling, AllocError>
+        ensures { IfOk result (λ spelling. spelling ≡ rc_slice_items bytes) }
     {
-        Spelling {
-            form: Form::Rest(Rest::new(bytes, 0)),
-        }
+        let to = bytes.len();
+        Spelling::shared(alloc, bytes, 0, to)
+    }
+
+    // Shared bytes from one place up to another.
+    fn shared(
+        alloc: Global,
+        bytes: RcSlice<u8>,
+        from: usize,
+        to: usize,
+    ) -> Result<Spelling, AllocError>
+        requires order { from ≤ to }
+        requires within { to ≤ length (rc_slice_items bytes) }
+        ensures { IfOk result (λ spelling. spelling ≡ slice_range (rc_slice_items bytes) from to) }
+    {
+        let form = Form::shared(alloc, bytes, from, to)?;
+        Ok(Spelling { form })
     }
 }
 
@@ -172,7 +180,10 @@ impl PartialEq for Spelling {
         ensures by_byte { result ≡ bytes_eq self.now other.now }
         ensures exact { IsTrue result ↔ (self.now ≡ other.now) }
     {
-        self.as_bytes() == other.as_bytes()
+        match (&self.form, &other.form) {
+            (Form::Short(own), Form::Short(theirs)) if own.is_copy_of(theirs) => true,
+            _ => self.as_bytes() == other.as_bytes(),
+        }
     }
 }
 

@@ -193,7 +193,9 @@ pub struct PlacedToken {
 }
 
 // A file has a hundred thousands of tokens.
-const _: () = prove!(size_of::<PlacedToken>() <= 40);
+const _: () = prove!(size_of::<Token>() <= 24);
+
+const _: () = prove!(size_of::<PlacedToken>() <= 32);
 
 impl PlacedToken {
     /// The token with this spelling, on this line.
