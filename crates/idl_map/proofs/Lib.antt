@@ -1,3 +1,2 @@
 pub mod ListLemmas
 pub mod PlaceLemmas
-pub mod SlotLemmas

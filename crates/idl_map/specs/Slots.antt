@@ -1,57 +1,53 @@
--- Slots, among which bits of digests choose.
-use Rattle.std.specs.Prelude.{◌≡◌, ℕ, ◌+◌, ◌/◌, ◌%◌, ◌^◌, ◌==◌, List, [], ◌∷◌, ◌++◌, map}
-use Rattle.std.specs.List.{filter}
+-- Slots, in which digests find the places of entries.
+use Rattle.std.specs.Prelude.{◌≡◌, ℕ, ◌+◌, ◌/◌, ◌%◌, ◌^◌, ◌==◌, ◌<◌, Bool, false, List, Option, None, Some, [], ◌∷◌, ◌++◌, length, if◌then◌else◌}
 use Rattle.idl_map.specs.declared.slot.Slot.{Slot}
-use Rattle.idl_map.specs.declared.slot.Slot.TheVariants.{Empty, One, Few, Many}
+use Rattle.idl_map.specs.declared.slot.Slot.TheVariants.{Empty, One, Many}
 
--- which slot the bits of a digest choose, from a bit on
+-- which slot of a branch the bits of a digest choose, from a bit on
 unfoldable pub choice : ℕ → ℕ → ℕ
 choice shift digest = digest / 2 ^ (shift % 64) % 8
 
--- the entries in slots, from the one with this number on: of each slot those whose keys choose it
-abbrev pub gathered : {K V : Type 0} → (K → ℕ) → ℕ → List (List (K × V)) → List (K × V)
-gathered chosen number [] = []
-gathered chosen number (entries ∷ slots) =
-    filter (λ e. chosen e.0 == number) entries ++ gathered chosen (number + 1) slots
+-- whether a digest that has come to a slot goes on to the one at this place
+abbrev pub goes_to : ℕ → ℕ → Slot → Bool
+goes_to digest place Empty = false
+goes_to digest place (One entry) = false
+goes_to digest place (Many shift first) = first + choice shift digest == place
 
--- the entries of a slot
-abbrev pub slot_entries : {K V : Type 0} → (K → ℕ) → Slot K V → List (K × V)
-slot_entries digest_of Empty = []
-slot_entries digest_of (One entry) = entry.value ∷ []
-slot_entries digest_of (Few table) = table.value
-slot_entries digest_of (Many shift branch) =
-    gathered (λ k. choice shift (digest_of k)) 0 branch.value.1
+-- where a digest that has come to a slot is led by the slots from this place on
+abbrev pub led_from : ℕ → ℕ → Slot → List Slot → Slot
+led_from digest place slot [] = slot
+led_from digest place slot (next ∷ slots) =
+    led_from digest (place + 1) (if goes_to digest place slot then next else slot) slots
 
--- how many branches stand in a slot, and in slots
-abbrev pub slot_size : {K V : Type 0} → Slot K V → ℕ
-slot_size Empty = 0
-slot_size (One entry) = 0
-slot_size (Few table) = 0
-slot_size (Many shift branch) = branch.value.0
+-- where slots lead a digest: it begins at the branch of the first eight
+abbrev pub led : List Slot → ℕ → Slot
+led slots digest = led_from digest 0 (Many 0 0) slots
 
-abbrev pub slots_size : {K V : Type 0} → List (Slot K V) → ℕ
-slots_size [] = 0
-slots_size (slot ∷ slots) = slot_size slot + slots_size slots
+-- whether a slot has the entry at this place
+abbrev pub has_entry : ℕ → Slot → Bool
+has_entry place Empty = false
+has_entry place (One entry) = entry == place
+has_entry place (Many shift first) = false
 
--- a branch as it is seen: how many branches it is with those in its slots, and the entries of each
--- slot
-abbrev pub branch_seen : {K V : Type 0} → (K → ℕ) → List (Slot K V) → ℕ × List (List (K × V))
-branch_seen digest_of slots = (slots_size slots + 1, map (slot_entries digest_of) slots)
+-- the entries to which their keys are led, of those from this place on
+abbrev pub reached : {K V : Type 0} → (K → Slot) → ℕ → List (K × V) → List (K × V)
+reached slot_of place [] = []
+reached slot_of place (e ∷ entries) =
+    if has_entry place (slot_of e.0)
+    then e ∷ reached slot_of (place + 1) entries
+    else reached slot_of (place + 1) entries
 
--- a branch without entries
-abbrev pub empty_branch : {K V : Type 0} → ℕ × List (List (K × V))
-empty_branch = (1, [] ∷ [] ∷ [] ∷ [] ∷ [] ∷ [] ∷ [] ∷ [] ∷ [])
+-- the entries that count: those to which their keys are led, and the rest
+abbrev pub counted : {K V : Type 0} → (K → ℕ) → List Slot → List (K × V) → List (K × V) → List (K × V)
+counted digest_of slots entries rest = reached (λ k. led slots (digest_of k)) 0 entries ++ rest
 
--- the slot has not one entry alone
-abbrev pub IsDivided : {K V : Type 0} → Slot K V → Type 0
-IsDivided Empty = Unit {0}
-IsDivided (One entry) = ⊥
-IsDivided (Few table) = Unit {0}
-IsDivided (Many shift branch) = Unit {0}
+-- there is nothing, or an entry that is among so many
+abbrev pub IsEnd : ℕ → Slot → Type 0
+IsEnd count Empty = Unit {0}
+IsEnd count (One entry) = entry < count
+IsEnd count (Many shift first) = ⊥
 
--- if the slot has one entry alone, it is at this key
-abbrev pub IsOneAt : {K V : Type 0} → K → Slot K V → Type 0
-IsOneAt key Empty = Unit {0}
-IsOneAt key (One entry) = entry.value.0 ≡ key
-IsOneAt key (Few table) = Unit {0}
-IsOneAt key (Many shift branch) = Unit {0}
+-- the entries of a map, which has an arena once anything was put in
+abbrev pub of_arena : {E : Type 0} → Option (List E) → List E
+of_arena None = []
+of_arena (Some entries) = entries
