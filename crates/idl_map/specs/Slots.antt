@@ -1,7 +1,8 @@
 -- Slots, in which digests find the places of entries.
-use Rattle.std.specs.Prelude.{◌≡◌, ℕ, ◌+◌, ◌/◌, ◌%◌, ◌^◌, ◌==◌, ◌<◌, Bool, false, List, Option, None, Some, [], ◌∷◌, ◌++◌, length, if◌then◌else◌}
+use Rattle.std.specs.Prelude.{◌≡◌, ℕ, zero, suc, ◌+◌, ◌/◌, ◌%◌, ◌^◌, ◌==◌, ◌<◌, Bool, false, List, [], ◌∷◌, ◌++◌, Option, None, Some, length, if◌then◌else◌}
 use Rattle.idl_map.specs.declared.slot.Slot.{Slot}
 use Rattle.idl_map.specs.declared.slot.Slot.TheVariants.{Empty, One, Many}
+use Rattle.idl_map.specs.declared.arena.Arena.{Arena}
 
 -- which slot of a branch the bits of a digest choose, from a bit on
 unfoldable pub choice : ℕ → ℕ → ℕ
@@ -19,9 +20,20 @@ led_from digest place slot [] = slot
 led_from digest place slot (next ∷ slots) =
     led_from digest (place + 1) (if goes_to digest place slot then next else slot) slots
 
--- where slots lead a digest: it begins at the branch of the first eight
+-- whether it comes by the slot so many places on
+abbrev pub comes_from : ℕ → ℕ → Slot → List Slot → ℕ → Bool
+comes_from digest place slot [] ahead = false
+comes_from digest place slot (next ∷ slots) zero = goes_to digest place slot
+comes_from digest place slot (next ∷ slots) (suc ahead) =
+    comes_from digest (place + 1) (if goes_to digest place slot then next else slot) slots ahead
+
+-- where slots lead a digest, and whether it comes by the slot at a place on its way: it begins at
+-- the branch of the first eight
 abbrev pub led : List Slot → ℕ → Slot
 led slots digest = led_from digest 0 (Many 0 0) slots
+
+abbrev pub comes_by : List Slot → ℕ → ℕ → Bool
+comes_by slots digest place = comes_from digest 0 (Many 0 0) slots place
 
 -- whether a slot has the entry at this place
 abbrev pub has_entry : ℕ → Slot → Bool
@@ -38,16 +50,25 @@ reached slot_of place (e ∷ entries) =
     else reached slot_of (place + 1) entries
 
 -- the entries that count: those to which their keys are led, and the rest
-abbrev pub counted : {K V : Type 0} → (K → ℕ) → List Slot → List (K × V) → List (K × V) → List (K × V)
-counted digest_of slots entries rest = reached (λ k. led slots (digest_of k)) 0 entries ++ rest
+abbrev pub entries_of : {K V : Type 0} → (K → ℕ) → Arena K V → List (K × V)
+entries_of digest_of arena =
+    reached (λ k. led arena.slots.items (digest_of k)) 0 arena.entries.items ++ arena.rest
 
--- there is nothing, or an entry that is among so many
+-- there is nothing, or one of so many entries
 abbrev pub IsEnd : ℕ → Slot → Type 0
 IsEnd count Empty = Unit {0}
 IsEnd count (One entry) = entry < count
 IsEnd count (Many shift first) = ⊥
 
+-- each digest is led to an entry that is there, or to nothing
+abbrev pub IsSound : {K V : Type 0} → Arena K V → Type 0
+IsSound arena = (digest : ℕ) → IsEnd (length arena.entries.items) (led arena.slots.items digest)
+
 -- the entries of a map, which has an arena once anything was put in
-abbrev pub of_arena : {E : Type 0} → Option (List E) → List E
-of_arena None = []
-of_arena (Some entries) = entries
+abbrev pub map_entries : {K V : Type 0} → (K → ℕ) → Option (Arena K V) → List (K × V)
+map_entries digest_of None = []
+map_entries digest_of (Some arena) = entries_of digest_of arena
+
+abbrev pub IsSoundMap : {K V : Type 0} → Option (Arena K V) → Type 0
+IsSoundMap None = Unit {0}
+IsSoundMap (Some arena) = IsSound arena

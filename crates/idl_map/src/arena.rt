@@ -1,31 +1,27 @@
-//! The parts of a map: entries, and slots in which digests find their places.
+//! The parts of a map: entries, and the slots in which digests find their places.
+
+ghost use Rattle.std.specs.Prelude.{◌≡◌, ◌≢◌, ◌<◌, ◌++◌, ◌∷◌, [], ℕ, Bool, true, IfOk, OnOk, OnErr, Some, length, vec_len, if◌then◌else◌};
+ghost use Rattle.std.proofs.Math.ListN.{get_or};
+ghost use Rattle.std.specs.Map.{lookup};
+ghost use Rattle.std.specs.Option.{option_copied};
+ghost use Rattle.idl_map.specs.declared.slot.Slot.TheVariants.{Empty, One};
+ghost use Rattle.idl_map.specs.Slots.{IsSound, comes_by, entries_of, led};
 
 use crate::Digest;
-use crate::slot::{EMPTY, Slot, Way, branch_of, choice, end, way};
+use crate::slot::{Slot, Way, branch_of, choice, empty_branch};
 use idl_base::{Datum, Table};
 use std::alloc::{AllocError, Global};
-use std::marker::Model;
 
 // How many bits of a digest choose among slots. Keys that are alike in all of them come into one table.
 const BITS: u8 = 30;
 
-/// Entries, those of keys whose digests are alike apart.
+/// Entries, and slots in which the digests of their keys find their places.
+///
+/// An entry counts if its own key is led to it, and is never taken out; the rest has the entries for which there was no place.
 pub struct Arena<K: Digest + Ord, V: Datum> {
     slots: Vec<Slot>,
     entries: Vec<(K, V)>,
     rest: Table<K, V>,
-}
-
-impl<K: Digest + Ord, V: Datum> Model for Arena<K, V> {
-    ghost use Rattle.std.specs.Prelude.{ℕ, List, length};
-
-    ghost Value = { List (K × V) };
-
-    ghost use Rattle.idl_map.specs.Slots.{IsEnd, counted, led};
-
-    ghost view = { λ arena. counted K.digest_of arena.slots.items arena.entries.items arena.rest };
-
-    ghost invariant = { λ arena. (digest : ℕ) → IsEnd (length arena.entries.items) (led arena.slots.items digest) };
 }
 
 impl<K: Digest + Ord, V: Datum> Drop for Arena<K, V> {
@@ -39,56 +35,147 @@ impl<K: Digest + Ord, V: Datum> Drop for Arena<K, V> {
 }
 
 impl<K: Digest + Ord, V: Datum> Arena<K, V> {
-    pub fn new(alloc: Global) -> Result<Arena<K, V>, AllocError> {
+    /// The arena without entries.
+    pub fn new(alloc: Global) -> Result<Arena<K, V>, AllocError>
+        ensures sound { IfOk result (λ arena. IsSound arena) }
+        ensures entries { IfOk result (λ arena. entries_of K.digest_of arena ≡ []) }
+    {
         Ok(Arena {
-            slots: Vec::from_slice(alloc, &EMPTY)?,
+            slots: Vec::from_slice(alloc, &empty_branch())?,
             entries: Vec::new(alloc),
             rest: Table::new(alloc),
         })
     }
 
-    pub fn get(&self, key: &K) -> Option<&V> {
-        if let Slot::One(place) = end(&self.slots, key.digest()) {
+    /// The value at a key, or nothing.
+    pub fn get(&self, key: &K) -> Option<&V>
+        requires { IsSound self.now }
+        ensures { option_copied result ≡ lookup (K.eq key.now) (entries_of K.digest_of self.now) }
+    {
+        if let Slot::One(place) = self.slots[self.way_of(key.digest()).place] {
             let entry = &self.entries[place as usize];
             if entry.0 == *key {
                 return Some(&entry.1);
             }
         }
+        self.among_rest(key)
+    }
+
+    // The value that the rest has at a key. It is empty but where digests of many bits are one.
+    fn among_rest(&self, key: &K) -> Option<&V>
+        ensures { option_copied result ≡ lookup (K.eq key.now) self.now.rest }
+    {
         if self.rest.is_empty() {
             return None;
         }
         self.rest.get(key)
     }
 
-    pub fn insert(&mut self, key: K, value: V) -> Result<(), AllocError> {
+    /// Puts a value in at a key. Want of memory leaves what each key has.
+    pub fn insert(&mut self, key: K, value: V) -> Result<(), AllocError>
+        requires { IsSound self.old }
+        ensures sound { IsSound self.new }
+        ensures each_key { OnOk result
+            ((k : K)
+            → lookup (K.eq k) (entries_of K.digest_of self.new)
+            ≡ (if K.eq k key then Some value else lookup (K.eq k) (entries_of K.digest_of self.old))) }
+        ensures err { OnErr result
+            ((k : K)
+            → lookup (K.eq k) (entries_of K.digest_of self.new)
+            ≡ lookup (K.eq k) (entries_of K.digest_of self.old)) }
+    {
         let digest = key.digest();
-        let mut way = way(&self.slots, digest);
-        while let Slot::One(there) = self.slots[way.place] {
-            let entry = &mut self.entries[there as usize];
-            if entry.0 == key {
-                entry.1 = value;
+        let mut way = self.way_of(digest);
+        while let Slot::One(place) = self.slots[way.place] {
+            if self.entries[place as usize].0 == key {
+                self.replace(place as usize, value);
                 return Ok(());
             }
-            let other = entry.0.digest();
             if way.shift >= BITS || self.slots.len() > u32::MAX as usize {
                 return self.rest.insert(key, value);
             }
-            let place = self.divide(way, there, other)?;
-            way = Way { place: place + choice(way.shift, digest), shift: way.shift.saturating_add(3) };
+            self.divide(way, place)?;
+            way = Way {
+                place: self.way_of(digest).place,
+                shift: way.shift.saturating_add(3),
+            };
         }
         self.push(way.place, key, value)
     }
 
-    // Makes a branch of a slot, and answers the place of its first slot.
-    fn divide(&mut self, way: Way, there: u32, other: u64) -> Result<usize, AllocError> {
-        let first = self.slots.len();
-        self.slots.extend_from_slice(&branch_of(way.shift, other, there))?;
-        self.slots[way.place] = Slot::Many(way.shift, first as u32);
-        Ok(first)
+    // The way of a digest to the slot to which it is led.
+    fn way_of(&self, digest: u64) -> Way
+        requires { IsSound self.now }
+        ensures within { result.place < vec_len self.now.slots }
+        ensures comes { comes_by self.now.slots.items digest result.place ≡ true }
+        ensures end { get_or self.now.slots.items result.place Empty ≡ led self.now.slots.items digest }
+    {
+        let mut way = Way {
+            place: choice(0, digest),
+            shift: 3,
+        };
+        while let Slot::Many(shift, first) = self.slots[way.place] {
+            way = Way {
+                place: first as usize + choice(shift, digest),
+                shift: shift.saturating_add(3),
+            };
+        }
+        way
     }
 
-    // Puts an entry in at a place.
-    fn push(&mut self, place: usize, key: K, value: V) -> Result<(), AllocError> {
+    // Puts another value in the entry at a place.
+    fn replace(&mut self, place: usize, value: V)
+        requires sound { IsSound self.old }
+        requires within { place < vec_len self.old.entries }
+        requires led { (e : K × V)
+            → e ≡ get_or self.old.entries.items place e
+            → led self.old.slots.items (K.digest_of e.0) ≡ One place }
+        ensures sound { IsSound self.new }
+        ensures each_key { (k : K) (e : K × V)
+            → e ≡ get_or self.old.entries.items place e
+            → lookup (K.eq k) (entries_of K.digest_of self.new)
+            ≡ (if K.eq k e.0 then Some value else lookup (K.eq k) (entries_of K.digest_of self.old)) }
+    {
+        let entry = &mut self.entries[place];
+        entry.1 = value;
+    }
+
+    // Makes a branch of the slot at the end of a way, which has an entry.
+    fn divide(&mut self, way: Way, place: u32) -> Result<(), AllocError>
+        requires sound { IsSound self.old }
+        requires within { way.place < vec_len self.old.slots }
+        requires one { get_or self.old.slots.items way.place Empty ≡ One place }
+        requires entry { place < vec_len self.old.entries }
+        requires room { vec_len self.old.slots < 4294967296 }
+        ensures sound { IsSound self.new }
+        ensures each_key { (k : K)
+            → lookup (K.eq k) (entries_of K.digest_of self.new)
+            ≡ lookup (K.eq k) (entries_of K.digest_of self.old) }
+    {
+        let other = self.entries[place as usize].0.digest();
+        let first = self.slots.len() as u32;
+        let branch = branch_of(way.shift, other, place);
+        self.slots.extend_from_slice(&branch)?;
+        self.slots[way.place] = Slot::Many(way.shift, first);
+        Ok(())
+    }
+
+    // Puts an entry in, to which the empty slot at a place leads.
+    fn push(&mut self, place: usize, key: K, value: V) -> Result<(), AllocError>
+        requires sound { IsSound self.old }
+        requires within { place < vec_len self.old.slots }
+        requires empty { get_or self.old.slots.items place Empty ≡ Empty }
+        requires comes { comes_by self.old.slots.items (K.digest_of key) place ≡ true }
+        ensures sound { IsSound self.new }
+        ensures each_key { OnOk result
+            ((k : K)
+            → lookup (K.eq k) (entries_of K.digest_of self.new)
+            ≡ (if K.eq k key then Some value else lookup (K.eq k) (entries_of K.digest_of self.old))) }
+        ensures err { OnErr result
+            ((k : K)
+            → lookup (K.eq k) (entries_of K.digest_of self.new)
+            ≡ lookup (K.eq k) (entries_of K.digest_of self.old)) }
+    {
         let number = self.entries.len();
         if number > u32::MAX as usize {
             return self.rest.insert(key, value);

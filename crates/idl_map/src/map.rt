@@ -23,9 +23,11 @@ impl<K: Digest + Ord, V: Datum> Model for Map<K, V> {
 
     ghost Value = { List (K × V) };
 
-    ghost use Rattle.idl_map.specs.Slots.{of_arena};
+    ghost use Rattle.idl_map.specs.Slots.{IsSoundMap, map_entries};
 
-    ghost view = { λ map. of_arena map.arena };
+    ghost view = { λ map. map_entries K.digest_of map.arena };
+
+    ghost invariant = { λ map. IsSoundMap map.arena };
 }
 
 impl<K: Digest + Ord, V: Datum> Drop for Map<K, V> {
