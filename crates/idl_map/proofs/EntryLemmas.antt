@@ -10,7 +10,7 @@ use Rattle.idl_base.specs.Table.{insert_entry}
 use Rattle.idl_map.specs.declared.slot.Slot.{Slot}
 use Rattle.idl_map.specs.declared.slot.Slot.TheVariants.{Empty, One, Many}
 use Rattle.idl_map.specs.Slots.{IsEnd, choice, comes_by, has_entry, led, reached}
-use Rattle.idl_map.proofs.SlotLemmas.{IsEnd-more, choice_below, eqb_one, eqb_same, led_from-divide, led_from-end, led_from-set}
+use Rattle.idl_map.proofs.SlotLemmas.{IsEnd-more, choice_below, eqb_one, eqb_same, led_from-divide, led_from-end, led_from-set, led_to_empty}
 
 is_false : (b : Bool) → (b ≡ true → ⊥) → b ≡ false
 is_false true h = absurd (h refl)
@@ -212,11 +212,9 @@ module _ {K V : Type 0} (eq : K → K → Bool) (same : (x y : K) → eq x y ≡
           by : (b : Bool) → comes_by slots (digest_of k) place ≡ b
               → held k (cond b (One (length es)) (led slots (digest_of k))) (es ++ (key, v) ∷ []) rest ≡ cond (eq k key) (Some v) (held k (led slots (digest_of k)) es rest)
           by true t =
-              let nothing : led slots (digest_of k) ≡ Empty =
-                led_from-end (digest_of k) 0 0 (Many 0 0) slots place t (subst (IsEnd 0) (sym empty) tt) ∙ empty in
               ap (λ e. otherwise (value_in (eq k) e) (lookup (eq k) rest)) (slice_get-last es (key, v))
               ∙ otherwise-first (eq k key) v None (lookup (eq k) rest) (λ f. refl)
-              ∙ ap (λ s. cond (eq k key) (Some v) (held k s es rest)) (sym nothing)
+              ∙ ap (λ s. cond (eq k key) (Some v) (held k s es rest)) (sym (led_to_empty (digest_of k) slots place t empty))
           by false f =
               ap (λ e. otherwise (value_in (eq k) e) (lookup (eq k) rest)) (entry_in-more (led slots (digest_of k)) es ((key, v) ∷ []) (sound (digest_of k)))
               ∙ ap (λ b. cond b (Some v) (held k (led slots (digest_of k)) es rest))

@@ -192,3 +192,8 @@ comes_to_end d slots place (One entry) comes is other =
     let within : entry < entry + 1 = omega arith in
     sym (led_from-end d (entry + 1) 0 (Many 0 0) slots place comes (subst (IsEnd (entry + 1)) (sym is) within))
 comes_to_end d slots place (Many shift first) comes is other = absurd (other shift first refl)
+
+-- where a digest comes by an empty slot it is led to nothing
+pub led_to_empty : (d : ℕ) (slots : List Slot) (place : ℕ) → comes_by slots d place ≡ true → get_or slots place Empty ≡ Empty → led slots d ≡ Empty
+led_to_empty d slots place comes empty =
+    led_from-end d 0 0 (Many 0 0) slots place comes (subst (IsEnd 0) (sym empty) tt) ∙ empty
