@@ -39,7 +39,7 @@ module _ {A : Type 0} where
   slice_get-set_other (x ∷ xs) (suc i) zero y other = refl
   slice_get-set_other (x ∷ xs) (suc i) (suc j) y other = slice_get-set_other xs i j y (λ h. other (ap suc h))
 
-  slice_get-there : (xs : List A) (i : ℕ) (x : A) → i < length xs → x ≡ get_or xs i x → slice_get xs i ≡ Some x
+  pub slice_get-there : (xs : List A) (i : ℕ) (x : A) → i < length xs → x ≡ get_or xs i x → slice_get xs i ≡ Some x
   slice_get-there [] i x h at = absurd (omega arith)
   slice_get-there (y ∷ xs) zero x h at = ap Some (sym at)
   slice_get-there (y ∷ xs) (suc i) x h at = slice_get-there xs i x (omega arith) at
