@@ -39,7 +39,7 @@ module _ {A : Type 0} where
   slice_get-set_other (x ∷ xs) (suc i) zero y other = refl
   slice_get-set_other (x ∷ xs) (suc i) (suc j) y other = slice_get-set_other xs i j y (λ h. other (ap suc h))
 
-  pub slice_get-there : (xs : List A) (i : ℕ) (x : A) → i < length xs → x ≡ get_or xs i x → slice_get xs i ≡ Some x
+  slice_get-there : (xs : List A) (i : ℕ) (x : A) → i < length xs → x ≡ get_or xs i x → slice_get xs i ≡ Some x
   slice_get-there [] i x h at = absurd (omega arith)
   slice_get-there (y ∷ xs) zero x h at = ap Some (sym at)
   slice_get-there (y ∷ xs) (suc i) x h at = slice_get-there xs i x (omega arith) at
@@ -49,7 +49,7 @@ length_more xs y = omega (arith, length-append xs (y ∷ []))
 
 module _ {V : Type 0} where
   -- one answer, or else another
-  abbrev pub otherwise : Option V → Option V → Option V
+  abbrev otherwise : Option V → Option V → Option V
   otherwise (Some v) o = Some v
   otherwise None o = o
 
@@ -137,6 +137,12 @@ module _ {K V : Type 0} where
     found_in-is (One entry) es = found_in-One entry 0 entry es (omega arith)
     found_in-is (Many shift first) es = found_in-none (Many shift first) 0 es (λ m low. refl)
 
+  -- a slot without an entry
+  pub no_entry : (slot : Slot) (es : List (K × V)) → ((entry : ℕ) → slot ≡ One entry → ⊥) → entry_in slot es ≡ None
+  no_entry Empty es h = refl
+  no_entry (One entry) es h = absurd (h entry refl)
+  no_entry (Many shift first) es h = refl
+
   -- more entries
   entry_in-more : (slot : Slot) (es fs : List (K × V)) → IsEnd (length es) slot → entry_in slot (es ++ fs) ≡ entry_in slot es
   entry_in-more Empty es fs e = refl
@@ -176,7 +182,7 @@ module _ {K V : Type 0} (eq : K → K → Bool) (same : (x y : K) → eq x y ≡
   all slots es rest = reached (λ k. led slots (digest_of k)) 0 es ++ rest
 
   -- what a key has, where it is led to a slot
-  abbrev pub held : K → Slot → List (K × V) → List (K × V) → Option V
+  abbrev held : K → Slot → List (K × V) → List (K × V) → Option V
   held k slot es rest = otherwise (value_in (eq k) (entry_in slot es)) (lookup (eq k) rest)
 
   pub lookup-all : (k : K) (slots : List Slot) (es rest : List (K × V)) → lookup (eq k) (all slots es rest) ≡ held k (led slots (digest_of k)) es rest
@@ -185,6 +191,22 @@ module _ {K V : Type 0} (eq : K → K → Bool) (same : (x y : K) → eq x y ≡
       ∙ ap (λ o. otherwise o (lookup (eq k) rest))
       (lookup-reached (eq k) (λ x. led slots (digest_of x)) (led slots (digest_of k)) (λ x h. ap (λ y. led slots (digest_of y)) (sym (same k x h))) 0 es
       ∙ found_in-is (eq k) (led slots (digest_of k)) es)
+
+  -- a key with an entry has its value, and another what the rest has
+  pub lookup-present : (k : K) (slots : List Slot) (es rest : List (K × V)) (v : V) → value_in (eq k) (entry_in (led slots (digest_of k)) es) ≡ Some v
+      → lookup (eq k) (all slots es rest) ≡ Some v
+  lookup-present k slots es rest v h = lookup-all k slots es rest ∙ ap (λ o. otherwise o (lookup (eq k) rest)) h
+
+  pub lookup-absent : (k : K) (slots : List Slot) (es rest : List (K × V)) → value_in (eq k) (entry_in (led slots (digest_of k)) es) ≡ None
+      → lookup (eq k) (all slots es rest) ≡ lookup (eq k) rest
+  lookup-absent k slots es rest h = lookup-all k slots es rest ∙ ap (λ o. otherwise o (lookup (eq k) rest)) h
+
+  pub value_at : (k : K) (slot : Slot) (es : List (K × V)) (place : ℕ) (e : K × V) (b : Bool) → slot ≡ One place → place < length es → e ≡ get_or es place e → eq k e.0 ≡ b
+      → value_in (eq k) (entry_in slot es) ≡ cond b (Some e.1) None
+  value_at k slot es place e b is within at one =
+      ap (λ s. value_in (eq k) (entry_in s es)) is
+      ∙ ap (value_in (eq k)) (slice_get-there es place e within at)
+      ∙ ap (λ c. cond c (Some e.1) None) one
 
   module _ (slots : List Slot) (es rest : List (K × V)) (sound : (d : ℕ) → IsEnd (length es) (led slots d)) where
     -- an entry is put in, to which an empty slot leads

@@ -54,7 +54,7 @@ impl<K: Digest + Ord, V: Datum> Arena<K, V> {
     {
         if let Slot::One(place) = self.slots[self.way_of(key.digest()).place] {
             let entry = &self.entries[place as usize];
-            if entry.0 == *key {
+            if *key == entry.0 {
                 return Some(&entry.1);
             }
         }
@@ -87,7 +87,7 @@ impl<K: Digest + Ord, V: Datum> Arena<K, V> {
         let digest = key.digest();
         let mut way = self.way_of(digest);
         while let Slot::One(place) = self.slots[way.place] {
-            if self.entries[place as usize].0 == key {
+            if key == self.entries[place as usize].0 {
                 self.replace(place as usize, value);
                 return Ok(());
             }
