@@ -10,7 +10,7 @@ use Rattle.idl_base.specs.Table.{insert_entry}
 use Rattle.idl_map.specs.declared.slot.Slot.{Slot}
 use Rattle.idl_map.specs.declared.slot.Slot.TheVariants.{Empty, One, Many}
 use Rattle.idl_map.specs.Slots.{IsEnd, choice, comes_by, has_entry, led, reached}
-use Rattle.idl_map.proofs.SlotLemmas.{IsEnd-more, choice_below, eqb_one, eqb_same, led_from-divide, led_from-end, led_from-set, led_to_empty}
+use Rattle.idl_map.proofs.SlotLemmas.{IsEnd-more, choice_below, eqb_same, led_from-divide, led_from-end, led_from-set, led_to_empty}
 
 is_false : (b : Bool) → (b ≡ true → ⊥) → b ≡ false
 is_false true h = absurd (h refl)
@@ -67,12 +67,6 @@ module _ {V : Type 0} where
   otherwise-last true v p q h = ap (λ o. otherwise o (Some v)) (h refl)
   otherwise-last false v p q h = refl
 
-  picked : (b t : Bool) (v : V) (o : Option V) → cond b (cond t (Some v) o) o ≡ cond t (cond b (Some v) o) o
-  picked true true v o = refl
-  picked true false v o = refl
-  picked false true v o = refl
-  picked false false v o = refl
-
   same_twice : (t : Bool) (o : Option V) → cond t o o ≡ o
   same_twice true o = refl
   same_twice false o = refl
@@ -109,6 +103,7 @@ module _ {K V : Type 0} where
         kept : (b : Bool) → lookup test (cond b (e ∷ reached slot_of (n + 1) es) (reached slot_of (n + 1) es)) ≡ cond b (cond (test e.0) (Some e.1) (lookup test (reached slot_of (n + 1) es))) (lookup test (reached slot_of (n + 1) es))
         kept true = refl
         kept false = refl
+
         by : (t : Bool) → (t ≡ true → has_entry n (slot_of e.0) ≡ has_entry n slot)
             → cond (has_entry n (slot_of e.0)) (cond t (Some e.1) (lookup test (reached slot_of (n + 1) es))) (lookup test (reached slot_of (n + 1) es))
             ≡ cond t (cond (has_entry n slot) (Some e.1) (lookup test (reached slot_of (n + 1) es))) (lookup test (reached slot_of (n + 1) es))
@@ -251,9 +246,9 @@ module _ {K V : Type 0} (eq : K → K → Bool) (same : (x y : K) → eq x y ≡
           ∙ by (eq k e.0) refl
           ∙ ap (cond (eq k e.0) (Some v)) (sym (lookup-all k slots es rest))
         where
-          other_entry : (b : Bool) (slot : Slot) → eq k e.0 ≡ false → value_in (eq k) (entry_in slot (set es place (e.0, v))) ≡ value_in (eq k) (entry_in slot es)
-          other_entry b Empty f = refl
-          other_entry b (One entry) f = elim (eqb_tells entry place) [
+          other_entry : (slot : Slot) → eq k e.0 ≡ false → value_in (eq k) (entry_in slot (set es place (e.0, v))) ≡ value_in (eq k) (entry_in slot es)
+          other_entry Empty f = refl
+          other_entry (One entry) f = elim (eqb_tells entry place) [
             | inl t ↦
                 ap (λ i. value_in (eq k) (slice_get (set es place (e.0, v)) i)) t.1
                 ∙ ap (value_in (eq k)) (slice_get-set_same es place (e.0, v) within)
@@ -263,7 +258,7 @@ module _ {K V : Type 0} (eq : K → K → Bool) (same : (x y : K) → eq x y ≡
                 ∙ sym (ap (λ i. value_in (eq k) (slice_get es i)) t.1)
             | inr u ↦ ap (value_in (eq k)) (slice_get-set_other es place entry (e.0, v) u.1)
           ]
-          other_entry b (Many shift first) f = refl
+          other_entry (Many shift first) f = refl
 
           by : (b : Bool) → eq k e.0 ≡ b
               → held k (led slots (digest_of k)) (set es place (e.0, v)) rest ≡ cond (eq k e.0) (Some v) (held k (led slots (digest_of k)) es rest)
@@ -273,7 +268,7 @@ module _ {K V : Type 0} (eq : K → K → Bool) (same : (x y : K) → eq x y ≡
               ∙ ap (λ c. otherwise (cond c (Some v) None) (lookup (eq k) rest)) t
               ∙ sym (ap (λ c. cond c (Some v) (held k (led slots (digest_of k)) es rest)) t)
           by false f =
-              ap (λ o. otherwise o (lookup (eq k) rest)) (other_entry false (led slots (digest_of k)) f)
+              ap (λ o. otherwise o (lookup (eq k) rest)) (other_entry (led slots (digest_of k)) f)
               ∙ sym (ap (λ c. cond c (Some v) (held k (led slots (digest_of k)) es rest)) f)
 
     -- the slot of an entry is divided: behind all slots there is a branch, with the entry in the slot that its digest chooses
@@ -318,7 +313,7 @@ module _ {K V : Type 0} (eq : K → K → Bool) (same : (x y : K) → eq x y ≡
               → held k (cond b (get_or branch (choice shift (digest_of k)) Empty) (led slots (digest_of k))) es rest ≡ held k (led slots (digest_of k)) es rest
           by true t =
               let was : led slots (digest_of k) ≡ One entry =
-                led_from-end (digest_of k) (length es) 0 (Many 0 0) slots place t (subst (IsEnd (length es)) (sym is) there) ∙ is in
+              led_from-end (digest_of k) (length es) 0 (Many 0 0) slots place t (subst (IsEnd (length es)) (sym is) there) ∙ is in
               ap (λ s. held k s es rest) (chosen (choice shift (digest_of k)))
               ∙ in_branch (eqb (choice shift (digest_of k)) (choice shift (digest_of one.0))) refl
               ∙ ap (λ s. held k s es rest) (sym was)

@@ -12,9 +12,6 @@ use Rattle.idl_map.specs.Slots.{IsEnd, choice, comes_by, comes_from, goes_to, le
 pub eqb_same : (a b : ℕ) → a ≡ b → eqb a b ≡ true
 eqb_same a b h = elim (eqb_tells a b) [ inl t ↦ t.0 | inr f ↦ absurd (f.1 h) ]
 
-pub eqb_one : (a b : ℕ) → eqb a b ≡ true → a ≡ b
-eqb_one a b h = elim (eqb_tells a b) [ inl t ↦ t.1 | inr f ↦ absurd (false≢true (sym f.0 ∙ h)) ]
-
 -- more entries have the same ends
 pub IsEnd-more : (m n : ℕ) (slot : Slot) → m ≤ n → IsEnd m slot → IsEnd n slot
 IsEnd-more m n Empty h e = tt
@@ -105,19 +102,19 @@ module _ (d : ℕ) where
     pub goes_in : (count n : ℕ) (xs : List Slot) → IsEnd count (led_from d n (Many shift first) xs) → GoesOn n (Many shift first) xs
     goes_in count n [] e = absurd e
     goes_in count n (x ∷ xs) e = elim (eqb_tells (first + choice shift d) n) [
-        | inl t ↦ record {
-            low = omega (arith, t.1);
-            high = omega (arith, t.1);
-            comes = here t.0 t.1;
+      | inl t ↦ record {
+        low = omega (arith, t.1);
+        high = omega (arith, t.1);
+        comes = here t.0 t.1;
+      }
+      | inr f ↦
+          let rest = goes_in count (n + 1) xs (subst (λ b. IsEnd count (led_from d (n + 1) (cond b x (Many shift first)) xs)) f.0 e) in
+          record {
+            low = omega (arith, rest.low);
+            high = omega (arith, rest.high);
+            comes = there f.0 f.1 rest;
           }
-        | inr f ↦
-            let rest = goes_in count (n + 1) xs (subst (λ b. IsEnd count (led_from d (n + 1) (cond b x (Many shift first)) xs)) f.0 e) in
-            record {
-              low = omega (arith, rest.low);
-              high = omega (arith, rest.high);
-              comes = there f.0 f.1 rest;
-            }
-      ]
+    ]
       where
         here : eqb (first + choice shift d) n ≡ true → first + choice shift d ≡ n → (j : ℕ) → first + choice shift d ≡ n + j → comes_from d n (Many shift first) (x ∷ xs) j ≡ true
         here t one zero at = t
@@ -132,24 +129,28 @@ module _ (d : ℕ) where
         → IsEnd count (led_from d n s xs) → (n + i < first + choice shift d) × GoesOn n s xs
     goes_on count n s [] i comes many e = absurd (false≢true comes)
     goes_on count n s (x ∷ xs) zero comes many e =
-        let rest = goes_in count (n + 1) xs (subst (λ t. IsEnd count (led_from d (n + 1) t xs)) (ap (λ b. cond b x s) comes ∙ many) e) in
-        (omega (arith, rest.low), record {
-          low = omega (arith, rest.low);
-          high = omega (arith, rest.high);
-          comes = there rest;
-        })
+        let rest = goes_in count (n + 1) xs (subst (λ t. IsEnd count (led_from d (n + 1) t xs)) (ap (λ b. cond b x s) comes ∙ many) e) in (
+          omega (arith, rest.low),
+          record {
+            low = omega (arith, rest.low);
+            high = omega (arith, rest.high);
+            comes = there rest;
+          },
+        )
       where
         there : GoesOn (n + 1) (Many shift first) xs → (j : ℕ) → first + choice shift d ≡ n + j → comes_from d n s (x ∷ xs) j ≡ true
         there rest zero at = absurd (omega (arith, rest.low, at))
         there rest (suc j) at =
             ap (λ t. comes_from d (n + 1) t xs j) (ap (λ b. cond b x s) comes ∙ many) ∙ rest.comes j (omega (arith, at))
     goes_on count n s (x ∷ xs) (suc i) comes many e =
-        let rest = goes_on count (n + 1) (cond (goes_to d n s) x s) xs i comes many e in
-        (omega (arith, rest.0), record {
-          low = omega (arith, rest.1.low);
-          high = omega (arith, rest.1.high);
-          comes = there rest.0 rest.1;
-        })
+        let rest = goes_on count (n + 1) (cond (goes_to d n s) x s) xs i comes many e in (
+          omega (arith, rest.0),
+          record {
+            low = omega (arith, rest.1.low);
+            high = omega (arith, rest.1.high);
+            comes = there rest.0 rest.1;
+          },
+        )
       where
         there : n + 1 + i < first + choice shift d → GoesOn (n + 1) (cond (goes_to d n s) x s) xs → (j : ℕ) → first + choice shift d ≡ n + j → comes_from d n s (x ∷ xs) j ≡ true
         there past rest zero at = absurd (omega (arith, past, at))
@@ -180,7 +181,7 @@ led_to_nothing count d slots is =
     let end : IsEnd count (get_or branch (choice 0 d) Empty) = subst (IsEnd count) (sym nothing) tt in
     let within : choice 0 d < length branch = choice_below 0 d in
     let there : led slots d ≡ Empty =
-      ap (λ xs. led xs d) is ∙ in_branch d 0 0 count 0 branch (choice 0 d) (omega arith) within end ∙ nothing in
+    ap (λ xs. led xs d) is ∙ in_branch d 0 0 count 0 branch (choice 0 d) (omega arith) within end ∙ nothing in
     subst (IsEnd count) (sym there) tt
 
 -- a slot by which a digest comes, and that is no branch, is the one to which it is led

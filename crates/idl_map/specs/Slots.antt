@@ -1,5 +1,5 @@
 -- Slots, in which digests find the places of entries.
-use Rattle.std.specs.Prelude.{◌≡◌, ℕ, zero, suc, ◌+◌, ◌/◌, ◌%◌, ◌^◌, ◌==◌, ◌<◌, Bool, false, List, [], ◌∷◌, ◌++◌, Option, None, Some, length, if◌then◌else◌}
+use Rattle.std.specs.Prelude.{ℕ, zero, suc, ◌+◌, ◌/◌, ◌%◌, ◌^◌, ◌==◌, ◌<◌, Bool, false, List, [], ◌∷◌, ◌++◌, Option, None, Some, length, if◌then◌else◌}
 use Rattle.idl_map.specs.declared.slot.Slot.{Slot}
 use Rattle.idl_map.specs.declared.slot.Slot.TheVariants.{Empty, One, Many}
 use Rattle.idl_map.specs.declared.arena.Arena.{Arena}

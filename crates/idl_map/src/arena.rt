@@ -1,6 +1,6 @@
 //! The parts of a map: entries, and the slots in which digests find their places.
 
-ghost use Rattle.std.specs.Prelude.{◌≡◌, ◌≢◌, ◌<◌, ◌++◌, ◌∷◌, [], ℕ, Bool, true, IfOk, OnOk, OnErr, Some, length, vec_len, if◌then◌else◌};
+ghost use Rattle.std.specs.Prelude.{◌≡◌, ◌<◌, [], true, IfOk, OnOk, OnErr, Some, vec_len, if◌then◌else◌};
 ghost use Rattle.std.proofs.Math.ListN.{get_or};
 ghost use Rattle.std.specs.Map.{lookup};
 ghost use Rattle.std.specs.Option.{option_copied};
@@ -15,9 +15,11 @@ use std::alloc::{AllocError, Global};
 // How many bits of a digest choose among slots. Keys that are alike in all of them come into one table.
 const BITS: u8 = 30;
 
-/// Entries, and slots in which the digests of their keys find their places.
+/// Entries, the slots in which the digests of their keys find their places, and the rest, which has the entries for which
+/// there was no place.
 ///
-/// An entry counts if its own key is led to it, and is never taken out; the rest has the entries for which there was no place.
+/// The slots are branches of eight, one after another, and each stands behind the slot that leads to it. Where a slot leads a
+/// digest follows from the digest alone: an entry counts if its own key is led to it. No entry is ever taken out.
 pub struct Arena<K: Digest + Ord, V: Datum> {
     slots: Vec<Slot>,
     entries: Vec<(K, V)>,

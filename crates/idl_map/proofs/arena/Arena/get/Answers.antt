@@ -45,5 +45,5 @@ returns g c =
           sym (absent (value_at eq g.met.K.Datum.same digest_of key slot entries w.in-One.place w.index-entry.result.now false is within w.index-entry.ensures
           (sym w.eq.ensures ∙ w.if-eq.false)))
       | in_default w ↦
-          sym (absent (ap (value_in (eq key)) (no_entry slot entries (λ place is. w.in_default.not-One place (sym (there) ∙ is)))))
+          sym (absent (ap (value_in (eq key)) (no_entry slot entries (λ place is. w.in_default.not-One place (sym there ∙ is)))))
     ]

@@ -14,7 +14,7 @@ invariant-loop-place g l =
       comes : comes_by l.self.slots.items l.digest l.way.place ≡ true;
       end : get_or l.self.slots.items l.way.place Empty ≡ led l.self.slots.items l.digest;
       kept : (k : g.row.K.Denot) → lookup (g.K.PartialEq.eq k) (entries_of g.K.Digest.digest_of l.self)
-      ≡ lookup (g.K.PartialEq.eq k) (entries_of g.K.Digest.digest_of l.fn.self);
+          ≡ lookup (g.K.PartialEq.eq k) (entries_of g.K.Digest.digest_of l.fn.self);
     }
 
 -- fewer bits are left

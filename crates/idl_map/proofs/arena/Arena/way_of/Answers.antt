@@ -51,6 +51,6 @@ returns g c =
       within = c.loop-shift.invariant.within;
       comes = c.loop-shift.invariant.comes;
       end =
-        comes_to_end c.args.digest slots.items place c.index.result.now c.loop-shift.invariant.comes
-        (sym (get_or_read slots.items place c.index.result.now within c.index.ensures Empty)) c.in_default.not-Many;
+          comes_to_end c.args.digest slots.items place c.index.result.now c.loop-shift.invariant.comes
+          (sym (get_or_read slots.items place c.index.result.now within c.index.ensures Empty)) c.in_default.not-Many;
     }
