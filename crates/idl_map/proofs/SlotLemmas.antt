@@ -1,175 +1,200 @@
--- Look-ups in what is gathered of slots.
-use Rattle.std.proofs.Common.{◌≡◌, ℕ, zero, suc, inl, inr, ◌<◌, ◌≤◌, ◌+◌, ◌≢◌, Bool, true, false, cond, List, [], ◌∷◌, ◌++◌, Option, Some, None, length, refl, sym, ap, ◌∙◌, arith}
+-- Where slots lead digests.
+use Rattle.std.proofs.Common.{◌≡◌, ℕ, zero, suc, inl, inr, ◌<◌, ◌≤◌, ◌+◌, ◌≢◌, Bool, true, false, cond, List, [], ◌∷◌, ◌++◌, length, refl, sym, ap, ◌∙◌, subst, arith}
 use Rattle.std.proofs.Math.Dec.{eqb}
+use Rattle.std.proofs.Math.ListN.{get_or, set}
 use Rattle.std.proofs.lemmas.Bool.{false≢true, ne_eqb}
 use Rattle.std.proofs.lemmas.Bool.Decides.{eqb_tells}
-use Rattle.std.proofs.lemmas.List.{length-map, get_or-map, get_or-set_same, get_or-set_other, map-set}
-use Rattle.std.proofs.lemmas.Map.Entries.{lookup-filter-keys}
-use Rattle.std.proofs.Math.ListN.{get_or, set}
-use Rattle.std.specs.Cmp.{IsEquivalence}
-use Rattle.std.specs.List.{filter}
-use Rattle.std.specs.Map.{lookup}
-use Rattle.std.specs.Prelude.{map}
-use Rattle.idl_base.specs.Table.{insert_entry}
-use Rattle.idl_map.specs.Slots.{branch_seen, choice, empty_branch, gathered, slot_entries, slot_size, slots_size}
 use Rattle.idl_map.specs.declared.slot.Slot.{Slot}
+use Rattle.idl_map.specs.declared.slot.Slot.TheVariants.{Empty, One, Many}
+use Rattle.idl_map.specs.Slots.{IsEnd, choice, comes_by, comes_from, goes_to, led, led_from}
 
--- a test of numbers that are one
-eqb_same : (a b : ℕ) → a ≡ b → eqb a b ≡ true
+-- tests of numbers
+pub eqb_same : (a b : ℕ) → a ≡ b → eqb a b ≡ true
 eqb_same a b h = elim (eqb_tells a b) [ inl t ↦ t.0 | inr f ↦ absurd (f.1 h) ]
 
-is_false : (b : Bool) → (b ≡ true → ⊥) → b ≡ false
-is_false true h = absurd (h refl)
-is_false false h = refl
+-- more entries have the same ends
+pub IsEnd-more : (m n : ℕ) (slot : Slot) → m ≤ n → IsEnd m slot → IsEnd n slot
+IsEnd-more m n Empty h e = tt
+IsEnd-more m n (One entry) h e = omega arith
+IsEnd-more m n (Many shift first) h e = absurd e
 
-module _ {V : Type 0} where
-  -- one answer, or else another
-  abbrev otherwise : Option V → Option V → Option V
-  otherwise (Some v) o = Some v
-  otherwise None o = o
+module _ (d : ℕ) where
+  -- one list of slots behind another
+  pub led_from-append : (n : ℕ) (s : Slot) (xs ys : List Slot) → led_from d n s (xs ++ ys) ≡ led_from d (n + length xs) (led_from d n s xs) ys
+  led_from-append n s [] ys = let e : n ≡ n + 0 = omega arith in ap (λ m. led_from d m s ys) e
+  led_from-append n s (x ∷ xs) ys =
+      let e : n + 1 + length xs ≡ n + length (x ∷ xs) = omega arith in
+      led_from-append (n + 1) (cond (goes_to d n s) x s) xs ys
+      ∙ ap (λ m. led_from d m (led_from d (n + 1) (cond (goes_to d n s) x s) xs) ys) e
 
-  otherwise-none : (o : Option V) → otherwise o None ≡ o
-  otherwise-none (Some v) = refl
-  otherwise-none None = refl
+  -- a digest stays where its slot makes it go to none of those behind
+  pub stays : (n : ℕ) (s : Slot) (xs : List Slot) → ((m : ℕ) → n ≤ m → m < n + length xs → goes_to d m s ≡ false) → led_from d n s xs ≡ s
+  stays n s [] h = refl
+  stays n s (x ∷ xs) h =
+      ap (λ b. led_from d (n + 1) (cond b x s) xs) (h n (omega arith) (omega arith))
+      ∙ stays (n + 1) s xs (λ m low high. h m (omega arith) (omega arith))
 
-  one_more : (b : Bool) (v : V) (o p q : Option V) → o ≡ otherwise p q → cond b (Some v) o ≡ otherwise (cond b (Some v) p) q
-  one_more true v o p q h = refl
-  one_more false v o p q h = h
+  pub end_stays : (count n : ℕ) (s : Slot) (xs : List Slot) → IsEnd count s → led_from d n s xs ≡ s
+  end_stays count n Empty xs e = stays n Empty xs (λ m low high. refl)
+  end_stays count n (One entry) xs e = stays n (One entry) xs (λ m low high. refl)
+  end_stays count n (Many shift first) xs e = absurd e
 
-module _ {K V : Type 0} where
-  lookup-append : (test : K → Bool) (es fs : List (K × V)) → lookup test (es ++ fs) ≡ otherwise (lookup test es) (lookup test fs)
-  lookup-append test [] fs = refl
-  lookup-append test (e ∷ es) fs = one_more (test e.0) e.1 (lookup test (es ++ fs)) (lookup test es) (lookup test fs) (lookup-append test es fs)
+  pub many_stays : (n shift first : ℕ) (xs : List Slot) → n + length xs ≤ first + choice shift d → led_from d n (Many shift first) xs ≡ Many shift first
+  many_stays n shift first xs h =
+      stays n (Many shift first) xs (λ m low high. ne_eqb (first + choice shift d) m (λ one. absurd (omega (arith, h, high, one))))
 
-  -- a test that keys pass which choose one slot alone
-  module _ (chosen : K → ℕ) (test : K → Bool) (slot : ℕ) (knows : (k : K) → test k ≡ true → chosen k ≡ slot) where
-    here : (n : ℕ) (es : List (K × V)) (b : Bool) → eqb slot n ≡ b → lookup test (filter (λ e. eqb (chosen e.0) n) es) ≡ cond b (lookup test es) None
-    here n es b h = lookup-filter-keys test (λ k. eqb (chosen k) n) b (λ k t. ap (λ c. eqb c n) (knows k t) ∙ h) es
-
-    lookup-gathered_past : (n : ℕ) (slots : List (List (K × V))) → slot < n → lookup test (gathered chosen n slots) ≡ None
-    lookup-gathered_past n [] h = refl
-    lookup-gathered_past n (es ∷ slots) h =
-        lookup-append test (filter (λ e. eqb (chosen e.0) n) es) (gathered chosen (n + 1) slots)
-        ∙ ap (λ o. otherwise o (lookup test (gathered chosen (n + 1) slots))) (here n es false (ne_eqb slot n (λ one. absurd (omega (arith, h, one)))))
-        ∙ lookup-gathered_past (n + 1) slots (omega (arith, h))
-
-    from : (n i : ℕ) (slots : List (List (K × V))) → slot ≡ n + i → lookup test (gathered chosen n slots) ≡ lookup test (get_or slots i [])
-    from n i [] h = refl
-    from n zero (es ∷ slots) h =
-        lookup-append test (filter (λ e. eqb (chosen e.0) n) es) (gathered chosen (n + 1) slots)
-        ∙ ap (λ o. otherwise o (lookup test (gathered chosen (n + 1) slots))) (here n es true (eqb_same slot n (omega (arith, h))))
-        ∙ ap (otherwise (lookup test es)) (lookup-gathered_past (n + 1) slots (omega (arith, h)))
-        ∙ otherwise-none (lookup test es)
-    from n (suc i) (es ∷ slots) h =
-        lookup-append test (filter (λ e. eqb (chosen e.0) n) es) (gathered chosen (n + 1) slots)
-        ∙ ap (λ o. otherwise o (lookup test (gathered chosen (n + 1) slots))) (here n es false (ne_eqb slot n (λ one. absurd (omega (arith, h, one)))))
-        ∙ from (n + 1) i slots (omega (arith, h))
-
-    -- what is looked up is looked up in that slot
-    pub lookup-gathered : (slots : List (List (K × V))) → lookup test (gathered chosen 0 slots) ≡ lookup test (get_or slots slot [])
-    lookup-gathered slots = from 0 slot slots (omega arith)
-
-    -- a look-up in that slot where it is another one, and in the others
-    pub lookup-gathered-set_same : (slots : List (List (K × V))) (i : ℕ) (es : List (K × V)) → i < length slots → slot ≡ i → lookup test (gathered chosen 0 (set slots i es)) ≡ lookup test es
-    lookup-gathered-set_same slots i es within one =
-        lookup-gathered (set slots i es)
-        ∙ ap (λ s. lookup test (get_or (set slots i es) s [])) one
-        ∙ ap (lookup test) (get_or-set_same slots i es [] within)
-
-    pub lookup-gathered-set_other : (slots : List (List (K × V))) (i : ℕ) (es : List (K × V)) → slot ≢ i → lookup test (gathered chosen 0 (set slots i es)) ≡ lookup test (gathered chosen 0 slots)
-    lookup-gathered-set_other slots i es other =
-        lookup-gathered (set slots i es)
-        ∙ ap (lookup test) (get_or-set_other slots i slot es [] other)
-        ∙ sym (lookup-gathered slots)
-
-  -- keys of one slot change there, and others nowhere
-  module _ (eq : K → K → Bool) (same : (x y : K) → eq x y ≡ true → x ≡ y) (chosen : K → ℕ) where
-    pub changed_below : (change : K → Option V → Option V) (slots : List (List (K × V))) (i : ℕ) (es : List (K × V)) → i < length slots
-        → ((k : K) (o : Option V) → chosen k ≢ i → change k o ≡ o)
-        → ((k : K) → lookup (eq k) es ≡ change k (lookup (eq k) (get_or slots i [])))
-        → (k : K) → lookup (eq k) (gathered chosen 0 (set slots i es)) ≡ change k (lookup (eq k) (gathered chosen 0 slots))
-    changed_below change slots i es within others below k =
-        let knows : (x : K) → eq k x ≡ true → chosen x ≡ chosen k = λ x h. ap chosen (sym (same k x h)) in
-        elim (eqb_tells (chosen k) i) [
-          | inl t ↦
-              lookup-gathered-set_same chosen (eq k) (chosen k) knows slots i es within t.1
-              ∙ below k
-              ∙ ap (λ s. change k (lookup (eq k) (get_or slots s []))) (sym t.1)
-              ∙ ap (change k) (sym (lookup-gathered chosen (eq k) (chosen k) knows slots))
-          | inr f ↦ lookup-gathered-set_other chosen (eq k) (chosen k) knows slots i es f.1 ∙ sym (others k (lookup (eq k) (gathered chosen 0 slots)) f.1)
-        ]
-
-    -- the value put in at a key, which chooses one slot
-    pub put_elsewhere : (key : K) (v : V) (i : ℕ) → chosen key ≡ i → (k : K) (o : Option V) → chosen k ≢ i → cond (eq k key) (Some v) o ≡ o
-    put_elsewhere key v i at k o other = ap (λ b. cond b (Some v) o) (is_false (eq k key) (λ h. other (ap chosen (same k key h) ∙ at)))
-
--- a branch of which one slot changes, at keys that choose it
-module _ {K V : Type 0} (eq : K → K → Bool) (same : (x y : K) → eq x y ≡ true → x ≡ y) (digest_of : K → ℕ) (shift : ℕ) where
-  pub changed_branch : (change : K → Option V → Option V) (slots : List (Slot K V)) (i : ℕ) (child d : Slot K V) (old new : ℕ × List (List (K × V))) → i < length slots
-      → ((k : K) (o : Option V) → choice shift (digest_of k) ≢ i → change k o ≡ o)
-      → branch_seen digest_of slots ≡ old → new ≡ branch_seen digest_of (set slots i child)
-      → ((k : K) → lookup (eq k) (slot_entries digest_of child) ≡ change k (lookup (eq k) (slot_entries digest_of (get_or slots i d))))
-      → (k : K) → lookup (eq k) (gathered (λ x. choice shift (digest_of x)) 0 new.1) ≡ change k (lookup (eq k) (gathered (λ x. choice shift (digest_of x)) 0 old.1))
-  changed_branch change slots i child d old new within others seen put below k =
-      let entries : Slot K V → List (K × V) = slot_entries digest_of in
-      let chosen : K → ℕ = λ x. choice shift (digest_of x) in
-      let long : i < length (map entries slots) = omega (arith, within, length-map slots entries) in
-      ap (λ v. lookup (eq k) (gathered chosen 0 v.1)) put
-      ∙ ap (λ lists. lookup (eq k) (gathered chosen 0 lists)) (map-set entries slots i child)
-      ∙ changed_below eq same chosen change (map entries slots) i (entries child) long others
-      (λ x. below x ∙ ap (λ es. change x (lookup (eq x) es)) (sym (get_or-map entries slots i d [] within))) k
-      ∙ ap (λ v. change k (lookup (eq k) (gathered chosen 0 v.1))) seen
-
-  -- an empty branch into which one entry is put has what the entry has
-  pub only_entry : (slots : List (Slot K V)) (index : ℕ) (child : Slot K V) (key : K) (v : V) (new : ℕ × List (List (K × V)))
-      → branch_seen digest_of slots ≡ empty_branch → new ≡ branch_seen digest_of (set slots index child)
-      → slot_entries digest_of child ≡ (key, v) ∷ [] → choice shift (digest_of key) ≡ index → index < 8
-      → (k : K) → lookup (eq k) (gathered (λ x. choice shift (digest_of x)) 0 new.1) ≡ lookup (eq k) ((key, v) ∷ [])
-  only_entry slots index child key v new empty made entry at within k =
-      let entries : Slot K V → List (K × V) = slot_entries digest_of in
-      let chosen : K → ℕ = λ x. choice shift (digest_of x) in
-      let none : List (List (K × V)) = [] ∷ [] ∷ [] ∷ [] ∷ [] ∷ [] ∷ [] ∷ [] ∷ [] in
-      let knows : (x : K) → eq k x ≡ true → chosen x ≡ chosen k = λ x h. ap chosen (sym (same k x h)) in
-      ap (λ b. lookup (eq k) (gathered chosen 0 b.1)) made
-      ∙ ap (λ lists. lookup (eq k) (gathered chosen 0 lists)) (map-set entries slots index child)
-      ∙ ap (λ b. lookup (eq k) (gathered chosen 0 (set b.1 index (entries child)))) empty
-      ∙ ap (λ es. lookup (eq k) (gathered chosen 0 (set none index es))) entry
-      ∙ elim (eqb_tells (chosen k) index) [
-        | inl t ↦ lookup-gathered-set_same chosen (eq k) (chosen k) knows none index ((key, v) ∷ []) within t.1
-        | inr f ↦
-            lookup-gathered-set_other chosen (eq k) (chosen k) knows none index ((key, v) ∷ []) f.1
-            ∙ sym (put_elsewhere eq same chosen key v index at k None f.1)
-      ]
-
--- a slot of a branch is put in place of another: the branches are no more than those there were and those of that slot
-pub slots_size-set : {K V : Type 0} (slots : List (Slot K V)) (i : ℕ) (child : Slot K V) → slots_size (set slots i child) ≤ slots_size slots + slot_size child
-slots_size-set [] i child = omega arith
-slots_size-set (slot ∷ slots) zero child = omega arith
-slots_size-set (slot ∷ slots) (suc i) child = omega (arith, slots_size-set slots i child)
-
--- look-ups after a put into a table
-module _ {K V : Type 0} (eq : K → K → Bool) (same : (x y : K) → eq x y ≡ true → x ≡ y) (laws : IsEquivalence eq) (key : K) (v : V) (q : K) where
-  first_twice : (b : Bool) (w : V) (o : Option V) → cond b (Some v) o ≡ cond b (Some v) (cond b (Some w) o)
-  first_twice true w o = refl
-  first_twice false w o = refl
-
-  one_apart : (a b : Bool) (w : V) (o : Option V) → (a ≡ true → b ≡ true → ⊥) → cond a (Some w) (cond b (Some v) o) ≡ cond b (Some v) (cond a (Some w) o)
-  one_apart true true w o apart = absurd (apart refl refl)
-  one_apart true false w o apart = refl
-  one_apart false b w o apart = refl
-
-  pub lookup-insert_entry : (es : List (K × V)) → lookup (eq q) (insert_entry eq es key v) ≡ cond (eq q key) (Some v) (lookup (eq q) es)
-  lookup-insert_entry [] = refl
-  lookup-insert_entry (e ∷ es) = by (eq key e.0) refl (lookup-insert_entry es)
+  -- an end is put in place of a slot
+  pub led_from-set : (count n : ℕ) (s new : Slot) (xs : List Slot) (i : ℕ) → IsEnd count new
+      → led_from d n s (set xs i new) ≡ cond (comes_from d n s xs i) new (led_from d n s xs)
+  led_from-set count n s new [] i e = refl
+  led_from-set count n s new (x ∷ xs) zero e = by (goes_to d n s)
     where
-      by : (b : Bool) → eq key e.0 ≡ b → lookup (eq q) (insert_entry eq es key v) ≡ cond (eq q key) (Some v) (lookup (eq q) es)
-          → lookup (eq q) (insert_entry eq (e ∷ es) key v) ≡ cond (eq q key) (Some v) (lookup (eq q) (e ∷ es))
-      by true t rest =
-          ap (λ b. lookup (eq q) (cond b ((e.0, v) ∷ es) (e ∷ insert_entry eq es key v))) t
-          ∙ first_twice (eq q e.0) e.1 (lookup (eq q) es)
-          ∙ ap (λ k. cond (eq q k) (Some v) (lookup (eq q) (e ∷ es))) (sym (same key e.0 t))
-      by false t rest =
-          ap (λ b. lookup (eq q) (cond b ((e.0, v) ∷ es) (e ∷ insert_entry eq es key v))) t
-          ∙ ap (cond (eq q e.0) (Some e.1)) rest
-          ∙ one_apart (eq q e.0) (eq q key) e.1 (lookup (eq q) es)
-          (λ here there. false≢true (sym t ∙ ap (λ x. eq x e.0) (sym (same q key there)) ∙ here))
+      by : (b : Bool) → led_from d (n + 1) (cond b new s) xs ≡ cond b new (led_from d (n + 1) (cond b x s) xs)
+      by true = end_stays count (n + 1) new xs e
+      by false = refl
+  led_from-set count n s new (x ∷ xs) (suc i) e = led_from-set count (n + 1) (cond (goes_to d n s) x s) new xs i e
+
+  -- the slot by which a digest comes is the end of its way
+  pub led_from-end : (count n : ℕ) (s : Slot) (xs : List Slot) (i : ℕ) → comes_from d n s xs i ≡ true → IsEnd count (get_or xs i Empty)
+      → led_from d n s xs ≡ get_or xs i Empty
+  led_from-end count n s [] i comes e = absurd (false≢true comes)
+  led_from-end count n s (x ∷ xs) zero comes e =
+      ap (λ b. led_from d (n + 1) (cond b x s) xs) comes ∙ end_stays count (n + 1) x xs e
+  led_from-end count n s (x ∷ xs) (suc i) comes e = led_from-end count (n + 1) (cond (goes_to d n s) x s) xs i comes e
+
+  -- a digest finds its slot in a branch
+  module _ (shift first : ℕ) where
+    pub in_branch : (count n : ℕ) (xs : List Slot) (i : ℕ) → n + i ≡ first + choice shift d → i < length xs → IsEnd count (get_or xs i Empty)
+        → led_from d n (Many shift first) xs ≡ get_or xs i Empty
+    in_branch count n [] i at within e = absurd (omega (arith, within))
+    in_branch count n (x ∷ xs) zero at within e =
+        ap (λ b. led_from d (n + 1) (cond b x (Many shift first)) xs) (eqb_same (first + choice shift d) n (omega (arith, at)))
+        ∙ end_stays count (n + 1) x xs e
+    in_branch count n (x ∷ xs) (suc i) at within e =
+        ap (λ b. led_from d (n + 1) (cond b x (Many shift first)) xs) (ne_eqb (first + choice shift d) n (λ one. absurd (omega (arith, at, one))))
+        ∙ in_branch count (n + 1) xs i (omega (arith, at)) (omega (arith, within)) e
+
+    -- behind slots a branch is put, and the slot at one place leads to it
+    pub led_from-divide : (count n : ℕ) (s : Slot) (xs branch : List Slot) (i : ℕ) → n + length xs ≡ first → i < length xs
+        → choice shift d < length branch → IsEnd count (get_or branch (choice shift d) Empty) → IsEnd count (led_from d n s xs)
+        → led_from d n s (set (xs ++ branch) i (Many shift first)) ≡ cond (comes_from d n s xs i) (get_or branch (choice shift d) Empty) (led_from d n s xs)
+    led_from-divide count n s [] branch i at within chosen e old = absurd (omega (arith, within))
+    led_from-divide count n s (x ∷ xs) branch zero at within chosen e old = by (goes_to d n s) old
+      where
+        by : (b : Bool) → IsEnd count (led_from d (n + 1) (cond b x s) xs)
+            → led_from d (n + 1) (cond b (Many shift first) s) (xs ++ branch) ≡ cond b (get_or branch (choice shift d) Empty) (led_from d (n + 1) (cond b x s) xs)
+        by true end =
+            led_from-append (n + 1) (Many shift first) xs branch
+            ∙ ap (λ t. led_from d (n + 1 + length xs) t branch) (many_stays (n + 1) shift first xs (omega (arith, at)))
+            ∙ in_branch count (n + 1 + length xs) branch (choice shift d) (omega (arith, at)) chosen e
+        by false end =
+            led_from-append (n + 1) s xs branch
+            ∙ end_stays count (n + 1 + length xs) (led_from d (n + 1) s xs) branch end
+    led_from-divide count n s (x ∷ xs) branch (suc i) at within chosen e old =
+        led_from-divide count (n + 1) (cond (goes_to d n s) x s) xs branch i (omega (arith, at)) (omega (arith, within)) chosen e old
+
+    -- a way that ends behind a branch goes on in one of its slots
+    pub record GoesOn (n : ℕ) (s : Slot) (xs : List Slot) : Type 0 where
+      pub low : n ≤ first + choice shift d
+      pub high : first + choice shift d < n + length xs
+      pub comes : (j : ℕ) → first + choice shift d ≡ n + j → comes_from d n s xs j ≡ true
+
+    pub goes_in : (count n : ℕ) (xs : List Slot) → IsEnd count (led_from d n (Many shift first) xs) → GoesOn n (Many shift first) xs
+    goes_in count n [] e = absurd e
+    goes_in count n (x ∷ xs) e = elim (eqb_tells (first + choice shift d) n) [
+      | inl t ↦ record {
+        low = omega (arith, t.1);
+        high = omega (arith, t.1);
+        comes = here t.0 t.1;
+      }
+      | inr f ↦
+          let rest = goes_in count (n + 1) xs (subst (λ b. IsEnd count (led_from d (n + 1) (cond b x (Many shift first)) xs)) f.0 e) in
+          record {
+            low = omega (arith, rest.low);
+            high = omega (arith, rest.high);
+            comes = there f.0 f.1 rest;
+          }
+    ]
+      where
+        here : eqb (first + choice shift d) n ≡ true → first + choice shift d ≡ n → (j : ℕ) → first + choice shift d ≡ n + j → comes_from d n (Many shift first) (x ∷ xs) j ≡ true
+        here t one zero at = t
+        here t one (suc j) at = absurd (omega (arith, one, at))
+
+        there : eqb (first + choice shift d) n ≡ false → first + choice shift d ≢ n → GoesOn (n + 1) (Many shift first) xs → (j : ℕ) → first + choice shift d ≡ n + j → comes_from d n (Many shift first) (x ∷ xs) j ≡ true
+        there f other rest zero at = absurd (other (omega (arith, at)))
+        there f other rest (suc j) at =
+            ap (λ b. comes_from d (n + 1) (cond b x (Many shift first)) xs j) f ∙ rest.comes j (omega (arith, at))
+
+    pub goes_on : (count n : ℕ) (s : Slot) (xs : List Slot) (i : ℕ) → comes_from d n s xs i ≡ true → get_or xs i Empty ≡ Many shift first
+        → IsEnd count (led_from d n s xs) → (n + i < first + choice shift d) × GoesOn n s xs
+    goes_on count n s [] i comes many e = absurd (false≢true comes)
+    goes_on count n s (x ∷ xs) zero comes many e =
+        let rest = goes_in count (n + 1) xs (subst (λ t. IsEnd count (led_from d (n + 1) t xs)) (ap (λ b. cond b x s) comes ∙ many) e) in (
+          omega (arith, rest.low),
+          record {
+            low = omega (arith, rest.low);
+            high = omega (arith, rest.high);
+            comes = there rest;
+          },
+        )
+      where
+        there : GoesOn (n + 1) (Many shift first) xs → (j : ℕ) → first + choice shift d ≡ n + j → comes_from d n s (x ∷ xs) j ≡ true
+        there rest zero at = absurd (omega (arith, rest.low, at))
+        there rest (suc j) at =
+            ap (λ t. comes_from d (n + 1) t xs j) (ap (λ b. cond b x s) comes ∙ many) ∙ rest.comes j (omega (arith, at))
+    goes_on count n s (x ∷ xs) (suc i) comes many e =
+        let rest = goes_on count (n + 1) (cond (goes_to d n s) x s) xs i comes many e in (
+          omega (arith, rest.0),
+          record {
+            low = omega (arith, rest.1.low);
+            high = omega (arith, rest.1.high);
+            comes = there rest.0 rest.1;
+          },
+        )
+      where
+        there : n + 1 + i < first + choice shift d → GoesOn (n + 1) (cond (goes_to d n s) x s) xs → (j : ℕ) → first + choice shift d ≡ n + j → comes_from d n s (x ∷ xs) j ≡ true
+        there past rest zero at = absurd (omega (arith, past, at))
+        there past rest (suc j) at = rest.comes j (omega (arith, at))
+
+-- a choice is among eight
+pub choice_below : (shift d : ℕ) → choice shift d < 8
+unfolding choice
+choice_below shift d = omega arith
+
+-- in an empty branch there is nothing at each place
+pub empties : (i : ℕ) → get_or (Empty ∷ Empty ∷ Empty ∷ Empty ∷ Empty ∷ Empty ∷ Empty ∷ Empty ∷ []) i Empty ≡ Empty
+empties zero = refl
+empties (suc zero) = refl
+empties (suc (suc zero)) = refl
+empties (suc (suc (suc zero))) = refl
+empties (suc (suc (suc (suc zero)))) = refl
+empties (suc (suc (suc (suc (suc zero))))) = refl
+empties (suc (suc (suc (suc (suc (suc zero)))))) = refl
+empties (suc (suc (suc (suc (suc (suc (suc zero))))))) = refl
+empties (suc (suc (suc (suc (suc (suc (suc (suc i)))))))) = refl
+
+-- so each digest is led to nothing there
+pub led_to_nothing : (count d : ℕ) (slots : List Slot) → slots ≡ Empty ∷ Empty ∷ Empty ∷ Empty ∷ Empty ∷ Empty ∷ Empty ∷ Empty ∷ [] → IsEnd count (led slots d)
+led_to_nothing count d slots is =
+    let branch : List Slot = Empty ∷ Empty ∷ Empty ∷ Empty ∷ Empty ∷ Empty ∷ Empty ∷ Empty ∷ [] in
+    let nothing : get_or branch (choice 0 d) Empty ≡ Empty = empties (choice 0 d) in
+    let end : IsEnd count (get_or branch (choice 0 d) Empty) = subst (IsEnd count) (sym nothing) tt in
+    let within : choice 0 d < length branch = choice_below 0 d in
+    let there : led slots d ≡ Empty =
+    ap (λ xs. led xs d) is ∙ in_branch d 0 0 count 0 branch (choice 0 d) (omega arith) within end ∙ nothing in
+    subst (IsEnd count) (sym there) tt
+
+-- a slot by which a digest comes, and that is no branch, is the one to which it is led
+pub comes_to_end : (d : ℕ) (slots : List Slot) (place : ℕ) (x : Slot) → comes_by slots d place ≡ true → get_or slots place Empty ≡ x
+    → ((shift first : ℕ) → x ≡ Many shift first → ⊥) → get_or slots place Empty ≡ led slots d
+comes_to_end d slots place Empty comes is other =
+    sym (led_from-end d 0 0 (Many 0 0) slots place comes (subst (IsEnd 0) (sym is) tt))
+comes_to_end d slots place (One entry) comes is other =
+    let within : entry < entry + 1 = omega arith in
+    sym (led_from-end d (entry + 1) 0 (Many 0 0) slots place comes (subst (IsEnd (entry + 1)) (sym is) within))
+comes_to_end d slots place (Many shift first) comes is other = absurd (other shift first refl)
+
+-- where a digest comes by an empty slot it is led to nothing
+pub led_to_empty : (d : ℕ) (slots : List Slot) (place : ℕ) → comes_by slots d place ≡ true → get_or slots place Empty ≡ Empty → led slots d ≡ Empty
+led_to_empty d slots place comes empty =
+    led_from-end d 0 0 (Many 0 0) slots place comes (subst (IsEnd 0) (sym empty) tt) ∙ empty

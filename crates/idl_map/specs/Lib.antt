@@ -1,4 +1,3 @@
 pub mod DigestTable
 pub mod Items
-pub mod SlotSizes
 pub mod Slots

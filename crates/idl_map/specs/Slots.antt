@@ -1,57 +1,74 @@
--- Slots, among which bits of digests choose.
-use Rattle.std.specs.Prelude.{◌≡◌, ℕ, ◌+◌, ◌/◌, ◌%◌, ◌^◌, ◌==◌, List, [], ◌∷◌, ◌++◌, map}
-use Rattle.std.specs.List.{filter}
+-- Slots, in which digests find the places of entries.
+use Rattle.std.specs.Prelude.{ℕ, zero, suc, ◌+◌, ◌/◌, ◌%◌, ◌^◌, ◌==◌, ◌<◌, Bool, false, List, [], ◌∷◌, ◌++◌, Option, None, Some, length, if◌then◌else◌}
 use Rattle.idl_map.specs.declared.slot.Slot.{Slot}
-use Rattle.idl_map.specs.declared.slot.Slot.TheVariants.{Empty, One, Few, Many}
+use Rattle.idl_map.specs.declared.slot.Slot.TheVariants.{Empty, One, Many}
+use Rattle.idl_map.specs.declared.arena.Arena.{Arena}
 
--- which slot the bits of a digest choose, from a bit on
+-- which slot of a branch the bits of a digest choose, from a bit on
 unfoldable pub choice : ℕ → ℕ → ℕ
 choice shift digest = digest / 2 ^ (shift % 64) % 8
 
--- the entries in slots, from the one with this number on: of each slot those whose keys choose it
-abbrev pub gathered : {K V : Type 0} → (K → ℕ) → ℕ → List (List (K × V)) → List (K × V)
-gathered chosen number [] = []
-gathered chosen number (entries ∷ slots) =
-    filter (λ e. chosen e.0 == number) entries ++ gathered chosen (number + 1) slots
+-- whether a digest that has come to a slot goes on to the one at this place
+abbrev pub goes_to : ℕ → ℕ → Slot → Bool
+goes_to digest place Empty = false
+goes_to digest place (One entry) = false
+goes_to digest place (Many shift first) = first + choice shift digest == place
 
--- the entries of a slot
-abbrev pub slot_entries : {K V : Type 0} → (K → ℕ) → Slot K V → List (K × V)
-slot_entries digest_of Empty = []
-slot_entries digest_of (One entry) = entry.value ∷ []
-slot_entries digest_of (Few table) = table.value
-slot_entries digest_of (Many shift branch) =
-    gathered (λ k. choice shift (digest_of k)) 0 branch.value.1
+-- where a digest that has come to a slot is led by the slots from this place on
+abbrev pub led_from : ℕ → ℕ → Slot → List Slot → Slot
+led_from digest place slot [] = slot
+led_from digest place slot (next ∷ slots) =
+    led_from digest (place + 1) (if goes_to digest place slot then next else slot) slots
 
--- how many branches stand in a slot, and in slots
-abbrev pub slot_size : {K V : Type 0} → Slot K V → ℕ
-slot_size Empty = 0
-slot_size (One entry) = 0
-slot_size (Few table) = 0
-slot_size (Many shift branch) = branch.value.0
+-- whether it comes by the slot so many places on
+abbrev pub comes_from : ℕ → ℕ → Slot → List Slot → ℕ → Bool
+comes_from digest place slot [] ahead = false
+comes_from digest place slot (next ∷ slots) zero = goes_to digest place slot
+comes_from digest place slot (next ∷ slots) (suc ahead) =
+    comes_from digest (place + 1) (if goes_to digest place slot then next else slot) slots ahead
 
-abbrev pub slots_size : {K V : Type 0} → List (Slot K V) → ℕ
-slots_size [] = 0
-slots_size (slot ∷ slots) = slot_size slot + slots_size slots
+-- where slots lead a digest, and whether it comes by the slot at a place on its way: it begins at
+-- the branch of the first eight
+abbrev pub led : List Slot → ℕ → Slot
+led slots digest = led_from digest 0 (Many 0 0) slots
 
--- a branch as it is seen: how many branches it is with those in its slots, and the entries of each
--- slot
-abbrev pub branch_seen : {K V : Type 0} → (K → ℕ) → List (Slot K V) → ℕ × List (List (K × V))
-branch_seen digest_of slots = (slots_size slots + 1, map (slot_entries digest_of) slots)
+abbrev pub comes_by : List Slot → ℕ → ℕ → Bool
+comes_by slots digest place = comes_from digest 0 (Many 0 0) slots place
 
--- a branch without entries
-abbrev pub empty_branch : {K V : Type 0} → ℕ × List (List (K × V))
-empty_branch = (1, [] ∷ [] ∷ [] ∷ [] ∷ [] ∷ [] ∷ [] ∷ [] ∷ [])
+-- whether a slot has the entry at this place
+abbrev pub has_entry : ℕ → Slot → Bool
+has_entry place Empty = false
+has_entry place (One entry) = entry == place
+has_entry place (Many shift first) = false
 
--- the slot has not one entry alone
-abbrev pub IsDivided : {K V : Type 0} → Slot K V → Type 0
-IsDivided Empty = Unit {0}
-IsDivided (One entry) = ⊥
-IsDivided (Few table) = Unit {0}
-IsDivided (Many shift branch) = Unit {0}
+-- the entries to which their keys are led, of those from this place on
+abbrev pub reached : {K V : Type 0} → (K → Slot) → ℕ → List (K × V) → List (K × V)
+reached slot_of place [] = []
+reached slot_of place (e ∷ entries) =
+    if has_entry place (slot_of e.0)
+    then e ∷ reached slot_of (place + 1) entries
+    else reached slot_of (place + 1) entries
 
--- if the slot has one entry alone, it is at this key
-abbrev pub IsOneAt : {K V : Type 0} → K → Slot K V → Type 0
-IsOneAt key Empty = Unit {0}
-IsOneAt key (One entry) = entry.value.0 ≡ key
-IsOneAt key (Few table) = Unit {0}
-IsOneAt key (Many shift branch) = Unit {0}
+-- the entries that count: those to which their keys are led, and the rest
+abbrev pub entries_of : {K V : Type 0} → (K → ℕ) → Arena K V → List (K × V)
+entries_of digest_of arena =
+    reached (λ k. led arena.slots.items (digest_of k)) 0 arena.entries.items ++ arena.rest
+
+-- there is nothing, or one of so many entries
+abbrev pub IsEnd : ℕ → Slot → Type 0
+IsEnd count Empty = Unit {0}
+IsEnd count (One entry) = entry < count
+IsEnd count (Many shift first) = ⊥
+
+-- each digest is led to an entry that is there, or to nothing
+abbrev pub IsSound : {K V : Type 0} → Arena K V → Type 0
+IsSound arena = (digest : ℕ) → IsEnd (length arena.entries.items) (led arena.slots.items digest)
+
+-- the entries of a map, which has an arena once anything was put in
+abbrev pub map_entries : {K V : Type 0} → (K → ℕ) → Option (Arena K V) → List (K × V)
+map_entries digest_of None = []
+map_entries digest_of (Some arena) = entries_of digest_of arena
+
+abbrev pub IsSoundMap : {K V : Type 0} → Option (Arena K V) → Type 0
+IsSoundMap None = Unit {0}
+IsSoundMap (Some arena) = IsSound arena

@@ -1,6 +1,7 @@
 //! Collections: a map by the digests of its keys, a table with such a map as its index, and a list whose copies share items.
 #![tactic(auto)]
 
+mod arena;
 mod digest;
 mod digest_table;
 mod list;

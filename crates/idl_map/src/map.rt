@@ -5,7 +5,7 @@ ghost use Rattle.std.specs.Map.{lookup};
 ghost use Rattle.std.specs.Option.{option_copied};
 
 use crate::Digest;
-use crate::slot::{Place, Slot, get, insert};
+use crate::arena::Arena;
 use idl_base::Datum;
 use std::alloc::{AllocError, Global};
 use std::marker::Model;
@@ -15,7 +15,7 @@ use std::marker::Model;
 /// A look-up goes down by the bits of the key's digest, as far as keys are alike in them, and then compares the key with
 /// those alone that are alike in all these bits: one mostly, and logarithmically many of them, whatever the keys are.
 pub struct Map<K: Digest + Ord, V: Datum> {
-    root: Slot<K, V>,
+    arena: Option<Arena<K, V>>,
 }
 
 impl<K: Digest + Ord, V: Datum> Model for Map<K, V> {
@@ -23,14 +23,16 @@ impl<K: Digest + Ord, V: Datum> Model for Map<K, V> {
 
     ghost Value = { List (K × V) };
 
-    ghost use Rattle.idl_map.specs.Slots.{slot_entries};
+    ghost use Rattle.idl_map.specs.Slots.{IsSoundMap, map_entries};
 
-    ghost view = { λ map. slot_entries K.digest_of map.root };
+    ghost view = { λ map. map_entries K.digest_of map.arena };
+
+    ghost invariant = { λ map. IsSoundMap map.arena };
 }
 
 impl<K: Digest + Ord, V: Datum> Drop for Map<K, V> {
     fn drop(self) {
-        let Map { root: _root } = self;
+        let Map { arena: _arena } = self;
     }
 }
 
@@ -39,14 +41,17 @@ impl<K: Digest + Ord, V: Datum> Map<K, V> {
     pub fn new() -> Map<K, V>
         ensures { result ≡ [] }
     {
-        Map { root: Slot::Empty }
+        Map { arena: None }
     }
 
     /// The value at a key, or nothing.
     pub fn get(&self, key: &K) -> Option<&V>
         ensures { option_copied result ≡ lookup (K.eq key.now) self.now }
     {
-        get(&self.root, key.digest(), key)
+        match &self.arena {
+            Some(arena) => arena.get(key),
+            None => None,
+        }
     }
 
     /// Puts a value in at a key. Want of memory leaves what each key has.
@@ -57,11 +62,12 @@ impl<K: Digest + Ord, V: Datum> Map<K, V> {
         ensures err { OnErr result
             ((k : K) → lookup (K.eq k) self.new ≡ lookup (K.eq k) self.old) }
     {
-        let place = Place {
-            digest: key.digest(),
-            shift: 0,
-        };
-        let entry = Box::new(alloc, (key, value))?;
-        insert(&mut self.root, alloc, place, entry)
+        if let Some(arena) = &mut self.arena {
+            return arena.insert(key, value);
+        }
+        let mut arena = Arena::new(alloc)?;
+        arena.insert(key, value)?;
+        self.arena = Some(arena);
+        Ok(())
     }
 }
