@@ -138,8 +138,8 @@ impl<'a> Cut<'a> {
         }
         let len = first_unit(&text[from..]);
         let to = from + len;
-        let text = Run::new(self.text.clone()?, from, to);
-        let sites = Run::new(self.sites.clone()?, from, to);
+        let text = Run::new(self.text.clone()?, from, to)?;
+        let sites = Run::new(self.sites.clone()?, from, to)?;
         let unit = Unit::Spelled(UnitText::Tokens(text), sites);
         self.units.push(unit)?;
         self.taken = to;
@@ -161,5 +161,5 @@ fn one_site(alloc: Global, event: usize, place: &Place) -> Result<Run<Site>, All
         line: place.line,
         event,
     })?;
-    Ok(Run::new(Rc::new(alloc, sites)?, 0, 1))
+    Run::new(Rc::new(alloc, sites)?, 0, 1)
 }
