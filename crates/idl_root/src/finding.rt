@@ -95,7 +95,6 @@ impl<'a> Spelled<'a> {
     }
 
     // Where the token with this number stands.
-    #[tactic(auto, using(crate::proofs::FindingLemmas::slice_get-first))]
     fn site(self, index: usize) -> Result<Option<Site>, AllocError>
         ensures { IfOk result (λ site.
             site ≡ site_of self.entry.text.now self.entry.sites.now index) }

@@ -1,5 +1,5 @@
 -- The items of a part of a list.
-use Rattle.std.proofs.Common.{◌≡◌, ◌∙◌, ℕ, zero, suc, ◌+◌, ◌-◌, ◌<◌, ◌≤◌, List, [], ◌∷◌, None, drop, take, slice_get, slice_range, refl, arith}
+use Rattle.std.proofs.Common.{◌≡◌, ◌∙◌, ℕ, zero, suc, ◌+◌, ◌-◌, ◌<◌, ◌≤◌, List, [], ◌∷◌, None, drop, take, slice_get, slice_range, refl, ap, arith}
 
 take-get : {X : Type 0} (n : ℕ) (xs : List X) (i : ℕ) → i < n → slice_get (take n xs) i ≡ slice_get xs i
 take-get zero xs i lt = absurd (omega (arith, lt))
@@ -14,9 +14,9 @@ take-past (suc n) (x ∷ xs) zero le = absurd (omega (arith, le))
 take-past (suc n) (x ∷ xs) (suc i) le = take-past n xs i (omega (arith, le))
 
 drop-get : {X : Type 0} (n : ℕ) (xs : List X) (i : ℕ) → slice_get (drop n xs) i ≡ slice_get xs (n + i)
-drop-get zero xs i = refl
+drop-get zero xs i = let same : i ≡ 0 + i = omega arith in ap (slice_get xs) same
 drop-get (suc n) [] i = refl
-drop-get (suc n) (x ∷ xs) i = drop-get n xs i
+drop-get (suc n) (x ∷ xs) i = let same : suc (n + i) ≡ suc n + i = omega arith in drop-get n xs i ∙ ap (slice_get (x ∷ xs)) same
 
 -- what stands at a number of a part, and past it
 pub slice_range-get : {X : Type 0} (xs : List X) (from to i : ℕ) → i < to - from → slice_get (slice_range xs from to) i ≡ slice_get xs (from + i)

@@ -1,0 +1,9 @@
+use Rattle.std.proofs.Common.{◌≡◌, ◌∙◌, IfOk, Option, ap, subst, sym, rules}
+use Rattle.idl_event.specs.declared.site.Site.{Site}
+use Rattle.idl_root.proofs.FindingLemmas.{slice_get-first}
+use Rattle.idl_root.proofs.finding.Spelled.site.Goals as goal
+
+pub returns-in-Pragma : goal.returns-in-Pragma
+returns-in-Pragma c =
+    let is = slice_get-first c.args.self.sites.now in
+    search rules
