@@ -96,7 +96,7 @@ push-on stretches spots spot s have is =
     let number : 0 + length spots + s.others ≡ length (sites_from 0 stretches spots) + s.others = omega (arith, length-sites 0 stretches spots have) in (
       have-push stretches spots spot have (slice_get_within stretches spot.stretch s is),
       sites-push 0 stretches spots spot s is
-      ∙ ap (λ k. sites_from 0 stretches spots ++ site_at k (record { file = s.file; line = spot.line }) ∷ []) number,
+          ∙ ap (λ k. sites_from 0 stretches spots ++ site_at k (record { file = s.file; line = spot.line }) ∷ []) number,
     )
 
 -- and in one more

@@ -27,9 +27,8 @@ returns-clause-some c =
     let is : slice_get s.stretches.items spot.stretch ≡ Some stretch =
     ap (λ l. slice_get l spot.stretch) (sym c.deref-2.ensures.value)
     ∙ slice_get_read c.deref-2.result.now (length c.deref-2.result.now) spot.stretch stretch refl
-    (ltb-true spot.stretch (length c.deref-2.result.now) (sym c.in_ok-stretch.ensures.lookup.0)) c.in_ok-stretch.ensures.lookup.1 in
-    (
+    (ltb-true spot.stretch (length c.deref-2.result.now) (sym c.in_ok-stretch.ensures.lookup.0)) c.in_ok-stretch.ensures.lookup.1 in (
       c.args.index + stretch.others,
       ap (λ l. slice_get l c.args.index) (sym c.self.view_is)
-      ∙ site-at s.stretches.items s.spots.items c.self.invariant c.args.index spot stretch at is,
+          ∙ site-at s.stretches.items s.spots.items c.self.invariant c.args.index spot stretch at is,
     )
