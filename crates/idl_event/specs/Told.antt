@@ -1,5 +1,4 @@
 -- What an event is, where it is read.
-use Rattle.std.specs.Prelude.{ℕ}
 use Rattle.idl_event.specs.declared.event.Event.{Event}
 use Rattle.idl_event.specs.declared.event.Event.TheVariants as event
 use Rattle.idl_event.specs.declared.told.Told.{Told}

@@ -12,8 +12,8 @@ use std::marker::Model;
 
 /// Where the tokens of a text stand: to every contract the list of their sites.
 ///
-/// From one token to the next the file seldom changes, nor does an event stand between them that is none. So a stretch of
-/// tokens has what is the same for all of them, and a token its line and the number of its stretch.
+/// From one token to the next the file seldom changes, and other events seldom stand between them. So a stretch has what is
+/// the same for all of its tokens, and a token its line and the number of its stretch.
 #[derive(Drop)]
 pub struct Sites {
     spots: Vec<Spot>,

@@ -1,4 +1,4 @@
-use Rattle.std.proofs.Common.{◌≡◌, ◌∙◌, ◌+◌, ◌-◌, ◌++◌, ◌∷◌, [], Some, length, refl, slice_get, sym, ap, subst₂, rules}
+use Rattle.std.proofs.Common.{◌≡◌, ◌∙◌, ◌+◌, ◌-◌, ◌++◌, ◌∷◌, [], Some, length, slice_get, sym, ap, subst₂, rules}
 use Rattle.idl_event.proofs.SitesLemmas.{have-more, push-more, push-on, sites-more}
 use Rattle.idl_event.specs.Apart.{site_at}
 use Rattle.idl_event.specs.Sites.{HaveStretches, sites_from}

@@ -1,5 +1,4 @@
-use Rattle.std.proofs.Common.{◌≡◌, ◌∙◌, IfOk, Option, ap, subst, sym, rules}
-use Rattle.idl_event.specs.declared.site.Site.{Site}
+use Rattle.std.proofs.Common.{rules}
 use Rattle.idl_root.proofs.FindingLemmas.{slice_get-first}
 use Rattle.idl_root.proofs.finding.Spelled.site.Goals as goal
 

@@ -1,4 +1,4 @@
-use Rattle.std.proofs.Common.{◌≡◌, ◌∙◌, ◌-◌, ◌≤◌, ◌<◌, None, slice_get, sym, ap, arith, rules}
+use Rattle.std.proofs.Common.{◌∙◌, ◌-◌, ◌≤◌, ◌<◌, slice_get, sym, ap, rules}
 use Rattle.idl_unit.proofs.RunLemmas.{slice_range-get, slice_range-past}
 use Rattle.idl_unit.proofs.site_run.SiteRun.site.Goals as goal
 
