@@ -290,7 +290,7 @@ module _ (sites : List Site) (tokens : List Token) (others : List Numbered) (i k
       let after = ap (enumerate_from (i + k + 1)) rest ∙ ap (λ n. events_from n events) number in (
         ap (enumerate_from (i + k)) comes.1.0 ∙ ap (λ es. (i + k, e) ∷ es) after,
         record {
-          tokens_within = within-some sites i site at_site;
+          tokens_within = within-some tokens i token at_token;
           others_within = passed.others_within;
           left = subst (AreApart (drop (i + 1) sites) (drop (i + 1) tokens) (drop k others)) after comes.1.1;
         },

@@ -1,2 +1,3 @@
 pub mod ApartLemmas
 pub mod LogLemmas
+pub mod SitesLemmas

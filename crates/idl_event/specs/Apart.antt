@@ -84,7 +84,7 @@ pub record TokensFirst (count : ℕ) (events rest : List Numbered) : Type 0 wher
 -- so many tokens and so many other events were passed by
 pub record ArePassed (sites : List Site) (tokens : List Token) (others : List Numbered) (n k : ℕ)
     : Type 0 where
-  pub tokens_within : n ≤ length sites
+  pub tokens_within : n ≤ length tokens
   pub others_within : k ≤ length others
   pub left : AreApart (drop n sites) (drop n tokens) (drop k others)
       (events_from (n + k) (woven sites tokens others))

@@ -5,4 +5,5 @@ pub mod Expanding
 pub mod Items
 pub mod Key
 pub mod Limits
+pub mod Sites
 pub mod Told

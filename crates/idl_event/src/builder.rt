@@ -6,7 +6,7 @@ ghost use Rattle.idl_event.specs.declared.event.Event.TheVariants.{Emitted};
 use crate::event::Event;
 use crate::expansion::Expansion;
 use crate::place::Place;
-use crate::site::Site;
+use crate::sites::Sites;
 use idl_lex::Token;
 use std::alloc::{AllocError, Global};
 use std::marker::Model;
@@ -19,7 +19,7 @@ use std::rc::Rc;
 #[derive(Drop)]
 pub struct ExpansionBuilder {
     text: Vec<Token>,
-    sites: Vec<Site>,
+    sites: Sites,
     others: Vec<(usize, Event)>,
 }
 
@@ -30,9 +30,9 @@ impl Model for ExpansionBuilder {
 
     ghost Value = { List Event };
 
-    ghost view = { λ b. woven b.sites.items b.text.items b.others.items };
+    ghost view = { λ b. woven b.sites b.text.items b.others.items };
 
-    ghost invariant = { λ b. StandApart b.sites.items b.text.items b.others.items };
+    ghost invariant = { λ b. StandApart b.sites b.text.items b.others.items };
 }
 
 impl ExpansionBuilder {
@@ -42,7 +42,7 @@ impl ExpansionBuilder {
     {
         ExpansionBuilder {
             text: Vec::new(alloc),
-            sites: Vec::new(alloc),
+            sites: Sites::new(alloc),
             others: Vec::new(alloc),
         }
     }
@@ -57,15 +57,8 @@ impl ExpansionBuilder {
         ensures { OnOk result (self.new ≡ self.old ++ Emitted place token.now ∷ []) }
     {
         let token = token.clone()?;
-        let Ok(event) = u32::try_from(self.sites.len() + self.others.len()) else {
-            return Err(AllocError);
-        };
         self.text.reserve(1)?;
-        self.sites.push(Site {
-            file: place.file,
-            line: place.line,
-            event,
-        })?;
+        self.sites.push(place, self.others.len())?;
         self.text.push_reserved(token);
         Ok(())
     }

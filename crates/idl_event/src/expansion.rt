@@ -6,7 +6,7 @@ ghost use Rattle.idl_event.specs.Apart.{StandApart, TokensFirst, others_in, site
 ghost use Rattle.idl_event.specs.declared.event.Event.{Event};
 
 use crate::event::Event;
-use crate::site::Site;
+use crate::sites::Sites;
 use crate::told::Told;
 use idl_lex::Token;
 use std::marker::Model;
@@ -17,7 +17,7 @@ use std::rc::Rc;
 #[derive(Drop)]
 pub struct Expansion {
     text: Rc<Vec<Token>>,
-    sites: Rc<Vec<Site>>,
+    sites: Rc<Sites>,
     others: Vec<(usize, Event)>,
 }
 
@@ -28,20 +28,20 @@ impl Model for Expansion {
 
     ghost Value = { List Event };
 
-    ghost view = { λ e. woven e.sites.value.items e.text.value.items e.others.items };
+    ghost view = { λ e. woven e.sites.value e.text.value.items e.others.items };
 
-    ghost invariant = { λ e. StandApart e.sites.value.items e.text.value.items e.others.items };
+    ghost invariant = { λ e. StandApart e.sites.value e.text.value.items e.others.items };
 }
 
 impl Expansion {
     /// What consists of these tokens, at these sites, and of these other events.
     pub fn from_parts(
         text: Rc<Vec<Token>>,
-        sites: Rc<Vec<Site>>,
+        sites: Rc<Sites>,
         others: Vec<(usize, Event)>,
     ) -> Expansion
-        requires { StandApart sites.value.items text.value.items others.items }
-        ensures { result ≡ woven sites.value.items text.value.items others.items }
+        requires { StandApart sites.value text.value.items others.items }
+        ensures { result ≡ woven sites.value text.value.items others.items }
     {
         Expansion {
             text,
@@ -58,8 +58,8 @@ impl Expansion {
     }
 
     /// Where each of these tokens stands.
-    pub fn sites(&self) -> &Rc<Vec<Site>>
-        ensures { result.now.value.items ≡ sites_in (enumerate_from 0 self.now) }
+    pub fn sites(&self) -> &Rc<Sites>
+        ensures { result.now.value ≡ sites_in (enumerate_from 0 self.now) }
     {
         &self.sites
     }
@@ -77,7 +77,7 @@ impl Expansion {
     {
         Events {
             text: self.text.as_slice(),
-            sites: self.sites.as_slice(),
+            sites: &self.sites,
             others: &self.others,
             tokens_passed: 0,
             others_passed: 0,
@@ -90,7 +90,7 @@ impl Expansion {
 #[derive(Drop)]
 pub struct Events<'a> {
     text: &'a [Token],
-    sites: &'a [Site],
+    sites: &'a Sites,
     others: &'a [(usize, Event)],
     tokens_passed: usize,
     others_passed: usize,
@@ -148,10 +148,10 @@ impl<'a> Iterator for Events<'a> {
                 Some((number, Told::Other(event)))
             }
             None => {
-                let site = self.sites.get(self.tokens_passed)?;
+                let (file, line) = self.sites.place_at(self.tokens_passed)?;
                 let token = self.text.get(self.tokens_passed)?;
                 self.tokens_passed += 1;
-                Some((number, Told::Emitted(site, token)))
+                Some((number, Told::Emitted(file, line, token)))
             }
         }
     }

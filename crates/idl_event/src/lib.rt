@@ -20,6 +20,7 @@ mod place;
 mod progress;
 mod root_bank;
 mod site;
+mod sites;
 mod told;
 
 pub use allowance::{Allowance, MAX_TOKENS, MAX_TURNS};
@@ -36,4 +37,5 @@ pub use place::Place;
 pub use progress::Progress;
 pub use root_bank::RootBank;
 pub use site::Site;
+pub use sites::Sites;
 pub use told::Told;

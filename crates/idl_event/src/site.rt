@@ -12,11 +12,8 @@ use std::alloc::AllocError;
 pub struct Site {
     pub file: FileName,
     pub line: u32,
-    pub event: u32,
+    pub event: usize,
 }
-
-// A root has a hundred thousands of tokens.
-const _: () = prove!(size_of::<Site>() <= 16);
 
 impl Site {
     /// The place: file and line.

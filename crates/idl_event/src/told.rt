@@ -1,12 +1,12 @@
 //! Events where they are read.
 
 use crate::event::Event;
-use crate::site::Site;
+use crate::file_name::FileName;
 use idl_lex::Token;
 
-/// What an event is: a token of the text at its place, or another event.
+/// What an event is: a token of the text in a file, at a line, or another event.
 #[derive(Clone, Copy)]
 pub enum Told<'a> {
-    Emitted(&'a Site, &'a Token),
+    Emitted(&'a FileName, u32, &'a Token),
     Other(&'a Event),
 }

@@ -9,7 +9,7 @@ ghost use Rattle.idl_root.specs.Findings.{event_finding, fault_finding, finding_
 use idl_base::Text;
 use idl_event::{Code, Event, Expansion, Place, Site, diagnostic_row};
 use idl_scope::Shared;
-use idl_unit::{Fault, UnitText};
+use idl_unit::{Fault, SiteRun, UnitText};
 use std::alloc::{AllocError, Global};
 
 /// A diagnostic: the number of the event that it names, its code, and its row.
@@ -24,7 +24,7 @@ pub struct Finding {
 #[derive(Clone, Copy)]
 pub struct Spelled<'a> {
     pub text: &'a UnitText,
-    pub sites: &'a [Site],
+    pub sites: &'a SiteRun,
 }
 
 /// What is found in the events: the faults of the preprocessor.
@@ -89,19 +89,19 @@ impl<'a> Spelled<'a> {
         ensures { IfOk result (λ found. option_to_list found
             ≡ fault_finding self.entry.text.now self.entry.sites.now (Some fault)) }
     {
-        let site = self.site(fault.index);
+        let site = self.site(fault.index)?;
         let token = self.token(fault.index);
-        finding_at(alloc, fault.code, site, token)
+        finding_at(alloc, fault.code, site.as_ref(), token)
     }
 
     // Where the token with this number stands.
-    fn site(self, index: usize) -> Option<&'a Site>
-        ensures { option_copied result
-            ≡ site_of self.entry.text.now self.entry.sites.now index }
+    fn site(self, index: usize) -> Result<Option<Site>, AllocError>
+        ensures { IfOk result (λ site.
+            site ≡ site_of self.entry.text.now self.entry.sites.now index) }
     {
         match self.text {
-            UnitText::Tokens(_run) => self.sites.get(index),
-            UnitText::Pragma(_tokens, _inside) => self.sites.first(),
+            UnitText::Tokens(_run) => self.sites.site(index),
+            UnitText::Pragma(_tokens, _inside) => self.sites.site(0),
         }
     }
 
@@ -135,7 +135,7 @@ fn finding_at(
     let row = diagnostic_row(alloc, &site.place()?, code, token)?;
     let row = Shared::new(alloc, row)?;
     Ok(Some(Finding {
-        event: site.event as usize,
+        event: site.event,
         code,
         row,
     }))

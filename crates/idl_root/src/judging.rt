@@ -148,10 +148,7 @@ impl<'a> Gathered<'a> {
     {
         match unit {
             Unit::Spelled(text, sites) => {
-                let unit = Spelled {
-                    text,
-                    sites: sites.as_slice(),
-                };
+                let unit = Spelled { text, sites };
                 Ok(Some(self.add_spelled(alloc, env, unit)?))
             }
             Unit::Entered(_file) => Ok(Some(boundary(alloc, Step::Enters)?)),

@@ -9,8 +9,9 @@ ghost use Rattle.idl_unit.specs.Units.{units_of};
 
 use crate::ending::first_unit;
 use crate::run::Run;
+use crate::site_run::SiteRun;
 use crate::unit::{Unit, UnitText, Units};
-use idl_event::{Event, Events, Expansion, Place, Site, Told};
+use idl_event::{Event, Events, Expansion, Place, Sites, Told};
 use idl_lex::Token;
 use std::alloc::{AllocError, Global};
 use std::rc::Rc;
@@ -36,7 +37,7 @@ pub fn split(alloc: Global, expansion: &Expansion) -> Result<Units, AllocError>
 #[derive(Drop)]
 struct Cut<'a> {
     text: &'a Rc<Vec<Token>>,
-    sites: &'a Rc<Vec<Site>>,
+    sites: &'a Rc<Sites>,
     units: Vec<Unit>,
     // How many tokens stand in the units so far.
     taken: usize,
@@ -47,7 +48,7 @@ struct Cut<'a> {
 impl<'a> Cut<'a> {
     fn new(alloc: Global, expansion: &'a Expansion) -> Cut<'a>
         ensures text { result.text.now.value.items ≡ tokens_in (enumerate_from 0 expansion.now) }
-        ensures sites { result.sites.now.value.items ≡ sites_in (enumerate_from 0 expansion.now) }
+        ensures sites { result.sites.now.value ≡ sites_in (enumerate_from 0 expansion.now) }
         ensures units { result.units.items ≡ [] }
         ensures taken { result.taken ≡ 0 }
         ensures inside { result.inside ≡ 0 }
@@ -80,7 +81,7 @@ impl<'a> Cut<'a> {
             ≡ to_come self.old ((number, event_told event.entry) ∷ events)) }
     {
         match event {
-            Told::Emitted(_site, _token) => self.put_token(),
+            Told::Emitted(_file, _line, _token) => self.put_token(),
             Told::Other(event) => self.put_other(alloc, number, event),
         }
     }
@@ -138,8 +139,8 @@ impl<'a> Cut<'a> {
         }
         let len = first_unit(&text[from..]);
         let to = from + len;
-        let text = Run::new(self.text.clone()?, from, to);
-        let sites = Run::new(self.sites.clone()?, from, to);
+        let text = Run::new(self.text.clone()?, from, to)?;
+        let sites = SiteRun::new(self.sites.clone()?, from, to)?;
         let unit = Unit::Spelled(UnitText::Tokens(text), sites);
         self.units.push(unit)?;
         self.taken = to;
@@ -148,18 +149,11 @@ impl<'a> Cut<'a> {
     }
 }
 
-// The one site of a pragma.
-fn one_site(alloc: Global, event: usize, place: &Place) -> Result<Run<Site>, AllocError>
+// The one site of a pragma: that many events stand before it.
+fn one_site(alloc: Global, event: usize, place: &Place) -> Result<SiteRun, AllocError>
     ensures { IfOk result (λ sites. sites ≡ site_at event place.now ∷ []) }
 {
-    let Ok(event) = u32::try_from(event) else {
-        return Err(AllocError);
-    };
-    let mut sites = Vec::new(alloc);
-    sites.push(Site {
-        file: place.file.clone()?,
-        line: place.line,
-        event,
-    })?;
-    Ok(Run::new(Rc::new(alloc, sites)?, 0, 1))
+    let mut sites = Sites::new(alloc);
+    sites.push(place.clone()?, event)?;
+    SiteRun::new(Rc::new(alloc, sites)?, 0, 1)
 }

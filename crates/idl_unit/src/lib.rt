@@ -11,6 +11,7 @@ mod fault;
 mod laws;
 mod role;
 mod run;
+mod site_run;
 mod token_rules;
 mod unit;
 
@@ -20,5 +21,6 @@ pub use fault::Fault;
 pub use laws::{nothing_lost, one_cut};
 pub use role::{Role, Rule, role_of, rule_of};
 pub use run::Run;
+pub use site_run::SiteRun;
 pub use token_rules::token_fault;
 pub use unit::{Unit, UnitText, Units};

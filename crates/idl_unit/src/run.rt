@@ -1,6 +1,6 @@
 //! Parts of lists that are shared.
 
-ghost use Rattle.std.specs.Prelude.{◌≡◌, ◌≤◌, ◌↔◌, IsTrue, length, slice_range};
+ghost use Rattle.std.specs.Prelude.{◌≡◌, ◌≤◌, ◌↔◌, IfOk, IsTrue, length, slice_range};
 ghost use Rattle.std.specs.Cmp.Lexicographic.{lists_equiv, lists_per, pointwise};
 
 use idl_base::Datum;
@@ -14,9 +14,12 @@ use std::rc::Rc;
 #[derive(Drop)]
 pub struct Run<T> {
     all: Rc<Vec<T>>,
-    from: usize,
-    to: usize,
+    from: u32,
+    to: u32,
 }
+
+// A root has thousands of units.
+const _: () = prove!(size_of::<Run<u8>>() <= 16);
 
 impl<T> Model for Run<T> {
     ghost use Rattle.std.specs.Prelude.{◌≤◌, List, length, slice_range};
@@ -28,21 +31,26 @@ impl<T> Model for Run<T> {
     ghost invariant = { λ run. (run.from ≤ run.to) × (run.to ≤ length run.all.value.items) };
 }
 
-impl<T> Run<T> {
-    /// The items of a list from one number up to another.
-    pub fn new(all: Rc<Vec<T>>, from: usize, to: usize) -> Run<T>
+impl<T: Drop> Run<T> {
+    /// The items of a list from one number up to another. Numbers from the first 2^32 on are as want of memory.
+    pub fn new(all: Rc<Vec<T>>, from: usize, to: usize) -> Result<Run<T>, AllocError>
         requires order { from ≤ to }
         requires within { to ≤ length all.value.items }
-        ensures { result ≡ slice_range all.value.items from to }
+        ensures { IfOk result (λ run. run ≡ slice_range all.value.items from to) }
     {
-        Run { all, from, to }
+        let (Ok(from), Ok(to)) = (u32::try_from(from), u32::try_from(to)) else {
+            return Err(AllocError);
+        };
+        Ok(Run { all, from, to })
     }
+}
 
+impl<T> Run<T> {
     /// The items in order.
     pub fn as_slice(&self) -> &[T]
         ensures { result.now ≡ self.now }
     {
-        &self.all.as_slice()[self.from..self.to]
+        &self.all.as_slice()[self.from as usize..self.to as usize]
     }
 }
 

@@ -5,8 +5,9 @@ ghost use Rattle.std.proofs.Common.{ap};
 ghost use Rattle.idl_unit.specs.declared.unit.UnitText.TheVariants.{Tokens, Pragma};
 
 use crate::run::Run;
+use crate::site_run::SiteRun;
 use idl_base::Datum;
-use idl_event::{FileName, Site};
+use idl_event::FileName;
 use idl_lex::{Token, TokenRange};
 use std::hash::Hash;
 use std::marker::Model;
@@ -38,7 +39,7 @@ impl Datum for UnitText {
 /// One of the units of a root.
 pub enum Unit {
     /// A unit with tokens, and where each of them stands; of a pragma, where the word `pragma` stands.
-    Spelled(UnitText, Run<Site>),
+    Spelled(UnitText, SiteRun),
     /// A file is entered.
     Entered(FileName),
     /// A file is left.

@@ -66,7 +66,7 @@ pub fn answers_of(alloc: Global, name: &Name, text: &str) -> Result<Answers, All
 fn emitted(alloc: Global, expansion: &Expansion) -> Result<String, AllocError> {
     let mut text = String::new(alloc);
     for (_, event) in expansion.events() {
-        if let Told::Emitted(_, token) = event {
+        if let Told::Emitted(_, _, token) = event {
             emit(alloc, &mut text, token)?;
         }
     }

@@ -8,17 +8,17 @@ pub invariant_of-self-in_default : goal.invariant_of-self-in_default
 invariant_of-self-in_default c =
     let b = c.self.inside in
     let n = c.len.result + c.len-in_default.result in
-    let number : n ≡ length b.sites.items + length b.others.items = search rules in
+    let number : n ≡ length b.sites + length b.others.items = search rules in
     let others : c.push.new.self.items ≡ b.others.items ++ (n, c.args.event) ∷ [] = search rules in
-    subst (StandApart b.sites.items b.text.items) (sym others)
-    (woven-other b.sites.items b.text.items b.others.items n c.args.event c.self.invariant number c.in_default.not-Emitted).1
+    subst (StandApart b.sites b.text.items) (sym others)
+    (woven-other b.sites b.text.items b.others.items n c.args.event c.self.invariant number c.in_default.not-Emitted).1
 
 pub returns-in_ok-push-in_default : goal.returns-in_ok-push-in_default
 returns-in_ok-push-in_default c =
     let b = c.self.inside in
     let n = c.len.result + c.len-in_default.result in
-    let number : n ≡ length b.sites.items + length b.others.items = search rules in
+    let number : n ≡ length b.sites + length b.others.items = search rules in
     let others : c.push.new.self.items ≡ b.others.items ++ (n, c.args.event) ∷ [] = search rules in
-    ap (woven b.sites.items b.text.items) others
-    ∙ (woven-other b.sites.items b.text.items b.others.items n c.args.event c.self.invariant number c.in_default.not-Emitted).0
+    ap (woven b.sites b.text.items) others
+    ∙ (woven-other b.sites b.text.items b.others.items n c.args.event c.self.invariant number c.in_default.not-Emitted).0
     ∙ ap (λ (es : List Event). es ++ c.args.event ∷ []) c.self.view_is

@@ -2,6 +2,7 @@ use Rattle.std.proofs.Common.{◌≡◌, ◌∙◌, [], None, Some, length, refl
 use Rattle.std.proofs.lemmas.Bool.{ltb-false, ltb-true}
 use Rattle.std.proofs.lemmas.Option.{slice_get_past, slice_get_read}
 use Rattle.idl_event.proofs.ApartLemmas.{passed-no_token, passed-none, passed-other, passed-token}
+use Rattle.idl_event.specs.Apart.{site_at}
 use Rattle.idl_event.proofs.expansion.EventsIterator.next.Goals as goal
 
 pub invariant_of-self : goal.invariant_of-self
@@ -20,13 +21,11 @@ returns-in-Some-clause-goes c =
     let steps = returns-in-Some-clause-steps c in
     search rules
 
-pub returns-in_err-site-in-None-clause-steps : goal.returns-in_err-site-in-None-clause-steps
-returns-in_err-site-in-None-clause-steps c =
+pub returns-in_err-file-in-None-clause-steps : goal.returns-in_err-file-in-None-clause-steps
+returns-in_err-file-in-None-clause-steps c =
     let e = c.self.inside in
-    let at : slice_get e.sites.now e.tokens_passed ≡ None =
-    slice_get_past e.sites.now e.tokens_passed (ltb-false e.tokens_passed (length e.sites.now) (sym c.in_err-site-in-None.ensures.lookup.0)) in
     let none : c.args.self.now ≡ [] = sym c.self.view_is
-    ∙ passed-none e.sites.now e.text.now e.others.now e.tokens_passed e.others_passed c.self.invariant c.in-None.ensures.none at in
+    ∙ passed-none e.sites.now e.text.now e.others.now e.tokens_passed e.others_passed c.self.invariant c.in-None.ensures.none c.in_err-file-in-None.ensures.none in
     search rules
 
 pub returns-in_err-token-in-None-clause-steps : goal.returns-in_err-token-in-None-clause-steps
@@ -41,27 +40,25 @@ returns-in_err-token-in-None-clause-steps c =
 pub invariant_of-self-in-None : goal.invariant_of-self-in-None
 invariant_of-self-in-None c =
     let e = c.self.inside in
-    let at_site : slice_get e.sites.now e.tokens_passed ≡ Some c.in_ok-site-in-None.site.now =
-    slice_get_read e.sites.now (length e.sites.now) e.tokens_passed c.in_ok-site-in-None.site.now refl
-    (ltb-true e.tokens_passed (length e.sites.now) (sym c.in_ok-site-in-None.ensures.lookup.0)) c.in_ok-site-in-None.ensures.lookup.1 in
+    let stands = c.in_ok-file-in-None.ensures.some in
+    let site = site_at stands.0 (record { file = c.in_ok-file-in-None.file.now; line = c.in_ok-file-in-None.line }) in
     let at_token : slice_get e.text.now e.tokens_passed ≡ Some c.in_ok-token-in-None.token.now =
     slice_get_read e.text.now (length e.text.now) e.tokens_passed c.in_ok-token-in-None.token.now refl
     (ltb-true e.tokens_passed (length e.text.now) (sym c.in_ok-token-in-None.ensures.lookup.0)) c.in_ok-token-in-None.ensures.lookup.1 in
     (passed-token e.sites.now e.text.now e.others.now e.tokens_passed e.others_passed c.self.invariant
-    c.in_ok-site-in-None.site.now c.in_ok-token-in-None.token.now c.in-None.ensures.none at_site at_token).1
+    site c.in_ok-token-in-None.token.now c.in-None.ensures.none stands.1 at_token).1
 
 pub returns-in_ok-token-in-None-clause-steps : goal.returns-in_ok-token-in-None-clause-steps
 returns-in_ok-token-in-None-clause-steps c =
     let e = c.self.inside in
-    let at_site : slice_get e.sites.now e.tokens_passed ≡ Some c.in_ok-site-in-None.site.now =
-    slice_get_read e.sites.now (length e.sites.now) e.tokens_passed c.in_ok-site-in-None.site.now refl
-    (ltb-true e.tokens_passed (length e.sites.now) (sym c.in_ok-site-in-None.ensures.lookup.0)) c.in_ok-site-in-None.ensures.lookup.1 in
+    let stands = c.in_ok-file-in-None.ensures.some in
+    let site = site_at stands.0 (record { file = c.in_ok-file-in-None.file.now; line = c.in_ok-file-in-None.line }) in
     let at_token : slice_get e.text.now e.tokens_passed ≡ Some c.in_ok-token-in-None.token.now =
     slice_get_read e.text.now (length e.text.now) e.tokens_passed c.in_ok-token-in-None.token.now refl
     (ltb-true e.tokens_passed (length e.text.now) (sym c.in_ok-token-in-None.ensures.lookup.0)) c.in_ok-token-in-None.ensures.lookup.1 in
     sym c.self.view_is
     ∙ (passed-token e.sites.now e.text.now e.others.now e.tokens_passed e.others_passed c.self.invariant
-    c.in_ok-site-in-None.site.now c.in_ok-token-in-None.token.now c.in-None.ensures.none at_site at_token).0
+    site c.in_ok-token-in-None.token.now c.in-None.ensures.none stands.1 at_token).0
 
 pub returns-in_ok-token-in-None-clause-goes : goal.returns-in_ok-token-in-None-clause-goes
 returns-in_ok-token-in-None-clause-goes c =

@@ -1,5 +1,5 @@
 use Rattle.std.proofs.Common.{◌∷◌, ◌∙◌, [], ap, sym}
-use Rattle.idl_root.specs.Held.{with_gathered, with_judged, with_units}
+use Rattle.idl_root.specs.Held.{with_gathered, with_units}
 use Rattle.idl_root.specs.Judged.{added, judged_at, judged_over}
 use Rattle.idl_root.proofs.JudgingLemmas.{with-none, with-one}
 use Rattle.idl_root.proofs.judging.Gathered.add.Goals as goal
@@ -13,7 +13,6 @@ returns-in_ok-add_spelled-in-Spelled-clause-gathered c = λ facts.
     let o = with_gathered facts c.args.self.now in
     let text = c.in-Spelled.text in
     c.in_ok-add_spelled-in-Spelled.ensures.gathered facts
-    ∙ ap (λ s. with_judged o (judged_over c.args.env.now text s)) c.as_slice.ensures
     ∙ with-one o (judged_over c.args.env.now text c.in-Spelled.sites)
     ∙ ap (λ u. with_units o (judged_at c.args.env.now u)) (sym c.in-Spelled.is)
 

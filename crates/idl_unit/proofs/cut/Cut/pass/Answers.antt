@@ -10,7 +10,7 @@ returns-clause-units c =
     let s = c.args.self.now in
     let first = c.pass_tokens.ensures.passed in
     let units = token_units (drop s.taken s.text.now.value.items) in
-    let sites = drop s.taken s.sites.now.value.items in
+    let sites = drop s.taken s.sites.now.value in
     let rest = c.pass_tokens.new.self in
     sym (ap (to_come s) first.all
     ∙ ap (λ l. s.units.items ++ l)
