@@ -57,6 +57,23 @@ impl DigestedKey {
     }
 }
 
+impl DigestedKey {
+    /// The key, where its digest is known.
+    pub(crate) fn known(digest: u64, key: Key) -> DigestedKey
+        requires { digest ≡ key_digest key }
+        ensures { result ≡ key }
+    {
+        DigestedKey { digest, key }
+    }
+
+    /// The key alone.
+    pub(crate) fn key(&self) -> &Key
+        ensures { result.now ≡ self.now }
+    {
+        &self.key
+    }
+}
+
 impl Clone for DigestedKey {
     ghost is_clone = { λ digested copy. copy ≡ digested };
 

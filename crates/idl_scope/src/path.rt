@@ -1,6 +1,6 @@
 //! Paths: where an entity or a scope stands.
 
-ghost use Rattle.std.specs.Prelude.{◌≡◌, ◌↔◌, ◌∷◌, [], IfOk, IfSome, IsFalse, IsTrue, None, Some, false, refl};
+ghost use Rattle.std.specs.Prelude.{◌≡◌, ◌&&◌, ◌↔◌, ◌∷◌, [], IfOk, IfSome, IsFalse, IsTrue, None, Some, false, refl};
 ghost use Rattle.std.specs.Cmp.{partial_equiv_from_equiv};
 ghost use Rattle.std.specs.Cmp.Lexicographic.{lists_agrees, lists_equiv, lists_per, lists_po, lists_ties, lists_total, nat_list_cmp_total, nat_list_eq_equiv, pointwise, slice_cmp, slice_partial_cmp, texts_po, texts_ties};
 ghost use Rattle.std.specs.Hash as fed;
@@ -229,6 +229,20 @@ impl Path {
         match &self.innermost {
             None => false,
             Some(part) => part.name.as_bytes() == name && are_one(&part.around, &scope.innermost),
+        }
+    }
+}
+
+impl Path {
+    /// Whether what stands there is found under this folded name in the scope with that path.
+    pub(crate) fn is_found_at(&self, name: &Spelling, scope: &Path) -> bool
+        ensures { result
+            ≡ bytes_eq name.now (folded (name_of self.now))
+            && path_eq scope.now (scope_of self.now) }
+    {
+        match &self.innermost {
+            None => { name.as_bytes() == self.name() && are_one(&scope.innermost, &self.innermost) }
+            Some(part) => *name == part.folded_name && are_one(&scope.innermost, &part.around),
         }
     }
 }
