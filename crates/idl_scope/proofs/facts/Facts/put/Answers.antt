@@ -1,4 +1,4 @@
-use Rattle.std.proofs.Common.{◌≡◌, ◌++◌, [], suc, refl, cond, false, true, length, is_some, Some, None, sym, ap, ◌∙◌, map, arith}
+use Rattle.std.proofs.Common.{◌≡◌, ◌++◌, [], suc, refl, cond, false, true, length, is_some, sym, ap, ◌∙◌, map, arith}
 use Rattle.std.specs.List.{position}
 use Rattle.std.specs.Map.{lookup}
 use Rattle.idl_base.specs.Table.{insert_entry}
