@@ -2,6 +2,7 @@ pub mod AnswerLemmas
 pub mod CountLemmas
 pub mod DenotesOnce
 pub mod FactsLaws
+pub mod FirstLemmas
 pub mod Introduced
 pub mod LookupLaws
 pub mod Meant

@@ -2,8 +2,10 @@
 
 ghost use Rattle.std.specs.Prelude.{◌≡◌, IfOk};
 ghost use Rattle.idl_scope.specs.Facts.{answer_of, key_of};
+ghost use Rattle.idl_scope.specs.Key.{key_digest, key_eq};
 
 use crate::answer::Answer;
+use crate::digest::{identified, introduced};
 use crate::digested::DigestedKey;
 use crate::entity::Entity;
 use crate::identity::Identity;
@@ -49,14 +51,52 @@ impl Addition {
     pub fn key(&self, alloc: Global) -> Result<DigestedKey, AllocError>
         ensures { IfOk result (λ key. key ≡ key_of self.now) }
     {
+        self.key_with(alloc, self.digest())
+    }
+
+    /// The digest of that key.
+    #[tactic(auto, unfolding(crate::specs::Key::key_digest))]
+    pub(crate) fn digest(&self) -> u64
+        ensures { result ≡ key_digest (key_of self.now) }
+    {
         match self {
-            Addition::Declares(entity) => Key::of_entity(alloc, &entity.get().path),
-            Addition::Uses(name, path, body) => {
-                let name = name.clone()?;
-                let path = path.clone()?;
-                Ok(DigestedKey::of(Key::Introduced(name, path, *body)))
+            Addition::Declares(entity) => entity.get().path.entity_digest(),
+            Addition::Uses(name, path, body) => introduced(path.digest(), name.as_bytes(), *body),
+            Addition::Identifies(path, _) => identified(path.digest()),
+        }
+    }
+
+    /// That key, where its digest is known.
+    pub(crate) fn key_with(&self, alloc: Global, digest: u64) -> Result<DigestedKey, AllocError>
+        requires { digest ≡ key_digest (key_of self.now) }
+        ensures { IfOk result (λ key. key ≡ key_of self.now) }
+    {
+        let key = match self {
+            Addition::Declares(entity) => {
+                let path = &entity.get().path;
+                Key::Declared(path.folded(alloc)?, path.scope()?)
             }
-            Addition::Identifies(path, _) => Ok(DigestedKey::of(Key::IdOf(path.clone()?))),
+            Addition::Uses(name, path, body) => {
+                Key::Introduced(name.clone()?, path.clone()?, *body)
+            }
+            Addition::Identifies(path, _) => Key::IdOf(path.clone()?),
+        };
+        Ok(DigestedKey::known(digest, key))
+    }
+
+    /// Whether this is that key.
+    pub(crate) fn is_at(&self, key: &Key) -> bool
+        ensures { result ≡ key_eq key.now (key_of self.now) }
+    {
+        match (self, key) {
+            (Addition::Declares(entity), Key::Declared(name, scope)) => {
+                entity.get().path.is_found_at(name, scope)
+            }
+            (Addition::Uses(name, path, body), Key::Introduced(other, scope, number)) => {
+                *other == *name && *scope == *path && *number == *body
+            }
+            (Addition::Identifies(path, _), Key::IdOf(other)) => *other == *path,
+            _ => false,
         }
     }
 

@@ -1,6 +1,7 @@
 //! Digests of paths, and of what is found by its outermost scope first.
 
 ghost use Rattle.std.specs.Prelude.{◌≡◌};
+ghost use Rattle.idl_base.specs.Digest.{mixed, with_bytes};
 ghost use Rattle.idl_scope.specs.Digest.{behind, under};
 
 use idl_base::{mixed, with_bytes};
@@ -16,6 +17,21 @@ pub fn under(scope: u64, name: &[u8]) -> u64
     } else {
         behind(scope, whole)
     }
+}
+
+/// The digest of a folded name that is introduced into the body with this number, in the scope with this digest.
+pub fn introduced(scope: u64, name: &[u8], body: usize) -> u64
+    ensures { result ≡ behind scope (mixed (with_bytes (mixed scope 259) name.now) body) }
+{
+    let named = with_bytes(mixed(scope, 259), name);
+    behind(scope, mixed(named, body as u64))
+}
+
+/// The digest of the id of what stands at a path with this digest.
+pub fn identified(path: u64) -> u64
+    ensures { result ≡ behind path (mixed path 263) }
+{
+    behind(path, mixed(path, 263))
 }
 
 /// A digest with the last 6 bits of another in place of its own, by which it is found first.

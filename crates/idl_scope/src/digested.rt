@@ -8,6 +8,7 @@ ghost use Rattle.idl_scope.specs.contracts.key.KeyOrd.TheImpl.{ghosts as own_ord
 ghost use Rattle.idl_scope.specs.declared.key.Key.TheVariants.{Declared};
 
 use crate::key::Key;
+use crate::name::are_same;
 use crate::path::Path;
 use idl_base::Datum;
 use idl_lex::Spelling;
@@ -54,6 +55,23 @@ impl DigestedKey {
     {
         let key = Key::Declared(name, scope);
         DigestedKey { digest, key }
+    }
+}
+
+impl DigestedKey {
+    /// The key, where its digest is known.
+    pub(crate) fn known(digest: u64, key: Key) -> DigestedKey
+        requires { digest ≡ key_digest key }
+        ensures { result ≡ key }
+    {
+        DigestedKey { digest, key }
+    }
+
+    /// The key alone.
+    pub(crate) fn key(&self) -> &Key
+        ensures { result.now ≡ self.now }
+    {
+        &self.key
     }
 }
 
@@ -134,7 +152,12 @@ impl Digest for DigestedKey {
 fn are_one(key: &Key, other: &Key) -> bool
     ensures { result ≡ key_eq key.now other.now }
 {
-    key == other
+    match (key, other) {
+        (Key::Declared(name, path), Key::Declared(others, there)) => {
+            are_same(name.as_bytes(), others.as_bytes()) && *path == *there
+        }
+        _ => key == other,
+    }
 }
 
 // Which of two keys of one digest comes first. Most of them are one, which is told sooner than an order.

@@ -1,44 +1,60 @@
 //! What a unit adds.
 
-ghost use Rattle.std.specs.Prelude.{◌≡◌, [], IfSome, OnOk, length, slice_get};
-ghost use Rattle.std.specs.Option.{option_copied, option_map};
-ghost use Rattle.idl_scope.specs.Facts.{addition_at, key_of, with_addition};
+ghost use Rattle.std.specs.Prelude.{◌≡◌, ◌<◌, [], IsTrue, OnOk, length, slice_get};
+ghost use Rattle.std.specs.Map.{lookup};
+ghost use Rattle.std.specs.Option.{option_copied};
+ghost use Rattle.idl_scope.specs.Facts.{addition_at, with_addition};
+ghost use Rattle.idl_scope.specs.Key.{key_eq};
 ghost use Rattle.idl_scope.specs.declared.addition.Step.TheVariants.{Stays};
+ghost use Rattle.idl_scope.specs.declared.facts.TheConstants.{FEW};
 
 use crate::addition::{Addition, Step};
 use crate::digested::DigestedKey;
-use crate::key::Key;
+use crate::digested_addition::{DigestedAddition, is_digest_among, place_among};
 use idl_base::Table;
 use std::alloc::{AllocError, Global};
 use std::marker::Model;
 
+// So many additions are gone through, where more are found in a table.
+const FEW: usize = 32;
+
 /// What a unit adds, or its earlier tokens: names that are declared and introduced, and then how the open scopes change.
+///
+/// Most units add little: so the first additions stand in a list that is gone through by the digests of their keys, and makes
+/// none of these keys. Those behind them are found in a table.
 pub struct Facts {
     alloc: Global,
-    additions: Table<DigestedKey, Addition>,
+    first: Vec<DigestedAddition>,
+    others: Table<DigestedKey, DigestedAddition>,
+    // How many there are of both.
+    count: usize,
     step: Step,
 }
 
 impl Model for Facts {
-    ghost use Rattle.std.specs.Prelude.{map};
+    ghost use Rattle.std.specs.Prelude.{◌≡◌, ◌+◌, ◌++◌, length, map};
     ghost use Rattle.idl_scope.specs.Facts.{UnitFacts};
     ghost use Rattle.idl_scope.specs.Held.{HaveOwnKeys};
 
     ghost Value = { UnitFacts };
 
     ghost view = { λ facts. record {
-      additions = map (λ e. e.1) facts.additions;
+      additions = facts.first.items ++ map (λ e. e.1) facts.others;
       step = facts.step;
     } };
 
-    ghost invariant = { λ facts. HaveOwnKeys facts.additions };
+    ghost invariant = { λ facts.
+        HaveOwnKeys facts.others
+        × (facts.count ≡ length facts.first.items + length facts.others) };
 }
 
 impl Drop for Facts {
     fn drop(self) {
         let Facts {
             alloc: _alloc,
-            additions: _additions,
+            first: _first,
+            others: _others,
+            count: _count,
             step: _step,
         } = self;
     }
@@ -51,7 +67,9 @@ impl Facts {
     {
         Facts {
             alloc,
-            additions: Table::new(alloc),
+            first: Vec::new(alloc),
+            others: Table::new(alloc),
+            count: 0,
             step: Step::Stays,
         }
     }
@@ -62,8 +80,43 @@ impl Facts {
             (self.new
             ≡ record self.old { additions = with_addition self.old.additions addition }) }
     {
+        let addition = DigestedAddition::of(addition);
+        if !has_room(&self.first, &self.others) {
+            return self.put(addition);
+        }
+        if is_digest_among(self.first.as_slice(), &addition) {
+            return self.put(addition);
+        }
+        self.first.push(addition)?;
+        self.count += 1;
+        Ok(())
+    }
+
+    // The same, where there may be one at its key, or there are many. It stands apart, since most additions are few and new.
+    #[inline(never)]
+    fn put(&mut self, addition: DigestedAddition) -> Result<(), AllocError>
+        ensures { OnOk result
+            (self.new
+            ≡ record self.old { additions = with_addition self.old.additions addition }) }
+    {
+        let Some(count) = self.count.checked_add(1) else {
+            return Err(AllocError);
+        };
         let key = addition.key(self.alloc)?;
-        self.additions.insert(key, addition)?;
+        if let Some(place) = place_among(self.first.as_slice(), &key) {
+            self.first[place] = addition;
+            return Ok(());
+        }
+        if has_room(&self.first, &self.others) {
+            self.first.push(addition)?;
+            self.count = count;
+            return Ok(());
+        }
+        let is_new = !self.others.contains(&key);
+        self.others.insert(key, addition)?;
+        if is_new {
+            self.count = count;
+        }
         Ok(())
     }
 
@@ -78,31 +131,35 @@ impl Facts {
     pub fn get(&self, key: &DigestedKey) -> Option<&Addition>
         ensures { option_copied result ≡ addition_at self.now.additions key.now }
     {
-        self.additions.get(key)
+        match place_among(self.first.as_slice(), key) {
+            Some(place) => Some(self.first[place].addition()),
+            None => behind(&self.others, key),
+        }
     }
 
     /// How many additions there are.
     pub fn len(&self) -> usize
         ensures { result ≡ length self.now.additions }
     {
-        self.additions.len()
+        self.count
     }
 
     /// The addition at a place in their order, or nothing past the last.
     pub fn addition(&self, index: usize) -> Option<&Addition>
         ensures { option_copied result ≡ slice_get self.now.additions index }
     {
-        let (_key, addition) = self.entry(index)?;
-        Some(addition)
+        Some(self.digested(index)?.addition())
     }
 
-    /// The addition at a place in their order with its key, or nothing past the last.
-    pub fn entry(&self, index: usize) -> Option<(&DigestedKey, &Addition)>
-        ensures addition { option_map (λ e. e.1.now) result ≡ slice_get self.now.additions index }
-        ensures key { IfSome result (λ e. e.0.now ≡ key_of e.1.now) }
+    /// The addition at a place in their order with the digest of its key, or nothing past the last.
+    pub(crate) fn digested(&self, index: usize) -> Option<&DigestedAddition>
+        ensures { option_copied result ≡ slice_get self.now.additions index }
     {
-        let (key, addition) = self.additions.get_index(index)?;
-        Some((key, addition))
+        if index < self.first.len() {
+            return Some(&self.first[index]);
+        }
+        let (_key, addition) = self.others.get_index(index - self.first.len())?;
+        Some(addition)
     }
 
     /// How the open scopes change.
@@ -111,4 +168,25 @@ impl Facts {
     {
         &self.step
     }
+}
+
+// Whether one more goes to the first additions.
+fn has_room(first: &Vec<DigestedAddition>, others: &Table<DigestedKey, DigestedAddition>) -> bool
+    ensures few { IsTrue result → length first.now.items < FEW }
+    ensures none { IsTrue result → others.now ≡ [] }
+{
+    first.len() < FEW && others.is_empty()
+}
+
+// The addition at a key among those behind the first ones.
+fn behind<'a>(
+    others: &'a Table<DigestedKey, DigestedAddition>,
+    key: &DigestedKey,
+) -> Option<&'a Addition>
+    ensures { option_copied result ≡ lookup (key_eq key.now) others.now }
+{
+    if others.is_empty() {
+        return None;
+    }
+    Some(others.get(key)?.addition())
 }

@@ -3,10 +3,10 @@
 ghost use Rattle.std.specs.Prelude.{◌≡◌, IfOk};
 ghost use Rattle.idl_scope.specs.Facts.{entity_key};
 
-use crate::digest::{behind, under};
+use crate::digest::{behind, identified, introduced, under};
 use crate::digested::DigestedKey;
 use crate::path::Path;
-use idl_base::{Datum, mixed, with_bytes};
+use idl_base::{Datum, mixed};
 use idl_lex::Spelling;
 use idl_map::Digest;
 use std::alloc::{AllocError, Global};
@@ -71,14 +71,11 @@ impl Digest for Key {
         match self {
             Key::Cursor => 257,
             Key::Declared(name, path) => under(path.digest(), name.as_bytes()),
-            Key::Introduced(name, path, body) => {
-                let named = with_bytes(mixed(path.digest(), 259), name.as_bytes());
-                behind(path.digest(), mixed(named, *body as u64))
-            }
+            Key::Introduced(name, path, body) => introduced(path.digest(), name.as_bytes(), *body),
             Key::Opened(path) => behind(path.digest(), mixed(path.digest(), 260)),
             Key::Nameless => 261,
             Key::Prefix => 262,
-            Key::IdOf(path) => behind(path.digest(), mixed(path.digest(), 263)),
+            Key::IdOf(path) => identified(path.digest()),
         }
     }
 }

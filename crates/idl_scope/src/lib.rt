@@ -9,6 +9,7 @@ mod answer;
 mod data_type;
 mod digest;
 mod digested;
+mod digested_addition;
 mod entity;
 mod env;
 mod facts;

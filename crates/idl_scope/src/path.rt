@@ -1,6 +1,6 @@
 //! Paths: where an entity or a scope stands.
 
-ghost use Rattle.std.specs.Prelude.{◌≡◌, ◌↔◌, ◌∷◌, [], IfOk, IfSome, IsFalse, IsTrue, None, Some, false, refl};
+ghost use Rattle.std.specs.Prelude.{◌≡◌, ◌&&◌, ◌↔◌, ◌∷◌, [], IfOk, IfSome, IsFalse, IsTrue, None, Some, false, refl};
 ghost use Rattle.std.specs.Cmp.{partial_equiv_from_equiv};
 ghost use Rattle.std.specs.Cmp.Lexicographic.{lists_agrees, lists_equiv, lists_per, lists_po, lists_ties, lists_total, nat_list_cmp_total, nat_list_eq_equiv, pointwise, slice_cmp, slice_partial_cmp, texts_po, texts_ties};
 ghost use Rattle.std.specs.Hash as fed;
@@ -12,7 +12,7 @@ ghost use Rattle.idl_scope.specs.Digest.{path_digest, under};
 ghost use Rattle.idl_scope.specs.Path.{name_of, path_eq, path_of, same_path, scope_of};
 
 use crate::digest::under;
-use crate::name::{folded_name, shared_name};
+use crate::name::{are_same, folded_name, shared_name};
 use idl_base::Datum;
 use idl_lex::Spelling;
 use std::alloc::{AllocError, Global};
@@ -233,6 +233,20 @@ impl Path {
     }
 }
 
+impl Path {
+    /// Whether what stands there is found under this folded name in the scope with that path.
+    pub(crate) fn is_found_at(&self, name: &Spelling, scope: &Path) -> bool
+        ensures { result
+            ≡ bytes_eq name.now (folded (name_of self.now))
+            && path_eq scope.now (scope_of self.now) }
+    {
+        match &self.innermost {
+            None => { name.as_bytes() == self.name() && are_one(&scope.innermost, &self.innermost) }
+            Some(part) => *name == part.folded_name && are_one(&scope.innermost, &part.around),
+        }
+    }
+}
+
 /// Names of a path that are lent: to every contract the list of them, from one of them on, the innermost first.
 #[derive(Drop)]
 pub struct Names<'a> {
@@ -307,7 +321,7 @@ fn begin_alike(mine: &Part, theirs: &Part) -> bool
     ensures differ { IsFalse result
         → path_eq (mine.now.0 ∷ mine.now.1) (theirs.now.0 ∷ theirs.now.1) ≡ false }
 {
-    mine.digest == theirs.digest && mine.name == theirs.name
+    mine.digest == theirs.digest && are_same(mine.name.as_bytes(), theirs.name.as_bytes())
 }
 
 // Which of two paths comes first, by their innermost names and then by those around.

@@ -352,10 +352,12 @@ fn put_all(
 {
     let count = facts.len();
     for back in 0..count {
-        let Some((key, addition)) = facts.entry(count - 1 - back) else {
+        let Some(addition) = facts.digested(count - 1 - back) else {
             continue;
         };
-        answers.insert(alloc, key.clone()?, addition.answer()?)?;
+        let key = addition.key(alloc)?;
+        let answer = addition.addition().answer()?;
+        answers.insert(alloc, key, answer)?;
     }
     Ok(())
 }

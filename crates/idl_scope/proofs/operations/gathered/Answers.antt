@@ -1,4 +1,4 @@
-use Rattle.std.proofs.Common.{◌≡◌, sym, ap, ◌∙◌, ◌+◌, drop, [], refl}
+use Rattle.std.proofs.Common.{sym, ap, ◌∙◌, ◌+◌, drop, [], refl}
 use Rattle.std.specs.List.{list_any}
 use Rattle.std.specs.Map.{keys_of}
 use Rattle.idl_scope.specs.Facts.{gathered, joined}

@@ -16,14 +16,15 @@ loop-back-preserved c =
     let first = c.args.answers.now in
     let before : count - (back + 1) ≡ count - 1 - back = omega arith in
     let behind : suc (count - 1 - back) ≡ count - back = omega arith in
-    let key = c.in_ok-clone.ensures.cases ∙ c.in-Some.ensures.key in
-    let here = ap (λ j. drop j additions) before ∙ drop-at additions (count - 1 - back) one (sym c.in-Some.ensures.addition) ∙ ap (λ j. one ∷ drop j additions) behind in
+    let key = c.in_ok-key.ensures in
+    let answer : c.in_ok-answer.answer ≡ answer_of one = c.in_ok-answer.ensures ∙ ap answer_of c.addition.ensures in
+    let here = ap (λ j. drop j additions) before ∙ drop-at additions (count - 1 - back) one (sym c.in-Some.ensures) ∙ ap (λ j. one ∷ drop j additions) behind in
     record {
       count = c.loop-back.invariant.count;
       within = omega arith;
       answers = λ k.
           c.in_ok-insert.ensures.each_key k
-          ∙ (λ i. cond (key_eq k (key i)) (Some (c.in_ok-answer.ensures i)) (lookup (key_eq k) old))
+          ∙ (λ i. cond (key_eq k (key i)) (Some (answer i)) (lookup (key_eq k) old))
           ∙ ap (λ o. cond (key_eq k (key_of one)) (Some (answer_of one)) o) (c.loop-back.invariant.answers k)
           ∙ sym (over-cons one (drop (count - back) additions) k (lookup (key_eq k) first))
           ∙ ap (λ l. over l k (lookup (key_eq k) first)) (sym here);

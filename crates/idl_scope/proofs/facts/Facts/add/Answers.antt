@@ -1,24 +1,21 @@
-use Rattle.std.proofs.Common.{ap, ◌∙◌, map}
-use Rattle.idl_base.specs.Table.{insert_entry}
-use Rattle.idl_scope.specs.Facts.{UnitFacts, with_addition}
-use Rattle.idl_scope.specs.Held.{HaveOwnKeys}
-use Rattle.idl_scope.specs.Key.{key_eq}
-use Rattle.idl_scope.proofs.AnswerLemmas.{HaveOwnKeys-insert_entry, additions-insert_entry}
+use Rattle.std.proofs.Common.{◌≡◌, ◌++◌, ◌∷◌, [], refl, sym, ap, ◌∙◌, false, map, nat_eq}
+use Rattle.std.specs.List.{list_any}
+use Rattle.idl_scope.specs.Facts.{UnitFacts, key_of, with_addition}
+use Rattle.idl_scope.specs.Key.{key_digest}
+use Rattle.idl_scope.specs.declared.addition.Addition.{Addition}
+use Rattle.idl_scope.proofs.FirstLemmas.{unlike, with_addition-last}
 use Rattle.idl_scope.proofs.facts.Facts.add.Goals as goal
 
 pub returns : goal.returns
 returns c =
-    let entries = c.self.inside.additions in
+    let first = c.self.inside.first.items in
+    let more = map (λ e. e.1) c.self.inside.others in
     let a = c.args.addition in
-    let put = c.in_ok-insert.ensures.entries ∙ ap (λ k. insert_entry key_eq entries k a) c.in_ok-key.ensures in
-    (λ i. record { additions = map (λ e. e.1) (put i); step = c.self.inside.step })
-    ∙ (λ i. record { additions = additions-insert_entry entries a c.self.invariant i; step = c.self.inside.step })
+    let none : c.self.inside.others ≡ [] = c.if-not-has_room.ensures.none refl in
+    let test = λ (b other : Addition). nat_eq (key_digest (key_of other)) (key_digest (key_of b)) in
+    let others : list_any (test a) first ≡ false =
+    (λ i. list_any (test (sym c.of-addition.ensures i)) (sym c.as_slice.ensures.value i)) ∙ sym c.if-is_digest_among.ensures in
+    (λ i. record { additions = c.in_ok-push.ensures.items i ++ more; step = c.self.inside.step })
+    ∙ (λ i. record { additions = (first ++ c.of-addition.ensures i ∷ []) ++ more; step = c.self.inside.step })
+    ∙ (λ i. record { additions = with_addition-last first more a (ap (map (λ e. e.1)) none) (unlike first (key_of a) others) i; step = c.self.inside.step })
     ∙ ap (λ (f : UnitFacts). record f { additions = with_addition f.additions a }) c.self.view_is
-
-pub invariant_of-self-2 : goal.invariant_of-self-2
-invariant_of-self-2 c =
-    let entries = c.self.inside.additions in
-    let a = c.args.addition in
-    let put = c.in_ok-insert.ensures.entries ∙ ap (λ k. insert_entry key_eq entries k a) c.in_ok-key.ensures in
-    let own : HaveOwnKeys c.insert.new.self = rw put (HaveOwnKeys-insert_entry entries a c.self.invariant) in
-    own

@@ -1,0 +1,89 @@
+//! Additions with the digests of their keys.
+
+ghost use Rattle.std.specs.Prelude.{◌≡◌, IfOk, nat_eq};
+ghost use Rattle.std.specs.List.{list_any, position};
+ghost use Rattle.idl_scope.specs.Facts.{key_of};
+ghost use Rattle.idl_scope.specs.Key.{key_digest, key_eq};
+
+use crate::addition::Addition;
+use crate::digested::DigestedKey;
+use idl_map::Digest;
+use std::alloc::{AllocError, Global};
+use std::marker::Model;
+
+/// An addition, and beside it the digest of the key whose answer it changes, by which it is found. To every contract it is the
+/// addition itself.
+#[derive(Drop)]
+pub struct DigestedAddition {
+    digest: u64,
+    addition: Addition,
+}
+
+impl Model for DigestedAddition {
+    ghost use Rattle.std.specs.Prelude.{◌≡◌};
+    ghost use Rattle.idl_scope.specs.Facts.{key_of};
+    ghost use Rattle.idl_scope.specs.Key.{key_digest};
+    ghost use Rattle.idl_scope.specs.declared.addition.Addition.{Addition};
+
+    ghost Value = { Addition };
+
+    ghost view = { λ digested. digested.addition };
+
+    ghost invariant = { λ digested. digested.digest ≡ key_digest (key_of digested.addition) };
+}
+
+impl DigestedAddition {
+    /// The addition, with the digest of its key.
+    pub fn of(addition: Addition) -> DigestedAddition
+        ensures { result ≡ addition }
+    {
+        let digest = addition.digest();
+        DigestedAddition { digest, addition }
+    }
+
+    /// The addition alone.
+    pub fn addition(&self) -> &Addition
+        ensures { result.now ≡ self.now }
+    {
+        &self.addition
+    }
+
+    /// The key whose answer it changes.
+    pub fn key(&self, alloc: Global) -> Result<DigestedKey, AllocError>
+        ensures { IfOk result (λ key. key ≡ key_of self.now) }
+    {
+        self.addition.key_with(alloc, self.digest)
+    }
+
+    // The digest of that key.
+    #[inline]
+    fn digest(&self) -> u64
+        ensures { result ≡ key_digest (key_of self.now) }
+    {
+        self.digest
+    }
+
+    // Whether this is that key.
+    #[inline]
+    fn is_at(&self, key: &DigestedKey) -> bool
+        ensures { result ≡ key_eq key.now (key_of self.now) }
+    {
+        self.digest == key.digest() && self.addition.is_at(key.key())
+    }
+}
+
+/// Whether one of the additions has the digest of another's key.
+pub fn is_digest_among(additions: &[DigestedAddition], other: &DigestedAddition) -> bool
+    ensures { result
+        ≡ list_any (λ a. nat_eq (key_digest (key_of a)) (key_digest (key_of other.now))) additions.now }
+{
+    let digest = other.digest();
+    additions.iter().any(|addition| addition.digest() == digest)
+}
+
+/// The place among additions of the first that is at a key.
+pub fn place_among(additions: &[DigestedAddition], key: &DigestedKey) -> Option<usize>
+    ensures { result ≡ position (λ a. key_eq key.now (key_of a)) additions.now }
+{
+    additions.iter().position(|addition| addition.is_at(key))
+}
