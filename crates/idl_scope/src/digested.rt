@@ -8,7 +8,6 @@ ghost use Rattle.idl_scope.specs.contracts.key.KeyOrd.TheImpl.{ghosts as own_ord
 ghost use Rattle.idl_scope.specs.declared.key.Key.TheVariants.{Declared};
 
 use crate::key::Key;
-use crate::name::are_same;
 use crate::path::Path;
 use idl_base::Datum;
 use idl_lex::Spelling;
@@ -152,12 +151,7 @@ impl Digest for DigestedKey {
 fn are_one(key: &Key, other: &Key) -> bool
     ensures { result ≡ key_eq key.now other.now }
 {
-    match (key, other) {
-        (Key::Declared(name, path), Key::Declared(others, there)) => {
-            are_same(name.as_bytes(), others.as_bytes()) && *path == *there
-        }
-        _ => key == other,
-    }
+    key == other
 }
 
 // Which of two keys of one digest comes first. Most of them are one, which is told sooner than an order.

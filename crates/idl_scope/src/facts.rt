@@ -1,6 +1,6 @@
 //! What a unit adds.
 
-ghost use Rattle.std.specs.Prelude.{◌≡◌, ◌<◌, [], IsTrue, OnOk, length, slice_get};
+ghost use Rattle.std.specs.Prelude.{◌≡◌, ◌<◌, ◌++◌, ◌∷◌, [], IsTrue, OnErr, OnOk, length, slice_get};
 ghost use Rattle.std.specs.Map.{lookup};
 ghost use Rattle.std.specs.Option.{option_copied};
 ghost use Rattle.idl_scope.specs.Facts.{addition_at, with_addition};
@@ -17,6 +17,9 @@ use std::marker::Model;
 
 // So many additions are gone through, where more are found in a table.
 const FEW: usize = 32;
+
+// Most units add no more than these.
+const USUAL: usize = 8;
 
 /// What a unit adds, or its earlier tokens: names that are declared and introduced, and then how the open scopes change.
 ///
@@ -87,7 +90,7 @@ impl Facts {
         if is_digest_among(self.first.as_slice(), &addition) {
             return self.put(addition);
         }
-        self.first.push(addition)?;
+        push(&mut self.first, addition)?;
         self.count += 1;
         Ok(())
     }
@@ -131,6 +134,9 @@ impl Facts {
     pub fn get(&self, key: &DigestedKey) -> Option<&Addition>
         ensures { option_copied result ≡ addition_at self.now.additions key.now }
     {
+        if self.count == 0 {
+            return None;
+        }
         match place_among(self.first.as_slice(), key) {
             Some(place) => Some(self.first[place].addition()),
             None => behind(&self.others, key),
@@ -168,6 +174,18 @@ impl Facts {
     {
         &self.step
     }
+}
+
+// Puts an addition last. There is room for the usual number of them from the first one on.
+fn push(first: &mut Vec<DigestedAddition>, addition: DigestedAddition) -> Result<(), AllocError>
+    ensures items { OnOk result (first.new.items ≡ first.old.items ++ addition ∷ []) }
+    ensures err { OnErr result (first.new.items ≡ first.old.items) }
+{
+    if first.is_empty() {
+        first.reserve(USUAL)?;
+    }
+    first.push(addition)?;
+    Ok(())
 }
 
 // Whether one more goes to the first additions.

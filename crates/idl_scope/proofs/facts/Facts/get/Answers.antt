@@ -7,8 +7,14 @@ use Rattle.idl_scope.specs.Facts.{UnitFacts, addition_at, key_of}
 use Rattle.idl_scope.specs.Key.{key_eq}
 use Rattle.idl_scope.specs.declared.addition.Addition.{Addition}
 use Rattle.idl_scope.proofs.AnswerLemmas.{lookup-addition_at}
-use Rattle.idl_scope.proofs.FirstLemmas.{absent, addition_at-append, present}
+use Rattle.idl_scope.proofs.FirstLemmas.{absent, addition_at-append, none_there, present}
 use Rattle.idl_scope.proofs.facts.Facts.get.Goals as goal
+
+pub returns-then-self-eq0 : goal.returns-then-self-eq0
+returns-then-self-eq0 c =
+    let k = c.args.key.now in
+    let none = none_there c.self.inside.first.items c.self.inside.others (sym c.self.invariant.1 ∙ c.if-self-eq0.true) in
+    ap (λ additions. addition_at additions k) (sym none) ∙ ap (λ (f : UnitFacts). addition_at f.additions k) c.self.view_is
 
 pub returns-in-Some : goal.returns-in-Some
 returns-in-Some c =
