@@ -1,8 +1,9 @@
 //! Where the tokens of a text stand.
 
-ghost use Rattle.std.specs.Prelude.{◌≡◌, ◌++◌, ◌∷◌, ◌+◌, ◌-◌, ◌<◌, ◌^◌, [], IfNone, IfOk, IfSome, IsTrue, None, OnErr, OnOk, Some, length, slice_get};
+ghost use Rattle.std.specs.Prelude.{◌≡◌, ◌++◌, ◌∷◌, ℕ, ◌+◌, ◌-◌, ◌<◌, ◌^◌, [], IfNone, IfOk, IfSome, IsTrue, None, OnErr, OnOk, Some, length, slice_get};
 ghost use Rattle.idl_event.specs.Apart.{site_at};
-ghost use Rattle.idl_event.specs.Sites.{StandsAt};
+ghost use Rattle.std.specs.Option.{option_copied, option_map};
+ghost use Rattle.idl_event.specs.Sites.{Rise, StandsAt, found, spot_at};
 
 use crate::file_name::FileName;
 use crate::place::Place;
@@ -12,23 +13,26 @@ use std::marker::Model;
 
 /// Where the tokens of a text stand: to every contract the list of their sites.
 ///
-/// From one token to the next the file seldom changes, and other events seldom stand between them. So a stretch has what is
-/// the same for all of its tokens, and a token its line and the number of its stretch.
+/// From one token to the next the line seldom changes, the file still less, nor do other events often stand between them. So
+/// a spot has what is the same for the tokens of a line, and a stretch what is the same for those of many lines.
 #[derive(Drop)]
 pub struct Sites {
     spots: Vec<Spot>,
     stretches: Vec<Stretch>,
+    // How many tokens there are.
+    count: usize,
 }
 
-/// A token: its line, and the number of its stretch.
+/// Tokens of one line: the number of the first of them, the line, and the number of their stretch.
 #[derive(Clone, Copy)]
 pub struct Spot {
+    first: u32,
     line: u32,
     stretch: u32,
 }
 
-// A root has a hundred thousands of tokens.
-const _: () = prove!(size_of::<Spot>() <= 8);
+// A root has ten thousands of lines.
+const _: () = prove!(size_of::<Spot>() <= 12);
 
 /// Tokens of one file, with no other event between them: how many others come before them.
 #[derive(Drop)]
@@ -39,14 +43,14 @@ pub struct Stretch {
 
 impl Model for Sites {
     ghost use Rattle.std.specs.Prelude.{List};
-    ghost use Rattle.idl_event.specs.Sites.{HaveStretches, sites_from};
+    ghost use Rattle.idl_event.specs.Sites.{AreKept, sites_of};
     ghost use Rattle.idl_event.specs.declared.site.Site.{Site};
 
     ghost Value = { List Site };
 
-    ghost view = { λ s. sites_from 0 s.stretches.items s.spots.items };
+    ghost view = { λ s. sites_of s.stretches.items s.spots.items s.count };
 
-    ghost invariant = { λ s. HaveStretches s.stretches.items s.spots.items };
+    ghost invariant = { λ s. AreKept s.stretches.items s.spots.items s.count };
 }
 
 impl Sites {
@@ -57,6 +61,7 @@ impl Sites {
         Sites {
             spots: Vec::new(alloc),
             stretches: Vec::new(alloc),
+            count: 0,
         }
     }
 
@@ -65,7 +70,7 @@ impl Sites {
         ensures value { result ≡ length self.now }
         ensures small { result < 2 ^ 63 }
     {
-        self.spots.len()
+        self.count
     }
 
     /// The site of a token more, before which so many other events stand. Numbers past the first 2^32 are as want of memory.
@@ -75,24 +80,30 @@ impl Sites {
         ensures kept { OnErr result (self.new ≡ self.old) }
     {
         let Place { file, line } = place;
+        let Ok(first) = u32::try_from(self.count) else {
+            return Err(AllocError);
+        };
         let Ok(others) = u32::try_from(others) else {
             return Err(AllocError);
         };
         let Ok(next) = u32::try_from(self.stretches.len()) else {
             return Err(AllocError);
         };
-        if goes_on(&self.stretches, &file, others) {
+        if !goes_on(&self.stretches, &file, others) {
+            self.stretches.push(Stretch { file, others })?;
             self.spots.push(Spot {
+                first,
+                line,
+                stretch: next,
+            })?;
+        } else if !is_on(&self.spots, line, next - 1) {
+            self.spots.push(Spot {
+                first,
                 line,
                 stretch: next - 1,
             })?;
-            return Ok(());
         }
-        self.stretches.push(Stretch { file, others })?;
-        self.spots.push(Spot {
-            line,
-            stretch: next,
-        })?;
+        self.count += 1;
         Ok(())
     }
 
@@ -102,24 +113,26 @@ impl Sites {
             StandsAt self.now index (record { file = p.0.now; line = p.1 })) }
         ensures none { IfNone result (slice_get self.now index ≡ None) }
     {
-        let spot = self.spots.get(index)?;
-        let stretch = self.stretches.get(spot.stretch as usize)?;
-        Some((&stretch.file, spot.line))
+        if index >= self.count {
+            return None;
+        }
+        let (line, stretch) = found(&self.stretches, &self.spots, index)?;
+        Some((&stretch.file, line))
     }
 
     /// The site of the token with this number.
     pub fn site(&self, index: usize) -> Result<Option<Site>, AllocError>
         ensures { IfOk result (λ site. site ≡ slice_get self.now index) }
     {
-        let Some(spot) = self.spots.get(index) else {
+        if index >= self.count {
             return Ok(None);
-        };
-        let Some(stretch) = self.stretches.get(spot.stretch as usize) else {
+        }
+        let Some((line, stretch)) = found(&self.stretches, &self.spots, index) else {
             return Ok(None);
         };
         Ok(Some(Site {
             file: stretch.file.clone()?,
-            line: spot.line,
+            line,
             event: index + stretch.others as usize,
         }))
     }
@@ -142,4 +155,37 @@ fn goes_on(stretches: &[Stretch], file: &FileName, others: u32) -> bool
         Some(last) => last.others == others && last.file == *file,
         None => false,
     }
+}
+
+// Whether the last tokens stand at this line, in this stretch.
+fn is_on(spots: &[Spot], line: u32, stretch: u32) -> bool
+    ensures { IsTrue result → (first : ℕ) × (slice_get spots.now (length spots.now - 1)
+        ≡ Some (record { first = first; line = line; stretch = stretch })) }
+{
+    match spots.last() {
+        Some(last) => last.line == line && last.stretch == stretch,
+        None => false,
+    }
+}
+
+// The line of the token with this number, and its stretch.
+fn found<'a>(stretches: &'a [Stretch], spots: &[Spot], index: usize) -> Option<(u32, &'a Stretch)>
+    requires { Rise spots.now }
+    ensures { option_map (λ x. (x.0, x.1.now)) result ≡ found stretches.now spots.now index }
+{
+    let spot = spot_at(spots, index)?;
+    let stretch = stretches.get(spot.stretch as usize)?;
+    Some((spot.line, stretch))
+}
+
+// The last tokens of a line that begin at the one with this number, or before it.
+fn spot_at(spots: &[Spot], index: usize) -> Option<&Spot>
+    requires { Rise spots.now }
+    ensures { option_copied result ≡ spot_at spots.now index }
+{
+    let count = spots.partition_point(|spot| spot.first as usize <= index);
+    if count == 0 {
+        return None;
+    }
+    spots.get(count - 1)
 }
