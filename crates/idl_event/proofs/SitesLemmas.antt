@@ -1,27 +1,33 @@
 -- The sites of tokens that are kept by lines and stretches: the one with a number, and one more.
-use Rattle.std.proofs.Common.{◌≡◌, ◌∙◌, ◌⊎◌, inl, inr, ℕ, zero, suc, ◌+◌, ◌-◌, ◌<◌, ◌≤◌, ◌^◌, Bool, true, false, List, [], ◌∷◌, ◌++◌, Option, None, Some, leb, get_or, slice_get, length, refl, sym, ap, subst, arith, if◌then◌else◌}
+use Rattle.std.proofs.Common.{◌≡◌, ◌∙◌, ◌⊎◌, inl, inr, ℕ, zero, suc, ◌+◌, ◌-◌, ◌<◌, ◌≤◌, ◌^◌, Bool, true, false, Bor, List, [], ◌∷◌, ◌++◌, Option, None, Some, leb, get_or, slice_get, length, refl, sym, ap, subst, arith, if◌then◌else◌}
 use Rattle.std.proofs.lemmas.Bool.{leb-false, leb-true}
-use Rattle.std.proofs.lemmas.Option.{same_Some, slice_get_past, slice_get_within}
+use Rattle.std.proofs.lemmas.Option.{slice_get_past, slice_get_read, slice_get_within}
 use Rattle.std.specs.List.{AllByRecursion, AllWithin}
 use Rattle.std.specs.List.Sorted.{IsNonDecreasingBy}
-use Rattle.std.specs.Option.{option_map}
+use Rattle.std.specs.Option.{option_copied, option_map}
+use Rattle.std.specs.Slice.{IsItemAt}
 use Rattle.idl_event.specs.Apart.{site_at}
 use Rattle.idl_event.specs.Sites.{AreBefore, AreKept, Rise, found, in_stretch, or_else, site_in, sites_of, spot_at}
 use Rattle.idl_event.specs.declared.site.Site.{Site}
 use Rattle.idl_event.specs.declared.sites.Spot.{Spot}
 use Rattle.idl_event.specs.declared.sites.Stretch.{Stretch}
 
+-- what `get` lends
+pub copied-get : {X : Type 0} (xs : List X) (i : ℕ) (r : Option (Bor X)) → IsItemAt xs i r → option_copied r ≡ slice_get xs i
+copied-get xs i None at = sym (slice_get_past xs i at.3)
+copied-get xs i (Some x) at = sym (slice_get_read xs (length xs) i x.now refl at.3.0 at.1)
+
 there : {X : Type 0} (xs : List X) (i : ℕ) → i < length xs → (x : X) × (slice_get xs i ≡ Some x)
 there [] i lt = absurd (omega (arith, lt))
 there (x ∷ xs) zero lt = (x, refl)
 there (x ∷ xs) (suc i) lt = there xs i (omega (arith, lt))
 
-before : {X : Type 0} (xs : List X) (x : X) (i : ℕ) → i < length xs → slice_get (xs ++ x ∷ []) i ≡ slice_get xs i
-before [] x i lt = absurd (omega (arith, lt))
-before (y ∷ xs) x zero lt = refl
-before (y ∷ xs) x (suc i) lt = before xs x i (omega (arith, lt))
+before : {X : Type 0} (xs more : List X) (i : ℕ) → i < length xs → slice_get (xs ++ more) i ≡ slice_get xs i
+before [] more i lt = absurd (omega (arith, lt))
+before (x ∷ xs) more zero lt = refl
+before (x ∷ xs) more (suc i) lt = before xs more i (omega (arith, lt))
 
-slice_get-last : {X : Type 0} (xs : List X) (x : X) → slice_get (xs ++ x ∷ []) (length xs) ≡ Some x
+pub slice_get-last : {X : Type 0} (xs : List X) (x : X) → slice_get (xs ++ x ∷ []) (length xs) ≡ Some x
 slice_get-last [] x = refl
 slice_get-last (y ∷ xs) x = slice_get-last xs x
 
@@ -62,13 +68,16 @@ spot_at-new (x ∷ spots) s i all le =
     at-first x (spots ++ s ∷ []) i (omega (arith, all.0)) ∙ ap (λ o. Some (or_else o x)) (spot_at-new spots s i all.1 le)
 
 -- the last one, where all begin before a token
-spot_at-last : (spots : List Spot) (s : Spot) (i : ℕ) → AreBefore i spots → slice_get spots (length spots - 1) ≡ Some s → spot_at spots i ≡ Some s
-spot_at-last [] s i all is = absurd (cc)
-spot_at-last (x ∷ []) s i all is = at-first x [] i (omega (arith, all.0)) ∙ is
-spot_at-last (x ∷ y ∷ spots) s i all is =
-    let last : suc (length (y ∷ spots) - 1) ≡ length (x ∷ y ∷ spots) - 1 = omega arith in
+spot_at-last : (spots : List Spot) (i : ℕ) → AreBefore i spots → spot_at spots i ≡ slice_get spots (length spots - 1)
+spot_at-last [] i all = refl
+spot_at-last (x ∷ []) i all = at-first x [] i (omega (arith, all.0))
+spot_at-last (x ∷ y ∷ spots) i all =
+    let end : suc (length (y ∷ spots) - 1) ≡ length (x ∷ y ∷ spots) - 1 = omega arith in
+    let last = there (y ∷ spots) (length (y ∷ spots) - 1) (omega arith) in
     at-first x (y ∷ spots) i (omega (arith, all.0))
-    ∙ ap (λ o. Some (or_else o x)) (spot_at-last (y ∷ spots) s i all.1 (ap (slice_get (x ∷ y ∷ spots)) last ∙ is))
+    ∙ ap (λ o. Some (or_else o x)) (spot_at-last (y ∷ spots) i all.1 ∙ last.1)
+    ∙ sym last.1
+    ∙ ap (slice_get (x ∷ y ∷ spots)) end
 
 -- the one at the point of a list before which each begins at a token or before it
 abbrev point : ℕ → List Spot → Option Spot
@@ -174,7 +183,7 @@ upto-at st spots (suc n) stands i lt x is = by (earlier i n (omega (arith, lt)))
     by (inl l) rest =
         let y = stands n (omega arith) in
         ap (λ o. slice_get (front ++ site_in n o) i) y.1
-        ∙ before front (here y.0) i (omega (arith, l, long))
+        ∙ before front (here y.0 ∷ []) i (omega (arith, l, long))
         ∙ rest l
     by (inr e) rest =
         let same : i ≡ length front = e ∙ sym long in
@@ -205,9 +214,9 @@ module _ (st st' : List Stretch) (spots spots' : List Spot) (n : ℕ) (kept : Ar
           few = omega (arith, few);
         },
         sym (ap (sites_of st' spots') suc_is)
-        ∙ ap (λ l. l ++ site_in n (found st' spots' n)) (sites-same st st' spots spots' n same)
-        ∙ ap (λ o. sites_of st spots n ++ site_in n o) is
-        ∙ ap (λ k. sites_of st spots n ++ site_at (k + s.others) (record { file = s.file; line = line }) ∷ []) (sym long),
+            ∙ ap (λ l. l ++ site_in n (found st' spots' n)) (sites-same st st' spots spots' n same)
+            ∙ ap (λ o. sites_of st spots n ++ site_in n o) is
+            ∙ ap (λ k. sites_of st spots n ++ site_at (k + s.others) (record { file = s.file; line = line }) ∷ []) (sym long),
       )
     where
       earlier : (i n : ℕ) → i ≤ n → (i < n) ⊎ (i ≡ n)
@@ -221,58 +230,56 @@ module _ (st st' : List Stretch) (spots spots' : List Spot) (n : ℕ) (kept : Ar
       stands i (inr e) = ((line, s), ap (found st' spots') e ∙ is)
 
 -- on the same line
-pub push-on : (st : List Stretch) (spots : List Spot) (n : ℕ) → AreKept st spots n → (spot : Spot) (s : Stretch) → slice_get spots (length spots - 1) ≡ Some spot
-    → slice_get st spot.stretch ≡ Some s → n < 2 ^ 32
-    → AreKept st spots (n + 1) × (sites_of st spots (n + 1) ≡ sites_of st spots n ++ site_at (length (sites_of st spots n) + s.others) (record { file = s.file; line = spot.line }) ∷ [])
-push-on st spots n kept spot s last is few =
-    next st st spots spots n kept (λ i lt. refl) spot.line s
-    (ap (in_stretch st) (spot_at-last spots spot n kept.before last) ∙ ap (option_map (λ (s : Stretch). (spot.line, s))) is)
+pub push-on : (st : List Stretch) (spots : List Spot) (n : ℕ) → AreKept st spots n → (line : ℕ) (s : Stretch) → in_stretch st (slice_get spots (length spots - 1)) ≡ Some (line, s) → n < 2 ^ 32
+    → AreKept st spots (n + 1) × (sites_of st spots (n + 1) ≡ sites_of st spots n ++ site_at (length (sites_of st spots n) + s.others) (record { file = s.file; line = line }) ∷ [])
+push-on st spots n kept line s is few =
+    next st st spots spots n kept (λ i lt. refl) line s (ap (in_stretch st) (spot_at-last spots n kept.before) ∙ is)
     (before-next n spots kept.before) kept.rise few
 
--- on another, in the same stretch
-pub push-line : (st : List Stretch) (spots : List Spot) (n : ℕ) → AreKept st spots n → (spot : Spot) (s : Stretch) → spot.first ≡ n
+-- on another, in a stretch that is there
+line-more : (st : List Stretch) (spots : List Spot) (n : ℕ) → AreKept st spots n → (spot : Spot) (s : Stretch) → spot.first ≡ n
     → slice_get st spot.stretch ≡ Some s → n < 2 ^ 32
     → AreKept st (spots ++ spot ∷ []) (n + 1)
     × (sites_of st (spots ++ spot ∷ []) (n + 1) ≡ sites_of st spots n ++ site_at (length (sites_of st spots n) + s.others) (record { file = s.file; line = spot.line }) ∷ [])
-push-line st spots n kept spot s first is few =
+line-more st spots n kept spot s first is few =
     next st st spots (spots ++ spot ∷ []) n kept (λ i lt. ap (in_stretch st) (spot_at-before spots spot i (omega (arith, lt, first)))) spot.line s
     (ap (in_stretch st) (spot_at-new spots spot n kept.before (omega (arith, first))) ∙ ap (option_map (λ (s : Stretch). (spot.line, s))) is)
     (before-push n spots spot kept.before first) (rise-push n spots spot kept.before kept.rise first) few
 
--- with a stretch more, each token has its own
-found-more : (st : List Stretch) (s : Stretch) (spots : List Spot) (i : ℕ) (x : ℕ × Stretch) → found st spots i ≡ Some x → found (st ++ s ∷ []) spots i ≡ found st spots i
-found-more st s spots i x is = by (spot_at spots i) is
+-- with more stretches, each token has its own
+found-more : (st more : List Stretch) (spots : List Spot) (i : ℕ) (x : ℕ × Stretch) → found st spots i ≡ Some x → found (st ++ more) spots i ≡ found st spots i
+found-more st more spots i x is = by (spot_at spots i) is
   where
-    by : (o : Option Spot) → in_stretch st o ≡ Some x → in_stretch (st ++ s ∷ []) o ≡ in_stretch st o
+    by : (o : Option Spot) → in_stretch st o ≡ Some x → in_stretch (st ++ more) o ≡ in_stretch st o
     by None is = refl
     by (Some spot) is = within (slice_get st spot.stretch) refl is
       where
         within : (o : Option Stretch) → slice_get st spot.stretch ≡ o → option_map (λ (s : Stretch). (spot.line, s)) o ≡ Some x
-            → in_stretch (st ++ s ∷ []) (Some spot) ≡ in_stretch st (Some spot)
+            → in_stretch (st ++ more) (Some spot) ≡ in_stretch st (Some spot)
         within None at is = absurd (cc)
-        within (Some y) at is = ap (option_map (λ (s : Stretch). (spot.line, s))) (before st s spot.stretch (slice_get_within st spot.stretch y at))
+        within (Some y) at is = ap (option_map (λ (s : Stretch). (spot.line, s))) (before st more spot.stretch (slice_get_within st spot.stretch y at))
 
-pub stretch-more : (st : List Stretch) (s : Stretch) (spots : List Spot) (n : ℕ) → AreKept st spots n
-    → AreKept (st ++ s ∷ []) spots n × (sites_of (st ++ s ∷ []) spots n ≡ sites_of st spots n)
-stretch-more st s spots n kept = (
+pub stretch-more : (st more : List Stretch) (spots : List Spot) (n : ℕ) → AreKept st spots n
+    → AreKept (st ++ more) spots n × (sites_of (st ++ more) spots n ≡ sites_of st spots n)
+stretch-more st more spots n kept = (
   record {
-    stands = λ i lt. let x = kept.stands i lt in (x.0, found-more st s spots i x.0 x.1 ∙ x.1);
+    stands = λ i lt. let x = kept.stands i lt in (x.0, found-more st more spots i x.0 x.1 ∙ x.1);
     before = kept.before;
     rise = kept.rise;
     few = kept.few;
   },
-  sites-same st (st ++ s ∷ []) spots spots n (λ i lt. let x = kept.stands i lt in found-more st s spots i x.0 x.1),
+  sites-same st (st ++ more) spots spots n (λ i lt. let x = kept.stands i lt in found-more st more spots i x.0 x.1),
 )
 
--- and in the new one
-pub push-more : (st : List Stretch) (s : Stretch) (spots : List Spot) (n : ℕ) → AreKept st spots n → (line : ℕ) → n < 2 ^ 32
-    → AreKept (st ++ s ∷ []) (spots ++ record { first = n; line = line; stretch = length st } ∷ []) (n + 1)
-    × (sites_of (st ++ s ∷ []) (spots ++ record { first = n; line = line; stretch = length st } ∷ []) (n + 1)
-    ≡ sites_of st spots n ++ site_at (length (sites_of st spots n) + s.others) (record { file = s.file; line = line }) ∷ [])
-push-more st s spots n kept line few =
-    let more = stretch-more st s spots n kept in
-    let pushed = push-line (st ++ s ∷ []) spots n more.0 (record { first = n; line = line; stretch = length st }) s refl (slice_get-last st s) few in
-    (pushed.0, pushed.1 ∙ ap (λ l. l ++ site_at (length l + s.others) (record { file = s.file; line = line }) ∷ []) more.1)
+-- and another line may be in one of these
+pub push-line : (st more : List Stretch) (spots : List Spot) (n : ℕ) → AreKept st spots n → (spot : Spot) (s : Stretch) → spot.first ≡ n
+    → slice_get (st ++ more) spot.stretch ≡ Some s → n < 2 ^ 32
+    → AreKept (st ++ more) (spots ++ spot ∷ []) (n + 1)
+    × (sites_of (st ++ more) (spots ++ spot ∷ []) (n + 1) ≡ sites_of st spots n ++ site_at (length (sites_of st spots n) + s.others) (record { file = s.file; line = spot.line }) ∷ [])
+push-line st more spots n kept spot s first is few =
+    let all = stretch-more st more spots n kept in
+    let pushed = line-more (st ++ more) spots n all.0 spot s first is few in
+    (pushed.0, pushed.1 ∙ ap (λ l. l ++ site_at (length l + s.others) (record { file = s.file; line = spot.line }) ∷ []) all.1)
 
 -- no tokens
 pub kept-none : AreKept [] [] 0

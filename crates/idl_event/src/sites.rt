@@ -1,9 +1,10 @@
 //! Where the tokens of a text stand.
 
-ghost use Rattle.std.specs.Prelude.{◌≡◌, ◌++◌, ◌∷◌, ℕ, ◌+◌, ◌-◌, ◌<◌, ◌^◌, [], IfNone, IfOk, IfSome, IsTrue, None, OnErr, OnOk, Some, length, slice_get};
-ghost use Rattle.idl_event.specs.Apart.{site_at};
+ghost use Rattle.std.specs.Prelude.{◌≡◌, ◌++◌, ◌∷◌, ◌+◌, ◌-◌, ◌<◌, ◌^◌, List, [], IfNone, IfOk, IfSome, IsTrue, None, OnErr, OnOk, Some, length, slice_get};
 ghost use Rattle.std.specs.Option.{option_copied, option_map};
-ghost use Rattle.idl_event.specs.Sites.{Rise, StandsAt, found, spot_at};
+ghost use Rattle.idl_event.specs.Apart.{site_at};
+ghost use Rattle.idl_event.specs.Sites.{Rise, StandsAt, found, in_stretch, spot_at};
+ghost use Rattle.idl_event.specs.declared.sites.Stretch.{Stretch};
 
 use crate::file_name::FileName;
 use crate::place::Place;
@@ -79,30 +80,20 @@ impl Sites {
             (self.new ≡ self.old ++ site_at (length self.old + others) place ∷ []) }
         ensures kept { OnErr result (self.new ≡ self.old) }
     {
-        let Place { file, line } = place;
         let Ok(first) = u32::try_from(self.count) else {
             return Err(AllocError);
         };
-        let Ok(others) = u32::try_from(others) else {
-            return Err(AllocError);
-        };
-        let Ok(next) = u32::try_from(self.stretches.len()) else {
-            return Err(AllocError);
-        };
-        if !goes_on(&self.stretches, &file, others) {
-            self.stretches.push(Stretch { file, others })?;
-            self.spots.push(Spot {
-                first,
-                line,
-                stretch: next,
-            })?;
-        } else if !is_on(&self.spots, line, next - 1) {
-            self.spots.push(Spot {
-                first,
-                line,
-                stretch: next - 1,
-            })?;
+        if goes_on(&self.spots, &self.stretches, &place, others) {
+            self.count += 1;
+            return Ok(());
         }
+        let Place { file, line } = place;
+        let stretch = stretch_of(&mut self.stretches, file, others)?;
+        self.spots.push(Spot {
+            first,
+            line,
+            stretch,
+        })?;
         self.count += 1;
         Ok(())
     }
@@ -146,24 +137,51 @@ impl Sites {
     }
 }
 
+// Whether the last token stands at this place, behind so many other events.
+fn goes_on(spots: &[Spot], stretches: &[Stretch], place: &Place, others: usize) -> bool
+    ensures { IsTrue result
+        → in_stretch stretches.now (slice_get spots.now (length spots.now - 1))
+        ≡ Some (place.now.line, record { file = place.now.file; others = others }) }
+{
+    let Some(spot) = spots.last() else {
+        return false;
+    };
+    let Some(stretch) = stretches.get(spot.stretch as usize) else {
+        return false;
+    };
+    spot.line == place.line && stretch.others as usize == others && stretch.file == place.file
+}
+
+// The number of a stretch of this file behind so many other events: of the last one, or of one more.
+fn stretch_of(
+    stretches: &mut Vec<Stretch>,
+    file: FileName,
+    others: usize,
+) -> Result<u32, AllocError>
+    ensures more { (more : List Stretch) × (stretches.new.items ≡ stretches.old.items ++ more) }
+    ensures there { IfOk result (λ number.
+        slice_get stretches.new.items number ≡ Some (record { file = file; others = others })) }
+{
+    let Ok(next) = u32::try_from(stretches.len()) else {
+        return Err(AllocError);
+    };
+    if is_last(stretches, &file, others) {
+        return Ok(next - 1);
+    }
+    let Ok(others) = u32::try_from(others) else {
+        return Err(AllocError);
+    };
+    stretches.push(Stretch { file, others })?;
+    Ok(next)
+}
+
 // Whether the last stretch is one of this file, behind so many other events.
-fn goes_on(stretches: &[Stretch], file: &FileName, others: u32) -> bool
+fn is_last(stretches: &[Stretch], file: &FileName, others: usize) -> bool
     ensures { IsTrue result → slice_get stretches.now (length stretches.now - 1)
         ≡ Some (record { file = file.now; others = others }) }
 {
     match stretches.last() {
-        Some(last) => last.others == others && last.file == *file,
-        None => false,
-    }
-}
-
-// Whether the last tokens stand at this line, in this stretch.
-fn is_on(spots: &[Spot], line: u32, stretch: u32) -> bool
-    ensures { IsTrue result → (first : ℕ) × (slice_get spots.now (length spots.now - 1)
-        ≡ Some (record { first = first; line = line; stretch = stretch })) }
-{
-    match spots.last() {
-        Some(last) => last.line == line && last.stretch == stretch,
+        Some(last) => last.others as usize == others && last.file == *file,
         None => false,
     }
 }

@@ -1,7 +1,6 @@
-use Rattle.std.proofs.Common.{◌≡◌, ◌∙◌, ◌-◌, ◌<◌, ◌≤◌, length, slice_get, sym, arith, rules, leb}
+use Rattle.std.proofs.Common.{◌≡◌, ◌∙◌, ◌-◌, ◌<◌, ◌≤◌, length, sym, arith, rules, leb}
 use Rattle.std.proofs.lemmas.List.Sorted.{IsPartitionPoint-from_clause, IsPartitionedBy-leb}
-use Rattle.std.specs.Option.{option_copied}
-use Rattle.idl_event.proofs.SitesLemmas.{rise-by, spot_at-is}
+use Rattle.idl_event.proofs.SitesLemmas.{copied-get, rise-by, spot_at-is}
 use Rattle.idl_event.specs.declared.sites.Spot.{Spot}
 use Rattle.idl_event.proofs.sites.spot_at.Goals as goal
 
@@ -23,5 +22,5 @@ returns c =
     (IsPartitionedBy-leb (λ (x : Spot). x.first) spots c.args.index (rise-by spots c.requires)) (λ a r q k. search rules) in
     let bound : count ≤ length spots = omega (arith, c.partition_point-count.ensures.bound) in
     let some : 0 < count = search rules in
-    let got : option_copied c.get.result ≡ slice_get spots (count - 1) = search rules in
+    let got = copied-get spots (count - 1) c.get.result c.get.ensures.lookup in
     got ∙ sym ((spot_at-is spots c.args.index count point.0 point.1 bound).1 some)
