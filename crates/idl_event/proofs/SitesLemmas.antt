@@ -1,5 +1,5 @@
 -- The sites of tokens that are kept by lines and stretches: the one with a number, and one more.
-use Rattle.std.proofs.Common.{◌≡◌, ◌∙◌, ◌⊎◌, inl, inr, ℕ, zero, suc, ◌+◌, ◌-◌, ◌<◌, ◌≤◌, ◌^◌, Bool, true, false, Bor, List, [], ◌∷◌, ◌++◌, Option, None, Some, leb, get_or, slice_get, length, refl, sym, ap, subst, arith, if◌then◌else◌}
+use Rattle.std.proofs.Common.{◌≡◌, ◌∙◌, ◌⊎◌, inl, inr, ℕ, zero, suc, ◌+◌, ◌-◌, ◌<◌, ◌≤◌, ◌^◌, Bool, true, false, Bor, List, [], ◌∷◌, ◌++◌, Option, None, Some, leb, get_or, slice_get, length, refl, sym, ap, arith, if◌then◌else◌}
 use Rattle.std.proofs.lemmas.Bool.{leb-false, leb-true}
 use Rattle.std.proofs.lemmas.Option.{slice_get_past, slice_get_read, slice_get_within}
 use Rattle.std.specs.List.{AllByRecursion, AllWithin}
@@ -27,7 +27,7 @@ before [] more i lt = absurd (omega (arith, lt))
 before (x ∷ xs) more zero lt = refl
 before (x ∷ xs) more (suc i) lt = before xs more i (omega (arith, lt))
 
-pub slice_get-last : {X : Type 0} (xs : List X) (x : X) → slice_get (xs ++ x ∷ []) (length xs) ≡ Some x
+slice_get-last : {X : Type 0} (xs : List X) (x : X) → slice_get (xs ++ x ∷ []) (length xs) ≡ Some x
 slice_get-last [] x = refl
 slice_get-last (y ∷ xs) x = slice_get-last xs x
 
@@ -246,7 +246,7 @@ line-more st spots n kept spot s first is few =
     (ap (in_stretch st) (spot_at-new spots spot n kept.before (omega (arith, first))) ∙ ap (option_map (λ (s : Stretch). (spot.line, s))) is)
     (before-push n spots spot kept.before first) (rise-push n spots spot kept.before kept.rise first) few
 
--- with more stretches, each token has its own
+-- with more stretches, each token has its own as before
 found-more : (st more : List Stretch) (spots : List Spot) (i : ℕ) (x : ℕ × Stretch) → found st spots i ≡ Some x → found (st ++ more) spots i ≡ found st spots i
 found-more st more spots i x is = by (spot_at spots i) is
   where
@@ -280,7 +280,3 @@ push-line st more spots n kept spot s first is few =
     let all = stretch-more st more spots n kept in
     let pushed = line-more (st ++ more) spots n all.0 spot s first is few in
     (pushed.0, pushed.1 ∙ ap (λ l. l ++ site_at (length l + s.others) (record { file = s.file; line = spot.line }) ∷ []) all.1)
-
--- no tokens
-pub kept-none : AreKept [] [] 0
-kept-none = record { stands = λ i lt. absurd (omega (arith, lt)); before = tt; rise = tt; few = omega arith }

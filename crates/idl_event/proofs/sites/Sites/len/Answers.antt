@@ -1,4 +1,4 @@
-use Rattle.std.proofs.Common.{◌≡◌, ◌∙◌, length, sym, ap, arith}
+use Rattle.std.proofs.Common.{◌∙◌, length, sym, ap, arith}
 use Rattle.idl_event.proofs.SitesLemmas.{length-sites}
 use Rattle.idl_event.proofs.sites.Sites.len.Goals as goal
 

@@ -1,4 +1,4 @@
-use Rattle.std.proofs.Common.{◌≡◌, ◌∙◌, ℕ, ◌+◌, ◌<◌, ◌≤◌, None, Some, length, slice_get, sym, ap, arith, rules}
+use Rattle.std.proofs.Common.{◌≡◌, ◌∙◌, ℕ, ◌+◌, ◌<◌, ◌≤◌, None, Some, slice_get, sym, ap, rules}
 use Rattle.idl_event.proofs.SitesLemmas.{site-at, site-past}
 use Rattle.idl_event.specs.Apart.{site_at}
 use Rattle.idl_event.specs.Sites.{found}
