@@ -4,10 +4,10 @@ use Rattle.std.proofs.lemmas.Bool.{leb-false, leb-true}
 use Rattle.std.proofs.lemmas.Option.{slice_get_past, slice_get_read, slice_get_within}
 use Rattle.std.specs.List.{AllByRecursion, AllWithin}
 use Rattle.std.specs.List.Sorted.{IsNonDecreasingBy}
-use Rattle.std.specs.Option.{option_copied, option_map}
+use Rattle.std.specs.Option.{option_copied, option_map, unwrap_or}
 use Rattle.std.specs.Slice.{IsItemAt}
 use Rattle.idl_event.specs.Apart.{site_at}
-use Rattle.idl_event.specs.Sites.{AreBefore, AreKept, Rise, found, in_stretch, or_else, site_in, sites_of, spot_at}
+use Rattle.idl_event.specs.Sites.{AreBefore, AreKept, Rise, found, in_stretch, site_in, sites_of, spot_at}
 use Rattle.idl_event.specs.declared.site.Site.{Site}
 use Rattle.idl_event.specs.declared.sites.Spot.{Spot}
 use Rattle.idl_event.specs.declared.sites.Stretch.{Stretch}
@@ -50,22 +50,22 @@ leb-not a b lt = by (leb a b) refl
     by false is = refl
 
 -- a spot that begins at a token or before it, and one that begins behind
-at-first : (s : Spot) (spots : List Spot) (i : ℕ) → s.first ≤ i → spot_at (s ∷ spots) i ≡ Some (or_else (spot_at spots i) s)
-at-first s spots i le = ap (λ b. if b then Some (or_else (spot_at spots i) s) else None) (leb-is s.first i le)
+at-first : (s : Spot) (spots : List Spot) (i : ℕ) → s.first ≤ i → spot_at (s ∷ spots) i ≡ Some (unwrap_or (spot_at spots i) s)
+at-first s spots i le = ap (λ b. if b then Some (unwrap_or (spot_at spots i) s) else None) (leb-is s.first i le)
 
 at-behind : (s : Spot) (spots : List Spot) (i : ℕ) → i < s.first → spot_at (s ∷ spots) i ≡ None
-at-behind s spots i lt = ap (λ b. if b then Some (or_else (spot_at spots i) s) else None) (leb-not s.first i lt)
+at-behind s spots i lt = ap (λ b. if b then Some (unwrap_or (spot_at spots i) s) else None) (leb-not s.first i lt)
 
 -- one more, which begins behind a token
 spot_at-before : (spots : List Spot) (s : Spot) (i : ℕ) → i < s.first → spot_at (spots ++ s ∷ []) i ≡ spot_at spots i
 spot_at-before [] s i lt = at-behind s [] i lt
-spot_at-before (x ∷ spots) s i lt = ap (λ o. if leb x.first i then Some (or_else o x) else None) (spot_at-before spots s i lt)
+spot_at-before (x ∷ spots) s i lt = ap (λ o. if leb x.first i then Some (unwrap_or o x) else None) (spot_at-before spots s i lt)
 
 -- and at it
 spot_at-new : (spots : List Spot) (s : Spot) (i : ℕ) → AreBefore i spots → s.first ≤ i → spot_at (spots ++ s ∷ []) i ≡ Some s
 spot_at-new [] s i all le = at-first s [] i le
 spot_at-new (x ∷ spots) s i all le =
-    at-first x (spots ++ s ∷ []) i (omega (arith, all.0)) ∙ ap (λ o. Some (or_else o x)) (spot_at-new spots s i all.1 le)
+    at-first x (spots ++ s ∷ []) i (omega (arith, all.0)) ∙ ap (λ o. Some (unwrap_or o x)) (spot_at-new spots s i all.1 le)
 
 -- the last one, where all begin before a token
 spot_at-last : (spots : List Spot) (i : ℕ) → AreBefore i spots → spot_at spots i ≡ slice_get spots (length spots - 1)
@@ -75,7 +75,7 @@ spot_at-last (x ∷ y ∷ spots) i all =
     let end : suc (length (y ∷ spots) - 1) ≡ length (x ∷ y ∷ spots) - 1 = omega arith in
     let last = there (y ∷ spots) (length (y ∷ spots) - 1) (omega arith) in
     at-first x (y ∷ spots) i (omega (arith, all.0))
-    ∙ ap (λ o. Some (or_else o x)) (spot_at-last (y ∷ spots) i all.1 ∙ last.1)
+    ∙ ap (λ o. Some (unwrap_or o x)) (spot_at-last (y ∷ spots) i all.1 ∙ last.1)
     ∙ sym last.1
     ∙ ap (slice_get (x ∷ y ∷ spots)) end
 
@@ -91,11 +91,11 @@ spot_at-point [] i (suc k) are not le = absurd (omega (arith, le))
 spot_at-point (s ∷ spots) i zero are not le = at-behind s spots i (leb-false s.first i (not 0 s (omega arith) (omega arith)))
 spot_at-point (s ∷ spots) i (suc zero) are not le =
     at-first s spots i (leb-true s.first i (are 0 s (omega arith) (omega arith)))
-    ∙ ap (λ o. Some (or_else o s)) (spot_at-point spots i 0 (λ k d low high. absurd (omega (arith, high))) (λ k d low high. not (suc k) d (omega arith) (omega (arith, high))) (omega arith))
+    ∙ ap (λ o. Some (unwrap_or o s)) (spot_at-point spots i 0 (λ k d low high. absurd (omega (arith, high))) (λ k d low high. not (suc k) d (omega arith) (omega (arith, high))) (omega arith))
 spot_at-point (s ∷ spots) i (suc (suc k)) are not le =
     let last = there spots k (omega (arith, le)) in
     at-first s spots i (leb-true s.first i (are 0 s (omega arith) (omega arith)))
-    ∙ ap (λ o. Some (or_else o s)) (spot_at-point spots i (suc k) (λ j d low high. are (suc j) d (omega arith) (omega (arith, high))) (λ j d low high. not (suc j) d (omega (arith, low)) (omega (arith, high))) (omega (arith, le)) ∙ last.1)
+    ∙ ap (λ o. Some (unwrap_or o s)) (spot_at-point spots i (suc k) (λ j d low high. are (suc j) d (omega arith) (omega (arith, high))) (λ j d low high. not (suc j) d (omega (arith, low)) (omega (arith, high))) (omega (arith, le)) ∙ last.1)
     ∙ sym last.1
 
 pub spot_at-is : (spots : List Spot) (i count : ℕ) → AllWithin (λ (s : Spot). leb s.first i ≡ true) spots 0 count

@@ -1,22 +1,17 @@
 -- How the sites of tokens are kept: by stretches, and by lines in these.
 use Rattle.std.specs.Prelude.{◌≡◌, ℕ, zero, suc, ◌+◌, ◌<◌, ◌≤◌, ◌^◌, List, [], ◌∷◌, ◌++◌, nat_le, slice_get, Option, None, Some, if◌then◌else◌, ⊤}
 use Rattle.std.specs.List.{AllByRecursion}
-use Rattle.std.specs.Option.{option_map}
+use Rattle.std.specs.Option.{option_map, unwrap_or}
 use Rattle.idl_event.specs.Apart.{site_at}
 use Rattle.idl_event.specs.declared.place.Place.{Place}
 use Rattle.idl_event.specs.declared.site.Site.{Site}
 use Rattle.idl_event.specs.declared.sites.Spot.{Spot}
 use Rattle.idl_event.specs.declared.sites.Stretch.{Stretch}
 
--- one of these, or else that one
-abbrev pub or_else : Option Spot → Spot → Spot
-or_else None s = s
-or_else (Some t) s = t
-
 -- the last of these that begins at the token with this number, or before it
 abbrev pub spot_at : List Spot → ℕ → Option Spot
 spot_at [] i = None
-spot_at (s ∷ spots) i = if nat_le s.first i then Some (or_else (spot_at spots i) s) else None
+spot_at (s ∷ spots) i = if nat_le s.first i then Some (unwrap_or (spot_at spots i) s) else None
 
 -- the line of a token in these, and its stretch
 abbrev pub in_stretch : List Stretch → Option Spot → Option (ℕ × Stretch)
