@@ -1,26 +1,53 @@
--- How the sites of tokens are kept: by stretches, and a line for each token.
-use Rattle.std.specs.Prelude.{◌≡◌, ℕ, ◌+◌, ◌<◌, List, [], ◌∷◌, ◌++◌, length, slice_get, Option, None, Some}
+-- How the sites of tokens are kept: by stretches, and by lines in these.
+use Rattle.std.specs.Prelude.{◌≡◌, ℕ, zero, suc, ◌+◌, ◌<◌, ◌≤◌, ◌^◌, List, [], ◌∷◌, ◌++◌, nat_le, slice_get, Option, None, Some, if◌then◌else◌, ⊤}
 use Rattle.std.specs.List.{AllByRecursion}
+use Rattle.std.specs.Option.{option_map, unwrap_or}
 use Rattle.idl_event.specs.Apart.{site_at}
 use Rattle.idl_event.specs.declared.place.Place.{Place}
 use Rattle.idl_event.specs.declared.site.Site.{Site}
 use Rattle.idl_event.specs.declared.sites.Spot.{Spot}
 use Rattle.idl_event.specs.declared.sites.Stretch.{Stretch}
 
--- the site of the token with this number in a stretch: its event comes behind the others
-abbrev pub site_in : ℕ → ℕ → Option Stretch → List Site
-site_in n line None = []
-site_in n line (Some s) = record { file = s.file; line = line; event = n + s.others } ∷ []
+-- the last of these that begins at the token with this number, or before it
+abbrev pub spot_at : List Spot → ℕ → Option Spot
+spot_at [] i = None
+spot_at (s ∷ spots) i = if nat_le s.first i then Some (unwrap_or (spot_at spots i) s) else None
 
--- the sites of tokens of which the first one has this number
-abbrev pub sites_from : ℕ → List Stretch → List Spot → List Site
-sites_from n stretches [] = []
-sites_from n stretches (spot ∷ spots) =
-    site_in n spot.line (slice_get stretches spot.stretch) ++ sites_from (n + 1) stretches spots
+-- the line of a token in these, and its stretch
+abbrev pub in_stretch : List Stretch → Option Spot → Option (ℕ × Stretch)
+in_stretch stretches None = None
+in_stretch stretches (Some spot) = option_map (λ s. (spot.line, s)) (slice_get stretches spot.stretch)
 
--- each token has a stretch
-abbrev pub HaveStretches : List Stretch → List Spot → Type 0
-HaveStretches stretches spots = AllByRecursion (λ spot. spot.stretch < length stretches) spots
+-- those of the token with this number
+abbrev pub found : List Stretch → List Spot → ℕ → Option (ℕ × Stretch)
+found stretches spots i = in_stretch stretches (spot_at spots i)
+
+-- where it stands: its event comes behind the others before the stretch
+abbrev pub site_in : ℕ → Option (ℕ × Stretch) → List Site
+site_in i None = []
+site_in i (Some (line, s)) = record { file = s.file; line = line; event = i + s.others } ∷ []
+
+-- the sites of so many tokens
+abbrev pub sites_of : List Stretch → List Spot → ℕ → List Site
+sites_of stretches spots zero = []
+sites_of stretches spots (suc n) =
+    sites_of stretches spots n ++ site_in n (found stretches spots n)
+
+-- each begins at a token before this one
+abbrev pub AreBefore : ℕ → List Spot → Type 0
+AreBefore n spots = AllByRecursion (λ spot. spot.first < n) spots
+
+-- none begins before an earlier one
+abbrev pub Rise : List Spot → Type 0
+Rise [] = ⊤
+Rise (s ∷ spots) = AllByRecursion (λ spot. s.first ≤ spot.first) spots × Rise spots
+
+-- each of so many tokens has its line and its stretch
+pub record AreKept (stretches : List Stretch) (spots : List Spot) (count : ℕ) : Type 0 where
+  pub stands : (i : ℕ) → i < count → (x : ℕ × Stretch) × (found stretches spots i ≡ Some x)
+  pub before : AreBefore count spots
+  pub rise : Rise spots
+  pub few : count ≤ 2 ^ 32
 
 -- the token with this number stands at this place
 abbrev pub StandsAt : List Site → ℕ → Place → Type 0

@@ -1,8 +1,10 @@
 //! Where the tokens of a text stand.
 
-ghost use Rattle.std.specs.Prelude.{◌≡◌, ◌++◌, ◌∷◌, ◌+◌, ◌-◌, ◌<◌, ◌^◌, [], IfNone, IfOk, IfSome, IsTrue, None, OnErr, OnOk, Some, length, slice_get};
+ghost use Rattle.std.specs.Prelude.{◌≡◌, ◌++◌, ◌∷◌, ◌+◌, ◌-◌, ◌<◌, ◌^◌, List, [], IfNone, IfOk, IfSome, IsTrue, None, OnErr, OnOk, Some, length, slice_get};
+ghost use Rattle.std.specs.Option.{option_copied, option_map};
 ghost use Rattle.idl_event.specs.Apart.{site_at};
-ghost use Rattle.idl_event.specs.Sites.{StandsAt};
+ghost use Rattle.idl_event.specs.Sites.{Rise, StandsAt, found, in_stretch, spot_at};
+ghost use Rattle.idl_event.specs.declared.sites.Stretch.{Stretch};
 
 use crate::file_name::FileName;
 use crate::place::Place;
@@ -12,23 +14,26 @@ use std::marker::Model;
 
 /// Where the tokens of a text stand: to every contract the list of their sites.
 ///
-/// From one token to the next the file seldom changes, and other events seldom stand between them. So a stretch has what is
-/// the same for all of its tokens, and a token its line and the number of its stretch.
+/// From one token to the next the line seldom changes, the file still less, nor do other events often stand between them. So
+/// a spot has what is the same for the tokens of a line, and a stretch what is the same for those of many lines.
 #[derive(Drop)]
 pub struct Sites {
     spots: Vec<Spot>,
     stretches: Vec<Stretch>,
+    // How many tokens there are.
+    count: usize,
 }
 
-/// A token: its line, and the number of its stretch.
+/// Tokens of one line: the number of the first of them, the line, and the number of their stretch.
 #[derive(Clone, Copy)]
 pub struct Spot {
+    first: u32,
     line: u32,
     stretch: u32,
 }
 
-// A root has a hundred thousands of tokens.
-const _: () = prove!(size_of::<Spot>() <= 8);
+// A root has ten thousands of lines.
+const _: () = prove!(size_of::<Spot>() <= 12);
 
 /// Tokens of one file, with no other event between them: how many others come before them.
 #[derive(Drop)]
@@ -39,14 +44,14 @@ pub struct Stretch {
 
 impl Model for Sites {
     ghost use Rattle.std.specs.Prelude.{List};
-    ghost use Rattle.idl_event.specs.Sites.{HaveStretches, sites_from};
+    ghost use Rattle.idl_event.specs.Sites.{AreKept, sites_of};
     ghost use Rattle.idl_event.specs.declared.site.Site.{Site};
 
     ghost Value = { List Site };
 
-    ghost view = { λ s. sites_from 0 s.stretches.items s.spots.items };
+    ghost view = { λ s. sites_of s.stretches.items s.spots.items s.count };
 
-    ghost invariant = { λ s. HaveStretches s.stretches.items s.spots.items };
+    ghost invariant = { λ s. AreKept s.stretches.items s.spots.items s.count };
 }
 
 impl Sites {
@@ -57,6 +62,7 @@ impl Sites {
         Sites {
             spots: Vec::new(alloc),
             stretches: Vec::new(alloc),
+            count: 0,
         }
     }
 
@@ -65,7 +71,7 @@ impl Sites {
         ensures value { result ≡ length self.now }
         ensures small { result < 2 ^ 63 }
     {
-        self.spots.len()
+        self.count
     }
 
     /// The site of a token more, before which so many other events stand. Numbers past the first 2^32 are as want of memory.
@@ -74,25 +80,21 @@ impl Sites {
             (self.new ≡ self.old ++ site_at (length self.old + others) place ∷ []) }
         ensures kept { OnErr result (self.new ≡ self.old) }
     {
-        let Place { file, line } = place;
-        let Ok(others) = u32::try_from(others) else {
+        let Ok(first) = u32::try_from(self.count) else {
             return Err(AllocError);
         };
-        let Ok(next) = u32::try_from(self.stretches.len()) else {
-            return Err(AllocError);
-        };
-        if goes_on(&self.stretches, &file, others) {
-            self.spots.push(Spot {
-                line,
-                stretch: next - 1,
-            })?;
+        if goes_on(&self.spots, &self.stretches, &place, others) {
+            self.count += 1;
             return Ok(());
         }
-        self.stretches.push(Stretch { file, others })?;
+        let Place { file, line } = place;
+        let stretch = stretch_of(&mut self.stretches, file, others)?;
         self.spots.push(Spot {
+            first,
             line,
-            stretch: next,
+            stretch,
         })?;
+        self.count += 1;
         Ok(())
     }
 
@@ -102,24 +104,26 @@ impl Sites {
             StandsAt self.now index (record { file = p.0.now; line = p.1 })) }
         ensures none { IfNone result (slice_get self.now index ≡ None) }
     {
-        let spot = self.spots.get(index)?;
-        let stretch = self.stretches.get(spot.stretch as usize)?;
-        Some((&stretch.file, spot.line))
+        if index >= self.count {
+            return None;
+        }
+        let (line, stretch) = found(&self.stretches, &self.spots, index)?;
+        Some((&stretch.file, line))
     }
 
     /// The site of the token with this number.
     pub fn site(&self, index: usize) -> Result<Option<Site>, AllocError>
         ensures { IfOk result (λ site. site ≡ slice_get self.now index) }
     {
-        let Some(spot) = self.spots.get(index) else {
+        if index >= self.count {
             return Ok(None);
-        };
-        let Some(stretch) = self.stretches.get(spot.stretch as usize) else {
+        }
+        let Some((line, stretch)) = found(&self.stretches, &self.spots, index) else {
             return Ok(None);
         };
         Ok(Some(Site {
             file: stretch.file.clone()?,
-            line: spot.line,
+            line,
             event: index + stretch.others as usize,
         }))
     }
@@ -133,13 +137,73 @@ impl Sites {
     }
 }
 
+// Whether the last token stands at this place, behind so many other events.
+fn goes_on(spots: &[Spot], stretches: &[Stretch], place: &Place, others: usize) -> bool
+    ensures { IsTrue result
+        → in_stretch stretches.now (slice_get spots.now (length spots.now - 1))
+        ≡ Some (place.now.line, record { file = place.now.file; others = others }) }
+{
+    let Some(spot) = spots.last() else {
+        return false;
+    };
+    let Some(stretch) = stretches.get(spot.stretch as usize) else {
+        return false;
+    };
+    spot.line == place.line && stretch.others as usize == others && stretch.file == place.file
+}
+
+// The number of a stretch of this file behind so many other events: of the last one, or of one more.
+fn stretch_of(
+    stretches: &mut Vec<Stretch>,
+    file: FileName,
+    others: usize,
+) -> Result<u32, AllocError>
+    ensures more { (more : List Stretch) × (stretches.new.items ≡ stretches.old.items ++ more) }
+    ensures there { IfOk result (λ number.
+        slice_get stretches.new.items number ≡ Some (record { file = file; others = others })) }
+{
+    let Ok(next) = u32::try_from(stretches.len()) else {
+        return Err(AllocError);
+    };
+    if is_last(stretches, &file, others) {
+        return Ok(next - 1);
+    }
+    let Ok(others) = u32::try_from(others) else {
+        return Err(AllocError);
+    };
+    stretches.push(Stretch { file, others })?;
+    Ok(next)
+}
+
 // Whether the last stretch is one of this file, behind so many other events.
-fn goes_on(stretches: &[Stretch], file: &FileName, others: u32) -> bool
+fn is_last(stretches: &[Stretch], file: &FileName, others: usize) -> bool
     ensures { IsTrue result → slice_get stretches.now (length stretches.now - 1)
         ≡ Some (record { file = file.now; others = others }) }
 {
     match stretches.last() {
-        Some(last) => last.others == others && last.file == *file,
+        Some(last) => last.others as usize == others && last.file == *file,
         None => false,
     }
+}
+
+// The line of the token with this number, and its stretch.
+fn found<'a>(stretches: &'a [Stretch], spots: &[Spot], index: usize) -> Option<(u32, &'a Stretch)>
+    requires { Rise spots.now }
+    ensures { option_map (λ x. (x.0, x.1.now)) result ≡ found stretches.now spots.now index }
+{
+    let spot = spot_at(spots, index)?;
+    let stretch = stretches.get(spot.stretch as usize)?;
+    Some((spot.line, stretch))
+}
+
+// The last tokens of a line that begin at the one with this number, or before it.
+fn spot_at(spots: &[Spot], index: usize) -> Option<&Spot>
+    requires { Rise spots.now }
+    ensures { option_copied result ≡ spot_at spots.now index }
+{
+    let count = spots.partition_point(|spot| spot.first as usize <= index);
+    if count == 0 {
+        return None;
+    }
+    spots.get(count - 1)
 }

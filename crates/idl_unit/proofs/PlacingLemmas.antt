@@ -60,6 +60,16 @@ placed-run units sites inside ((n, event.Left file) ∷ run) rest le alone = cc
 placed-run units sites inside ((n, event.Pragma place tokens) ∷ run) rest le alone = cc
 placed-run units sites inside ((n, event.Fault place code text) ∷ run) rest le alone = cc
 
+-- one token
+pub placed-one : (a : Ahead) (run rest : List Numbered) → length run ≡ 1 → others_in run ≡ [] → placed a (run ++ rest) ≡ begun a ++ placed (after_token a) rest
+placed-one a [] rest one alone = absurd (omega (arith, one))
+placed-one a ((n, event.Emitted place t) ∷ []) rest one alone = refl
+placed-one a (e ∷ f ∷ run) rest one alone = absurd (omega (arith, one))
+placed-one a ((n, event.Entered file) ∷ []) rest one alone = cc
+placed-one a ((n, event.Left file) ∷ []) rest one alone = cc
+placed-one a ((n, event.Pragma place tokens) ∷ []) rest one alone = cc
+placed-one a ((n, event.Fault place code text) ∷ []) rest one alone = cc
+
 -- what stands inside a stretch beside its tokens
 abbrev inner : List Numbered → List RootUnit
 inner front = flat_map (unit_in true) front

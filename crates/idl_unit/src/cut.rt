@@ -1,6 +1,6 @@
 //! The cut of an expansion into units.
 
-ghost use Rattle.std.specs.Prelude.{◌≡◌, ◌∷◌, ◌++◌, ◌≤◌, [], List, IfOk, OnOk, length};
+ghost use Rattle.std.specs.Prelude.{◌≡◌, ◌∷◌, ◌++◌, ◌≤◌, ◌<◌, [], List, IfOk, IsFalse, IsTrue, OnOk, length};
 ghost use Rattle.std.specs.List.{enumerate_from};
 ghost use Rattle.idl_event.specs.Apart.{Numbered, site_at, sites_in, tokens_in};
 ghost use Rattle.idl_event.specs.Told.{event_told};
@@ -23,10 +23,7 @@ pub fn split(alloc: Global, expansion: &Expansion) -> Result<Units, AllocError>
 {
     let mut cut = Cut::new(alloc, expansion);
     let mut events = expansion.events();
-    'events: while let Some((number, event)) = events.next() {
-        cut.put(alloc, number, event)?;
-        cut.pass(&mut events);
-    }
+    'events: while cut.put_next(alloc, &mut events)? {}
     let mut units = cut.units;
     units.push(Unit::End)?;
     units.shrink_to_fit();
@@ -60,6 +57,26 @@ impl<'a> Cut<'a> {
             taken: 0,
             inside: 0,
         }
+    }
+
+    // Puts in what the next event gives, if one is left; of a token that is told, neither file nor line is wanted.
+    fn put_next(&mut self, alloc: Global, events: &mut Events<'_>) -> Result<bool, AllocError>
+        requires { IsWithin self.old }
+        ensures within { OnOk result (IsWithin self.new) }
+        ensures units { OnOk result (to_come self.new events.new ≡ to_come self.old events.old) }
+        ensures fewer { IfOk result (λ more. IsTrue more → length events.new < length events.old) }
+        ensures none { IfOk result (λ more. IsFalse more → events.new ≡ []) }
+    {
+        if events.pass_tokens(1) == 1 {
+            self.put_token()?;
+            self.pass(events);
+            return Ok(true);
+        }
+        let Some((number, event)) = events.next() else {
+            return Ok(false);
+        };
+        self.put(alloc, number, event)?;
+        Ok(true)
     }
 
     // The tokens inside the present unit are passed by, up to what stands between them.

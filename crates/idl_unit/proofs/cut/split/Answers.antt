@@ -20,8 +20,9 @@ events-init c =
 pub returns : goal.returns
 unfolding units_of
 returns c =
-    let cut = c.events.cut in
-    let none : c.events.events ≡ [] = search rules in
-    let all : cut.units.items ≡ units_in (enumerate_from 0 c.args.expansion.now) = sym (append-nil cut.units.items) ∙ ap (to_come cut) (sym none) ∙ c.events.invariant.units in
+    let cut = c.put_next.new.self in
+    let none : c.put_next.new.events ≡ [] = search rules in
+    let units : to_come cut c.put_next.new.events ≡ to_come c.events.cut c.events.events = search rules in
+    let all : cut.units.items ≡ units_in (enumerate_from 0 c.args.expansion.now) = sym (append-nil cut.units.items) ∙ ap (to_come cut) (sym none) ∙ units ∙ c.events.invariant.units in
     let pushed : c.from_vec.result ≡ cut.units.items ++ End ∷ [] = search rules in
     pushed ∙ ap (λ l. l ++ End ∷ []) all
