@@ -2,7 +2,7 @@ use Rattle.std.proofs.Common.{◌≡◌, ◌<◌, false, true, length, sym, ap, 
 use Rattle.std.proofs.lemmas.List.{get_or_read}
 use Rattle.idl_map.specs.Slots.{IsEnd, led}
 use Rattle.idl_map.specs.declared.slot.Slot.TheVariants.{Empty, One}
-use Rattle.idl_map.proofs.EntryLemmas.{entry_in, lookup-absent, lookup-present, no_entry, value_at, value_in}
+use Rattle.idl_map.proofs.EntryLemmas.{lookup-absent, lookup-present, no_entry, value_at, value_in}
 use Rattle.idl_map.proofs.arena.Arena.get.Goals as goal
 use Rattle.idl_map.proofs.arena.Arena.get.Goals.{in-One+else-eq, in_default}
 

@@ -1,9 +1,8 @@
-use Rattle.std.proofs.Common.{◌≡◌, ◌++◌, ◌∷◌, [], ℕ, List, length, sym, ap, ◌∙◌, subst, arith}
+use Rattle.std.proofs.Common.{◌≡◌, ◌++◌, length, sym, ap, ◌∙◌, subst, arith}
 use Rattle.std.proofs.Math.ListN.{set}
 use Rattle.std.proofs.lemmas.Result.{on_ok_weaker}
 use Rattle.std.specs.Map.{lookup}
 use Rattle.idl_map.specs.Slots.{IsEnd, led, reached}
-use Rattle.idl_map.specs.declared.slot.Slot.{Slot}
 use Rattle.idl_map.specs.declared.slot.Slot.TheVariants.{One}
 use Rattle.idl_map.proofs.EntryLemmas.{entry_in, lookup-push, lookup-rest, sound-push, value_in}
 use Rattle.idl_map.proofs.SlotLemmas.{led_to_empty}
