@@ -6,7 +6,9 @@ ghost use Rattle.idl_root.specs.Findings.{in_order};
 ghost use Rattle.idl_root.specs.Held.{held};
 
 use crate::finding::{Finding, event_findings, has_error, push_rows, rows_in_order};
-use crate::judging::Judging;
+use crate::judging::{Ended, Judging};
+use crate::keeping::Keeping;
+use crate::kept::KeptUnits;
 use crate::printing::Printed;
 use idl_base::{Seq, Text};
 use idl_event::{Code, Expansion, Place, diagnostic_row};
@@ -38,29 +40,51 @@ impl Drop for Compiled {
     }
 }
 
+/// What compiling a root gives, and what is kept of its units.
+#[derive(Drop)]
+pub struct Recompiled {
+    pub compiled: Compiled,
+    pub kept: Option<KeptUnits>,
+}
+
 /// Compiles what a root expands to, where its last line is this place.
 ///
 /// The diagnostics stand in the order of the events that they name: a fault of the preprocessor has one, and so has a unit
 /// with a fault, at the token where it is decided. Behind them stands E23 where a scope is open at the end, and then what is
 /// declared ahead and never defined, in the order of the listing.
-#[tactic(auto, unfolding(crate::specs::Compile::compile))]
-pub fn compile(alloc: Global, end: &Place, expansion: &Expansion) -> Result<Compiled, AllocError>
-    ensures { IfOk result (λ compiled. compiled ≡ compile end.now expansion.now) }
-{
+pub fn compile(alloc: Global, end: &Place, expansion: &Expansion) -> Result<Compiled, AllocError> {
     let units = split(alloc, expansion)?;
     let findings = event_findings(alloc, expansion)?;
-    let first = Judging::new(alloc, findings, units.as_slice().len())?;
+    let first = Judging::new(alloc, findings, units.as_slice().len(), None)?;
     let judging = first.with_all(alloc, units.as_slice())?;
-    Ok(told(alloc, end, judging)?)
+    Ok(told(alloc, end, judging)?.compiled)
+}
+
+/// The same, where this was kept of the root before.
+pub fn compile_after(
+    alloc: Global,
+    end: &Place,
+    expansion: &Expansion,
+    earlier: &KeptUnits,
+) -> Result<Recompiled, AllocError> {
+    let units = split(alloc, expansion)?;
+    let findings = event_findings(alloc, expansion)?;
+    let count = units.as_slice().len();
+    let keeping = Keeping::new(alloc, earlier, count - 1)?;
+    let first = Judging::new(alloc, findings, count, Some(keeping))?;
+    let judging = first.with_all(alloc, units.as_slice())?;
+    told(alloc, end, judging)
 }
 
 // The rows of a root whose units are all judged.
-fn told(alloc: Global, end: &Place, judging: Judging) -> Result<Compiled, AllocError>
-    ensures { IfOk result (λ compiled. compiled ≡ told end.now (held judging.entry)) }
-{
+fn told(alloc: Global, end: &Place, judging: Judging) -> Result<Recompiled, AllocError> {
     let is_open = judging.is_open();
     let printed = judging.printed(alloc)?;
-    let (findings, rows) = judging.ended();
+    let Ended {
+        findings,
+        rows,
+        kept,
+    } = judging.ended();
     let is_faulty = is_open || has_error(&findings) || has_error(&printed.findings);
     let Printed {
         findings: closing,
@@ -68,12 +92,13 @@ fn told(alloc: Global, end: &Place, judging: Judging) -> Result<Compiled, AllocE
     } = printed;
     let open = open_rows(alloc, end, is_open)?;
     let diagnostics = diagnostics(alloc, findings, open, closing)?;
-    Ok(Compiled {
+    let compiled = Compiled {
         diagnostics: Seq::from_vec(diagnostics),
         listing: rows_beside(alloc, is_faulty, listing),
         dump: rows_beside(alloc, is_faulty, rows),
         is_faulty,
-    })
+    };
+    Ok(Recompiled { compiled, kept })
 }
 
 // The row of a scope that is open at the end, if one is.

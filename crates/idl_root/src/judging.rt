@@ -9,6 +9,8 @@ ghost use Rattle.idl_scope.specs.Facts.{UnitFacts};
 
 use crate::compiled::Row;
 use crate::finding::{Finding, Spelled, push_fault};
+use crate::keeping::Keeping;
+use crate::kept::{KeptUnit, KeptUnits};
 use crate::printing::{Listed, Printed, print_all, push_listed};
 use idl_check::{Verdict, verdict_of};
 use idl_memo::{Bank, Journal};
@@ -29,6 +31,16 @@ pub struct Gathered<'a> {
     pub rows: Vec<Row>,
     /// The names that have an id, in the order in which they were declared first.
     pub listed: Vec<Listed<'a>>,
+    /// What is kept of the units, if anything is.
+    pub keeping: Option<Keeping<'a>>,
+}
+
+/// What came of all units.
+#[derive(Drop)]
+pub struct Ended {
+    pub findings: Vec<Finding>,
+    pub rows: Vec<Row>,
+    pub kept: Option<KeptUnits>,
 }
 
 impl<'a> Drop for Judging<'a> {
@@ -46,6 +58,7 @@ impl<'a> Drop for Gathered<'a> {
             findings: _findings,
             rows: _rows,
             listed: _listed,
+            keeping: _keeping,
         } = self;
     }
 }
@@ -56,6 +69,7 @@ impl<'a> Judging<'a> {
         alloc: Global,
         findings: Vec<Finding>,
         count: usize,
+        keeping: Option<Keeping<'a>>,
     ) -> Result<Judging<'a>, AllocError>
         ensures { IfOk result (λ judging.
             held judging
@@ -70,6 +84,7 @@ impl<'a> Judging<'a> {
                 findings,
                 rows,
                 listed,
+                keeping,
             },
         })
     }
@@ -108,10 +123,7 @@ impl<'a> Judging<'a> {
     }
 
     /// What was found, and the rows of the dump.
-    pub fn ended(self) -> (Vec<Finding>, Vec<Row>)
-        ensures found { result.0 ≡ self.entry.gathered.findings }
-        ensures rows { result.1 ≡ self.entry.gathered.rows }
-    {
+    pub fn ended(self) -> Ended {
         let Judging {
             env: _env,
             gathered,
@@ -122,16 +134,22 @@ impl<'a> Judging<'a> {
 
 impl<'a> Gathered<'a> {
     // The findings, and the rows.
-    fn ended(self) -> (Vec<Finding>, Vec<Row>)
-        ensures found { result.0 ≡ self.entry.findings }
-        ensures rows { result.1 ≡ self.entry.rows }
-    {
+    fn ended(self) -> Ended {
         let Gathered {
             findings,
             rows,
             listed: _listed,
+            keeping,
         } = self;
-        (findings, rows)
+        let kept = match keeping {
+            Some(keeping) => Some(keeping.ended()),
+            None => None,
+        };
+        Ended {
+            findings,
+            rows,
+            kept,
+        }
     }
 
     // Puts in what comes of one unit more over these facts, and gives what it adds to them.
@@ -151,8 +169,8 @@ impl<'a> Gathered<'a> {
                 let unit = Spelled { text, sites };
                 Ok(Some(self.add_spelled(alloc, env, unit)?))
             }
-            Unit::Entered(_file) => Ok(Some(boundary(alloc, Step::Enters)?)),
-            Unit::Left(_file) => Ok(Some(boundary(alloc, Step::Leaves)?)),
+            Unit::Entered(_file) => Ok(Some(self.cross(alloc, env, Step::Enters)?)),
+            Unit::Left(_file) => Ok(Some(self.cross(alloc, env, Step::Leaves)?)),
             Unit::End => Ok(None),
         }
     }
@@ -171,9 +189,26 @@ impl<'a> Gathered<'a> {
             ≡ with_judged (with_gathered facts self.old)
             (judged_over env.now unit.entry.text.now unit.entry.sites.now)) }
     {
+        if let Some(keeping) = &mut self.keeping {
+            let judgement = keeping.judge(alloc, env, unit.text)?;
+            self.add_verdict(alloc, unit, &judgement.verdict)?;
+            return Ok(judgement.verdict.writes.clone()?);
+        }
         let verdict = verdict_over(env, unit.text)?;
         self.add_verdict(alloc, unit, &verdict)?;
         Ok(verdict.writes.clone()?)
+    }
+
+    fn cross(&mut self, alloc: Global, env: &Env, step: Step) -> Result<Shared<Facts>, AllocError> {
+        let unit = match step {
+            Step::Enters => KeptUnit::Entered,
+            _ => KeptUnit::Left,
+        };
+        let facts = boundary(alloc, step)?;
+        if let Some(keeping) = &mut self.keeping {
+            keeping.cross(env, unit, facts.get())?;
+        }
+        Ok(facts)
     }
 
     // Puts in what comes of a unit with this verdict.

@@ -12,7 +12,7 @@ use idl_base::Seq;
 use idl_event::{Answer, Expansion, FileName, Key, Place, RootBank};
 use idl_memo::Kept;
 use idl_prep::absent;
-use idl_root::Compiled;
+use idl_root::{Compiled, KeptUnits, Recompiled};
 use idl_source::Name;
 use std::alloc::{AllocError, Global};
 
@@ -50,6 +50,27 @@ pub fn compile<B: RootBank>(
         rows,
         absent: Seq::from_vec(names),
     })
+}
+
+/// The same, where this was kept of the root before.
+pub fn compile_after<B: RootBank>(
+    alloc: Global,
+    bank: &B,
+    kept: &KeptExpansion,
+    earlier: &KeptUnits,
+) -> Result<(CompiledRoot, KeptUnits), AllocError>
+{
+    let end = end_of(alloc, bank, kept.text())?;
+    let Recompiled { compiled: rows, kept: units } = idl_root::compile_after(alloc, &end, kept.out(), earlier)?;
+    let names = absent(alloc, kept.log())?;
+    let units = match units {
+        Some(units) => units,
+        None => KeptUnits::none(alloc),
+    };
+    Ok((CompiledRoot {
+        rows,
+        absent: Seq::from_vec(names),
+    }, units))
 }
 
 // The end of a root: its number of lines.

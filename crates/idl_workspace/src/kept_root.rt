@@ -15,7 +15,8 @@ ghost use Rattle.idl_workspace.specs.Work.{answer_eq};
 
 use crate::asked::asked;
 use crate::bank::SessionBank;
-use crate::compile::{CompiledRoot, KeptExpansion, compile};
+use crate::compile::{CompiledRoot, KeptExpansion, compile, compile_after};
+use idl_root::KeptUnits;
 use idl_event::{Key, RootBank};
 use idl_memo::{Edited, Meter, run_anew};
 use idl_prep::RootTask;
@@ -27,6 +28,7 @@ use std::rc::Rc;
 pub struct KeptRoot {
     result: Rc<KeptExpansion>,
     compiled: Rc<CompiledRoot>,
+    units: Rc<KeptUnits>,
 }
 
 impl Drop for KeptRoot {
@@ -34,6 +36,7 @@ impl Drop for KeptRoot {
         let KeptRoot {
             result: _result,
             compiled: _compiled,
+            units: _units,
         } = self;
     }
 }
@@ -59,6 +62,7 @@ impl KeptRoot {
         Ok(KeptRoot {
             result,
             compiled: Rc::new(alloc, compiled)?,
+            units: Rc::new(alloc, KeptUnits::none(alloc))?,
         })
     }
 
@@ -96,10 +100,18 @@ impl KeptRoot {
             return Ok(KeptRoot {
                 result: self.result.clone()?,
                 compiled: self.compiled.clone()?,
+                units: self.units.clone()?,
             });
         }
         let root = self.result.text().copied();
-        Ok(KeptRoot::anew(alloc, root, edited, meter)?)
+        let task = RootTask::new(root);
+        let result = run_anew(alloc, &task, edited, meter)?;
+        let (compiled, units) = compile_after(alloc, edited, &result, &self.units)?;
+        Ok(KeptRoot {
+            result,
+            compiled: Rc::new(alloc, compiled)?,
+            units: Rc::new(alloc, units)?,
+        })
     }
 
     /// What the root compiles to.
