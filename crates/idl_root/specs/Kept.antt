@@ -39,3 +39,9 @@ IsKept facts Left = Unit {0}
 abbrev pub AreKept : List UnitFacts → List KeptUnit → Type 0
 AreKept facts [] = Unit {0}
 AreKept facts (k ∷ kept) = IsKept facts k × AreKept (facts ++ added_by k ∷ []) kept
+
+-- it is kept of a file boundary
+abbrev pub IsBoundary : KeptUnit → Type 0
+IsBoundary (Judged text judgement) = ⊥
+IsBoundary Entered = Unit {0}
+IsBoundary Left = Unit {0}

@@ -1,8 +1,9 @@
 //! The compilation of a root.
 
-ghost use Rattle.std.specs.Prelude.{◌≡◌, ◌++◌, IfOk, map};
+ghost use Rattle.std.specs.Prelude.{◌≡◌, ◌++◌, [], IfOk, IfSome, map};
 ghost use Rattle.idl_root.specs.Compile.{compile, rows_beside, has_error, open_row, told};
 ghost use Rattle.idl_root.specs.Findings.{in_order};
+ghost use Rattle.idl_root.specs.Followed.{IsKeeping};
 ghost use Rattle.idl_root.specs.Held.{held};
 
 use crate::finding::{Finding, event_findings, has_error, push_rows, rows_in_order};
@@ -52,32 +53,67 @@ pub struct Recompiled {
 /// The diagnostics stand in the order of the events that they name: a fault of the preprocessor has one, and so has a unit
 /// with a fault, at the token where it is decided. Behind them stands E23 where a scope is open at the end, and then what is
 /// declared ahead and never defined, in the order of the listing.
-pub fn compile(alloc: Global, end: &Place, expansion: &Expansion) -> Result<Compiled, AllocError> {
-    let units = split(alloc, expansion)?;
-    let findings = event_findings(alloc, expansion)?;
-    let first = Judging::new(alloc, findings, units.as_slice().len(), None)?;
-    let judging = first.with_all(alloc, units.as_slice())?;
-    Ok(told(alloc, end, judging)?.compiled)
+pub fn compile(alloc: Global, end: &Place, expansion: &Expansion) -> Result<Compiled, AllocError>
+    ensures { IfOk result (λ compiled. compiled ≡ compile end.now expansion.now) }
+{
+    let Recompiled {
+        compiled,
+        kept: _kept,
+    } = compile_with(alloc, end, expansion, None)?;
+    Ok(compiled)
 }
 
-/// The same, where this was kept of the root before.
+/// The same, and what is kept of the root's units, for the next time. Of what was kept the last time that is taken over whose
+/// keys are answered as they were.
 pub fn compile_after(
     alloc: Global,
     end: &Place,
     expansion: &Expansion,
     earlier: &KeptUnits,
-) -> Result<Recompiled, AllocError> {
+) -> Result<Recompiled, AllocError>
+    ensures { IfOk result (λ root. root.compiled ≡ compile end.now expansion.now) }
+{
+    Ok(compile_with(alloc, end, expansion, Some(earlier))?)
+}
+
+// The same, where something is kept if something was.
+#[tactic(auto, unfolding(crate::specs::Compile::compile))]
+fn compile_with(
+    alloc: Global,
+    end: &Place,
+    expansion: &Expansion,
+    earlier: Option<&KeptUnits>,
+) -> Result<Recompiled, AllocError>
+    ensures { IfOk result (λ root. root.compiled ≡ compile end.now expansion.now) }
+{
     let units = split(alloc, expansion)?;
     let findings = event_findings(alloc, expansion)?;
     let count = units.as_slice().len();
-    let keeping = Keeping::new(alloc, earlier, count - 1)?;
-    let first = Judging::new(alloc, findings, count, Some(keeping))?;
+    let keeping = keeping(alloc, earlier, count.saturating_sub(1))?;
+    let first = Judging::new(alloc, findings, count, keeping)?;
     let judging = first.with_all(alloc, units.as_slice())?;
-    told(alloc, end, judging)
+    Ok(told(alloc, end, judging)?)
 }
 
-// The rows of a root whose units are all judged.
-fn told(alloc: Global, end: &Place, judging: Judging) -> Result<Recompiled, AllocError> {
+// Before the first of so many units, where this was kept, if anything is kept.
+fn keeping<'k>(
+    alloc: Global,
+    earlier: Option<&'k KeptUnits>,
+    count: usize,
+) -> Result<Option<Keeping<'k>>, AllocError>
+    ensures { IfOk result (λ found. IfSome found (λ keeping. IsKeeping keeping [])) }
+{
+    match earlier {
+        Some(earlier) => Ok(Some(Keeping::new(alloc, earlier, count)?)),
+        None => Ok(None),
+    }
+}
+
+// The rows of a root whose units are all judged, and what is kept of it.
+fn told(alloc: Global, end: &Place, judging: Judging) -> Result<Recompiled, AllocError>
+    requires { IfSome judging.entry.gathered.keeping (λ k. IsKeeping k judging.entry.env) }
+    ensures { IfOk result (λ root. root.compiled ≡ told end.now (held judging.entry)) }
+{
     let is_open = judging.is_open();
     let printed = judging.printed(alloc)?;
     let Ended {
