@@ -1,9 +1,7 @@
 -- What was kept of a root's units, beside facts of which more and more are told.
 use Rattle.std.proofs.Common.{◌≡◌, ℕ, zero, suc, ◌<◌, Bool, true, false, List, [], ◌∷◌, ◌++◌, length, get_or, map, nat_eq, Option, refl, ap, sym, subst, ◌∙◌, arith, append-nil, append_assoc}
 use Rattle.std.specs.Prelude.{All, Contains}
-use Rattle.std.specs.List.{list_any}
 use Rattle.std.proofs.lemmas.List.Elements.{All-append, All-contains, All-map, All-weaker, Contains-append_left, Contains-append_right}
-use Rattle.std.proofs.lemmas.List.Folds.{list_any_at}
 use Rattle.idl_check.specs.Verdict.{verdict}
 use Rattle.idl_check.specs.declared.verdict.Verdict.{Verdict}
 use Rattle.idl_memo.specs.Query.{Agree, asked, outcome}
@@ -60,23 +58,6 @@ noted-both changed keys fs gs h =
     (noted-wider (changed ++ own fs) (own gs) keys (noted-wider changed (own fs) keys h))
     (All-append here (map key_of fs) (map key_of gs) (noted-wider (changed ++ own fs) (own gs) (map key_of fs) (noted-own changed fs)) (noted-own (changed ++ own fs) gs))
 
--- ---- numbers among both
-
-found : (p : ℕ → Bool) (xs : List ℕ) (x : ℕ) → Contains xs x → p x ≡ true → list_any p xs ≡ true
-found p xs x at h = list_any_at p xs at.0 x at.1 (ap p at.2 ∙ h)
-
-pub share-none : (digests others : List ℕ) → list_any (λ d. list_any (λ y. nat_eq y d) others) digests ≡ false → ShareNone digests others
-share-none digests others none n i j =
-    let same : nat_eq n n ≡ true = grind (arith, tests) in
-    let there = found (λ d. list_any (λ y. nat_eq y d) others) digests n i (found (λ y. nat_eq y n) others n j same) in
-    let wrong : true ≡ false = sym there ∙ none in
-    cc
-
-pub share-none-empty : (digests others : List ℕ) → others ≡ [] → ShareNone digests others
-share-none-empty digests others none n i j =
-    let at : Contains {ℕ} [] n = subst (λ l. Contains l n) none j in
-    omega (arith, at.1)
-
 -- ---- what is kept, beside facts
 
 -- at first
@@ -112,30 +93,32 @@ module _ (together : (w : World) (facts more : List UnitFacts) → after_all w (
   pub beside-more : ((keys : List Key) (w other : World) (g : UnitFacts) → WorldsAgreeOutside keys w other → g.step ≡ Stays → operations_among g.additions ≡ []
       → WorldsAgreeOutside (keys ++ map key_of g.additions) w (after other g))
       → (changed : List ℕ) (kept : List KeptUnit) (facts : List UnitFacts) (g : UnitFacts)
-      → g.step ≡ Stays → operations_among g.additions ≡ [] → IsBeside changed kept facts → IsBeside (changed ++ own g.additions) kept (facts ++ g ∷ [])
-  beside-more law changed kept facts g stays none b = record {
+      → (now : List ℕ) → now ≡ changed ++ own g.additions
+      → g.step ≡ Stays → operations_among g.additions ≡ [] → IsBeside changed kept facts → IsBeside now kept (facts ++ g ∷ [])
+  beside-more law changed kept facts g now is stays none b = subst (λ n. IsBeside n kept (facts ++ g ∷ [])) (sym is) (record {
     before = b.before;
     keys = b.keys ++ map key_of g.additions;
     units = b.units;
     noted = noted-more changed b.keys g.additions b.noted;
     agree = subst (λ v. WorldsAgreeOutside (b.keys ++ map key_of g.additions) (world b.before) v) (sym (world-more facts g)) (law b.keys (world b.before) (world facts) g b.agree stays none);
-  }
+  })
 
   -- behind a unit there alone
   pub beside-less : ((keys : List Key) (w other : World) (f : UnitFacts) → WorldsAgreeOutside keys w other → f.step ≡ Stays → operations_among f.additions ≡ []
       → WorldsAgreeOutside (keys ++ map key_of f.additions) (after w f) other)
       → (changed : List ℕ) (k : KeptUnit) (rest kept : List KeptUnit) (facts : List UnitFacts) → kept ≡ k ∷ rest
-      → (added_by k).step ≡ Stays → operations_among (added_by k).additions ≡ [] → IsBeside changed kept facts → IsBeside (changed ++ own (added_by k).additions) rest facts
-  beside-less law changed k rest kept facts is stays none b =
+      → (now : List ℕ) → now ≡ changed ++ own (added_by k).additions
+      → (added_by k).step ≡ Stays → operations_among (added_by k).additions ≡ [] → IsBeside changed kept facts → IsBeside now rest facts
+  beside-less law changed k rest kept facts is now noted-is stays none b =
       let f = added_by k in
       let units : AreKept b.before (k ∷ rest) = subst (AreKept b.before) is b.units in
-      record {
+      subst (λ n. IsBeside n rest facts) (sym noted-is) (record {
         before = b.before ++ f ∷ [];
         keys = b.keys ++ map key_of f.additions;
         units = units.1;
         noted = noted-more changed b.keys f.additions b.noted;
         agree = subst (λ w. WorldsAgreeOutside (b.keys ++ map key_of f.additions) w (world facts)) (sym (world-more b.before f)) (law b.keys (world b.before) (world facts) f b.agree stays none);
-      }
+      })
 
   module _ (looked_law : (keys : List Key) (w other : World) (f : UnitFacts) → WorldsAgreeOutside keys w other → AreApart (looked_at_by other f) keys → AreApart (looked_at_by w f) keys) where
     -- behind units that add the same
@@ -163,10 +146,12 @@ module _ (together : (w : World) (facts more : List UnitFacts) → after_all w (
         → let more = keys ++ (map key_of f.additions ++ map key_of g.additions) in
         AreApart (looked_at_by w f) more → WorldsAgreeOutside more (after w f) (after other g))
         → (changed looked : List ℕ) (k : KeptUnit) (rest kept : List KeptUnit) (facts : List UnitFacts) (g : UnitFacts) → kept ≡ k ∷ rest
+        → (now : List ℕ) → now ≡ (changed ++ own (added_by k).additions) ++ own g.additions
         → (added_by k).step ≡ g.step → operations_among (added_by k).additions ≡ operations_among g.additions
-        → AreNoted looked (looked_at_by (world facts) g) → ShareNone looked ((changed ++ own (added_by k).additions) ++ own g.additions)
-        → IsBeside changed kept facts → IsBeside ((changed ++ own (added_by k).additions) ++ own g.additions) rest (facts ++ g ∷ [])
-    beside-other law changed looked k rest kept facts g is steps operations noted none b =
+        → AreNoted looked (looked_at_by (world facts) g) → ShareNone looked now
+        → IsBeside changed kept facts → IsBeside now rest (facts ++ g ∷ [])
+    beside-other law changed looked k rest kept facts g is now now-is steps operations noted apart b =
+        let none = subst (ShareNone looked) now-is apart in
         let f = added_by k in
         let w = world b.before in
         let v = world facts in
@@ -182,22 +167,22 @@ module _ (together : (w : World) (facts more : List UnitFacts) → after_all w (
         subst (λ l. AreApart l more) (looked-answers w2 f.step)
         (looked_law more w2 v2 (record { additions = []; step = f.step }) grown
         (subst (λ l. AreApart l more) (sym (looked-answers v2 f.step)) (subst (λ s. AreApart (looked_at v2 s) more) (sym steps) here))) in
-        beside-next ((changed ++ own f.additions) ++ own g.additions) more rest b.before facts f g units.1 both (law b.keys w v f g b.agree steps operations there)
+        subst (λ n. IsBeside n rest (facts ++ g ∷ [])) (sym now-is) (beside-next ((changed ++ own f.additions) ++ own g.additions) more rest b.before facts f g units.1 both (law b.keys w v f g b.agree steps operations there))
 
 -- what was judged of a text is so here, where nothing that it asked has changed
 pub judged-again : ((keys asks : List Key) (bank other : Key → Option Answer) → AgreeOutside keys bank other → AreApart asks keys → Agree asks bank other)
     → ((text : UnitText) (bank other : Key → Option Answer) → Agree (asked (verdict TURNS text) bank) bank other → outcome (verdict TURNS text) other ≡ outcome (verdict TURNS text) bank)
     → ((text : UnitText) (bank other : Key → Option Answer) → Agree (asked (verdict TURNS text) bank) bank other → asked (verdict TURNS text) other ≡ asked (verdict TURNS text) bank)
-    → (changed : List ℕ) (kept : List KeptUnit) (facts before : List UnitFacts) (text : UnitText) (judgement : Judgement) (keys : List Key)
+    → (changed : List ℕ) (facts before : List UnitFacts) (text : UnitText) (judgement : Judgement) (keys : List Key)
     → IsJudged before text judgement → AreNoted changed keys → WorldsAgreeOutside keys (world before) (world facts)
     → ShareNone judgement.asked.items changed → IsJudged facts text judgement
-judged-again outside same asks changed kept facts before text judgement keys own noted agree none =
+judged-again outside same asks changed facts before text judgement keys own noted agree none =
     let keys_asked = asked (verdict TURNS text) (answers before) in
-    let apart = apart-noted judgement.asked.items changed keys_asked keys own.asked noted none in
+    let apart = apart-noted judgement.asked.items changed keys_asked keys own.noted noted none in
     let agrees = outside keys keys_asked (answers before) (answers facts) agree.0 apart in
     record {
-      verdict = own.verdict ∙ sym (same text (answers before) (answers facts) agrees);
-      asked = subst (AreNoted judgement.asked.items) (sym (asks text (answers before) (answers facts) agrees)) own.asked;
+      said = own.said ∙ sym (same text (answers before) (answers facts) agrees);
+      noted = subst (AreNoted judgement.asked.items) (sym (asks text (answers before) (answers facts) agrees)) own.noted;
     }
 
 -- ---- what is kept of all units

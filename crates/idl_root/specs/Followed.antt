@@ -33,5 +33,5 @@ ShareNone numbers others = (n : ℕ) → Contains numbers n → Contains others 
 -- what is kept of the units that added these facts, and what is followed beside them
 pub record IsKeeping (keeping : Keeping) (facts : List UnitFacts) : Type 0 where
   pub units : AreKept [] keeping.kept.items
-  pub facts : map added_by keeping.kept.items ≡ facts
+  pub added : map added_by keeping.kept.items ≡ facts
   pub followed : IfSome keeping.following (λ f. IsFollowed f facts)

@@ -20,8 +20,8 @@ AreNoted digests keys = All (λ key. Contains digests (key_digest key)) keys
 -- what is judged of a text over facts: its verdict, and with digests of all keys that it asked
 pub record IsJudged (facts : List UnitFacts) (text : UnitText) (judgement : Judgement)
     : Type 0 where
-  pub verdict : judgement.verdict ≡ verdict_over facts text
-  pub asked : AreNoted judgement.asked.items (asked (verdict TURNS text) (answers facts))
+  pub said : judgement.verdict ≡ verdict_over facts text
+  pub noted : AreNoted judgement.asked.items (asked (verdict TURNS text) (answers facts))
 
 -- what a unit added of which this is kept
 abbrev pub added_by : KeptUnit → UnitFacts

@@ -1,6 +1,6 @@
 //! What was kept of a root's units, gone through beside the units that stand there now.
 
-ghost use Rattle.std.specs.Prelude.{◌≡◌, ◌∷◌, ◌++◌, [], IfOk, IfSome, IsTrue, List};
+ghost use Rattle.std.specs.Prelude.{◌≡◌, ◌-◌, ◌∷◌, ◌++◌, [], IfOk, IfSome, IsTrue, List};
 ghost use Rattle.idl_root.specs.Followed.{IsFollowed, IsNext, ShareNone};
 ghost use Rattle.idl_root.specs.Kept.{AreKept, IsJudged, added_by};
 ghost use Rattle.idl_root.specs.declared.kept.KeptUnit.{KeptUnit as RootKeptUnit};
@@ -77,13 +77,11 @@ impl<'k> Following<'k> {
     fn next_of(&self, text: &UnitText) -> Option<&'k Rc<Judgement>>
         ensures { IfSome result (λ j. IsNext (Judged text.now j.now) self.now.kept.now) }
     {
-        let [KeptUnit::Judged(kept, judgement), ..] = self.kept else {
-            return None;
-        };
-        if *kept != *text {
-            return None;
+        let (kept, judgement, _rest) = judged_first(self.kept)?;
+        if *kept == *text {
+            return Some(judgement);
         }
-        Some(judgement)
+        None
     }
 
     /// Behind the units that are no longer there, if the next one isn't of this text.
@@ -103,8 +101,9 @@ impl<'k> Following<'k> {
 
     // Behind the next unit, which is no longer there.
     fn without_next(self) -> Result<Option<Following<'k>>, AllocError>
-        ensures { IfOk result (λ found. IfSome found (λ f.
+        ensures followed { IfOk result (λ found. IfSome found (λ f.
             (facts : List UnitFacts) → IsFollowed self.entry facts → IsFollowed f facts)) }
+        ensures less { IfOk result (λ found. IfSome found (λ f. f.less ≡ self.entry.less - 1)) }
     {
         adding();
         exchanging();
@@ -115,7 +114,7 @@ impl<'k> Following<'k> {
             less,
             more,
         } = self;
-        let [KeptUnit::Judged(_text, judgement), rest @ ..] = kept else {
+        let Some((_text, judgement, rest)) = judged_first(kept) else {
             return Ok(None);
         };
         let facts = judgement.verdict.writes.get();
@@ -148,7 +147,7 @@ impl<'k> Following<'k> {
             less,
             more,
         } = self;
-        let [_next, rest @ ..] = kept else {
+        let Some((_next, rest)) = kept.split_first() else {
             return Ok(None);
         };
         let Some(looked) = digests_looked_at(env, facts)? else {
@@ -199,7 +198,7 @@ impl<'k> Following<'k> {
             less,
             more,
         } = self;
-        let [KeptUnit::Judged(_text, judgement), rest @ ..] = kept else {
+        let Some((_text, judgement, rest)) = judged_first(kept) else {
             return Ok(None);
         };
         let before = judgement.verdict.writes.get();
@@ -266,6 +265,18 @@ impl<'k> Following<'k> {
             return Ok(None);
         }
         Ok(self.with_same(env, facts)?)
+    }
+}
+
+// What is judged of the first of them, if it has tokens, and the others.
+fn judged_first<'k>(
+    kept: &'k [KeptUnit],
+) -> Option<(&'k UnitText, &'k Rc<Judgement>, &'k [KeptUnit])>
+    ensures { IfSome result (λ p. kept.now ≡ Judged p.0.now p.1.now ∷ p.2.now) }
+{
+    match kept.split_first()? {
+        (KeptUnit::Judged(text, judgement), rest) => Some((text, judgement, rest)),
+        _ => None,
     }
 }
 
