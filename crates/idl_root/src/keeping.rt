@@ -57,12 +57,9 @@ impl<'k> Keeping<'k> {
         ensures kept { IfOk result (λ judgement.
             IsKeeping self.new (env.now ++ judgement.value.verdict.writes ∷ [])) }
     {
-        let judged = match replace(&mut self.following, None) {
-            Some(following) => judged(alloc, env, text, following)?,
-            None => judged_anew(alloc, env, text)?,
-        };
-        let (judgement, following) = judged;
-        self.following = following;
+        let following = replace(&mut self.following, None);
+        let (judgement, next) = judged(alloc, env, text, following)?;
+        self.following = next;
         let unit = KeptUnit::Judged(text.clone()?, judgement.clone()?);
         self.kept.push(unit)?;
         Ok(judgement)
@@ -75,9 +72,8 @@ impl<'k> Keeping<'k> {
         requires adds { added_by boundary ≡ facts.now }
         ensures { OnOk result (IsKeeping self.new (env.now ++ facts.now ∷ [])) }
     {
-        if let Some(following) = replace(&mut self.following, None) {
-            self.following = following.across(env, &boundary, facts)?;
-        }
+        let following = replace(&mut self.following, None);
+        self.following = crossed(following, env, &boundary, facts)?;
         self.kept.push(boundary)?;
         Ok(())
     }
@@ -99,14 +95,14 @@ fn judged<'k>(
     alloc: Global,
     env: &Env,
     text: &UnitText,
-    following: Following<'k>,
+    following: Option<Following<'k>>,
 ) -> Result<(Rc<Judgement>, Option<Following<'k>>), AllocError>
-    requires { IsFollowed following env.now }
+    requires { IfSome following (λ f. IsFollowed f env.now) }
     ensures judged { IfOk result (λ r. IsJudged env.now text.now r.0.value) }
     ensures followed { IfOk result (λ r.
         IfSome r.1 (λ f. IsFollowed f (env.now ++ r.0.value.verdict.writes ∷ []))) }
 {
-    let Some(following) = following.caught_up(text)? else {
+    let Some(following) = caught_up(following, text)? else {
         return Ok(judged_anew(alloc, env, text)?);
     };
     if let Some(judgement) = following.judgement(text) {
@@ -117,6 +113,38 @@ fn judged<'k>(
     let judgement = Judgement::new(alloc, env, text)?;
     let next = following.with_other(env, text, judgement.verdict.writes.get())?;
     Ok((judgement, next))
+}
+
+// What is followed behind the units that are no longer there, if the next one isn't of this text.
+fn caught_up<'k>(
+    following: Option<Following<'k>>,
+    text: &UnitText,
+) -> Result<Option<Following<'k>>, AllocError>
+    ensures { (facts : List UnitFacts) → IfSome following (λ f. IsFollowed f facts)
+        → IfOk result (λ found. IfSome found (λ f. IsFollowed f facts)) }
+{
+    match following {
+        Some(following) => Ok(following.caught_up(text)?),
+        None => Ok(None),
+    }
+}
+
+// What is followed behind a file boundary that adds that.
+fn crossed<'k>(
+    following: Option<Following<'k>>,
+    env: &Env,
+    boundary: &KeptUnit,
+    facts: &Facts,
+) -> Result<Option<Following<'k>>, AllocError>
+    requires adds { added_by boundary.now ≡ facts.now }
+    requires followed { IfSome following (λ f. IsFollowed f env.now) }
+    ensures { IfOk result (λ found.
+        IfSome found (λ f. IsFollowed f (env.now ++ facts.now ∷ []))) }
+{
+    match following {
+        Some(following) => Ok(following.across(env, boundary, facts)?),
+        None => Ok(None),
+    }
 }
 
 // What is judged of a text, where nothing is followed any more.
