@@ -1,6 +1,7 @@
 pub mod AnswerLemmas
 pub mod CountLemmas
 pub mod DenotesOnce
+pub mod ExchangeLaws
 pub mod FactsLaws
 pub mod FirstLemmas
 pub mod Introduced
