@@ -8,6 +8,7 @@ pub mod Introduced
 pub mod LookupLaws
 pub mod Meant
 pub mod Membership
+pub mod OperationLemmas
 pub mod PathLemmas
 pub mod PlaceLemmas
 pub mod PrefixLaws

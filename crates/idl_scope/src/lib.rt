@@ -12,6 +12,7 @@ mod digested;
 mod digested_addition;
 mod entity;
 mod env;
+mod exchange;
 mod facts;
 mod fault;
 mod found;
