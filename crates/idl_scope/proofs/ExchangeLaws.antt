@@ -10,7 +10,6 @@ use Rattle.idl_scope.specs.declared.addition.Step.{Step}
 use Rattle.idl_scope.specs.declared.addition.Step.TheVariants.{Stays, Opens, OpensNameless, Closes, Prefixes, Enters, Leaves}
 use Rattle.idl_scope.specs.declared.answer.Answer.{Answer}
 use Rattle.idl_scope.specs.declared.answer.Scope.{Scope}
-use Rattle.idl_scope.specs.declared.entity.Entity.{Entity}
 use Rattle.idl_scope.specs.declared.key.Key.{Key}
 use Rattle.idl_scope.specs.declared.key.Key.TheVariants.{Cursor, Opened, Nameless, Prefix as PrefixKey}
 use Rattle.idl_scope.specs.declared.kind.Kind.TheVariants.{Interface}

@@ -1,4 +1,5 @@
 pub mod AnswerLemmas
+pub mod ApartLemmas
 pub mod CountLemmas
 pub mod DenotesOnce
 pub mod ExchangeLaws

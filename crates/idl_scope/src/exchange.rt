@@ -1,5 +1,5 @@
-//! What is told of facts that take the place of others: at which keys they add, and whether they are alike in what the open
-//! scopes are told.
+//! What is asked of facts that take the place of others: at which keys they add, and whether they declare the same operations
+//! and change the open scopes in the same way.
 
 ghost use Rattle.std.specs.Prelude.{◌≡◌, ◌++◌, ◌∷◌, [], IfSome, IsTrue, None, OnOk, drop, map};
 ghost use Rattle.idl_scope.specs.Facts.{key_of, operations_among};

@@ -6,6 +6,7 @@
 
 mod addition;
 mod answer;
+mod apart;
 mod data_type;
 mod digest;
 mod digested;
