@@ -1,12 +1,16 @@
 -- What was kept of a root's units, beside facts of which more and more are told.
 use Rattle.std.proofs.Common.{◌≡◌, ℕ, zero, suc, ◌<◌, Bool, true, false, List, [], ◌∷◌, ◌++◌, length, get_or, map, nat_eq, Option, refl, ap, sym, subst, ◌∙◌, arith, append-nil, append_assoc}
-use Rattle.std.specs.Prelude.{All, Contains}
+use Rattle.std.specs.Prelude.{All, Contains, IfSome}
+use Rattle.std.specs.Global.{Global}
+use Rattle.std.specs.Prelude.{Vec}
 use Rattle.std.proofs.lemmas.List.Elements.{All-append, All-contains, All-map, All-weaker, Contains-append_left, Contains-append_right}
 use Rattle.idl_check.specs.Verdict.{verdict}
 use Rattle.idl_check.specs.declared.verdict.Verdict.{Verdict}
 use Rattle.idl_memo.specs.Query.{Agree, asked, outcome}
-use Rattle.idl_root.specs.Followed.{IsBeside, ShareNone}
+use Rattle.idl_root.specs.Followed.{IsBeside, IsFollowed, IsKeeping, ShareNone}
 use Rattle.idl_root.specs.Kept.{AreKept, AreNoted, IsJudged, IsKept, added_by}
+use Rattle.idl_root.specs.declared.following.Following.{Following}
+use Rattle.idl_root.specs.declared.keeping.Keeping.{Keeping}
 use Rattle.idl_root.specs.declared.kept.Judgement.{Judgement}
 use Rattle.idl_root.specs.declared.kept.KeptUnit.{KeptUnit}
 use Rattle.idl_root.specs.declared.kept.KeptUnit.TheVariants.{Judged, Entered, Left}
@@ -192,3 +196,30 @@ pub kept-more : (facts : List UnitFacts) (kept : List KeptUnit) (k : KeptUnit) �
 kept-more facts [] k all one = (subst (λ fs. IsKept fs k) (append-nil facts) one, tt)
 kept-more facts (j ∷ kept) k all one =
     (all.0, kept-more (facts ++ added_by j ∷ []) kept k all.1 (subst (λ fs. IsKept fs k) (sym (append_assoc facts (added_by j ∷ []) (map added_by kept))) one))
+
+map-push : {A B : Type 0} (f : A → B) (xs : List A) (x : A) → map f (xs ++ x ∷ []) ≡ map f xs ++ f x ∷ []
+map-push f [] x = refl
+map-push f (y ∷ xs) x = ap (λ l. f y ∷ l) (map-push f xs x)
+
+pub keeping-more : (keeping : Keeping) (facts : List UnitFacts) (unit : KeptUnit) (now : Vec KeptUnit Global) (next : Option Following) (adds : UnitFacts)
+    → IsKeeping keeping facts → now.items ≡ keeping.kept.items ++ unit ∷ [] → IsKept facts unit → added_by unit ≡ adds
+    → IfSome next (λ f. IsFollowed f (facts ++ adds ∷ [])) → IsKeeping (record { kept = now; following = next }) (facts ++ adds ∷ [])
+keeping-more keeping facts unit now next adds k is one own followed = record {
+  units = subst (AreKept []) (sym is) (kept-more [] keeping.kept.items unit k.units (subst (λ fs. IsKept fs unit) (sym k.added) one));
+  added = ap (map added_by) is ∙ map-push added_by keeping.kept.items unit ∙ (λ i. k.added i ++ own i ∷ []);
+  followed = followed;
+}
+
+-- a copy is judged as it is
+pub judged-copy : (facts : List UnitFacts) (text copy : UnitText) (judgement other : Judgement) → copy ≡ text → other ≡ judgement → IsJudged facts text judgement → IsJudged facts copy other
+judged-copy facts text copy judgement other same alike j =
+    subst (IsJudged facts copy) (sym alike) (subst (λ t. IsJudged facts t judgement) (sym same) j)
+
+-- ---- what is noted
+
+-- keys that are in a log, of which each has its digest among numbers
+pub keys-noted : {V : Type 0} (digests : List ℕ) (log : List (Key × V)) (keys : List Key) → All (λ e. Contains digests (key_digest e.0)) log
+    → All (λ k. Contains (map (λ e. e.0) log) k) keys → AreNoted digests keys
+keys-noted digests log keys noted whole =
+    let here : Key → Type 0 = λ q. Contains digests (key_digest q) in
+    All-weaker (Contains (map (λ e. e.0) log)) here (λ k c. All-contains here (map (λ e. e.0) log) k (All-map here (λ e. e.0) log noted) c) keys whole

@@ -111,7 +111,7 @@ fn keeping<'k>(
 
 // The rows of a root whose units are all judged, and what is kept of it.
 fn told(alloc: Global, end: &Place, judging: Judging) -> Result<Recompiled, AllocError>
-    requires { IfSome judging.entry.gathered.keeping (λ k. IsKeeping k judging.entry.env) }
+    requires { IfSome judging.gathered.keeping (λ k. IsKeeping k judging.env) }
     ensures { IfOk result (λ root. root.compiled ≡ told end.now (held judging.entry)) }
 {
     let is_open = judging.is_open();

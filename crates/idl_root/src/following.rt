@@ -179,7 +179,7 @@ impl<'k> Following<'k> {
             return Ok(None);
         }
         if self.more > 0 && self.next_of(text).is_none() {
-            return Ok(self.with_more(env, facts)?);
+            return Ok(self.with_more(facts)?);
         }
         Ok(self.exchanged(env, facts)?)
     }
@@ -223,9 +223,9 @@ impl<'k> Following<'k> {
     }
 
     // Before the next unit, where one more adds that.
-    fn with_more(self, _env: &Env, facts: &Facts) -> Result<Option<Following<'k>>, AllocError>
-        ensures { IfOk result (λ found. IfSome found (λ f.
-            IsFollowed self.entry _env.now → IsFollowed f (_env.now ++ facts.now ∷ []))) }
+    fn with_more(self, facts: &Facts) -> Result<Option<Following<'k>>, AllocError>
+        ensures { IfOk result (λ found. IfSome found (λ f. (here : List UnitFacts)
+            → IsFollowed self.entry here → IsFollowed f (here ++ facts.now ∷ []))) }
     {
         adding();
         exchanging();

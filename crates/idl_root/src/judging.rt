@@ -76,7 +76,7 @@ impl<'a> Judging<'a> {
         ensures held { IfOk result (λ judging.
             held judging
             ≡ record { facts = []; found = findings.items; rows = []; listed = [] }) }
-        ensures keeping { IfOk result (λ judging. judging.gathered.keeping ≡ keeping) }
+        ensures keeping { IfOk result (λ judging. judging.gathered.keeping ≡ keeping.entry) }
     {
         let rows = Vec::with_capacity(alloc, count)?;
         let listed = Vec::with_capacity(alloc, count)?;
@@ -94,7 +94,7 @@ impl<'a> Judging<'a> {
 
     /// After these units.
     pub fn with_all(self, alloc: Global, units: &'a [Unit]) -> Result<Judging<'a>, AllocError>
-        requires { IfSome self.entry.gathered.keeping (λ k. IsKeeping k self.entry.env) }
+        requires { IfSome self.gathered.keeping (λ k. IsKeeping k self.env) }
         ensures held { IfOk result (λ judging. held judging ≡ to_come (held self.entry) units.now) }
         ensures kept { IfOk result (λ judging.
             IfSome judging.gathered.keeping (λ k. IsKeeping k judging.env)) }
@@ -130,7 +130,7 @@ impl<'a> Judging<'a> {
 
     /// What was found, the rows of the dump, and what is kept.
     pub fn ended(self) -> Ended
-        requires { IfSome self.entry.gathered.keeping (λ k. IsKeeping k self.entry.env) }
+        requires { IfSome self.gathered.keeping (λ k. IsKeeping k self.env) }
         ensures found { result.findings ≡ self.entry.gathered.findings }
         ensures rows { result.rows ≡ self.entry.gathered.rows }
     {
@@ -145,7 +145,7 @@ impl<'a> Judging<'a> {
 impl<'a> Gathered<'a> {
     // What was found, the rows, and what is kept.
     fn ended(self) -> Ended
-        requires { (facts : List UnitFacts) × IfSome self.entry.keeping (λ k. IsKeeping k facts) }
+        requires { (facts : List UnitFacts) × IfSome self.keeping (λ k. IsKeeping k facts) }
         ensures found { result.findings ≡ self.entry.findings }
         ensures rows { result.rows ≡ self.entry.rows }
     {

@@ -102,7 +102,10 @@ fn judged<'k>(
     ensures followed { IfOk result (λ r.
         IfSome r.1 (λ f. IsFollowed f (env.now ++ r.0.value.verdict.writes ∷ []))) }
 {
-    let Some(following) = caught_up(following, text)? else {
+    let Some(before) = following else {
+        return Ok(judged_anew(alloc, env, text)?);
+    };
+    let Some(following) = before.caught_up(text)? else {
         return Ok(judged_anew(alloc, env, text)?);
     };
     if let Some(judgement) = following.judgement(text) {
@@ -113,20 +116,6 @@ fn judged<'k>(
     let judgement = Judgement::new(alloc, env, text)?;
     let next = following.with_other(env, text, judgement.verdict.writes.get())?;
     Ok((judgement, next))
-}
-
-// What is followed behind the units that are no longer there, if the next one isn't of this text.
-fn caught_up<'k>(
-    following: Option<Following<'k>>,
-    text: &UnitText,
-) -> Result<Option<Following<'k>>, AllocError>
-    ensures { (facts : List UnitFacts) → IfSome following (λ f. IsFollowed f facts)
-        → IfOk result (λ found. IfSome found (λ f. IsFollowed f facts)) }
-{
-    match following {
-        Some(following) => Ok(following.caught_up(text)?),
-        None => Ok(None),
-    }
 }
 
 // What is followed behind a file boundary that adds that.
