@@ -45,7 +45,7 @@ impl Drop for Compiled {
 #[derive(Drop)]
 pub struct Recompiled {
     pub compiled: Compiled,
-    pub kept: Option<KeptUnits>,
+    pub units: KeptUnits,
 }
 
 /// Compiles what a root expands to, where its last line is this place.
@@ -56,10 +56,7 @@ pub struct Recompiled {
 pub fn compile(alloc: Global, end: &Place, expansion: &Expansion) -> Result<Compiled, AllocError>
     ensures { IfOk result (λ compiled. compiled ≡ compile end.now expansion.now) }
 {
-    let Recompiled {
-        compiled,
-        kept: _kept,
-    } = compile_with(alloc, end, expansion, None)?;
+    let (compiled, _kept) = compile_with(alloc, end, expansion, None)?;
     Ok(compiled)
 }
 
@@ -73,7 +70,12 @@ pub fn compile_after(
 ) -> Result<Recompiled, AllocError>
     ensures { IfOk result (λ root. root.compiled ≡ compile end.now expansion.now) }
 {
-    Ok(compile_with(alloc, end, expansion, Some(earlier))?)
+    let (compiled, kept) = compile_with(alloc, end, expansion, Some(earlier))?;
+    let units = match kept {
+        Some(units) => units,
+        None => KeptUnits::none(alloc),
+    };
+    Ok(Recompiled { compiled, units })
 }
 
 // The same, where something is kept if something was.
@@ -83,8 +85,8 @@ fn compile_with(
     end: &Place,
     expansion: &Expansion,
     earlier: Option<&KeptUnits>,
-) -> Result<Recompiled, AllocError>
-    ensures { IfOk result (λ root. root.compiled ≡ compile end.now expansion.now) }
+) -> Result<(Compiled, Option<KeptUnits>), AllocError>
+    ensures { IfOk result (λ root. root.0 ≡ compile end.now expansion.now) }
 {
     let units = split(alloc, expansion)?;
     let findings = event_findings(alloc, expansion)?;
@@ -110,9 +112,13 @@ fn keeping<'k>(
 }
 
 // The rows of a root whose units are all judged, and what is kept of it.
-fn told(alloc: Global, end: &Place, judging: Judging) -> Result<Recompiled, AllocError>
+fn told(
+    alloc: Global,
+    end: &Place,
+    judging: Judging,
+) -> Result<(Compiled, Option<KeptUnits>), AllocError>
     requires { IfSome judging.gathered.keeping (λ k. IsKeeping k judging.env) }
-    ensures { IfOk result (λ root. root.compiled ≡ told end.now (held judging.entry)) }
+    ensures { IfOk result (λ root. root.0 ≡ told end.now (held judging.entry)) }
 {
     let is_open = judging.is_open();
     let printed = judging.printed(alloc)?;
@@ -134,7 +140,7 @@ fn told(alloc: Global, end: &Place, judging: Judging) -> Result<Recompiled, Allo
         dump: rows_beside(alloc, is_faulty, rows),
         is_faulty,
     };
-    Ok(Recompiled { compiled, kept })
+    Ok((compiled, kept))
 }
 
 // The row of a scope that is open at the end, if one is.

@@ -8,11 +8,8 @@ ghost use Rattle.idl_root.specs.declared.kept.KeptUnit.TheVariants.{Judged};
 ghost use Rattle.idl_scope.specs.Facts.{UnitFacts};
 
 use crate::kept::{Judgement, KeptUnit};
-use crate::standins::{
-    digests_into, digests_looked_at, exchanging, has_same_operations, is_same_step,
-};
 use idl_check::DeclarationTask;
-use idl_scope::{Env, Facts, adding};
+use idl_scope::{Env, Facts, adding, exchanging};
 use idl_unit::UnitText;
 use std::alloc::{AllocError, Global};
 use std::rc::Rc;
@@ -119,10 +116,10 @@ impl<'k> Following<'k> {
         };
         let facts = judgement.verdict.writes.get();
         let none = Facts::new(alloc);
-        if !is_same_step(facts, &none) || !has_same_operations(facts, &none)? {
+        if !facts.is_same_step(&none) || !facts.has_same_operations(&none) {
             return Ok(None);
         }
-        digests_into(facts, &mut changed)?;
+        facts.digests_into(&mut changed)?;
         Ok(Some(Following {
             alloc,
             kept: rest,
@@ -150,7 +147,7 @@ impl<'k> Following<'k> {
         let Some((_next, rest)) = kept.split_first() else {
             return Ok(None);
         };
-        let Some(looked) = digests_looked_at(env, facts)? else {
+        let Some(looked) = env.digests_looked_at(facts)? else {
             return Ok(None);
         };
         if !share_none(looked.as_slice(), changed.as_slice()) {
@@ -202,12 +199,12 @@ impl<'k> Following<'k> {
             return Ok(None);
         };
         let before = judgement.verdict.writes.get();
-        if !is_same_step(before, facts) || !has_same_operations(before, facts)? {
+        if !before.is_same_step(facts) || !before.has_same_operations(facts) {
             return Ok(None);
         }
-        digests_into(before, &mut changed)?;
-        digests_into(facts, &mut changed)?;
-        let Some(looked) = digests_looked_at(env, facts)? else {
+        before.digests_into(&mut changed)?;
+        facts.digests_into(&mut changed)?;
+        let Some(looked) = env.digests_looked_at(facts)? else {
             return Ok(None);
         };
         if !share_none(looked.as_slice(), changed.as_slice()) {
@@ -237,10 +234,10 @@ impl<'k> Following<'k> {
             more,
         } = self;
         let none = Facts::new(alloc);
-        if !is_same_step(facts, &none) || !has_same_operations(facts, &none)? {
+        if !facts.is_same_step(&none) || !facts.has_same_operations(&none) {
             return Ok(None);
         }
-        digests_into(facts, &mut changed)?;
+        facts.digests_into(&mut changed)?;
         Ok(Some(Following {
             alloc,
             kept,

@@ -1,10 +1,15 @@
 //! What is kept of the units of a root.
 
 ghost use Rattle.std.specs.Prelude.{◌≡◌, [], IfOk};
-ghost use Rattle.idl_root.specs.Kept.{AreKept, IsJudged};
+ghost use Rattle.idl_check.specs.Verdict.{verdict};
+ghost use Rattle.idl_memo.specs.Query.{asked};
+ghost use Rattle.idl_root.specs.Judged.{verdict_over};
+ghost use Rattle.idl_root.specs.Kept.{AreKept, AreNoted, IsJudged};
+ghost use Rattle.idl_scope.specs.Facts.{answers};
+ghost use Rattle.idl_scope.specs.declared.lookup.TheConstants.{TURNS};
 
-use crate::standins::noting_verdict;
-use idl_check::Verdict;
+use idl_check::{DeclarationTask, Verdict, verdict_of};
+use idl_memo::{Journal, reliance};
 use idl_scope::Env;
 use idl_unit::UnitText;
 use std::alloc::{AllocError, Global};
@@ -92,7 +97,24 @@ impl Judgement {
     pub fn new(alloc: Global, env: &Env, text: &UnitText) -> Result<Rc<Judgement>, AllocError>
         ensures { IfOk result (λ judgement. IsJudged env.now text.now judgement.value) }
     {
-        let (verdict, asked) = noting_verdict(alloc, env, text)?;
+        let (verdict, asked) = noted_verdict(alloc, env, text)?;
         Ok(Rc::new(alloc, Judgement { verdict, asked })?)
     }
+}
+
+// The verdict of a text over facts, and digests of the keys that it asked.
+fn noted_verdict(
+    alloc: Global,
+    env: &Env,
+    text: &UnitText,
+) -> Result<(Verdict, Vec<u64>), AllocError>
+    ensures said { IfOk result (λ r. r.0 ≡ verdict_over env.now text.now) }
+    ensures noted { IfOk result (λ r.
+        AreNoted r.1.items (asked (verdict TURNS text.now) (answers env.now))) }
+{
+    reliance::<Env, DeclarationTask>();
+    let mut journal = Journal::noting(alloc);
+    let verdict = verdict_of(env, &mut journal, text)?;
+    let digests = journal.digests().ok_or(AllocError)?;
+    Ok((verdict, digests))
 }

@@ -12,7 +12,6 @@ mod keeping;
 mod kept;
 mod laws;
 mod printing;
-mod standins;
 
 pub use compiled::{Compiled, Recompiled, Row, compile, compile_after};
 pub use kept::KeptUnits;

@@ -32,7 +32,7 @@ returns-in_ok-cross-in-Left-clause-added c =
 pub returns-in_ok-cross-in-Left-clause-gathered : goal.returns-in_ok-cross-in-Left-clause-gathered
 returns-in_ok-cross-in-Left-clause-gathered c = λ facts.
     let o = with_gathered facts c.args.self.now in
-    c.cross.ensures.gathered facts ∙ with-none o ∙ ap (λ u. with_units o (judged_at c.args.env.now u)) (sym c.in-Left.is)
+    c.cross-in-Left.ensures.gathered facts ∙ with-none o ∙ ap (λ u. with_units o (judged_at c.args.env.now u)) (sym c.in-Left.is)
 
 pub returns-in-End-clause-added : goal.returns-in-End-clause-added
 returns-in-End-clause-added c = ap (added c.args.env.now) (sym c.in-End.is)
