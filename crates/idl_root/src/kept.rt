@@ -115,6 +115,8 @@ fn noted_verdict(
     reliance::<Env, DeclarationTask>();
     let mut journal = Journal::noting(alloc);
     let verdict = verdict_of(env, &mut journal, text)?;
-    let digests = journal.digests().ok_or(AllocError)?;
+    let Some(digests) = journal.digests() else {
+        return Err(AllocError);
+    };
     Ok((verdict, digests))
 }
