@@ -120,6 +120,9 @@ impl<'k> Following<'k> {
             return Ok(None);
         }
         facts.digests_into(&mut changed)?;
+        if changed.len() > MOST {
+            return Ok(None);
+        }
         Ok(Some(Following {
             alloc,
             kept: rest,
@@ -172,9 +175,6 @@ impl<'k> Following<'k> {
         ensures { IfOk result (λ found. IfSome found (λ f.
             IsFollowed self.entry env.now → IsFollowed f (env.now ++ facts.now ∷ []))) }
     {
-        if self.changed.len() > MOST {
-            return Ok(None);
-        }
         if self.more > 0 && self.next_of(text).is_none() {
             return Ok(self.with_more(facts)?);
         }
@@ -204,6 +204,9 @@ impl<'k> Following<'k> {
         }
         before.digests_into(&mut changed)?;
         facts.digests_into(&mut changed)?;
+        if changed.len() > MOST {
+            return Ok(None);
+        }
         let Some(looked) = env.digests_looked_at(facts)? else {
             return Ok(None);
         };
@@ -238,6 +241,9 @@ impl<'k> Following<'k> {
             return Ok(None);
         }
         facts.digests_into(&mut changed)?;
+        if changed.len() > MOST {
+            return Ok(None);
+        }
         Ok(Some(Following {
             alloc,
             kept,
