@@ -1,5 +1,6 @@
 pub mod Bucketed
 pub mod Causes
+pub mod Digests
 pub mod FreshTasks
 pub mod Holding
 pub mod Lookup

@@ -1,4 +1,5 @@
 mod FindingLemmas
+mod FollowingLemmas
 mod JudgingLemmas
 mod OrderLemmas
 mod PrintLemmas

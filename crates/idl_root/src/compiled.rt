@@ -1,12 +1,15 @@
 //! The compilation of a root.
 
-ghost use Rattle.std.specs.Prelude.{◌≡◌, ◌++◌, IfOk, map};
+ghost use Rattle.std.specs.Prelude.{◌≡◌, ◌++◌, [], IfOk, IfSome, map};
 ghost use Rattle.idl_root.specs.Compile.{compile, rows_beside, has_error, open_row, told};
 ghost use Rattle.idl_root.specs.Findings.{in_order};
+ghost use Rattle.idl_root.specs.Followed.{IsKeeping};
 ghost use Rattle.idl_root.specs.Held.{held};
 
 use crate::finding::{Finding, event_findings, has_error, push_rows, rows_in_order};
-use crate::judging::Judging;
+use crate::judging::{Ended, Judging};
+use crate::keeping::Keeping;
+use crate::kept::KeptUnits;
 use crate::printing::Printed;
 use idl_base::{Seq, Text};
 use idl_event::{Code, Expansion, Place, diagnostic_row};
@@ -38,29 +41,92 @@ impl Drop for Compiled {
     }
 }
 
+/// What compiling a root gives, and what is kept of its units.
+#[derive(Drop)]
+pub struct Recompiled {
+    pub compiled: Compiled,
+    pub units: KeptUnits,
+}
+
 /// Compiles what a root expands to, where its last line is this place.
 ///
 /// The diagnostics stand in the order of the events that they name: a fault of the preprocessor has one, and so has a unit
 /// with a fault, at the token where it is decided. Behind them stands E23 where a scope is open at the end, and then what is
 /// declared ahead and never defined, in the order of the listing.
-#[tactic(auto, unfolding(crate::specs::Compile::compile))]
 pub fn compile(alloc: Global, end: &Place, expansion: &Expansion) -> Result<Compiled, AllocError>
     ensures { IfOk result (λ compiled. compiled ≡ compile end.now expansion.now) }
 {
+    let (compiled, _kept) = compile_with(alloc, end, expansion, None)?;
+    Ok(compiled)
+}
+
+/// The same, and what is kept of the root's units, for the next time. Of what was kept the last time that is taken over whose
+/// keys are answered as they were.
+pub fn compile_after(
+    alloc: Global,
+    end: &Place,
+    expansion: &Expansion,
+    earlier: &KeptUnits,
+) -> Result<Recompiled, AllocError>
+    ensures { IfOk result (λ root. root.compiled ≡ compile end.now expansion.now) }
+{
+    let (compiled, kept) = compile_with(alloc, end, expansion, Some(earlier))?;
+    let units = match kept {
+        Some(units) => units,
+        None => KeptUnits::none(alloc),
+    };
+    Ok(Recompiled { compiled, units })
+}
+
+// The same, where something is kept if something was.
+#[tactic(auto, unfolding(crate::specs::Compile::compile))]
+fn compile_with(
+    alloc: Global,
+    end: &Place,
+    expansion: &Expansion,
+    earlier: Option<&KeptUnits>,
+) -> Result<(Compiled, Option<KeptUnits>), AllocError>
+    ensures { IfOk result (λ root. root.0 ≡ compile end.now expansion.now) }
+{
     let units = split(alloc, expansion)?;
     let findings = event_findings(alloc, expansion)?;
-    let first = Judging::new(alloc, findings, units.as_slice().len())?;
+    let count = units.as_slice().len();
+    let keeping = keeping(alloc, earlier, count.saturating_sub(1))?;
+    let first = Judging::new(alloc, findings, count, keeping)?;
     let judging = first.with_all(alloc, units.as_slice())?;
     Ok(told(alloc, end, judging)?)
 }
 
-// The rows of a root whose units are all judged.
-fn told(alloc: Global, end: &Place, judging: Judging) -> Result<Compiled, AllocError>
-    ensures { IfOk result (λ compiled. compiled ≡ told end.now (held judging.entry)) }
+// Before the first of so many units, where this was kept, if anything is kept.
+fn keeping<'k>(
+    alloc: Global,
+    earlier: Option<&'k KeptUnits>,
+    count: usize,
+) -> Result<Option<Keeping<'k>>, AllocError>
+    ensures { IfOk result (λ found. IfSome found (λ keeping. IsKeeping keeping [])) }
+{
+    match earlier {
+        Some(earlier) => Ok(Some(Keeping::new(alloc, earlier, count)?)),
+        None => Ok(None),
+    }
+}
+
+// The rows of a root whose units are all judged, and what is kept of it.
+fn told(
+    alloc: Global,
+    end: &Place,
+    judging: Judging,
+) -> Result<(Compiled, Option<KeptUnits>), AllocError>
+    requires { IfSome judging.gathered.keeping (λ k. IsKeeping k judging.env) }
+    ensures { IfOk result (λ root. root.0 ≡ told end.now (held judging.entry)) }
 {
     let is_open = judging.is_open();
     let printed = judging.printed(alloc)?;
-    let (findings, rows) = judging.ended();
+    let Ended {
+        findings,
+        rows,
+        kept,
+    } = judging.ended();
     let is_faulty = is_open || has_error(&findings) || has_error(&printed.findings);
     let Printed {
         findings: closing,
@@ -68,12 +134,13 @@ fn told(alloc: Global, end: &Place, judging: Judging) -> Result<Compiled, AllocE
     } = printed;
     let open = open_rows(alloc, end, is_open)?;
     let diagnostics = diagnostics(alloc, findings, open, closing)?;
-    Ok(Compiled {
+    let compiled = Compiled {
         diagnostics: Seq::from_vec(diagnostics),
         listing: rows_beside(alloc, is_faulty, listing),
         dump: rows_beside(alloc, is_faulty, rows),
         is_faulty,
-    })
+    };
+    Ok((compiled, kept))
 }
 
 // The row of a scope that is open at the end, if one is.

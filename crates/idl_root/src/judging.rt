@@ -1,7 +1,9 @@
 //! The verdicts of a root's units.
 
-ghost use Rattle.std.specs.Prelude.{◌≡◌, ◌++◌, [], IfOk, List, OnOk, flat_map, option_to_list};
+ghost use Rattle.std.specs.Prelude.{◌≡◌, ◌++◌, ◌∷◌, [], IfOk, IfSome, List, OnOk, flat_map, option_to_list};
 ghost use Rattle.idl_root.specs.Compile.{is_open};
+ghost use Rattle.idl_root.specs.Followed.{IsKeeping};
+ghost use Rattle.idl_root.specs.Kept.{IsBoundary, added_by};
 ghost use Rattle.idl_root.specs.Printed.{closing_finding, entry_row};
 ghost use Rattle.idl_root.specs.Held.{held, to_come, with_gathered, with_judged, with_units};
 ghost use Rattle.idl_root.specs.Judged.{added, boundary, judged_at, judged_over, verdict_over};
@@ -9,6 +11,8 @@ ghost use Rattle.idl_scope.specs.Facts.{UnitFacts};
 
 use crate::compiled::Row;
 use crate::finding::{Finding, Spelled, push_fault};
+use crate::keeping::Keeping;
+use crate::kept::{KeptUnit, KeptUnits};
 use crate::printing::{Listed, Printed, print_all, push_listed};
 use idl_check::{Verdict, verdict_of};
 use idl_memo::{Bank, Journal};
@@ -29,6 +33,16 @@ pub struct Gathered<'a> {
     pub rows: Vec<Row>,
     /// The names that have an id, in the order in which they were declared first.
     pub listed: Vec<Listed<'a>>,
+    /// What is kept of the units, if anything is.
+    pub keeping: Option<Keeping<'a>>,
+}
+
+/// What came of all units.
+#[derive(Drop)]
+pub struct Ended {
+    pub findings: Vec<Finding>,
+    pub rows: Vec<Row>,
+    pub kept: Option<KeptUnits>,
 }
 
 impl<'a> Drop for Judging<'a> {
@@ -46,6 +60,7 @@ impl<'a> Drop for Gathered<'a> {
             findings: _findings,
             rows: _rows,
             listed: _listed,
+            keeping: _keeping,
         } = self;
     }
 }
@@ -56,10 +71,12 @@ impl<'a> Judging<'a> {
         alloc: Global,
         findings: Vec<Finding>,
         count: usize,
+        keeping: Option<Keeping<'a>>,
     ) -> Result<Judging<'a>, AllocError>
-        ensures { IfOk result (λ judging.
+        ensures held { IfOk result (λ judging.
             held judging
             ≡ record { facts = []; found = findings.items; rows = []; listed = [] }) }
+        ensures keeping { IfOk result (λ judging. judging.gathered.keeping ≡ keeping.entry) }
     {
         let rows = Vec::with_capacity(alloc, count)?;
         let listed = Vec::with_capacity(alloc, count)?;
@@ -70,13 +87,17 @@ impl<'a> Judging<'a> {
                 findings,
                 rows,
                 listed,
+                keeping,
             },
         })
     }
 
     /// After these units.
     pub fn with_all(self, alloc: Global, units: &'a [Unit]) -> Result<Judging<'a>, AllocError>
-        ensures { IfOk result (λ judging. held judging ≡ to_come (held self.entry) units.now) }
+        requires { IfSome self.gathered.keeping (λ k. IsKeeping k self.env) }
+        ensures held { IfOk result (λ judging. held judging ≡ to_come (held self.entry) units.now) }
+        ensures kept { IfOk result (λ judging.
+            IfSome judging.gathered.keeping (λ k. IsKeeping k judging.env)) }
     {
         let Judging {
             mut env,
@@ -107,10 +128,11 @@ impl<'a> Judging<'a> {
         print_all(alloc, &self.env, self.gathered.listed.as_slice())
     }
 
-    /// What was found, and the rows of the dump.
-    pub fn ended(self) -> (Vec<Finding>, Vec<Row>)
-        ensures found { result.0 ≡ self.entry.gathered.findings }
-        ensures rows { result.1 ≡ self.entry.gathered.rows }
+    /// What was found, the rows of the dump, and what is kept.
+    pub fn ended(self) -> Ended
+        requires { IfSome self.gathered.keeping (λ k. IsKeeping k self.env) }
+        ensures found { result.findings ≡ self.entry.gathered.findings }
+        ensures rows { result.rows ≡ self.entry.gathered.rows }
     {
         let Judging {
             env: _env,
@@ -121,17 +143,27 @@ impl<'a> Judging<'a> {
 }
 
 impl<'a> Gathered<'a> {
-    // The findings, and the rows.
-    fn ended(self) -> (Vec<Finding>, Vec<Row>)
-        ensures found { result.0 ≡ self.entry.findings }
-        ensures rows { result.1 ≡ self.entry.rows }
+    // What was found, the rows, and what is kept.
+    fn ended(self) -> Ended
+        requires { (facts : List UnitFacts) × IfSome self.keeping (λ k. IsKeeping k facts) }
+        ensures found { result.findings ≡ self.entry.findings }
+        ensures rows { result.rows ≡ self.entry.rows }
     {
         let Gathered {
             findings,
             rows,
             listed: _listed,
+            keeping,
         } = self;
-        (findings, rows)
+        let kept = match keeping {
+            Some(keeping) => Some(keeping.ended()),
+            None => None,
+        };
+        Ended {
+            findings,
+            rows,
+            kept,
+        }
     }
 
     // Puts in what comes of one unit more over these facts, and gives what it adds to them.
@@ -141,18 +173,21 @@ impl<'a> Gathered<'a> {
         env: &Env,
         unit: &'a Unit,
     ) -> Result<Option<Shared<Facts>>, AllocError>
+        requires { IfSome self.old.keeping (λ k. IsKeeping k env.now) }
         ensures added { IfOk result (λ facts. option_to_list facts ≡ added env.now unit.now) }
         ensures gathered { OnOk result ((facts : List UnitFacts)
             → with_gathered facts self.new
             ≡ with_units (with_gathered facts self.old) (judged_at env.now unit.now)) }
+        ensures kept { IfOk result (λ facts.
+            IfSome self.new.keeping (λ k. IsKeeping k (env.now ++ option_to_list facts))) }
     {
         match unit {
             Unit::Spelled(text, sites) => {
                 let unit = Spelled { text, sites };
                 Ok(Some(self.add_spelled(alloc, env, unit)?))
             }
-            Unit::Entered(_file) => Ok(Some(boundary(alloc, Step::Enters)?)),
-            Unit::Left(_file) => Ok(Some(boundary(alloc, Step::Leaves)?)),
+            Unit::Entered(_file) => Ok(Some(self.cross(alloc, env, KeptUnit::Entered)?)),
+            Unit::Left(_file) => Ok(Some(self.cross(alloc, env, KeptUnit::Left)?)),
             Unit::End => Ok(None),
         }
     }
@@ -164,16 +199,46 @@ impl<'a> Gathered<'a> {
         env: &Env,
         unit: Spelled<'a>,
     ) -> Result<Shared<Facts>, AllocError>
+        requires { IfSome self.old.keeping (λ k. IsKeeping k env.now) }
         ensures added { IfOk result (λ facts.
             facts ≡ (verdict_over env.now unit.entry.text.now).writes) }
         ensures gathered { OnOk result ((facts : List UnitFacts)
             → with_gathered facts self.new
             ≡ with_judged (with_gathered facts self.old)
             (judged_over env.now unit.entry.text.now unit.entry.sites.now)) }
+        ensures kept { IfOk result (λ facts.
+            IfSome self.new.keeping (λ k. IsKeeping k (env.now ++ facts ∷ []))) }
     {
-        let verdict = verdict_over(env, unit.text)?;
-        self.add_verdict(alloc, unit, &verdict)?;
-        Ok(verdict.writes.clone()?)
+        let Some(keeping) = &mut self.keeping else {
+            let verdict = verdict_over(env, unit.text)?;
+            self.add_verdict(alloc, unit, &verdict)?;
+            return Ok(verdict.writes.clone()?);
+        };
+        let judgement = keeping.judge(alloc, env, unit.text)?;
+        self.add_verdict(alloc, unit, &judgement.verdict)?;
+        Ok(judgement.verdict.writes.clone()?)
+    }
+
+    // The same of a file boundary.
+    fn cross(
+        &mut self,
+        alloc: Global,
+        env: &Env,
+        unit: KeptUnit,
+    ) -> Result<Shared<Facts>, AllocError>
+        requires boundary { IsBoundary unit }
+        requires kept { IfSome self.old.keeping (λ k. IsKeeping k env.now) }
+        ensures added { IfOk result (λ facts. facts ≡ added_by unit) }
+        ensures gathered { (facts : List UnitFacts)
+            → with_gathered facts self.new ≡ with_gathered facts self.old }
+        ensures kept { IfOk result (λ facts.
+            IfSome self.new.keeping (λ k. IsKeeping k (env.now ++ facts ∷ []))) }
+    {
+        let facts = boundary(alloc, step_of(&unit))?;
+        if let Some(keeping) = &mut self.keeping {
+            keeping.cross(env, unit, facts.get())?;
+        }
+        Ok(facts)
     }
 
     // Puts in what comes of a unit with this verdict.
@@ -183,18 +248,30 @@ impl<'a> Gathered<'a> {
         unit: Spelled<'a>,
         verdict: &Verdict,
     ) -> Result<(), AllocError>
-        ensures { OnOk result ((facts : List UnitFacts)
+        ensures gathered { OnOk result ((facts : List UnitFacts)
             → with_gathered facts self.new
             ≡ with_judged (with_gathered facts self.old) (record {
               text = unit.entry.text.now;
               sites = unit.entry.sites.now;
               verdict = verdict.now;
             })) }
+        ensures keeping { self.new.keeping ≡ self.old.keeping }
     {
         push_fault(alloc, &mut self.findings, unit, verdict.fault)?;
         push_row(&mut self.rows, &verdict.row)?;
         push_listed(&mut self.listed, unit, verdict.writes.get())?;
         Ok(())
+    }
+}
+
+// How a file boundary changes the files entered.
+fn step_of(unit: &KeptUnit) -> Step
+    requires { IsBoundary unit.now }
+    ensures { added_by unit.now ≡ boundary result }
+{
+    match unit {
+        KeptUnit::Left => Step::Leaves,
+        _ => Step::Enters,
     }
 }
 

@@ -6,9 +6,13 @@
 
 mod compiled;
 mod finding;
+mod following;
 mod judging;
+mod keeping;
+mod kept;
 mod laws;
 mod printing;
 
-pub use compiled::{Compiled, Row, compile};
+pub use compiled::{Compiled, Recompiled, Row, compile, compile_after};
+pub use kept::KeptUnits;
 pub use laws::{ordering, telling};

@@ -23,7 +23,7 @@ use Rattle.idl_scope.specs.declared.key.Key.TheVariants.{Cursor, Opened, Nameles
 use Rattle.idl_scope.specs.declared.kind.Kind.{Kind}
 use Rattle.idl_scope.specs.declared.kind.Kind.TheVariants.{Interface}
 use Rattle.idl_scope.specs.declared.kind.Stage.TheVariants.{Complete}
-use Rattle.idl_scope.proofs.Membership.{IsIn, Contains-IsIn}
+use Rattle.idl_scope.proofs.Membership.{IsIn, IsIn-map, Contains-IsIn}
 
 -- ---- facts behind facts
 
@@ -105,14 +105,9 @@ module _ (keys : List Key) where
         bases : Option Entity → List Key
         bases o = elim o [ None ↦ [] | Some e ↦ map entity_key e.bases ]
 
-        map-in : (b : List (List ℕ)) (bs : List (List (List ℕ))) → IsIn b bs → IsIn (entity_key b) (map entity_key bs)
-        map-in b [] i = absurd i
-        map-in b (c ∷ bs) (inl e) = inl (ap entity_key e)
-        map-in b (c ∷ bs) (inr i) = inr (map-in b bs i)
-
         by_entity : (o : Option Entity) → ((k : Key) → IsIn k (bases o) → v.answers k ≡ w.answers k) → declares v o ≡ declares w o
         by_entity None g = refl
-        by_entity (Some e) g = ap (λ x. Declares x ∷ []) (closed-same e (λ b i. g (entity_key b) (map-in b e.bases i)))
+        by_entity (Some e) g = ap (λ x. Declares x ∷ []) (closed-same e (λ b i. g (entity_key b) (IsIn-map entity_key b e.bases i)))
 
         by_kind : (b : Bool) → ((k : Key) → IsIn k (cond b (entity_key s.path ∷ bases (entity_in (w.answers (entity_key s.path)))) []) → v.answers k ≡ w.answers k)
             → cond b (declares v (entity_in (v.answers (entity_key s.path)))) [] ≡ cond b (declares w (entity_in (w.answers (entity_key s.path)))) []
@@ -198,14 +193,15 @@ module _ (keys : List Key) where
       λ i. record (before i) { entered = prefix_in (prefix i) ∷ (before i).entered }
   step-before w v Leaves before h = λ i. record (before i) { entered = drop 1 (before i).entered }
 
+  -- so worlds that agree outside some keys do, after a change that looks at none of them
+  pub after_step-outside : (w v : World) (step : Step) → WorldsAgreeOutside keys w v → AreApart (looked_at w step) keys → WorldsAgreeOutside keys (after_step w step) (after_step v step)
+  after_step-outside w v step (same, both) apart =
+      let read : (k : Key) → IsIn k (looked_at w step) → v.answers k ≡ w.answers k = λ k i. same k (apart k (Contains-IsIn k (looked_at w step) i)) in
+      (step-outside w v step same both.0 both.1 read, (step-inside w v step both.0 read, step-before w v step both.1 read))
+
   -- the facts of a unit, added to worlds that agree outside some keys, of which they look at none
   pub after-outside : (w v : World) (f : UnitFacts) → WorldsAgreeOutside keys w v → AreApart (looked_at_by w f) keys → WorldsAgreeOutside keys (after w f) (after v f)
   after-outside w v f (same, both) apart =
-      let inside = both.0 in
-      let before = both.1 in
       let added = over-outside f.additions keys w.answers v.answers same in
-      let more = ap (λ x. more_inside x (operations_among f.additions)) inside in
-      let read : (k : Key) → IsIn k (looked_at_by w f) → over f.additions k (v.answers k) ≡ over f.additions k (w.answers k) = λ k i. added k (apart k (Contains-IsIn k (looked_at_by w f) i)) in
-      let grown = with_additions f.additions w in
-      let other = with_additions f.additions v in
-      (step-outside grown other f.step added more before read, (step-inside grown other f.step more read, step-before grown other f.step before read))
+      let more = ap (λ x. more_inside x (operations_among f.additions)) both.0 in
+      after_step-outside (with_additions f.additions w) (with_additions f.additions v) f.step (added, (more, both.1)) apart

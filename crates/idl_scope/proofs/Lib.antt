@@ -1,12 +1,15 @@
 pub mod AnswerLemmas
+pub mod ApartLemmas
 pub mod CountLemmas
 pub mod DenotesOnce
+pub mod ExchangeLaws
 pub mod FactsLaws
 pub mod FirstLemmas
 pub mod Introduced
 pub mod LookupLaws
 pub mod Meant
 pub mod Membership
+pub mod OperationLemmas
 pub mod PathLemmas
 pub mod PlaceLemmas
 pub mod PrefixLaws

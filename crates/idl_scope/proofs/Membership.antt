@@ -1,5 +1,5 @@
 -- Membership by recursion over the list, and lists whose items are apart.
-use Rattle.std.proofs.Common.{◌≡◌, ◌⊎◌, ℕ, zero, suc, ◌≤◌, ◌<◌, Bool, true, false, List, [], ◌∷◌, ◌++◌, length, get_or, Option, Some, None, refl, ap, sym, inl, inr, arith, length-append, subst}
+use Rattle.std.proofs.Common.{◌≡◌, ◌⊎◌, ℕ, zero, suc, ◌≤◌, ◌<◌, Bool, true, false, List, [], ◌∷◌, ◌++◌, length, get_or, map, Option, Some, None, refl, ap, sym, inl, inr, arith, length-append, subst}
 use Rattle.std.specs.Prelude.{◌≢◌, option_to_list, Contains, AllPairs}
 
 abbrev pub IsIn : {A : Type 0} → A → List A → Type 0
@@ -23,6 +23,11 @@ pub IsIn-split : {A : Type 0} (x : A) (xs ys : List A) → IsIn x (xs ++ ys) →
 IsIn-split x [] ys h = inr h
 IsIn-split x (z ∷ xs) ys (inl e) = inl (inl e)
 IsIn-split x (z ∷ xs) ys (inr h) = elim (IsIn-split x xs ys h) as (λ _. IsIn x (z ∷ xs) ⊎ IsIn x ys) [ inl p ↦ inl (inr p) | inr q ↦ inr q ]
+
+pub IsIn-map : {A B : Type 0} (f : A → B) (x : A) (xs : List A) → IsIn x xs → IsIn (f x) (map f xs)
+IsIn-map f x [] h = absurd h
+IsIn-map f x (y ∷ xs) (inl e) = inl (ap f e)
+IsIn-map f x (y ∷ xs) (inr h) = inr (IsIn-map f x xs h)
 
 pub IsIn-option : {A : Type 0} (x : A) (o : Option A) → IsIn x (option_to_list o) → o ≡ Some x
 IsIn-option x None h = absurd h

@@ -1,7 +1,7 @@
 //! What a declared name or a use adds, and how the open scopes change.
 
-ghost use Rattle.std.specs.Prelude.{◌≡◌, IfOk};
-ghost use Rattle.idl_scope.specs.Facts.{answer_of, key_of};
+ghost use Rattle.std.specs.Prelude.{◌≡◌, ◌∷◌, [], IfOk, IfSome, IsTrue, None};
+ghost use Rattle.idl_scope.specs.Facts.{answer_of, key_of, operations_among};
 ghost use Rattle.idl_scope.specs.Key.{key_digest, key_eq};
 
 use crate::answer::Answer;
@@ -100,6 +100,20 @@ impl Addition {
         }
     }
 
+    /// The path of the operation or attribute that it declares, if it does.
+    pub(crate) fn operation(&self) -> Option<&Path>
+        ensures some { IfSome result (λ path. operations_among (self.now ∷ []) ≡ path.now ∷ []) }
+        ensures none { result ≡ None → operations_among (self.now ∷ []) ≡ [] }
+    {
+        let Addition::Declares(entity) = self else {
+            return None;
+        };
+        if !entity.get().is_operation() {
+            return None;
+        }
+        Some(&entity.get().path)
+    }
+
     /// The answer that it leaves there.
     pub fn answer(&self) -> Result<Answer, AllocError>
         ensures { IfOk result (λ answer. answer ≡ answer_of self.now) }
@@ -108,6 +122,26 @@ impl Addition {
             Addition::Declares(entity) => Ok(Answer::Known(entity.clone()?)),
             Addition::Uses(_, _, _) => Ok(Answer::Used),
             Addition::Identifies(_, identity) => Ok(Answer::Identified(identity.clone()?)),
+        }
+    }
+}
+
+impl Step {
+    /// Whether it is the same change.
+    pub(crate) fn is(&self, other: &Step) -> bool
+        ensures { IsTrue result → self.now ≡ other.now }
+    {
+        match (self, other) {
+            (Step::Stays, Step::Stays)
+            | (Step::Closes, Step::Closes)
+            | (Step::Enters, Step::Enters)
+            | (Step::Leaves, Step::Leaves) => true,
+            (Step::Opens(path, kind), Step::Opens(opened, other)) => {
+                *path == *opened && *kind == *other
+            }
+            (Step::OpensNameless(kind), Step::OpensNameless(other)) => *kind == *other,
+            (Step::Prefixes(text), Step::Prefixes(other)) => *text == *other,
+            _ => false,
         }
     }
 }

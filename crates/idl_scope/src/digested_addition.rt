@@ -55,9 +55,9 @@ impl DigestedAddition {
         self.addition.key_with(alloc, self.digest)
     }
 
-    // The digest of that key.
+    /// The digest of that key.
     #[inline]
-    fn digest(&self) -> u64
+    pub fn digest(&self) -> u64
         ensures { result ≡ key_digest (key_of self.now) }
     {
         self.digest

@@ -3,12 +3,12 @@
 //! Each function does nothing: it carries its laws as clauses. They hold of any facts, also of such as
 //! no declarations add; only, a walk over bases must be allowed as many turns as the facts name bases.
 
-ghost use Rattle.std.specs.Prelude.{◌≡◌, ◌≢◌, ◌↔◌, ◌∷◌, ◌++◌, [], ℕ, List, Ok, Option, Result, Some, true, AllPairs, Contains};
+ghost use Rattle.std.specs.Prelude.{◌≡◌, ◌≢◌, ◌↔◌, ◌∷◌, ◌++◌, [], ℕ, List, Ok, Option, Result, Some, true, AllPairs, Contains, map};
 ghost use Rattle.idl_lex.specs.Keywords.{folded};
 ghost use Rattle.idl_memo.specs.Query.{Agree, asked, outcome};
 ghost use Rattle.idl_tree.specs.declared.name.ScopedName.{ScopedName};
 ghost use Rattle.idl_scope.specs.Bases.{HasTurnsFor};
-ghost use Rattle.idl_scope.specs.Facts.{UnitFacts, World, after, after_all, answers, no_prefix, over, path_around, prefix_in, scopes_in};
+ghost use Rattle.idl_scope.specs.Facts.{UnitFacts, World, after, after_all, answers, key_of, no_prefix, operations_among, over, path_around, prefix_in, scopes_in};
 ghost use Rattle.idl_scope.specs.Lookup.{Lookup, denoted, has, under};
 ghost use Rattle.idl_scope.specs.Meaning.{Denotes, Has, Reaches, entity_found, own_at, seen};
 ghost use Rattle.idl_scope.specs.Outside.{AgreeOutside, AreApart, WorldsAgreeOutside, looked_at_by};
@@ -94,6 +94,26 @@ pub fn adding()
     ensures facts { (keys : List Key) (w other : World) (facts : UnitFacts)
         → WorldsAgreeOutside keys w other → AreApart (looked_at_by w facts) keys
         → WorldsAgreeOutside keys (after w facts) (after other facts) }
+{}
+
+/// Facts that take the place of others with the same operations and the same change of the open scopes leave answers that are the
+/// same outside the keys of both; with no operations and no such change they may also come or go. What facts look at is told from
+/// either of two worlds, if they look at none of the keys outside of which these agree.
+pub fn exchanging()
+    ensures pair { (keys : List Key) (w other : World) (f g : UnitFacts)
+        → WorldsAgreeOutside keys w other → f.step ≡ g.step
+        → operations_among f.additions ≡ operations_among g.additions
+        → let more = keys ++ (map key_of f.additions ++ map key_of g.additions) in
+        AreApart (looked_at_by w f) more → WorldsAgreeOutside more (after w f) (after other g) }
+    ensures less { (keys : List Key) (w other : World) (f : UnitFacts)
+        → WorldsAgreeOutside keys w other → f.step ≡ Stays → operations_among f.additions ≡ []
+        → WorldsAgreeOutside (keys ++ map key_of f.additions) (after w f) other }
+    ensures more { (keys : List Key) (w other : World) (g : UnitFacts)
+        → WorldsAgreeOutside keys w other → g.step ≡ Stays → operations_among g.additions ≡ []
+        → WorldsAgreeOutside (keys ++ map key_of g.additions) w (after other g) }
+    ensures looked_at { (keys : List Key) (w other : World) (f : UnitFacts)
+        → WorldsAgreeOutside keys w other → AreApart (looked_at_by other f) keys
+        → AreApart (looked_at_by w f) keys }
 {}
 
 /// Over answers that agree on the keys that a name asks, it is found as the same and asks the same

@@ -6,12 +6,14 @@
 
 mod addition;
 mod answer;
+mod apart;
 mod data_type;
 mod digest;
 mod digested;
 mod digested_addition;
 mod entity;
 mod env;
+mod exchange;
 mod facts;
 mod fault;
 mod found;
@@ -44,7 +46,9 @@ pub use found::Found;
 pub use identity::{Fixed, Identity, Prefix};
 pub use key::Key;
 pub use kind::{Kind, Stage};
-pub use laws::{adding, denotation, found_in_a_scope, introduction, own_facts, own_path, reliance};
+pub use laws::{
+    adding, denotation, exchanging, found_in_a_scope, introduction, own_facts, own_path, reliance,
+};
 pub use lookup::{Place, TURNS, View};
 pub use name::{folded_name, shared_name};
 pub use naming::{Standpoint, resolve};

@@ -145,13 +145,9 @@ fn keep_operation(paths: &mut Vec<Path>, addition: &Addition) -> Result<(), Allo
     ensures { OnOk result
         (paths.new.items ≡ paths.old.items ++ operations_among (addition.now ∷ [])) }
 {
-    let Addition::Declares(entity) = addition else {
-        return Ok(());
-    };
-    if !entity.get().is_operation() {
-        return Ok(());
+    if let Some(path) = addition.operation() {
+        paths.push(path.clone()?)?;
     }
-    paths.push(entity.get().path.clone()?)?;
     Ok(())
 }
 

@@ -267,8 +267,8 @@ impl State {
     }
 }
 
-// The innermost of the open scopes and those outward of it, if it isn't the global one.
-fn closable(scopes: &[Scope]) -> Option<(&Scope, &[Scope])>
+/// The innermost of the open scopes and those outward of it, if it isn't the global one.
+pub fn closable(scopes: &[Scope]) -> Option<(&Scope, &[Scope])>
     ensures { option_map (λ p. (p.0.now, p.1.now)) result ≡ closable scopes.now }
 {
     match scopes {

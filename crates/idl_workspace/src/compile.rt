@@ -12,7 +12,7 @@ use idl_base::Seq;
 use idl_event::{Answer, Expansion, FileName, Key, Place, RootBank};
 use idl_memo::Kept;
 use idl_prep::absent;
-use idl_root::Compiled;
+use idl_root::{Compiled, KeptUnits, Recompiled};
 use idl_source::Name;
 use std::alloc::{AllocError, Global};
 
@@ -34,6 +34,13 @@ impl Drop for CompiledRoot {
     }
 }
 
+/// What a root compiles to, and what is kept of its units.
+#[derive(Drop)]
+pub struct CompiledAgain {
+    pub compiled: CompiledRoot,
+    pub units: KeptUnits,
+}
+
 /// Compiles a root over a bank, in which its own file may be absent, from the result of its task.
 pub fn compile<B: RootBank>(
     alloc: Global,
@@ -50,6 +57,29 @@ pub fn compile<B: RootBank>(
         rows,
         absent: Seq::from_vec(names),
     })
+}
+
+/// The same, and what is kept of the root's units for the next time, where this was kept of them the last time.
+pub fn compile_after<B: RootBank>(
+    alloc: Global,
+    bank: &B,
+    kept: &KeptExpansion,
+    earlier: &KeptUnits,
+) -> Result<CompiledAgain, AllocError>
+    requires { HoldsOver key_eq expansion (B.at bank.now) kept.now }
+    ensures { IfOk result (λ root. root.compiled ≡ compile_over (B.at bank.now) kept.now.text) }
+{
+    let end = end_of(alloc, bank, kept.text())?;
+    let Recompiled {
+        compiled: rows,
+        units,
+    } = idl_root::compile_after(alloc, &end, kept.out(), earlier)?;
+    let names = absent(alloc, kept.log())?;
+    let compiled = CompiledRoot {
+        rows,
+        absent: Seq::from_vec(names),
+    };
+    Ok(CompiledAgain { compiled, units })
 }
 
 // The end of a root: its number of lines.

@@ -15,18 +15,21 @@ ghost use Rattle.idl_workspace.specs.Work.{answer_eq};
 
 use crate::asked::asked;
 use crate::bank::SessionBank;
-use crate::compile::{CompiledRoot, KeptExpansion, compile};
+use crate::compile::{CompiledAgain, CompiledRoot, KeptExpansion, compile, compile_after};
 use idl_event::{Key, RootBank};
 use idl_memo::{Edited, Meter, run_anew};
 use idl_prep::RootTask;
+use idl_root::KeptUnits;
 use idl_source::Name;
 use std::alloc::{AllocError, Global};
 use std::rc::Rc;
 
-/// What is kept of a root: the result of its task, and what the root compiles to.
+/// What is kept of a root: the result of its task, what the root compiles to, and from its second compilation on what is kept of
+/// its units for the next one.
 pub struct KeptRoot {
     result: Rc<KeptExpansion>,
     compiled: Rc<CompiledRoot>,
+    units: Rc<KeptUnits>,
 }
 
 impl Drop for KeptRoot {
@@ -34,6 +37,7 @@ impl Drop for KeptRoot {
         let KeptRoot {
             result: _result,
             compiled: _compiled,
+            units: _units,
         } = self;
     }
 }
@@ -59,6 +63,7 @@ impl KeptRoot {
         Ok(KeptRoot {
             result,
             compiled: Rc::new(alloc, compiled)?,
+            units: Rc::new(alloc, KeptUnits::none(alloc))?,
         })
     }
 
@@ -96,10 +101,36 @@ impl KeptRoot {
             return Ok(KeptRoot {
                 result: self.result.clone()?,
                 compiled: self.compiled.clone()?,
+                units: self.units.clone()?,
             });
         }
-        let root = self.result.text().copied();
-        Ok(KeptRoot::anew(alloc, root, edited, meter)?)
+        Ok(self.again(alloc, edited, meter)?)
+    }
+
+    // What comes of the root over another bank: it is expanded anew, and what is kept of its units goes into its compilation.
+    //
+    // After want of memory nothing is said of the meter.
+    fn again<B: RootBank>(
+        &self,
+        alloc: Global,
+        bank: &B,
+        meter: &mut Meter,
+    ) -> Result<KeptRoot, AllocError>
+        requires room { meter.old.expanded < most_compared }
+        ensures kept { IfOk result (λ kept.
+            IsKept (B.at bank.now) (self.now.result.value.text, kept)) }
+        ensures count { let expanded = meter.old.expanded + 1 in
+            OnOk result (meter.new ≡ record meter.old { expanded = expanded }) }
+    {
+        let task = RootTask::new(self.result.text().copied());
+        let result = run_anew(alloc, &task, bank, meter)?;
+        let root = compile_after(alloc, bank, &result, &self.units)?;
+        let CompiledAgain { compiled, units } = root;
+        Ok(KeptRoot {
+            result,
+            compiled: Rc::new(alloc, compiled)?,
+            units: Rc::new(alloc, units)?,
+        })
     }
 
     /// What the root compiles to.

@@ -1,4 +1,4 @@
-//! What no clause says of journals: which of them has a log to give back.
+//! What no clause says of journals: which of them has a log to give back, and which has digests.
 
 use super::expansions::{Answers, answers_of};
 use idl_event::{FileName, Key};
@@ -25,5 +25,23 @@ fn a_journal_gives_back_the_log_that_it_took(rt: HostRuntime) -> Result<(), Fail
     let told: Journal<Answers> = Journal::told();
     assert!(rt; told.give_back(&mut log).is_err());
     assert_eq!(rt; log.len(), 1);
+    Ok(())
+}
+
+// One that notes digests gives that of a key that was asked; one of which contracts alone are told has none.
+#[test]
+fn a_journal_gives_the_digests_that_it_noted(rt: HostRuntime) -> Result<(), Fail> {
+    let alloc = rt.alloc();
+    let Some(name) = Name::new(b"a.idl") else {
+        return Ok(());
+    };
+    let bank = answers_of(alloc, &name, "x")?;
+    let key = Key::File(FileName::new(alloc, &name)?);
+    let mut noting = Journal::noting(alloc);
+    noting.ask(&key, &bank)?;
+    assert_eq!(rt; noting.digests().map(|digests| digests.len()), Some(1));
+    let mut told = Journal::told();
+    told.ask(&key, &bank)?;
+    assert!(rt; told.digests().is_none());
     Ok(())
 }

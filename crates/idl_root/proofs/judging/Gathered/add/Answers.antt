@@ -16,23 +16,23 @@ returns-in_ok-add_spelled-in-Spelled-clause-gathered c = λ facts.
     ∙ with-one o (judged_over c.args.env.now text c.in-Spelled.sites)
     ∙ ap (λ u. with_units o (judged_at c.args.env.now u)) (sym c.in-Spelled.is)
 
-pub returns-in_ok-boundary-in-Entered-clause-added : goal.returns-in_ok-boundary-in-Entered-clause-added
-returns-in_ok-boundary-in-Entered-clause-added c =
-    ap (λ f. f ∷ []) c.in_ok-boundary-in-Entered.ensures ∙ ap (added c.args.env.now) (sym c.in-Entered.is)
+pub returns-in_ok-cross-in-Entered-clause-added : goal.returns-in_ok-cross-in-Entered-clause-added
+returns-in_ok-cross-in-Entered-clause-added c =
+    ap (λ f. f ∷ []) c.in_ok-cross-in-Entered.ensures.added ∙ ap (added c.args.env.now) (sym c.in-Entered.is)
 
-pub returns-in_ok-boundary-in-Entered-clause-gathered : goal.returns-in_ok-boundary-in-Entered-clause-gathered
-returns-in_ok-boundary-in-Entered-clause-gathered c = λ facts.
+pub returns-in_ok-cross-in-Entered-clause-gathered : goal.returns-in_ok-cross-in-Entered-clause-gathered
+returns-in_ok-cross-in-Entered-clause-gathered c = λ facts.
     let o = with_gathered facts c.args.self.now in
-    with-none o ∙ ap (λ u. with_units o (judged_at c.args.env.now u)) (sym c.in-Entered.is)
+    c.cross.ensures.gathered facts ∙ with-none o ∙ ap (λ u. with_units o (judged_at c.args.env.now u)) (sym c.in-Entered.is)
 
-pub returns-in_ok-boundary-in-Left-clause-added : goal.returns-in_ok-boundary-in-Left-clause-added
-returns-in_ok-boundary-in-Left-clause-added c =
-    ap (λ f. f ∷ []) c.in_ok-boundary-in-Left.ensures ∙ ap (added c.args.env.now) (sym c.in-Left.is)
+pub returns-in_ok-cross-in-Left-clause-added : goal.returns-in_ok-cross-in-Left-clause-added
+returns-in_ok-cross-in-Left-clause-added c =
+    ap (λ f. f ∷ []) c.in_ok-cross-in-Left.ensures.added ∙ ap (added c.args.env.now) (sym c.in-Left.is)
 
-pub returns-in_ok-boundary-in-Left-clause-gathered : goal.returns-in_ok-boundary-in-Left-clause-gathered
-returns-in_ok-boundary-in-Left-clause-gathered c = λ facts.
+pub returns-in_ok-cross-in-Left-clause-gathered : goal.returns-in_ok-cross-in-Left-clause-gathered
+returns-in_ok-cross-in-Left-clause-gathered c = λ facts.
     let o = with_gathered facts c.args.self.now in
-    with-none o ∙ ap (λ u. with_units o (judged_at c.args.env.now u)) (sym c.in-Left.is)
+    c.cross-in-Left.ensures.gathered facts ∙ with-none o ∙ ap (λ u. with_units o (judged_at c.args.env.now u)) (sym c.in-Left.is)
 
 pub returns-in-End-clause-added : goal.returns-in-End-clause-added
 returns-in-End-clause-added c = ap (added c.args.env.now) (sym c.in-End.is)

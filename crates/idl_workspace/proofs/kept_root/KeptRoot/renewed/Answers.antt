@@ -17,7 +17,7 @@ use Rattle.idl_memo.specs.declared.meter.Meter.{Meter}
 use Rattle.idl_prep.specs.Root.{expansion}
 use Rattle.idl_workspace.specs.Bank.{bank_of}
 use Rattle.idl_workspace.specs.Work.{answer_eq}
-use Rattle.idl_workspace.proofs.KeptLemmas.{IsKept-at, IsKept-still, meter-anew, meter-still, told-of}
+use Rattle.idl_workspace.proofs.KeptLemmas.{IsKept-still, meter-anew, meter-still, told-of}
 use Rattle.idl_workspace.proofs.kept_root.KeptRoot.renewed.Goals as goal
 
 pub returns-then-holds_after-clause-kept : goal.returns-then-holds_after-clause-kept
@@ -49,15 +49,8 @@ returns-then-holds_after-clause-counts c =
     (compared_at bytes_eq (option_eq answer_eq) expansion key_eq before after kept.text) (keys_compared kept c.holds_after.result)
     c.holds_after.ensures.counts keys stale told.compared
 
-pub anew-requires : goal.anew-requires
-anew-requires c = omega (arith, c.requires.room, ap (λ (m : Meter). m.expanded) c.holds_after.ensures.counts)
-
-pub returns-clause-kept : goal.returns-clause-kept
-returns-clause-kept c =
-    let after = changed key_eq (bank_of c.args.edited.now.base.now) c.args.edited.now.key.now (option_copied c.args.edited.now.answer) in
-    let name : c.copied-root.result ≡ c.args.self.now.result.value.text =
-    c.copied-root.ensures ∙ c.text.ensures ∙ ap (λ (k : Kept Key (Option Answer) (List ℕ) (List Event)). k.text) c.deref-2.ensures in
-    IsKept-at after c.copied-root.result c.args.self.now.result.value.text c.in_ok-anew.field-0 name c.in_ok-anew.ensures.kept
+pub again-requires : goal.again-requires
+again-requires c = omega (arith, c.requires.room, ap (λ (m : Meter). m.expanded) c.holds_after.ensures.counts)
 
 pub returns-clause-counts : goal.returns-clause-counts
 returns-clause-counts c =
@@ -71,6 +64,6 @@ returns-clause-counts c =
     let keys : c.holds_after.new.meter.compared ≡ compared_after c.args.meter.now.compared (keys_compared kept c.holds_after.result) =
     c.holds_after.ensures.compared ∙ ap (λ (k : Kept Key (Option Answer) (List ℕ) (List Event)). compared_after c.args.meter.now.compared (keys_compared k c.holds_after.result)) c.deref.ensures in
     let stale : stale_at bytes_eq (option_eq answer_eq) expansion before after kept.text ≡ 1 = told.stale ∙ ap (λ (b : Bool). if b then 0 else 1) c.if-holds_after.false in
-    meter-anew c.args.meter.now c.holds_after.new.meter c.anew.new.meter (stale_at bytes_eq (option_eq answer_eq) expansion before after kept.text)
+    meter-anew c.args.meter.now c.holds_after.new.meter c.again.new.meter (stale_at bytes_eq (option_eq answer_eq) expansion before after kept.text)
     (compared_at bytes_eq (option_eq answer_eq) expansion key_eq before after kept.text) (keys_compared kept c.holds_after.result)
-    c.holds_after.ensures.counts keys c.in_ok-anew.ensures.count stale told.compared
+    c.holds_after.ensures.counts keys c.in_ok-again.ensures.count stale told.compared

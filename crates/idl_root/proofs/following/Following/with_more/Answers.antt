@@ -1,0 +1,14 @@
+use Rattle.std.proofs.Common.{◌≡◌, ◌++◌, [], map, rules}
+use Rattle.idl_scope.specs.Facts.{key_of, operations_among}
+use Rattle.idl_scope.specs.Key.{key_digest}
+use Rattle.idl_scope.specs.declared.addition.Step.TheVariants.{Stays}
+use Rattle.idl_root.proofs.FollowingLemmas.{beside-more}
+use Rattle.idl_root.proofs.following.Following.with_more.Goals as goal
+
+pub returns : goal.returns
+returns c = λ here b.
+    let g = c.args.facts.now in
+    let stays : g.step ≡ Stays = search rules in
+    let none : operations_among g.additions ≡ [] = search rules in
+    let changed : c.digests_into.new.digests.items ≡ c.args.self.changed.items ++ map (λ a. key_digest (key_of a)) g.additions = search rules in
+    beside-more c.adding.ensures.together c.exchanging.ensures.more c.args.self.changed.items c.args.self.kept.now here g c.digests_into.new.digests.items changed stays none b

@@ -1,0 +1,20 @@
+use Rattle.std.proofs.Common.{◌≡◌, ◌++◌, [], map, rules}
+use Rattle.idl_root.specs.Kept.{added_by}
+use Rattle.idl_root.specs.declared.kept.KeptUnit.{KeptUnit}
+use Rattle.idl_root.specs.declared.kept.KeptUnit.TheVariants.{Judged}
+use Rattle.idl_scope.specs.Facts.{UnitFacts, key_of, operations_among}
+use Rattle.idl_scope.specs.Key.{key_digest}
+use Rattle.idl_scope.specs.declared.addition.Step.TheVariants.{Stays}
+use Rattle.idl_root.proofs.FollowingLemmas.{beside-less}
+use Rattle.idl_root.proofs.following.Following.without_next.Goals as goal
+
+pub returns-clause-followed : goal.returns-clause-followed
+returns-clause-followed c = λ facts b.
+    let k : KeptUnit = Judged c.in-Some._text.now c.in-Some.judgement.now in
+    let f : UnitFacts = added_by k in
+    let before : c.get-facts.result.now ≡ f = search rules in
+    let stays : f.step ≡ Stays = search rules in
+    let none : operations_among f.additions ≡ [] = search rules in
+    let changed : c.digests_into.new.digests.items ≡ c.args.self.changed.items ++ map (λ a. key_digest (key_of a)) f.additions = search rules in
+    beside-less c.adding.ensures.together c.exchanging.ensures.less c.args.self.changed.items k c.in-Some.rest.now c.args.self.kept.now facts
+    c.in-Some.ensures c.digests_into.new.digests.items changed stays none b

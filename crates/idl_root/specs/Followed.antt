@@ -1,0 +1,37 @@
+-- What was kept of a root, beside the facts of the units that stand there now.
+use Rattle.std.specs.Prelude.{◌≡◌, ℕ, List, [], ◌∷◌, Contains, IfSome, map}
+use Rattle.idl_root.specs.Kept.{AreKept, AreNoted, added_by}
+use Rattle.idl_root.specs.declared.kept.KeptUnit.{KeptUnit}
+use Rattle.idl_root.specs.declared.following.Following.{Following}
+use Rattle.idl_root.specs.declared.keeping.Keeping.{Keeping}
+use Rattle.idl_scope.specs.Facts.{UnitFacts, world}
+use Rattle.idl_scope.specs.Outside.{WorldsAgreeOutside}
+use Rattle.idl_scope.specs.declared.key.Key.{Key}
+
+-- before the units of which these are kept other facts stood, and they and these here come to
+-- worlds that agree outside some keys, whose digests are among these
+pub record IsBeside (changed : List ℕ) (kept : List KeptUnit) (facts : List UnitFacts)
+    : Type 0 where
+  pub before : List UnitFacts
+  pub keys : List Key
+  pub units : AreKept before kept
+  pub noted : AreNoted changed keys
+  pub agree : WorldsAgreeOutside keys (world before) (world facts)
+
+-- the same of what is followed
+abbrev pub IsFollowed : Following → List UnitFacts → Type 0
+IsFollowed following facts = IsBeside following.changed.items following.kept.now facts
+
+-- the first of those kept is this one
+abbrev pub IsNext : KeptUnit → List KeptUnit → Type 0
+IsNext k kept = (rest : List KeptUnit) × (kept ≡ k ∷ rest)
+
+-- no number is among both
+abbrev pub ShareNone : List ℕ → List ℕ → Type 0
+ShareNone numbers others = (n : ℕ) → Contains numbers n → Contains others n → ⊥
+
+-- what is kept of the units that added these facts, and what is followed beside them
+pub record IsKeeping (keeping : Keeping) (facts : List UnitFacts) : Type 0 where
+  pub units : AreKept [] keeping.kept.items
+  pub added : map added_by keeping.kept.items ≡ facts
+  pub followed : IfSome keeping.following (λ f. IsFollowed f facts)

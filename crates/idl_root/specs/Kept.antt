@@ -1,0 +1,47 @@
+-- What is kept of the units of a root.
+use Rattle.std.specs.Prelude.{◌≡◌, ℕ, List, [], ◌∷◌, ◌++◌, All, Contains}
+use Rattle.idl_check.specs.Verdict.{verdict}
+use Rattle.idl_memo.specs.Query.{asked}
+use Rattle.idl_root.specs.Judged.{boundary, verdict_over}
+use Rattle.idl_root.specs.declared.kept.Judgement.{Judgement}
+use Rattle.idl_root.specs.declared.kept.KeptUnit.{KeptUnit}
+use Rattle.idl_root.specs.declared.kept.KeptUnit.TheVariants.{Judged, Entered, Left}
+use Rattle.idl_scope.specs.Facts.{UnitFacts, answers}
+use Rattle.idl_scope.specs.Key.{key_digest}
+use Rattle.idl_scope.specs.declared.addition.Step.TheVariants.{Enters, Leaves}
+use Rattle.idl_scope.specs.declared.key.Key.{Key}
+use Rattle.idl_scope.specs.declared.lookup.TheConstants.{TURNS}
+use Rattle.idl_unit.specs.declared.unit.UnitText.{UnitText}
+
+-- each of these keys has its digest among these
+abbrev pub AreNoted : List ℕ → List Key → Type 0
+AreNoted digests keys = All (λ key. Contains digests (key_digest key)) keys
+
+-- what is judged of a text over facts: its verdict, and with digests of all keys that it asked
+pub record IsJudged (facts : List UnitFacts) (text : UnitText) (judgement : Judgement)
+    : Type 0 where
+  pub said : judgement.verdict ≡ verdict_over facts text
+  pub noted : AreNoted judgement.asked.items (asked (verdict TURNS text) (answers facts))
+
+-- what a unit added of which this is kept
+abbrev pub added_by : KeptUnit → UnitFacts
+added_by (Judged text judgement) = judgement.value.verdict.writes
+added_by Entered = boundary Enters
+added_by Left = boundary Leaves
+
+-- what is kept of a unit with tokens is what is judged of its text over these facts
+abbrev pub IsKept : List UnitFacts → KeptUnit → Type 0
+IsKept facts (Judged text judgement) = IsJudged facts text judgement.value
+IsKept facts Entered = Unit {0}
+IsKept facts Left = Unit {0}
+
+-- and so on for units in order, before the first of which these facts stand
+abbrev pub AreKept : List UnitFacts → List KeptUnit → Type 0
+AreKept facts [] = Unit {0}
+AreKept facts (k ∷ kept) = IsKept facts k × AreKept (facts ++ added_by k ∷ []) kept
+
+-- it is kept of a file boundary
+abbrev pub IsBoundary : KeptUnit → Type 0
+IsBoundary (Judged text judgement) = ⊥
+IsBoundary Entered = Unit {0}
+IsBoundary Left = Unit {0}

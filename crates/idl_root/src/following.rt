@@ -1,0 +1,302 @@
+//! What was kept of a root's units, gone through beside the units that stand there now.
+
+ghost use Rattle.std.specs.Prelude.{◌≡◌, ◌-◌, ◌∷◌, ◌++◌, [], IfOk, IfSome, IsTrue, List};
+ghost use Rattle.idl_root.specs.Followed.{IsFollowed, IsNext, ShareNone};
+ghost use Rattle.idl_root.specs.Kept.{AreKept, IsJudged, added_by};
+ghost use Rattle.idl_root.specs.declared.kept.KeptUnit.{KeptUnit as RootKeptUnit};
+ghost use Rattle.idl_root.specs.declared.kept.KeptUnit.TheVariants.{Judged};
+ghost use Rattle.idl_scope.specs.Facts.{UnitFacts};
+
+use crate::kept::{Judgement, KeptUnit};
+use idl_check::DeclarationTask;
+use idl_scope::{Env, Facts, adding, exchanging};
+use idl_unit::UnitText;
+use std::alloc::{AllocError, Global};
+use std::rc::Rc;
+
+// So many keys may be answered otherwise than before, until nothing is taken over any more.
+const MOST: usize = 256;
+
+/// The units kept that are still to come, beside the facts so far.
+pub struct Following<'k> {
+    alloc: Global,
+    kept: &'k [KeptUnit],
+    // Digests of the keys that may be answered otherwise than they were before what is kept.
+    changed: Vec<u64>,
+    // How many more units there were, and how many more there are.
+    less: usize,
+    more: usize,
+}
+
+impl<'k> Drop for Following<'k> {
+    fn drop(self) {
+        let Following {
+            alloc: _alloc,
+            kept: _kept,
+            changed: _changed,
+            less: _less,
+            more: _more,
+        } = self;
+    }
+}
+
+impl<'k> Following<'k> {
+    /// Before the first of so many units.
+    pub fn new(alloc: Global, kept: &'k [KeptUnit], count: usize) -> Following<'k>
+        requires { AreKept [] kept.now }
+        ensures { IsFollowed result [] }
+    {
+        Following {
+            alloc,
+            kept,
+            changed: Vec::new(alloc),
+            less: kept.len().saturating_sub(count),
+            more: count.saturating_sub(kept.len()),
+        }
+    }
+
+    /// What was judged of the next unit, if it is of this text and nothing that it asked has changed.
+    pub fn judgement(&self, text: &UnitText) -> Option<&'k Rc<Judgement>>
+        ensures next { IfSome result (λ j. IsNext (Judged text.now j.now) self.now.kept.now) }
+        ensures judged { (facts : List UnitFacts) → IsFollowed self.now facts
+            → IfSome result (λ j. IsJudged facts text.now j.now.value) }
+    {
+        idl_scope::reliance();
+        idl_memo::reliance::<Env, DeclarationTask>();
+        let judgement = self.next_of(text)?;
+        if !share_none(judgement.asked.as_slice(), self.changed.as_slice()) {
+            return None;
+        }
+        Some(judgement)
+    }
+
+    // What was judged of the next unit, if it is of this text.
+    fn next_of(&self, text: &UnitText) -> Option<&'k Rc<Judgement>>
+        ensures { IfSome result (λ j. IsNext (Judged text.now j.now) self.now.kept.now) }
+    {
+        let (kept, judgement, _rest) = judged_first(self.kept)?;
+        if *kept == *text {
+            return Some(judgement);
+        }
+        None
+    }
+
+    /// Behind the units that are no longer there, if the next one isn't of this text.
+    pub fn caught_up(self, text: &UnitText) -> Result<Option<Following<'k>>, AllocError>
+        ensures { IfOk result (λ found. IfSome found (λ f.
+            (facts : List UnitFacts) → IsFollowed self.entry facts → IsFollowed f facts)) }
+    {
+        let mut following = self;
+        while following.less > 0 && following.next_of(text).is_none() {
+            let Some(next) = following.without_next()? else {
+                return Ok(None);
+            };
+            following = next;
+        }
+        Ok(Some(following))
+    }
+
+    // Behind the next unit, which is no longer there.
+    fn without_next(self) -> Result<Option<Following<'k>>, AllocError>
+        ensures followed { IfOk result (λ found. IfSome found (λ f.
+            (facts : List UnitFacts) → IsFollowed self.entry facts → IsFollowed f facts)) }
+        ensures less { IfOk result (λ found. IfSome found (λ f. f.less ≡ self.entry.less - 1)) }
+    {
+        adding();
+        exchanging();
+        let Following {
+            alloc,
+            kept,
+            mut changed,
+            less,
+            more,
+        } = self;
+        let Some((_text, judgement, rest)) = judged_first(kept) else {
+            return Ok(None);
+        };
+        let facts = judgement.verdict.writes.get();
+        let none = Facts::new(alloc);
+        if !facts.is_same_step(&none) || !facts.has_same_operations(&none) {
+            return Ok(None);
+        }
+        facts.digests_into(&mut changed)?;
+        if changed.len() > MOST {
+            return Ok(None);
+        }
+        Ok(Some(Following {
+            alloc,
+            kept: rest,
+            changed,
+            less: less.saturating_sub(1),
+            more,
+        }))
+    }
+
+    /// Behind the next unit, where this one adds what it added.
+    pub fn with_same(self, env: &Env, facts: &Facts) -> Result<Option<Following<'k>>, AllocError>
+        requires { (k : RootKeptUnit) → IsNext k self.kept.now → added_by k ≡ facts.now }
+        ensures { IfOk result (λ found. IfSome found (λ f.
+            IsFollowed self.entry env.now → IsFollowed f (env.now ++ facts.now ∷ []))) }
+    {
+        adding();
+        exchanging();
+        let Following {
+            alloc,
+            kept,
+            changed,
+            less,
+            more,
+        } = self;
+        let Some((_next, rest)) = kept.split_first() else {
+            return Ok(None);
+        };
+        let Some(looked) = env.digests_looked_at(facts)? else {
+            return Ok(None);
+        };
+        if !share_none(looked.as_slice(), changed.as_slice()) {
+            return Ok(None);
+        }
+        Ok(Some(Following {
+            alloc,
+            kept: rest,
+            changed,
+            less,
+            more,
+        }))
+    }
+
+    /// Behind the next unit, or before it, where one of this text adds that.
+    pub fn with_other(
+        self,
+        env: &Env,
+        text: &UnitText,
+        facts: &Facts,
+    ) -> Result<Option<Following<'k>>, AllocError>
+        ensures { IfOk result (λ found. IfSome found (λ f.
+            IsFollowed self.entry env.now → IsFollowed f (env.now ++ facts.now ∷ []))) }
+    {
+        if self.more > 0 && self.next_of(text).is_none() {
+            return Ok(self.with_more(facts)?);
+        }
+        Ok(self.exchanged(env, facts)?)
+    }
+
+    // Behind the next unit, in whose place one adds that.
+    fn exchanged(self, env: &Env, facts: &Facts) -> Result<Option<Following<'k>>, AllocError>
+        ensures { IfOk result (λ found. IfSome found (λ f.
+            IsFollowed self.entry env.now → IsFollowed f (env.now ++ facts.now ∷ []))) }
+    {
+        adding();
+        exchanging();
+        let Following {
+            alloc,
+            kept,
+            mut changed,
+            less,
+            more,
+        } = self;
+        let Some((_text, judgement, rest)) = judged_first(kept) else {
+            return Ok(None);
+        };
+        let before = judgement.verdict.writes.get();
+        if !before.is_same_step(facts) || !before.has_same_operations(facts) {
+            return Ok(None);
+        }
+        before.digests_into(&mut changed)?;
+        facts.digests_into(&mut changed)?;
+        if changed.len() > MOST {
+            return Ok(None);
+        }
+        let Some(looked) = env.digests_looked_at(facts)? else {
+            return Ok(None);
+        };
+        if !share_none(looked.as_slice(), changed.as_slice()) {
+            return Ok(None);
+        }
+        Ok(Some(Following {
+            alloc,
+            kept: rest,
+            changed,
+            less,
+            more,
+        }))
+    }
+
+    // Before the next unit, where one more adds that.
+    fn with_more(self, facts: &Facts) -> Result<Option<Following<'k>>, AllocError>
+        ensures { IfOk result (λ found. IfSome found (λ f. (here : List UnitFacts)
+            → IsFollowed self.entry here → IsFollowed f (here ++ facts.now ∷ []))) }
+    {
+        adding();
+        exchanging();
+        let Following {
+            alloc,
+            kept,
+            mut changed,
+            less,
+            more,
+        } = self;
+        let none = Facts::new(alloc);
+        if !facts.is_same_step(&none) || !facts.has_same_operations(&none) {
+            return Ok(None);
+        }
+        facts.digests_into(&mut changed)?;
+        if changed.len() > MOST {
+            return Ok(None);
+        }
+        Ok(Some(Following {
+            alloc,
+            kept,
+            changed,
+            less,
+            more: more.saturating_sub(1),
+        }))
+    }
+
+    /// Behind a file boundary that adds that.
+    pub fn across(
+        self,
+        env: &Env,
+        boundary: &KeptUnit,
+        facts: &Facts,
+    ) -> Result<Option<Following<'k>>, AllocError>
+        requires { added_by boundary.now ≡ facts.now }
+        ensures { IfOk result (λ found. IfSome found (λ f.
+            IsFollowed self.entry env.now → IsFollowed f (env.now ++ facts.now ∷ []))) }
+    {
+        if !is_next(self.kept, boundary) {
+            return Ok(None);
+        }
+        Ok(self.with_same(env, facts)?)
+    }
+}
+
+// What is judged of the first of them, if it has tokens, and the others.
+fn judged_first<'k>(
+    kept: &'k [KeptUnit],
+) -> Option<(&'k UnitText, &'k Rc<Judgement>, &'k [KeptUnit])>
+    ensures { IfSome result (λ p. kept.now ≡ Judged p.0.now p.1.now ∷ p.2.now) }
+{
+    match kept.split_first()? {
+        (KeptUnit::Judged(text, judgement), rest) => Some((text, judgement, rest)),
+        _ => None,
+    }
+}
+
+// Whether the first of them is this boundary.
+fn is_next(kept: &[KeptUnit], boundary: &KeptUnit) -> bool
+    ensures { IsTrue result → (k : RootKeptUnit) → IsNext k kept.now → added_by k ≡ added_by boundary.now }
+{
+    match (kept, boundary) {
+        ([KeptUnit::Entered, ..], KeptUnit::Entered) => true,
+        ([KeptUnit::Left, ..], KeptUnit::Left) => true,
+        _ => false,
+    }
+}
+
+// Whether no number is among both.
+fn share_none(numbers: &[u64], others: &[u64]) -> bool
+    ensures { IsTrue result → ShareNone numbers.now others.now }
+{
+    others.is_empty() || !numbers.iter().any(|number| others.contains(number))
+}

@@ -1,0 +1,34 @@
+-- The keys at which facts look, and their digests.
+use Rattle.std.proofs.Common.{◌≡◌, ℕ, List, [], ◌∷◌, map, refl, sym, ap, ◌∙◌, subst}
+use Rattle.std.specs.Prelude.{All, Contains}
+use Rattle.std.proofs.lemmas.List.Elements.{All-weaker, All-contains_itself}
+use Rattle.idl_lex.specs.Keywords.{folded}
+use Rattle.idl_scope.specs.Digest.{path_digest, under}
+use Rattle.idl_scope.specs.Facts.{UnitFacts, World, entity_key, scopes_in, with_additions}
+use Rattle.idl_scope.specs.Key.{key_digest}
+use Rattle.idl_scope.specs.Outside.{gathered_at, looked_at, looked_at_by}
+use Rattle.idl_scope.specs.Path.{name_of, scope_of}
+use Rattle.idl_scope.specs.declared.addition.Step.TheVariants.{Closes}
+use Rattle.idl_scope.specs.declared.key.Key.{Key}
+use Rattle.idl_scope.specs.declared.key.Key.TheVariants.{Cursor}
+use Rattle.idl_scope.proofs.ExchangeLaws.{gathered_at-same}
+use Rattle.idl_scope.proofs.Membership.{Contains-IsIn, IsIn-Contains, IsIn-map}
+
+-- the digest of each key is among theirs
+pub digests-told : (keys looked : List Key) (digests : List ℕ) → looked ≡ keys → digests ≡ map key_digest keys → All (λ k. Contains digests (key_digest k)) looked
+digests-told keys looked digests same told =
+    let digest_in : (k : Key) → Contains keys k → Contains (map key_digest keys) (key_digest k) = λ k c.
+    Contains-IsIn (key_digest k) (map key_digest keys) (IsIn-map key_digest k keys (IsIn-Contains k keys c)) in
+    let here : All (λ k. Contains digests (key_digest k)) keys = All-weaker (Contains keys) (λ k. Contains digests (key_digest k)) (λ k c. subst (λ (ds : List ℕ). Contains ds (key_digest k)) (sym told) (digest_in k c)) keys (All-contains_itself keys) in
+    subst (λ (ks : List Key). All (λ k. Contains digests (key_digest k)) ks) (sym same) here
+
+-- the digest of the key of what stands at a path
+pub entity_digest-is : (path : List (List ℕ)) → under (path_digest (scope_of path)) (folded (name_of path)) ≡ key_digest (entity_key path)
+unfolding key_digest
+entity_digest-is path = refl
+
+-- the keys at which the closing of a scope looks, without additions
+pub looked_at_by-closing : (w : World) (f : UnitFacts) → f.step ≡ Closes → f.additions ≡ [] → looked_at_by w f ≡ Cursor ∷ gathered_at w (scopes_in (w.answers Cursor))
+looked_at_by-closing w f step none =
+    (λ i. looked_at (with_additions (none i) w) (step i))
+    ∙ ap (λ ks. Cursor ∷ ks) (gathered_at-same (with_additions [] w) w (scopes_in (w.answers Cursor)) (λ k i. refl))

@@ -1,0 +1,115 @@
+-- Facts that take the place of others, over answers that are the same outside some keys, and what such facts look at.
+use Rattle.std.proofs.Common.{◌≡◌, Bool, true, false, cond, List, [], ◌∷◌, ◌++◌, map, Option, Some, None, refl, sym, ap, ◌∙◌, subst, inl, inr}
+use Rattle.std.specs.Prelude.{Contains}
+use Rattle.idl_scope.specs.Facts.{UnitFacts, World, after, after_step, answer_of, count_in, entity_in, entity_key, key_of, more_inside, nameless, operations_among, over, path_around, scopes_in, with_additions}
+use Rattle.idl_scope.specs.Key.{key_eq, same_key}
+use Rattle.idl_scope.specs.Kind.{kind_eq}
+use Rattle.idl_scope.specs.Outside.{AgreeOutside, AreApart, WorldsAgreeOutside, gathered_at, looked_at, looked_at_by}
+use Rattle.idl_scope.specs.declared.addition.Addition.{Addition}
+use Rattle.idl_scope.specs.declared.addition.Step.{Step}
+use Rattle.idl_scope.specs.declared.addition.Step.TheVariants.{Stays, Opens, OpensNameless, Closes, Prefixes, Enters, Leaves}
+use Rattle.idl_scope.specs.declared.answer.Answer.{Answer}
+use Rattle.idl_scope.specs.declared.answer.Scope.{Scope}
+use Rattle.idl_scope.specs.declared.key.Key.{Key}
+use Rattle.idl_scope.specs.declared.key.Key.TheVariants.{Cursor, Opened, Nameless, Prefix as PrefixKey}
+use Rattle.idl_scope.specs.declared.kind.Kind.TheVariants.{Interface}
+use Rattle.idl_scope.proofs.AnswerLemmas.{over-cons}
+use Rattle.idl_scope.proofs.FactsLaws.{after_step-outside, over-outside}
+use Rattle.idl_scope.proofs.Membership.{Contains-IsIn, IsIn, IsIn-Contains, IsIn-left, IsIn-right}
+use Rattle.idl_scope.proofs.StateLemmas.{more_inside-nothing}
+
+-- ---- facts that take the place of others
+
+-- additions change no answer but at their keys
+over-elsewhere : (additions : List Addition) (k : Key) (before : Option Answer) → (IsIn k (map key_of additions) → ⊥) → over additions k before ≡ before
+over-elsewhere [] k before out = refl
+over-elsewhere (a ∷ additions) k before out = over-cons a additions k before ∙ by (key_eq k (key_of a)) refl (over-elsewhere additions k before (λ i. out (inr i)))
+  where
+    by : (t : Bool) → key_eq k (key_of a) ≡ t → over additions k before ≡ before → cond t (Some (answer_of a)) (over additions k before) ≡ before
+    by true t rest = absurd (out (inl (sym (same_key k (key_of a) t))))
+    by false t rest = rest
+
+-- the keys outside of which answers are the same where additions take the place of others
+abbrev pub exchanged : List Key → List Addition → List Addition → List Key
+exchanged keys additions others = keys ++ (map key_of additions ++ map key_of others)
+
+over-exchanged : (keys : List Key) (additions others : List Addition) (bank other : Key → Option Answer) → AgreeOutside keys bank other
+    → AgreeOutside (exchanged keys additions others) (λ k. over additions k (bank k)) (λ k. over others k (other k))
+over-exchanged keys additions others bank other same k out =
+    let mine = map key_of additions in
+    let theirs = map key_of others in
+    let apart : IsIn k (keys ++ (mine ++ theirs)) → ⊥ = λ i. out (Contains-IsIn k (keys ++ (mine ++ theirs)) i) in
+    over-elsewhere others k (other k) (λ i. apart (IsIn-right k keys (mine ++ theirs) (IsIn-right k mine theirs i)))
+    ∙ same k (λ c. apart (IsIn-left k keys (mine ++ theirs) (IsIn-Contains k keys c)))
+    ∙ sym (over-elsewhere additions k (bank k) (λ i. apart (IsIn-right k keys (mine ++ theirs) (IsIn-left k mine theirs i))))
+
+-- facts that take the place of others with the same change of the open scopes and the same operations
+pub after-exchanged : (keys : List Key) (w v : World) (f g : UnitFacts) → WorldsAgreeOutside keys w v → f.step ≡ g.step → operations_among f.additions ≡ operations_among g.additions
+    → AreApart (looked_at_by w f) (exchanged keys f.additions g.additions) → WorldsAgreeOutside (exchanged keys f.additions g.additions) (after w f) (after v g)
+after-exchanged keys w v f g (same, both) step operations apart =
+    let more = exchanged keys f.additions g.additions in
+    let added = over-exchanged keys f.additions g.additions w.answers v.answers same in
+    let other = with_additions g.additions v in
+    let inside : other.inside ≡ more_inside w.inside (operations_among f.additions) = λ i. more_inside (both.0 i) (sym operations i) in
+    let changed = after_step-outside more (with_additions f.additions w) other f.step (added, (inside, both.1)) apart in
+    subst (λ (s : Step). WorldsAgreeOutside more (after w f) (after_step other s)) step changed
+
+-- facts that change no open scope and declare no operations stand on one side alone
+pub after-less : (keys : List Key) (w v : World) (f : UnitFacts) → WorldsAgreeOutside keys w v → f.step ≡ Stays → operations_among f.additions ≡ []
+    → WorldsAgreeOutside (keys ++ map key_of f.additions) (after w f) v
+after-less keys w v f (same, both) step operations =
+    let mine = map key_of f.additions in
+    let grown = with_additions f.additions w in
+    let added : AgreeOutside (keys ++ mine) grown.answers v.answers = λ k out.
+    same k (λ c. out (Contains-IsIn k (keys ++ mine) (IsIn-left k keys mine (IsIn-Contains k keys c))))
+    ∙ sym (over-elsewhere f.additions k (w.answers k) (λ i. out (Contains-IsIn k (keys ++ mine) (IsIn-right k keys mine i)))) in
+    let inside : v.inside ≡ grown.inside = both.0 ∙ sym (ap (more_inside w.inside) operations ∙ more_inside-nothing w.inside) in
+    subst (λ (s : Step). WorldsAgreeOutside (keys ++ mine) (after_step grown s) v) (sym step) (added, (inside, both.1))
+
+pub after-more : (keys : List Key) (w v : World) (g : UnitFacts) → WorldsAgreeOutside keys w v → g.step ≡ Stays → operations_among g.additions ≡ []
+    → WorldsAgreeOutside (keys ++ map key_of g.additions) w (after v g)
+after-more keys w v g (same, both) step operations =
+    let mine = map key_of g.additions in
+    let grown = with_additions g.additions v in
+    let added : AgreeOutside (keys ++ mine) w.answers grown.answers = λ k out.
+    over-elsewhere g.additions k (v.answers k) (λ i. out (Contains-IsIn k (keys ++ mine) (IsIn-right k keys mine i)))
+    ∙ same k (λ c. out (Contains-IsIn k (keys ++ mine) (IsIn-left k keys mine (IsIn-Contains k keys c)))) in
+    let inside : grown.inside ≡ w.inside = ap (more_inside v.inside) operations ∙ more_inside-nothing v.inside ∙ both.0 in
+    subst (λ (s : Step). WorldsAgreeOutside (keys ++ mine) w (after_step grown s)) (sym step) (added, (inside, both.1))
+
+-- ---- what facts look at
+
+-- it is told from either of two worlds, since it is looked at itself
+module _ (w v : World) where
+  pub gathered_at-same : (scopes : List Scope) → ((k : Key) → IsIn k (gathered_at v scopes) → v.answers k ≡ w.answers k) → gathered_at w scopes ≡ gathered_at v scopes
+  gathered_at-same [] h = refl
+  gathered_at-same (s ∷ []) h = refl
+  gathered_at-same (s ∷ t ∷ outer) h = by (kind_eq s.kind Interface) h
+    where
+      at : Option Answer → List Key
+      at o = entity_key s.path ∷ elim (entity_in o) [ None ↦ [] | Some e ↦ map entity_key e.bases ]
+
+      by : (b : Bool) → ((k : Key) → IsIn k (cond b (at (v.answers (entity_key s.path))) []) → v.answers k ≡ w.answers k)
+          → cond b (at (w.answers (entity_key s.path))) [] ≡ cond b (at (v.answers (entity_key s.path))) []
+      by true g = ap at (sym (g (entity_key s.path) (inl refl)))
+      by false g = refl
+
+  looked_at-same : (step : Step) → ((k : Key) → IsIn k (looked_at v step) → v.answers k ≡ w.answers k) → looked_at w step ≡ looked_at v step
+  looked_at-same Stays h = refl
+  looked_at-same (Opens path kind) h = refl
+  looked_at-same (OpensNameless kind) h =
+      let count = sym (h Nameless (inl refl)) in
+      let cursor = sym (h Cursor (inr (inl refl))) in
+      λ i. Nameless ∷ Cursor ∷ Opened (nameless (count_in (count i)) ∷ path_around (scopes_in (cursor i))) ∷ PrefixKey ∷ []
+  looked_at-same Closes h =
+      ap (λ o. Cursor ∷ gathered_at w (scopes_in o)) (sym (h Cursor (inl refl))) ∙ ap (λ ks. Cursor ∷ ks) (gathered_at-same (scopes_in (v.answers Cursor)) (λ k i. h k (inr i)))
+  looked_at-same (Prefixes text) h = refl
+  looked_at-same Enters h = refl
+  looked_at-same Leaves h = refl
+
+-- so facts that look at none of the keys outside of which two worlds agree do so over either
+pub looked_at_by-outside : (keys : List Key) (w v : World) (f : UnitFacts) → WorldsAgreeOutside keys w v → AreApart (looked_at_by v f) keys → AreApart (looked_at_by w f) keys
+looked_at_by-outside keys w v f (same, both) apart =
+    let added = over-outside f.additions keys w.answers v.answers same in
+    let one = looked_at-same (with_additions f.additions w) (with_additions f.additions v) f.step (λ k i. added k (apart k (Contains-IsIn k (looked_at_by v f) i))) in
+    λ k c. apart k (subst (λ (ks : List Key). Contains ks k) one c)
