@@ -7,15 +7,18 @@ use Rattle.std.proofs.lemmas.List.Elements.{All-append, All-contains, All-map, A
 use Rattle.idl_check.specs.Verdict.{verdict}
 use Rattle.idl_check.specs.declared.verdict.Verdict.{Verdict}
 use Rattle.idl_memo.specs.Query.{Agree, asked, outcome}
-use Rattle.idl_root.specs.Followed.{IsBeside, IsFollowed, IsKeeping, ShareNone}
-use Rattle.idl_root.specs.Kept.{AreKept, AreNoted, IsJudged, IsKept, added_by}
+use Rattle.idl_root.specs.Followed.{AgreeBut, IsBeside, IsFollowed, IsKeeping, ShareNone}
+use Rattle.idl_repo.specs.Entry.{entry}
+use Rattle.idl_root.specs.Kept.{AreKept, AreNoted, IsJudged, IsKept, IsPrinted, added_by}
 use Rattle.idl_root.specs.declared.following.Following.{Following}
 use Rattle.idl_root.specs.declared.keeping.Keeping.{Keeping}
 use Rattle.idl_root.specs.declared.kept.Judgement.{Judgement}
+use Rattle.idl_root.specs.declared.kept.KeptEntry.{KeptEntry}
 use Rattle.idl_root.specs.declared.kept.KeptUnit.{KeptUnit}
 use Rattle.idl_root.specs.declared.kept.KeptUnit.TheVariants.{Judged, Entered, Left}
 use Rattle.idl_scope.specs.Facts.{UnitFacts, World, after, after_all, answers, first_world, key_of, operations_among, world, with_additions}
 use Rattle.idl_scope.specs.Key.{key_digest}
+use Rattle.idl_scope.specs.Lookup.{Lookup}
 use Rattle.idl_scope.specs.Outside.{AgreeOutside, AreApart, WorldsAgreeOutside, looked_at, looked_at_by}
 use Rattle.idl_scope.specs.declared.addition.Addition.{Addition}
 use Rattle.idl_scope.specs.declared.addition.Step.{Step}
@@ -65,32 +68,48 @@ noted-both changed keys fs gs h =
 -- ---- what is kept, beside facts
 
 -- at first
-pub beside-start : (kept : List KeptUnit) → AreKept [] kept → IsBeside [] kept []
-beside-start kept h = record {
+pub beside-start : (all kept : List KeptUnit) → kept ≡ all → AreKept [] kept → IsBeside (map added_by all) [] kept []
+beside-start all kept same h = record {
   before = [];
-  keys = [];
+  whole = ap (map added_by) same;
   units = h;
-  noted = λ k d lt. absurd (omega (arith, lt));
-  agree = (λ key out. refl, (refl, refl));
+  but = record {
+    keys = [];
+    noted = λ k d lt. absurd (omega (arith, lt));
+    agree = (λ key out. refl, (refl, refl));
+  };
 }
 
-module _ (together : (w : World) (facts more : List UnitFacts) → after_all w (facts ++ more) ≡ after_all (after_all w facts) more) where
+-- behind all units
+pub beside-end : (all : List UnitFacts) (changed : List ℕ) (kept : List KeptUnit) (facts : List UnitFacts) → kept ≡ [] → IsBeside all changed kept facts → AgreeBut changed all facts
+beside-end all changed kept facts none b =
+    let whole : b.before ≡ all = sym (append-nil b.before) ∙ ap (λ k. b.before ++ map added_by k) (sym none) ∙ b.whole in
+    subst (λ before. AgreeBut changed before facts) whole b.but
+
+module _ (together : (w : World) (facts more : List UnitFacts) → after_all w (facts ++ more) ≡ after_all (after_all w facts) more) (all : List UnitFacts) where
   world-more : (facts : List UnitFacts) (f : UnitFacts) → world (facts ++ f ∷ []) ≡ after (world facts) f
   unfolding world
   world-more facts f = together first_world facts (f ∷ [])
 
+  -- behind the first of what was kept
+  whole-next : (k : KeptUnit) (rest kept : List KeptUnit) (before : List UnitFacts) → kept ≡ k ∷ rest → before ++ map added_by kept ≡ all → (before ++ added_by k ∷ []) ++ map added_by rest ≡ all
+  whole-next k rest kept before is whole = append_assoc before (added_by k ∷ []) (map added_by rest) ∙ ap (λ l. before ++ map added_by l) (sym is) ∙ whole
+
   -- behind one unit there and one here
   beside-next : (changed : List ℕ) (keys : List Key) (rest : List KeptUnit) (before facts : List UnitFacts) (old new : UnitFacts)
-      → AreKept (before ++ old ∷ []) rest → AreNoted changed keys
-      → WorldsAgreeOutside keys (after (world before) old) (after (world facts) new) → IsBeside changed rest (facts ++ new ∷ [])
-  beside-next changed keys rest before facts old new units noted agree = record {
+      → (before ++ old ∷ []) ++ map added_by rest ≡ all → AreKept (before ++ old ∷ []) rest → AreNoted changed keys
+      → WorldsAgreeOutside keys (after (world before) old) (after (world facts) new) → IsBeside all changed rest (facts ++ new ∷ [])
+  beside-next changed keys rest before facts old new whole units noted agree = record {
     before = before ++ old ∷ [];
-    keys = keys;
+    whole = whole;
     units = units;
-    noted = noted;
-    agree =
-        subst (λ w. WorldsAgreeOutside keys w (world (facts ++ new ∷ []))) (sym (world-more before old))
-        (subst (λ v. WorldsAgreeOutside keys (after (world before) old) v) (sym (world-more facts new)) agree);
+    but = record {
+      keys = keys;
+      noted = noted;
+      agree =
+          subst (λ w. WorldsAgreeOutside keys w (world (facts ++ new ∷ []))) (sym (world-more before old))
+          (subst (λ v. WorldsAgreeOutside keys (after (world before) old) v) (sym (world-more facts new)) agree);
+    };
   }
 
   -- behind a unit here alone
@@ -98,42 +117,56 @@ module _ (together : (w : World) (facts more : List UnitFacts) → after_all w (
       → WorldsAgreeOutside (keys ++ map key_of g.additions) w (after other g))
       → (changed : List ℕ) (kept : List KeptUnit) (facts : List UnitFacts) (g : UnitFacts)
       → (now : List ℕ) → now ≡ changed ++ own g.additions
-      → g.step ≡ Stays → operations_among g.additions ≡ [] → IsBeside changed kept facts → IsBeside now kept (facts ++ g ∷ [])
-  beside-more law changed kept facts g now is stays none b = subst (λ n. IsBeside n kept (facts ++ g ∷ [])) (sym is) (record {
-    before = b.before;
-    keys = b.keys ++ map key_of g.additions;
-    units = b.units;
-    noted = noted-more changed b.keys g.additions b.noted;
-    agree = subst (λ v. WorldsAgreeOutside (b.keys ++ map key_of g.additions) (world b.before) v) (sym (world-more facts g)) (law b.keys (world b.before) (world facts) g b.agree stays none);
-  })
+      → g.step ≡ Stays → operations_among g.additions ≡ [] → IsBeside all changed kept facts → IsBeside all now kept (facts ++ g ∷ [])
+  beside-more law changed kept facts g now is stays none b =
+      let keys = b.but.keys in
+      let more = keys ++ map key_of g.additions in
+      subst (λ n. IsBeside all n kept (facts ++ g ∷ [])) (sym is) (record {
+        before = b.before;
+        whole = b.whole;
+        units = b.units;
+        but = record {
+          keys = more;
+          noted = noted-more changed keys g.additions b.but.noted;
+          agree = subst (λ v. WorldsAgreeOutside more (world b.before) v) (sym (world-more facts g)) (law keys (world b.before) (world facts) g b.but.agree stays none);
+        };
+      })
 
   -- behind a unit there alone
   pub beside-less : ((keys : List Key) (w other : World) (f : UnitFacts) → WorldsAgreeOutside keys w other → f.step ≡ Stays → operations_among f.additions ≡ []
       → WorldsAgreeOutside (keys ++ map key_of f.additions) (after w f) other)
       → (changed : List ℕ) (k : KeptUnit) (rest kept : List KeptUnit) (facts : List UnitFacts) → kept ≡ k ∷ rest
       → (now : List ℕ) → now ≡ changed ++ own (added_by k).additions
-      → (added_by k).step ≡ Stays → operations_among (added_by k).additions ≡ [] → IsBeside changed kept facts → IsBeside now rest facts
+      → (added_by k).step ≡ Stays → operations_among (added_by k).additions ≡ [] → IsBeside all changed kept facts → IsBeside all now rest facts
   beside-less law changed k rest kept facts is now noted-is stays none b =
       let f = added_by k in
+      let keys = b.but.keys in
+      let more = keys ++ map key_of f.additions in
       let units : AreKept b.before (k ∷ rest) = subst (AreKept b.before) is b.units in
-      subst (λ n. IsBeside n rest facts) (sym noted-is) (record {
+      subst (λ n. IsBeside all n rest facts) (sym noted-is) (record {
         before = b.before ++ f ∷ [];
-        keys = b.keys ++ map key_of f.additions;
+        whole = whole-next k rest kept b.before is b.whole;
         units = units.1;
-        noted = noted-more changed b.keys f.additions b.noted;
-        agree = subst (λ w. WorldsAgreeOutside (b.keys ++ map key_of f.additions) w (world facts)) (sym (world-more b.before f)) (law b.keys (world b.before) (world facts) f b.agree stays none);
+        but = record {
+          keys = more;
+          noted = noted-more changed keys f.additions b.but.noted;
+          agree = subst (λ w. WorldsAgreeOutside more w (world facts)) (sym (world-more b.before f)) (law keys (world b.before) (world facts) f b.but.agree stays none);
+        };
       })
 
   module _ (looked_law : (keys : List Key) (w other : World) (f : UnitFacts) → WorldsAgreeOutside keys w other → AreApart (looked_at_by other f) keys → AreApart (looked_at_by w f) keys) where
     -- behind units that add the same
     pub beside-same : ((keys : List Key) (w other : World) (f : UnitFacts) → WorldsAgreeOutside keys w other → AreApart (looked_at_by w f) keys → WorldsAgreeOutside keys (after w f) (after other f))
         → (changed looked : List ℕ) (k : KeptUnit) (rest kept : List KeptUnit) (facts : List UnitFacts) (f : UnitFacts) → kept ≡ k ∷ rest → added_by k ≡ f
-        → AreNoted looked (looked_at_by (world facts) f) → ShareNone looked changed → IsBeside changed kept facts → IsBeside changed rest (facts ++ f ∷ [])
+        → AreNoted looked (looked_at_by (world facts) f) → ShareNone looked changed → IsBeside all changed kept facts → IsBeside all changed rest (facts ++ f ∷ [])
     beside-same law changed looked k rest kept facts f is adds noted none b =
+        let keys = b.but.keys in
         let units : AreKept b.before (k ∷ rest) = subst (AreKept b.before) is b.units in
-        let apart = looked_law b.keys (world b.before) (world facts) f b.agree (apart-noted looked changed (looked_at_by (world facts) f) b.keys noted b.noted none) in
-        beside-next changed b.keys rest b.before facts f f (subst (λ g. AreKept (b.before ++ g ∷ []) rest) adds units.1) b.noted
-        (law b.keys (world b.before) (world facts) f b.agree apart)
+        let apart = looked_law keys (world b.before) (world facts) f b.but.agree (apart-noted looked changed (looked_at_by (world facts) f) keys noted b.but.noted none) in
+        beside-next changed keys rest b.before facts f f
+        (subst (λ g. (b.before ++ g ∷ []) ++ map added_by rest ≡ all) adds (whole-next k rest kept b.before is b.whole))
+        (subst (λ g. AreKept (b.before ++ g ∷ []) rest) adds units.1) b.but.noted
+        (law keys (world b.before) (world facts) f b.but.agree apart)
 
     -- what is looked at is told by the answers alone
     looked-answers : (w : World) (step : Step) → looked_at_by w (record { additions = []; step = step }) ≡ looked_at w step
@@ -153,41 +186,61 @@ module _ (together : (w : World) (facts more : List UnitFacts) → after_all w (
         → (now : List ℕ) → now ≡ (changed ++ own (added_by k).additions) ++ own g.additions
         → (added_by k).step ≡ g.step → operations_among (added_by k).additions ≡ operations_among g.additions
         → AreNoted looked (looked_at_by (world facts) g) → ShareNone looked now
-        → IsBeside changed kept facts → IsBeside now rest (facts ++ g ∷ [])
+        → IsBeside all changed kept facts → IsBeside all now rest (facts ++ g ∷ [])
     beside-other law changed looked k rest kept facts g is now now-is steps operations noted apart b =
         let none = subst (ShareNone looked) now-is apart in
         let f = added_by k in
+        let keys = b.but.keys in
         let w = world b.before in
         let v = world facts in
         let units : AreKept b.before (k ∷ rest) = subst (AreKept b.before) is b.units in
-        let more = b.keys ++ (map key_of f.additions ++ map key_of g.additions) in
-        let both = noted-both changed b.keys f.additions g.additions b.noted in
+        let more = keys ++ (map key_of f.additions ++ map key_of g.additions) in
+        let both = noted-both changed keys f.additions g.additions b.but.noted in
         let here : AreApart (looked_at_by v g) more = apart-noted looked ((changed ++ own f.additions) ++ own g.additions) (looked_at_by v g) more noted both none in
         let w2 = with_additions f.additions w in
         let v2 = with_additions g.additions v in
         let grown : WorldsAgreeOutside more w2 v2 =
-        law b.keys w v (record { additions = f.additions; step = Stays }) (record { additions = g.additions; step = Stays }) b.agree refl operations (λ key i j. omega (arith, i.1)) in
+        law keys w v (record { additions = f.additions; step = Stays }) (record { additions = g.additions; step = Stays }) b.but.agree refl operations (λ key i j. omega (arith, i.1)) in
         let there : AreApart (looked_at w2 f.step) more =
         subst (λ l. AreApart l more) (looked-answers w2 f.step)
         (looked_law more w2 v2 (record { additions = []; step = f.step }) grown
         (subst (λ l. AreApart l more) (sym (looked-answers v2 f.step)) (subst (λ s. AreApart (looked_at v2 s) more) (sym steps) here))) in
-        subst (λ n. IsBeside n rest (facts ++ g ∷ [])) (sym now-is) (beside-next ((changed ++ own f.additions) ++ own g.additions) more rest b.before facts f g units.1 both (law b.keys w v f g b.agree steps operations there))
+        subst (λ n. IsBeside all n rest (facts ++ g ∷ [])) (sym now-is)
+        (beside-next ((changed ++ own f.additions) ++ own g.additions) more rest b.before facts f g (whole-next k rest kept b.before is b.whole) units.1 both (law keys w v f g b.but.agree steps operations there))
 
--- what was judged of a text is so here, where nothing that it asked has changed
+-- ---- what is taken over
+
+module _ {Out : Type 0} (query : Lookup Out) (outside : (keys asks : List Key) (bank other : Key → Option Answer) → AgreeOutside keys bank other → AreApart asks keys → Agree asks bank other)
+    (same : (bank other : Key → Option Answer) → Agree (asked query bank) bank other → outcome query other ≡ outcome query bank)
+    (asks : (bank other : Key → Option Answer) → Agree (asked query bank) bank other → asked query other ≡ asked query bank) where
+  -- a query comes to the same here and asks the same, where nothing that it asked has changed
+  again : (digests changed : List ℕ) (before facts : List UnitFacts) → AreNoted digests (asked query (answers before)) → AgreeBut changed before facts → ShareNone digests changed
+      → (outcome query (answers before) ≡ outcome query (answers facts)) × AreNoted digests (asked query (answers facts))
+  again digests changed before facts noted but none =
+      let there = asked query (answers before) in
+      let apart = apart-noted digests changed there but.keys noted but.noted none in
+      let agrees = outside but.keys there (answers before) (answers facts) but.agree.0 apart in
+      (sym (same (answers before) (answers facts) agrees), subst (AreNoted digests) (sym (asks (answers before) (answers facts) agrees)) noted)
+
+-- what was judged of a text is so here
 pub judged-again : ((keys asks : List Key) (bank other : Key → Option Answer) → AgreeOutside keys bank other → AreApart asks keys → Agree asks bank other)
     → ((text : UnitText) (bank other : Key → Option Answer) → Agree (asked (verdict TURNS text) bank) bank other → outcome (verdict TURNS text) other ≡ outcome (verdict TURNS text) bank)
     → ((text : UnitText) (bank other : Key → Option Answer) → Agree (asked (verdict TURNS text) bank) bank other → asked (verdict TURNS text) other ≡ asked (verdict TURNS text) bank)
-    → (changed : List ℕ) (facts before : List UnitFacts) (text : UnitText) (judgement : Judgement) (keys : List Key)
-    → IsJudged before text judgement → AreNoted changed keys → WorldsAgreeOutside keys (world before) (world facts)
-    → ShareNone judgement.asked.items changed → IsJudged facts text judgement
-judged-again outside same asks changed facts before text judgement keys own noted agree none =
-    let keys_asked = asked (verdict TURNS text) (answers before) in
-    let apart = apart-noted judgement.asked.items changed keys_asked keys own.noted noted none in
-    let agrees = outside keys keys_asked (answers before) (answers facts) agree.0 apart in
-    record {
-      said = own.said ∙ sym (same text (answers before) (answers facts) agrees);
-      noted = subst (AreNoted judgement.asked.items) (sym (asks text (answers before) (answers facts) agrees)) own.noted;
-    }
+    → (changed : List ℕ) (before facts : List UnitFacts) (text : UnitText) (judgement : Judgement)
+    → IsJudged before text judgement → AgreeBut changed before facts → ShareNone judgement.asked.items changed → IsJudged facts text judgement
+judged-again outside same asks changed before facts text judgement own but none =
+    let both = again (verdict TURNS text) outside (same text) (asks text) judgement.asked.items changed before facts own.noted but none in
+    record { said = own.said ∙ both.0; noted = both.1 }
+
+-- and so is what was printed of a name
+pub printed-again : ((keys asks : List Key) (bank other : Key → Option Answer) → AgreeOutside keys bank other → AreApart asks keys → Agree asks bank other)
+    → ((path : List (List ℕ)) (bank other : Key → Option Answer) → Agree (asked (entry path) bank) bank other → outcome (entry path) other ≡ outcome (entry path) bank)
+    → ((path : List (List ℕ)) (bank other : Key → Option Answer) → Agree (asked (entry path) bank) bank other → asked (entry path) other ≡ asked (entry path) bank)
+    → (changed : List ℕ) (before facts : List UnitFacts) (kept : KeptEntry)
+    → IsPrinted before kept → AgreeBut changed before facts → ShareNone kept.asked.items changed → IsPrinted facts kept
+printed-again outside same asks changed before facts kept own but none =
+    let both = again (entry kept.path) outside (same kept.path) (asks kept.path) kept.asked.items changed before facts own.noted but none in
+    record { said = own.said ∙ both.0; noted = both.1 }
 
 -- ---- what is kept of all units
 

@@ -1,3 +1,4 @@
+mod ChangedLemmas
 mod FindingLemmas
 mod FollowingLemmas
 mod JudgingLemmas

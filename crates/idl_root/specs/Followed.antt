@@ -1,26 +1,44 @@
 -- What was kept of a root, beside the facts of the units that stand there now.
-use Rattle.std.specs.Prelude.{◌≡◌, ℕ, List, [], ◌∷◌, Contains, IfSome, map}
-use Rattle.idl_root.specs.Kept.{AreKept, AreNoted, added_by}
+use Rattle.std.specs.Prelude.{◌≡◌, ℕ, List, [], ◌∷◌, ◌++◌, All, Contains, IfSome, map}
+use Rattle.idl_root.specs.Kept.{AreKept, AreNoted, IsPrinted, added_by}
 use Rattle.idl_root.specs.declared.kept.KeptUnit.{KeptUnit}
 use Rattle.idl_root.specs.declared.following.Following.{Following}
 use Rattle.idl_root.specs.declared.keeping.Keeping.{Keeping}
+use Rattle.idl_root.specs.declared.reprinting.Reprinting.{Reprinting}
 use Rattle.idl_scope.specs.Facts.{UnitFacts, world}
 use Rattle.idl_scope.specs.Outside.{WorldsAgreeOutside}
 use Rattle.idl_scope.specs.declared.key.Key.{Key}
 
--- before the units of which these are kept other facts stood, and they and these here come to
--- worlds that agree outside some keys, whose digests are among these
-pub record IsBeside (changed : List ℕ) (kept : List KeptUnit) (facts : List UnitFacts)
-    : Type 0 where
-  pub before : List UnitFacts
+-- these facts and those come to worlds that agree outside some keys, whose digests are among these
+pub record AgreeBut (changed : List ℕ) (before facts : List UnitFacts) : Type 0 where
   pub keys : List Key
-  pub units : AreKept before kept
   pub noted : AreNoted changed keys
   pub agree : WorldsAgreeOutside keys (world before) (world facts)
 
+-- before the units of which these are kept other facts stood, which with theirs are all of before,
+-- and they agree with these here but at keys of these digests
+pub record IsBeside
+    (all : List UnitFacts) (changed : List ℕ) (kept : List KeptUnit) (facts : List UnitFacts)
+    : Type 0 where
+  pub before : List UnitFacts
+  pub whole : before ++ map added_by kept ≡ all
+  pub units : AreKept before kept
+  pub but : AgreeBut changed before facts
+
 -- the same of what is followed
 abbrev pub IsFollowed : Following → List UnitFacts → Type 0
-IsFollowed following facts = IsBeside following.changed.items following.kept.now facts
+IsFollowed following facts =
+    IsBeside (map added_by following.earlier.now.0) following.changed following.kept.now facts
+
+-- the entries that are still to come were kept over these facts
+abbrev pub ArePrinted : List UnitFacts → Reprinting → Type 0
+ArePrinted before reprinting = All (IsPrinted before) reprinting.entries.now
+
+-- they were over facts that agree with these here but at keys of its digests
+pub record AreBeside (reprinting : Reprinting) (facts : List UnitFacts) : Type 0 where
+  pub before : List UnitFacts
+  pub entries : ArePrinted before reprinting
+  pub but : AgreeBut reprinting.changed.now before facts
 
 -- the first of those kept is this one
 abbrev pub IsNext : KeptUnit → List KeptUnit → Type 0

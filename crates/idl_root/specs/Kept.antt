@@ -2,8 +2,11 @@
 use Rattle.std.specs.Prelude.{◌≡◌, ℕ, List, [], ◌∷◌, ◌++◌, All, Contains}
 use Rattle.idl_check.specs.Verdict.{verdict}
 use Rattle.idl_memo.specs.Query.{asked}
+use Rattle.idl_repo.specs.Entry.{entry}
 use Rattle.idl_root.specs.Judged.{boundary, verdict_over}
+use Rattle.idl_root.specs.Printed.{entry_over}
 use Rattle.idl_root.specs.declared.kept.Judgement.{Judgement}
+use Rattle.idl_root.specs.declared.kept.KeptEntry.{KeptEntry}
 use Rattle.idl_root.specs.declared.kept.KeptUnit.{KeptUnit}
 use Rattle.idl_root.specs.declared.kept.KeptUnit.TheVariants.{Judged, Entered, Left}
 use Rattle.idl_scope.specs.Facts.{UnitFacts, answers}
@@ -39,6 +42,11 @@ IsKept facts Left = Unit {0}
 abbrev pub AreKept : List UnitFacts → List KeptUnit → Type 0
 AreKept facts [] = Unit {0}
 AreKept facts (k ∷ kept) = IsKept facts k × AreKept (facts ++ added_by k ∷ []) kept
+
+-- what comes of a name over facts: its entry, and with digests of all keys that it asked
+pub record IsPrinted (facts : List UnitFacts) (kept : KeptEntry) : Type 0 where
+  pub said : kept.entry ≡ entry_over facts kept.path
+  pub noted : AreNoted kept.asked.items (asked (entry kept.path) (answers facts))
 
 -- it is kept of a file boundary
 abbrev pub IsBoundary : KeptUnit → Type 0

@@ -5,4 +5,5 @@ pub mod Compile
 pub mod Held
 pub mod Kept
 pub mod Followed
+pub mod Changed
 pub mod Told

@@ -121,17 +121,17 @@ fn told(
     ensures { IfOk result (λ root. root.0 ≡ told end.now (held judging.entry)) }
 {
     let is_open = judging.is_open();
-    let printed = judging.printed(alloc)?;
+    let Printed {
+        findings: closing,
+        rows: listing,
+        entries,
+    } = judging.printed(alloc)?;
     let Ended {
         findings,
         rows,
         kept,
-    } = judging.ended();
-    let is_faulty = is_open || has_error(&findings) || has_error(&printed.findings);
-    let Printed {
-        findings: closing,
-        rows: listing,
-    } = printed;
+    } = judging.ended(entries);
+    let is_faulty = is_open || has_error(&findings) || has_error(&closing);
     let open = open_rows(alloc, end, is_open)?;
     let diagnostics = diagnostics(alloc, findings, open, closing)?;
     let compiled = Compiled {

@@ -1,13 +1,15 @@
 //! What was kept of a root's units, gone through beside the units that stand there now.
 
 ghost use Rattle.std.specs.Prelude.{◌≡◌, ◌-◌, ◌∷◌, ◌++◌, [], IfOk, IfSome, IsTrue, List};
-ghost use Rattle.idl_root.specs.Followed.{IsFollowed, IsNext, ShareNone};
+ghost use Rattle.idl_root.specs.Followed.{AreBeside, IsFollowed, IsNext};
 ghost use Rattle.idl_root.specs.Kept.{AreKept, IsJudged, added_by};
 ghost use Rattle.idl_root.specs.declared.kept.KeptUnit.{KeptUnit as RootKeptUnit};
 ghost use Rattle.idl_root.specs.declared.kept.KeptUnit.TheVariants.{Judged};
 ghost use Rattle.idl_scope.specs.Facts.{UnitFacts};
 
-use crate::kept::{Judgement, KeptUnit};
+use crate::changed::Changed;
+use crate::kept::{Judgement, KeptUnit, KeptUnits};
+use crate::reprinting::Reprinting;
 use idl_check::DeclarationTask;
 use idl_scope::{Env, Facts, adding, exchanging};
 use idl_unit::UnitText;
@@ -20,9 +22,11 @@ const MOST: usize = 256;
 /// The units kept that are still to come, beside the facts so far.
 pub struct Following<'k> {
     alloc: Global,
+    // All that was kept of the root.
+    earlier: &'k KeptUnits,
     kept: &'k [KeptUnit],
     // Digests of the keys that may be answered otherwise than they were before what is kept.
-    changed: Vec<u64>,
+    changed: Changed,
     // How many more units there were, and how many more there are.
     less: usize,
     more: usize,
@@ -32,6 +36,7 @@ impl<'k> Drop for Following<'k> {
     fn drop(self) {
         let Following {
             alloc: _alloc,
+            earlier: _earlier,
             kept: _kept,
             changed: _changed,
             less: _less,
@@ -42,17 +47,22 @@ impl<'k> Drop for Following<'k> {
 
 impl<'k> Following<'k> {
     /// Before the first of so many units.
-    pub fn new(alloc: Global, kept: &'k [KeptUnit], count: usize) -> Following<'k>
-        requires { AreKept [] kept.now }
-        ensures { IsFollowed result [] }
+    pub fn new(
+        alloc: Global,
+        earlier: &'k KeptUnits,
+        count: usize,
+    ) -> Result<Following<'k>, AllocError>
+        ensures { IfOk result (λ following. IsFollowed following []) }
     {
-        Following {
+        let kept = earlier.units();
+        Ok(Following {
             alloc,
+            earlier,
             kept,
-            changed: Vec::new(alloc),
+            changed: Changed::new(alloc)?,
             less: kept.len().saturating_sub(count),
             more: count.saturating_sub(kept.len()),
-        }
+        })
     }
 
     /// What was judged of the next unit, if it is of this text and nothing that it asked has changed.
@@ -64,7 +74,7 @@ impl<'k> Following<'k> {
         idl_scope::reliance();
         idl_memo::reliance::<Env, DeclarationTask>();
         let judgement = self.next_of(text)?;
-        if !share_none(judgement.asked.as_slice(), self.changed.as_slice()) {
+        if !self.changed.shares_none(judgement.asked.as_slice()) {
             return None;
         }
         Some(judgement)
@@ -106,8 +116,9 @@ impl<'k> Following<'k> {
         exchanging();
         let Following {
             alloc,
+            earlier,
             kept,
-            mut changed,
+            changed,
             less,
             more,
         } = self;
@@ -119,12 +130,13 @@ impl<'k> Following<'k> {
         if !facts.is_same_step(&none) || !facts.has_same_operations(&none) {
             return Ok(None);
         }
-        facts.digests_into(&mut changed)?;
+        let changed = changed.with(alloc, facts)?;
         if changed.len() > MOST {
             return Ok(None);
         }
         Ok(Some(Following {
             alloc,
+            earlier,
             kept: rest,
             changed,
             less: less.saturating_sub(1),
@@ -142,6 +154,7 @@ impl<'k> Following<'k> {
         exchanging();
         let Following {
             alloc,
+            earlier,
             kept,
             changed,
             less,
@@ -153,11 +166,12 @@ impl<'k> Following<'k> {
         let Some(looked) = env.digests_looked_at(facts)? else {
             return Ok(None);
         };
-        if !share_none(looked.as_slice(), changed.as_slice()) {
+        if !changed.shares_none(looked.as_slice()) {
             return Ok(None);
         }
         Ok(Some(Following {
             alloc,
+            earlier,
             kept: rest,
             changed,
             less,
@@ -190,8 +204,9 @@ impl<'k> Following<'k> {
         exchanging();
         let Following {
             alloc,
+            earlier,
             kept,
-            mut changed,
+            changed,
             less,
             more,
         } = self;
@@ -202,19 +217,19 @@ impl<'k> Following<'k> {
         if !before.is_same_step(facts) || !before.has_same_operations(facts) {
             return Ok(None);
         }
-        before.digests_into(&mut changed)?;
-        facts.digests_into(&mut changed)?;
+        let changed = changed.with(alloc, before)?.with(alloc, facts)?;
         if changed.len() > MOST {
             return Ok(None);
         }
         let Some(looked) = env.digests_looked_at(facts)? else {
             return Ok(None);
         };
-        if !share_none(looked.as_slice(), changed.as_slice()) {
+        if !changed.shares_none(looked.as_slice()) {
             return Ok(None);
         }
         Ok(Some(Following {
             alloc,
+            earlier,
             kept: rest,
             changed,
             less,
@@ -231,8 +246,9 @@ impl<'k> Following<'k> {
         exchanging();
         let Following {
             alloc,
+            earlier,
             kept,
-            mut changed,
+            changed,
             less,
             more,
         } = self;
@@ -240,12 +256,13 @@ impl<'k> Following<'k> {
         if !facts.is_same_step(&none) || !facts.has_same_operations(&none) {
             return Ok(None);
         }
-        facts.digests_into(&mut changed)?;
+        let changed = changed.with(alloc, facts)?;
         if changed.len() > MOST {
             return Ok(None);
         }
         Ok(Some(Following {
             alloc,
+            earlier,
             kept,
             changed,
             less,
@@ -268,6 +285,18 @@ impl<'k> Following<'k> {
             return Ok(None);
         }
         Ok(self.with_same(env, facts)?)
+    }
+
+    /// What was kept of the root's names, if nothing is still to come: before the first of so many names.
+    pub fn reprinting(&self, count: usize) -> Option<Reprinting<'_>>
+        ensures { (facts : List UnitFacts) → IsFollowed self.now facts
+            → IfSome result (λ r. AreBeside r facts) }
+    {
+        if !self.kept.is_empty() {
+            return None;
+        }
+        let entries = self.earlier.entries();
+        Some(Reprinting::new(entries, &self.changed, count))
     }
 }
 
@@ -292,11 +321,4 @@ fn is_next(kept: &[KeptUnit], boundary: &KeptUnit) -> bool
         ([KeptUnit::Left, ..], KeptUnit::Left) => true,
         _ => false,
     }
-}
-
-// Whether no number is among both.
-fn share_none(numbers: &[u64], others: &[u64]) -> bool
-    ensures { IsTrue result → ShareNone numbers.now others.now }
-{
-    others.is_empty() || !numbers.iter().any(|number| others.contains(number))
 }

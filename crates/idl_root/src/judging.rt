@@ -1,9 +1,9 @@
 //! The verdicts of a root's units.
 
-ghost use Rattle.std.specs.Prelude.{◌≡◌, ◌++◌, ◌∷◌, [], IfOk, IfSome, List, OnOk, flat_map, option_to_list};
+ghost use Rattle.std.specs.Prelude.{◌≡◌, ◌++◌, ◌∷◌, [], All, IfOk, IfSome, List, OnOk, flat_map, option_to_list};
 ghost use Rattle.idl_root.specs.Compile.{is_open};
 ghost use Rattle.idl_root.specs.Followed.{IsKeeping};
-ghost use Rattle.idl_root.specs.Kept.{IsBoundary, added_by};
+ghost use Rattle.idl_root.specs.Kept.{IsBoundary, IsPrinted, added_by};
 ghost use Rattle.idl_root.specs.Printed.{closing_finding, entry_row};
 ghost use Rattle.idl_root.specs.Held.{held, to_come, with_gathered, with_judged, with_units};
 ghost use Rattle.idl_root.specs.Judged.{added, boundary, judged_at, judged_over, verdict_over};
@@ -12,8 +12,8 @@ ghost use Rattle.idl_scope.specs.Facts.{UnitFacts};
 use crate::compiled::Row;
 use crate::finding::{Finding, Spelled, push_fault};
 use crate::keeping::Keeping;
-use crate::kept::{KeptUnit, KeptUnits};
-use crate::printing::{Listed, Printed, print_all, push_listed};
+use crate::kept::{KeptEntry, KeptUnit, KeptUnits};
+use crate::printing::{Listed, Printed, print_all, print_kept, push_listed};
 use idl_check::{Verdict, verdict_of};
 use idl_memo::{Bank, Journal};
 use idl_scope::{DigestedKey, Env, Facts, Key, Shared, Step, scopes_in};
@@ -120,17 +120,28 @@ impl<'a> Judging<'a> {
 
     /// What comes of the names that have an id, over all that was added.
     pub fn printed(&self, alloc: Global) -> Result<Printed, AllocError>
+        requires { IfSome self.now.gathered.keeping (λ k. IsKeeping k self.now.env) }
         ensures findings { IfOk result (λ printed. printed.findings.items
             ≡ flat_map (closing_finding self.now.env) (held self.now).listed) }
         ensures rows { IfOk result (λ printed. printed.rows.items
             ≡ flat_map (entry_row self.now.env) (held self.now).listed) }
+        ensures entries { IfOk result (λ printed.
+            All (IsPrinted self.now.env) printed.entries.items) }
     {
-        print_all(alloc, &self.env, self.gathered.listed.as_slice())
+        let listed = self.gathered.listed.as_slice();
+        match &self.gathered.keeping {
+            Some(keeping) => {
+                let earlier = keeping.reprinting(listed.len());
+                print_kept(alloc, &self.env, listed, earlier)
+            }
+            None => print_all(alloc, &self.env, listed),
+        }
     }
 
-    /// What was found, the rows of the dump, and what is kept.
-    pub fn ended(self) -> Ended
-        requires { IfSome self.gathered.keeping (λ k. IsKeeping k self.env) }
+    /// What was found, the rows of the dump, and what is kept, with these entries.
+    pub fn ended(self, entries: Vec<Shared<KeptEntry>>) -> Ended
+        requires keeping { IfSome self.gathered.keeping (λ k. IsKeeping k self.env) }
+        requires entries { All (IsPrinted self.env) entries.items }
         ensures found { result.findings ≡ self.entry.gathered.findings }
         ensures rows { result.rows ≡ self.entry.gathered.rows }
     {
@@ -138,14 +149,16 @@ impl<'a> Judging<'a> {
             env: _env,
             gathered,
         } = self;
-        gathered.ended()
+        gathered.ended(entries)
     }
 }
 
 impl<'a> Gathered<'a> {
     // What was found, the rows, and what is kept.
-    fn ended(self) -> Ended
-        requires { (facts : List UnitFacts) × IfSome self.keeping (λ k. IsKeeping k facts) }
+    fn ended(self, entries: Vec<Shared<KeptEntry>>) -> Ended
+        requires { (facts : List UnitFacts)
+            × (IfSome self.keeping (λ k. IsKeeping k facts)
+            × All (IsPrinted facts) entries.items) }
         ensures found { result.findings ≡ self.entry.findings }
         ensures rows { result.rows ≡ self.entry.rows }
     {
@@ -156,7 +169,7 @@ impl<'a> Gathered<'a> {
             keeping,
         } = self;
         let kept = match keeping {
-            Some(keeping) => Some(keeping.ended()),
+            Some(keeping) => Some(keeping.ended(entries)),
             None => None,
         };
         Ended {

@@ -1,13 +1,14 @@
 //! The judging of units of which something is kept.
 
-ghost use Rattle.std.specs.Prelude.{◌≡◌, ◌∷◌, ◌++◌, [], IfOk, IfSome, List, None, OnOk};
-ghost use Rattle.idl_root.specs.Followed.{IsFollowed, IsKeeping};
-ghost use Rattle.idl_root.specs.Kept.{IsJudged, IsKept, added_by};
+ghost use Rattle.std.specs.Prelude.{◌≡◌, ◌∷◌, ◌++◌, [], All, IfOk, IfSome, List, None, OnOk};
+ghost use Rattle.idl_root.specs.Followed.{AreBeside, IsFollowed, IsKeeping};
+ghost use Rattle.idl_root.specs.Kept.{IsJudged, IsKept, IsPrinted, added_by};
 ghost use Rattle.idl_scope.specs.Facts.{UnitFacts};
 
 use crate::following::Following;
-use crate::kept::{Judgement, KeptUnit, KeptUnits};
-use idl_scope::{Env, Facts};
+use crate::kept::{Judgement, KeptEntry, KeptUnit, KeptUnits};
+use crate::reprinting::Reprinting;
+use idl_scope::{Env, Facts, Shared};
 use idl_unit::UnitText;
 use std::alloc::{AllocError, Global};
 use std::mem::replace;
@@ -38,7 +39,7 @@ impl<'k> Keeping<'k> {
         ensures { IfOk result (λ keeping. IsKeeping keeping []) }
     {
         let kept = Vec::with_capacity(alloc, count)?;
-        let following = Following::new(alloc, earlier.as_slice(), count);
+        let following = Following::new(alloc, earlier, count)?;
         Ok(Keeping {
             kept,
             following: Some(following),
@@ -78,15 +79,27 @@ impl<'k> Keeping<'k> {
         Ok(())
     }
 
-    /// What is kept of all units.
-    pub fn ended(self) -> KeptUnits
-        requires { (facts : List UnitFacts) × IsKeeping self facts }
+    /// What was kept of the root's names, if it may be taken over: before the first of so many names.
+    pub fn reprinting(&self, count: usize) -> Option<Reprinting<'_>>
+        ensures { (facts : List UnitFacts) → IsKeeping self.now facts
+            → IfSome result (λ r. AreBeside r facts) }
+    {
+        match &self.following {
+            Some(following) => following.reprinting(count),
+            None => None,
+        }
+    }
+
+    /// What is kept of all units, with these entries over what they add.
+    pub fn ended(self, entries: Vec<Shared<KeptEntry>>) -> KeptUnits
+        requires { (facts : List UnitFacts)
+            × (IsKeeping self facts × All (IsPrinted facts) entries.items) }
     {
         let Keeping {
             kept,
             following: _following,
         } = self;
-        KeptUnits::from_vec(kept)
+        KeptUnits::of(kept, entries)
     }
 }
 

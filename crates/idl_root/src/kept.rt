@@ -1,16 +1,19 @@
 //! What is kept of the units of a root.
 
-ghost use Rattle.std.specs.Prelude.{◌≡◌, [], IfOk};
+ghost use Rattle.std.specs.Prelude.{◌≡◌, [], All, IfOk, map};
 ghost use Rattle.idl_check.specs.Verdict.{verdict};
 ghost use Rattle.idl_memo.specs.Query.{asked};
+ghost use Rattle.idl_repo.specs.Entry.{entry};
 ghost use Rattle.idl_root.specs.Judged.{verdict_over};
-ghost use Rattle.idl_root.specs.Kept.{AreKept, AreNoted, IsJudged};
+ghost use Rattle.idl_root.specs.Kept.{AreKept, AreNoted, IsJudged, IsPrinted, added_by};
+ghost use Rattle.idl_root.specs.Printed.{entry_over};
 ghost use Rattle.idl_scope.specs.Facts.{answers};
 ghost use Rattle.idl_scope.specs.declared.lookup.TheConstants.{TURNS};
 
 use idl_check::{DeclarationTask, Verdict, verdict_of};
 use idl_memo::{Journal, reliance};
-use idl_scope::Env;
+use idl_repo::{Entry, EntryTask, entry_by};
+use idl_scope::{Env, Path, Shared};
 use idl_unit::UnitText;
 use std::alloc::{AllocError, Global};
 use std::marker::Model;
@@ -33,21 +36,32 @@ pub enum KeptUnit {
     Left,
 }
 
-/// What is kept of the units of a root, one after another.
+/// What is kept of a name that has an id: its path, its entry over all that the units add, and digests of the keys that this
+/// asked.
+pub struct KeptEntry {
+    pub path: Path,
+    pub entry: Entry,
+    pub asked: Vec<u64>,
+}
+
+/// What is kept of the units of a root, one after another, and of the names that these declare.
 pub struct KeptUnits {
     units: Vec<KeptUnit>,
+    entries: Vec<Shared<KeptEntry>>,
 }
 
 impl Model for KeptUnits {
-    ghost use Rattle.std.specs.Prelude.{[], List};
-    ghost use Rattle.idl_root.specs.Kept.{AreKept};
+    ghost use Rattle.std.specs.Prelude.{[], All, List, map};
+    ghost use Rattle.idl_root.specs.Kept.{AreKept, IsPrinted, added_by};
+    ghost use Rattle.idl_root.specs.declared.kept.KeptEntry.{KeptEntry as RootKeptEntry};
     ghost use Rattle.idl_root.specs.declared.kept.KeptUnit.{KeptUnit as RootKeptUnit};
 
-    ghost Value = { List RootKeptUnit };
+    ghost Value = { List RootKeptUnit × List RootKeptEntry };
 
-    ghost view = { λ kept. kept.units.items };
+    ghost view = { λ kept. (kept.units.items, kept.entries.items) };
 
-    ghost invariant = { λ kept. AreKept [] kept.units.items };
+    ghost invariant = { λ kept. AreKept [] kept.units.items
+        × All (IsPrinted (map added_by kept.units.items)) kept.entries.items };
 }
 
 impl Drop for Judgement {
@@ -59,36 +73,59 @@ impl Drop for Judgement {
     }
 }
 
+impl Drop for KeptEntry {
+    fn drop(self) {
+        let KeptEntry {
+            path: _path,
+            entry: _entry,
+            asked: _asked,
+        } = self;
+    }
+}
+
 impl Drop for KeptUnits {
     fn drop(self) {
-        let KeptUnits { units: _units } = self;
+        let KeptUnits {
+            units: _units,
+            entries: _entries,
+        } = self;
     }
 }
 
 impl KeptUnits {
     /// Nothing is kept. It takes no memory.
     pub fn none(alloc: Global) -> KeptUnits
-        ensures { result ≡ [] }
+        ensures { result ≡ ([], []) }
     {
         KeptUnits {
             units: Vec::new(alloc),
+            entries: Vec::new(alloc),
         }
     }
 
     /// These are kept.
-    pub fn from_vec(units: Vec<KeptUnit>) -> KeptUnits
-        requires { AreKept [] units.items }
-        ensures { result ≡ units.items }
+    pub fn of(units: Vec<KeptUnit>, entries: Vec<Shared<KeptEntry>>) -> KeptUnits
+        requires units { AreKept [] units.items }
+        requires entries { All (IsPrinted (map added_by units.items)) entries.items }
+        ensures { result ≡ (units.items, entries.items) }
     {
-        KeptUnits { units }
+        KeptUnits { units, entries }
     }
 
-    /// Those that are kept.
-    pub fn as_slice(&self) -> &[KeptUnit]
-        ensures items { result.now ≡ self.now }
+    /// The units that are kept.
+    pub fn units(&self) -> &[KeptUnit]
+        ensures items { result.now ≡ self.now.0 }
         ensures kept { AreKept [] result.now }
     {
         &self.units
+    }
+
+    /// The entries that are kept of names.
+    pub fn entries(&self) -> &[Shared<KeptEntry>]
+        ensures items { result.now ≡ self.now.1 }
+        ensures kept { All (IsPrinted (map added_by self.now.0)) result.now }
+    {
+        &self.entries
     }
 }
 
@@ -119,4 +156,41 @@ fn noted_verdict(
         return Err(AllocError);
     };
     Ok((verdict, digests))
+}
+
+impl KeptEntry {
+    /// What comes of the name at a path over facts, written in a buffer.
+    pub fn new(
+        buffer: &mut Vec<u8>,
+        env: &Env,
+        path: &Path,
+    ) -> Result<Shared<KeptEntry>, AllocError>
+        ensures printed { IfOk result (λ kept. IsPrinted env.now kept) }
+        ensures path { IfOk result (λ kept. kept.path ≡ path.now) }
+    {
+        let alloc = env.alloc();
+        let (entry, asked) = noted_entry(alloc, buffer, env, path)?;
+        let path = path.clone()?;
+        Shared::new(alloc, KeptEntry { path, entry, asked })
+    }
+}
+
+// The entry of the name at a path over facts, written in a buffer, and digests of the keys that it asked.
+fn noted_entry(
+    alloc: Global,
+    buffer: &mut Vec<u8>,
+    env: &Env,
+    path: &Path,
+) -> Result<(Entry, Vec<u64>), AllocError>
+    ensures said { IfOk result (λ r. r.0 ≡ entry_over env.now path.now) }
+    ensures noted { IfOk result (λ r.
+        AreNoted r.1.items (asked (entry path.now) (answers env.now))) }
+{
+    reliance::<Env, EntryTask>();
+    let mut journal = Journal::noting(alloc);
+    let entry = entry_by(buffer, env, &mut journal, path)?;
+    let Some(digests) = journal.digests() else {
+        return Err(AllocError);
+    };
+    Ok((entry, digests))
 }

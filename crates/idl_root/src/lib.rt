@@ -4,6 +4,7 @@
 //! Nothing here knows how a root is expanded, what a unit asks, or what became of other roots.
 #![tactic(auto)]
 
+mod changed;
 mod compiled;
 mod finding;
 mod following;
@@ -12,6 +13,7 @@ mod keeping;
 mod kept;
 mod laws;
 mod printing;
+mod reprinting;
 
 pub use compiled::{Compiled, Recompiled, Row, compile, compile_after};
 pub use kept::KeptUnits;

@@ -1,17 +1,21 @@
 //! The names of a root that have an id, and what comes of them at its end.
 
-ghost use Rattle.std.specs.Prelude.{◌≡◌, ◌∷◌, ◌++◌, [], IfOk, OnOk, flat_map, map, option_to_list};
+ghost use Rattle.std.specs.Prelude.{◌≡◌, ◌∷◌, ◌++◌, [], All, IfOk, IfSome, OnOk, flat_map, map, option_to_list};
 ghost use Rattle.std.specs.Option.{option_copied, option_map};
 ghost use Rattle.idl_root.specs.Findings.{fault_finding};
+ghost use Rattle.idl_root.specs.Followed.{AreBeside};
 ghost use Rattle.idl_root.specs.Held.{listed_at};
+ghost use Rattle.idl_root.specs.Kept.{IsPrinted};
 ghost use Rattle.idl_root.specs.Printed.{closing_finding, entry_over, entry_row, first_paths, listed_with, name_index};
 ghost use Rattle.idl_unit.specs.TokenRules.{fault_at};
 
 use crate::compiled::Row;
 use crate::finding::{Finding, Spelled, push_fault};
+use crate::kept::KeptEntry;
+use crate::reprinting::Reprinting;
 use idl_memo::Journal;
 use idl_repo::{Entry, entry_by};
-use idl_scope::{Addition, Env, Facts, Fixed, Path};
+use idl_scope::{Addition, Env, Facts, Fixed, Path, Shared};
 use idl_unit::{Fault, UnitText};
 use std::alloc::{AllocError, Global};
 
@@ -26,6 +30,8 @@ pub struct Listed<'a> {
 pub struct Printed {
     pub findings: Vec<Finding>,
     pub rows: Vec<Row>,
+    /// What is kept of the names, if anything is.
+    pub entries: Vec<Shared<KeptEntry>>,
 }
 
 impl<'a> Drop for Listed<'a> {
@@ -89,35 +95,93 @@ fn first_path(addition: &Addition) -> Option<&Path>
     }
 }
 
-/// What comes of each of these names over an environment.
+/// What comes of each of these names over an environment. Nothing is kept of them.
 pub fn print_all(alloc: Global, env: &Env, listed: &[Listed<'_>]) -> Result<Printed, AllocError>
     ensures findings { IfOk result (λ printed. printed.findings.items
         ≡ flat_map (closing_finding env.now) (map listed_at listed.now)) }
     ensures rows { IfOk result (λ printed. printed.rows.items
         ≡ flat_map (entry_row env.now) (map listed_at listed.now)) }
+    ensures entries { IfOk result (λ printed. printed.entries.items ≡ []) }
 {
-    let mut printed = Printed {
-        findings: Vec::new(alloc),
-        rows: Vec::new(alloc),
-    };
+    let mut printed = Printed::new(alloc);
     let mut buffer = Vec::new(alloc);
     for name in listed {
         let entry = entry_over(&mut buffer, env, &name.path)?;
-        printed.add(alloc, name.unit, entry)?;
+        printed.add(alloc, name.unit, &entry)?;
     }
     Ok(printed)
 }
 
+/// The same, where something was kept of names, if it may be taken over, and something is kept of these.
+pub fn print_kept(
+    alloc: Global,
+    env: &Env,
+    listed: &[Listed<'_>],
+    earlier: Option<Reprinting<'_>>,
+) -> Result<Printed, AllocError>
+    requires { IfSome earlier (λ r. AreBeside r env.now) }
+    ensures findings { IfOk result (λ printed. printed.findings.items
+        ≡ flat_map (closing_finding env.now) (map listed_at listed.now)) }
+    ensures rows { IfOk result (λ printed. printed.rows.items
+        ≡ flat_map (entry_row env.now) (map listed_at listed.now)) }
+    ensures entries { IfOk result (λ printed.
+        All (IsPrinted env.now) printed.entries.items) }
+{
+    let mut earlier = earlier;
+    let mut printed = Printed::new(alloc);
+    let mut buffer = Vec::new(alloc);
+    for name in listed {
+        let kept = kept_entry(&mut earlier, &mut buffer, env, &name.path)?;
+        printed.add(alloc, name.unit, &kept.get().entry)?;
+        printed.entries.push(kept)?;
+    }
+    Ok(printed)
+}
+
+// What is kept of the name at a path over facts: what was, if it may be taken over.
+fn kept_entry(
+    earlier: &mut Option<Reprinting<'_>>,
+    buffer: &mut Vec<u8>,
+    env: &Env,
+    path: &Path,
+) -> Result<Shared<KeptEntry>, AllocError>
+    requires { IfSome earlier.old (λ r. AreBeside r env.now) }
+    ensures entry { IfOk result (λ kept. kept.entry ≡ entry_over env.now path.now) }
+    ensures printed { IfOk result (λ kept. IsPrinted env.now kept) }
+    ensures rest { IfSome earlier.new (λ r. AreBeside r env.now) }
+{
+    if let Some(reprinting) = earlier {
+        if let Some(kept) = reprinting.entry(path) {
+            return Ok(kept.clone()?);
+        }
+    }
+    Ok(KeptEntry::new(buffer, env, path)?)
+}
+
 impl Printed {
+    // Before the first name.
+    fn new(alloc: Global) -> Printed
+        ensures findings { result.findings.items ≡ [] }
+        ensures rows { result.rows.items ≡ [] }
+        ensures entries { result.entries.items ≡ [] }
+    {
+        Printed {
+            findings: Vec::new(alloc),
+            rows: Vec::new(alloc),
+            entries: Vec::new(alloc),
+        }
+    }
+
     // What comes of one name more, which that unit declares first.
-    fn add(&mut self, alloc: Global, unit: Spelled<'_>, entry: Entry) -> Result<(), AllocError>
+    fn add(&mut self, alloc: Global, unit: Spelled<'_>, entry: &Entry) -> Result<(), AllocError>
         ensures findings { OnOk result
             (self.new.findings.items
             ≡ self.old.findings.items
             ++ fault_finding unit.entry.text.now unit.entry.sites.now
-            (option_map (fault_at (name_index unit.entry.text.now)) entry.fault)) }
+            (option_map (fault_at (name_index unit.entry.text.now)) entry.now.fault)) }
         ensures rows { OnOk result
-            (self.new.rows.items ≡ self.old.rows.items ++ option_to_list entry.row) }
+            (self.new.rows.items ≡ self.old.rows.items ++ option_to_list entry.now.row) }
+        ensures entries { self.new.entries ≡ self.old.entries }
     {
         let fault = match entry.fault {
             Some(code) => Some(Fault {

@@ -22,5 +22,5 @@ returns c = λ b.
     let yes : c.share_none.result ≡ true = search rules in
     let apart : ShareNone c.in-Some-2.looked.items c.digests_into-2.new.digests.items =
     subst (λ l. ShareNone l c.digests_into-2.new.digests.items) c.as_slice.ensures.value (subst (ShareNone c.as_slice.result.now) c.as_slice-2.ensures.value (c.share_none.ensures yes)) in
-    beside-other c.adding.ensures.together c.exchanging.ensures.looked_at c.exchanging.ensures.pair c.args.self.changed.items c.in-Some-2.looked.items k c.in-Some.rest.now c.args.self.kept.now c.args.env.now g
+    beside-other c.adding.ensures.together (map added_by c.args.self.earlier.now.0) c.exchanging.ensures.looked_at c.exchanging.ensures.pair c.args.self.changed.items c.in-Some-2.looked.items k c.in-Some.rest.now c.args.self.kept.now c.args.env.now g
     c.in-Some.ensures c.digests_into-2.new.digests.items changed steps operations noted apart b

@@ -1,4 +1,5 @@
 use Rattle.std.proofs.Common.{◌≡◌, ◌++◌, [], map, rules}
+use Rattle.idl_root.specs.Kept.{added_by}
 use Rattle.idl_scope.specs.Facts.{key_of, operations_among}
 use Rattle.idl_scope.specs.Key.{key_digest}
 use Rattle.idl_scope.specs.declared.addition.Step.TheVariants.{Stays}
@@ -11,4 +12,4 @@ returns c = λ here b.
     let stays : g.step ≡ Stays = search rules in
     let none : operations_among g.additions ≡ [] = search rules in
     let changed : c.digests_into.new.digests.items ≡ c.args.self.changed.items ++ map (λ a. key_digest (key_of a)) g.additions = search rules in
-    beside-more c.adding.ensures.together c.exchanging.ensures.more c.args.self.changed.items c.args.self.kept.now here g c.digests_into.new.digests.items changed stays none b
+    beside-more c.adding.ensures.together (map added_by c.args.self.earlier.now.0) c.exchanging.ensures.more c.args.self.changed.items c.args.self.kept.now here g c.digests_into.new.digests.items changed stays none b

@@ -1,4 +1,4 @@
-use Rattle.std.proofs.Common.{◌≡◌, ◌∷◌, rules, subst, true}
+use Rattle.std.proofs.Common.{◌≡◌, ◌∷◌, map, rules, subst, true}
 use Rattle.idl_root.specs.Followed.{ShareNone}
 use Rattle.idl_root.specs.Kept.{AreNoted, added_by}
 use Rattle.idl_scope.specs.Facts.{world}
@@ -14,5 +14,5 @@ returns c = λ b.
     let yes : c.share_none.result ≡ true = search rules in
     let apart : ShareNone c.in-Some-2.looked.items c.args.self.changed.items =
     subst (λ l. ShareNone l c.args.self.changed.items) c.as_slice.ensures.value (subst (ShareNone c.as_slice.result.now) c.as_slice-2.ensures.value (c.share_none.ensures yes)) in
-    beside-same c.adding.ensures.together c.exchanging.ensures.looked_at c.adding.ensures.facts c.args.self.changed.items c.in-Some-2.looked.items k c.in-Some.rest.now c.args.self.kept.now c.args.env.now c.args.facts.now
+    beside-same c.adding.ensures.together (map added_by c.args.self.earlier.now.0) c.exchanging.ensures.looked_at c.adding.ensures.facts c.args.self.changed.items c.in-Some-2.looked.items k c.in-Some.rest.now c.args.self.kept.now c.args.env.now c.args.facts.now
     is (c.requires k (c.in-Some.rest.now, is)) noted apart b

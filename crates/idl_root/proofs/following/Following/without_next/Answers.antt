@@ -16,5 +16,5 @@ returns-clause-followed c = λ facts b.
     let stays : f.step ≡ Stays = search rules in
     let none : operations_among f.additions ≡ [] = search rules in
     let changed : c.digests_into.new.digests.items ≡ c.args.self.changed.items ++ map (λ a. key_digest (key_of a)) f.additions = search rules in
-    beside-less c.adding.ensures.together c.exchanging.ensures.less c.args.self.changed.items k c.in-Some.rest.now c.args.self.kept.now facts
+    beside-less c.adding.ensures.together (map added_by c.args.self.earlier.now.0) c.exchanging.ensures.less c.args.self.changed.items k c.in-Some.rest.now c.args.self.kept.now facts
     c.in-Some.ensures c.digests_into.new.digests.items changed stays none b
