@@ -1,21 +1,21 @@
 -- What was kept of a root's units, beside facts of which more and more are told.
-use Rattle.std.proofs.Common.{◌≡◌, ℕ, zero, suc, ◌<◌, Bool, true, false, List, [], ◌∷◌, ◌++◌, length, get_or, map, nat_eq, Option, refl, ap, sym, subst, ◌∙◌, arith, append-nil, append_assoc}
+use Rattle.std.proofs.Common.{◌≡◌, ℕ, zero, suc, ◌<◌, List, [], ◌∷◌, ◌++◌, length, get_or, map, Option, refl, ap, sym, subst, ◌∙◌, arith, append-nil, append_assoc}
 use Rattle.std.specs.Prelude.{All, Contains, IfSome}
 use Rattle.std.specs.Global.{Global}
 use Rattle.std.specs.Prelude.{Vec}
 use Rattle.std.proofs.lemmas.List.Elements.{All-append, All-contains, All-map, All-weaker, Contains-append_left, Contains-append_right}
 use Rattle.idl_check.specs.Verdict.{verdict}
-use Rattle.idl_check.specs.declared.verdict.Verdict.{Verdict}
 use Rattle.idl_memo.specs.Query.{Agree, asked, outcome}
-use Rattle.idl_root.specs.Followed.{AgreeBut, IsBeside, IsFollowed, IsKeeping, ShareNone}
+use Rattle.idl_root.specs.Followed.{AgreeBut, AreBeside, ArePrinted, IsBeside, IsFollowed, IsKeeping, ShareNone}
 use Rattle.idl_repo.specs.Entry.{entry}
 use Rattle.idl_root.specs.Kept.{AreKept, AreNoted, IsJudged, IsKept, IsPrinted, added_by}
+use Rattle.idl_root.specs.Printed.{entry_over}
 use Rattle.idl_root.specs.declared.following.Following.{Following}
 use Rattle.idl_root.specs.declared.keeping.Keeping.{Keeping}
 use Rattle.idl_root.specs.declared.kept.Judgement.{Judgement}
 use Rattle.idl_root.specs.declared.kept.KeptEntry.{KeptEntry}
 use Rattle.idl_root.specs.declared.kept.KeptUnit.{KeptUnit}
-use Rattle.idl_root.specs.declared.kept.KeptUnit.TheVariants.{Judged, Entered, Left}
+use Rattle.idl_root.specs.declared.reprinting.Reprinting.{Reprinting}
 use Rattle.idl_scope.specs.Facts.{UnitFacts, World, after, after_all, answers, first_world, key_of, operations_among, world, with_additions}
 use Rattle.idl_scope.specs.Key.{key_digest}
 use Rattle.idl_scope.specs.Lookup.{Lookup}
@@ -210,6 +210,12 @@ module _ (together : (w : World) (facts more : List UnitFacts) → after_all w (
 
 -- ---- what is taken over
 
+-- what holds of each of a list holds of the first and of each other
+pub all-first : {A : Type 0} (P : A → Type 0) (xs : List A) (x : A) (rest : List A) → xs ≡ x ∷ rest → All P xs → P x × All P rest
+all-first P xs x rest is all =
+    let here : All P (x ∷ rest) = subst (All P) is all in
+    (here 0 x (omega arith), λ k d lt. here (suc k) d (omega (arith, lt)))
+
 module _ {Out : Type 0} (query : Lookup Out) (outside : (keys asks : List Key) (bank other : Key → Option Answer) → AgreeOutside keys bank other → AreApart asks keys → Agree asks bank other)
     (same : (bank other : Key → Option Answer) → Agree (asked query bank) bank other → outcome query other ≡ outcome query bank)
     (asks : (bank other : Key → Option Answer) → Agree (asked query bank) bank other → asked query other ≡ asked query bank) where
@@ -242,6 +248,14 @@ printed-again outside same asks changed before facts kept own but none =
     let both = again (entry kept.path) outside (same kept.path) (asks kept.path) kept.asked.items changed before facts own.noted but none in
     record { said = own.said ∙ both.0; noted = both.1 }
 
+-- what comes behind the first of entries is beside the same facts
+pub beside-rest : (r s : Reprinting) (facts : List UnitFacts) → s.changed ≡ r.changed → ((before : List UnitFacts) → ArePrinted before r → ArePrinted before s) → AreBeside r facts → AreBeside s facts
+beside-rest r s facts same more b = record {
+  before = b.before;
+  entries = more b.before b.entries;
+  but = subst (λ c. AgreeBut c.now b.before facts) (sym same) b.but;
+}
+
 -- ---- what is kept of all units
 
 -- one more is kept
@@ -267,6 +281,14 @@ keeping-more keeping facts unit now next adds k is one own followed = record {
 pub judged-copy : (facts : List UnitFacts) (text copy : UnitText) (judgement other : Judgement) → copy ≡ text → other ≡ judgement → IsJudged facts text judgement → IsJudged facts copy other
 judged-copy facts text copy judgement other same alike j =
     subst (IsJudged facts copy) (sym alike) (subst (λ t. IsJudged facts t judgement) (sym same) j)
+
+-- what comes of a name at a copy of its path
+pub printed-copy : (facts : List UnitFacts) (kept : KeptEntry) (path : List (List ℕ)) → kept.path ≡ path → kept.entry ≡ entry_over facts path
+    → AreNoted kept.asked.items (asked (entry path) (answers facts)) → IsPrinted facts kept
+printed-copy facts kept path same said noted = record {
+  said = said ∙ ap (entry_over facts) (sym same);
+  noted = subst (λ p. AreNoted kept.asked.items (asked (entry p) (answers facts))) (sym same) noted;
+}
 
 -- ---- what is noted
 

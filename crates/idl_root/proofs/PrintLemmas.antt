@@ -1,9 +1,11 @@
 -- The names that a unit declares first, addition by addition.
-use Rattle.std.proofs.Common.{◌≡◌, ◌+◌, ℕ, Bool, true, false, List, [], ◌∷◌, ◌++◌, Some, cond, drop, refl, ap, sym, ◌∙◌, append_assoc}
+use Rattle.std.proofs.Common.{◌≡◌, ◌+◌, ◌<◌, ℕ, Bool, true, false, List, [], ◌∷◌, ◌++◌, Some, cond, drop, flat_map, get_or, length, map, refl, ap, sym, ◌∙◌, append_assoc}
 use Rattle.std.specs.Prelude.{slice_get}
-use Rattle.std.proofs.lemmas.List.{map-append}
+use Rattle.std.proofs.lemmas.List.{at_drop_more, map-append}
 use Rattle.idl_event.specs.declared.site.Site.{Site}
+use Rattle.idl_root.specs.Held.{listed_at}
 use Rattle.idl_root.specs.Printed.{Listed, first_paths, listed_with}
+use Rattle.idl_root.specs.declared.printing.Listed.{Listed as HeldListed}
 use Rattle.idl_scope.proofs.PlaceLemmas.{drop-at1}
 use Rattle.idl_scope.specs.Identity.{fixed_eq}
 use Rattle.idl_scope.specs.declared.addition.Addition.{Addition}
@@ -33,3 +35,13 @@ module _ (text : UnitText) (sites : List Site) where
       ∙ ap (λ l. there ++ l) (sym (map-append (λ path. record { path = path; text = text; sites = sites }) own (first_paths rest)))
       ∙ ap (λ paths. there ++ listed_with text sites paths) (sym (first_paths-cons a rest))
       ∙ ap (λ l. there ++ listed_with text sites (first_paths l)) (sym (drop-at1 additions i a here))
+
+-- what comes of names, with what comes of one more of them
+pub printed-more : {X : Type 0} (f : Listed → List X) (there next : List X) (names : List HeldListed) (i : ℕ) (name : HeldListed) → i < length names → name ≡ get_or names i name
+    → next ≡ there ++ f (listed_at name) → next ++ flat_map f (map listed_at (drop (i + 1) names)) ≡ there ++ flat_map f (map listed_at (drop i names))
+printed-more f there next names i name lt is own =
+    let rest = drop (i + 1) names in
+    ap (λ l. l ++ flat_map f (map listed_at rest)) own
+    ∙ append_assoc there (f (listed_at name)) (flat_map f (map listed_at rest))
+    ∙ ap (λ n. there ++ flat_map f (map listed_at (n ∷ rest))) is
+    ∙ sym (at_drop_more (λ l. there ++ flat_map f (map listed_at l)) names i name lt)

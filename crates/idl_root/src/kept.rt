@@ -171,7 +171,7 @@ impl KeptEntry {
         let alloc = env.alloc();
         let (entry, asked) = noted_entry(alloc, buffer, env, path)?;
         let path = path.clone()?;
-        Shared::new(alloc, KeptEntry { path, entry, asked })
+        Ok(Shared::new(alloc, KeptEntry { path, entry, asked })?)
     }
 }
 

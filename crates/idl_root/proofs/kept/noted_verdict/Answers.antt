@@ -1,4 +1,4 @@
-use Rattle.std.proofs.Common.{◌≡◌, ◌∙◌, ◌≤◌, [], List, Option, All, ap, arith, rules, subst, sym}
+use Rattle.std.proofs.Common.{◌≡◌, ◌∙◌, ◌≤◌, [], List, Option, All, ap, arith, subst}
 use Rattle.std.specs.Prelude.{Contains}
 use Rattle.idl_check.specs.Verdict.{verdict}
 use Rattle.idl_memo.specs.Query.{asked, run}

@@ -1,4 +1,4 @@
-use Rattle.std.proofs.Common.{List, ℕ}
+use Rattle.std.proofs.Common.{List}
 use Rattle.idl_root.specs.Followed.{IsFollowed}
 use Rattle.idl_scope.specs.Facts.{UnitFacts}
 use Rattle.idl_root.proofs.following.Following.caught_up.Given as goal

@@ -17,10 +17,10 @@ returns c = λ b.
     let before : c.get-before.result.now ≡ f = search rules in
     let steps : f.step ≡ g.step = search rules in
     let operations : operations_among f.additions ≡ operations_among g.additions = search rules in
-    let changed : c.digests_into-2.new.digests.items ≡ (c.args.self.changed.items ++ map (λ a. key_digest (key_of a)) f.additions) ++ map (λ a. key_digest (key_of a)) g.additions = search rules in
+    let changed : c.in_ok-changed.changed ≡ (c.args.self.changed ++ map (λ a. key_digest (key_of a)) f.additions) ++ map (λ a. key_digest (key_of a)) g.additions = search rules in
     let noted : AreNoted c.in-Some-2.looked.items (looked_at_by (world c.args.env.now) g) = search rules in
-    let yes : c.share_none.result ≡ true = search rules in
-    let apart : ShareNone c.in-Some-2.looked.items c.digests_into-2.new.digests.items =
-    subst (λ l. ShareNone l c.digests_into-2.new.digests.items) c.as_slice.ensures.value (subst (ShareNone c.as_slice.result.now) c.as_slice-2.ensures.value (c.share_none.ensures yes)) in
-    beside-other c.adding.ensures.together (map added_by c.args.self.earlier.now.0) c.exchanging.ensures.looked_at c.exchanging.ensures.pair c.args.self.changed.items c.in-Some-2.looked.items k c.in-Some.rest.now c.args.self.kept.now c.args.env.now g
-    c.in-Some.ensures c.digests_into-2.new.digests.items changed steps operations noted apart b
+    let yes : c.shares_none.result ≡ true = search rules in
+    let apart : ShareNone c.in-Some-2.looked.items c.in_ok-changed.changed =
+    subst (λ l. ShareNone l c.in_ok-changed.changed) c.as_slice.ensures.value (c.shares_none.ensures yes) in
+    beside-other c.adding.ensures.together (map added_by c.args.self.earlier.now.0) c.exchanging.ensures.looked_at c.exchanging.ensures.pair c.args.self.changed c.in-Some-2.looked.items k c.in-Some.rest.now c.args.self.kept.now c.args.env.now g
+    c.in-Some.ensures c.in_ok-changed.changed changed steps operations noted apart b

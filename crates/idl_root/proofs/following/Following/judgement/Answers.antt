@@ -9,9 +9,9 @@ pub returns-clause-judged : goal.returns-clause-judged
 returns-clause-judged c = λ facts b.
     let next = c.in_ok-judgement.ensures in
     let units = subst (AreKept b.before) next.1 b.units in
-    let yes : c.share_none.result ≡ true = search rules in
+    let yes : c.shares_none.result ≡ true = search rules in
     let asked = c.as_slice.ensures.value ∙ ap (λ (j : Judgement). j.asked.items) c.deref.ensures in
-    let apart : ShareNone c.in_ok-judgement.judgement.now.value.asked.items c.args.self.now.changed.items =
-    subst (λ l. ShareNone l c.args.self.now.changed.items) asked (subst (ShareNone c.as_slice.result.now) c.as_slice-2.ensures.value (c.share_none.ensures yes)) in
-    judged-again c.reliance.ensures.outside c.reliance-2.ensures.outcome c.reliance-2.ensures.asked c.args.self.now.changed.items b.before facts c.args.text.now c.in_ok-judgement.judgement.now.value
+    let apart : ShareNone c.in_ok-judgement.judgement.now.value.asked.items c.args.self.now.changed =
+    subst (λ l. ShareNone l c.args.self.now.changed) asked (c.shares_none.ensures yes) in
+    judged-again c.reliance.ensures.outside c.reliance-2.ensures.outcome c.reliance-2.ensures.asked c.args.self.now.changed b.before facts c.args.text.now c.in_ok-judgement.judgement.now.value
     units.0 b.but apart

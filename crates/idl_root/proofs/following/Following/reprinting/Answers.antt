@@ -1,4 +1,5 @@
-use Rattle.std.proofs.Common.{◌≡◌, [], map, rules, subst, sym}
+use Rattle.std.proofs.Common.{◌≡◌, [], length, map, rules, subst, sym}
+use Rattle.std.proofs.lemmas.List.{nil_from_length}
 use Rattle.std.specs.Prelude.{All}
 use Rattle.idl_root.specs.Followed.{AgreeBut}
 use Rattle.idl_root.specs.Kept.{IsPrinted, added_by}
@@ -8,10 +9,11 @@ use Rattle.idl_root.proofs.following.Following.reprinting.Goals as goal
 pub returns : goal.returns
 returns c = λ facts b.
     let all = map added_by c.args.self.now.earlier.now.0 in
-    let none : c.args.self.now.kept.now ≡ [] = search rules in
-    let but : AgreeBut c.args.self.now.changed.items all facts = beside-end all c.args.self.now.changed.items c.args.self.now.kept.now facts none b in
+    let empty : length c.args.self.now.kept.now ≡ 0 = search rules in
+    let none : c.args.self.now.kept.now ≡ [] = nil_from_length c.args.self.now.kept.now empty in
+    let but : AgreeBut c.args.self.now.changed all facts = beside-end all c.args.self.now.changed c.args.self.now.kept.now facts none b in
     record {
       before = all;
-      entries = subst (All (IsPrinted all)) (sym c.new.ensures.entries) c.entries.ensures.kept;
-      but = subst (λ changed. AgreeBut changed all facts) (sym c.new.ensures.changed) (subst (λ changed. AgreeBut changed all facts) (sym c.as_slice.ensures.value) but);
+      entries = subst (All (IsPrinted all)) (sym c.new.ensures.entries) c.entries-entries.ensures.kept;
+      but = subst (λ changed. AgreeBut changed all facts) (sym c.new.ensures.changed) but;
     }

@@ -11,5 +11,5 @@ returns c = λ here b.
     let g = c.args.facts.now in
     let stays : g.step ≡ Stays = search rules in
     let none : operations_among g.additions ≡ [] = search rules in
-    let changed : c.digests_into.new.digests.items ≡ c.args.self.changed.items ++ map (λ a. key_digest (key_of a)) g.additions = search rules in
-    beside-more c.adding.ensures.together (map added_by c.args.self.earlier.now.0) c.exchanging.ensures.more c.args.self.changed.items c.args.self.kept.now here g c.digests_into.new.digests.items changed stays none b
+    let changed : c.in_ok-changed.changed ≡ c.args.self.changed ++ map (λ a. key_digest (key_of a)) g.additions = search rules in
+    beside-more c.adding.ensures.together (map added_by c.args.self.earlier.now.0) c.exchanging.ensures.more c.args.self.changed c.args.self.kept.now here g c.in_ok-changed.changed changed stays none b

@@ -15,6 +15,6 @@ returns-clause-followed c = λ facts b.
     let before : c.get-facts.result.now ≡ f = search rules in
     let stays : f.step ≡ Stays = search rules in
     let none : operations_among f.additions ≡ [] = search rules in
-    let changed : c.digests_into.new.digests.items ≡ c.args.self.changed.items ++ map (λ a. key_digest (key_of a)) f.additions = search rules in
-    beside-less c.adding.ensures.together (map added_by c.args.self.earlier.now.0) c.exchanging.ensures.less c.args.self.changed.items k c.in-Some.rest.now c.args.self.kept.now facts
-    c.in-Some.ensures c.digests_into.new.digests.items changed stays none b
+    let changed : c.in_ok-changed.changed ≡ c.args.self.changed ++ map (λ a. key_digest (key_of a)) f.additions = search rules in
+    beside-less c.adding.ensures.together (map added_by c.args.self.earlier.now.0) c.exchanging.ensures.less c.args.self.changed k c.in-Some.rest.now c.args.self.kept.now facts
+    c.in-Some.ensures c.in_ok-changed.changed changed stays none b

@@ -1,4 +1,4 @@
-use Rattle.std.proofs.Common.{◌≡◌, ap, refl}
+use Rattle.std.proofs.Common.{◌≡◌, ap}
 use Rattle.idl_root.specs.declared.kept.KeptUnit.TheVariants.{Judged}
 use Rattle.idl_unit.specs.contracts.unit.UnitTextDatum.TheImpl.Laws.{copy-law}
 use Rattle.idl_root.proofs.FollowingLemmas.{judged-copy, keeping-more}
