@@ -3,10 +3,10 @@ use Rattle.std.proofs.Common.{◌≡◌, ℕ, zero, suc, ◌<◌, List, [], ◌�
 use Rattle.std.specs.Prelude.{All, Contains, IfSome}
 use Rattle.std.specs.Global.{Global}
 use Rattle.std.specs.Prelude.{Vec}
-use Rattle.std.proofs.lemmas.List.Elements.{All-append, All-contains, All-map, All-weaker, Contains-append_left, Contains-append_right}
+use Rattle.std.proofs.lemmas.List.Elements.{All-append, All-contains, All-map, All-push, All-weaker, Contains-append_left, Contains-append_right, Contains-push}
 use Rattle.idl_check.specs.Verdict.{verdict}
 use Rattle.idl_memo.specs.Query.{Agree, asked, outcome}
-use Rattle.idl_root.specs.Followed.{AgreeBut, AreBeside, ArePrinted, IsBeside, IsFollowed, IsKeeping, ShareNone}
+use Rattle.idl_root.specs.Followed.{AgreeBut, AreBeside, ArePrinted, StayAlike, WorldsAgree, IsBeside, IsFollowed, IsKeeping, ShareNone}
 use Rattle.idl_repo.specs.Entry.{entry}
 use Rattle.idl_root.specs.Kept.{AreKept, AreNoted, IsJudged, IsKept, IsPrinted, added_by}
 use Rattle.idl_root.specs.Printed.{entry_over}
@@ -16,15 +16,17 @@ use Rattle.idl_root.specs.declared.kept.Judgement.{Judgement}
 use Rattle.idl_root.specs.declared.kept.KeptEntry.{KeptEntry}
 use Rattle.idl_root.specs.declared.kept.KeptUnit.{KeptUnit}
 use Rattle.idl_root.specs.declared.reprinting.Reprinting.{Reprinting}
-use Rattle.idl_scope.specs.Facts.{UnitFacts, World, after, after_all, answers, first_world, key_of, operations_among, world, with_additions}
+use Rattle.idl_scope.specs.Facts.{UnitFacts, World, after, after_all, answers, entity_key, first_world, key_of, operations_among, world, with_additions}
 use Rattle.idl_scope.specs.Key.{key_digest}
 use Rattle.idl_scope.specs.Lookup.{Lookup}
-use Rattle.idl_scope.specs.Outside.{AgreeOutside, AreApart, WorldsAgreeOutside, looked_at, looked_at_by}
+use Rattle.idl_scope.specs.Outside.{AgreeOutside, AreApart, IsInnermost, WorldsAgreeAround, WorldsAgreeOutside, looked_at, looked_at_by}
 use Rattle.idl_scope.specs.declared.addition.Addition.{Addition}
 use Rattle.idl_scope.specs.declared.addition.Step.{Step}
 use Rattle.idl_scope.specs.declared.addition.Step.TheVariants.{Stays, Opens, OpensNameless, Closes, Prefixes, Enters, Leaves}
 use Rattle.idl_scope.specs.declared.answer.Answer.{Answer}
+use Rattle.idl_scope.specs.declared.answer.Scope.{Scope}
 use Rattle.idl_scope.specs.declared.key.Key.{Key}
+use Rattle.idl_scope.specs.declared.key.Key.TheVariants.{Cursor}
 use Rattle.idl_scope.specs.declared.lookup.TheConstants.{TURNS}
 use Rattle.idl_unit.specs.declared.unit.UnitText.{UnitText}
 
@@ -68,7 +70,7 @@ noted-both changed keys fs gs h =
 -- ---- what is kept, beside facts
 
 -- at first
-pub beside-start : (all kept : List KeptUnit) → kept ≡ all → AreKept [] kept → IsBeside (map added_by all) [] kept []
+pub beside-start : (all kept : List KeptUnit) → kept ≡ all → AreKept [] kept → IsBeside (map added_by all) false [] kept []
 beside-start all kept same h = record {
   before = [];
   whole = ap (map added_by) same;
@@ -80,133 +82,196 @@ beside-start all kept same h = record {
   };
 }
 
--- behind all units
-pub beside-end : (all : List UnitFacts) (changed : List ℕ) (kept : List KeptUnit) (facts : List UnitFacts) → kept ≡ [] → IsBeside all changed kept facts → AgreeBut changed all facts
-beside-end all changed kept facts none b =
-    let whole : b.before ≡ all = sym (append-nil b.before) ∙ ap (λ k. b.before ++ map added_by k) (sym none) ∙ b.whole in
-    subst (λ before. AgreeBut changed before facts) whole b.but
+-- the answers agree
+answers-agree : (around : Bool) (keys : List Key) (w v : World) → WorldsAgree around keys w v → AgreeOutside keys w.answers v.answers
+answers-agree false keys w v h = h.0
+answers-agree true keys w v h = h.0
 
-module _ (together : (w : World) (facts more : List UnitFacts) → after_all w (facts ++ more) ≡ after_all (after_all w facts) more) (all : List UnitFacts) where
-  world-more : (facts : List UnitFacts) (f : UnitFacts) → world (facts ++ f ∷ []) ≡ after (world facts) f
-  unfolding world
-  world-more facts f = together first_world facts (f ∷ [])
+module _ (wider : (keys : List Key) (w other : World) → WorldsAgreeOutside keys w other → WorldsAgreeAround keys w other) where
+  agree-around : (around : Bool) (keys : List Key) (w v : World) → WorldsAgree around keys w v → WorldsAgreeAround keys w v
+  agree-around false keys w v h = wider keys w v h
+  agree-around true keys w v h = h
 
-  -- behind the first of what was kept
-  whole-next : (k : KeptUnit) (rest kept : List KeptUnit) (before : List UnitFacts) → kept ≡ k ∷ rest → before ++ map added_by kept ≡ all → (before ++ added_by k ∷ []) ++ map added_by rest ≡ all
-  whole-next k rest kept before is whole = append_assoc before (added_by k ∷ []) (map added_by rest) ∙ ap (λ l. before ++ map added_by l) (sym is) ∙ whole
-
-  -- behind one unit there and one here
-  beside-next : (changed : List ℕ) (keys : List Key) (rest : List KeptUnit) (before facts : List UnitFacts) (old new : UnitFacts)
-      → (before ++ old ∷ []) ++ map added_by rest ≡ all → AreKept (before ++ old ∷ []) rest → AreNoted changed keys
-      → WorldsAgreeOutside keys (after (world before) old) (after (world facts) new) → IsBeside all changed rest (facts ++ new ∷ [])
-  beside-next changed keys rest before facts old new whole units noted agree = record {
-    before = before ++ old ∷ [];
-    whole = whole;
-    units = units;
-    but = record {
-      keys = keys;
-      noted = noted;
-      agree =
-          subst (λ w. WorldsAgreeOutside keys w (world (facts ++ new ∷ []))) (sym (world-more before old))
-          (subst (λ v. WorldsAgreeOutside keys (after (world before) old) v) (sym (world-more facts new)) agree);
-    };
-  }
-
-  -- behind a unit here alone
-  pub beside-more : ((keys : List Key) (w other : World) (g : UnitFacts) → WorldsAgreeOutside keys w other → g.step ≡ Stays → operations_among g.additions ≡ []
-      → WorldsAgreeOutside (keys ++ map key_of g.additions) w (after other g))
-      → (changed : List ℕ) (kept : List KeptUnit) (facts : List UnitFacts) (g : UnitFacts)
-      → (now : List ℕ) → now ≡ changed ++ own g.additions
-      → g.step ≡ Stays → operations_among g.additions ≡ [] → IsBeside all changed kept facts → IsBeside all now kept (facts ++ g ∷ [])
-  beside-more law changed kept facts g now is stays none b =
-      let keys = b.but.keys in
-      let more = keys ++ map key_of g.additions in
-      subst (λ n. IsBeside all n kept (facts ++ g ∷ [])) (sym is) (record {
-        before = b.before;
-        whole = b.whole;
-        units = b.units;
-        but = record {
-          keys = more;
-          noted = noted-more changed keys g.additions b.but.noted;
-          agree = subst (λ v. WorldsAgreeOutside more (world b.before) v) (sym (world-more facts g)) (law keys (world b.before) (world facts) g b.but.agree stays none);
-        };
+  -- behind all units
+  pub beside-end : (all : List UnitFacts) (around : Bool) (changed : List ℕ) (kept : List KeptUnit) (facts : List UnitFacts) → kept ≡ [] → IsBeside all around changed kept facts
+      → AgreeBut true changed all facts
+  beside-end all around changed kept facts none b =
+      let whole : b.before ≡ all = sym (append-nil b.before) ∙ ap (λ k. b.before ++ map added_by k) (sym none) ∙ b.whole in
+      subst (λ before. AgreeBut true changed before facts) whole (record {
+        keys = b.but.keys;
+        noted = b.but.noted;
+        agree = agree-around around b.but.keys (world b.before) (world facts) b.but.agree;
       })
 
-  -- behind a unit there alone
-  pub beside-less : ((keys : List Key) (w other : World) (f : UnitFacts) → WorldsAgreeOutside keys w other → f.step ≡ Stays → operations_among f.additions ≡ []
-      → WorldsAgreeOutside (keys ++ map key_of f.additions) (after w f) other)
-      → (changed : List ℕ) (k : KeptUnit) (rest kept : List KeptUnit) (facts : List UnitFacts) → kept ≡ k ∷ rest
-      → (now : List ℕ) → now ≡ changed ++ own (added_by k).additions
-      → (added_by k).step ≡ Stays → operations_among (added_by k).additions ≡ [] → IsBeside all changed kept facts → IsBeside all now rest facts
-  beside-less law changed k rest kept facts is now noted-is stays none b =
-      let f = added_by k in
-      let keys = b.but.keys in
-      let more = keys ++ map key_of f.additions in
-      let units : AreKept b.before (k ∷ rest) = subst (AreKept b.before) is b.units in
-      subst (λ n. IsBeside all n rest facts) (sym noted-is) (record {
-        before = b.before ++ f ∷ [];
-        whole = whole-next k rest kept b.before is b.whole;
-        units = units.1;
-        but = record {
-          keys = more;
-          noted = noted-more changed keys f.additions b.but.noted;
-          agree = subst (λ w. WorldsAgreeOutside more w (world facts)) (sym (world-more b.before f)) (law keys (world b.before) (world facts) f b.but.agree stays none);
-        };
-      })
+  module _ (together : (w : World) (facts more : List UnitFacts) → after_all w (facts ++ more) ≡ after_all (after_all w facts) more) (all : List UnitFacts) where
+    world-more : (facts : List UnitFacts) (f : UnitFacts) → world (facts ++ f ∷ []) ≡ after (world facts) f
+    unfolding world
+    world-more facts f = together first_world facts (f ∷ [])
 
-  module _ (looked_law : (keys : List Key) (w other : World) (f : UnitFacts) → WorldsAgreeOutside keys w other → AreApart (looked_at_by other f) keys → AreApart (looked_at_by w f) keys) where
-    -- behind units that add the same
-    pub beside-same : ((keys : List Key) (w other : World) (f : UnitFacts) → WorldsAgreeOutside keys w other → AreApart (looked_at_by w f) keys → WorldsAgreeOutside keys (after w f) (after other f))
-        → (changed looked : List ℕ) (k : KeptUnit) (rest kept : List KeptUnit) (facts : List UnitFacts) (f : UnitFacts) → kept ≡ k ∷ rest → added_by k ≡ f
-        → AreNoted looked (looked_at_by (world facts) f) → ShareNone looked changed → IsBeside all changed kept facts → IsBeside all changed rest (facts ++ f ∷ [])
-    beside-same law changed looked k rest kept facts f is adds noted none b =
-        let keys = b.but.keys in
-        let units : AreKept b.before (k ∷ rest) = subst (AreKept b.before) is b.units in
-        let apart = looked_law keys (world b.before) (world facts) f b.but.agree (apart-noted looked changed (looked_at_by (world facts) f) keys noted b.but.noted none) in
-        beside-next changed keys rest b.before facts f f
-        (subst (λ g. (b.before ++ g ∷ []) ++ map added_by rest ≡ all) adds (whole-next k rest kept b.before is b.whole))
-        (subst (λ g. AreKept (b.before ++ g ∷ []) rest) adds units.1) b.but.noted
-        (law keys (world b.before) (world facts) f b.but.agree apart)
+    -- behind the first of what was kept
+    whole-next : (k : KeptUnit) (rest kept : List KeptUnit) (before : List UnitFacts) → kept ≡ k ∷ rest → before ++ map added_by kept ≡ all → (before ++ added_by k ∷ []) ++ map added_by rest ≡ all
+    whole-next k rest kept before is whole = append_assoc before (added_by k ∷ []) (map added_by rest) ∙ ap (λ l. before ++ map added_by l) (sym is) ∙ whole
 
-    -- what is looked at is told by the answers alone
-    looked-answers : (w : World) (step : Step) → looked_at_by w (record { additions = []; step = step }) ≡ looked_at w step
-    looked-answers w Stays = refl
-    looked-answers w (Opens path kind) = refl
-    looked-answers w (OpensNameless kind) = refl
-    looked-answers w Closes = refl
-    looked-answers w (Prefixes text) = refl
-    looked-answers w Enters = refl
-    looked-answers w Leaves = refl
+    module _ (around : Bool) where
+      -- behind a unit here alone
+      beside-grown : (changed : List ℕ) (keys : List Key) (kept : List KeptUnit) (before facts : List UnitFacts) (g : UnitFacts)
+          → before ++ map added_by kept ≡ all → AreKept before kept → AreNoted changed keys
+          → WorldsAgree around keys (world before) (after (world facts) g) → IsBeside all around changed kept (facts ++ g ∷ [])
+      beside-grown changed keys kept before facts g whole units noted agree = record {
+        before = before;
+        whole = whole;
+        units = units;
+        but = record { keys = keys; noted = noted; agree = subst (λ v. WorldsAgree around keys (world before) v) (sym (world-more facts g)) agree };
+      }
 
-    -- behind units of which one takes the place of the other
-    pub beside-other : ((keys : List Key) (w other : World) (f g : UnitFacts) → WorldsAgreeOutside keys w other → f.step ≡ g.step → operations_among f.additions ≡ operations_among g.additions
-        → let more = keys ++ (map key_of f.additions ++ map key_of g.additions) in
-        AreApart (looked_at_by w f) more → WorldsAgreeOutside more (after w f) (after other g))
-        → (changed looked : List ℕ) (k : KeptUnit) (rest kept : List KeptUnit) (facts : List UnitFacts) (g : UnitFacts) → kept ≡ k ∷ rest
-        → (now : List ℕ) → now ≡ (changed ++ own (added_by k).additions) ++ own g.additions
-        → (added_by k).step ≡ g.step → operations_among (added_by k).additions ≡ operations_among g.additions
-        → AreNoted looked (looked_at_by (world facts) g) → ShareNone looked now
-        → IsBeside all changed kept facts → IsBeside all now rest (facts ++ g ∷ [])
-    beside-other law changed looked k rest kept facts g is now now-is steps operations noted apart b =
-        let none = subst (ShareNone looked) now-is apart in
+      -- behind the first of what was kept alone
+      beside-passed : (changed : List ℕ) (keys : List Key) (k : KeptUnit) (rest kept : List KeptUnit) (before facts : List UnitFacts)
+          → kept ≡ k ∷ rest → before ++ map added_by kept ≡ all → AreKept before kept → AreNoted changed keys
+          → WorldsAgree around keys (after (world before) (added_by k)) (world facts) → IsBeside all around changed rest facts
+      beside-passed changed keys k rest kept before facts is whole units noted agree =
+          let own : AreKept before (k ∷ rest) = subst (AreKept before) is units in
+          record {
+            before = before ++ added_by k ∷ [];
+            whole = whole-next k rest kept before is whole;
+            units = own.1;
+            but = record { keys = keys; noted = noted; agree = subst (λ w. WorldsAgree around keys w (world facts)) (sym (world-more before (added_by k))) agree };
+          }
+
+      -- behind that and a unit here
+      beside-next : (changed : List ℕ) (keys : List Key) (k : KeptUnit) (rest kept : List KeptUnit) (before facts : List UnitFacts) (g : UnitFacts)
+          → kept ≡ k ∷ rest → before ++ map added_by kept ≡ all → AreKept before kept → AreNoted changed keys
+          → WorldsAgree around keys (after (world before) (added_by k)) (after (world facts) g) → IsBeside all around changed rest (facts ++ g ∷ [])
+      beside-next changed keys k rest kept before facts g is whole units noted agree =
+          beside-passed changed keys k rest kept before (facts ++ g ∷ []) is whole units noted
+          (subst (λ v. WorldsAgree around keys (after (world before) (added_by k)) v) (sym (world-more facts g)) agree)
+
+    -- behind a unit here alone
+    pub beside-more : ((keys : List Key) (w other : World) (g : UnitFacts) → WorldsAgreeOutside keys w other → g.step ≡ Stays → operations_among g.additions ≡ []
+        → WorldsAgreeOutside (keys ++ map key_of g.additions) w (after other g))
+        → ((keys : List Key) (w other : World) (g : UnitFacts) → WorldsAgreeAround keys w other → g.step ≡ Stays → WorldsAgreeAround (keys ++ map key_of g.additions) w (after other g))
+        → (around then_around : Bool) (changed : List ℕ) (kept : List KeptUnit) (facts : List UnitFacts) (g : UnitFacts)
+        → (then_around ≡ false → (around ≡ false) × (operations_among g.additions ≡ []))
+        → (now : List ℕ) → now ≡ changed ++ own g.additions
+        → g.step ≡ Stays → IsBeside all around changed kept facts → IsBeside all then_around now kept (facts ++ g ∷ [])
+    beside-more law law_around around false changed kept facts g may now is stays b =
+        let alike : WorldsAgreeOutside b.but.keys (world b.before) (world facts) = subst (λ a. WorldsAgree a b.but.keys (world b.before) (world facts)) (may refl).0 b.but.agree in
+        subst (λ n. IsBeside all false n kept (facts ++ g ∷ [])) (sym is)
+        (beside-grown false (changed ++ own g.additions) (b.but.keys ++ map key_of g.additions) kept b.before facts g b.whole b.units (noted-more changed b.but.keys g.additions b.but.noted)
+        (law b.but.keys (world b.before) (world facts) g alike stays (may refl).1))
+    beside-more law law_around around true changed kept facts g may now is stays b =
+        subst (λ n. IsBeside all true n kept (facts ++ g ∷ [])) (sym is)
+        (beside-grown true (changed ++ own g.additions) (b.but.keys ++ map key_of g.additions) kept b.before facts g b.whole b.units (noted-more changed b.but.keys g.additions b.but.noted)
+        (law_around b.but.keys (world b.before) (world facts) g (agree-around around b.but.keys (world b.before) (world facts) b.but.agree) stays))
+
+    -- behind a unit there alone
+    pub beside-less : ((keys : List Key) (w other : World) (f : UnitFacts) → WorldsAgreeOutside keys w other → f.step ≡ Stays → operations_among f.additions ≡ []
+        → WorldsAgreeOutside (keys ++ map key_of f.additions) (after w f) other)
+        → ((keys : List Key) (w other : World) (f : UnitFacts) → WorldsAgreeAround keys w other → f.step ≡ Stays → WorldsAgreeAround (keys ++ map key_of f.additions) (after w f) other)
+        → (around then_around : Bool) (changed : List ℕ) (k : KeptUnit) (rest kept : List KeptUnit) (facts : List UnitFacts) → kept ≡ k ∷ rest
+        → (then_around ≡ false → (around ≡ false) × (operations_among (added_by k).additions ≡ []))
+        → (now : List ℕ) → now ≡ changed ++ own (added_by k).additions
+        → (added_by k).step ≡ Stays → IsBeside all around changed kept facts → IsBeside all then_around now rest facts
+    beside-less law law_around around false changed k rest kept facts is may now noted-is stays b =
         let f = added_by k in
+        let alike : WorldsAgreeOutside b.but.keys (world b.before) (world facts) = subst (λ a. WorldsAgree a b.but.keys (world b.before) (world facts)) (may refl).0 b.but.agree in
+        subst (λ n. IsBeside all false n rest facts) (sym noted-is)
+        (beside-passed false (changed ++ own f.additions) (b.but.keys ++ map key_of f.additions) k rest kept b.before facts is b.whole b.units (noted-more changed b.but.keys f.additions b.but.noted)
+        (law b.but.keys (world b.before) (world facts) f alike stays (may refl).1))
+    beside-less law law_around around true changed k rest kept facts is may now noted-is stays b =
+        let f = added_by k in
+        subst (λ n. IsBeside all true n rest facts) (sym noted-is)
+        (beside-passed true (changed ++ own f.additions) (b.but.keys ++ map key_of f.additions) k rest kept b.before facts is b.whole b.units (noted-more changed b.but.keys f.additions b.but.noted)
+        (law_around b.but.keys (world b.before) (world facts) f (agree-around around b.but.keys (world b.before) (world facts) b.but.agree) stays))
+
+    -- where the innermost scope closes on both sides
+    pub beside-closing : ((keys : List Key) (before facts : List UnitFacts) (s : Scope) (f : UnitFacts) → WorldsAgreeAround keys (world before) (world facts) → f.step ≡ Closes → f.additions ≡ []
+        → IsInnermost (answers facts) s → (Contains keys Cursor → ⊥) → WorldsAgreeOutside (keys ++ entity_key s.path ∷ []) (after (world before) f) (after (world facts) f))
+        → (around : Bool) (changed : List ℕ) (k : KeptUnit) (rest kept : List KeptUnit) (facts : List UnitFacts) (f : UnitFacts) → kept ≡ k ∷ rest → added_by k ≡ f
+        → f.step ≡ Closes → f.additions ≡ [] → (s : Scope) → IsInnermost (answers facts) s → ShareNone (key_digest Cursor ∷ []) changed
+        → (now : List ℕ) → now ≡ changed ++ key_digest (entity_key s.path) ∷ []
+        → IsBeside all around changed kept facts → IsBeside all false now rest (facts ++ f ∷ [])
+    beside-closing law around changed k rest kept facts f is adds closes nothing s inner none now now-is b =
         let keys = b.but.keys in
-        let w = world b.before in
-        let v = world facts in
-        let units : AreKept b.before (k ∷ rest) = subst (AreKept b.before) is b.units in
-        let more = keys ++ (map key_of f.additions ++ map key_of g.additions) in
-        let both = noted-both changed keys f.additions g.additions b.but.noted in
-        let here : AreApart (looked_at_by v g) more = apart-noted looked ((changed ++ own f.additions) ++ own g.additions) (looked_at_by v g) more noted both none in
-        let w2 = with_additions f.additions w in
-        let v2 = with_additions g.additions v in
-        let grown : WorldsAgreeOutside more w2 v2 =
-        law keys w v (record { additions = f.additions; step = Stays }) (record { additions = g.additions; step = Stays }) b.but.agree refl operations (λ key i j. omega (arith, i.1)) in
-        let there : AreApart (looked_at w2 f.step) more =
-        subst (λ l. AreApart l more) (looked-answers w2 f.step)
-        (looked_law more w2 v2 (record { additions = []; step = f.step }) grown
-        (subst (λ l. AreApart l more) (sym (looked-answers v2 f.step)) (subst (λ s. AreApart (looked_at v2 s) more) (sym steps) here))) in
-        subst (λ n. IsBeside all n rest (facts ++ g ∷ [])) (sym now-is)
-        (beside-next ((changed ++ own f.additions) ++ own g.additions) more rest b.before facts f g (whole-next k rest kept b.before is b.whole) units.1 both (law keys w v f g b.but.agree steps operations there))
+        let out : Contains keys Cursor → ⊥ = λ c.
+        none (key_digest Cursor) (0, omega arith, refl) (All-contains (λ q. Contains changed (key_digest q)) keys Cursor b.but.noted c) in
+        let more = keys ++ entity_key s.path ∷ [] in
+        let digests = changed ++ key_digest (entity_key s.path) ∷ [] in
+        let noted : AreNoted digests more =
+        All-push (λ q. Contains digests (key_digest q)) keys (entity_key s.path) (noted-wider changed (key_digest (entity_key s.path) ∷ []) keys b.but.noted)
+        (Contains-push changed (key_digest (entity_key s.path))) in
+        let after_both = law keys b.before facts s f (agree-around around keys (world b.before) (world facts) b.but.agree) closes nothing inner out in
+        subst (λ n. IsBeside all false n rest (facts ++ f ∷ [])) (sym now-is)
+        (beside-next false digests more k rest kept b.before facts f is b.whole b.units noted
+        (subst (λ g. WorldsAgreeOutside more (after (world b.before) g) (after (world facts) f)) (sym adds) after_both))
+
+    module _ (looked_law : (keys : List Key) (w other : World) (f : UnitFacts) → WorldsAgreeOutside keys w other → AreApart (looked_at_by other f) keys → AreApart (looked_at_by w f) keys) where
+      -- behind units that add the same
+      pub beside-same : ((keys : List Key) (w other : World) (f : UnitFacts) → WorldsAgreeOutside keys w other → AreApart (looked_at_by w f) keys → WorldsAgreeOutside keys (after w f) (after other f))
+          → ((keys : List Key) (w other : World) (f : UnitFacts) → WorldsAgreeAround keys w other → f.step ≡ Stays → WorldsAgreeAround keys (after w f) (after other f))
+          → (around : Bool) (changed : List ℕ) (k : KeptUnit) (rest kept : List KeptUnit) (facts : List UnitFacts) (f : UnitFacts) → kept ≡ k ∷ rest → added_by k ≡ f
+          → StayAlike around facts changed f → IsBeside all around changed kept facts → IsBeside all around changed rest (facts ++ f ∷ [])
+      beside-same law law_around false changed k rest kept facts f is adds (looked, noted, none) b =
+          let keys = b.but.keys in
+          let apart = looked_law keys (world b.before) (world facts) f b.but.agree (apart-noted looked changed (looked_at_by (world facts) f) keys noted b.but.noted none) in
+          beside-next false changed keys k rest kept b.before facts f is b.whole b.units b.but.noted
+          (subst (λ g. WorldsAgreeOutside keys (after (world b.before) g) (after (world facts) f)) (sym adds) (law keys (world b.before) (world facts) f b.but.agree apart))
+      beside-same law law_around true changed k rest kept facts f is adds stays b =
+          let keys = b.but.keys in
+          beside-next true changed keys k rest kept b.before facts f is b.whole b.units b.but.noted
+          (subst (λ g. WorldsAgreeAround keys (after (world b.before) g) (after (world facts) f)) (sym adds) (law_around keys (world b.before) (world facts) f b.but.agree stays))
+
+      -- what is looked at is told by the answers alone
+      looked-answers : (w : World) (step : Step) → looked_at_by w (record { additions = []; step = step }) ≡ looked_at w step
+      looked-answers w Stays = refl
+      looked-answers w (Opens path kind) = refl
+      looked-answers w (OpensNameless kind) = refl
+      looked-answers w Closes = refl
+      looked-answers w (Prefixes text) = refl
+      looked-answers w Enters = refl
+      looked-answers w Leaves = refl
+
+      -- behind units of which one takes the place of the other
+      pub beside-other : ((keys : List Key) (w other : World) (f g : UnitFacts) → WorldsAgreeOutside keys w other → f.step ≡ g.step → operations_among f.additions ≡ operations_among g.additions
+          → let more = keys ++ (map key_of f.additions ++ map key_of g.additions) in
+          AreApart (looked_at_by w f) more → WorldsAgreeOutside more (after w f) (after other g))
+          → ((keys : List Key) (w other : World) (f g : UnitFacts) → WorldsAgreeAround keys w other → f.step ≡ Stays → g.step ≡ Stays
+          → WorldsAgreeAround (keys ++ (map key_of f.additions ++ map key_of g.additions)) (after w f) (after other g))
+          → (around then_around : Bool) (changed : List ℕ) (k : KeptUnit) (rest kept : List KeptUnit) (facts : List UnitFacts) (g : UnitFacts) → kept ≡ k ∷ rest
+          → (then_around ≡ false → (around ≡ false) × (operations_among (added_by k).additions ≡ operations_among g.additions))
+          → (now : List ℕ) → now ≡ (changed ++ own (added_by k).additions) ++ own g.additions
+          → (added_by k).step ≡ g.step → StayAlike then_around facts now g
+          → IsBeside all around changed kept facts → IsBeside all then_around now rest (facts ++ g ∷ [])
+      beside-other law law_around around false changed k rest kept facts g is may now now-is steps (looked, noted, apart) b =
+          let none = subst (ShareNone looked) now-is apart in
+          let operations = (may refl).1 in
+          let f = added_by k in
+          let keys = b.but.keys in
+          let w = world b.before in
+          let v = world facts in
+          let alike : WorldsAgreeOutside keys w v = subst (λ a. WorldsAgree a keys w v) (may refl).0 b.but.agree in
+          let more = keys ++ (map key_of f.additions ++ map key_of g.additions) in
+          let both = noted-both changed keys f.additions g.additions b.but.noted in
+          let here : AreApart (looked_at_by v g) more = apart-noted looked ((changed ++ own f.additions) ++ own g.additions) (looked_at_by v g) more noted both none in
+          let w2 = with_additions f.additions w in
+          let v2 = with_additions g.additions v in
+          let grown : WorldsAgreeOutside more w2 v2 =
+          law keys w v (record { additions = f.additions; step = Stays }) (record { additions = g.additions; step = Stays }) alike refl operations (λ key i j. omega (arith, i.1)) in
+          let there : AreApart (looked_at w2 f.step) more =
+          subst (λ l. AreApart l more) (looked-answers w2 f.step)
+          (looked_law more w2 v2 (record { additions = []; step = f.step }) grown
+          (subst (λ l. AreApart l more) (sym (looked-answers v2 f.step)) (subst (λ s. AreApart (looked_at v2 s) more) (sym steps) here))) in
+          subst (λ n. IsBeside all false n rest (facts ++ g ∷ [])) (sym now-is)
+          (beside-next false ((changed ++ own f.additions) ++ own g.additions) more k rest kept b.before facts g is b.whole b.units both (law keys w v f g alike steps operations there))
+      beside-other law law_around around true changed k rest kept facts g is may now now-is steps stays b =
+          let f = added_by k in
+          let keys = b.but.keys in
+          let w = world b.before in
+          let v = world facts in
+          let more = keys ++ (map key_of f.additions ++ map key_of g.additions) in
+          let both = noted-both changed keys f.additions g.additions b.but.noted in
+          subst (λ n. IsBeside all true n rest (facts ++ g ∷ [])) (sym now-is)
+          (beside-next true ((changed ++ own f.additions) ++ own g.additions) more k rest kept b.before facts g is b.whole b.units both
+          (law_around keys w v f g (agree-around around keys w v b.but.agree) (steps ∙ stays) stays))
 
 -- ---- what is taken over
 
@@ -220,22 +285,22 @@ module _ {Out : Type 0} (query : Lookup Out) (outside : (keys asks : List Key) (
     (same : (bank other : Key → Option Answer) → Agree (asked query bank) bank other → outcome query other ≡ outcome query bank)
     (asks : (bank other : Key → Option Answer) → Agree (asked query bank) bank other → asked query other ≡ asked query bank) where
   -- a query comes to the same here and asks the same, where nothing that it asked has changed
-  again : (digests changed : List ℕ) (before facts : List UnitFacts) → AreNoted digests (asked query (answers before)) → AgreeBut changed before facts → ShareNone digests changed
+  again : (around : Bool) (digests changed : List ℕ) (before facts : List UnitFacts) → AreNoted digests (asked query (answers before)) → AgreeBut around changed before facts → ShareNone digests changed
       → (outcome query (answers before) ≡ outcome query (answers facts)) × AreNoted digests (asked query (answers facts))
-  again digests changed before facts noted but none =
+  again around digests changed before facts noted but none =
       let there = asked query (answers before) in
       let apart = apart-noted digests changed there but.keys noted but.noted none in
-      let agrees = outside but.keys there (answers before) (answers facts) but.agree.0 apart in
+      let agrees = outside but.keys there (answers before) (answers facts) (answers-agree around but.keys (world before) (world facts) but.agree) apart in
       (sym (same (answers before) (answers facts) agrees), subst (AreNoted digests) (sym (asks (answers before) (answers facts) agrees)) noted)
 
 -- what was judged of a text is so here
 pub judged-again : ((keys asks : List Key) (bank other : Key → Option Answer) → AgreeOutside keys bank other → AreApart asks keys → Agree asks bank other)
     → ((text : UnitText) (bank other : Key → Option Answer) → Agree (asked (verdict TURNS text) bank) bank other → outcome (verdict TURNS text) other ≡ outcome (verdict TURNS text) bank)
     → ((text : UnitText) (bank other : Key → Option Answer) → Agree (asked (verdict TURNS text) bank) bank other → asked (verdict TURNS text) other ≡ asked (verdict TURNS text) bank)
-    → (changed : List ℕ) (before facts : List UnitFacts) (text : UnitText) (judgement : Judgement)
-    → IsJudged before text judgement → AgreeBut changed before facts → ShareNone judgement.asked.items changed → IsJudged facts text judgement
-judged-again outside same asks changed before facts text judgement own but none =
-    let both = again (verdict TURNS text) outside (same text) (asks text) judgement.asked.items changed before facts own.noted but none in
+    → (around : Bool) (changed : List ℕ) (before facts : List UnitFacts) (text : UnitText) (judgement : Judgement)
+    → IsJudged before text judgement → AgreeBut around changed before facts → ShareNone judgement.asked.items changed → IsJudged facts text judgement
+judged-again outside same asks around changed before facts text judgement own but none =
+    let both = again (verdict TURNS text) outside (same text) (asks text) around judgement.asked.items changed before facts own.noted but none in
     record { said = own.said ∙ both.0; noted = both.1 }
 
 -- and so is what was printed of a name
@@ -243,9 +308,9 @@ pub printed-again : ((keys asks : List Key) (bank other : Key → Option Answer)
     → ((path : List (List ℕ)) (bank other : Key → Option Answer) → Agree (asked (entry path) bank) bank other → outcome (entry path) other ≡ outcome (entry path) bank)
     → ((path : List (List ℕ)) (bank other : Key → Option Answer) → Agree (asked (entry path) bank) bank other → asked (entry path) other ≡ asked (entry path) bank)
     → (changed : List ℕ) (before facts : List UnitFacts) (kept : KeptEntry)
-    → IsPrinted before kept → AgreeBut changed before facts → ShareNone kept.asked.items changed → IsPrinted facts kept
+    → IsPrinted before kept → AgreeBut true changed before facts → ShareNone kept.asked.items changed → IsPrinted facts kept
 printed-again outside same asks changed before facts kept own but none =
-    let both = again (entry kept.path) outside (same kept.path) (asks kept.path) kept.asked.items changed before facts own.noted but none in
+    let both = again (entry kept.path) outside (same kept.path) (asks kept.path) true kept.asked.items changed before facts own.noted but none in
     record { said = own.said ∙ both.0; noted = both.1 }
 
 -- what comes behind the first of entries is beside the same facts
@@ -253,7 +318,7 @@ pub beside-rest : (r s : Reprinting) (facts : List UnitFacts) → s.changed ≡ 
 beside-rest r s facts same more b = record {
   before = b.before;
   entries = more b.before b.entries;
-  but = subst (λ c. AgreeBut c.now b.before facts) (sym same) b.but;
+  but = subst (λ c. AgreeBut true c.now b.before facts) (sym same) b.but;
 }
 
 -- ---- what is kept of all units

@@ -88,8 +88,8 @@ impl Changed {
         Ok(changed)
     }
 
-    // With one more.
-    fn push(&mut self, digest: u64) -> Result<(), AllocError>
+    /// With one more.
+    pub fn push(&mut self, digest: u64) -> Result<(), AllocError>
         ensures { OnOk result (self.new ≡ self.old ++ digest ∷ []) }
     {
         let place = mark_of(digest);

@@ -1,17 +1,18 @@
 //! What was kept of a root's units, gone through beside the units that stand there now.
 
-ghost use Rattle.std.specs.Prelude.{◌≡◌, ◌-◌, ◌∷◌, ◌++◌, [], IfOk, IfSome, IsTrue, List};
-ghost use Rattle.idl_root.specs.Followed.{AreBeside, IsFollowed, IsNext};
+ghost use Rattle.std.specs.Prelude.{◌≡◌, ◌-◌, ◌∷◌, ◌++◌, [], false, IfOk, IfSome, IsFalse, IsTrue, List};
+ghost use Rattle.idl_root.specs.Followed.{AreBeside, IsFollowed, IsNext, StayAlike};
 ghost use Rattle.idl_root.specs.Kept.{AreKept, IsJudged, added_by};
 ghost use Rattle.idl_root.specs.declared.kept.KeptUnit.{KeptUnit as RootKeptUnit};
 ghost use Rattle.idl_root.specs.declared.kept.KeptUnit.TheVariants.{Judged};
-ghost use Rattle.idl_scope.specs.Facts.{UnitFacts};
+ghost use Rattle.idl_scope.specs.Facts.{UnitFacts, operations_among};
+ghost use Rattle.idl_scope.specs.declared.addition.Step.TheVariants.{Closes};
 
 use crate::changed::Changed;
 use crate::kept::{Judgement, KeptUnit, KeptUnits};
 use crate::reprinting::Reprinting;
 use idl_check::DeclarationTask;
-use idl_scope::{Env, Facts, adding, exchanging};
+use idl_scope::{Env, Facts, Step, adding, agreeing_around, exchanging};
 use idl_unit::UnitText;
 use std::alloc::{AllocError, Global};
 use std::rc::Rc;
@@ -27,6 +28,8 @@ pub struct Following<'k> {
     kept: &'k [KeptUnit],
     // Digests of the keys that may be answered otherwise than they were before what is kept.
     changed: Changed,
+    // Whether the innermost of the open scopes may have other operations than it had then.
+    is_around: bool,
     // How many more units there were, and how many more there are.
     less: usize,
     more: usize,
@@ -39,6 +42,7 @@ impl<'k> Drop for Following<'k> {
             earlier: _earlier,
             kept: _kept,
             changed: _changed,
+            is_around: _is_around,
             less: _less,
             more: _more,
         } = self;
@@ -60,6 +64,7 @@ impl<'k> Following<'k> {
             earlier,
             kept,
             changed: Changed::new(alloc)?,
+            is_around: false,
             less: kept.len().saturating_sub(count),
             more: count.saturating_sub(kept.len()),
         })
@@ -114,11 +119,13 @@ impl<'k> Following<'k> {
     {
         adding();
         exchanging();
+        agreeing_around();
         let Following {
             alloc,
             earlier,
             kept,
             changed,
+            is_around,
             less,
             more,
         } = self;
@@ -127,7 +134,7 @@ impl<'k> Following<'k> {
         };
         let facts = judgement.verdict.writes.get();
         let none = Facts::new(alloc);
-        if !facts.is_same_step(&none) || !facts.has_same_operations(&none) {
+        if !facts.is_same_step(&none) {
             return Ok(None);
         }
         let changed = changed.with(alloc, facts)?;
@@ -139,6 +146,7 @@ impl<'k> Following<'k> {
             earlier,
             kept: rest,
             changed,
+            is_around: may_differ(is_around, facts, &none),
             less: less.saturating_sub(1),
             more,
         }))
@@ -150,30 +158,76 @@ impl<'k> Following<'k> {
         ensures { IfOk result (λ found. IfSome found (λ f.
             IsFollowed self.entry env.now → IsFollowed f (env.now ++ facts.now ∷ []))) }
     {
+        if stay_alike(self.is_around, env, &self.changed, facts)? {
+            return Ok(self.with_alike(env, facts));
+        }
+        Ok(self.with_closing(env, facts)?)
+    }
+
+    // The same, where nothing that these facts look at may be answered otherwise.
+    fn with_alike(self, env: &Env, facts: &Facts) -> Option<Following<'k>>
+        requires adds { (k : RootKeptUnit) → IsNext k self.kept.now → added_by k ≡ facts.now }
+        requires alike { StayAlike self.is_around env.now self.changed facts.now }
+        ensures { IfSome result (λ f.
+            IsFollowed self.entry env.now → IsFollowed f (env.now ++ facts.now ∷ [])) }
+    {
         adding();
         exchanging();
+        agreeing_around();
         let Following {
             alloc,
             earlier,
             kept,
             changed,
+            is_around,
+            less,
+            more,
+        } = self;
+        let (_next, rest) = kept.split_first()?;
+        Some(Following {
+            alloc,
+            earlier,
+            kept: rest,
+            changed,
+            is_around,
+            less,
+            more,
+        })
+    }
+
+    // The same, where the innermost scope is closed: what it declared and inherited may be answered otherwise from then on.
+    fn with_closing(self, env: &Env, facts: &Facts) -> Result<Option<Following<'k>>, AllocError>
+        requires { (k : RootKeptUnit) → IsNext k self.kept.now → added_by k ≡ facts.now }
+        ensures { IfOk result (λ found. IfSome found (λ f.
+            IsFollowed self.entry env.now → IsFollowed f (env.now ++ facts.now ∷ []))) }
+    {
+        adding();
+        agreeing_around();
+        let Following {
+            alloc,
+            earlier,
+            kept,
+            mut changed,
+            is_around: _is_around,
             less,
             more,
         } = self;
         let Some((_next, rest)) = kept.split_first() else {
             return Ok(None);
         };
-        let Some(looked) = env.digests_looked_at(facts)? else {
+        let Some((cursor, entity)) = env.digests_of_innermost() else {
             return Ok(None);
         };
-        if !changed.shares_none(looked.as_slice()) {
+        if !is_closing(facts) || !changed.shares_none(&[cursor]) {
             return Ok(None);
         }
+        changed.push(entity)?;
         Ok(Some(Following {
             alloc,
             earlier,
             kept: rest,
             changed,
+            is_around: false,
             less,
             more,
         }))
@@ -202,11 +256,13 @@ impl<'k> Following<'k> {
     {
         adding();
         exchanging();
+        agreeing_around();
         let Following {
             alloc,
             earlier,
             kept,
             changed,
+            is_around,
             less,
             more,
         } = self;
@@ -214,17 +270,12 @@ impl<'k> Following<'k> {
             return Ok(None);
         };
         let before = judgement.verdict.writes.get();
-        if !before.is_same_step(facts) || !before.has_same_operations(facts) {
+        if !before.is_same_step(facts) {
             return Ok(None);
         }
         let changed = changed.with(alloc, before)?.with(alloc, facts)?;
-        if changed.len() > MOST {
-            return Ok(None);
-        }
-        let Some(looked) = env.digests_looked_at(facts)? else {
-            return Ok(None);
-        };
-        if !changed.shares_none(looked.as_slice()) {
+        let is_around = may_differ(is_around, before, facts);
+        if changed.len() > MOST || !stay_alike(is_around, env, &changed, facts)? {
             return Ok(None);
         }
         Ok(Some(Following {
@@ -232,6 +283,7 @@ impl<'k> Following<'k> {
             earlier,
             kept: rest,
             changed,
+            is_around,
             less,
             more,
         }))
@@ -244,16 +296,18 @@ impl<'k> Following<'k> {
     {
         adding();
         exchanging();
+        agreeing_around();
         let Following {
             alloc,
             earlier,
             kept,
             changed,
+            is_around,
             less,
             more,
         } = self;
         let none = Facts::new(alloc);
-        if !facts.is_same_step(&none) || !facts.has_same_operations(&none) {
+        if !facts.is_same_step(&none) {
             return Ok(None);
         }
         let changed = changed.with(alloc, facts)?;
@@ -265,6 +319,7 @@ impl<'k> Following<'k> {
             earlier,
             kept,
             changed,
+            is_around: may_differ(is_around, facts, &none),
             less,
             more: more.saturating_sub(1),
         }))
@@ -292,6 +347,7 @@ impl<'k> Following<'k> {
         ensures { (facts : List UnitFacts) → IsFollowed self.now facts
             → IfSome result (λ r. AreBeside r facts) }
     {
+        agreeing_around();
         if !self.kept.is_empty() {
             return None;
         }
@@ -321,4 +377,38 @@ fn is_next(kept: &[KeptUnit], boundary: &KeptUnit) -> bool
         ([KeptUnit::Left, ..], KeptUnit::Left) => true,
         _ => false,
     }
+}
+
+// Whether the innermost scope may have other operations from now on, where these facts take the place of those.
+fn may_differ(is_around: bool, facts: &Facts, others: &Facts) -> bool
+    ensures { IsFalse result → (is_around ≡ false)
+        × (operations_among facts.now.additions ≡ operations_among others.now.additions) }
+{
+    is_around || !facts.has_same_operations(others)
+}
+
+// Whether facts that are added on both sides keep them alike but at keys of these digests.
+fn stay_alike(
+    is_around: bool,
+    env: &Env,
+    changed: &Changed,
+    facts: &Facts,
+) -> Result<bool, AllocError>
+    ensures { IfOk result (λ stay.
+        IsTrue stay → StayAlike is_around env.now changed.now facts.now) }
+{
+    if is_around {
+        return Ok(matches!(facts.step(), Step::Stays));
+    }
+    match env.digests_looked_at(facts)? {
+        Some(looked) => Ok(changed.shares_none(looked.as_slice())),
+        None => Ok(false),
+    }
+}
+
+// Whether they close a scope, and nothing else.
+fn is_closing(facts: &Facts) -> bool
+    ensures { IsTrue result → (facts.now.step ≡ Closes) × (facts.now.additions ≡ []) }
+{
+    matches!(facts.step(), Step::Closes) && facts.len() == 0
 }

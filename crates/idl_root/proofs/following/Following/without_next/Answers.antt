@@ -1,4 +1,4 @@
-use Rattle.std.proofs.Common.{◌≡◌, ◌++◌, [], map, rules}
+use Rattle.std.proofs.Common.{◌≡◌, ◌++◌, ◌∙◌, [], Bool, false, ap, map, rules}
 use Rattle.idl_root.specs.Kept.{added_by}
 use Rattle.idl_root.specs.declared.kept.KeptUnit.{KeptUnit}
 use Rattle.idl_root.specs.declared.kept.KeptUnit.TheVariants.{Judged}
@@ -14,7 +14,10 @@ returns-clause-followed c = λ facts b.
     let f : UnitFacts = added_by k in
     let before : c.get-facts.result.now ≡ f = search rules in
     let stays : f.step ≡ Stays = search rules in
-    let none : operations_among f.additions ≡ [] = search rules in
     let changed : c.in_ok-changed.changed ≡ c.args.self.changed ++ map (λ a. key_digest (key_of a)) f.additions = search rules in
-    beside-less c.adding.ensures.together (map added_by c.args.self.earlier.now.0) c.exchanging.ensures.less c.args.self.changed k c.in-Some.rest.now c.args.self.kept.now facts
-    c.in-Some.ensures c.in_ok-changed.changed changed stays none b
+    let may : c.may_differ.result ≡ false → (c.args.self.is_around ≡ false) × (operations_among f.additions ≡ []) = λ no.
+    let both = c.may_differ.ensures no in
+    (both.0, search rules) in
+    beside-less c.agreeing_around.ensures.wider c.adding.ensures.together (map added_by c.args.self.earlier.now.0) c.exchanging.ensures.less c.agreeing_around.ensures.less
+    c.args.self.is_around c.may_differ.result c.args.self.changed k c.in-Some.rest.now c.args.self.kept.now facts
+    c.in-Some.ensures may c.in_ok-changed.changed changed stays b
