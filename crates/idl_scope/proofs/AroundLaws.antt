@@ -2,7 +2,7 @@
 use Rattle.std.proofs.Common.{◌≡◌, ℕ, Bool, true, false, cond, List, [], ◌∷◌, ◌++◌, drop, map, Option, Some, None, refl, sym, ap, ◌∙◌, subst, inl, inr}
 use Rattle.std.specs.Prelude.{Contains}
 use Rattle.idl_lex.specs.Keywords.{folded}
-use Rattle.idl_scope.specs.Facts.{UnitFacts, World, after, after_closing, after_step, answers, closed, closing, entity_in, entity_key, given_back, key_of, more_inside, operations_among, over, scopes_in, with_additions, with_answer, world}
+use Rattle.idl_scope.specs.Facts.{UnitFacts, World, after, after_closing, after_step, answers, closed, closing, entity_in, entity_key, given_back, key_of, more_inside, operations_among, over, scopes_in, with_additions, world}
 use Rattle.idl_scope.specs.Kind.{kind_eq}
 use Rattle.idl_scope.specs.Outside.{AgreeOutside, IsInnermost, WorldsAgreeAround, WorldsAgreeOutside}
 use Rattle.idl_scope.specs.Path.{name_of, scope_of}
