@@ -1,5 +1,5 @@
 -- What was kept of a root's units, beside facts of which more and more are told.
-use Rattle.std.proofs.Common.{◌≡◌, ℕ, zero, suc, ◌<◌, List, [], ◌∷◌, ◌++◌, length, get_or, map, Option, refl, ap, sym, subst, ◌∙◌, arith, append-nil, append_assoc}
+use Rattle.std.proofs.Common.{◌≡◌, Bool, true, false, ℕ, zero, suc, ◌<◌, List, [], ◌∷◌, ◌++◌, length, get_or, map, Option, refl, ap, sym, subst, ◌∙◌, arith, append-nil, append_assoc}
 use Rattle.std.specs.Prelude.{All, Contains, IfSome}
 use Rattle.std.specs.Global.{Global}
 use Rattle.std.specs.Prelude.{Vec}
@@ -210,7 +210,7 @@ module _ (wider : (keys : List Key) (w other : World) → WorldsAgreeOutside key
           → ((keys : List Key) (w other : World) (f : UnitFacts) → WorldsAgreeAround keys w other → f.step ≡ Stays → WorldsAgreeAround keys (after w f) (after other f))
           → (around : Bool) (changed : List ℕ) (k : KeptUnit) (rest kept : List KeptUnit) (facts : List UnitFacts) (f : UnitFacts) → kept ≡ k ∷ rest → added_by k ≡ f
           → StayAlike around facts changed f → IsBeside all around changed kept facts → IsBeside all around changed rest (facts ++ f ∷ [])
-      beside-same law law_around false changed k rest kept facts f is adds (looked, noted, none) b =
+      beside-same law law_around false changed k rest kept facts f is adds (looked, (noted, none)) b =
           let keys = b.but.keys in
           let apart = looked_law keys (world b.before) (world facts) f b.but.agree (apart-noted looked changed (looked_at_by (world facts) f) keys noted b.but.noted none) in
           beside-next false changed keys k rest kept b.before facts f is b.whole b.units b.but.noted
@@ -241,7 +241,7 @@ module _ (wider : (keys : List Key) (w other : World) → WorldsAgreeOutside key
           → (now : List ℕ) → now ≡ (changed ++ own (added_by k).additions) ++ own g.additions
           → (added_by k).step ≡ g.step → StayAlike then_around facts now g
           → IsBeside all around changed kept facts → IsBeside all then_around now rest (facts ++ g ∷ [])
-      beside-other law law_around around false changed k rest kept facts g is may now now-is steps (looked, noted, apart) b =
+      beside-other law law_around around false changed k rest kept facts g is may now now-is steps (looked, (noted, apart)) b =
           let none = subst (ShareNone looked) now-is apart in
           let operations = (may refl).1 in
           let f = added_by k in

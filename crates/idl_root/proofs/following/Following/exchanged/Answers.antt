@@ -16,7 +16,7 @@ returns c = λ b.
     let before : c.get-before.result.now ≡ f = search rules in
     let steps : f.step ≡ g.step = search rules in
     let changed : c.in_ok-changed.changed ≡ (c.args.self.changed ++ map (λ a. key_digest (key_of a)) f.additions) ++ map (λ a. key_digest (key_of a)) g.additions = search rules in
-    let alike : StayAlike c.may_differ.result c.args.env.now c.in_ok-changed.changed g = search rules in
+    let alike : StayAlike c.may_differ-is_around.result c.args.env.now c.in_ok-changed.changed g = search rules in
     beside-other c.agreeing_around.ensures.wider c.adding.ensures.together (map added_by c.args.self.earlier.now.0) c.exchanging.ensures.looked_at c.exchanging.ensures.pair c.agreeing_around.ensures.pair
-    c.args.self.is_around c.may_differ.result c.args.self.changed k c.in-Some.rest.now c.args.self.kept.now c.args.env.now g
+    c.args.self.is_around c.may_differ-is_around.result c.args.self.changed k c.in-Some.rest.now c.args.self.kept.now c.args.env.now g
     c.in-Some.ensures (search rules) c.in_ok-changed.changed changed steps alike b
