@@ -1,9 +1,11 @@
 //! The walk over declared and used names.
 
 ghost use Rattle.std.specs.Prelude.{◌≡◌, ◌≤◌, ◌+◌, ◌∷◌, ◌++◌, [], ℕ, None, OnOk, Some, false, length, if◌then◌else◌};
-ghost use Rattle.idl_check.specs.Declaring.{stays};
+ghost use Rattle.idl_check.specs.Codes.{codes_in};
+ghost use Rattle.idl_check.specs.Declaring.{declared_table, stays};
 ghost use Rattle.idl_check.specs.Identifying.{with_identity};
 ghost use Rattle.idl_scope.specs.declared.addition.Addition.TheVariants.{Declares};
+ghost use Rattle.idl_scope.specs.declared.answer.Scope.{Scope as ScopeAround};
 ghost use Rattle.idl_check.specs.Held.{HasRoomFor, given_noted, head_noted, held, held_values, held_written, used_noted, visited};
 ghost use Rattle.idl_check.specs.Types.{constants_of};
 ghost use Rattle.idl_check.specs.Using.{bases_after, constants_after, last_at, name_code, part_at, type_after, unions_after, values_after};
@@ -14,7 +16,7 @@ ghost use Rattle.idl_scope.specs.Key.{key_eq};
 ghost use Rattle.idl_scope.specs.declared.lookup.TheConstants.{TURNS};
 ghost use Rattle.idl_site.specs.Item.{item_length};
 ghost use Rattle.idl_site.specs.Item.{Item as item};
-ghost use Rattle.idl_unit.specs.TokenRules.{fault_at};
+ghost use Rattle.idl_unit.specs.TokenRules.{fault_at, first};
 
 use crate::bases::Bases;
 use crate::bodies::declare_member;
@@ -31,8 +33,8 @@ use idl_event::Code;
 use idl_lex::Spelling;
 use idl_memo::Journal;
 use idl_scope::{
-    Addition, Entity, Env, Facts, Found, Kind, NameCode, NameFault, Scope, Shared, Stage,
-    Standpoint, resolve,
+    Addition, Entity, Env, Facts, Found, Kind, NameCode, NameFault, Shared, Stage, Standpoint,
+    View, resolve,
 };
 use idl_site::{Declaration, Use};
 use idl_tree::ScopedName;
@@ -57,34 +59,38 @@ impl<'a> Walker<'a> {
         ensures env { OnOk result (self.new.env.now ≡ self.old.env.now) }
     {
         let alloc = self.env.alloc();
-        let Some(innermost) = self.cursor.innermost() else {
+        let Some(scope) = self.cursor.innermost() else {
             self.at += 1;
             self.gives_back = false;
             return Ok(());
         };
-        let scope = innermost.clone()?;
         let entity = self.written.entity(alloc, way, name, &scope.path)?;
-        let standing = standing_of(self.view(), log, &scope, entity.get())?;
-        self.declare_as(way, &scope, entity, &standing)?;
+        let view = View {
+            env: self.env,
+            own: &self.own,
+        };
+        let standing = standing_of(view, log, scope, entity.get())?;
+        let code = declared_code(scope, &standing, entity.get());
+        self.declare_as(way, code, entity, &standing)?;
         Ok(())
     }
 
-    // A declared name, by what stands under it in its scope.
+    // A declared name, by the code of its least fault, and by what stands under it in its scope.
     fn declare_as(
         &mut self,
         way: Declaration,
-        scope: &Scope,
+        code: Option<Code>,
         entity: Shared<Entity>,
         standing: &Standing,
     ) -> Result<(), AllocError>
         requires { self.old.at + 1 ≤ 18446744073709551615 }
-        ensures visit { OnOk result
-            (held self.new
-            ≡ noted_in (declared_visit (held self.old) way scope.now entity standing.now)
+        ensures visit { OnOk result ((scope : ScopeAround) →
+            code ≡ first (codes_in (declared_table scope standing.now entity)) →
+            held self.new
+            ≡ noted_in (declared_visit (held self.old) way scope entity standing.now)
             self.old.fault) }
         ensures env { OnOk result (self.new.env.now ≡ self.old.env.now) }
     {
-        let code = declared_code(scope, standing, entity.get());
         self.note(self.at, code);
         self.at += 1;
         keep_begun(&mut self.begun, &entity)?;

@@ -1,11 +1,12 @@
 //! The row of a unit in the dump.
 
-ghost use Rattle.std.specs.Prelude.{◌≡◌, ◌≤◌, ◌∷◌, ◌++◌, ◌||◌, [], codes, IfOk, OnOk, drop, flat_map, map};
+ghost use Rattle.std.specs.Prelude.{◌≡◌, ◌≤◌, ◌∷◌, ◌++◌, ◌||◌, [], codes, false, IfOk, OnOk, drop, flat_map, length, map, take, if◌then◌else◌};
 ghost use Rattle.std.specs.List.{repeat};
 ghost use Rattle.std.specs.Str.{bytes_eq};
 ghost use Rattle.idl_check.specs.Row.{behind_site, character, escaped, next_path, next_value, octal, path_word, row_of, site_text, spaced, text_word, token_text, unit_text};
 ghost use Rattle.idl_check.specs.HeldRow.{rest_at};
 ghost use Rattle.idl_site.specs.Item.{item_at, item_length, items_length};
+ghost use Rattle.idl_tree.specs.Name.{spell_name};
 
 use crate::part::{behind, front};
 use crate::using::name_length;
@@ -13,7 +14,7 @@ use idl_base::{Seq, Text};
 use idl_lex::{Token, is_like_keyword};
 use idl_scope::{Names, Path, Shared};
 use idl_site::Site;
-use idl_tree::Several;
+use idl_tree::{ScopedName, Several};
 use idl_value::{Value, push_value};
 use std::alloc::{AllocError, Global};
 
@@ -53,7 +54,8 @@ fn push_blanks(row: &mut Vec<u8>, depth: usize) -> Result<(), AllocError>
     ensures { OnOk result (row.new.items ≡ row.old.items ++ repeat depth (codes "  ")) }
 {
     for _scope in 0..depth {
-        row.extend_from_slice(b"  ")?;
+        row.push(b' ')?;
+        row.push(b' ')?;
     }
     Ok(())
 }
@@ -68,64 +70,105 @@ fn push_sites(text: &mut Vec<u8>, sites: &[Site<'_>], unit: Rest<'_>) -> Result<
     let mut rest = unit;
     for site in sites {
         rest.push_site(text, *site)?;
-        rest = rest.behind_site(*site);
     }
     Ok(())
 }
 
 impl<'a> Rest<'a> {
-    // The words of a site.
-    fn push_site(self, text: &mut Vec<u8>, site: Site<'_>) -> Result<(), AllocError>
+    // The words of a site, which is then no more left.
+    fn push_site(&mut self, text: &mut Vec<u8>, site: Site<'_>) -> Result<(), AllocError>
         requires { item_length (item_at site) ≤ 18446744073709551615 }
-        ensures { OnOk result
+        ensures words { OnOk result
             (text.new.items
-            ≡ text.old.items ++ site_text (rest_at self.entry) (item_at site.entry)) }
+            ≡ text.old.items ++ site_text (rest_at self.old) (item_at site.entry)) }
+        ensures rest { OnOk result
+            (rest_at self.new ≡ behind_site (rest_at self.old) (item_at site.entry)) }
     {
         match site {
-            Site::Tokens(count) if !self.in_value => push_tokens(text, front(self.tokens, count)),
-            Site::Declared(_, name) => push_declared(text, name.as_bytes()),
-            Site::Used(_, _) if !self.in_value => push_next_path(text, self.found),
-            Site::Joined(pieces) => push_joined(text, pieces),
-            Site::ValueEnds(_, _) => push_next_value(text, self.values),
+            Site::Tokens(count) => self.push_tokens(text, count),
+            Site::Declared(_, name) => {
+                self.pass(1);
+                push_declared(text, name.as_bytes())
+            }
+            Site::Used(_, name) => self.push_used(text, name),
+            Site::Joined(pieces) => {
+                self.pass(1 + pieces.rest.len());
+                push_joined(text, pieces)
+            }
+            Site::ValueBegins => {
+                self.in_value = true;
+                Ok(())
+            }
+            Site::ValueEnds(_, _) => self.push_value(text),
             _ => Ok(()),
         }
     }
 
-    // What is left behind a site.
-    fn behind_site(self, site: Site<'_>) -> Rest<'a>
-        requires { item_length (item_at site) ≤ 18446744073709551615 }
-        ensures { rest_at result ≡ behind_site (rest_at self.entry) (item_at site.entry) }
+    // So many tokens, unless they stand in an expression.
+    fn push_tokens(&mut self, text: &mut Vec<u8>, count: usize) -> Result<(), AllocError>
+        ensures words { OnOk result
+            (text.new.items
+            ≡ text.old.items
+            ++ (if self.old.in_value then []
+            else flat_map token_text (take count self.old.tokens.now))) }
+        ensures rest { OnOk result
+            (rest_at self.new
+            ≡ record (rest_at self.old) { tokens = drop count self.old.tokens.now }) }
     {
-        match site {
-            Site::Tokens(count) => self.behind(count),
-            Site::Declared(_, _) => self.behind(1),
-            Site::Used(_, name) => Rest {
-                found: behind(self.found, 1),
-                ..self.behind(name_length(name))
-            },
-            Site::Joined(pieces) => self.behind(1 + pieces.rest.len()),
-            Site::ValueBegins => Rest {
-                in_value: true,
-                ..self
-            },
-            Site::ValueEnds(_, _) => Rest {
-                values: behind(self.values, 1),
-                in_value: false,
-                ..self
-            },
-            _ => self,
+        let tokens = self.tokens;
+        self.pass(count);
+        if self.in_value {
+            return Ok(());
         }
+        push_tokens(text, front(tokens, count))
     }
 
-    // What is left behind so many tokens.
-    fn behind(self, count: usize) -> Rest<'a>
-        ensures { rest_at result
-            ≡ record (rest_at self.entry) { tokens = drop count self.entry.tokens.now } }
+    // The path of a used name, unless it stands in an expression.
+    fn push_used(&mut self, text: &mut Vec<u8>, name: &ScopedName) -> Result<(), AllocError>
+        requires { length (spell_name name.now) ≤ 18446744073709551615 }
+        ensures words { OnOk result
+            (text.new.items
+            ≡ text.old.items
+            ++ (if self.old.in_value then [] else next_path self.old.found.now)) }
+        ensures rest { OnOk result
+            (rest_at self.new
+            ≡ record (rest_at self.old) {
+              tokens = drop (length (spell_name name.now)) self.old.tokens.now;
+              found = drop 1 self.old.found.now;
+            }) }
     {
-        Rest {
-            tokens: behind(self.tokens, count),
-            ..self
+        let found = self.found;
+        self.found = behind(found, 1);
+        self.pass(name_length(name));
+        if self.in_value {
+            return Ok(());
         }
+        push_next_path(text, found)
+    }
+
+    // The value of an expression, which ends.
+    fn push_value(&mut self, text: &mut Vec<u8>) -> Result<(), AllocError>
+        ensures words { OnOk result
+            (text.new.items ≡ text.old.items ++ next_value self.old.values.now) }
+        ensures rest { OnOk result
+            (rest_at self.new
+            ≡ record (rest_at self.old) {
+              values = drop 1 self.old.values.now;
+              in_value = false;
+            }) }
+    {
+        let values = self.values;
+        self.values = behind(values, 1);
+        self.in_value = false;
+        push_next_value(text, values)
+    }
+
+    // Passes so many tokens.
+    fn pass(&mut self, count: usize)
+        ensures { rest_at self.new
+            ≡ record (rest_at self.old) { tokens = drop count self.old.tokens.now } }
+    {
+        self.tokens = behind(self.tokens, count);
     }
 }
 
@@ -233,7 +276,8 @@ fn push_names(text: &mut Vec<u8>, names: Names<'_>) -> Result<(), AllocError>
         return Ok(());
     };
     push_names(text, outer)?;
-    text.extend_from_slice(b"::")?;
+    text.push(b':')?;
+    text.push(b':')?;
     push_name(text, name)
 }
 

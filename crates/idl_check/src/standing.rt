@@ -5,14 +5,15 @@ ghost use Rattle.std.specs.Option.{option_copied};
 ghost use Rattle.std.specs.List.{list_any};
 ghost use Rattle.idl_check.specs.Declaring.{inherited, standing};
 ghost use Rattle.idl_memo.specs.Query.{Done, and_then, noted, run};
-ghost use Rattle.idl_scope.specs.Facts.{answers, entity_in, is_operation, over};
+ghost use Rattle.idl_lex.specs.Keywords.{folded};
+ghost use Rattle.idl_scope.specs.Facts.{answers, entity_in, entity_key, is_operation, over};
 ghost use Rattle.idl_scope.specs.Key.{key_eq};
 ghost use Rattle.idl_scope.specs.Lookup.{bases_of, under};
-ghost use Rattle.idl_scope.specs.declared.key.Key.TheVariants.{Declared, Introduced};
+ghost use Rattle.idl_scope.specs.Path.{name_of, scope_of};
+ghost use Rattle.idl_scope.specs.declared.key.Key.TheVariants.{Introduced};
 ghost use Rattle.idl_scope.specs.declared.lookup.TheConstants.{TURNS};
 
 use crate::identifying::{Ids, ids_of};
-use idl_lex::Spelling;
 use idl_memo::Journal;
 use idl_scope::{DigestedKey, Entity, Env, Key, Path, Scope, Shared, View};
 use std::alloc::AllocError;
@@ -47,15 +48,15 @@ pub fn standing_of(
     scope: &Scope,
     new: &Entity,
 ) -> Result<Standing, AllocError>
+    requires { scope_of new.now.path ≡ scope.now.path }
     ensures { IfOk result (λ found. (turns : ℕ) → TURNS ≤ turns →
         (found, log.new)
         ≡ run key_eq (under view.entry.own.now.additions (standing turns scope.now new.now))
         (answers view.entry.env.now) log.old) }
 {
-    let name = new.path.folded(view.env.alloc())?;
-    let there = there(view, log, scope, &name)?;
-    let is_used = is_used(view, log, scope, &name)?;
-    let is_inherited = is_inherited(view, log, scope, &name)?;
+    let there = there(view, log, &new.path)?;
+    let is_used = is_used(view, log, scope, &new.path)?;
+    let is_inherited = is_inherited(view, log, scope, &new.path)?;
     let ids = ids_of(view, log, &there, new)?;
     Ok(Standing {
         there,
@@ -65,21 +66,20 @@ pub fn standing_of(
     })
 }
 
-// What a folded name is declared as already.
+// What the name at a path is declared as already.
 fn there(
     view: View<'_>,
     log: &mut Journal<Env>,
-    scope: &Scope,
-    name: &Spelling,
+    path: &Path,
 ) -> Result<Option<Shared<Entity>>, AllocError>
     ensures there { IfOk result (λ e.
-        let key = Declared name.now scope.now.path in
+        let key = entity_key path.now in
         e ≡ entity_in (over view.entry.own.now.additions key (answers view.entry.env.now key))) }
     ensures logged { OnOk result
         (log.new
-        ≡ noted key_eq (answers view.entry.env.now) log.old (Declared name.now scope.now.path)) }
+        ≡ noted key_eq (answers view.entry.env.now) log.old (entity_key path.now)) }
 {
-    let key = DigestedKey::of(Key::Declared(name.clone()?, scope.path.clone()?));
+    let key = Key::of_entity(view.env.alloc(), path)?;
     copied(view.entity(log, &key)?)
 }
 
@@ -93,23 +93,23 @@ fn copied(entity: Option<&Shared<Entity>>) -> Result<Option<Shared<Entity>>, All
     }
 }
 
-// Whether a use has introduced a folded name into a body.
+// Whether a use has introduced the name at a path into a body.
 fn is_used(
     view: View<'_>,
     log: &mut Journal<Env>,
     scope: &Scope,
-    name: &Spelling,
+    path: &Path,
 ) -> Result<bool, AllocError>
     ensures used { IfOk result (λ b.
-        let key = Introduced name.now scope.now.path scope.now.body in
+        let key = Introduced (folded (name_of path.now)) scope.now.path scope.now.body in
         b ≡ is_some (over view.entry.own.now.additions key (answers view.entry.env.now key))) }
     ensures logged { OnOk result
         (log.new
         ≡ noted key_eq (answers view.entry.env.now) log.old
-        (Introduced name.now scope.now.path scope.now.body)) }
+        (Introduced (folded (name_of path.now)) scope.now.path scope.now.body)) }
 {
-    let key = Key::Introduced(name.clone()?, scope.path.clone()?, scope.body);
-    let key = DigestedKey::of(key);
+    let name = path.folded(view.env.alloc())?;
+    let key = DigestedKey::of(Key::Introduced(name, scope.path.clone()?, scope.body));
     let before = log.ask(&key, view.env)?;
     match view.own.get(&key) {
         Some(_addition) => Ok(true),
@@ -117,18 +117,18 @@ fn is_used(
     }
 }
 
-// Whether an operation or attribute is inherited under a folded name.
+// Whether an operation or attribute is inherited under the name at a path.
 fn is_inherited(
     view: View<'_>,
     log: &mut Journal<Env>,
     scope: &Scope,
-    name: &Spelling,
+    path: &Path,
 ) -> Result<bool, AllocError>
     ensures { IfOk result (λ b. (turns : ℕ) → TURNS ≤ turns →
         (b, log.new)
         ≡ run key_eq
         (under view.entry.own.now.additions
-        (and_then (inherited turns scope.now name.now)
+        (and_then (inherited turns scope.now (folded (name_of path.now)))
         (λ found. Done (list_any is_operation found))))
         (answers view.entry.env.now) log.old) }
 {
@@ -137,7 +137,8 @@ fn is_inherited(
     }
     let key = Key::of_entity(view.env.alloc(), &scope.path)?;
     let entity = view.entity(log, &key)?;
-    let found = view.reached(log, name, bases_of(entity))?;
+    let name = path.folded(view.env.alloc())?;
+    let found = view.reached(log, &name, bases_of(entity))?;
     Ok(has_operation(found.as_slice()))
 }
 

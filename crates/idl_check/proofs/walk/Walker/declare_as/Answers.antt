@@ -1,7 +1,6 @@
 use Rattle.std.proofs.Common.{List, ◌+◌, ◌∷◌, ◌++◌, [], Some, cond, ◌∙◌}
 use Rattle.idl_check.proofs.NotedLemmas.{noted-by}
 use Rattle.idl_check.proofs.TableLaws.{declared-up}
-use Rattle.idl_check.specs.Codes.{codes_in}
 use Rattle.idl_check.specs.Declaring.{declared_table, stays, with_declared, written_after}
 use Rattle.idl_check.specs.Held.{held, held_written}
 use Rattle.idl_check.specs.Identifying.{with_identity}
@@ -11,18 +10,15 @@ use Rattle.idl_check.specs.declared.walk.Walker.{Walker}
 use Rattle.idl_scope.specs.Facts.{with_addition}
 use Rattle.idl_scope.specs.declared.addition.Addition.{Addition}
 use Rattle.idl_scope.specs.declared.addition.Addition.TheVariants.{Declares}
-use Rattle.idl_unit.specs.TokenRules.{first}
 use Rattle.idl_check.proofs.walk.Walker.declare_as.Goals as goal
 
 pub returns-clause-visit : goal.returns-clause-visit
-returns-clause-visit c =
+returns-clause-visit c = λ s given.
     let old = c.args.self.now in
-    let s = c.args.scope.now in
     let there = c.args.standing.now in
     let e = c.args.entity in
     let noted = c.note.new.self in
-    let code = c.declared_code-code.ensures ∙ (λ i. first (codes_in (declared_table s there (c.get.ensures i)))) in
-    let fault = noted-by old.fault old.at (declared_table s there e) c.declared_code-code.result (declared-up s there e) code in
+    let fault = noted-by old.fault old.at (declared_table s there e) c.args.code (declared-up s there e) given in
     let after : Walker → Walk = λ w. record (held w) {
       at = w.at + 1;
       own = with_declared there e w.own.additions;
@@ -42,9 +38,9 @@ returns-clause-visit c =
     })
     ∙ (λ i. record (after noted) {
       own = adds (c.in_ok-add_identity.ensures i).additions;
-      written = written_after (held_written noted.written) (c.get-2.ensures i);
-      bodies = with_member c.args.way (c.get-3.ensures i) noted.bodies.items;
+      written = written_after (held_written noted.written) (c.get.ensures i);
+      bodies = with_member c.args.way (c.get-2.ensures i) noted.bodies.items;
     })
-    ∙ (λ i. record (after noted) { own = adds (with_identity there.there there.ids (c.get-4.ensures i) noted.own.additions) })
+    ∙ (λ i. record (after noted) { own = adds (with_identity there.there there.ids (c.get-3.ensures i) noted.own.additions) })
     ∙ (λ i. after (c.note.ensures i))
     ∙ (λ i. record (after old) { fault = fault i })

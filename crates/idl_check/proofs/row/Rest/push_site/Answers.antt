@@ -1,10 +1,11 @@
 use Rattle.std.proofs.Common.{◌≡◌, ◌∙◌, ◌+◌, drop, length, sym, ap, arith}
+use Rattle.std.proofs.lemmas.Result.{on_ok_weaker}
 use Rattle.idl_check.proofs.NameLemmas.{text-length}
 use Rattle.idl_check.specs.HeldRow.{rest_at}
 use Rattle.idl_check.specs.Row.{behind_site}
 use Rattle.idl_site.specs.Item.{item_at, item_length}
 use Rattle.idl_tree.specs.Interface.{spell_text}
-use Rattle.idl_check.proofs.row.Rest.behind_site.Goals as goal
+use Rattle.idl_check.proofs.row.Rest.push_site.Goals as goal
 
 pub overflow_add-len : goal.overflow_add-len
 overflow_add-len c =
@@ -12,10 +13,13 @@ overflow_add-len c =
     let room = ap (λ s. item_length (item_at s)) c.in-Joined.is in
     omega (arith, e, room, c.len.ensures, c.requires)
 
-pub returns-in-Joined : goal.returns-in-Joined
-returns-in-Joined c =
+pub returns-in-Joined-clause-rest : goal.returns-in-Joined-clause-rest
+returns-in-Joined-clause-rest c =
+    let from = rest_at c.args.self.now in
     let e = text-length c.in-Joined.pieces.now in
     let all : 1 + c.len.result ≡ length (spell_text c.in-Joined.pieces.now) = omega (arith, e, c.len.ensures) in
-    c.behind-in-Joined.ensures
-    ∙ (λ i. record (rest_at c.args.self) { tokens = drop (all i) c.args.self.tokens.now })
-    ∙ ap (λ s. behind_site (rest_at c.args.self) (item_at s)) (sym c.in-Joined.is)
+    on_ok_weaker c.push_joined.result
+    (λ _. c.pass-in-Joined.ensures
+    ∙ (λ i. record from { tokens = drop (all i) c.args.self.now.tokens.now })
+    ∙ ap (λ s. behind_site from (item_at s)) (sym c.in-Joined.is))
+    c.push_joined.ensures
