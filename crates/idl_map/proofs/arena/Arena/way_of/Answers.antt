@@ -32,14 +32,14 @@ goes_behind g c =
 pub loop-shift-smaller : goal.loop-shift-smaller
 loop-shift-smaller g c =
     let on = goes_behind g c in
-    omega (arith, on.0, on.1.high, c.choice-in-Many.ensures.value, c.loop-shift.invariant.within, c.args.self.now.slots.ok.0)
+    omega (arith, on.0, on.1.high, c.choice.ensures.value, c.loop-shift.invariant.within, c.args.self.now.slots.ok.0)
 
 pub loop-shift-preserved : goal.loop-shift-preserved
 loop-shift-preserved g c =
     let on = goes_behind g c in
     record {
-      within = omega (arith, on.1.high, c.choice-in-Many.ensures.value, c.args.self.now.slots.ok.0);
-      comes = on.1.comes (c.in-Many.first + c.choice-in-Many.result) (omega (arith, c.choice-in-Many.ensures.value));
+      within = omega (arith, on.1.high, c.choice.ensures.value, c.args.self.now.slots.ok.0);
+      comes = on.1.comes (c.in-Many.first + c.choice.result) (omega (arith, c.choice.ensures.value));
     }
 
 pub returns : goal.returns
