@@ -1,14 +1,17 @@
 -- The keys at which facts look, and their digests.
-use Rattle.std.proofs.Common.{◌≡◌, ℕ, List, [], ◌∷◌, map, refl, sym, ap, ◌∙◌, subst}
+use Rattle.std.proofs.Common.{◌≡◌, ℕ, List, [], ◌∷◌, map, Some, refl, sym, ap, ◌∙◌, subst}
 use Rattle.std.specs.Prelude.{All, Contains}
 use Rattle.std.proofs.lemmas.List.Elements.{All-weaker, All-contains_itself}
+use Rattle.std.proofs.lemmas.Option.{same_Some}
 use Rattle.idl_lex.specs.Keywords.{folded}
 use Rattle.idl_scope.specs.Digest.{path_digest, under}
 use Rattle.idl_scope.specs.Facts.{UnitFacts, World, entity_key, scopes_in, with_additions}
+use Rattle.idl_scope.specs.Held.{closable}
 use Rattle.idl_scope.specs.Key.{key_digest}
 use Rattle.idl_scope.specs.Outside.{gathered_at, looked_at, looked_at_by}
 use Rattle.idl_scope.specs.Path.{name_of, scope_of}
 use Rattle.idl_scope.specs.declared.addition.Step.TheVariants.{Closes}
+use Rattle.idl_scope.specs.declared.answer.Scope.{Scope}
 use Rattle.idl_scope.specs.declared.key.Key.{Key}
 use Rattle.idl_scope.specs.declared.key.Key.TheVariants.{Cursor}
 use Rattle.idl_scope.proofs.ExchangeLaws.{gathered_at-same}
@@ -32,3 +35,9 @@ pub looked_at_by-closing : (w : World) (f : UnitFacts) → f.step ≡ Closes →
 looked_at_by-closing w f step none =
     (λ i. looked_at (with_additions (none i) w) (step i))
     ∙ ap (λ ks. Cursor ∷ ks) (gathered_at-same (with_additions [] w) w (scopes_in (w.answers Cursor)) (λ k i. refl))
+
+-- of the scopes of which one can be closed it is the innermost, and another is around it
+pub closable-innermost : (scopes : List Scope) (s : Scope) (outer : List Scope) → closable scopes ≡ Some (s, outer) → (t : Scope) × (more : List Scope) × (scopes ≡ s ∷ t ∷ more)
+closable-innermost [] s outer h = cc
+closable-innermost (x ∷ []) s outer h = cc
+closable-innermost (x ∷ t ∷ more) s outer h = (t, more, ap (λ p. p.0 ∷ t ∷ more) (same_Some (x, t ∷ more) (s, outer) h))

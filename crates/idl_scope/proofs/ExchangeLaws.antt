@@ -21,7 +21,7 @@ use Rattle.idl_scope.proofs.StateLemmas.{more_inside-nothing}
 -- ---- facts that take the place of others
 
 -- additions change no answer but at their keys
-over-elsewhere : (additions : List Addition) (k : Key) (before : Option Answer) → (IsIn k (map key_of additions) → ⊥) → over additions k before ≡ before
+pub over-elsewhere : (additions : List Addition) (k : Key) (before : Option Answer) → (IsIn k (map key_of additions) → ⊥) → over additions k before ≡ before
 over-elsewhere [] k before out = refl
 over-elsewhere (a ∷ additions) k before out = over-cons a additions k before ∙ by (key_eq k (key_of a)) refl (over-elsewhere additions k before (λ i. out (inr i)))
   where
@@ -33,7 +33,7 @@ over-elsewhere (a ∷ additions) k before out = over-cons a additions k before �
 abbrev pub exchanged : List Key → List Addition → List Addition → List Key
 exchanged keys additions others = keys ++ (map key_of additions ++ map key_of others)
 
-over-exchanged : (keys : List Key) (additions others : List Addition) (bank other : Key → Option Answer) → AgreeOutside keys bank other
+pub over-exchanged : (keys : List Key) (additions others : List Addition) (bank other : Key → Option Answer) → AgreeOutside keys bank other
     → AgreeOutside (exchanged keys additions others) (λ k. over additions k (bank k)) (λ k. over others k (other k))
 over-exchanged keys additions others bank other same k out =
     let mine = map key_of additions in

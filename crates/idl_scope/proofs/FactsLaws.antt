@@ -63,11 +63,11 @@ pub over-outside : (additions : List Addition) (keys : List Key) (bank other : K
 over-outside additions keys bank other same k out = ap (over additions k) (same k out)
 
 module _ (keys : List Key) where
-  with_answer-outside : (q : Key) (a b : Answer) (bank other : Key → Option Answer) → b ≡ a → AgreeOutside keys bank other → AgreeOutside keys (with_answer q a bank) (with_answer q b other)
+  pub with_answer-outside : (q : Key) (a b : Answer) (bank other : Key → Option Answer) → b ≡ a → AgreeOutside keys bank other → AgreeOutside keys (with_answer q a bank) (with_answer q b other)
   with_answer-outside q a b bank other h same k out = ap (λ x. cond (key_eq k q) (Some x) (other k)) h ∙ ap (λ v. cond (key_eq k q) (Some a) v) (same k out)
 
   -- with the same prefix in force
-  with_prefix-outside : (p q : Prefix) (bank other : Key → Option Answer) → q ≡ p → AgreeOutside keys bank other → AgreeOutside keys (with_prefix p bank) (with_prefix q other)
+  pub with_prefix-outside : (p q : Prefix) (bank other : Key → Option Answer) → q ≡ p → AgreeOutside keys bank other → AgreeOutside keys (with_prefix p bank) (with_prefix q other)
   with_prefix-outside p q bank other h same = with_answer-outside PrefixKey (InForce p) (InForce q) bank other (ap InForce h) same
 
   module _ (w v : World) (same : AgreeOutside keys w.answers v.answers) (inside : v.inside ≡ w.inside) where

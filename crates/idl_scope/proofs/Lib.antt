@@ -1,5 +1,6 @@
 pub mod AnswerLemmas
 pub mod ApartLemmas
+pub mod AroundLaws
 pub mod CountLemmas
 pub mod DenotesOnce
 pub mod ExchangeLaws

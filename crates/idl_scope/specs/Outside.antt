@@ -1,5 +1,5 @@
 -- Answers that are the same outside some keys, and which keys the facts of a unit look at.
-use Rattle.std.specs.Prelude.{◌≡◌, List, [], ◌∷◌, Option, Some, None, Contains, map, if◌then◌else◌}
+use Rattle.std.specs.Prelude.{◌≡◌, List, [], ◌∷◌, Option, Some, None, Contains, drop, map, if◌then◌else◌}
 use Rattle.idl_scope.specs.Facts.{UnitFacts, World, entity_key, scopes_in, entity_in, count_in, nameless, path_around, with_additions}
 use Rattle.idl_scope.specs.Kind.{kind_eq}
 use Rattle.idl_scope.specs.declared.addition.Step.{Step}
@@ -20,6 +20,17 @@ abbrev pub WorldsAgreeOutside : List Key → World → World → Type 0
 WorldsAgreeOutside keys w other =
     AgreeOutside keys w.answers other.answers
     × ((other.inside ≡ w.inside) × (other.before ≡ w.before))
+
+-- and two worlds that may have other operations and attributes in the innermost scope
+abbrev pub WorldsAgreeAround : List Key → World → World → Type 0
+WorldsAgreeAround keys w other =
+    AgreeOutside keys w.answers other.answers
+    × ((drop 1 other.inside ≡ drop 1 w.inside) × (other.before ≡ w.before))
+
+-- the innermost of the open scopes is this one, and another is around it
+abbrev pub IsInnermost : (Key → Option Answer) → Scope → Type 0
+IsInnermost answers s =
+    (t : Scope) × (outer : List Scope) × (scopes_in (answers Cursor) ≡ s ∷ t ∷ outer)
 
 -- the keys at which an interface's operations are gathered when it closes: its own and its bases'
 abbrev pub gathered_at : World → List Scope → List Key

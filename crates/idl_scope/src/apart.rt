@@ -1,9 +1,10 @@
 //! At which keys facts look over an environment, by the digests of these keys.
 
-ghost use Rattle.std.specs.Prelude.{◌≡◌, ◌++◌, ◌∷◌, [], All, Contains, IfOk, IfSome, OnOk, map};
-ghost use Rattle.idl_scope.specs.Facts.{entity_key, scopes_in, world};
+ghost use Rattle.std.specs.Prelude.{◌≡◌, ◌++◌, ◌∷◌, [], All, Contains, IfOk, IfSome, None, OnOk, map};
+ghost use Rattle.idl_scope.specs.Facts.{answers, entity_key, scopes_in, world};
 ghost use Rattle.idl_scope.specs.Key.{key_digest};
-ghost use Rattle.idl_scope.specs.Outside.{gathered_at, looked_at_by};
+ghost use Rattle.idl_scope.specs.Outside.{IsInnermost, gathered_at, looked_at_by};
+ghost use Rattle.idl_scope.specs.declared.answer.Scope.{Scope};
 ghost use Rattle.idl_scope.specs.declared.key.Key.TheVariants as key;
 
 use crate::addition::Step;
@@ -35,6 +36,19 @@ impl Env {
             Step::Prefixes(_) => Ok(Some(digest_alone(alloc, &Key::Cursor)?)),
             Step::Enters => Ok(Some(digest_alone(alloc, &Key::Prefix)?)),
         }
+    }
+
+    /// The digests of the key of the open scopes and of that of the entity of the innermost one, if a scope beside the global one
+    /// is open.
+    pub fn digests_of_innermost(&self) -> Option<(u64, u64)>
+        ensures found { IfSome result (λ digests. (s : Scope) × IsInnermost (answers self.now) s
+            × (digests.0 ≡ key_digest key.Cursor)
+            × (digests.1 ≡ key_digest (entity_key s.path))) }
+        ensures none { result ≡ None → (s : Scope) → IsInnermost (answers self.now) s → ⊥ }
+    {
+        let scopes = scopes_in(self.answer(&DigestedKey::of(Key::Cursor)));
+        let (innermost, _outer) = closable(scopes)?;
+        Some((Key::Cursor.digest(), innermost.path.entity_digest()))
     }
 
     // Those of the keys at which the closing of the innermost scope looks.

@@ -8,10 +8,10 @@ ghost use Rattle.idl_lex.specs.Keywords.{folded};
 ghost use Rattle.idl_memo.specs.Query.{Agree, asked, outcome};
 ghost use Rattle.idl_tree.specs.declared.name.ScopedName.{ScopedName};
 ghost use Rattle.idl_scope.specs.Bases.{HasTurnsFor};
-ghost use Rattle.idl_scope.specs.Facts.{UnitFacts, World, after, after_all, answers, key_of, no_prefix, operations_among, over, path_around, prefix_in, scopes_in};
+ghost use Rattle.idl_scope.specs.Facts.{UnitFacts, World, after, after_all, answers, entity_key, key_of, no_prefix, operations_among, over, path_around, prefix_in, scopes_in, world};
 ghost use Rattle.idl_scope.specs.Lookup.{Lookup, denoted, has, under};
 ghost use Rattle.idl_scope.specs.Meaning.{Denotes, Has, Reaches, entity_found, own_at, seen};
-ghost use Rattle.idl_scope.specs.Outside.{AgreeOutside, AreApart, WorldsAgreeOutside, looked_at_by};
+ghost use Rattle.idl_scope.specs.Outside.{AgreeOutside, AreApart, IsInnermost, WorldsAgreeAround, WorldsAgreeOutside, looked_at_by};
 ghost use Rattle.idl_scope.specs.Path.{name_of, scope_of};
 ghost use Rattle.idl_scope.specs.declared.addition.Addition.{Addition};
 ghost use Rattle.idl_scope.specs.Stretch.{IsBalanced, closes, enters, leaves, opens};
@@ -114,6 +114,32 @@ pub fn exchanging()
     ensures looked_at { (keys : List Key) (w other : World) (f : UnitFacts)
         → WorldsAgreeOutside keys w other → AreApart (looked_at_by other f) keys
         → AreApart (looked_at_by w f) keys }
+{}
+
+/// Facts that change no open scope may declare any operations, and take the place of such others, where the worlds may have other
+/// operations in the innermost scope. Once that scope closes, they have the same, and agree but at its own key.
+pub fn agreeing_around()
+    ensures wider { (keys : List Key) (w other : World)
+        → WorldsAgreeOutside keys w other → WorldsAgreeAround keys w other }
+    ensures same { (keys : List Key) (w other : World) (f : UnitFacts)
+        → WorldsAgreeAround keys w other → f.step ≡ Stays
+        → WorldsAgreeAround keys (after w f) (after other f) }
+    ensures pair { (keys : List Key) (w other : World) (f g : UnitFacts)
+        → WorldsAgreeAround keys w other → f.step ≡ Stays → g.step ≡ Stays
+        → WorldsAgreeAround (keys ++ (map key_of f.additions ++ map key_of g.additions))
+        (after w f) (after other g) }
+    ensures less { (keys : List Key) (w other : World) (f : UnitFacts)
+        → WorldsAgreeAround keys w other → f.step ≡ Stays
+        → WorldsAgreeAround (keys ++ map key_of f.additions) (after w f) other }
+    ensures more { (keys : List Key) (w other : World) (g : UnitFacts)
+        → WorldsAgreeAround keys w other → g.step ≡ Stays
+        → WorldsAgreeAround (keys ++ map key_of g.additions) w (after other g) }
+    ensures closes { (keys : List Key) (before facts : List UnitFacts) (s : Scope) (f : UnitFacts)
+        → WorldsAgreeAround keys (world before) (world facts)
+        → f.step ≡ Closes → f.additions ≡ []
+        → IsInnermost (answers facts) s → (Contains keys key.Cursor → ⊥)
+        → WorldsAgreeOutside (keys ++ entity_key s.path ∷ [])
+        (after (world before) f) (after (world facts) f) }
 {}
 
 /// Over answers that agree on the keys that a name asks, it is found as the same and asks the same

@@ -47,7 +47,8 @@ pub use identity::{Fixed, Identity, Prefix};
 pub use key::Key;
 pub use kind::{Kind, Stage};
 pub use laws::{
-    adding, denotation, exchanging, found_in_a_scope, introduction, own_facts, own_path, reliance,
+    adding, agreeing_around, denotation, exchanging, found_in_a_scope, introduction, own_facts,
+    own_path, reliance,
 };
 pub use lookup::{Place, TURNS, View};
 pub use name::{folded_name, shared_name};
