@@ -1,5 +1,5 @@
 -- What answers that are kept come to.
-use Rattle.std.proofs.Common.{◌≡◌, ℕ, ◌<◌, Bool, true, false, cond, List, [], ◌∷◌, ◌++◌, Option, Some, None, drop, reverse, refl, sym, ap, ◌∙◌, arith}
+use Rattle.std.proofs.Common.{◌≡◌, ℕ, ◌<◌, ◌+◌, ◌-◌, Bool, true, false, cond, List, [], ◌∷◌, ◌++◌, Option, Some, None, MatchOption, drop, take, reverse, refl, sym, ap, ◌∙◌, arith}
 use Rattle.std.specs.Map.{lookup}
 use Rattle.std.specs.Option.{option_to_list}
 use Rattle.std.proofs.lemmas.Option.{same_Some}
@@ -45,9 +45,12 @@ reverse-more all outer own more is =
     reverse-push outer (own ++ more) ∙ ap (λ l. more_inside l more) (sym (ap reverse is ∙ reverse-push outer own))
 
 -- and for good
-pub reverse-pop : (all outer : List (List (List (List ℕ)))) (own : Option (List (List (List ℕ)))) → all ≡ outer ++ option_to_list own → (own ≡ None → outer ≡ []) → reverse outer ≡ drop 1 (reverse all)
-reverse-pop all outer (Some own) is none = sym (ap (λ l. drop 1 (reverse l)) is ∙ ap (drop 1) (reverse-push outer own))
-reverse-pop all outer None is none = ap reverse (none refl) ∙ sym (ap (λ l. drop 1 (reverse l)) (is ∙ append-nil outer ∙ none refl))
+pub reverse-pop : (all outer : List (List (List (List ℕ)))) (own : Option (List (List (List ℕ)))) (count left : ℕ) → all ≡ outer ++ option_to_list own → outer ≡ take (count - 1) all
+    → MatchOption own ((count ≡ 0) × (left ≡ 0)) (λ _. left + 1 ≡ count) → reverse outer ≡ drop 1 (reverse all)
+reverse-pop all outer (Some own) count left is rest counted = sym (ap (λ l. drop 1 (reverse l)) is ∙ ap (drop 1) (reverse-push outer own))
+reverse-pop all outer None count left is rest counted =
+    let none : outer ≡ [] = rest ∙ ap (λ n. take (n - 1) all) counted.0 in
+    ap reverse none ∙ sym (ap (λ l. drop 1 (reverse l)) (is ∙ append-nil outer ∙ none))
 
 -- a body more
 pub held-opening : (state after : State) (s : Scope) (opened : Answer)
