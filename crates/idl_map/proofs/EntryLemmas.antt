@@ -9,7 +9,7 @@ use Rattle.std.specs.Map.{lookup}
 use Rattle.idl_base.specs.Table.{insert_entry}
 use Rattle.idl_map.specs.declared.slot.Slot.{Slot}
 use Rattle.idl_map.specs.declared.slot.Slot.TheVariants.{Empty, One, Many}
-use Rattle.idl_map.specs.Slots.{IsEnd, choice, comes_by, has_entry, led, reached}
+use Rattle.idl_map.specs.Slots.{IsEnd, beginning, choice, comes_by, has_entry, led, reached}
 use Rattle.idl_map.proofs.SlotLemmas.{IsEnd-more, choice_below, eqb_same, led_from-divide, led_from-end, led_from-set, led_to_empty}
 
 is_false : (b : Bool) → (b ≡ true → ⊥) → b ≡ false
@@ -207,7 +207,7 @@ module _ {K V : Type 0} (eq : K → K → Bool) (same : (x y : K) → eq x y ≡
     -- an entry is put in, to which an empty slot leads
     module _ (place : ℕ) (key : K) (v : V) where
       pub led_to-push : (d : ℕ) → led (set slots place (One (length es))) d ≡ cond (comes_by slots d place) (One (length es)) (led slots d)
-      led_to-push d = let within : length es < length es + 1 = omega arith in led_from-set d (length es + 1) 0 (Many 0 0) (One (length es)) slots place within
+      led_to-push d = let within : length es < length es + 1 = omega arith in led_from-set d (length es + 1) 0 (beginning d) (One (length es)) slots place within
 
       pub sound-push : (d : ℕ) → IsEnd (length (es ++ (key, v) ∷ [])) (led (set slots place (One (length es))) d)
       sound-push d =
@@ -284,7 +284,7 @@ module _ {K V : Type 0} (eq : K → K → Bool) (same : (x y : K) → eq x y ≡
 
       pub led_to-divide : (d : ℕ) → led (set (slots ++ branch) place (Many shift (length slots))) d ≡ cond (comes_by slots d place) (get_or branch (choice shift d) Empty) (led slots d)
       led_to-divide d =
-          led_from-divide d shift (length slots) (length es) 0 (Many 0 0) slots branch place (omega arith) within
+          led_from-divide d shift (length slots) (length es) 0 (beginning d) slots branch place (omega arith) within
           (omega (arith, long, choice_below shift d)) (end_in_branch (choice shift d)) (sound d)
 
       pub sound-divide : (d : ℕ) → IsEnd (length es) (led (set (slots ++ branch) place (Many shift (length slots))) d)
@@ -313,7 +313,7 @@ module _ {K V : Type 0} (eq : K → K → Bool) (same : (x y : K) → eq x y ≡
               → held k (cond b (get_or branch (choice shift (digest_of k)) Empty) (led slots (digest_of k))) es rest ≡ held k (led slots (digest_of k)) es rest
           by true t =
               let was : led slots (digest_of k) ≡ One entry =
-              led_from-end (digest_of k) (length es) 0 (Many 0 0) slots place t (subst (IsEnd (length es)) (sym is) there) ∙ is in
+              led_from-end (digest_of k) (length es) 0 (beginning (digest_of k)) slots place t (subst (IsEnd (length es)) (sym is) there) ∙ is in
               ap (λ s. held k s es rest) (chosen (choice shift (digest_of k)))
               ∙ in_branch (eqb (choice shift (digest_of k)) (choice shift (digest_of one.0))) refl
               ∙ ap (λ s. held k s es rest) (sym was)

@@ -1,12 +1,13 @@
 -- Where slots lead digests.
-use Rattle.std.proofs.Common.{◌≡◌, ℕ, zero, suc, inl, inr, ◌<◌, ◌≤◌, ◌+◌, ◌≢◌, Bool, true, false, cond, List, [], ◌∷◌, ◌++◌, length, refl, sym, ap, ◌∙◌, subst, arith}
+use Rattle.std.proofs.Common.{◌≡◌, ℕ, zero, suc, inl, inr, ◌<◌, ◌≤◌, ◌+◌, ◌*◌, ◌%◌, ◌≢◌, Bool, true, false, cond, List, [], ◌∷◌, ◌++◌, length, replicate, refl, sym, ap, ◌∙◌, subst, arith}
 use Rattle.std.proofs.Math.Dec.{eqb}
 use Rattle.std.proofs.Math.ListN.{get_or, set}
 use Rattle.std.proofs.lemmas.Bool.{false≢true, ne_eqb}
 use Rattle.std.proofs.lemmas.Bool.Decides.{eqb_tells}
+use Rattle.std.proofs.lemmas.List.{get_or-replicate, length-replicate}
 use Rattle.idl_map.specs.declared.slot.Slot.{Slot}
 use Rattle.idl_map.specs.declared.slot.Slot.TheVariants.{Empty, One, Many}
-use Rattle.idl_map.specs.Slots.{IsEnd, choice, comes_by, comes_from, goes_to, led, led_from}
+use Rattle.idl_map.specs.Slots.{IsEnd, beginning, choice, comes_by, comes_from, goes_to, led, led_from}
 
 -- tests of numbers
 pub eqb_same : (a b : ℕ) → a ≡ b → eqb a b ≡ true
@@ -161,40 +162,29 @@ pub choice_below : (shift d : ℕ) → choice shift d < 8
 unfolding choice
 choice_below shift d = omega arith
 
--- in an empty branch there is nothing at each place
-pub empties : (i : ℕ) → get_or (Empty ∷ Empty ∷ Empty ∷ Empty ∷ Empty ∷ Empty ∷ Empty ∷ Empty ∷ []) i Empty ≡ Empty
-empties zero = refl
-empties (suc zero) = refl
-empties (suc (suc zero)) = refl
-empties (suc (suc (suc zero))) = refl
-empties (suc (suc (suc (suc zero)))) = refl
-empties (suc (suc (suc (suc (suc zero))))) = refl
-empties (suc (suc (suc (suc (suc (suc zero)))))) = refl
-empties (suc (suc (suc (suc (suc (suc (suc zero))))))) = refl
-empties (suc (suc (suc (suc (suc (suc (suc (suc i)))))))) = refl
-
--- so each digest is led to nothing there
-pub led_to_nothing : (count d : ℕ) (slots : List Slot) → slots ≡ Empty ∷ Empty ∷ Empty ∷ Empty ∷ Empty ∷ Empty ∷ Empty ∷ Empty ∷ [] → IsEnd count (led slots d)
-led_to_nothing count d slots is =
-    let branch : List Slot = Empty ∷ Empty ∷ Empty ∷ Empty ∷ Empty ∷ Empty ∷ Empty ∷ Empty ∷ [] in
-    let nothing : get_or branch (choice 0 d) Empty ≡ Empty = empties (choice 0 d) in
-    let end : IsEnd count (get_or branch (choice 0 d) Empty) = subst (IsEnd count) (sym nothing) tt in
-    let within : choice 0 d < length branch = choice_below 0 d in
+-- digests begin within the first slots, so that each is led to nothing where these are empty
+pub led_to_nothing : (count d n : ℕ) (slots : List Slot) → 512 ≤ n → slots ≡ replicate n Empty → IsEnd count (led slots d)
+led_to_nothing count d n slots long is =
+    let at = 8 * (d % 64) + choice 6 d in
+    let low : at < n = omega (arith, choice_below 6 d, long) in
+    let within : at < length (replicate n Empty) = omega (arith, low, length-replicate n Empty) in
+    let nothing : get_or (replicate n Empty) at Empty ≡ Empty = get_or-replicate n at Empty Empty low in
+    let end : IsEnd count (get_or (replicate n Empty) at Empty) = subst (IsEnd count) (sym nothing) tt in
     let there : led slots d ≡ Empty =
-    ap (λ xs. led xs d) is ∙ in_branch d 0 0 count 0 branch (choice 0 d) (omega arith) within end ∙ nothing in
+    ap (λ xs. led xs d) is ∙ in_branch d 6 (8 * (d % 64)) count 0 (replicate n Empty) at (omega arith) within end ∙ nothing in
     subst (IsEnd count) (sym there) tt
 
 -- a slot by which a digest comes, and that is no branch, is the one to which it is led
 pub comes_to_end : (d : ℕ) (slots : List Slot) (place : ℕ) (x : Slot) → comes_by slots d place ≡ true → get_or slots place Empty ≡ x
     → ((shift first : ℕ) → x ≡ Many shift first → ⊥) → get_or slots place Empty ≡ led slots d
 comes_to_end d slots place Empty comes is other =
-    sym (led_from-end d 0 0 (Many 0 0) slots place comes (subst (IsEnd 0) (sym is) tt))
+    sym (led_from-end d 0 0 (beginning d) slots place comes (subst (IsEnd 0) (sym is) tt))
 comes_to_end d slots place (One entry) comes is other =
     let within : entry < entry + 1 = omega arith in
-    sym (led_from-end d (entry + 1) 0 (Many 0 0) slots place comes (subst (IsEnd (entry + 1)) (sym is) within))
+    sym (led_from-end d (entry + 1) 0 (beginning d) slots place comes (subst (IsEnd (entry + 1)) (sym is) within))
 comes_to_end d slots place (Many shift first) comes is other = absurd (other shift first refl)
 
 -- where a digest comes by an empty slot it is led to nothing
 pub led_to_empty : (d : ℕ) (slots : List Slot) (place : ℕ) → comes_by slots d place ≡ true → get_or slots place Empty ≡ Empty → led slots d ≡ Empty
 led_to_empty d slots place comes empty =
-    led_from-end d 0 0 (Many 0 0) slots place comes (subst (IsEnd 0) (sym empty) tt) ∙ empty
+    led_from-end d 0 0 (beginning d) slots place comes (subst (IsEnd 0) (sym empty) tt) ∙ empty

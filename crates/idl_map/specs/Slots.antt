@@ -1,5 +1,5 @@
 -- Slots, in which digests find the places of entries.
-use Rattle.std.specs.Prelude.{ℕ, zero, suc, ◌+◌, ◌/◌, ◌%◌, ◌^◌, ◌==◌, ◌<◌, Bool, false, List, [], ◌∷◌, ◌++◌, Option, None, Some, length, if◌then◌else◌}
+use Rattle.std.specs.Prelude.{ℕ, zero, suc, ◌+◌, ◌*◌, ◌/◌, ◌%◌, ◌^◌, ◌==◌, ◌<◌, Bool, false, List, [], ◌∷◌, ◌++◌, Option, None, Some, length, if◌then◌else◌}
 use Rattle.idl_map.specs.declared.slot.Slot.{Slot}
 use Rattle.idl_map.specs.declared.slot.Slot.TheVariants.{Empty, One, Many}
 use Rattle.idl_map.specs.declared.arena.Arena.{Arena}
@@ -27,13 +27,16 @@ comes_from digest place slot (next ∷ slots) zero = goes_to digest place slot
 comes_from digest place slot (next ∷ slots) (suc ahead) =
     comes_from digest (place + 1) (if goes_to digest place slot then next else slot) slots ahead
 
--- where slots lead a digest, and whether it comes by the slot at a place on its way: it begins at
--- the branch of the first eight
+-- where a digest begins: at that of the first 64 branches that its last six bits choose
+abbrev pub beginning : ℕ → Slot
+beginning digest = Many 6 (8 * (digest % 64))
+
+-- where slots lead a digest, and whether it comes by the slot at a place on its way
 abbrev pub led : List Slot → ℕ → Slot
-led slots digest = led_from digest 0 (Many 0 0) slots
+led slots digest = led_from digest 0 (beginning digest) slots
 
 abbrev pub comes_by : List Slot → ℕ → ℕ → Bool
-comes_by slots digest place = comes_from digest 0 (Many 0 0) slots place
+comes_by slots digest place = comes_from digest 0 (beginning digest) slots place
 
 -- whether a slot has the entry at this place
 abbrev pub has_entry : ℕ → Slot → Bool

@@ -8,7 +8,7 @@ ghost use Rattle.idl_map.specs.declared.slot.Slot.TheVariants.{Empty, One};
 ghost use Rattle.idl_map.specs.Slots.{IsSound, comes_by, entries_of, led};
 
 use crate::Digest;
-use crate::slot::{Slot, Way, branch_of, choice, empty_branch};
+use crate::slot::{Slot, Way, beginning, branch_of, choice, first_slots};
 use idl_base::{Datum, Table};
 use std::alloc::{AllocError, Global};
 
@@ -18,8 +18,9 @@ const BITS: u8 = 30;
 /// Entries, the slots in which the digests of their keys find their places, and the rest, which has the entries for which
 /// there was no place.
 ///
-/// The slots are branches of eight, one after another, and each stands behind the slot that leads to it. Where a slot leads a
-/// digest follows from the digest alone: an entry counts if its own key is led to it. No entry is ever taken out.
+/// The slots are branches of eight, one after another. Digests begin in the first 64 of them, by their last six bits, and each
+/// other stands behind the slot that leads to it. Where a slot leads a digest follows from the digest alone: an entry counts if
+/// its own key is led to it. No entry is ever taken out.
 pub struct Arena<K: Digest + Ord, V: Datum> {
     slots: Vec<Slot>,
     entries: Vec<(K, V)>,
@@ -43,7 +44,7 @@ impl<K: Digest + Ord, V: Datum> Arena<K, V> {
         ensures entries { IfOk result (λ arena. entries_of K.digest_of arena ≡ []) }
     {
         Ok(Arena {
-            slots: Vec::from_slice(alloc, &empty_branch())?,
+            slots: first_slots(alloc)?,
             entries: Vec::new(alloc),
             rest: Table::new(alloc),
         })
@@ -113,8 +114,8 @@ impl<K: Digest + Ord, V: Datum> Arena<K, V> {
         ensures end { get_or self.now.slots.items result.place Empty ≡ led self.now.slots.items digest }
     {
         let mut way = Way {
-            place: choice(0, digest),
-            shift: 3,
+            place: beginning(digest),
+            shift: 9,
         };
         while let Slot::Many(shift, first) = self.slots[way.place] {
             way = Way {

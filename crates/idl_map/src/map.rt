@@ -62,12 +62,20 @@ impl<K: Digest + Ord, V: Datum> Map<K, V> {
         ensures err { OnErr result
             ((k : K) → lookup (K.eq k) self.new ≡ lookup (K.eq k) self.old) }
     {
-        if let Some(arena) = &mut self.arena {
-            return arena.insert(key, value);
+        self.prepare(alloc)?;
+        match &mut self.arena {
+            Some(arena) => arena.insert(key, value),
+            None => Err(AllocError),
         }
-        let mut arena = Arena::new(alloc)?;
-        arena.insert(key, value)?;
-        self.arena = Some(arena);
+    }
+
+    // Makes an arena, unless there is one.
+    fn prepare(&mut self, alloc: Global) -> Result<(), AllocError>
+        ensures { self.new ≡ self.old }
+    {
+        if self.arena.is_none() {
+            self.arena = Some(Arena::new(alloc)?);
+        }
         Ok(())
     }
 }

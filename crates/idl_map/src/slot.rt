@@ -1,10 +1,12 @@
 //! Slots, among which bits of digests choose.
 
-ghost use Rattle.std.specs.Prelude.{◌≡◌, ◌<◌, ◌==◌, ◌∷◌, [], ℕ, length, if◌then◌else◌};
-ghost use Rattle.std.proofs.Math.ListN.{get_or};
+ghost use Rattle.std.specs.Prelude.{◌≡◌, ◌<◌, ◌+◌, ◌*◌, ◌%◌, ◌==◌, ◌∷◌, [], ℕ, IfOk, length, if◌then◌else◌};
+ghost use Rattle.std.proofs.Math.ListN.{get_or, replicate};
 ghost use Rattle.idl_map.specs.Slots.{choice};
 ghost use Rattle.idl_map.specs.declared.slot.Slot.TheVariants.{Empty, One};
+ghost use Rattle.idl_map.specs.declared.slot.TheConstants.{FIRST};
 
+use std::alloc::{AllocError, Global};
 use std::mem::size_of;
 
 /// Nothing; the place of an entry; or a branch, by the bit from which on digests choose among its eight slots, and the place
@@ -51,6 +53,27 @@ pub fn branch_of(shift: u8, digest: u64, entry: u32) -> [Slot; 8]
     let mut slots = empty_branch();
     slots[choice(shift, digest)] = Slot::One(entry);
     slots
+}
+
+/// So many slots stand first, where digests begin: 64 branches.
+pub const FIRST: usize = 512;
+
+/// The first slots, which are empty.
+pub fn first_slots(alloc: Global) -> Result<Vec<Slot>, AllocError>
+    ensures { IfOk result (λ slots. slots.items ≡ replicate FIRST Empty) }
+{
+    let mut slots = Vec::new(alloc);
+    for _slot in 0..FIRST {
+        slots.push(Slot::Empty)?;
+    }
+    Ok(slots)
+}
+
+/// The place at which a digest begins: its last six bits choose the branch.
+pub fn beginning(digest: u64) -> usize
+    ensures { result ≡ 8 * (digest % 64) + choice 6 digest }
+{
+    8 * (digest % 64) as usize + choice(6, digest)
 }
 
 /// Which slot of a branch the bits of a digest choose, from a bit on.

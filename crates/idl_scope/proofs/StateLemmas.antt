@@ -1,6 +1,7 @@
 -- What answers that are kept come to.
-use Rattle.std.proofs.Common.{◌≡◌, ℕ, ◌<◌, Bool, true, false, cond, List, [], ◌∷◌, ◌++◌, Option, Some, None, drop, reverse, refl, ap, ◌∙◌, arith}
+use Rattle.std.proofs.Common.{◌≡◌, ℕ, ◌<◌, ◌+◌, ◌-◌, Bool, true, false, cond, List, [], ◌∷◌, ◌++◌, Option, Some, None, MatchOption, drop, take, reverse, refl, sym, ap, ◌∙◌, arith}
 use Rattle.std.specs.Map.{lookup}
+use Rattle.std.specs.Option.{option_to_list}
 use Rattle.std.proofs.lemmas.Option.{same_Some}
 use Rattle.std.proofs.lemmas.List.{append-nil, reverse-append}
 use Rattle.idl_scope.specs.Facts.{World, addition_at, after_closing, after_opening, answer_of, closed, closing, count_in, entity_in, entity_key, first_answer, given_back, global_scope, is_operation, more_inside, no_prefix, operations_among, over, prefix_in, scopes_in, with_answer, with_prefix}
@@ -26,7 +27,7 @@ pub world_is : (w v : World) → w.answers ≡ v.answers → w.inside ≡ v.insi
 world_is w v h g f = λ i. record { answers = h i; inside = g i; before = f i }
 
 -- what is kept comes to one world where its parts are the same
-pub held_is : (state other : State) → kept state.answers ≡ kept other.answers → state.inside ≡ other.inside → state.opened ≡ other.opened → state.entered ≡ other.entered → held state ≡ held other
+pub held_is : (state other : State) → kept state.answers ≡ kept other.answers → state.inside.items ≡ other.inside.items → state.opened ≡ other.opened → state.entered ≡ other.entered → held state ≡ held other
 held_is state other h g f e = λ i. record { answers = h i; inside = reverse (g i); before = record { opened = reverse (f i); entered = reverse (e i) } }
 
 -- scopes that are open, the innermost first, with one more, and which is the innermost of them
@@ -38,14 +39,27 @@ pub more_inside-nothing : (inside : List (List (List (List ℕ)))) → more_insi
 more_inside-nothing [] = refl
 more_inside-nothing (own ∷ outer) = ap (λ l. l ∷ outer) (append-nil own)
 
+-- the innermost ones taken off and put there again, with more
+pub reverse-more : (all outer : List (List (List (List ℕ)))) (own more : List (List (List ℕ))) → all ≡ outer ++ own ∷ [] → reverse (outer ++ (own ++ more) ∷ []) ≡ more_inside (reverse all) more
+reverse-more all outer own more is =
+    reverse-push outer (own ++ more) ∙ ap (λ l. more_inside l more) (sym (ap reverse is ∙ reverse-push outer own))
+
+-- and for good
+pub reverse-pop : (all outer : List (List (List (List ℕ)))) (own : Option (List (List (List ℕ)))) (count left : ℕ) → all ≡ outer ++ option_to_list own → outer ≡ take (count - 1) all
+    → MatchOption own ((count ≡ 0) × (left ≡ 0)) (λ _. left + 1 ≡ count) → reverse outer ≡ drop 1 (reverse all)
+reverse-pop all outer (Some own) count left is rest counted = sym (ap (λ l. drop 1 (reverse l)) is ∙ ap (drop 1) (reverse-push outer own))
+reverse-pop all outer None count left is rest counted =
+    let none : outer ≡ [] = rest ∙ ap (λ n. take (n - 1) all) counted.0 in
+    ap reverse none ∙ sym (ap (λ l. drop 1 (reverse l)) (is ∙ append-nil outer ∙ none))
+
 -- a body more
 pub held-opening : (state after : State) (s : Scope) (opened : Answer)
     → opened ≡ Open (s ∷ scopes_in (kept state.answers Cursor)) → kept after.answers ≡ with_answer Cursor opened (with_answer (Opened s.path) (Count s.body) (kept state.answers))
-    → after.inside ≡ state.inside ++ [] ∷ [] → after.opened ≡ state.opened ++ prefix_in (kept state.answers PrefixKey) ∷ [] → after.entered ≡ state.entered
+    → after.inside.items ≡ state.inside.items ++ [] ∷ [] → after.opened ≡ state.opened ++ prefix_in (kept state.answers PrefixKey) ∷ [] → after.entered ≡ state.entered
     → held after ≡ after_opening (held state) s
 held-opening state after s opened is_open put is_within is_before is_entered =
     let answers = put ∙ ap (λ a. with_answer Cursor a (with_answer (Opened s.path) (Count s.body) (kept state.answers))) is_open in
-    let inside = ap reverse is_within ∙ reverse-push state.inside [] in
+    let inside = ap reverse is_within ∙ reverse-push state.inside.items [] in
     let before = ap reverse is_before ∙ reverse-push state.opened (prefix_in (kept state.answers PrefixKey)) in
     λ i. record { answers = answers i; inside = inside i; before = record { opened = before i; entered = reverse (is_entered i) } }
 

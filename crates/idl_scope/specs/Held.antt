@@ -17,7 +17,7 @@ HaveOwnKeys (e ∷ entries) = (e.0 ≡ key_of e.1) × HaveOwnKeys entries
 abbrev pub held : State → World
 held state = record {
   answers = λ k. lookup (key_eq k) state.answers;
-  inside = reverse state.inside;
+  inside = reverse state.inside.items;
   before = record { opened = reverse state.opened; entered = reverse state.entered };
 }
 

@@ -114,61 +114,61 @@ fn join_one_new(
 }
 
 /// The innermost ones.
-pub fn innermost(
-    alloc: Global,
-    inside: &SharedList<SharedList<Path>>,
-) -> Result<Vec<Path>, AllocError>
+pub fn innermost(alloc: Global, inside: &[SharedList<Path>]) -> Result<Vec<Path>, AllocError>
     ensures { IfOk result (λ paths. paths.items ≡ innermost (reverse inside.now)) }
 {
-    match inside.split_last()? {
-        Some((_outer, own)) => own.to_vec(alloc),
+    match inside.last() {
+        Some(own) => own.to_vec(alloc),
         None => Ok(Vec::new(alloc)),
     }
 }
 
-/// The paths of the operations and attributes among what is declared.
-pub fn operations_among(alloc: Global, facts: &Facts) -> Result<Vec<Path>, AllocError>
-    ensures { IfOk result (λ paths. paths.items ≡ operations_among facts.now.additions) }
+/// The innermost ones with those that are declared.
+pub fn add_inside(
+    alloc: Global,
+    inside: &mut Vec<SharedList<Path>>,
+    facts: &Facts,
+) -> Result<(), AllocError>
+    ensures { OnOk result
+        (reverse inside.new.items
+        ≡ more_inside (reverse inside.old.items) (operations_among facts.now.additions)) }
 {
-    let mut paths = Vec::new(alloc);
+    let Some(mut own) = inside.pop() else {
+        return Ok(());
+    };
+    put_operations(alloc, &mut own, facts)?;
+    inside.push(own)?;
+    Ok(())
+}
+
+// Puts the paths of the operations and attributes last that are declared.
+fn put_operations(
+    alloc: Global,
+    own: &mut SharedList<Path>,
+    facts: &Facts,
+) -> Result<(), AllocError>
+    ensures { OnOk result (own.new ≡ own.old ++ operations_among facts.now.additions) }
+{
     for index in 0..facts.len() {
         let Some(addition) = facts.addition(index) else {
             continue;
         };
-        keep_operation(&mut paths, addition)?;
-    }
-    Ok(paths)
-}
-
-// Keeps the path of what an addition declares, if it is an operation or attribute.
-fn keep_operation(paths: &mut Vec<Path>, addition: &Addition) -> Result<(), AllocError>
-    ensures { OnOk result
-        (paths.new.items ≡ paths.old.items ++ operations_among (addition.now ∷ [])) }
-{
-    if let Some(path) = addition.operation() {
-        paths.push(path.clone()?)?;
+        put_operation(alloc, own, addition)?;
     }
     Ok(())
 }
 
-/// The innermost ones with more.
-pub fn add_inside(
+// Puts the path of what an addition declares last, if it is an operation or attribute.
+fn put_operation(
     alloc: Global,
-    inside: &mut SharedList<SharedList<Path>>,
-    paths: &[Path],
+    own: &mut SharedList<Path>,
+    addition: &Addition,
 ) -> Result<(), AllocError>
-    ensures { OnOk result (reverse inside.new ≡ more_inside (reverse inside.old) paths.now) }
+    ensures { OnOk result (own.new ≡ own.old ++ operations_among (addition.now ∷ [])) }
 {
-    if paths.is_empty() {
-        return Ok(());
+    if let Some(path) = addition.operation() {
+        own.push(alloc, path.clone()?)?;
     }
-    let Some((mut outer, own)) = inside.split_last()? else {
-        return Ok(());
-    };
-    let mut own = own.clone()?;
-    put_last(alloc, &mut own, paths)?;
-    outer.push(alloc, own)?;
-    *inside = outer;
     Ok(())
 }
 
@@ -183,11 +183,8 @@ pub fn put_last(alloc: Global, own: &mut SharedList<Path>, paths: &[Path]) -> Re
 }
 
 /// All but the innermost.
-pub fn leave(inside: &mut SharedList<SharedList<Path>>) -> Result<(), AllocError>
-    ensures { OnOk result (reverse inside.new ≡ drop 1 (reverse inside.old)) }
+pub fn leave(inside: &mut Vec<SharedList<Path>>)
+    ensures { reverse inside.new.items ≡ drop 1 (reverse inside.old.items) }
 {
-    if let Some((outer, _own)) = inside.split_last()? {
-        *inside = outer;
-    }
-    Ok(())
+    let _own = inside.pop();
 }

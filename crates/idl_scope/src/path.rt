@@ -12,7 +12,7 @@ ghost use Rattle.idl_scope.specs.Digest.{path_digest, under};
 ghost use Rattle.idl_scope.specs.Path.{name_of, path_eq, path_of, same_path, scope_of};
 
 use crate::digest::under;
-use crate::name::{are_same, folded_name, shared_name};
+use crate::name::{folded_name, shared_name};
 use idl_base::Datum;
 use idl_lex::Spelling;
 use std::alloc::{AllocError, Global};
@@ -321,7 +321,7 @@ fn begin_alike(mine: &Part, theirs: &Part) -> bool
     ensures differ { IsFalse result
         → path_eq (mine.now.0 ∷ mine.now.1) (theirs.now.0 ∷ theirs.now.1) ≡ false }
 {
-    mine.digest == theirs.digest && are_same(mine.name.as_bytes(), theirs.name.as_bytes())
+    mine.digest == theirs.digest && mine.name == theirs.name
 }
 
 // Which of two paths comes first, by their innermost names and then by those around.

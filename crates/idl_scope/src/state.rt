@@ -22,7 +22,7 @@ use crate::identity::Prefix;
 use crate::key::Key;
 use crate::kind::{Kind, Stage};
 use crate::name::shared_name;
-use crate::operations::{add_inside, inherited, innermost, leave, operations_among, put_last};
+use crate::operations::{add_inside, inherited, innermost, leave, put_last};
 use crate::path::Path;
 use crate::shared::{Shared, copied};
 use idl_base::Seq;
@@ -35,7 +35,7 @@ use std::alloc::{AllocError, Global};
 /// prefixes that were in force before the open scopes were opened and before files were entered, the innermost last.
 pub struct State {
     pub answers: Map<DigestedKey, Answer>,
-    pub inside: SharedList<SharedList<Path>>,
+    pub inside: Vec<SharedList<Path>>,
     pub opened: SharedList<Shared<Prefix>>,
     pub entered: SharedList<Shared<Prefix>>,
 }
@@ -64,8 +64,8 @@ impl State {
             DigestedKey::of(Key::Prefix),
             Answer::InForce(Prefix::none(alloc)?),
         )?;
-        let mut inside = SharedList::new();
-        inside.push(alloc, SharedList::new())?;
+        let mut inside = Vec::new(alloc);
+        inside.push(SharedList::new())?;
         Ok(State {
             answers,
             inside,
@@ -107,11 +107,7 @@ impl State {
             (held self.new ≡ with_additions facts.now.additions (held self.old)) }
     {
         put_all(alloc, &mut self.answers, facts)?;
-        add_inside(
-            alloc,
-            &mut self.inside,
-            operations_among(alloc, facts)?.as_slice(),
-        )
+        add_inside(alloc, &mut self.inside, facts)
     }
 
     // The open scopes.
@@ -136,7 +132,7 @@ impl State {
         self.answers.insert(alloc, key, Answer::Count(body))?;
         self.answers
             .insert(alloc, DigestedKey::of(Key::Cursor), scopes)?;
-        self.inside.push(alloc, SharedList::new())?;
+        self.inside.push(SharedList::new())?;
         self.opened.push(alloc, prefix)?;
         Ok(())
     }
@@ -185,7 +181,7 @@ impl State {
         put_closing(alloc, &mut self.answers, &closing)?;
         self.answers
             .insert(alloc, DigestedKey::of(Key::Cursor), scopes)?;
-        leave(&mut self.inside)?;
+        leave(&mut self.inside);
         let prefix = taken_last(alloc, &mut self.opened)?;
         self.answers.insert(alloc, DigestedKey::of(Key::Prefix), Answer::InForce(prefix))?;
         Ok(())
@@ -258,10 +254,10 @@ impl State {
         ensures { IfOk result (λ paths.
             paths
             ≡ inherited (λ k. lookup (key_eq k) self.now.answers) interface.now.bases
-            ++ innermost (reverse self.now.inside)) }
+            ++ innermost (reverse self.now.inside.items)) }
     {
         let mut paths = inherited(alloc, &self.answers, interface.bases.as_slice())?;
-        let own = innermost(alloc, &self.inside)?;
+        let own = innermost(alloc, self.inside.as_slice())?;
         put_last(alloc, &mut paths, own.as_slice())?;
         Ok(paths)
     }

@@ -22,5 +22,5 @@ returns c =
     let answers : kept c.insert-2.new.self ≡ with_prefix (given_back w.before.opened) (with_answer Cursor (Open outer) (λ k. over (closing w scope) k (kept entries k))) =
     (λ i k. c.in_ok-insert-2.ensures.each_key k i)
     ∙ (λ i. with_answer (c.of-2.ensures i) (InForce (c.in_ok-prefix.ensures.prefix i)) (closed i)) in
-    (λ i. record { answers = answers i; inside = c.in_ok-leave.ensures i; before = record w.before { opened = c.in_ok-prefix.ensures.others i } })
+    (λ i. record { answers = answers i; inside = c.leave.ensures i; before = record w.before { opened = c.in_ok-prefix.ensures.others i } })
     ∙ sym (after_closing-some w (scopes_in (kept entries Cursor)) scope outer able)

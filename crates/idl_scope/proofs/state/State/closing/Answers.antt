@@ -11,7 +11,7 @@ use Rattle.idl_scope.proofs.state.State.closing.Goals as goal
 pub returns : goal.returns
 returns c =
     let entries = c.args.self.now.answers in
-    let inside = c.args.self.now.inside in
+    let inside = c.args.self.now.inside.items in
     let e = c.in-Some.entity.now in
     let one = sym c.inherits.ensures ∙ c.if-not-inherits.false in
     let there = ap (λ q. entity_in (lookup (key_eq q) entries)) (sym c.in_ok-key.ensures) ∙ ap entity_in (sym c.get.ensures) ∙ sym c.in-Some.ensures in

@@ -15,5 +15,5 @@ returns c =
     (λ i k. c.in_ok-insert-2.ensures.each_key k i)
     ∙ (λ i. with_answer (c.of-2.ensures i) (InForce (c.in_ok-none.ensures i)) (global i))
     ∙ (λ i k. first-answers k i) in
-    let inside = c.in_ok-push.ensures.items ∙ (λ i. c.new-inside.ensures i ++ c.new.ensures i ∷ []) in
+    let inside = c.in_ok-push.ensures.items ∙ (λ i. c.new-inside.ensures.items i ++ c.new.ensures i ∷ []) in
     λ i. record { answers = put i; inside = reverse (inside i); before = record { opened = reverse (c.new-2.ensures i); entered = reverse (c.new-3.ensures i) } }

@@ -19,7 +19,7 @@ returns c =
     (λ i k. c.in_ok-insert-2.ensures.each_key k i) ∙ (λ i. with_answer (c.of.ensures i) c.in_ok-scopes.scopes (put i)) in
     let outer = c.cursor.ensures in
     let opened = c.in_ok-scopes.ensures ∙ ap (λ scopes. Open (scope ∷ scopes)) outer in
-    let within = c.in_ok-push.ensures.items ∙ ap (λ own. state.inside ++ own ∷ []) c.new.ensures in
+    let within = c.in_ok-push.ensures.items ∙ ap (λ own. state.inside.items ++ own ∷ []) c.new.ensures in
     let before = c.in_ok-push-2.ensures.items ∙ ap (λ prefix. state.opened ++ prefix ∷ []) c.in_ok-prefix.ensures in
     let after : State = record { answers = c.insert-2.new.self; inside = c.push.new.self; opened = c.push-2.new.self; entered = state.entered } in
     held-opening state after scope c.in_ok-scopes.scopes opened both within before refl
