@@ -45,37 +45,52 @@ pub fn replace_text<B: RootBank>(
         (text file.now macros.now.definitions.now tokens.now) progress.old) }
 {
     let mut left = tokens.copied();
-    'tokens: while let Some((token, rest)) = left.split_first() {
+    'tokens: while let Some((first, rest)) = left.split_first() {
         let place = Place {
             file: file.clone()?,
-            line: token.line(),
+            line: first.line(),
         };
-        replace_one(macros, place, token.placed(), progress)?;
-        left = rest;
+        let count = count_plain(macros, &place, &left, progress)?;
+        if count == 0 {
+            let first = TokensAt {
+                place: &place,
+                tokens: from_ref(first.placed()),
+            };
+            replace(macros, first, progress, &mut Output::Text)?;
+            left = rest;
+            continue;
+        }
+        let (plain, behind) = left.split_at(count);
+        progress.emit_all(place, plain.as_slice())?;
+        left = behind;
     }
     Ok(())
 }
 
-// A token of a text is replaced at its place, and emitted. Most stand for themselves: no replacement is begun for those.
-fn replace_one<B: RootBank>(
+// How many tokens come first at a place, as many as the limits leave, that stand for themselves. Their macros are asked for.
+fn count_plain<B: RootBank>(
     macros: &Macros<'_, B>,
-    place: Place,
-    placed: &PlacedToken,
+    place: &Place,
+    tokens: &FileTokens<'_>,
     progress: &mut Progress<B>,
-) -> Result<(), AllocError>
-    ensures { OnOk result (progress.new
-        ≡ reached (B.at macros.now.bank.now)
-        (replaced_at (item_of Text place) place macros.now.definitions.now
-        (placed.now.token ∷ [])) progress.old) }
+) -> Result<usize, AllocError>
 {
-    if body_of(macros, &placed.token, progress)?.is_some() {
-        let tokens = TokensAt {
-            place: &place,
-            tokens: from_ref(placed),
-        };
-        return replace(macros, tokens, progress, &mut Output::Text);
+    if progress.tokens_left() < tokens.len() {
+        return Ok(0);
     }
-    progress.emit(place, &placed.token)
+    let mut count = 0;
+    let mut left = tokens.copied();
+    'tokens: while let Some((token, rest)) = left.split_first() {
+        if token.line() != place.line {
+            return Ok(count);
+        }
+        if body_of(macros, token.token(), progress)?.is_some() {
+            return Ok(count);
+        }
+        count += 1;
+        left = rest;
+    }
+    Ok(count)
 }
 
 // The body that a token in no replacement is replaced by: its macro's, if it is a word.
