@@ -3,14 +3,14 @@
 //! Replacements that stand in one another are kept on a stack of their own, so that no depth of
 //! them is too much.
 
-ghost use Rattle.std.specs.Prelude.{◌≡◌, ◌≢◌, ◌<◌, ◌∷◌, [], ℕ, List, Option, None, IfOk, OnOk, is_some, reverse};
+ghost use Rattle.std.specs.Prelude.{◌≡◌, ◌≢◌, ◌<◌, ◌≤◌, ◌∷◌, [], ℕ, List, Option, None, IfOk, OnOk, drop, is_some, length, reverse, take};
 ghost use Rattle.std.specs.Map.{keys_of, lookup};
 ghost use Rattle.std.specs.Option.{option_copied, option_map};
 ghost use Rattle.std.specs.Str.{bytes_eq};
 ghost use Rattle.idl_memo.specs.Progress.{after_item};
 ghost use Rattle.idl_memo.specs.Query.{outcome};
-ghost use Rattle.idl_event.specs.Expanding.{Reached, arrival, arrived, reached};
-ghost use Rattle.idl_event.specs.Items.{rules, turns_left};
+ghost use Rattle.idl_event.specs.Expanding.{Reached, after_tokens, arrival, arrived, reached};
+ghost use Rattle.idl_event.specs.Items.{rules, tokens_left, turns_left};
 ghost use Rattle.idl_lex.specs.Tokens.{Token, tokens_in};
 ghost use Rattle.idl_macro.specs.Output.{given, given_more, item_of};
 ghost use Rattle.idl_macro.specs.declared.replacement.Output.TheVariants.{Text};
@@ -32,7 +32,8 @@ pub enum Output {
     Operand(Vec<Token>),
 }
 
-/// The tokens of a text are replaced, each at its own place, and emitted.
+/// The tokens of a text are replaced, each at its own place, and emitted. Most stand for themselves: those of a line are emitted
+/// at once, and a replacement begins only where there is a macro.
 #[tactic(auto, unfolding(crate::specs::Replace::text))]
 pub fn replace_text<B: RootBank>(
     macros: &Macros<'_, B>,
@@ -67,13 +68,22 @@ pub fn replace_text<B: RootBank>(
     Ok(())
 }
 
-// How many tokens come first at a place, as many as the limits leave, that stand for themselves. Their macros are asked for.
+// How many tokens come first at a place that stand for themselves, where the limits leave as many as there are: these are to
+// be emitted. Their macros were asked for, and so may that of the next one be.
 fn count_plain<B: RootBank>(
     macros: &Macros<'_, B>,
     place: &Place,
     tokens: &FileTokens<'_>,
     progress: &mut Progress<B>,
 ) -> Result<usize, AllocError>
+    ensures within { IfOk result (λ count. count ≤ length tokens.now) }
+    ensures room { IfOk result (λ count. count ≤ tokens_left progress.new.left) }
+    ensures plain { let bank = B.at macros.now.bank.now in
+        let definitions = macros.now.definitions.now in let at = place.now in
+        IfOk result (λ count.
+        reached bank (text at.file definitions tokens.now) progress.old
+        ≡ reached bank (text at.file definitions (drop count tokens.now))
+        (after_tokens at (tokens_in (take count tokens.now)) progress.new)) }
 {
     if progress.tokens_left() < tokens.len() {
         return Ok(0);
