@@ -1,5 +1,6 @@
 -- Where one comes to with tokens of a text, as many as the limits leave.
-use Rattle.std.proofs.Common.{◌≡◌, ℕ, suc, ◌-◌, ◌≤◌, Bool, true, false, nat_eq, if◌then◌else◌, List, [], ◌∷◌, ◌++◌, length, map, Option, None, Some, refl, sym, ap, ◌∙◌, arith, append-nil, append_assoc}
+use Rattle.std.proofs.Common.{◌≡◌, ℕ, zero, suc, ◌-◌, ◌≤◌, Bool, false, nat_eq, if◌then◌else◌, List, [], ◌∷◌, ◌++◌, length, map, Option, None, Some, refl, sym, ap, ◌∙◌, arith, append-nil, append_assoc}
+use Rattle.std.proofs.Math.Dec.{eqb-suc-zero}
 use Rattle.std.specs.Option.{option_to_list}
 use Rattle.idl_memo.specs.Progress.{after_item, with_item}
 use Rattle.idl_event.specs.Expanding.{Reached, after_tokens}
@@ -12,11 +13,8 @@ use Rattle.idl_event.specs.declared.place.Place.{Place}
 use Rattle.idl_lex.specs.Tokens.{Token}
 
 not-zero : (n k : ℕ) → suc k ≤ n → nat_eq n 0 ≡ false
-not-zero n k le = by (nat_eq n 0) refl
-  where
-    by : (b : Bool) → nat_eq n 0 ≡ b → b ≡ false
-    by true is = absurd (omega (arith, le, is))
-    by false is = refl
+not-zero zero k le = absurd (omega (arith, le))
+not-zero (suc n) k le = eqb-suc-zero n
 
 module _ (place : Place) where
   -- with these events more, and so many tokens less

@@ -120,9 +120,9 @@ woven-tokens sites tokens others n place (t ∷ more) s is =
     let ss = append_assoc sites (site ∷ []) (sites_at (n + 1) place (length more)) in
     let ts = append_assoc tokens (t ∷ []) more in (
       sym (λ j. woven (ss j) (ts j) others)
-      ∙ rest.0
-      ∙ ap (λ es. es ++ map (event.Emitted place) more) one.0
-      ∙ append_assoc (woven sites tokens others) (event.Emitted place t ∷ []) (map (event.Emitted place) more),
+          ∙ rest.0
+          ∙ ap (λ es. es ++ map (event.Emitted place) more) one.0
+          ∙ append_assoc (woven sites tokens others) (event.Emitted place t ∷ []) (map (event.Emitted place) more),
       subst₂ (λ a b. StandApart a b others) ss ts rest.1,
     )
 

@@ -1,5 +1,5 @@
 -- Tokens that stand for themselves: what is asked of the next one may be asked before they are told.
-use Rattle.std.proofs.Common.{◌≡◌, ◌≢◌, ℕ, suc, ◌+◌, ◌<◌, ◌≤◌, Bool, true, false, not, ◌&&◌, if◌then◌else◌, List, [], ◌∷◌, ◌++◌, drop, length, take, Option, None, Some, refl, sym, ap, subst, ◌∙◌, ◌-◌, arith}
+use Rattle.std.proofs.Common.{◌≡◌, ◌≢◌, ℕ, zero, suc, ◌+◌, ◌<◌, ◌≤◌, Bool, true, false, not, ◌&&◌, if◌then◌else◌, List, [], ◌∷◌, ◌++◌, drop, length, take, Option, None, Some, refl, sym, ap, subst, ◌∙◌, ◌-◌, arith}
 use Rattle.std.proofs.lemmas.List.{length-map, length-take-le, map-append}
 use Rattle.std.specs.List.{list_any}
 use Rattle.std.specs.Map.{lookup}
@@ -31,8 +31,8 @@ use Rattle.idl_macro.proofs.ReplaceLemmas.{reached-text-first}
 -- the next token of a list
 pub next-token : {A : Type 0} (n : ℕ) (ts : List A) (t : A) (rest : List A) → drop n ts ≡ t ∷ rest
     → (n < length ts) × (drop (n + 1) ts ≡ rest) × (take (n + 1) ts ≡ take n ts ++ t ∷ [])
-next-token 0 [] t rest e = cc
-next-token 0 (x ∷ xs) t rest e = (omega arith, ap (drop 1) e, ap (take 1) e)
+next-token zero [] t rest e = cc
+next-token zero (x ∷ xs) t rest e = (omega arith, ap (drop 1) e, ap (take 1) e)
 next-token (suc n) [] t rest e = cc
 next-token (suc n) (x ∷ xs) t rest e =
     let behind = next-token n xs t rest e in

@@ -21,11 +21,11 @@ returns g c =
     let within = after_tokens-within c.args.place more p left going enough in
     on_ok_weaker c.push_tokens.result
     (λ kept.
-        (λ j. record {
-          kept = kept j;
-          left = Some (record { turns = left.turns; tokens = left.tokens - sym count j });
-          log = p.log;
-        })
-        ∙ sym within
-        ∙ ap (after_tokens c.args.place more) c.self.view_is)
+    (λ j. record {
+      kept = kept j;
+      left = Some (record { turns = left.turns; tokens = left.tokens - sym count j });
+      log = p.log;
+    })
+    ∙ sym within
+    ∙ ap (after_tokens c.args.place more) c.self.view_is)
     c.push_tokens.ensures
