@@ -1,7 +1,6 @@
 -- Where one comes to with tokens of a text, as many as the limits leave.
-use Rattle.std.proofs.Common.{◌≡◌, ℕ, zero, suc, ◌-◌, ◌≤◌, Bool, false, nat_eq, if◌then◌else◌, List, [], ◌∷◌, ◌++◌, length, map, Option, None, Some, refl, sym, ap, ◌∙◌, arith, append-nil, append_assoc}
+use Rattle.std.proofs.Common.{◌≡◌, ℕ, zero, suc, ◌-◌, ◌≤◌, false, nat_eq, if◌then◌else◌, List, [], ◌∷◌, ◌++◌, length, map, Option, None, Some, refl, sym, ap, ◌∙◌, arith, append-nil, append_assoc}
 use Rattle.std.proofs.Math.Dec.{eqb-suc-zero}
-use Rattle.std.specs.Option.{option_to_list}
 use Rattle.idl_memo.specs.Progress.{after_item, with_item}
 use Rattle.idl_event.specs.Expanding.{Reached, after_tokens}
 use Rattle.idl_event.specs.Items.{rules, spend}

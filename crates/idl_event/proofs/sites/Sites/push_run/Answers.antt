@@ -1,4 +1,4 @@
-use Rattle.std.proofs.Common.{◌≡◌, ◌∙◌, ◌+◌, ◌-◌, ◌<◌, ◌≤◌, ◌^◌, ◌++◌, ◌∷◌, [], Some, length, slice_get, refl, sym, ap, subst₂, rules}
+use Rattle.std.proofs.Common.{◌≡◌, ◌∙◌, ◌+◌, ◌-◌, ◌≤◌, ◌^◌, ◌++◌, ◌∷◌, [], Some, length, slice_get, refl, sym, ap, subst₂, rules}
 use Rattle.idl_event.proofs.SitesLemmas.{line-run, push-run, stretch-more}
 use Rattle.idl_event.specs.Apart.{sites_at}
 use Rattle.idl_event.specs.Sites.{AreKept, in_stretch, sites_of}
