@@ -6,7 +6,7 @@ use Rattle.std.specs.Map.{lookup}
 use Rattle.std.specs.Str.{bytes_eq}
 use Rattle.idl_memo.specs.Progress.{after_item, after_key}
 use Rattle.idl_memo.specs.Query.{Done, Ask, noted, outcome}
-use Rattle.idl_event.proofs.AfterLemmas.{after-token, with_tokens}
+use Rattle.idl_event.proofs.AfterLemmas.{after-token}
 use Rattle.idl_event.specs.Expanding.{Expanding, Reached, after_tokens, arrival, arrived, reached}
 use Rattle.idl_event.specs.Items.{rules, tokens_left}
 use Rattle.idl_event.specs.Key.{key_eq}
@@ -36,7 +36,7 @@ next-token zero (x ∷ xs) t rest e = (omega arith, ap (drop 1) e, ap (take 1) e
 next-token (suc n) [] t rest e = cc
 next-token (suc n) (x ∷ xs) t rest e =
     let behind = next-token n xs t rest e in
-    (omega (arith, behind.0), behind.1.0, ap (λ l. x ∷ l) behind.1.1)
+    (omega (arith, behind.0), behind.1, ap (λ l. x ∷ l) behind.2)
 
 module _ (place : Place) where
   -- a token more, behind the others
@@ -73,7 +73,7 @@ module _ (place : Place) where
       -- so is a macro
       said-passes : (word : List ℕ) (said : Option (Option (List Token)))
           → Passes (reached bank (elim said [ None ↦ Ask (key.Macro word) (λ found. Done (body_in found)) | Some body ↦ Done body ]))
-      said-passes word None = key-passes (key.Macro word)
+      said-passes word None t p left n going le = key-passes (key.Macro word) t p left n going le
       said-passes word (Some body) t p left n going le = refl
 
       macro-passes : (word : List ℕ) → Passes (reached bank (macro_of definitions word))
@@ -82,7 +82,7 @@ module _ (place : Place) where
 
       -- and the body of a token
       if-passes : (word : List ℕ) (c : Bool) → Passes (reached bank (if c then macro_of definitions word else Done None))
-      if-passes word true = macro-passes word
+      if-passes word true t p left n going le = macro-passes word t p left n going le
       if-passes word false t p left n going le = refl
 
       replacement-passes : (word : Token) → Passes (reached bank (replacement definitions [] word))
@@ -145,7 +145,7 @@ module _ (bank : Key → Option Answer) (file : List ℕ) (definitions : Definit
 -- so many of these tokens were passed by, which are still to be told
 pub record ArePassed (bank : Key → Option Answer) (definitions : Definitions) (place : Place) (tokens left : List PlacedToken) (count : ℕ) (begun p : Reached) : Type 0 where
   pub plain : reached bank (text place.file definitions tokens) begun ≡ reached bank (text place.file definitions left) (after_tokens place (tokens_in (take count tokens)) p)
-  pub left : left ≡ drop count tokens
+  pub are_left : left ≡ drop count tokens
   pub within : count ≤ length tokens
   pub room : length tokens ≤ tokens_left p.left
 
@@ -161,7 +161,7 @@ module _ (bank : Key → Option Answer) (definitions : Definitions) (place : Pla
   passed-stop = record {
     within = passed.within;
     room = omega (arith, passed.within, passed.room);
-    plain = passed.plain ∙ ap (λ ts. reached bank (text place.file definitions ts) (after_tokens place (tokens_in (take count tokens)) p)) passed.left;
+    plain = passed.plain ∙ ap (λ ts. reached bank (text place.file definitions ts) (after_tokens place (tokens_in (take count tokens)) p)) passed.are_left;
   }
 
   front-long : length (tokens_in (take count tokens)) ≡ count
@@ -182,16 +182,16 @@ module _ (bank : Key → Option Answer) (definitions : Definitions) (place : Pla
               passed.plain
               ∙ ap (λ ts. reached bank (text place.file definitions ts) (after_tokens place front p)) first
               ∙ asked-first bank place.file definitions place t rest front p q le asked
-              ∙ ap (λ ts. reached bank (text place.file definitions ts) (after_tokens place front q)) (sym first ∙ passed.left);
+              ∙ ap (λ ts. reached bank (text place.file definitions ts) (after_tokens place front q)) (sym first ∙ passed.are_left);
         }
 
     -- the next one stands for itself
     pub passed-next : place ≡ place_at place.file t → arrived None q ≡ arrival bank (replacement definitions [] t.token) p → ArePassed bank definitions place tokens rest (count + 1) begun q
     passed-next here asked =
         let front = tokens_in (take count tokens) in
-        let next = next-token count tokens t rest (sym passed.left ∙ first) in
+        let next = next-token count tokens t rest (sym passed.are_left ∙ first) in
         let same : q.left ≡ p.left = ap (λ (r : Reached × Option (Option (List Token))). r.0.left) asked ∙ left-replacement bank definitions [] t.token p in
-        let more : tokens_in (take (count + 1) tokens) ≡ front ++ t.token ∷ [] = ap tokens_in next.1.1 ∙ map-append (λ (t : PlacedToken). t.token) (take count tokens) (t ∷ []) in
+        let more : tokens_in (take (count + 1) tokens) ≡ front ++ t.token ∷ [] = ap tokens_in next.2 ∙ map-append (λ (t : PlacedToken). t.token) (take count tokens) (t ∷ []) in
         let few : suc count ≤ tokens_left p.left = omega (arith, next.0, passed.room) in
         let le : suc (length front) ≤ tokens_left p.left = subst (λ n. suc n ≤ tokens_left p.left) (sym front-long) few in
         record {
@@ -200,7 +200,7 @@ module _ (bank : Key → Option Answer) (definitions : Definitions) (place : Pla
               ∙ ap (λ ts. reached bank (text place.file definitions ts) (after_tokens place front p)) first
               ∙ plain-first bank place.file definitions place t rest front p q here le asked
               ∙ ap (λ ts. reached bank (text place.file definitions rest) (after_tokens place ts q)) (sym more);
-          left = sym next.1.0;
+          are_left = sym next.1;
           within = omega (arith, next.0);
           room = subst (λ (o : Option Allowance). length tokens ≤ tokens_left o) (sym same) passed.room;
         }
