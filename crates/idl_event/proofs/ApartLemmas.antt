@@ -1,10 +1,10 @@
 -- Events whose tokens stand apart: one more, and the walk over them.
-use Rattle.std.proofs.Common.{◌≡◌, ◌≢◌, ◌∙◌, ℕ, zero, suc, ◌+◌, ◌-◌, ◌<◌, ◌≤◌, List, [], ◌∷◌, ◌++◌, None, Some, slice_get, length, drop, refl, sym, ap, subst, arith, append_assoc, append-nil}
+use Rattle.std.proofs.Common.{◌≡◌, ◌≢◌, ◌∙◌, ℕ, zero, suc, ◌+◌, ◌-◌, ◌<◌, ◌≤◌, List, [], ◌∷◌, ◌++◌, None, Some, slice_get, length, drop, map, refl, sym, ap, subst, subst₂, arith, append_assoc, append-nil}
 use Rattle.std.specs.Prelude.{flat_map}
 use Rattle.std.specs.List.{enumerate_from, fold}
-use Rattle.std.proofs.lemmas.List.{drop_at, drop-drop, take_at}
+use Rattle.std.proofs.lemmas.List.{drop_at, drop-drop, length-append, take_at}
 use Rattle.std.proofs.lemmas.List.Sums.{fold-append}
-use Rattle.idl_event.specs.Apart.{AreApart, ArePassed, Numbered, StandApart, TokensFirst, emitted, events_from, other_in, others_in, place_in, site_at, site_in, sites_in, token_in, tokens_in, with_event, woven}
+use Rattle.idl_event.specs.Apart.{AreApart, ArePassed, Numbered, StandApart, TokensFirst, emitted, events_from, other_in, others_in, place_in, site_at, site_in, sites_at, sites_in, token_in, tokens_in, with_event, woven}
 use Rattle.idl_event.specs.declared.event.Event.{Event}
 use Rattle.idl_event.specs.declared.event.Event.TheVariants as event
 use Rattle.idl_event.specs.declared.place.Place.{Place}
@@ -99,6 +99,31 @@ woven-token sites tokens others n place token s is =
             ∙ sym (append_assoc events (e ∷ []) more)
             ∙ ap (λ es. es ++ more) (sym put);
       },
+    )
+
+-- tokens at one place put last
+pub woven-tokens : (sites : List Site) (tokens : List Token) (others : List Numbered) (n : ℕ) (place : Place) (more : List Token) → StandApart sites tokens others
+    → n ≡ length sites + length others
+    → (woven (sites ++ sites_at n place (length more)) (tokens ++ more) others ≡ woven sites tokens others ++ map (event.Emitted place) more)
+    × StandApart (sites ++ sites_at n place (length more)) (tokens ++ more) others
+woven-tokens sites tokens others n place [] s is =
+    let ss = append-nil sites in
+    let ts = append-nil tokens in (
+      (λ j. woven (ss j) (ts j) others) ∙ sym (append-nil (woven sites tokens others)),
+      subst₂ (λ a b. StandApart a b others) (sym ss) (sym ts) s,
+    )
+woven-tokens sites tokens others n place (t ∷ more) s is =
+    let site = site_at n place in
+    let one = woven-token sites tokens others n place t s is in
+    let longer : n + 1 ≡ length (sites ++ site ∷ []) + length others = omega (arith, is, length-append sites (site ∷ [])) in
+    let rest = woven-tokens (sites ++ site ∷ []) (tokens ++ t ∷ []) others (n + 1) place more one.1 longer in
+    let ss = append_assoc sites (site ∷ []) (sites_at (n + 1) place (length more)) in
+    let ts = append_assoc tokens (t ∷ []) more in (
+      sym (λ j. woven (ss j) (ts j) others)
+          ∙ rest.0
+          ∙ ap (λ es. es ++ map (event.Emitted place) more) one.0
+          ∙ append_assoc (woven sites tokens others) (event.Emitted place t ∷ []) (map (event.Emitted place) more),
+      subst₂ (λ a b. StandApart a b others) ss ts rest.1,
     )
 
 with_event-last : (events more : List Event) (n : ℕ) (e : Event) → length events ≡ n → with_event (events ++ more) (n, e) ≡ (events ++ e ∷ []) ++ more

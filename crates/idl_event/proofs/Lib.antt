@@ -1,3 +1,4 @@
+pub mod AfterLemmas
 pub mod ApartLemmas
 pub mod LogLemmas
 pub mod SitesLemmas

@@ -1,13 +1,14 @@
 -- The sites of tokens that are kept by lines and stretches: the one with a number, and one more.
-use Rattle.std.proofs.Common.{◌≡◌, ◌∙◌, ◌⊎◌, inl, inr, ℕ, zero, suc, ◌+◌, ◌-◌, ◌<◌, ◌≤◌, ◌^◌, Bool, true, false, Bor, List, [], ◌∷◌, ◌++◌, Option, None, Some, leb, get_or, slice_get, length, refl, sym, ap, arith, if◌then◌else◌}
+use Rattle.std.proofs.Common.{◌≡◌, ◌∙◌, ◌⊎◌, inl, inr, ℕ, zero, suc, ◌+◌, ◌-◌, ◌<◌, ◌≤◌, ◌^◌, Bool, true, false, Bor, List, [], ◌∷◌, ◌++◌, Option, None, Some, leb, get_or, slice_get, length, refl, sym, ap, subst, arith, append-nil, append_assoc, if◌then◌else◌}
 use Rattle.std.proofs.lemmas.Bool.{leb-false, leb-true}
 use Rattle.std.proofs.lemmas.Option.{slice_get_past, slice_get_read, slice_get_within}
 use Rattle.std.specs.List.{AllByRecursion, AllWithin}
 use Rattle.std.specs.List.Sorted.{IsNonDecreasingBy}
 use Rattle.std.specs.Option.{option_copied, option_map, unwrap_or}
 use Rattle.std.specs.Slice.{IsItemAt}
-use Rattle.idl_event.specs.Apart.{site_at}
+use Rattle.idl_event.specs.Apart.{site_at, sites_at}
 use Rattle.idl_event.specs.Sites.{AreBefore, AreKept, Rise, found, in_stretch, site_in, sites_of, spot_at}
+use Rattle.idl_event.specs.declared.place.Place.{Place}
 use Rattle.idl_event.specs.declared.site.Site.{Site}
 use Rattle.idl_event.specs.declared.sites.Spot.{Spot}
 use Rattle.idl_event.specs.declared.sites.Stretch.{Stretch}
@@ -280,3 +281,64 @@ push-line st more spots n kept spot s first is few =
     let all = stretch-more st more spots n kept in
     let pushed = line-more (st ++ more) spots n all.0 spot s first is few in
     (pushed.0, pushed.1 ∙ ap (λ l. l ++ site_at (length l + s.others) (record { file = s.file; line = spot.line }) ∷ []) all.1)
+
+-- so many more on the same line
+pub push-run : (st : List Stretch) (spots : List Spot) (n : ℕ) → AreKept st spots n → (place : Place) (others k : ℕ)
+    → in_stretch st (slice_get spots (length spots - 1)) ≡ Some (place.line, record { file = place.file; others = others }) → n + k ≤ 2 ^ 32
+    → AreKept st spots (n + k) × (sites_of st spots (n + k) ≡ sites_of st spots n ++ sites_at (length (sites_of st spots n) + others) place k)
+push-run st spots n kept place others zero is few =
+    let none : n + 0 ≡ n = omega arith in
+    (subst (AreKept st spots) (sym none) kept, ap (sites_of st spots) none ∙ sym (append-nil (sites_of st spots n)))
+push-run st spots n kept place others (suc k) is few =
+    let s : Stretch = record { file = place.file; others = others } in
+    let front = sites_of st spots n in
+    let one = push-on st spots n kept place.line s is (omega (arith, few)) in
+    let rest = push-run st spots (n + 1) one.0 place others k is (omega (arith, few)) in
+    let e : n + suc k ≡ n + 1 + k = omega arith in
+    let behind : length front + 1 + others ≡ length front + others + 1 = omega arith in
+    let suc_is : suc (length front) ≡ length front + 1 = omega arith in
+    let long : length (sites_of st spots (n + 1)) + others ≡ length front + others + 1 =
+    ap (λ (l : List Site). length l + others) one.1
+    ∙ ap (λ j. j + others) (longer front (site_at (length front + others) place) ∙ suc_is)
+    ∙ behind in (
+      subst (AreKept st spots) (sym e) rest.0,
+      ap (sites_of st spots) e
+          ∙ rest.1
+          ∙ ap (λ l. l ++ sites_at (length (sites_of st spots (n + 1)) + others) place k) one.1
+          ∙ append_assoc front (site_at (length front + others) place ∷ []) (sites_at (length (sites_of st spots (n + 1)) + others) place k)
+          ∙ ap (λ j. front ++ site_at (length front + others) place ∷ sites_at j place k) long,
+    )
+
+-- and on another, in one of these stretches
+pub line-run : (st more : List Stretch) (spots : List Spot) (n : ℕ) → AreKept st spots n → (place : Place) (others stretch k : ℕ)
+    → slice_get (st ++ more) stretch ≡ Some (record { file = place.file; others = others }) → 0 < k → n + k ≤ 2 ^ 32
+    → let spot : Spot = record { first = n; line = place.line; stretch = stretch } in
+    AreKept (st ++ more) (spots ++ spot ∷ []) (n + k)
+    × (sites_of (st ++ more) (spots ++ spot ∷ []) (n + k) ≡ sites_of st spots n ++ sites_at (length (sites_of st spots n) + others) place k)
+line-run st more spots n kept place others stretch zero is some few = absurd (omega (arith, some))
+line-run st more spots n kept place others stretch (suc k) is some few =
+    let s : Stretch = record { file = place.file; others = others } in
+    let spot : Spot = record { first = n; line = place.line; stretch = stretch } in
+    let front = sites_of st spots n in
+    let all = spots ++ spot ∷ [] in
+    let one = push-line st more spots n kept spot s refl is (omega (arith, few)) in
+    let end : length all - 1 ≡ length spots = omega (arith, longer spots spot) in
+    let last : in_stretch (st ++ more) (slice_get all (length all - 1)) ≡ Some (place.line, s) =
+    ap (λ i. in_stretch (st ++ more) (slice_get all i)) end
+    ∙ ap (in_stretch (st ++ more)) (slice_get-last spots spot)
+    ∙ ap (option_map (λ (s : Stretch). (place.line, s))) is in
+    let rest = push-run (st ++ more) all (n + 1) one.0 place others k last (omega (arith, few)) in
+    let e : n + suc k ≡ n + 1 + k = omega arith in
+    let behind : length front + 1 + others ≡ length front + others + 1 = omega arith in
+    let suc_is : suc (length front) ≡ length front + 1 = omega arith in
+    let long : length (sites_of (st ++ more) all (n + 1)) + others ≡ length front + others + 1 =
+    ap (λ (l : List Site). length l + others) one.1
+    ∙ ap (λ j. j + others) (longer front (site_at (length front + others) place) ∙ suc_is)
+    ∙ behind in (
+      subst (AreKept (st ++ more) all) (sym e) rest.0,
+      ap (sites_of (st ++ more) all) e
+          ∙ rest.1
+          ∙ ap (λ l. l ++ sites_at (length (sites_of (st ++ more) all (n + 1)) + others) place k) one.1
+          ∙ append_assoc front (site_at (length front + others) place ∷ []) (sites_at (length (sites_of (st ++ more) all (n + 1)) + others) place k)
+          ∙ ap (λ j. front ++ site_at (length front + others) place ∷ sites_at j place k) long,
+    )

@@ -1,5 +1,5 @@
 -- The events of a root, where the tokens of its text stand apart from the others.
-use Rattle.std.specs.Prelude.{◌≡◌, ℕ, ◌+◌, ◌≤◌, List, [], ◌∷◌, ◌++◌, drop, flat_map, length, take}
+use Rattle.std.specs.Prelude.{◌≡◌, ℕ, zero, suc, ◌+◌, ◌≤◌, List, [], ◌∷◌, ◌++◌, drop, flat_map, length, take}
 use Rattle.std.specs.List.{enumerate_from, fold}
 use Rattle.idl_event.specs.declared.event.Event.{Event}
 use Rattle.idl_event.specs.declared.event.Event.TheVariants as event
@@ -13,6 +13,11 @@ Numbered = ℕ × Event
 
 abbrev pub site_at : ℕ → Place → Site
 site_at n place = record { file = place.file; line = place.line; event = n }
+
+-- so many sites at one place, whose events come one after the other
+abbrev pub sites_at : ℕ → Place → ℕ → List Site
+sites_at n place zero = []
+sites_at n place (suc count) = site_at n place ∷ sites_at (n + 1) place count
 
 abbrev pub place_in : Site → Place
 place_in site = record { file = site.file; line = site.line }

@@ -85,3 +85,8 @@ beginning log = record { kept = []; left = Some whole_allowance; log = log }
 abbrev pub turns_left : Option Allowance → ℕ
 turns_left None = 0
 turns_left (Some left) = left.turns
+
+-- the tokens that are left
+abbrev pub tokens_left : Option Allowance → ℕ
+tokens_left None = 0
+tokens_left (Some left) = left.tokens

@@ -1,13 +1,14 @@
 //! The events of a root while it is expanded.
 
-ghost use Rattle.std.specs.Prelude.{◌≡◌, ◌++◌, ◌∷◌, [], IfOk, OnOk};
+ghost use Rattle.std.specs.Prelude.{◌≡◌, ◌<◌, ◌++◌, ◌∷◌, [], IfOk, OnErr, OnOk, length, map};
 ghost use Rattle.idl_event.specs.declared.event.Event.TheVariants.{Emitted};
+ghost use Rattle.idl_lex.specs.Tokens.{tokens_in};
 
 use crate::event::Event;
 use crate::expansion::Expansion;
 use crate::place::Place;
 use crate::sites::Sites;
-use idl_lex::Token;
+use idl_lex::{PlacedToken, Token};
 use std::alloc::{AllocError, Global};
 use std::marker::Model;
 use std::rc::Rc;
@@ -63,6 +64,23 @@ impl ExpansionBuilder {
         Ok(())
     }
 
+    /// Tokens of the text more, all at one place.
+    pub fn push_tokens(&mut self, place: Place, tokens: &[PlacedToken]) -> Result<(), AllocError>
+        requires some { 0 < length tokens.now }
+        ensures { OnOk result
+            (self.new ≡ self.old ++ map (Emitted place) (tokens_in tokens.now)) }
+    {
+        let before = self.text.len();
+        push_clones(&mut self.text, tokens)?;
+        match self.sites.push_run(place, self.others.len(), tokens.len()) {
+            Ok(()) => Ok(()),
+            Err(error) => {
+                self.text.truncate(before);
+                Err(error)
+            }
+        }
+    }
+
     /// An event more.
     pub fn push(&mut self, event: Event) -> Result<(), AllocError>
         ensures { OnOk result (self.new ≡ self.old ++ event ∷ []) }
@@ -87,4 +105,23 @@ impl ExpansionBuilder {
         let sites = Rc::new(alloc, self.sites)?;
         Ok(Expansion::from_parts(text, sites, self.others))
     }
+}
+
+// Copies of these tokens go behind the text.
+fn push_clones(text: &mut Vec<Token>, tokens: &[PlacedToken]) -> Result<(), AllocError>
+    ensures ok { OnOk result (text.new.items ≡ text.old.items ++ tokens_in tokens.now) }
+    ensures err { OnErr result (text.new.items ≡ text.old.items) }
+{
+    let before = text.len();
+    text.reserve(tokens.len())?;
+    'tokens: for placed in tokens {
+        match placed.token.clone() {
+            Ok(token) => text.push_reserved(token),
+            Err(error) => {
+                text.truncate(before);
+                return Err(error);
+            }
+        }
+    }
+    Ok(())
 }

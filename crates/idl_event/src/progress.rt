@@ -1,14 +1,16 @@
 //! How far the expansion of a root has come.
 
-ghost use Rattle.std.specs.Prelude.{◌≡◌, ◌↔◌, ◌++◌, ◌≤◌, [], None, Some, IfOk, OnOk, IsTrue};
+ghost use Rattle.std.specs.Prelude.{◌≡◌, ◌↔◌, ◌++◌, ◌<◌, ◌≤◌, [], None, Some, IfOk, OnOk, IsTrue, length};
 ghost use Rattle.std.specs.Option.{option_copied, option_to_list};
 ghost use Rattle.idl_memo.specs.Progress.{after_item, after_key};
-ghost use Rattle.idl_event.specs.Items.{event_of, rules, turns_left, beginning};
+ghost use Rattle.idl_event.specs.Items.{event_of, rules, tokens_left, turns_left, beginning};
+ghost use Rattle.idl_event.specs.Expanding.{after_tokens};
 ghost use Rattle.idl_event.specs.Key.{key_eq};
 ghost use Rattle.idl_event.specs.Limits.{turns_at_most};
 ghost use Rattle.idl_event.specs.declared.event.Event.TheVariants.{Emitted};
 ghost use Rattle.idl_event.specs.declared.event.Item.TheVariants.{Kept};
 ghost use Rattle.idl_event.specs.declared.key.Key.TheVariants.{Macro};
+ghost use Rattle.idl_lex.specs.Tokens.{tokens_in};
 
 use crate::allowance::Allowance;
 use crate::builder::ExpansionBuilder;
@@ -18,7 +20,7 @@ use crate::hinted_log::HintedLog;
 use crate::key::{Answer, Key};
 use crate::place::Place;
 use crate::root_bank::RootBank;
-use idl_lex::{Spelling, Token};
+use idl_lex::{PlacedToken, Spelling, Token};
 use idl_memo::{Bank, Log};
 use std::alloc::{AllocError, Global};
 use std::marker::Model;
@@ -117,6 +119,32 @@ impl<B: RootBank> Progress<B> {
             Some(_) => self.kept.push_token(place, token),
             None => self.kept.push(Event::Fault(place, Code::PastLimit, None)),
         }
+    }
+
+    /// How many tokens the limits leave.
+    pub fn tokens_left(&self) -> usize
+        ensures { result ≡ tokens_left self.now.left }
+    {
+        match self.left {
+            Some(left) => left.tokens,
+            None => 0,
+        }
+    }
+
+    /// Tokens of the text more, all at one place, where the limits leave as many: the same as `emit` with each, at less cost.
+    pub fn emit_all(&mut self, place: Place, tokens: &[PlacedToken]) -> Result<(), AllocError>
+        requires some { 0 < length tokens.now }
+        requires room { length tokens.now ≤ tokens_left self.old.left }
+        ensures { OnOk result (self.new ≡ after_tokens place (tokens_in tokens.now) self.old) }
+    {
+        let Some(left) = self.left else {
+            return Ok(());
+        };
+        self.left = Some(Allowance {
+            turns: left.turns,
+            tokens: left.tokens - tokens.len(),
+        });
+        self.kept.push_tokens(place, tokens)
     }
 
     /// The bank's answer at a key, which is logged.

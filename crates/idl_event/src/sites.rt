@@ -2,7 +2,7 @@
 
 ghost use Rattle.std.specs.Prelude.{◌≡◌, ◌++◌, ◌∷◌, ◌+◌, ◌-◌, ◌<◌, ◌^◌, List, [], IfNone, IfOk, IfSome, IsTrue, None, OnErr, OnOk, Some, length, slice_get};
 ghost use Rattle.std.specs.Option.{option_copied, option_map};
-ghost use Rattle.idl_event.specs.Apart.{site_at};
+ghost use Rattle.idl_event.specs.Apart.{site_at, sites_at};
 ghost use Rattle.idl_event.specs.Sites.{Rise, StandsAt, found, in_stretch, spot_at};
 ghost use Rattle.idl_event.specs.declared.sites.Stretch.{Stretch};
 
@@ -23,6 +23,9 @@ pub struct Sites {
     // How many tokens there are.
     count: usize,
 }
+
+// So many tokens there are at most.
+const MOST: usize = 4_294_967_296;
 
 /// Tokens of one line: the number of the first of them, the line, and the number of their stretch.
 #[derive(Clone, Copy)]
@@ -80,11 +83,24 @@ impl Sites {
             (self.new ≡ self.old ++ site_at (length self.old + others) place ∷ []) }
         ensures kept { OnErr result (self.new ≡ self.old) }
     {
+        self.push_run(place, others, 1)
+    }
+
+    /// The sites of so many tokens more, one behind the other at one place.
+    pub fn push_run(&mut self, place: Place, others: usize, count: usize) -> Result<(), AllocError>
+        requires some { 0 < count }
+        ensures more { OnOk result
+            (self.new ≡ self.old ++ sites_at (length self.old + others) place count) }
+        ensures kept { OnErr result (self.new ≡ self.old) }
+    {
         let Ok(first) = u32::try_from(self.count) else {
             return Err(AllocError);
         };
+        if count > MOST - self.count {
+            return Err(AllocError);
+        }
         if goes_on(&self.spots, &self.stretches, &place, others) {
-            self.count += 1;
+            self.count += count;
             return Ok(());
         }
         let Place { file, line } = place;
@@ -94,7 +110,7 @@ impl Sites {
             line,
             stretch,
         })?;
-        self.count += 1;
+        self.count += count;
         Ok(())
     }
 

@@ -6,5 +6,6 @@ pub mod DirectiveLemmas
 pub mod MacroLemmas
 pub mod MarkLemmas
 pub mod OutputLemmas
+pub mod PlainLemmas
 pub mod ReplaceLemmas
 pub mod RoomLemmas

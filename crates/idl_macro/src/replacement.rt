@@ -3,14 +3,14 @@
 //! Replacements that stand in one another are kept on a stack of their own, so that no depth of
 //! them is too much.
 
-ghost use Rattle.std.specs.Prelude.{◌≡◌, ◌≢◌, ◌<◌, ◌∷◌, [], ℕ, List, Option, None, IfOk, OnOk, is_some, reverse};
+ghost use Rattle.std.specs.Prelude.{◌≡◌, ◌≢◌, ◌<◌, ◌≤◌, ◌∷◌, [], ℕ, List, Option, None, IfOk, OnOk, drop, is_some, length, reverse, take};
 ghost use Rattle.std.specs.Map.{keys_of, lookup};
 ghost use Rattle.std.specs.Option.{option_copied, option_map};
 ghost use Rattle.std.specs.Str.{bytes_eq};
 ghost use Rattle.idl_memo.specs.Progress.{after_item};
 ghost use Rattle.idl_memo.specs.Query.{outcome};
-ghost use Rattle.idl_event.specs.Expanding.{Reached, arrival, arrived, reached};
-ghost use Rattle.idl_event.specs.Items.{rules, turns_left};
+ghost use Rattle.idl_event.specs.Expanding.{Reached, after_tokens, arrival, arrived, reached};
+ghost use Rattle.idl_event.specs.Items.{rules, tokens_left, turns_left};
 ghost use Rattle.idl_lex.specs.Tokens.{Token, tokens_in};
 ghost use Rattle.idl_macro.specs.Output.{given, given_more, item_of};
 ghost use Rattle.idl_macro.specs.declared.replacement.Output.TheVariants.{Text};
@@ -32,7 +32,8 @@ pub enum Output {
     Operand(Vec<Token>),
 }
 
-/// The tokens of a text are replaced, each at its own place, and emitted.
+/// The tokens of a text are replaced, each at its own place, and emitted. Most stand for themselves: those of a line are emitted
+/// at once, and a replacement begins only where there is a macro.
 #[tactic(auto, unfolding(crate::specs::Replace::text))]
 pub fn replace_text<B: RootBank>(
     macros: &Macros<'_, B>,
@@ -45,37 +46,61 @@ pub fn replace_text<B: RootBank>(
         (text file.now macros.now.definitions.now tokens.now) progress.old) }
 {
     let mut left = tokens.copied();
-    'tokens: while let Some((token, rest)) = left.split_first() {
+    'tokens: while let Some((first, rest)) = left.split_first() {
         let place = Place {
             file: file.clone()?,
-            line: token.line(),
+            line: first.line(),
         };
-        replace_one(macros, place, token.placed(), progress)?;
-        left = rest;
+        let count = count_plain(macros, &place, &left, progress)?;
+        if count == 0 {
+            let first = TokensAt {
+                place: &place,
+                tokens: from_ref(first.placed()),
+            };
+            replace(macros, first, progress, &mut Output::Text)?;
+            left = rest;
+            continue;
+        }
+        let (plain, behind) = left.split_at(count);
+        progress.emit_all(place, plain.as_slice())?;
+        left = behind;
     }
     Ok(())
 }
 
-// A token of a text is replaced at its place, and emitted. Most stand for themselves: no replacement is begun for those.
-fn replace_one<B: RootBank>(
+// How many tokens come first at a place that stand for themselves, where the limits leave as many as there are: these are to
+// be emitted. Their macros were asked for, and so may that of the next one be.
+fn count_plain<B: RootBank>(
     macros: &Macros<'_, B>,
-    place: Place,
-    placed: &PlacedToken,
+    place: &Place,
+    tokens: &FileTokens<'_>,
     progress: &mut Progress<B>,
-) -> Result<(), AllocError>
-    ensures { OnOk result (progress.new
-        ≡ reached (B.at macros.now.bank.now)
-        (replaced_at (item_of Text place) place macros.now.definitions.now
-        (placed.now.token ∷ [])) progress.old) }
+) -> Result<usize, AllocError>
+    ensures within { IfOk result (λ count. count ≤ length tokens.now) }
+    ensures room { IfOk result (λ count. count ≤ tokens_left progress.new.left) }
+    ensures plain { let bank = B.at macros.now.bank.now in
+        let definitions = macros.now.definitions.now in let at = place.now in
+        IfOk result (λ count.
+        reached bank (text at.file definitions tokens.now) progress.old
+        ≡ reached bank (text at.file definitions (drop count tokens.now))
+        (after_tokens at (tokens_in (take count tokens.now)) progress.new)) }
 {
-    if body_of(macros, &placed.token, progress)?.is_some() {
-        let tokens = TokensAt {
-            place: &place,
-            tokens: from_ref(placed),
-        };
-        return replace(macros, tokens, progress, &mut Output::Text);
+    if progress.tokens_left() < tokens.len() {
+        return Ok(0);
     }
-    progress.emit(place, &placed.token)
+    let mut count = 0;
+    let mut left = tokens.copied();
+    'tokens: while let Some((token, rest)) = left.split_first() {
+        if token.line() != place.line {
+            return Ok(count);
+        }
+        if body_of(macros, token.token(), progress)?.is_some() {
+            return Ok(count);
+        }
+        count += 1;
+        left = rest;
+    }
+    Ok(count)
 }
 
 // The body that a token in no replacement is replaced by: its macro's, if it is a word.

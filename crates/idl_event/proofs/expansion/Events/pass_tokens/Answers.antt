@@ -1,6 +1,5 @@
-use Rattle.std.proofs.Common.{◌≡◌, ◌≢◌, ◌∙◌, ℕ, ◌+◌, ◌-◌, ◌<◌, ◌≤◌, Some, length, slice_get, sym, arith, subst, rules}
+use Rattle.std.proofs.Common.{◌+◌, ◌-◌, ◌≤◌, length, arith, subst, rules}
 use Rattle.idl_event.specs.Apart.{TokensFirst, events_from, woven}
-use Rattle.idl_event.specs.declared.event.Event.{Event}
 use Rattle.idl_event.proofs.ApartLemmas.{passed-tokens}
 use Rattle.idl_event.proofs.expansion.Events.pass_tokens.Goals as goal
 

@@ -1,27 +1,27 @@
-use Rattle.std.proofs.Common.{◌≡◌, ◌∙◌, ◌+◌, ◌-◌, ◌<◌, ◌^◌, ◌++◌, ◌∷◌, [], Some, length, slice_get, refl, sym, ap, subst₂, rules}
-use Rattle.idl_event.proofs.SitesLemmas.{push-line, push-on, stretch-more}
-use Rattle.idl_event.specs.Apart.{site_at}
+use Rattle.std.proofs.Common.{◌≡◌, ◌∙◌, ◌+◌, ◌-◌, ◌≤◌, ◌^◌, ◌++◌, ◌∷◌, [], Some, length, slice_get, refl, sym, ap, subst₂, rules}
+use Rattle.idl_event.proofs.SitesLemmas.{line-run, push-run, stretch-more}
+use Rattle.idl_event.specs.Apart.{sites_at}
 use Rattle.idl_event.specs.Sites.{AreKept, in_stretch, sites_of}
 use Rattle.idl_event.specs.declared.sites.Spot.{Spot}
 use Rattle.idl_event.specs.declared.sites.Stretch.{Stretch}
-use Rattle.idl_event.proofs.sites.Sites.push.Goals as goal
+use Rattle.idl_event.proofs.sites.Sites.push_run.Goals as goal
 
 pub invariant_of-self : goal.invariant_of-self
 invariant_of-self c =
     let b = c.self.inside in
     let s : Stretch = record { file = c.args.place.file; others = c.args.others } in
     let is : in_stretch b.stretches.items (slice_get b.spots.items (length b.spots.items - 1)) ≡ Some (c.args.place.line, s) = search rules in
-    let few : b.count < 2 ^ 32 = search rules in
-    (push-on b.stretches.items b.spots.items b.count c.self.invariant c.args.place.line s is few).0
+    let few : b.count + c.args.count ≤ 2 ^ 32 = search rules in
+    (push-run b.stretches.items b.spots.items b.count c.self.invariant c.args.place c.args.others c.args.count is few).0
 
 pub returns-then-goes_on-clause-more : goal.returns-then-goes_on-clause-more
 returns-then-goes_on-clause-more c =
     let b = c.self.inside in
     let s : Stretch = record { file = c.args.place.file; others = c.args.others } in
     let is : in_stretch b.stretches.items (slice_get b.spots.items (length b.spots.items - 1)) ≡ Some (c.args.place.line, s) = search rules in
-    let few : b.count < 2 ^ 32 = search rules in
-    (push-on b.stretches.items b.spots.items b.count c.self.invariant c.args.place.line s is few).1
-    ∙ ap (λ l. l ++ site_at (length l + c.args.others) c.args.place ∷ []) c.self.view_is
+    let few : b.count + c.args.count ≤ 2 ^ 32 = search rules in
+    (push-run b.stretches.items b.spots.items b.count c.self.invariant c.args.place c.args.others c.args.count is few).1
+    ∙ ap (λ l. l ++ sites_at (length l + c.args.others) c.args.place c.args.count) c.self.view_is
 
 pub invariant_of-self-in_err-stretch : goal.invariant_of-self-in_err-stretch
 invariant_of-self-in_err-stretch c =
@@ -64,9 +64,11 @@ invariant_of-self-2 c =
     let more = c.stretch_of.ensures.more in
     let there : slice_get c.stretch_of.new.stretches.items spot.stretch ≡ Some s = search rules in
     let spots : c.push.new.self.items ≡ b.spots.items ++ spot ∷ [] = search rules in
-    let few : b.count < 2 ^ 32 = search rules in
+    let some = c.requires.some in
+    let few : b.count + c.args.count ≤ 2 ^ 32 = search rules in
     let is : slice_get (b.stretches.items ++ more.0) spot.stretch ≡ Some s = sym (ap (λ l. slice_get l spot.stretch) more.1) ∙ there in
-    subst₂ (λ l m. AreKept l m (b.count + 1)) (sym more.1) (sym spots) (push-line b.stretches.items more.0 b.spots.items b.count c.self.invariant spot s refl is few).0
+    subst₂ (λ l m. AreKept l m (b.count + c.args.count)) (sym more.1) (sym spots)
+    (line-run b.stretches.items more.0 b.spots.items b.count c.self.invariant c.args.place c.args.others spot.stretch c.args.count is some few).0
 
 pub returns-clause-more : goal.returns-clause-more
 returns-clause-more c =
@@ -76,9 +78,10 @@ returns-clause-more c =
     let more = c.stretch_of.ensures.more in
     let there : slice_get c.stretch_of.new.stretches.items spot.stretch ≡ Some s = search rules in
     let spots : c.push.new.self.items ≡ b.spots.items ++ spot ∷ [] = search rules in
-    let few : b.count < 2 ^ 32 = search rules in
+    let some = c.requires.some in
+    let few : b.count + c.args.count ≤ 2 ^ 32 = search rules in
     let is : slice_get (b.stretches.items ++ more.0) spot.stretch ≡ Some s = sym (ap (λ l. slice_get l spot.stretch) more.1) ∙ there in
-    ap (λ l. sites_of l c.push.new.self.items (b.count + 1)) more.1
-    ∙ ap (λ l. sites_of (b.stretches.items ++ more.0) l (b.count + 1)) spots
-    ∙ (push-line b.stretches.items more.0 b.spots.items b.count c.self.invariant spot s refl is few).1
-    ∙ ap (λ l. l ++ site_at (length l + c.args.others) c.args.place ∷ []) c.self.view_is
+    ap (λ l. sites_of l c.push.new.self.items (b.count + c.args.count)) more.1
+    ∙ ap (λ l. sites_of (b.stretches.items ++ more.0) l (b.count + c.args.count)) spots
+    ∙ (line-run b.stretches.items more.0 b.spots.items b.count c.self.invariant c.args.place c.args.others spot.stretch c.args.count is some few).1
+    ∙ ap (λ l. l ++ sites_at (length l + c.args.others) c.args.place c.args.count) c.self.view_is
