@@ -7,7 +7,7 @@ use Rattle.std.specs.Str.{bytes_eq}
 use Rattle.idl_memo.specs.Progress.{after_item, after_key}
 use Rattle.idl_memo.specs.Query.{Done, Ask, noted, outcome}
 use Rattle.idl_event.proofs.AfterLemmas.{after-token}
-use Rattle.idl_event.specs.Expanding.{Expanding, Reached, after_tokens, arrival, arrived, reached}
+use Rattle.idl_event.specs.Expanding.{Reached, after_tokens, arrival, arrived, reached}
 use Rattle.idl_event.specs.Items.{rules, tokens_left}
 use Rattle.idl_event.specs.Key.{key_eq}
 use Rattle.idl_event.specs.declared.allowance.Allowance.{Allowance}
@@ -156,19 +156,11 @@ pub record IsPlain (bank : Key → Option Answer) (definitions : Definitions) (p
   pub plain : reached bank (text place.file definitions tokens) begun ≡ reached bank (text place.file definitions (drop count tokens)) (after_tokens place (tokens_in (take count tokens)) p)
 
 module _ (bank : Key → Option Answer) (definitions : Definitions) (place : Place) (tokens left : List PlacedToken) (count : ℕ) (begun p : Reached) (passed : ArePassed bank definitions place tokens left count begun p) where
-  -- none was asked for behind them
-  pub passed-stop : IsPlain bank definitions place tokens count begun p
-  passed-stop = record {
-    within = passed.within;
-    room = omega (arith, passed.within, passed.room);
-    plain = passed.plain ∙ ap (λ ts. reached bank (text place.file definitions ts) (after_tokens place (tokens_in (take count tokens)) p)) passed.are_left;
-  }
-
   front-long : length (tokens_in (take count tokens)) ≡ count
   front-long = length-map (take count tokens) (λ (t : PlacedToken). t.token) ∙ length-take-le count tokens passed.within
 
   module _ (t : PlacedToken) (rest : List PlacedToken) (q : Reached) (first : left ≡ t ∷ rest) where
-    -- the next one was
+    -- the next one was asked for, and they stop there
     pub passed-asked : q ≡ reached bank (replacement definitions [] t.token) p → IsPlain bank definitions place tokens count begun q
     passed-asked asked =
         let front = tokens_in (take count tokens) in

@@ -5,7 +5,7 @@ use Rattle.idl_lex.specs.Tokens.{Token, tokens_in}
 use Rattle.idl_lex.specs.declared.token.PlacedToken.{PlacedToken}
 use Rattle.idl_macro.specs.Replace.{place_at, replacement}
 use Rattle.idl_macro.proofs.AgainLemmas.{no_value}
-use Rattle.idl_macro.proofs.PlainLemmas.{passed-asked, passed-next, passed-stop}
+use Rattle.idl_macro.proofs.PlainLemmas.{passed-asked, passed-next}
 use Rattle.idl_macro.proofs.replacement.count_plain.Goals as goal
 
 pub tokens-preserved : goal.tokens-preserved

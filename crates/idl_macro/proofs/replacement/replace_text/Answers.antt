@@ -1,9 +1,7 @@
-use Rattle.std.proofs.Common.{◌≡◌, ℕ, ◌<◌, ◌≤◌, [], ◌∷◌, sym, ap, ◌∙◌, List, drop, length, refl, subst, take, arith, rules}
-use Rattle.std.proofs.lemmas.List.{length-map, length-take-le}
+use Rattle.std.proofs.Common.{◌≡◌, ℕ, [], ◌∷◌, sym, ap, ◌∙◌, List, drop, refl, subst, take}
 use Rattle.idl_event.specs.Expanding.{after_tokens, reached}
-use Rattle.idl_event.specs.Items.{tokens_left}
 use Rattle.idl_event.specs.declared.place.Place.{Place}
-use Rattle.idl_lex.specs.Tokens.{Token, tokens_in}
+use Rattle.idl_lex.specs.Tokens.{tokens_in}
 use Rattle.idl_lex.specs.declared.token.PlacedToken.{PlacedToken}
 use Rattle.idl_macro.specs.Replace.{place_at, text}
 use Rattle.idl_macro.specs.declared.replacement.Output.TheVariants.{Text}
