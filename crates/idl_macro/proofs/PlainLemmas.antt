@@ -7,7 +7,7 @@ use Rattle.std.specs.Str.{bytes_eq}
 use Rattle.idl_memo.specs.Progress.{after_item, after_key}
 use Rattle.idl_memo.specs.Query.{Done, Ask, noted, outcome}
 use Rattle.idl_event.proofs.AfterLemmas.{after-token}
-use Rattle.idl_event.specs.Expanding.{Expanding, Reached, after_tokens, arrival, arrived, reached}
+use Rattle.idl_event.specs.Expanding.{Reached, after_tokens, arrival, arrived, reached}
 use Rattle.idl_event.specs.Items.{rules, tokens_left}
 use Rattle.idl_event.specs.Key.{key_eq}
 use Rattle.idl_event.specs.declared.allowance.Allowance.{Allowance}
@@ -30,7 +30,7 @@ use Rattle.idl_macro.proofs.ReplaceLemmas.{reached-text-first}
 
 -- the next token of a list
 pub next-token : {A : Type 0} (n : ℕ) (ts : List A) (t : A) (rest : List A) → drop n ts ≡ t ∷ rest
-    → (n < length ts) × (drop (n + 1) ts ≡ rest) × (take (n + 1) ts ≡ take n ts ++ t ∷ [])
+    → (n < length ts) × (drop (suc n) ts ≡ rest) × (take (suc n) ts ≡ take n ts ++ t ∷ [])
 next-token zero [] t rest e = cc
 next-token zero (x ∷ xs) t rest e = (omega arith, ap (drop 1) e, ap (take 1) e)
 next-token (suc n) [] t rest e = cc
@@ -156,19 +156,11 @@ pub record IsPlain (bank : Key → Option Answer) (definitions : Definitions) (p
   pub plain : reached bank (text place.file definitions tokens) begun ≡ reached bank (text place.file definitions (drop count tokens)) (after_tokens place (tokens_in (take count tokens)) p)
 
 module _ (bank : Key → Option Answer) (definitions : Definitions) (place : Place) (tokens left : List PlacedToken) (count : ℕ) (begun p : Reached) (passed : ArePassed bank definitions place tokens left count begun p) where
-  -- none was asked for behind them
-  pub passed-stop : IsPlain bank definitions place tokens count begun p
-  passed-stop = record {
-    within = passed.within;
-    room = omega (arith, passed.within, passed.room);
-    plain = passed.plain ∙ ap (λ ts. reached bank (text place.file definitions ts) (after_tokens place (tokens_in (take count tokens)) p)) passed.are_left;
-  }
-
   front-long : length (tokens_in (take count tokens)) ≡ count
   front-long = length-map (take count tokens) (λ (t : PlacedToken). t.token) ∙ length-take-le count tokens passed.within
 
   module _ (t : PlacedToken) (rest : List PlacedToken) (q : Reached) (first : left ≡ t ∷ rest) where
-    -- the next one was
+    -- the next one was asked for, and they stop there
     pub passed-asked : q ≡ reached bank (replacement definitions [] t.token) p → IsPlain bank definitions place tokens count begun q
     passed-asked asked =
         let front = tokens_in (take count tokens) in
@@ -191,7 +183,8 @@ module _ (bank : Key → Option Answer) (definitions : Definitions) (place : Pla
         let front = tokens_in (take count tokens) in
         let next = next-token count tokens t rest (sym passed.are_left ∙ first) in
         let same : q.left ≡ p.left = ap (λ (r : Reached × Option (Option (List Token))). r.0.left) asked ∙ left-replacement bank definitions [] t.token p in
-        let more : tokens_in (take (count + 1) tokens) ≡ front ++ t.token ∷ [] = ap tokens_in next.2 ∙ map-append (λ (t : PlacedToken). t.token) (take count tokens) (t ∷ []) in
+        let up : count + 1 ≡ suc count = omega arith in
+        let more : tokens_in (take (count + 1) tokens) ≡ front ++ t.token ∷ [] = ap (λ n. tokens_in (take n tokens)) up ∙ ap tokens_in next.2 ∙ map-append (λ (t : PlacedToken). t.token) (take count tokens) (t ∷ []) in
         let few : suc count ≤ tokens_left p.left = omega (arith, next.0, passed.room) in
         let le : suc (length front) ≤ tokens_left p.left = subst (λ n. suc n ≤ tokens_left p.left) (sym front-long) few in
         record {
@@ -200,7 +193,7 @@ module _ (bank : Key → Option Answer) (definitions : Definitions) (place : Pla
               ∙ ap (λ ts. reached bank (text place.file definitions ts) (after_tokens place front p)) first
               ∙ plain-first bank place.file definitions place t rest front p q here le asked
               ∙ ap (λ ts. reached bank (text place.file definitions rest) (after_tokens place ts q)) (sym more);
-          are_left = sym next.1;
+          are_left = sym (ap (λ n. drop n tokens) up ∙ next.1);
           within = omega (arith, next.0);
           room = subst (λ (o : Option Allowance). length tokens ≤ tokens_left o) (sym same) passed.room;
         }
