@@ -40,11 +40,13 @@ impl<'a> Model for BaseQueue<'a> {
 
 impl<'a> BaseQueue<'a> {
     /// The queue of one path.
-    pub fn of(alloc: Global, path: &'a Path) -> BaseQueue<'a>
-        ensures { result ≡ path.entry ∷ [] }
+    pub fn of<'b: 'a>(alloc: Global, path: &'b Path) -> BaseQueue<'a>
+        ensures { result ≡ path.now ∷ [] }
     {
+        let path: &'a Path = path;
+        let few = [path; FEW];
         BaseQueue {
-            few: [path; FEW],
+            few,
             count: 1,
             others: Table::new(alloc),
         }
@@ -54,10 +56,11 @@ impl<'a> BaseQueue<'a> {
     pub fn get(&self, place: usize) -> Option<&Path>
         ensures { option_copied result ≡ slice_get self.now place }
     {
-        if place < self.count {
-            return Some(self.few[place]);
+        let few = &self.few[..self.count];
+        if place < few.len() {
+            return Some(few[place]);
         }
-        let (path, ()) = self.others.get_index(place - self.count)?;
+        let (path, ()) = self.others.get_index(place - few.len())?;
         Some(path)
     }
 
@@ -75,22 +78,27 @@ impl<'a> BaseQueue<'a> {
     fn join_one(&mut self, path: &'a Path) -> Result<(), AllocError>
         ensures { OnOk result (self.new ≡ joined self.old (path.now ∷ [])) }
     {
-        if self.contains(path) {
+        if is_among(&self.few[..self.count], path) {
             return Ok(());
         }
-        if self.count < FEW && self.others.is_empty() {
-            self.few[self.count] = path;
-            self.count += 1;
+        if self.others.contains(path) {
+            return Ok(());
+        }
+        let count = self.count;
+        if count < FEW && self.others.is_empty() {
+            let few = &mut self.few[..];
+            few[count] = path;
+            self.count = count + 1;
             return Ok(());
         }
         self.others.push(path.clone()?, ())?;
         Ok(())
     }
+}
 
-    // Whether a path is there.
-    fn contains(&self, path: &Path) -> bool
-        ensures { result ≡ list_any (path_eq path.now) self.now }
-    {
-        self.few[..self.count].iter().any(|base| path == *base) || self.others.contains(path)
-    }
+// Whether a path is among those that are lent.
+fn is_among(few: &[&Path], path: &Path) -> bool
+    ensures { result ≡ list_any (λ p. path_eq path.now p.now) few.now }
+{
+    few.iter().any(|base| path == *base)
 }

@@ -41,7 +41,7 @@ impl<'a> Finds<'a> {
 
     /// All that are found.
     pub fn into_vec(self, alloc: Global) -> Result<Vec<&'a Shared<Entity>>, AllocError>
-        ensures { IfOk result (λ es. map (λ e. e.now) es.items ≡ those self) }
+        ensures { IfOk result (λ es. map (λ e. e.now) es.items ≡ those self.entry) }
     {
         match self {
             Finds::Own(entity) => {
