@@ -4,3 +4,18 @@ use Rattle.idl_scope.specs.Facts.{answers}
 use Rattle.idl_scope.specs.Lookup.{walk}
 use Rattle.idl_scope.proofs.RunLemmas.{runs, walk_end, walk_on}
 use Rattle.idl_scope.proofs.lookup.View.reached.Goals as goal
+
+pub bases-preserved : goal.bases-preserved
+bases-preserved c turns more =
+    let own = c.args.self.own.now.additions in
+    let bank = answers c.args.self.env.now in
+    let turn = c.bases.turn in
+    let found = map (λ e. e.now) c.bases.found.items in
+    let queue = c.bases.queue in
+    let here = sym c.get.ensures ∙ ap option_copied c.in-Some.is in
+    let fewer : turns - turn ≡ suc (turns - (turn + 1)) = omega (arith, more, c.bases-test.true) in
+    let step = walk_on own bank (turns - (turn + 1)) c.args.name.now turn queue found c.bases.log c.in-Some.base.now _ _ here c.in_ok-declared.ensures in
+    (λ i. runs own bank (walk (turns - (turn + 1)) c.args.name.now (turn + 1) (c.in_ok-join-2.ensures i) (c.in_ok-keep.ensures i)) c.enter.new.log)
+    ∙ sym step
+    ∙ ap (λ turns. runs own bank (walk turns c.args.name.now turn queue found) c.bases.log) (sym fewer)
+    ∙ c.bases.invariant turns more
