@@ -11,43 +11,45 @@ use idl_base::Table;
 use std::alloc::{AllocError, Global};
 use std::marker::Model;
 
-// So many paths are lent, and take no memory.
+// So many paths stand in place, and take no memory.
 const FEW: usize = 4;
 
 /// Paths in the order in which they were put in, each once. To every contract it is the list of them.
 ///
-/// Most interfaces have few bases, and few of these have bases: so the first paths are lent. Copies of those behind them are
-/// found in a table.
+/// Most interfaces have few bases, and few of these have bases: so the first paths stand in place. Those behind them are found
+/// in a table.
 #[derive(Drop)]
-pub struct BaseQueue<'a> {
-    few: [&'a Path; FEW],
+pub struct BaseQueue {
+    few: [Path; FEW],
     // How many of them are put in.
     count: usize,
     others: Table<Path, ()>,
 }
 
-impl<'a> Model for BaseQueue<'a> {
-    ghost use Rattle.std.specs.Prelude.{List, ℕ, ◌≤◌, ◌++◌, map, take};
+impl Model for BaseQueue {
+    ghost use Rattle.std.specs.Prelude.{List, ℕ, ◌≤◌, ◌++◌, take};
     ghost use Rattle.std.specs.Map.{keys_of};
 
     ghost Value = { List (List (List ℕ)) };
 
-    ghost view = { λ queue.
-        map (λ p. p.now) (take queue.count queue.few) ++ keys_of queue.others };
+    ghost view = { λ queue. take queue.count queue.few ++ keys_of queue.others };
 
     ghost invariant = { λ queue. queue.count ≤ 4 };
 }
 
-impl<'a> BaseQueue<'a> {
-    /// The queue of one path.
-    pub fn of<'b: 'a>(alloc: Global, path: &'b Path) -> BaseQueue<'a>
-        ensures { result ≡ path.now ∷ [] }
+impl BaseQueue {
+    /// The queue without paths. It takes no memory.
+    pub fn new(alloc: Global) -> BaseQueue
+        ensures { result ≡ [] }
     {
-        let path: &'a Path = path;
-        let few = [path; FEW];
         BaseQueue {
-            few,
-            count: 1,
+            few: [
+                Path::global(),
+                Path::global(),
+                Path::global(),
+                Path::global(),
+            ],
+            count: 0,
             others: Table::new(alloc),
         }
     }
@@ -58,14 +60,14 @@ impl<'a> BaseQueue<'a> {
     {
         let few = &self.few[..self.count];
         if place < few.len() {
-            return Some(few[place]);
+            return Some(&few[place]);
         }
         let (path, ()) = self.others.get_index(place - few.len())?;
         Some(path)
     }
 
     /// Puts those of the paths last that are not yet there.
-    pub fn join(&mut self, paths: &'a [Path]) -> Result<(), AllocError>
+    pub fn join(&mut self, paths: &[Path]) -> Result<(), AllocError>
         ensures { OnOk result (self.new ≡ joined self.old paths.now) }
     {
         for path in paths {
@@ -75,7 +77,7 @@ impl<'a> BaseQueue<'a> {
     }
 
     // Puts the path last, unless it is there.
-    fn join_one(&mut self, path: &'a Path) -> Result<(), AllocError>
+    fn join_one(&mut self, path: &Path) -> Result<(), AllocError>
         ensures { OnOk result (self.new ≡ joined self.old (path.now ∷ [])) }
     {
         if is_among(&self.few[..self.count], path) {
@@ -84,21 +86,22 @@ impl<'a> BaseQueue<'a> {
         if self.others.contains(path) {
             return Ok(());
         }
+        let copy = path.clone()?;
         let count = self.count;
         if count < FEW && self.others.is_empty() {
             let few = &mut self.few[..];
-            few[count] = path;
+            few[count] = copy;
             self.count = count + 1;
             return Ok(());
         }
-        self.others.push(path.clone()?, ())?;
+        self.others.push(copy, ())?;
         Ok(())
     }
 }
 
-// Whether a path is among those that are lent.
-fn is_among(few: &[&Path], path: &Path) -> bool
-    ensures { result ≡ list_any (λ p. path_eq path.now p.now) few.now }
+// Whether a path is among others.
+fn is_among(paths: &[Path], path: &Path) -> bool
+    ensures { result ≡ list_any (path_eq path.now) paths.now }
 {
-    few.iter().any(|base| path == *base)
+    paths.iter().any(|other| path == other)
 }

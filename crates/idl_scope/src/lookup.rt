@@ -175,11 +175,11 @@ impl<'a> View<'a> {
             (answers self.entry.env.now) log.old) }
     {
         let mut found = Vec::new(self.env.alloc());
-        let Some((first, others)) = bases.split_first() else {
+        if bases.is_empty() {
             return Ok(found);
-        };
-        let mut queue = BaseQueue::of(self.env.alloc(), first);
-        queue.join(others)?;
+        }
+        let mut queue = BaseQueue::new(self.env.alloc());
+        queue.join(bases)?;
         'bases: for turn in 0..TURNS {
             let Some(base) = queue.get(turn) else {
                 return Ok(found);
