@@ -174,12 +174,9 @@ impl<'a> View<'a> {
             (under self.entry.own.now.additions (reached turns name.now bases.now))
             (answers self.entry.env.now) log.old) }
     {
-        let mut found = Vec::new(self.env.alloc());
-        if bases.is_empty() {
-            return Ok(found);
-        }
         let mut queue = BaseQueue::new(self.env.alloc());
         queue.join(bases)?;
+        let mut found = Vec::new(self.env.alloc());
         'bases: for turn in 0..TURNS {
             let Some(base) = queue.get(turn) else {
                 return Ok(found);

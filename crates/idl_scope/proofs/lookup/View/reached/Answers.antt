@@ -1,9 +1,25 @@
 use Rattle.std.proofs.Common.{◌≡◌, ◌+◌, ◌-◌, suc, sym, ap, ◌∙◌, map, arith}
 use Rattle.std.specs.Option.{option_copied}
-use Rattle.idl_scope.specs.Facts.{answers}
+use Rattle.idl_scope.specs.Facts.{answers, joined}
 use Rattle.idl_scope.specs.Lookup.{walk}
 use Rattle.idl_scope.proofs.RunLemmas.{runs, walk_end, walk_on}
 use Rattle.idl_scope.proofs.lookup.View.reached.Goals as goal
+
+pub bases-init : goal.bases-init
+bases-init c turns more =
+    let own = c.args.self.own.now.additions in
+    let bank = answers c.args.self.env.now in
+    let queue = c.in_ok-join.ensures ∙ ap (λ q. joined q c.args.bases.now) c.new-queue.ensures in
+    let all : turns - 0 ≡ turns = omega arith in
+    λ i. runs own bank (walk (all i) c.args.name.now 0 (queue i) (map (λ e. e.now) (c.new-found.ensures.items i))) c.args.log.now
+
+pub returns-in_default : goal.returns-in_default
+returns-in_default c turns more =
+    let own = c.args.self.own.now.additions in
+    let bank = answers c.args.self.env.now in
+    let end = sym c.get.ensures ∙ ap option_copied c.in_default.is in
+    sym (walk_end own bank (turns - c.bases.turn) c.args.name.now c.bases.turn c.bases.queue (map (λ e. e.now) c.bases.found.items) c.bases.log end)
+    ∙ c.bases.invariant turns more
 
 pub bases-preserved : goal.bases-preserved
 bases-preserved c turns more =
