@@ -1,5 +1,5 @@
 -- Runs of lookups over a bank, under what a unit's earlier tokens add.
-use Rattle.std.proofs.Common.{◌≡◌, ℕ, zero, suc, ◌+◌, true, false, cond, List, [], ◌∷◌, ◌++◌, Option, Some, None, Result, Err, refl, sym, ap, ◌∙◌}
+use Rattle.std.proofs.Common.{◌≡◌, ℕ, zero, suc, ◌+◌, true, false, cond, List, [], ◌∷◌, ◌++◌, Option, Some, None, Result, Err, refl, ap, ◌∙◌}
 use Rattle.std.specs.Prelude.{option_to_list, slice_get}
 use Rattle.idl_memo.specs.Query.{Done, Ask, Tell, and_then, run, noted}
 use Rattle.idl_memo.proofs.QueryLaws.{run-and_then_at}
