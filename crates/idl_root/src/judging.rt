@@ -105,7 +105,7 @@ impl<'a> Judging<'a> {
         } = self;
         for unit in units {
             if let Some(facts) = gathered.add(alloc, &env, unit)? {
-                env = env.add(facts.get())?;
+                env = env.add_own(facts)?;
             }
         }
         Ok(Judging { env, gathered })

@@ -1,5 +1,5 @@
 -- Answers at their keys.
-use Rattle.std.proofs.Common.{◌≡◌, ℕ, zero, suc, Bool, true, false, cond, List, [], ◌∷◌, Option, Some, None, map, refl, sym, ap, subst, ◌∙◌}
+use Rattle.std.proofs.Common.{◌≡◌, ℕ, zero, suc, Bool, true, false, cond, List, [], ◌∷◌, ◌++◌, Option, Some, None, map, refl, sym, ap, subst, ◌∙◌}
 use Rattle.std.specs.Map.{lookup}
 use Rattle.std.specs.Prelude.{slice_get}
 use Rattle.std.proofs.lemmas.Option.{same_Some}
@@ -62,3 +62,12 @@ over_prefix [] before = refl
 over_prefix (Declares e ∷ additions) before = over_prefix additions before
 over_prefix (Uses n path body ∷ additions) before = over_prefix additions before
 over_prefix (Identifies path identity ∷ additions) before = over_prefix additions before
+
+-- and of which this is the last
+pub over-last : (additions : List Addition) (a : Addition) (k : Key) (before : Option Answer)
+    → over (additions ++ a ∷ []) k before ≡ over additions k (cond (key_eq k (key_of a)) (Some (answer_of a)) before)
+over-last [] a k before = over-cons a [] k before
+over-last (b ∷ additions) a k before =
+    over-cons b (additions ++ a ∷ []) k before
+    ∙ ap (λ o. cond (key_eq k (key_of b)) (Some (answer_of b)) o) (over-last additions a k before)
+    ∙ sym (over-cons b additions k (cond (key_eq k (key_of a)) (Some (answer_of a)) before))

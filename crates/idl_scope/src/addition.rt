@@ -84,6 +84,22 @@ impl Addition {
         Ok(DigestedKey::known(digest, key))
     }
 
+    /// The key whose answer it changes, and the answer that it leaves there.
+    pub(crate) fn into_entry(self, alloc: Global) -> Result<(Key, Answer), AllocError>
+        ensures key { IfOk result (λ entry. entry.0 ≡ key_of self) }
+        ensures answer { IfOk result (λ entry. entry.1 ≡ answer_of self) }
+    {
+        Ok(match self {
+            Addition::Declares(entity) => {
+                let path = &entity.get().path;
+                let key = Key::Declared(path.folded(alloc)?, path.scope()?);
+                (key, Answer::Known(entity))
+            }
+            Addition::Uses(name, path, body) => (Key::Introduced(name, path, body), Answer::Used),
+            Addition::Identifies(path, identity) => (Key::IdOf(path), Answer::Identified(identity)),
+        })
+    }
+
     /// Whether this is that key.
     pub(crate) fn is_at(&self, key: &Key) -> bool
         ensures { result ≡ key_eq key.now (key_of self.now) }

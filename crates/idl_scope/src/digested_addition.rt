@@ -2,10 +2,11 @@
 
 ghost use Rattle.std.specs.Prelude.{◌≡◌, IfOk, nat_eq};
 ghost use Rattle.std.specs.List.{list_any, position};
-ghost use Rattle.idl_scope.specs.Facts.{key_of};
+ghost use Rattle.idl_scope.specs.Facts.{answer_of, key_of};
 ghost use Rattle.idl_scope.specs.Key.{key_digest, key_eq};
 
 use crate::addition::Addition;
+use crate::answer::Answer;
 use crate::digested::DigestedKey;
 use idl_map::Digest;
 use std::alloc::{AllocError, Global};
@@ -53,6 +54,16 @@ impl DigestedAddition {
         ensures { IfOk result (λ key. key ≡ key_of self.now) }
     {
         self.addition.key_with(alloc, self.digest)
+    }
+
+    /// That key, and the answer that it leaves there.
+    pub fn into_entry(self, alloc: Global) -> Result<(DigestedKey, Answer), AllocError>
+        ensures key { IfOk result (λ entry. entry.0 ≡ key_of self) }
+        ensures answer { IfOk result (λ entry. entry.1 ≡ answer_of self) }
+    {
+        let DigestedAddition { digest, addition } = self;
+        let (key, answer) = addition.into_entry(alloc)?;
+        Ok((DigestedKey::known(digest, key), answer))
     }
 
     /// The digest of that key.

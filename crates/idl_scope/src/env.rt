@@ -99,6 +99,31 @@ impl Env {
         })
     }
 
+    /// The facts so far and these, which are given up. Refused, this environment is too.
+    pub fn add_own(self, facts: Shared<Facts>) -> Result<Env, AllocError>
+        ensures { IfOk result (λ env. env ≡ self ++ facts ∷ []) }
+    {
+        let Env {
+            alloc,
+            facts: before,
+            count,
+            mut state,
+            plain,
+        } = self;
+        let Some(count) = count.checked_add(1) else {
+            return Err(AllocError);
+        };
+        let after = before.and(facts.get());
+        state.add_own(alloc, facts)?;
+        Ok(Env {
+            alloc,
+            facts: after,
+            count,
+            state,
+            plain,
+        })
+    }
+
     /// A type without sequences and arrays. One of keywords is shared by all that is declared with it.
     pub fn plain(&self, element: Element) -> Result<Shared<DataType>, AllocError>
         ensures { IfOk result (λ t. t ≡ plain_type element) }

@@ -1,6 +1,6 @@
 //! What a unit adds.
 
-ghost use Rattle.std.specs.Prelude.{◌≡◌, ◌<◌, ◌++◌, ◌∷◌, [], IsTrue, OnErr, OnOk, length, slice_get};
+ghost use Rattle.std.specs.Prelude.{◌≡◌, ◌<◌, ◌++◌, ◌∷◌, [], IfErr, IfOk, IsTrue, OnErr, OnOk, length, slice_get};
 ghost use Rattle.std.specs.Map.{lookup};
 ghost use Rattle.std.specs.Option.{option_copied};
 ghost use Rattle.idl_scope.specs.Facts.{addition_at, with_addition};
@@ -166,6 +166,24 @@ impl Facts {
         }
         let (_key, addition) = self.others.get_index(index - self.first.len())?;
         Some(addition)
+    }
+
+    /// The additions in order, and how the open scopes change; these facts again, where they are many.
+    pub(crate) fn into_few(self) -> Result<(Vec<DigestedAddition>, Step), Facts>
+        ensures few { IfOk result (λ few. self ≡ record { additions = few.0.items; step = few.1 }) }
+        ensures many { IfErr result (λ facts. facts ≡ self) }
+    {
+        if !self.others.is_empty() {
+            return Err(self);
+        }
+        let Facts {
+            alloc: _alloc,
+            first,
+            others: _others,
+            count: _count,
+            step,
+        } = self;
+        Ok((first, step))
     }
 
     /// How the open scopes change.

@@ -15,7 +15,7 @@ use crate::facts::Facts;
 use crate::key::Key;
 use crate::path::Path;
 use crate::queue::join;
-use idl_base::Table;
+use idl_base::{Seq, Table};
 use idl_map::{Map, SharedList};
 use std::alloc::{AllocError, Global};
 
@@ -114,60 +114,49 @@ fn join_one_new(
 }
 
 /// The innermost ones.
-pub fn innermost(alloc: Global, inside: &[SharedList<Path>]) -> Result<Vec<Path>, AllocError>
-    ensures { IfOk result (λ paths. paths.items ≡ innermost (reverse inside.now)) }
+pub fn innermost(inside: &[Seq<Path>]) -> &[Path]
+    ensures { result.now ≡ innermost (reverse inside.now) }
 {
     match inside.last() {
-        Some(own) => own.to_vec(alloc),
-        None => Ok(Vec::new(alloc)),
+        Some(own) => own.as_slice(),
+        None => &[],
     }
 }
 
 /// The innermost ones with those that are declared.
-pub fn add_inside(
-    alloc: Global,
-    inside: &mut Vec<SharedList<Path>>,
-    facts: &Facts,
-) -> Result<(), AllocError>
+pub fn add_inside(inside: &mut Vec<Seq<Path>>, facts: &Facts) -> Result<(), AllocError>
     ensures { OnOk result
         (reverse inside.new.items
         ≡ more_inside (reverse inside.old.items) (operations_among facts.now.additions)) }
 {
-    let Some(mut own) = inside.pop() else {
+    let Some(own) = inside.pop() else {
         return Ok(());
     };
-    put_operations(alloc, &mut own, facts)?;
-    inside.push(own)?;
+    let mut own = own.into_vec();
+    put_operations(&mut own, facts)?;
+    inside.push(Seq::from_vec(own))?;
     Ok(())
 }
 
 // Puts the paths of the operations and attributes last that are declared.
-fn put_operations(
-    alloc: Global,
-    own: &mut SharedList<Path>,
-    facts: &Facts,
-) -> Result<(), AllocError>
-    ensures { OnOk result (own.new ≡ own.old ++ operations_among facts.now.additions) }
+fn put_operations(own: &mut Vec<Path>, facts: &Facts) -> Result<(), AllocError>
+    ensures { OnOk result (own.new.items ≡ own.old.items ++ operations_among facts.now.additions) }
 {
     for index in 0..facts.len() {
         let Some(addition) = facts.addition(index) else {
             continue;
         };
-        put_operation(alloc, own, addition)?;
+        put_operation(own, addition)?;
     }
     Ok(())
 }
 
 // Puts the path of what an addition declares last, if it is an operation or attribute.
-fn put_operation(
-    alloc: Global,
-    own: &mut SharedList<Path>,
-    addition: &Addition,
-) -> Result<(), AllocError>
-    ensures { OnOk result (own.new ≡ own.old ++ operations_among (addition.now ∷ [])) }
+fn put_operation(own: &mut Vec<Path>, addition: &Addition) -> Result<(), AllocError>
+    ensures { OnOk result (own.new.items ≡ own.old.items ++ operations_among (addition.now ∷ [])) }
 {
     if let Some(path) = addition.operation() {
-        own.push(alloc, path.clone()?)?;
+        own.push(path.clone()?)?;
     }
     Ok(())
 }
@@ -183,7 +172,7 @@ pub fn put_last(alloc: Global, own: &mut SharedList<Path>, paths: &[Path]) -> Re
 }
 
 /// All but the innermost.
-pub fn leave(inside: &mut Vec<SharedList<Path>>)
+pub fn leave(inside: &mut Vec<Seq<Path>>)
     ensures { reverse inside.new.items ≡ drop 1 (reverse inside.old.items) }
 {
     let _own = inside.pop();

@@ -16,6 +16,7 @@ ghost use Rattle.std.specs.Map.{lookup};
 use crate::addition::{Addition, Step};
 use crate::answer::{Answer, Scope, count_in, entity_in, prefix_in, scopes_in};
 use crate::digested::DigestedKey;
+use crate::digested_addition::DigestedAddition;
 use crate::entity::Entity;
 use crate::facts::Facts;
 use crate::identity::Prefix;
@@ -35,7 +36,7 @@ use std::alloc::{AllocError, Global};
 /// prefixes that were in force before the open scopes were opened and before files were entered, the innermost last.
 pub struct State {
     pub answers: Map<DigestedKey, Answer>,
-    pub inside: Vec<SharedList<Path>>,
+    pub inside: Vec<Seq<Path>>,
     pub opened: SharedList<Shared<Prefix>>,
     pub entered: SharedList<Shared<Prefix>>,
 }
@@ -65,7 +66,7 @@ impl State {
             Answer::InForce(Prefix::none(alloc)?),
         )?;
         let mut inside = Vec::new(alloc);
-        inside.push(SharedList::new())?;
+        inside.push(Seq::new(alloc))?;
         Ok(State {
             answers,
             inside,
@@ -82,6 +83,27 @@ impl State {
     {
         self.add_all(alloc, facts)?;
         self.take(alloc, facts.step())
+    }
+
+    /// The same with facts that are given up.
+    pub fn add_own(&mut self, alloc: Global, facts: Shared<Facts>) -> Result<(), AllocError>
+        requires { (key : Key) → count_in (lookup (key_eq key) self.old.answers) < 18446744073709551615 }
+        ensures { OnOk result (held self.new ≡ after (held self.old) facts) }
+    {
+        match facts.into_own() {
+            Ok(facts) => self.add_given(alloc, facts),
+            Err(facts) => self.add(alloc, facts.get()),
+        }
+    }
+
+    // The same with facts that nobody shares.
+    fn add_given(&mut self, alloc: Global, facts: Facts) -> Result<(), AllocError>
+        requires { (key : Key) → count_in (lookup (key_eq key) self.old.answers) < 18446744073709551615 }
+        ensures { OnOk result (held self.new ≡ after (held self.old) facts) }
+    {
+        add_inside(&mut self.inside, &facts)?;
+        let step = put_given(alloc, &mut self.answers, facts)?;
+        self.take(alloc, &step)
     }
 
     // What it comes to with a change of the open scopes.
@@ -107,7 +129,7 @@ impl State {
             (held self.new ≡ with_additions facts.now.additions (held self.old)) }
     {
         put_all(alloc, &mut self.answers, facts)?;
-        add_inside(alloc, &mut self.inside, facts)
+        add_inside(&mut self.inside, facts)
     }
 
     // The open scopes.
@@ -132,7 +154,7 @@ impl State {
         self.answers.insert(alloc, key, Answer::Count(body))?;
         self.answers
             .insert(alloc, DigestedKey::of(Key::Cursor), scopes)?;
-        self.inside.push(SharedList::new())?;
+        self.inside.push(Seq::new(alloc))?;
         self.opened.push(alloc, prefix)?;
         Ok(())
     }
@@ -257,8 +279,7 @@ impl State {
             ++ innermost (reverse self.now.inside.items)) }
     {
         let mut paths = inherited(alloc, &self.answers, interface.bases.as_slice())?;
-        let own = innermost(alloc, self.inside.as_slice())?;
-        put_last(alloc, &mut paths, own.as_slice())?;
+        put_last(alloc, &mut paths, innermost(self.inside.as_slice()))?;
         Ok(paths)
     }
 }
@@ -353,6 +374,47 @@ fn put_all(
         };
         let key = addition.key(alloc)?;
         let answer = addition.addition().answer()?;
+        answers.insert(alloc, key, answer)?;
+    }
+    Ok(())
+}
+
+// The same with facts that are given up; how the open scopes change.
+fn put_given(
+    alloc: Global,
+    answers: &mut Map<DigestedKey, Answer>,
+    facts: Facts,
+) -> Result<Step, AllocError>
+    ensures answers { OnOk result
+        ((k : Key)
+        → lookup (key_eq k) answers.new ≡ over facts.additions k (lookup (key_eq k) answers.old)) }
+    ensures step { IfOk result (λ step. step ≡ facts.step) }
+{
+    match facts.into_few() {
+        Ok((additions, step)) => {
+            put_few(alloc, answers, additions)?;
+            Ok(step)
+        }
+        Err(facts) => {
+            put_all(alloc, answers, &facts)?;
+            facts.step().clone()
+        }
+    }
+}
+
+// The same with these additions.
+fn put_few(
+    alloc: Global,
+    answers: &mut Map<DigestedKey, Answer>,
+    additions: Vec<DigestedAddition>,
+) -> Result<(), AllocError>
+    ensures { OnOk result
+        ((k : Key)
+        → lookup (key_eq k) answers.new ≡ over additions.items k (lookup (key_eq k) answers.old)) }
+{
+    let mut additions = additions;
+    'additions: while let Some(addition) = additions.pop() {
+        let (key, answer) = addition.into_entry(alloc)?;
         answers.insert(alloc, key, answer)?;
     }
     Ok(())

@@ -8,6 +8,7 @@ pub returns : goal.returns
 returns c =
     let outer = c.pop.new.self.items in
     let own = c.in-Some.own in
+    let more = operations_among c.args.facts.now.additions in
     let taken = c.pop.ensures.items ∙ ap (λ o. outer ++ option_to_list o) c.in-Some.is in
-    ap reverse (c.in_ok-push.ensures.items ∙ ap (λ o. outer ++ o ∷ []) c.in_ok-put_operations.ensures)
-    ∙ reverse-more c.args.inside.now.items outer own (operations_among c.args.facts.now.additions) taken
+    ap reverse (c.in_ok-push.ensures.items ∙ ap (λ o. outer ++ o ∷ []) (c.from_vec.ensures ∙ c.in_ok-put_operations.ensures ∙ ap (λ paths. paths ++ more) c.into_vec-own.ensures))
+    ∙ reverse-more c.args.inside.now.items outer own more taken

@@ -8,7 +8,7 @@ pub loop-index-preserved : goal.loop-index-preserved
 loop-index-preserved c =
     let additions = c.args.facts.now.additions in
     let at = c.loop-index.index in
-    let old = c.loop-index.own in
+    let old = c.loop-index.own.items in
     let one = c.in-Some.addition.now in
     let rest = operations_among (drop (at + 1) additions) in
     let here = drop-at1 additions at one (sym c.in-Some.ensures) in

@@ -4,4 +4,4 @@ use Rattle.idl_scope.proofs.operations.put_operations.Given as goal
 
 -- those so far and those among the rest are all
 abbrev pub invariant-loop-index : goal.invariant-loop-index
-invariant-loop-index l = l.own ++ operations_among (drop l.index l.facts.additions) ≡ l.fn.own ++ operations_among l.facts.additions
+invariant-loop-index l = l.own.items ++ operations_among (drop l.index l.facts.additions) ≡ l.fn.own.items ++ operations_among l.facts.additions

@@ -24,7 +24,7 @@ loop-unit-preserved c =
     subst (λ fs. IfSome c.add.new.self.keeping (λ k. IsKeeping k fs)) (sym adds) c.in_ok-facts.ensures.kept in
     elim c.match-branch-2.branch [
       | in-Some+in_ok-env w ↦
-          let adds : c.match-branch-2.env ≡ env ++ own = w.env-is ∙ w.in_ok-env.ensures ∙ ap (λ f. env ++ f ∷ []) w.get.ensures ∙ ap (λ (fs : Option UnitFacts). env ++ option_to_list fs) (sym w.in-Some.is) in
+          let adds : c.match-branch-2.env ≡ env ++ own = w.env-is ∙ w.in_ok-env.ensures ∙ ap (λ (fs : Option UnitFacts). env ++ option_to_list fs) (sym w.in-Some.is) in
           (more adds ∙ back, kept adds)
       | in_default w ↦
           let adds : c.match-branch-2.env ≡ env ++ own = w.env-is ∙ sym (append-nil env) ∙ ap (λ (fs : Option UnitFacts). env ++ option_to_list fs) (sym w.in_default.is) in
