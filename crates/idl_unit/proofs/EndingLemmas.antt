@@ -4,7 +4,10 @@ use Rattle.std.proofs.lemmas.List.{drop_all, drop_more, take_all, take_more}
 use Rattle.std.proofs.lemmas.Bool.{ne_eqb, eq-eqb}
 use Rattle.std.specs.Prelude.{count_by, fold}
 use Rattle.idl_lex.specs.Tokens.{Token}
-use Rattle.idl_unit.specs.Ending.{begins, closes, ends, ends_by, ends_in, is_balanced, is_empty, is_interface, is_semicolon, opens, role, rule_by, rule_of, token_units}
+use Rattle.idl_unit.specs.Ending.{begins, closes, edge, ends, ends_by, ends_in, is_balanced, is_empty, is_interface, is_semicolon, opens, role, role_of, rule_by, rule_of, token_units}
+use Rattle.idl_lex.specs.declared.keyword.Keyword.{Keyword}
+use Rattle.idl_lex.specs.declared.keyword.Keyword.TheVariants as keyword
+use Rattle.idl_lex.specs.declared.kind.Kind.TheVariants.{Accepted}
 use Rattle.idl_unit.specs.declared.role.Role.{Role}
 use Rattle.idl_unit.specs.declared.role.Role.TheVariants.{OpenBrace, CloseBrace, Semicolon, Module, Interface, Local, Other}
 use Rattle.idl_unit.specs.declared.role.Rule.{Rule}
@@ -346,3 +349,36 @@ not_semicolon Module h = refl
 not_semicolon Interface h = refl
 not_semicolon Local h = refl
 not_semicolon Other h = refl
+
+pub edge_open : (r : Role) → edge r ≡ OpenBrace → r ≡ OpenBrace
+edge_open OpenBrace e = refl
+edge_open CloseBrace e = cc
+edge_open Semicolon e = cc
+edge_open Module e = cc
+edge_open Interface e = cc
+edge_open Local e = cc
+edge_open Other e = cc
+
+pub edge_close : (r : Role) → edge r ≡ CloseBrace → r ≡ CloseBrace
+edge_close OpenBrace e = cc
+edge_close CloseBrace e = refl
+edge_close Semicolon e = cc
+edge_close Module e = cc
+edge_close Interface e = cc
+edge_close Local e = cc
+edge_close Other e = cc
+
+pub edge_semicolon : (r : Role) → edge r ≡ Semicolon → r ≡ Semicolon
+edge_semicolon OpenBrace e = cc
+edge_semicolon CloseBrace e = cc
+edge_semicolon Semicolon e = refl
+edge_semicolon Module e = cc
+edge_semicolon Interface e = cc
+edge_semicolon Local e = cc
+edge_semicolon Other e = cc
+
+pub edge_word : (word : Keyword) → edge (role_of (Accepted word)) ≡ Other
+edge_word keyword.Module = refl
+edge_word keyword.Interface = refl
+edge_word keyword.Local = refl
+edge_word other = refl

@@ -25,6 +25,13 @@ role_of other = Other
 abbrev pub role : Token → Role
 role token = role_of (kind_of token)
 
+-- the same, where a keyword is as any other token
+abbrev pub edge : Role → Role
+edge Module = Other
+edge Interface = Other
+edge Local = Other
+edge role = role
+
 abbrev pub opens : Role → Bool
 opens OpenBrace = true
 opens role = false

@@ -1,5 +1,5 @@
 -- The tokens that may not stand in a unit, or not there.
-use Rattle.std.specs.Prelude.{ℕ, ◌+◌, Bool, true, false, ◌&&◌, ◌||◌, List, [], ◌∷◌, ◌++◌, count_by, length, map, nat_lt, drop, Option, None, Some, if◌then◌else◌}
+use Rattle.std.specs.Prelude.{ℕ, ◌+◌, Bool, true, false, ◌&&◌, ◌||◌, List, [], ◌∷◌, ◌++◌, count_by, length, map, nat_lt, not, drop, Option, None, Some, if◌then◌else◌}
 use Rattle.idl_event.specs.declared.code.Code.{Code}
 use Rattle.idl_event.specs.declared.code.Code.TheVariants.{BadToken, UnclosedLiteral, NotOneCharacter, BadEscape, MalformedInteger, FloatingLiteral, IntegerTooLarge, MixedWidths, UnclosedComment, LeftOut, NestedTooDeep, LikeKeyword}
 use Rattle.idl_lex.specs.Kind.{kind_of}
@@ -79,6 +79,16 @@ is_miscased other = false
 
 abbrev pub code_if : Bool → Code → List Code
 code_if b code = if b then code ∷ [] else []
+
+-- a token of this kind has no code beside others of such kinds, unless too many brackets are open
+abbrev pub is_harmless : Kind → Bool
+is_harmless (Accepted keyword) = not (is_const (Some (Accepted keyword)))
+is_harmless Refused = false
+is_harmless Miscased = false
+is_harmless WideString = false
+is_harmless (Preprocessing mark) = false
+is_harmless (Bad why) = false
+is_harmless other = true
 
 -- the codes of a token of this kind, directly before which these two stand, the nearer first, and
 -- with which too many brackets are open or not

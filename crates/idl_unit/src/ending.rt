@@ -4,7 +4,7 @@ ghost use Rattle.std.specs.Prelude.{◌≡◌, ◌<◌, ◌≤◌, ◌∷◌, le
 ghost use Rattle.idl_unit.specs.Ending.{begins, is_semicolon, rule_of, token_units};
 ghost use Rattle.idl_unit.specs.declared.role.Rule.TheVariants as rule;
 
-use crate::role::{Role, Rule, role_of, rule_of};
+use crate::role::{Role, Rule, edge_of, role_of, rule_of};
 use idl_lex::Token;
 
 /// How many tokens the first unit of these has.
@@ -44,7 +44,7 @@ fn heading_len(tokens: &[Token]) -> usize
     ensures within { result ≤ length tokens.now }
 {
     for (index, token) in tokens.iter().enumerate() {
-        match role_of(token) {
+        match edge_of(token) {
             Role::OpenBrace => return index + 1,
             Role::Semicolon => return index + 1,
             Role::CloseBrace => return index,
@@ -66,7 +66,7 @@ fn declaration_len(tokens: &[Token]) -> usize
 {
     let mut depth = 0usize;
     for (index, token) in tokens.iter().enumerate() {
-        match role_of(token) {
+        match edge_of(token) {
             Role::OpenBrace => depth += 1,
             Role::CloseBrace => {
                 if depth == 0 {

@@ -1,7 +1,8 @@
 //! What a token is for the cut into units.
 
 ghost use Rattle.std.specs.Prelude.{◌≡◌};
-ghost use Rattle.idl_unit.specs.Ending.{begins, is_interface, role, rule_of};
+ghost use Rattle.idl_unit.specs.Ending.{begins, edge, is_interface, role, role_of, rule_of};
+ghost use Rattle.idl_lex.specs.declared.kind.Kind.TheVariants.{Punctuation};
 
 use idl_lex::{Keyword, Kind, Mark, Token};
 
@@ -40,12 +41,34 @@ pub fn role_of(token: &Token) -> Role
     ensures { result ≡ role token.now }
 {
     match token.kind() {
-        Kind::Punctuation(Mark::OpenBrace) => Role::OpenBrace,
-        Kind::Punctuation(Mark::CloseBrace) => Role::CloseBrace,
-        Kind::Punctuation(Mark::Semicolon) => Role::Semicolon,
+        Kind::Punctuation(mark) => mark_role(mark),
         Kind::Accepted(Keyword::Module) => Role::Module,
         Kind::Accepted(Keyword::Interface) => Role::Interface,
         Kind::Accepted(Keyword::Local) => Role::Local,
+        _ => Role::Other,
+    }
+}
+
+/// The same, where a keyword is as any other token: none tells where a unit ends.
+#[tactic(auto, using(crate::proofs::EndingLemmas::edge_word))]
+pub fn edge_of(token: &Token) -> Role
+    ensures { result ≡ edge (role token.now) }
+{
+    match token.kind() {
+        Kind::Punctuation(mark) => mark_role(mark),
+        _ => Role::Other,
+    }
+}
+
+// What a mark is for the cut.
+fn mark_role(mark: Mark) -> Role
+    ensures role { result ≡ role_of (Punctuation mark) }
+    ensures edge { edge result ≡ result }
+{
+    match mark {
+        Mark::OpenBrace => Role::OpenBrace,
+        Mark::CloseBrace => Role::CloseBrace,
+        Mark::Semicolon => Role::Semicolon,
         _ => Role::Other,
     }
 }

@@ -1,9 +1,11 @@
 //! The tokens that may not stand in a unit, or not there.
 
 ghost use Rattle.std.specs.Prelude.{◌≡◌, ◌<◌, ◌+◌, ◌-◌, ◌^◌, Some, None, cond, length, nat_lt, IfSome};
+ghost use Rattle.std.specs.List.{list_all};
 ghost use Rattle.std.specs.Option.{option_to_list};
+ghost use Rattle.idl_lex.specs.Kind.{kind_of};
 ghost use Rattle.idl_unit.specs.Faults.{least_fault};
-ghost use Rattle.idl_unit.specs.TokenRules.{bad_codes, codes_beside, defect_code, first, is_const, is_left_out, is_long, is_other_width, nests, token_faults, unnests};
+ghost use Rattle.idl_unit.specs.TokenRules.{bad_codes, codes_beside, defect_code, first, is_const, is_harmless, is_left_out, is_long, is_other_width, nests, token_faults, unnests};
 
 use crate::fault::Fault;
 use idl_event::Code;
@@ -14,6 +16,36 @@ pub const MAX_NESTING: usize = 64;
 
 /// The least fault of a unit of tokens by itself: the first token that may not stand there, with the least code.
 pub fn token_fault(unit: &[Token]) -> Option<Fault>
+    ensures least { result ≡ least_fault (token_faults unit.now) }
+    ensures within { IfSome result (λ fault. fault.index < length unit.now) }
+{
+    if unit.len() <= MAX_NESTING && are_harmless(unit) {
+        return None;
+    }
+    first_fault(unit)
+}
+
+// Whether no token of these has a fault, unless too many brackets are open.
+fn are_harmless(unit: &[Token]) -> bool
+    ensures { result ≡ list_all (λ token. is_harmless (kind_of token)) unit.now }
+{
+    unit.iter().all(|token| is_harmless(token.kind()))
+}
+
+// Whether a token of this kind has no fault beside others of such kinds, unless too many brackets are open.
+fn is_harmless(kind: Kind) -> bool
+    ensures { result ≡ is_harmless kind }
+{
+    match kind {
+        Kind::Bad(_) | Kind::Preprocessing(_) => false,
+        Kind::Refused | Kind::Miscased | Kind::WideString => false,
+        Kind::Accepted(_) => !is_const(Some(kind)),
+        _ => true,
+    }
+}
+
+// The least fault of a unit, which is looked for token by token.
+fn first_fault(unit: &[Token]) -> Option<Fault>
     ensures least { result ≡ least_fault (token_faults unit.now) }
     ensures within { IfSome result (λ fault. fault.index < length unit.now) }
 {

@@ -1,6 +1,6 @@
 use Rattle.std.proofs.Common.{inl, inr, ap, sym, ◌∙◌, arith}
-use Rattle.idl_unit.specs.Ending.{closes, opens, is_semicolon}
-use Rattle.idl_unit.proofs.EndingLemmas.{is_at, heading-through, heading-step, not_opens, not_closes, not_semicolon}
+use Rattle.idl_unit.specs.Ending.{closes, edge, opens, is_semicolon, role}
+use Rattle.idl_unit.proofs.EndingLemmas.{is_at, heading-through, heading-step, not_opens, not_closes, not_semicolon, edge_open, edge_semicolon}
 use Rattle.idl_unit.proofs.ending.heading_len.Goals as goal
 
 pub returns-in-OpenBrace-clause-cut : goal.returns-in-OpenBrace-clause-cut
@@ -8,7 +8,7 @@ returns-in-OpenBrace-clause-cut c =
     let tokens = c.args.tokens.now in
     let i = c.loop-index.index in
     let t = c.index-tokens-index.result in
-    let r = sym c.role_of.ensures ∙ c.in-OpenBrace.is in
+    let r = edge_open (role t) (sym c.edge_of.ensures ∙ c.in-OpenBrace.is) in
     heading-through tokens i t c.requires.rule (is_at tokens i t (omega arith) c.index-tokens-index.is) c.loop-index.invariant (ap closes r) (inl (ap opens r))
 
 pub returns-in-Semicolon-clause-cut : goal.returns-in-Semicolon-clause-cut
@@ -16,7 +16,7 @@ returns-in-Semicolon-clause-cut c =
     let tokens = c.args.tokens.now in
     let i = c.loop-index.index in
     let t = c.index-tokens-index.result in
-    let r = sym c.role_of.ensures ∙ c.in-Semicolon.is in
+    let r = edge_semicolon (role t) (sym c.edge_of.ensures ∙ c.in-Semicolon.is) in
     heading-through tokens i t c.requires.rule (is_at tokens i t (omega arith) c.index-tokens-index.is) c.loop-index.invariant (ap closes r) (inr (ap is_semicolon r))
 
 pub loop-index-preserved : goal.loop-index-preserved
@@ -24,6 +24,6 @@ loop-index-preserved c =
     let tokens = c.args.tokens.now in
     let i = c.loop-index.index in
     let t = c.index-tokens-index.result in
-    let r = c.role_of.ensures in
+    let r = c.edge_of.ensures in
     heading-step tokens i t c.requires.rule (is_at tokens i t (omega arith) c.index-tokens-index.is) c.loop-index.invariant
-    (not_closes _ (λ e. c.in_default.not-CloseBrace (r ∙ e))) (not_opens _ (λ e. c.in_default.not-OpenBrace (r ∙ e))) (not_semicolon _ (λ e. c.in_default.not-Semicolon (r ∙ e)))
+    (not_closes _ (λ e. c.in_default.not-CloseBrace (r ∙ ap edge e))) (not_opens _ (λ e. c.in_default.not-OpenBrace (r ∙ ap edge e))) (not_semicolon _ (λ e. c.in_default.not-Semicolon (r ∙ ap edge e)))
