@@ -5,6 +5,7 @@ pub mod CountLemmas
 pub mod DenotesOnce
 pub mod ExchangeLaws
 pub mod FactsLaws
+mod FewLemmas
 pub mod FirstLemmas
 pub mod Introduced
 pub mod LookupLaws

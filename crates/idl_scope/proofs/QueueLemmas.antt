@@ -26,6 +26,22 @@ joined-there found p paths h = ap (λ b. joined (cond b found (found ++ p ∷ []
 pub joined-new : (found : List (List (List ℕ))) (p : List (List ℕ)) (paths : List (List (List ℕ))) → list_any (path_eq p) found ≡ false → joined found (p ∷ paths) ≡ joined (found ++ p ∷ []) paths
 joined-new found p paths h = ap (λ b. joined (cond b found (found ++ p ∷ [])) paths) h
 
+or_true : (a : Bool) → (a || true) ≡ true
+or_true true = refl
+or_true false = refl
+
+module _ (p : List (List ℕ)) (first others : List (List (List ℕ))) where
+  -- one that is among the first, or among the others, is not put in again
+  pub joined-among_first : list_any (path_eq p) first ≡ true → joined (first ++ others) (p ∷ []) ≡ first ++ others
+  joined-among_first h = joined-there (first ++ others) p [] (list_any-append (path_eq p) first others ∙ ap (λ a. a || list_any (path_eq p) others) h)
+
+  pub joined-among_others : list_any (path_eq p) others ≡ true → joined (first ++ others) (p ∷ []) ≡ first ++ others
+  joined-among_others h = joined-there (first ++ others) p [] (list_any-append (path_eq p) first others ∙ ap (λ b. list_any (path_eq p) first || b) h ∙ or_true (list_any (path_eq p) first))
+
+  -- and one that is in neither is put last
+  pub joined-in_neither : list_any (path_eq p) first ≡ false → list_any (path_eq p) others ≡ false → joined (first ++ others) (p ∷ []) ≡ (first ++ others) ++ p ∷ []
+  joined-in_neither h g = joined-new (first ++ others) p [] (list_any-append (path_eq p) first others ∙ ap (λ a. a || list_any (path_eq p) others) h ∙ g)
+
 -- the path at a place of a queue
 pub slice_get-keys_of : (queue : List (List (List ℕ) × Unit {0})) (i : ℕ) → slice_get (keys_of queue) i ≡ option_map (λ e. e.0) (slice_get queue i)
 slice_get-keys_of [] i = refl

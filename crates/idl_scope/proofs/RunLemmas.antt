@@ -1,7 +1,6 @@
 -- Runs of lookups over a bank, under what a unit's earlier tokens add.
-use Rattle.std.proofs.Common.{◌≡◌, ℕ, zero, suc, ◌+◌, ◌<◌, true, false, cond, List, [], ◌∷◌, ◌++◌, Option, Some, None, Result, Err, length, map, eqb, refl, sym, ap, ◌∙◌, arith}
+use Rattle.std.proofs.Common.{◌≡◌, ℕ, zero, suc, ◌+◌, true, false, cond, List, [], ◌∷◌, ◌++◌, Option, Some, None, Result, Err, refl, ap, ◌∙◌}
 use Rattle.std.specs.Prelude.{option_to_list, slice_get}
-use Rattle.std.proofs.lemmas.Bool.Decides.{nat_tests}
 use Rattle.idl_memo.specs.Query.{Done, Ask, Tell, and_then, run, noted}
 use Rattle.idl_memo.proofs.QueryLaws.{run-and_then_at}
 use Rattle.idl_scope.specs.Facts.{entity_in, entity_key, joined, over}
@@ -26,14 +25,6 @@ pub under-and_then : {A B : Type 0} (own : List Addition) (q : Lookup A) (f : A 
 under-and_then own (Done a) f = refl
 under-and_then own (Ask k next) f = λ i. Ask k (λ v. under-and_then own (next (over own k v)) f i)
 under-and_then own (Tell x q) f = ap (Tell x) (under-and_then own q f)
-
--- whether there is nothing, by a count
-not_zero : (n : ℕ) → 0 < n → eqb n 0 ≡ false
-not_zero n h = grind (arith, nat_tests)
-
-pub is_nothing-map : {A B : Type 0} (f : A → B) (xs : List A) → is_nothing (map f xs) ≡ eqb (length xs) 0
-is_nothing-map f [] = refl
-is_nothing-map f (x ∷ xs) = sym (not_zero (length (x ∷ xs)) (omega arith))
 
 module _ (own : List Addition) (bank : Key → Option Answer) where
   -- a lookup, run

@@ -5,6 +5,7 @@ pub mod Digest
 pub mod Digested
 pub mod Entity
 pub mod Facts
+pub mod Finds
 pub mod Held
 pub mod Identity
 pub mod Key

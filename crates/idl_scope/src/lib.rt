@@ -7,6 +7,7 @@
 mod addition;
 mod answer;
 mod apart;
+mod base_queue;
 mod data_type;
 mod digest;
 mod digested;
@@ -16,6 +17,7 @@ mod env;
 mod exchange;
 mod facts;
 mod fault;
+mod finds;
 mod found;
 mod identity;
 mod key;

@@ -3,7 +3,8 @@
 ghost use Rattle.std.specs.Prelude.{◌≡◌, ◌≤◌, ◌++◌, ℕ, IfOk, OnOk, Some, map, option_to_list};
 ghost use Rattle.std.specs.Option.{option_copied};
 ghost use Rattle.idl_memo.specs.Query.{noted, run};
-ghost use Rattle.idl_scope.specs.Facts.{answer_of, answers, entity_in, identity_in, over, prefix_in};
+ghost use Rattle.idl_scope.specs.Facts.{answer_of, answers, entity_in, entity_key, identity_in, over, prefix_in};
+ghost use Rattle.idl_scope.specs.Finds.{those};
 ghost use Rattle.idl_scope.specs.Key.{key_eq};
 ghost use Rattle.idl_scope.specs.Lookup.{bases_of, entered, has, outward, reached, under};
 ghost use Rattle.idl_scope.specs.declared.key.Key.TheVariants.{Declared, IdOf, Prefix as PrefixKey};
@@ -11,18 +12,18 @@ ghost use Rattle.idl_scope.specs.declared.lookup.TheConstants.{TURNS};
 
 use crate::addition::Addition;
 use crate::answer::{Answer, Scope, entity_in, identity_in, prefix_in};
+use crate::base_queue::BaseQueue;
 use crate::digest::under;
 use crate::digested::DigestedKey;
 use crate::entity::Entity;
 use crate::env::Env;
 use crate::facts::Facts;
+use crate::finds::Finds;
 use crate::identity::{Identity, Prefix};
 use crate::key::Key;
 use crate::kind::Kind;
 use crate::path::Path;
-use crate::queue::join;
 use crate::shared::Shared;
-use idl_base::Table;
 use idl_lex::Spelling;
 use idl_memo::Journal;
 use std::alloc::AllocError;
@@ -122,6 +123,24 @@ impl<'a> View<'a> {
         self.entity(log, &key)
     }
 
+    // The entity at a path. It stands apart, since most scopes are modules, of which no entity is asked.
+    #[inline(never)]
+    fn standing_at(
+        self,
+        log: &mut Journal<Env>,
+        path: &Path,
+    ) -> Result<Option<&'a Shared<Entity>>, AllocError>
+        ensures entity { IfOk result (λ e.
+            option_copied e
+            ≡ entity_in (over self.entry.own.now.additions (entity_key path.now)
+            (answers self.entry.env.now (entity_key path.now)))) }
+        ensures logged { OnOk result
+            (log.new ≡ noted key_eq (answers self.entry.env.now) log.old (entity_key path.now)) }
+    {
+        let key = Key::of_entity(self.env.alloc(), path)?;
+        self.entity(log, &key)
+    }
+
     // What a base itself declares a name as, or else its bases, which are entered next.
     fn enter(
         self,
@@ -138,8 +157,7 @@ impl<'a> View<'a> {
         if let Some(declared) = self.own(log, base, name)? {
             return Ok((Some(declared), &[]));
         }
-        let key = Key::of_entity(self.env.alloc(), base)?;
-        Ok((None, bases_of(self.entity(log, &key)?)))
+        Ok((None, bases_of(self.standing_at(log, base)?)))
     }
 
     /// What is reached under a name through bases.
@@ -156,20 +174,18 @@ impl<'a> View<'a> {
             (under self.entry.own.now.additions (reached turns name.now bases.now))
             (answers self.entry.env.now) log.old) }
     {
-        let mut queue = Table::new(self.env.alloc());
-        join(&mut queue, bases)?;
+        let mut queue = BaseQueue::new(self.env.alloc());
+        queue.join(bases)?;
         let mut found = Vec::new(self.env.alloc());
-        let mut turn = 0;
-        'bases: while turn < queue.len() {
-            let Some((base, ())) = queue.get_index(turn) else {
+        'bases: for turn in 0..TURNS {
+            let Some(base) = queue.get(turn) else {
                 return Ok(found);
             };
             let (declared, more) = self.enter(log, name, base)?;
             keep(&mut found, declared)?;
-            join(&mut queue, more)?;
-            turn += 1;
+            queue.join(more)?;
         }
-        Ok(found)
+        Err(AllocError)
     }
 
     /// What a scope has under a name.
@@ -187,18 +203,8 @@ impl<'a> View<'a> {
             (has turns place.entry.kind place.entry.path.now name.now))
             (answers self.entry.env.now) log.old) }
     {
-        let own = self.own(log, place.path, name)?;
-        let mut found = Vec::new(self.env.alloc());
-        keep(&mut found, own)?;
-        if !place.kind.inherits() {
-            return Ok(found);
-        }
-        let key = Key::of_entity(self.env.alloc(), place.path)?;
-        let scope = self.entity(log, &key)?;
-        if own.is_some() {
-            return Ok(found);
-        }
-        self.reached(log, name, bases_of(scope))
+        let found = self.found_in(log, place, name)?;
+        found.into_vec(self.env.alloc())
     }
 
     /// What the innermost of these scopes has that has the name.
@@ -215,17 +221,61 @@ impl<'a> View<'a> {
             (under self.entry.own.now.additions (outward turns scopes.now name.now))
             (answers self.entry.env.now) log.old) }
     {
+        let found = self.found_outward(log, scopes, name)?;
+        found.into_vec(self.env.alloc())
+    }
+
+    /// What a scope has under a name, as it is held.
+    pub(crate) fn found_in(
+        self,
+        log: &mut Journal<Env>,
+        place: Place<'_>,
+        name: &Spelling,
+    ) -> Result<Finds<'a>, AllocError>
+        ensures { IfOk result (λ found.
+            (turns : ℕ) → TURNS ≤ turns →
+            (those found, log.new)
+            ≡ run key_eq
+            (under self.entry.own.now.additions
+            (has turns place.entry.kind place.entry.path.now name.now))
+            (answers self.entry.env.now) log.old) }
+    {
+        let own = self.own(log, place.path, name)?;
+        if !place.kind.inherits() {
+            return Ok(Finds::own(self.env.alloc(), own));
+        }
+        let scope = self.standing_at(log, place.path)?;
+        if let Some(declared) = own {
+            return Ok(Finds::Own(declared));
+        }
+        Ok(Finds::Reached(self.reached(log, name, bases_of(scope))?))
+    }
+
+    /// What the innermost of these scopes has that has the name, as it is held.
+    pub(crate) fn found_outward(
+        self,
+        log: &mut Journal<Env>,
+        scopes: &[Scope],
+        name: &Spelling,
+    ) -> Result<Finds<'a>, AllocError>
+        ensures { IfOk result (λ found.
+            (turns : ℕ) → TURNS ≤ turns →
+            (those found, log.new)
+            ≡ run key_eq
+            (under self.entry.own.now.additions (outward turns scopes.now name.now))
+            (answers self.entry.env.now) log.old) }
+    {
         for scope in scopes {
             let place = Place {
                 kind: scope.kind,
                 path: &scope.path,
             };
-            let found = self.has(log, place, name)?;
-            if !found.as_slice().is_empty() {
+            let found = self.found_in(log, place, name)?;
+            if !found.is_nothing() {
                 return Ok(found);
             }
         }
-        Ok(Vec::new(self.env.alloc()))
+        Ok(Finds::own(self.env.alloc(), None))
     }
 }
 

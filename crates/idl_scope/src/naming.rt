@@ -1,8 +1,9 @@
 //! What a scoped name denotes.
 
-ghost use Rattle.std.specs.Prelude.{◌≡◌, ◌≤◌, ℕ, IfOk, if◌then◌else◌, length, map};
+ghost use Rattle.std.specs.Prelude.{◌≡◌, ◌≤◌, ◌∷◌, [], ℕ, IfOk, if◌then◌else◌, length};
 ghost use Rattle.idl_memo.specs.Query.{run};
 ghost use Rattle.idl_scope.specs.Facts.{answers};
+ghost use Rattle.idl_scope.specs.Finds.{those};
 ghost use Rattle.idl_scope.specs.Key.{key_eq};
 ghost use Rattle.idl_scope.specs.Lookup.{denoted, further, has, judged, named, outer_reach, part_of, placed, reach, searched, outward, under, IfSettled};
 ghost use Rattle.idl_scope.specs.Meaning.{Denotes, Reaches, entity_found, seen};
@@ -14,6 +15,7 @@ use crate::entity::Entity;
 use crate::env::Env;
 use crate::facts::Facts;
 use crate::fault::{NameCode, NameFault};
+use crate::finds::Finds;
 use crate::found::Found;
 use crate::kind::Kind;
 use crate::lookup::{Place, View};
@@ -109,7 +111,7 @@ impl<'a> View<'a> {
             (answers self.entry.env.now) log.old) }
     {
         let found = self.first_found(log, cursor, name)?;
-        Ok(judged(0, name.first.as_bytes(), found.as_slice()))
+        Ok(judged(0, name.first.as_bytes(), &found))
     }
 
     // What there is under the first part of a name.
@@ -118,10 +120,10 @@ impl<'a> View<'a> {
         log: &mut Journal<Env>,
         cursor: &[Scope],
         name: &ScopedName,
-    ) -> Result<Vec<&'a Shared<Entity>>, AllocError>
-        ensures { IfOk result (λ es.
+    ) -> Result<Finds<'a>, AllocError>
+        ensures { IfOk result (λ found.
             (turns : ℕ) → TURNS ≤ turns →
-            (map (λ e. e.now) es.items, log.new)
+            (those found, log.new)
             ≡ run key_eq (under self.entry.own.now.additions
             (outward turns (searched name.now.is_global cursor.now) (folded name.now.first)))
             (answers self.entry.env.now) log.old) }
@@ -129,9 +131,9 @@ impl<'a> View<'a> {
         let folded = folded_name(self.env.alloc(), name.first.as_bytes())?;
         if name.is_global {
             let global = Scope::global();
-            return self.outward(log, &[global], &folded);
+            return self.found_outward(log, &[global], &folded);
         }
-        self.outward(log, cursor, &folded)
+        self.found_outward(log, cursor, &folded)
     }
 
     // What the part with a number denotes in the entity before it.
@@ -154,8 +156,8 @@ impl<'a> View<'a> {
             kind: before.kind,
             path: &before.path,
         };
-        let found = self.has(log, place, &folded)?;
-        Ok(judged(part, name.as_bytes(), found.as_slice()))
+        let found = self.found_in(log, place, &folded)?;
+        Ok(judged(part, name.as_bytes(), &found))
     }
 
     // What the parts behind the first denote.
@@ -187,23 +189,31 @@ impl<'a> View<'a> {
 }
 
 // The one entity, spelled so, or the fault at the part with a number.
-fn judged<'a>(
-    part: usize,
-    name: &[u8],
-    found: &[&'a Shared<Entity>],
-) -> Result<&'a Shared<Entity>, NameFault>
-    ensures { named result ≡ placed part (judged name.now (map (λ e. e.now) found.now)) }
+fn judged<'a>(part: usize, name: &[u8], found: &Finds<'a>) -> Result<&'a Shared<Entity>, NameFault>
+    ensures { named result ≡ placed part (judged name.now (those found.now)) }
 {
     match found {
-        [] => Err(NameFault::At(NameCode::Undeclared, part)),
-        [entity] => {
-            if entity.get().path.name() == name {
-                Ok(*entity)
-            } else {
-                Err(NameFault::At(NameCode::OtherSpelling, part))
-            }
-        }
-        _ => Err(NameFault::At(NameCode::Ambiguous, part)),
+        Finds::Own(entity) => spelled(part, name, *entity),
+        Finds::Reached(found) => match found.as_slice() {
+            [] => Err(NameFault::At(NameCode::Undeclared, part)),
+            [entity] => spelled(part, name, *entity),
+            _ => Err(NameFault::At(NameCode::Ambiguous, part)),
+        },
+    }
+}
+
+// The entity, if it is spelled so.
+fn spelled<'a>(
+    part: usize,
+    name: &[u8],
+    entity: &'a Shared<Entity>,
+) -> Result<&'a Shared<Entity>, NameFault>
+    ensures { named result ≡ placed part (judged name.now (entity.now ∷ [])) }
+{
+    if entity.get().path.name() == name {
+        Ok(entity)
+    } else {
+        Err(NameFault::At(NameCode::OtherSpelling, part))
     }
 }
 

@@ -13,4 +13,4 @@ returns-then-name c =
     let name = c.args.name.now in
     let same = c.in_ok-folded.ensures ∙ ap folded c.as_bytes.ensures in
     let scopes : c.global-global.result ∷ [] ≡ searched name.is_global c.args.cursor.now = ap (λ s. s ∷ []) c.global-global.ensures ∙ sym (ap (λ b. searched b c.args.cursor.now) c.if-name.true) in
-    IfOk-weaker c.outward.result _ _ (λ es given turns more. given turns more ∙ (λ i. runs own bank (outward turns (scopes i) (same i)) c.args.log.now)) c.outward.ensures
+    IfOk-weaker c.found_outward.result _ _ (λ found given turns more. given turns more ∙ (λ i. runs own bank (outward turns (scopes i) (same i)) c.args.log.now)) c.found_outward.ensures

@@ -1,6 +1,7 @@
-use Rattle.std.proofs.Common.{sym, ap, ◌∙◌, map}
+use Rattle.std.proofs.Common.{sym, ap, ◌∙◌}
 use Rattle.idl_lex.specs.Keywords.{folded}
 use Rattle.idl_scope.specs.Facts.{answers}
+use Rattle.idl_scope.specs.Finds.{those}
 use Rattle.idl_scope.specs.Lookup.{has, judged, placed}
 use Rattle.idl_scope.proofs.RunLemmas.{part_on, runs}
 use Rattle.idl_scope.proofs.lookup.View.next_part.Goals as goal
@@ -12,6 +13,6 @@ returns c turns more =
     let before = c.args.before.now in
     let same = c.in_ok-folded.ensures ∙ ap folded c.as_bytes.ensures in
     let gives = c.in_ok-found.ensures turns more ∙ ap (λ n. runs own bank (has turns before.kind before.path n) c.args.log.now) same in
-    let judged_is = c.judged.ensures ∙ (λ i. placed c.args.part (judged (c.as_bytes-2.ensures i) (map (λ e. e.now) (c.as_slice.ensures.value i)))) in
-    (λ i. (judged_is i, c.has.new.log))
+    let judged_is = c.judged.ensures ∙ (λ i. placed c.args.part (judged (c.as_bytes-2.ensures i) (those c.in_ok-found.found))) in
+    (λ i. (judged_is i, c.found_in.new.log))
     ∙ sym (part_on own bank c.args.part c.args.name.now (has turns before.kind before.path (folded c.args.name.now)) c.args.log.now _ _ gives)

@@ -1,5 +1,4 @@
 use Rattle.std.proofs.Common.{◌≡◌, ℕ, ◌-◌, ◌≤◌, map}
-use Rattle.std.specs.Map.{keys_of}
 use Rattle.idl_scope.specs.Facts.{answers}
 use Rattle.idl_scope.specs.Lookup.{reached, walk}
 use Rattle.idl_scope.specs.declared.lookup.TheConstants.{TURNS}
@@ -10,9 +9,5 @@ use Rattle.idl_scope.proofs.lookup.View.reached.Given as goal
 abbrev pub invariant-bases : goal.invariant-bases
 invariant-bases l =
     (turns : ℕ) → TURNS ≤ turns →
-    runs l.self.own.now.additions (answers l.self.env.now) (walk (turns - l.turn) l.name l.turn (keys_of l.queue) (map (λ e. e.now) l.found.items)) l.log
+    runs l.self.own.now.additions (answers l.self.env.now) (walk (turns - l.turn) l.name l.turn l.queue (map (λ e. e.now) l.found.items)) l.log
     ≡ runs l.self.own.now.additions (answers l.self.env.now) (reached turns l.name l.bases) l.fn.log
-
--- the turns that are left
-abbrev pub decreases-bases : goal.decreases-bases
-decreases-bases l = TURNS - l.turn

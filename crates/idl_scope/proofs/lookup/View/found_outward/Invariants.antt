@@ -3,7 +3,7 @@ use Rattle.idl_scope.specs.Facts.{answers}
 use Rattle.idl_scope.specs.Lookup.{outward}
 use Rattle.idl_scope.specs.declared.lookup.TheConstants.{TURNS}
 use Rattle.idl_scope.proofs.RunLemmas.{runs}
-use Rattle.idl_scope.proofs.lookup.View.outward.Given as goal
+use Rattle.idl_scope.proofs.lookup.View.found_outward.Given as goal
 
 -- what is left, over the log so far, is the whole
 abbrev pub invariant-loop-scope : goal.invariant-loop-scope
