@@ -166,23 +166,23 @@ impl<'a> Walker<'a> {
     {
         match *site {
             Site::Tokens(count) => self.pass(count),
-            other => self.visit_any(log, other),
+            _ => self.visit_any(log, site),
         }
     }
 
     // A site, whatever it is.
     #[inline(never)]
     #[tactic(auto, unfolding(crate::specs::Walk::visit))]
-    fn visit_any(&mut self, log: &mut Journal<Env>, site: Site<'_>) -> Result<(), AllocError>
-        requires { HasRoomFor (held self.old) (item_at site ∷ []) }
+    fn visit_any(&mut self, log: &mut Journal<Env>, site: &Site<'_>) -> Result<(), AllocError>
+        requires { HasRoomFor (held self.old) (item_at site.now ∷ []) }
         ensures visited { OnOk result ((turns : ℕ) → TURNS ≤ turns →
             (held self.new, log.new)
-            ≡ run key_eq (visited turns (item_at site.entry) (held self.old))
+            ≡ run key_eq (visited turns (item_at site.now) (held self.old))
             (answers self.old.env.now) log.old) }
-        ensures at { OnOk result (self.new.at ≡ self.old.at + item_length (item_at site.entry)) }
+        ensures at { OnOk result (self.new.at ≡ self.old.at + item_length (item_at site.now)) }
         ensures env { OnOk result (self.new.env.now ≡ self.old.env.now) }
     {
-        match site {
+        match *site {
             Site::Declared(way, name) => self.declare(log, way, name),
             Site::Used(way, name) => self.use_name(log, way, name),
             Site::ScopeBegins(way, name) => self.begin_scope(way, name),
