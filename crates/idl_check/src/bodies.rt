@@ -5,6 +5,7 @@ ghost use Rattle.idl_scope.specs.Kind.{kind_eq};
 ghost use Rattle.idl_scope.specs.declared.kind.Kind.TheVariants.{Attribute};
 ghost use Rattle.idl_check.specs.Bodies.{begun_body, comes_out, goes_in, is_member, is_nothing, joined_text, no_clauses, raises, raising, signature_of, told_body, told_innermost, with_array_body, with_array_type, with_body_label, with_context, with_last_type, with_member, with_name, with_next_label, with_raised};
 
+use crate::few::Few;
 use idl_base::Seq;
 use idl_scope::{DataType, Entity, Kind, Member, Path, Shared, Signature};
 use idl_site::{Declaration, Use};
@@ -125,10 +126,10 @@ impl Clauses {
     /// Puts in the attribute that was declared last, if it raises something.
     pub fn add_raising(
         &self,
-        begun: &mut Vec<Shared<Entity>>,
+        begun: &mut Few<Shared<Entity>>,
         last: &Option<Shared<Entity>>,
     ) -> Result<(), AllocError>
-        ensures { OnOk result (begun.new.items ≡ begun.old.items ++ raising last.now self.now) }
+        ensures { OnOk result (begun.new ≡ begun.old ++ raising last.now self.now) }
     {
         let Some(entity) = last else {
             return Ok(());
@@ -287,11 +288,10 @@ pub fn end_innermost(
     alloc: Global,
     bodies: &mut Vec<Body>,
     clauses: &Clauses,
-    begun: &mut Vec<Shared<Entity>>,
+    begun: &mut Few<Shared<Entity>>,
 ) -> Result<(), AllocError>
     ensures begun { OnOk result
-        (begun.new.items
-        ≡ begun.old.items ++ told_innermost clauses.now bodies.old.items) }
+        (begun.new ≡ begun.old ++ told_innermost clauses.now bodies.old.items) }
     ensures bodies { OnOk result (bodies.new.items ≡ drop 1 bodies.old.items) }
 {
     let Some(body) = take_innermost(bodies) else {

@@ -11,6 +11,7 @@ mod bodies;
 mod codes;
 mod cursor;
 mod declaring;
+mod few;
 mod identifying;
 mod judge;
 mod labels;
