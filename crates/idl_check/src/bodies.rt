@@ -6,6 +6,7 @@ ghost use Rattle.idl_scope.specs.declared.kind.Kind.TheVariants.{Attribute};
 ghost use Rattle.idl_check.specs.Bodies.{begun_body, comes_out, goes_in, is_member, is_nothing, joined_text, no_clauses, raises, raising, signature_of, told_body, told_innermost, with_array_body, with_array_type, with_body_label, with_context, with_last_type, with_member, with_name, with_next_label, with_raised};
 
 use crate::few::Few;
+use crate::last_type::LastType;
 use idl_base::Seq;
 use idl_scope::{DataType, Entity, Kind, Member, Path, Shared, Signature};
 use idl_site::{Declaration, Use};
@@ -167,12 +168,12 @@ impl Body {
     pub fn new(
         alloc: Global,
         entity: &Option<Shared<Entity>>,
-        data_type: &Option<Shared<DataType>>,
+        data_type: &LastType,
     ) -> Result<Body, AllocError>
         ensures { IfOk result (λ body. body ≡ begun_body entity.now data_type.now) }
     {
         let entity = entity.clone()?;
-        let data_type = data_type.clone()?;
+        let data_type = data_type.get(alloc)?;
         Ok(Body {
             entity,
             data_type,

@@ -15,6 +15,7 @@ mod few;
 mod identifying;
 mod judge;
 mod labels;
+mod last_type;
 mod laws;
 mod naming;
 mod part;

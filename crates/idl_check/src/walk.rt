@@ -299,7 +299,7 @@ impl<'a> Walker<'a> {
         let path = innermost.path.clone()?;
         let is_union = innermost.kind == Kind::Union;
         let alloc = self.env.alloc();
-        self.written.name_type(alloc, &path)?;
+        self.written.name_scope(path);
         end_innermost(alloc, &mut self.bodies, &self.clauses, &mut self.begun)?;
         self.cursor.end();
         if is_union { self.end_union() } else { Ok(()) }
