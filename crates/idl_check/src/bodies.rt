@@ -197,6 +197,9 @@ impl Body {
         let name = entity.path.spelling(alloc)?;
         let data_type = entity.data_type.clone()?;
         let labels = replace(&mut self.labels, Vec::new(alloc));
+        if self.members.is_empty() {
+            self.members.reserve_exact(room_for(entity.kind))?;
+        }
         self.members.push(Member {
             name,
             data_type,
@@ -323,6 +326,11 @@ fn set_last_type(members: &mut Vec<Member>, data_type: Option<Shared<DataType>>)
     if let Some(member) = members.last_mut() {
         member.data_type = data_type;
     }
+}
+
+// As many members as most operations, or most structs, have at the least.
+fn room_for(kind: Kind) -> usize {
+    if kind == Kind::Parameter { 2 } else { 4 }
 }
 
 // Whether there is none.
