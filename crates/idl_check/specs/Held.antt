@@ -45,7 +45,7 @@ held w = record {
   at = w.at;
   cursor = w.cursor;
   own = w.own.additions;
-  begun = w.begun.items;
+  begun = w.begun;
   bases = w.bases;
   written = held_written w.written;
   last = w.last;
@@ -53,7 +53,7 @@ held w = record {
   clauses = w.clauses;
   unions = w.unions.items;
   gives_back = w.gives_back;
-  found = w.found.items;
+  found = w.found;
   values = held_values w.values;
   fault = w.fault;
 }

@@ -4,11 +4,11 @@ pub mod Types
 pub mod Labels
 pub mod Values
 pub mod Declaring
+pub mod Few
 pub mod Identifying
 pub mod Pragmas
 pub mod Using
 pub mod Walk
-pub mod Cursor
 pub mod Placing
 pub mod Row
 pub mod HeldRow

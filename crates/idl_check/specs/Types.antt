@@ -7,7 +7,7 @@ use Rattle.idl_scope.specs.Kind.{kind_eq, stage_eq}
 use Rattle.idl_scope.specs.Lookup.{Lookup}
 use Rattle.idl_scope.specs.declared.data_type.DataType.{DataType}
 use Rattle.idl_scope.specs.declared.data_type.Element.{Element}
-use Rattle.idl_scope.specs.declared.data_type.Element.TheVariants.{Constants, Unvalued}
+use Rattle.idl_scope.specs.declared.data_type.Element.TheVariants.{Constants, Named, Unvalued}
 use Rattle.idl_scope.specs.declared.data_type.Layer.TheVariants.{Sequence}
 use Rattle.idl_scope.specs.declared.unvalued.Unvalued.TheVariants.{Float, Double, LongDouble, Any, Object}
 use Rattle.idl_scope.specs.declared.entity.Entity.{Entity}
@@ -28,6 +28,12 @@ use Rattle.idl_value.specs.declared.target.Target.TheVariants as target
 abbrev pub is_incomplete : Entity → Bool
 is_incomplete e =
     (kind_eq e.kind Structure || kind_eq e.kind Union) && not (stage_eq e.stage Complete)
+
+-- the type that was written last: what is declared at a path, where that is kept, and else the type
+-- that is told
+abbrev pub named_or_told : Option (List (List ℕ)) → Option DataType → Option DataType
+named_or_told None told = told
+named_or_told (Some path) told = Some (plain_type (Named path))
 
 -- the type that the name of a typedef stands for
 abbrev pub aliased : Entity → Option DataType

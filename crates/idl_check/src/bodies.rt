@@ -5,6 +5,8 @@ ghost use Rattle.idl_scope.specs.Kind.{kind_eq};
 ghost use Rattle.idl_scope.specs.declared.kind.Kind.TheVariants.{Attribute};
 ghost use Rattle.idl_check.specs.Bodies.{begun_body, comes_out, goes_in, is_member, is_nothing, joined_text, no_clauses, raises, raising, signature_of, told_body, told_innermost, with_array_body, with_array_type, with_body_label, with_context, with_last_type, with_member, with_name, with_next_label, with_raised};
 
+use crate::few::Few;
+use crate::last_type::LastType;
 use idl_base::Seq;
 use idl_scope::{DataType, Entity, Kind, Member, Path, Shared, Signature};
 use idl_site::{Declaration, Use};
@@ -125,10 +127,10 @@ impl Clauses {
     /// Puts in the attribute that was declared last, if it raises something.
     pub fn add_raising(
         &self,
-        begun: &mut Vec<Shared<Entity>>,
+        begun: &mut Few<Shared<Entity>>,
         last: &Option<Shared<Entity>>,
     ) -> Result<(), AllocError>
-        ensures { OnOk result (begun.new.items ≡ begun.old.items ++ raising last.now self.now) }
+        ensures { OnOk result (begun.new ≡ begun.old ++ raising last.now self.now) }
     {
         let Some(entity) = last else {
             return Ok(());
@@ -166,12 +168,12 @@ impl Body {
     pub fn new(
         alloc: Global,
         entity: &Option<Shared<Entity>>,
-        data_type: &Option<Shared<DataType>>,
+        data_type: &LastType,
     ) -> Result<Body, AllocError>
         ensures { IfOk result (λ body. body ≡ begun_body entity.now data_type.now) }
     {
         let entity = entity.clone()?;
-        let data_type = data_type.clone()?;
+        let data_type = data_type.get(alloc)?;
         Ok(Body {
             entity,
             data_type,
@@ -195,6 +197,9 @@ impl Body {
         let name = entity.path.spelling(alloc)?;
         let data_type = entity.data_type.clone()?;
         let labels = replace(&mut self.labels, Vec::new(alloc));
+        if self.members.is_empty() {
+            self.members.reserve_exact(room_for(entity.kind))?;
+        }
         self.members.push(Member {
             name,
             data_type,
@@ -287,11 +292,10 @@ pub fn end_innermost(
     alloc: Global,
     bodies: &mut Vec<Body>,
     clauses: &Clauses,
-    begun: &mut Vec<Shared<Entity>>,
+    begun: &mut Few<Shared<Entity>>,
 ) -> Result<(), AllocError>
     ensures begun { OnOk result
-        (begun.new.items
-        ≡ begun.old.items ++ told_innermost clauses.now bodies.old.items) }
+        (begun.new ≡ begun.old ++ told_innermost clauses.now bodies.old.items) }
     ensures bodies { OnOk result (bodies.new.items ≡ drop 1 bodies.old.items) }
 {
     let Some(body) = take_innermost(bodies) else {
@@ -322,6 +326,11 @@ fn set_last_type(members: &mut Vec<Member>, data_type: Option<Shared<DataType>>)
     if let Some(member) = members.last_mut() {
         member.data_type = data_type;
     }
+}
+
+// As many members as most operations, or most structs, have at the least.
+fn room_for(kind: Kind) -> usize {
+    if kind == Kind::Parameter { 2 } else { 4 }
 }
 
 // Whether there is none.

@@ -2,7 +2,7 @@
 
 ghost use Rattle.std.specs.Prelude.{◌≡◌, ◌∷◌, ◌++◌, [], IfOk, OnOk, drop, slice_get};
 ghost use Rattle.std.specs.Option.{option_copied};
-ghost use Rattle.idl_check.specs.Cursor.{kept_or_around};
+ghost use Rattle.idl_check.specs.Few.{kept_or_around};
 
 use crate::part::behind;
 use idl_scope::Scope;
@@ -18,7 +18,7 @@ pub struct Cursor<'a> {
 
 impl<'a> Model for Cursor<'a> {
     ghost use Rattle.std.specs.Prelude.{List};
-    ghost use Rattle.idl_check.specs.Cursor.{kept_or_around};
+    ghost use Rattle.idl_check.specs.Few.{kept_or_around};
     ghost use Rattle.idl_scope.specs.declared.answer.Scope.{Scope};
 
     ghost Value = { List Scope };

@@ -13,6 +13,7 @@ ghost use Rattle.idl_unit.specs.TokenRules.{first};
 use crate::bodies::Clauses;
 use crate::codes::first_code;
 use crate::identifying::{is_of_other_prefix, may_be_ahead};
+use crate::last_type::LastType;
 use crate::standing::Standing;
 use crate::types::names_of;
 use idl_base::Seq;
@@ -104,7 +105,7 @@ pub struct Ending<'a> {
 /// What the names that are declared next are declared with.
 pub struct Written {
     /// The type that was written last.
-    pub data_type: Option<Shared<DataType>>,
+    pub data_type: LastType,
     /// The type that the next constant is to have a value of, if constants may be of it.
     pub constants: Option<Target>,
     /// The path of the enum that was declared last.
@@ -136,7 +137,7 @@ impl Written {
             } }
     {
         Written {
-            data_type: None,
+            data_type: LastType::none(),
             constants: None,
             enumeration: Seq::new(alloc),
             enumerators: Seq::new(alloc),
@@ -144,7 +145,11 @@ impl Written {
     }
 
     // The type that a name is declared with.
-    fn data_type(&self, way: Declaration) -> Result<Option<Shared<DataType>>, AllocError>
+    fn data_type(
+        &self,
+        alloc: Global,
+        way: Declaration,
+    ) -> Result<Option<Shared<DataType>>, AllocError>
         ensures { IfOk result (λ t. t ≡ data_type_in (held_written self.now) way) }
     {
         match way {
@@ -153,7 +158,7 @@ impl Written {
             | Declaration::Attribute(_)
             | Declaration::Operation(_)
             | Declaration::Parameter(_)
-            | Declaration::Member => self.data_type.clone(),
+            | Declaration::Member => self.data_type.get(alloc),
             _ => Ok(None),
         }
     }
@@ -199,7 +204,7 @@ impl Written {
             entity ≡ entity_of (held_written self.now) way name.now scope.now) }
     {
         let path = scope.child(alloc, name)?;
-        let data_type = self.data_type(way)?;
+        let data_type = self.data_type(alloc, way)?;
         let value = self.value(alloc, way, name)?;
         let enumerators = self.enumerators(alloc, way)?;
         let entity = Entity {
@@ -241,8 +246,18 @@ impl Written {
             }) }
     {
         let element = Element::Named(path.clone()?);
-        self.data_type = Some(DataType::plain(alloc, element)?);
+        self.data_type = LastType::told(Some(DataType::plain(alloc, element)?));
         Ok(())
+    }
+
+    /// The same where the scope at the path ends.
+    pub fn name_scope(&mut self, path: Path)
+        ensures { held_written self.new
+            ≡ record (held_written self.old) {
+              data_type = Some (plain_type (Named path));
+            } }
+    {
+        self.data_type = LastType::named(path);
     }
 }
 

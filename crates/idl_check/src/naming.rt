@@ -21,6 +21,7 @@ ghost use Rattle.idl_unit.specs.TokenRules.{fault_at, first};
 use crate::bases::Bases;
 use crate::bodies::declare_member;
 use crate::declaring::{declared_code, stays};
+use crate::few::Few;
 use crate::identifying::first_identity;
 use crate::labels::Labels;
 use crate::part::front;
@@ -370,10 +371,10 @@ fn is_begun(entity: &Entity) -> bool
 }
 
 // Those that have begun, with one more if it has.
-fn keep_begun(begun: &mut Vec<Shared<Entity>>, entity: &Shared<Entity>) -> Result<(), AllocError>
+fn keep_begun(begun: &mut Few<Shared<Entity>>, entity: &Shared<Entity>) -> Result<(), AllocError>
     ensures { OnOk result
-        (begun.new.items
-        ≡ begun.old.items ++ (if is_begun entity.now then entity.now ∷ [] else [])) }
+        (begun.new
+        ≡ begun.old ++ (if is_begun entity.now then entity.now ∷ [] else [])) }
 {
     if !is_begun(entity.get()) {
         return Ok(());

@@ -1,6 +1,6 @@
 //! The row of a unit in the dump.
 
-ghost use Rattle.std.specs.Prelude.{◌≡◌, ◌≤◌, ◌∷◌, ◌++◌, ◌||◌, [], codes, false, IfOk, OnOk, drop, flat_map, length, map, take, if◌then◌else◌};
+ghost use Rattle.std.specs.Prelude.{◌≡◌, ◌≤◌, ◌+◌, ◌∷◌, ◌++◌, ◌||◌, [], codes, false, IfOk, OnOk, drop, flat_map, length, map, take, if◌then◌else◌};
 ghost use Rattle.std.specs.List.{repeat};
 ghost use Rattle.std.specs.Str.{bytes_eq};
 ghost use Rattle.idl_check.specs.Row.{behind_site, character, escaped, next_path, next_value, octal, path_word, row_of, site_text, spaced, text_word, token_text, unit_text};
@@ -30,7 +30,7 @@ pub struct Rest<'a> {
 }
 
 /// The row of a unit around which so many scopes are open.
-#[tactic(auto, unfolding(crate::specs::Row::row_of))]
+#[tactic(auto, unfolding(crate::specs::Row::row_of), using(crate::proofs::RowLemmas::behind_blanks))]
 pub fn row_of(
     alloc: Global,
     depth: usize,
@@ -40,13 +40,27 @@ pub fn row_of(
     requires { items_length (map item_at sites.now) ≤ 18446744073709551615 }
     ensures { IfOk result (λ row. row ≡ row_of depth (map item_at sites.now) (rest_at unit.entry)) }
 {
-    let mut text = Vec::with_capacity(alloc, 64)?;
-    push_sites(&mut text, sites, unit)?;
-    let room = text.len().saturating_add(depth).saturating_add(depth);
-    let mut row = Vec::with_capacity(alloc, room)?;
+    let mut row = Vec::with_capacity(alloc, room_of(depth, unit.tokens))?;
     push_blanks(&mut row, depth)?;
-    row.extend_from_slice(behind(text.as_slice(), 1))?;
+    let begin = row.len();
+    push_sites(&mut row, sites, unit)?;
+    take_out(&mut row, begin);
     Shared::new(alloc, Text::from_vec(row))
+}
+
+// Takes out the byte at a place, if there is one.
+fn take_out(row: &mut Vec<u8>, place: usize)
+    ensures { row.new.items ≡ take place row.old.items ++ drop (place + 1) row.old.items }
+{
+    if place < row.len() {
+        row.remove(place);
+    }
+}
+
+// As many bytes as most rows have that are made of these tokens: five for each, and some more.
+fn room_of(depth: usize, tokens: &[Token]) -> usize {
+    let words = tokens.len().saturating_mul(5).saturating_add(8);
+    words.saturating_add(depth).saturating_add(depth)
 }
 
 // Two blanks for each open scope.

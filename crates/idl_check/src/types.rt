@@ -11,6 +11,7 @@ ghost use Rattle.idl_scope.specs.Lookup.{under};
 ghost use Rattle.idl_scope.specs.declared.data_type.Layer.TheVariants.{Sequence};
 ghost use Rattle.idl_scope.specs.declared.lookup.TheConstants.{TURNS};
 
+use crate::last_type::LastType;
 use idl_base::Seq;
 use idl_lex::Spelling;
 use idl_memo::Journal;
@@ -138,7 +139,7 @@ pub fn written_as(
     env: &Env,
     shape: Shape,
     bound: Option<u32>,
-    before: &Option<Shared<DataType>>,
+    before: &LastType,
 ) -> Result<Option<Shared<DataType>>, AllocError>
     ensures { IfOk result (λ t. t ≡ written_as shape bound before.now) }
 {
@@ -158,11 +159,11 @@ pub fn written_as(
 fn sequence_of(
     alloc: Global,
     bound: u32,
-    before: &Option<Shared<DataType>>,
+    before: &LastType,
 ) -> Result<Option<Shared<DataType>>, AllocError>
     ensures { IfOk result (λ t. t ≡ option_map (with_layer (Sequence bound)) before.now) }
 {
-    match before {
+    match before.get(alloc)? {
         Some(element) => Ok(Some(element.get().within(alloc, Layer::Sequence(bound))?)),
         None => Ok(None),
     }

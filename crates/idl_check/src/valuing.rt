@@ -19,6 +19,7 @@ ghost use Rattle.idl_value.specs.declared.outcome.Outcome.TheVariants as outcome
 use crate::bodies::{label_member, make_array};
 use crate::declaring::array_of;
 use crate::labels::Labels;
+use crate::last_type::LastType;
 use crate::types::{target_in, written_as};
 use crate::values::{Types, code_of};
 use crate::walk::Walker;
@@ -193,7 +194,7 @@ impl<'a> Walker<'a> {
             Some(data_type) => target_in(data_type.get())?,
             None => None,
         };
-        self.written.data_type = written;
+        self.written.data_type = LastType::told(written);
         Ok(())
     }
 
@@ -231,7 +232,7 @@ impl<'a> Walker<'a> {
         let target = Target::of_keywords(discrete);
         let discriminates = target.discriminates();
         let element = Element::Constants(target.clone()?);
-        self.written.data_type = Some(self.env.plain(element)?);
+        self.written.data_type = LastType::told(Some(self.env.plain(element)?));
         let labels = Labels::new(self.env.alloc(), Some(target), 0);
         self.unions.insert(0, labels)?;
         if discriminates {

@@ -20,6 +20,7 @@ use crate::bodies::{Body, Clauses, end_innermost};
 use crate::codes::lesser;
 use crate::cursor::Cursor;
 use crate::declaring::{Ending, Written, finished, kind_of, path_in};
+use crate::few::Few;
 use crate::labels::Labels;
 use crate::values::Values;
 use idl_base::Seq;
@@ -43,7 +44,7 @@ pub struct Walker<'a> {
     /// What the tokens before it add.
     pub own: Facts,
     /// Those of the declared names that the unit's end finishes.
-    pub begun: Vec<Shared<Entity>>,
+    pub begun: Few<Shared<Entity>>,
     pub bases: Bases,
     /// What the next names are declared with.
     pub written: Written,
@@ -57,7 +58,7 @@ pub struct Walker<'a> {
     /// Whether what the next token begins is given back by a oneway operation.
     pub gives_back: bool,
     /// The paths of what the used names denote, in order.
-    pub found: Vec<Path>,
+    pub found: Few<Path>,
     pub values: Values,
     /// The least fault so far.
     pub fault: Option<Fault>,
@@ -97,7 +98,7 @@ impl<'a> Walker<'a> {
             at: 0,
             cursor: Cursor::new(alloc, scopes),
             own: Facts::new(alloc),
-            begun: Vec::new(alloc),
+            begun: Few::new(alloc),
             bases: Bases::new(alloc),
             written: Written::new(alloc),
             last: None,
@@ -105,7 +106,7 @@ impl<'a> Walker<'a> {
             clauses: Clauses::new(alloc),
             unions: Vec::new(alloc),
             gives_back: false,
-            found: Vec::new(alloc),
+            found: Few::new(alloc),
             values: Values::new(alloc),
             fault: None,
         }
@@ -166,23 +167,23 @@ impl<'a> Walker<'a> {
     {
         match *site {
             Site::Tokens(count) => self.pass(count),
-            other => self.visit_any(log, other),
+            _ => self.visit_any(log, site),
         }
     }
 
     // A site, whatever it is.
     #[inline(never)]
     #[tactic(auto, unfolding(crate::specs::Walk::visit))]
-    fn visit_any(&mut self, log: &mut Journal<Env>, site: Site<'_>) -> Result<(), AllocError>
-        requires { HasRoomFor (held self.old) (item_at site ∷ []) }
+    fn visit_any(&mut self, log: &mut Journal<Env>, site: &Site<'_>) -> Result<(), AllocError>
+        requires { HasRoomFor (held self.old) (item_at site.now ∷ []) }
         ensures visited { OnOk result ((turns : ℕ) → TURNS ≤ turns →
             (held self.new, log.new)
-            ≡ run key_eq (visited turns (item_at site.entry) (held self.old))
+            ≡ run key_eq (visited turns (item_at site.now) (held self.old))
             (answers self.old.env.now) log.old) }
-        ensures at { OnOk result (self.new.at ≡ self.old.at + item_length (item_at site.entry)) }
+        ensures at { OnOk result (self.new.at ≡ self.old.at + item_length (item_at site.now)) }
         ensures env { OnOk result (self.new.env.now ≡ self.old.env.now) }
     {
-        match site {
+        match *site {
             Site::Declared(way, name) => self.declare(log, way, name),
             Site::Used(way, name) => self.use_name(log, way, name),
             Site::ScopeBegins(way, name) => self.begin_scope(way, name),
@@ -298,7 +299,7 @@ impl<'a> Walker<'a> {
         let path = innermost.path.clone()?;
         let is_union = innermost.kind == Kind::Union;
         let alloc = self.env.alloc();
-        self.written.name_type(alloc, &path)?;
+        self.written.name_scope(path);
         end_innermost(alloc, &mut self.bodies, &self.clauses, &mut self.begun)?;
         self.cursor.end();
         if is_union { self.end_union() } else { Ok(()) }
@@ -335,7 +336,7 @@ impl<'a> Walker<'a> {
                   with_finished
                   (finished self.old.bases.paths self.old.values.constant self.old.clauses)
                   self.old.own.additions
-                  (self.old.begun.items ++ raising self.old.last self.old.clauses);
+                  (self.old.begun ++ raising self.old.last self.old.clauses);
               step = step;
             }) }
     {
@@ -343,7 +344,8 @@ impl<'a> Walker<'a> {
         let mut own = replace(&mut self.own, Facts::new(alloc));
         own.then(step);
         self.clauses.add_raising(&mut self.begun, &self.last)?;
-        if self.begun.is_empty() {
+        let begun = self.begun.as_slice();
+        if begun.is_empty() {
             return Ok(own);
         }
         let paths = self.bases.paths(alloc)?;
@@ -352,7 +354,7 @@ impl<'a> Walker<'a> {
             value: &self.values.constant,
             clauses: &self.clauses,
         };
-        finish(alloc, &mut own, ending, self.begun.as_slice())?;
+        finish(alloc, &mut own, ending, begun)?;
         Ok(own)
     }
 }

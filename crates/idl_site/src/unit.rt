@@ -16,7 +16,7 @@ use idl_tree::{Constant, Exception, Tree, Typedef};
 use std::alloc::{AllocError, Global};
 
 // For so many sites there is room from the start. Few units have more.
-const ROOM: usize = 16;
+const ROOM: usize = 32;
 
 /// The sites of a unit, in the order of its tokens: its parts, as `specs/UnitParts.antt` gives them
 /// for each production.

@@ -43,10 +43,10 @@ returns-clause-visit c =
     let scopes = c.front-scopes.ensures ∙ ap (take reach) c.as_slice.ensures.value in
     c.in_ok-follow.ensures.walk
     ∙ (λ i. after before c.last_at-last.result (c.in_ok-introduce.ensures i).additions (c.in_ok-push.ensures.items i) (c.in_ok-add_raised.ensures i) (c.get-entity.ensures i))
-    ∙ (λ i. after before (c.last_at-last.ensures i) (with_uses (folded name.first) (scopes i) before.own.additions) (before.found.items ++ path i ∷ [])
+    ∙ (λ i. after before (c.last_at-last.ensures i) (with_uses (folded name.first) (scopes i) before.own.additions) (before.found ++ path i ∷ [])
     (with_raised way (c.get-entity.ensures i).path before.clauses) e)
-    ∙ (λ i. after (c.note.ensures i) last (with_uses (folded name.first) (take reach (c.note.ensures i).cursor) (c.note.ensures i).own.additions) ((c.note.ensures i).found.items ++ e.path ∷ [])
+    ∙ (λ i. after (c.note.ensures i) last (with_uses (folded name.first) (take reach (c.note.ensures i).cursor) (c.note.ensures i).own.additions) ((c.note.ensures i).found ++ e.path ∷ [])
     (with_raised way e.path (c.note.ensures i).clauses) e)
-    ∙ (λ i. record (after (record old { bases = c.in_ok-code.ensures.same i }) last (with_uses (folded name.first) (take reach old.cursor) old.own.additions) (old.found.items ++ e.path ∷ []) (with_raised way e.path old.clauses) e)
+    ∙ (λ i. record (after (record old { bases = c.in_ok-code.ensures.same i }) last (with_uses (folded name.first) (take reach old.cursor) old.own.additions) (old.found ++ e.path ∷ []) (with_raised way e.path old.clauses) e)
     { fault = noted old.fault (map (fault_at c.last_at-last.result) (option_to_list c.in_ok-code.code)) })
-    ∙ (λ i. record (after old last (with_uses (folded name.first) (take reach old.cursor) old.own.additions) (old.found.items ++ e.path ∷ []) (with_raised way e.path old.clauses) e) { fault = fault i })
+    ∙ (λ i. record (after old last (with_uses (folded name.first) (take reach old.cursor) old.own.additions) (old.found ++ e.path ∷ []) (with_raised way e.path old.clauses) e) { fault = fault i })
