@@ -1,6 +1,6 @@
 //! Bytes that clones share.
 
-ghost use Rattle.std.specs.Prelude.{◌≡◌, ◌≤◌, ◌<◌, ◌↔◌, IfOk, IsTrue, Some, [], length, nat_eq, refl};
+ghost use Rattle.std.specs.Prelude.{◌≡◌, ◌↔◌, IfOk, IsTrue, Some, [], length, nat_eq, refl};
 ghost use Rattle.std.specs.Cmp.{partial_equiv_from_equiv};
 ghost use Rattle.std.specs.Cmp.Lexicographic.{pointwise, slice_cmp, bytes_decides, nat_list_eq_equiv, nat_list_cmp_total, texts_ties, texts_po};
 ghost use Rattle.std.specs.Hash as fed;
@@ -9,6 +9,7 @@ ghost use Rattle.std.proofs.Common.{ap};
 ghost use Rattle.idl_base.specs.SharedText.{room_bytes};
 
 use crate::Datum;
+use crate::short::Short;
 use std::alloc::{AllocError, Global};
 use std::cmp::Ordering;
 use std::hash::{Hash, Hasher};
@@ -112,46 +113,6 @@ impl Room {
             Room::Largest(short) => Ok(Room::Largest(short.clone()?)),
             Room::Apart(bytes) => Ok(Room::Apart(bytes.clone()?)),
         }
-    }
-}
-
-// Few bytes, in place.
-#[derive(Drop)]
-struct Short<const N: usize> {
-    count: u8,
-    bytes: [u8; N],
-}
-
-impl<const N: usize> Model for Short<N> {
-    ghost use Rattle.std.specs.Prelude.{List, ℕ, take, ◌≤◌};
-
-    ghost Value = { List ℕ };
-
-    ghost view = { λ short. take short.count short.bytes };
-
-    ghost invariant = { λ short. short.count ≤ N };
-}
-
-impl<const N: usize> Short<N> {
-    // These few bytes.
-    fn of(bytes: &[u8]) -> Short<N>
-        requires few { length bytes.now ≤ N }
-        requires counted { N < 256 }
-        ensures { result ≡ bytes.now }
-    {
-        let mut array = [0; N];
-        array[..bytes.len()].copy_from_slice(bytes);
-        Short {
-            count: bytes.len() as u8,
-            bytes: array,
-        }
-    }
-
-    // The bytes in order.
-    fn as_bytes(&self) -> &[u8]
-        ensures { result.now ≡ self.now }
-    {
-        &self.bytes[..self.count as usize]
     }
 }
 

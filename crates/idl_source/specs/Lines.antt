@@ -1,14 +1,17 @@
 -- Lines whose bytes stand together.
-use Rattle.std.specs.Prelude.{ℕ, List, [], ◌∷◌, ◌≤◌, ⊤, length, slice_range}
+use Rattle.std.specs.Prelude.{ℕ, List, ◌≤◌, All, length, map, slice_range}
 use Rattle.idl_source.specs.Line.{IsLine}
+use Rattle.idl_source.specs.declared.lines.Spot.{Spot}
 
--- the pieces of bytes that end at these places, the first of which begins at one
-abbrev pub pieces : ℕ → List ℕ → List ℕ → List (List ℕ)
-pieces from [] bytes = []
-pieces from (to ∷ ends) bytes = slice_range bytes from to ∷ pieces to ends bytes
+-- the bytes at a spot
+abbrev pub piece : List ℕ → Spot → List ℕ
+piece bytes spot = slice_range bytes spot.from spot.to
 
--- the places come one behind another, and each piece is a line
-abbrev pub AreLines : ℕ → List ℕ → List ℕ → Type 0
-AreLines from [] bytes = from ≡ length bytes
-AreLines from (to ∷ ends) bytes =
-    (from ≤ to) × (to ≤ length bytes) × IsLine (slice_range bytes from to) × AreLines to ends bytes
+-- the bytes at these spots
+abbrev pub pieces : List ℕ → List Spot → List (List ℕ)
+pieces bytes spots = map (piece bytes) spots
+
+-- a line stands at each of these spots
+abbrev pub AreLines : List ℕ → List Spot → Type 0
+AreLines bytes spots =
+    All (λ spot. (spot.from ≤ spot.to) × (spot.to ≤ length bytes) × IsLine (piece bytes spot)) spots

@@ -1,8 +1,9 @@
 //! Lines that are gathered.
 
-ghost use Rattle.std.specs.Prelude.{◌≡◌, ◌≤◌, ◌∷◌, ◌++◌, [], IfOk, OnOk, length};
+ghost use Rattle.std.specs.Prelude.{◌≡◌, ◌∷◌, ◌++◌, [], IfOk, OnOk};
+ghost use Rattle.std.specs.Rc.{rc_slice_items};
 ghost use Rattle.idl_source.specs.Line.{IsLine};
-ghost use Rattle.idl_source.specs.Lines.{pieces};
+ghost use Rattle.idl_source.specs.Lines.{AreLines, pieces};
 
 use crate::line::Line;
 use idl_base::Excerpt;
@@ -13,13 +14,20 @@ use std::rc::RcSlice;
 // So many bytes stand in one block, unless a line alone has more.
 const TOGETHER: usize = 4096;
 
-/// Lines that are gathered, one after another. The bytes of many stand together in one block of memory, which they share.
+/// Lines that are gathered, one after another. The bytes of many stand together in a block of memory, which these lines share.
 #[derive(Drop)]
 pub struct Lines {
     lines: Vec<Line>,
-    // The bytes of the last lines, and where each of these ends.
+    // The bytes of the last lines, and where among them each of these stands.
     bytes: Vec<u8>,
-    ends: Vec<u32>,
+    spots: Vec<Spot>,
+}
+
+// Where a line stands among bytes.
+#[derive(Clone, Copy)]
+struct Spot {
+    from: u32,
+    to: u32,
 }
 
 impl Model for Lines {
@@ -28,9 +36,9 @@ impl Model for Lines {
 
     ghost Value = { List (List ℕ) };
 
-    ghost view = { λ it. it.lines.items ++ pieces 0 it.ends.items it.bytes.items };
+    ghost view = { λ it. it.lines.items ++ pieces it.bytes.items it.spots.items };
 
-    ghost invariant = { λ it. AreLines 0 it.ends.items it.bytes.items };
+    ghost invariant = { λ it. AreLines it.bytes.items it.spots.items };
 }
 
 impl Lines {
@@ -41,7 +49,7 @@ impl Lines {
         Lines {
             lines: Vec::new(alloc),
             bytes: Vec::new(alloc),
-            ends: Vec::new(alloc),
+            spots: Vec::new(alloc),
         }
     }
 
@@ -50,68 +58,84 @@ impl Lines {
         requires { IsLine line.now }
         ensures { IfOk result (λ lines. lines ≡ self ++ line.now ∷ []) }
     {
-        let all = if self.has_room_for(line) {
-            self
-        } else {
-            self.closed()?
-        };
-        let Lines {
-            lines,
-            mut bytes,
-            mut ends,
-        } = all;
-        bytes.extend_from_slice(line)?;
-        ends.push(counted(bytes.len())?)?;
-        Ok(Lines { lines, bytes, ends })
+        if self.has_room_for(line) {
+            return self.added(line);
+        }
+        self.closed()?.added(line)
     }
 
     /// All the lines.
     pub fn into_vec(self) -> Result<Vec<Line>, AllocError>
         ensures { IfOk result (λ lines. lines.items ≡ self) }
     {
-        Ok(self.closed()?.lines)
+        let Lines {
+            mut lines,
+            bytes,
+            spots,
+        } = self;
+        push_pieces(&mut lines, bytes, &spots)?;
+        Ok(lines)
     }
 
-    // Whether so many bytes may stand with those of the last lines.
+    // Whether a line's bytes may stand with those of the last lines.
     fn has_room_for(&self, line: &[u8]) -> bool {
         self.bytes.is_empty() || line.len() <= TOGETHER.saturating_sub(self.bytes.len())
     }
 
-    // The same lines, where the last ones have their block, too.
+    // The same lines, the last of them in their block too.
     fn closed(self) -> Result<Lines, AllocError>
-        ensures same { IfOk result (λ lines. lines ≡ self) }
+        ensures { IfOk result (λ lines. lines ≡ self) }
+    {
+        let alloc = *self.bytes.allocator();
+        let lines = self.into_vec()?;
+        Ok(Lines {
+            lines,
+            bytes: Vec::new(alloc),
+            spots: Vec::new(alloc),
+        })
+    }
+
+    // The lines and one more, whose bytes stand with those of the last ones.
+    fn added(self, line: &[u8]) -> Result<Lines, AllocError>
+        requires { IsLine line.now }
+        ensures { IfOk result (λ lines. lines ≡ self ++ line.now ∷ []) }
     {
         let Lines {
-            mut lines,
+            lines,
             mut bytes,
-            mut ends,
+            mut spots,
         } = self;
-        let block = RcSlice::from_slice(*bytes.allocator(), bytes.as_slice())?;
-        push_pieces(&mut lines, &block, ends.as_slice())?;
-        bytes.clear();
-        ends.clear();
-        Ok(Lines { lines, bytes, ends })
+        let from = counted(bytes.len())?;
+        bytes.extend_from_slice(line)?;
+        let to = counted(bytes.len())?;
+        spots.push(Spot { from, to })?;
+        Ok(Lines {
+            lines,
+            bytes,
+            spots,
+        })
     }
 }
 
-// A place among so many bytes, or want of memory where they are too many to count.
+// A place, or want of memory where it is too far to be counted.
 fn counted(place: usize) -> Result<u32, AllocError>
     ensures { IfOk result (λ count. count ≡ place) }
 {
     match u32::try_from(place) {
         Ok(count) => Ok(count),
-        Err(_too_many) => Err(AllocError),
+        Err(_too_far) => Err(AllocError),
     }
 }
 
-// Puts in the lines of a block that end there.
-fn push_pieces(lines: &mut Vec<Line>, block: &RcSlice<u8>, ends: &[u32]) -> Result<(), AllocError>
-    ensures { OnOk result (lines.new.items ≡ lines.old.items ++ pieces 0 ends.now (rc_slice_items block.now)) }
+// Puts in the lines that stand among these bytes, which they share from now on.
+fn push_pieces(lines: &mut Vec<Line>, bytes: Vec<u8>, spots: &[Spot]) -> Result<(), AllocError>
+    requires { AreLines bytes.items spots.now }
+    ensures { OnOk result (lines.new.items ≡ lines.old.items ++ pieces bytes.items spots.now) }
 {
-    let mut from = 0;
-    for to in ends {
-        lines.push(Line::of(Excerpt::new(block.clone()?, from, *to)))?;
-        from = *to;
+    let block = RcSlice::from_slice(*bytes.allocator(), bytes.as_slice())?;
+    for spot in spots {
+        let piece = Excerpt::new(block.clone()?, spot.from, spot.to);
+        lines.push(Line::of(piece))?;
     }
     Ok(())
 }
