@@ -1,18 +1,14 @@
 //! Bytes that clones share.
 
-ghost use Rattle.std.specs.Prelude.{◌≡◌, ◌↔◌, IfOk, IsTrue, Some, [], length, nat_eq, refl};
+ghost use Rattle.std.specs.Prelude.{◌≡◌, ◌↔◌, [], IfOk, IsTrue, length};
 ghost use Rattle.std.specs.Cmp.{partial_equiv_from_equiv};
-ghost use Rattle.std.specs.Cmp.Lexicographic.{pointwise, slice_cmp, bytes_decides, nat_list_eq_equiv, nat_list_cmp_total, texts_ties, texts_po};
-ghost use Rattle.std.specs.Hash as fed;
-ghost use Rattle.std.specs.Ordering.{nat_cmp};
-ghost use Rattle.std.proofs.Common.{ap};
+ghost use Rattle.std.specs.Cmp.Lexicographic.{bytes_decides, nat_list_eq_equiv};
+ghost use Rattle.std.specs.Str.{bytes_eq};
 ghost use Rattle.idl_base.specs.SharedText.{room_bytes};
 
 use crate::Datum;
 use crate::short::Short;
 use std::alloc::{AllocError, Global};
-use std::cmp::Ordering;
-use std::hash::{Hash, Hasher};
 use std::marker::Model;
 use std::rc::{Rc, RcSlice};
 
@@ -126,12 +122,12 @@ impl Clone for SharedText {
 }
 
 impl PartialEq for SharedText {
-    ghost eq = { pointwise nat_eq };
+    ghost eq = { bytes_eq };
 
     ghost laws = { partial_equiv_from_equiv nat_list_eq_equiv };
 
     fn eq(&self, other: &SharedText) -> bool
-        ensures by_byte { result ≡ pointwise nat_eq self.now other.now }
+        ensures by_byte { result ≡ bytes_eq self.now other.now }
         ensures exact { IsTrue result ↔ (self.now ≡ other.now) }
     {
         self.as_bytes() == other.as_bytes()
@@ -140,43 +136,6 @@ impl PartialEq for SharedText {
 
 impl Eq for SharedText {
     ghost laws = { nat_list_eq_equiv };
-}
-
-impl PartialOrd for SharedText {
-    ghost partial_cmp = { λ x y. Some (slice_cmp nat_cmp x y) };
-
-    ghost laws = { texts_po };
-
-    fn partial_cmp(&self, other: &SharedText) -> Option<Ordering> {
-        Some(self.cmp(other))
-    }
-}
-
-impl Ord for SharedText {
-    ghost cmp = { slice_cmp nat_cmp };
-
-    ghost total = { nat_list_cmp_total };
-
-    ghost matches_partial_cmp = { λ x y. refl };
-
-    ghost matches_eq = { texts_ties };
-
-    fn cmp(&self, other: &SharedText) -> Ordering
-        ensures by_byte { result ≡ slice_cmp nat_cmp self.now other.now }
-        ensures exact { (result ≡ Ordering.Equal) ↔ (self.now ≡ other.now) }
-    {
-        self.as_bytes().cmp(&other.as_bytes())
-    }
-}
-
-impl Hash for SharedText {
-    ghost hash_input = { fed.slice fed.u8 };
-
-    ghost respects_eq = { λ x y h. ap (fed.slice fed.u8) ((bytes_decides x y).0 h) };
-
-    fn hash<H: Hasher>(&self, state: &mut H) {
-        self.as_bytes().hash(state);
-    }
 }
 
 impl Datum for SharedText {
