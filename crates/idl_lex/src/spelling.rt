@@ -96,7 +96,7 @@ impl Spelling {
     {
         match Short::new(bytes) {
             Some(short) => Ok(Spelling::short(short.folded())),
-            None => Spelling::from_vec(bytes.to_ascii_lowercase(alloc)?),
+            None => Spelling::folded_apart(alloc, bytes),
         }
     }
 
@@ -128,6 +128,14 @@ impl Spelling {
         Spelling {
             form: Form::Short(short),
         }
+    }
+
+    // Many bytes, with each capital letter made small.
+    #[inline(never)]
+    fn folded_apart(alloc: Global, bytes: &[u8]) -> Result<Spelling, AllocError>
+        ensures { IfOk result (λ spelling. spelling ≡ folded bytes.now) }
+    {
+        Spelling::from_vec(bytes.to_ascii_lowercase(alloc)?)
     }
 
     // Shared bytes of an excerpt, from one place up to another.

@@ -52,7 +52,7 @@ pub fn read_announced<S: Source>(
         if !read_line(source, feed, &mut line)? {
             return Ok(Announced::Unfinished);
         }
-        announced = with_line(announced, line.get());
+        take_line(&mut announced, line.get());
     }
     Ok(announced)
 }
@@ -67,24 +67,21 @@ fn first_announced(alloc: Global, count: usize) -> Announced
     Announced::Whole(Lines::new(alloc))
 }
 
-// What is gathered with one line more, of which nothing was kept if it is too long.
-fn with_line(announced: Announced, line: Option<&[u8]>) -> Announced
+// Takes one line more, of which nothing was kept if it is too long.
+fn take_line(announced: &mut Announced, line: Option<&[u8]>)
     requires one_line { IfSome line (λ l. IsLine l.now) }
 
     ensures { (count : ℕ) (lines : List (List ℕ)) (next : List ℕ)
         → option_copied line.entry ≡ line_within longest_line next
-        → IsGathered count lines announced → IsGathered count (lines ++ next ∷ []) result }
+        → IsGathered count lines announced.old → IsGathered count (lines ++ next ∷ []) announced.new }
 {
-    match announced {
-        Announced::Whole(lines) => match line {
-            Some(line) => match lines.with(line) {
-                Ok(lines) => Announced::Whole(lines),
-                Err(_no_memory) => Announced::NoMemory,
-            },
-            None => Announced::OverLimit,
-        },
-        Announced::Unfinished => Announced::Unfinished,
-        Announced::OverLimit => Announced::OverLimit,
-        Announced::NoMemory => Announced::NoMemory,
+    if let Announced::Whole(lines) = announced {
+        let Some(line) = line else {
+            *announced = Announced::OverLimit;
+            return;
+        };
+        if lines.push(line).is_err() {
+            *announced = Announced::NoMemory;
+        }
     }
 }

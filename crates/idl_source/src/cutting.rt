@@ -17,7 +17,7 @@ pub fn cut(alloc: Global, bytes: &[u8]) -> Result<Vec<Line>, AllocError>
 {
     let mut lines = Lines::new(alloc);
     for line in bytes.lines() {
-        lines = lines.with(line)?;
+        lines.push(line)?;
     }
     lines.into_vec()
 }

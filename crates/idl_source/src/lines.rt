@@ -53,28 +53,27 @@ impl Lines {
         }
     }
 
-    /// The lines, and behind them one more.
-    pub fn with(self, line: &[u8]) -> Result<Lines, AllocError>
+    /// Puts in a line.
+    pub fn push(&mut self, line: &[u8]) -> Result<(), AllocError>
         requires { IsLine line.now }
-        ensures { IfOk result (λ lines. lines ≡ self ++ line.now ∷ []) }
+        ensures { OnOk result (self.new ≡ self.old ++ line.now ∷ []) }
     {
-        if self.has_room_for(line) {
-            return self.added(line);
+        if !self.has_room_for(line) {
+            self.close()?;
         }
-        self.closed()?.added(line)
+        let from = counted(self.bytes.len())?;
+        self.bytes.extend_from_slice(line)?;
+        let to = counted(self.bytes.len())?;
+        self.spots.push(Spot { from, to })?;
+        Ok(())
     }
 
     /// All the lines.
-    pub fn into_vec(self) -> Result<Vec<Line>, AllocError>
+    pub fn into_vec(mut self) -> Result<Vec<Line>, AllocError>
         ensures { IfOk result (λ lines. lines.items ≡ self) }
     {
-        let Lines {
-            mut lines,
-            bytes,
-            spots,
-        } = self;
-        push_pieces(&mut lines, bytes, &spots)?;
-        Ok(lines)
+        push_pieces(&mut self.lines, &self.bytes, &self.spots)?;
+        Ok(self.lines)
     }
 
     // Whether a line's bytes may stand with those of the last lines.
@@ -82,38 +81,14 @@ impl Lines {
         self.bytes.is_empty() || line.len() <= TOGETHER.saturating_sub(self.bytes.len())
     }
 
-    // The same lines, the last of them in their block too.
-    fn closed(self) -> Result<Lines, AllocError>
-        ensures { IfOk result (λ lines. lines ≡ self) }
+    // Gives the last lines their block.
+    fn close(&mut self) -> Result<(), AllocError>
+        ensures { OnOk result (self.new ≡ self.old) }
     {
-        let alloc = *self.bytes.allocator();
-        let lines = self.into_vec()?;
-        Ok(Lines {
-            lines,
-            bytes: Vec::new(alloc),
-            spots: Vec::new(alloc),
-        })
-    }
-
-    // The lines and one more, whose bytes stand with those of the last ones.
-    fn added(self, line: &[u8]) -> Result<Lines, AllocError>
-        requires { IsLine line.now }
-        ensures { IfOk result (λ lines. lines ≡ self ++ line.now ∷ []) }
-    {
-        let Lines {
-            lines,
-            mut bytes,
-            mut spots,
-        } = self;
-        let from = counted(bytes.len())?;
-        bytes.extend_from_slice(line)?;
-        let to = counted(bytes.len())?;
-        spots.push(Spot { from, to })?;
-        Ok(Lines {
-            lines,
-            bytes,
-            spots,
-        })
+        push_pieces(&mut self.lines, &self.bytes, &self.spots)?;
+        self.bytes.clear();
+        self.spots.clear();
+        Ok(())
     }
 }
 
@@ -128,11 +103,11 @@ fn counted(place: usize) -> Result<u32, AllocError>
 }
 
 // Puts in the lines that stand among these bytes, which they share from now on.
-fn push_pieces(lines: &mut Vec<Line>, bytes: Vec<u8>, spots: &[Spot]) -> Result<(), AllocError>
-    requires { AreLines bytes.items spots.now }
-    ensures { OnOk result (lines.new.items ≡ lines.old.items ++ pieces bytes.items spots.now) }
+fn push_pieces(lines: &mut Vec<Line>, bytes: &[u8], spots: &[Spot]) -> Result<(), AllocError>
+    requires { AreLines bytes.now spots.now }
+    ensures { OnOk result (lines.new.items ≡ lines.old.items ++ pieces bytes.now spots.now) }
 {
-    let block = RcSlice::from_slice(*bytes.allocator(), bytes.as_slice())?;
+    let block = RcSlice::from_slice(*lines.allocator(), bytes)?;
     for spot in spots {
         let piece = Excerpt::new(block.clone()?, spot.from, spot.to);
         lines.push(Line::of(piece))?;
