@@ -1,6 +1,6 @@
 //! Lines that are gathered.
 
-ghost use Rattle.std.specs.Prelude.{◌≡◌, ◌∷◌, ◌++◌, [], IfOk, OnOk};
+ghost use Rattle.std.specs.Prelude.{◌≡◌, ◌∷◌, ◌++◌, [], IfOk, OnOk, length};
 ghost use Rattle.std.specs.Rc.{rc_slice_items};
 ghost use Rattle.idl_source.specs.Line.{IsLine};
 ghost use Rattle.idl_source.specs.Lines.{AreLines, pieces};
@@ -61,9 +61,17 @@ impl Lines {
         if !self.has_room_for(line) {
             self.close()?;
         }
-        let from = counted(self.bytes.len())?;
+        self.add(line)
+    }
+
+    // Puts in a line, whose bytes stand with those of the last ones.
+    fn add(&mut self, line: &[u8]) -> Result<(), AllocError>
+        requires { IsLine line.now }
+        ensures { OnOk result (self.new ≡ self.old ++ line.now ∷ []) }
+    {
+        let from = counted(&self.bytes)?;
         self.bytes.extend_from_slice(line)?;
-        let to = counted(self.bytes.len())?;
+        let to = counted(&self.bytes)?;
         self.spots.push(Spot { from, to })?;
         Ok(())
     }
@@ -92,13 +100,13 @@ impl Lines {
     }
 }
 
-// A place, or want of memory where it is too far to be counted.
-fn counted(place: usize) -> Result<u32, AllocError>
-    ensures { IfOk result (λ count. count ≡ place) }
+// How many bytes these are, or want of memory where they are too many.
+fn counted(bytes: &[u8]) -> Result<u32, AllocError>
+    ensures { IfOk result (λ count. count ≡ length bytes.now) }
 {
-    match u32::try_from(place) {
+    match u32::try_from(bytes.len()) {
         Ok(count) => Ok(count),
-        Err(_too_far) => Err(AllocError),
+        Err(_too_many) => Err(AllocError),
     }
 }
 
