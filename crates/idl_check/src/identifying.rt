@@ -8,6 +8,7 @@ ghost use Rattle.idl_scope.specs.Facts.{answers};
 ghost use Rattle.idl_scope.specs.Key.{key_eq};
 ghost use Rattle.idl_scope.specs.Lookup.{under};
 
+use idl_base::InlineText;
 use idl_lex::Spelling;
 use idl_memo::Journal;
 use idl_scope::{
@@ -122,7 +123,7 @@ pub fn first_identity(
     Shared::new(
         alloc,
         Identity {
-            id: shared_id(id)?,
+            id: InlineText::from_slice(alloc, id.as_slice())?,
             prefix: prefix.text.clone()?,
             fixed: Fixed::Nothing,
         },
@@ -141,13 +142,6 @@ fn room_of(prefix: &[u8], path: Names<'_>) -> usize {
         rest = outer;
     }
     room
-}
-
-// An id, from now on shared. It takes no copy.
-fn shared_id(id: Vec<u8>) -> Result<Spelling, AllocError>
-    ensures { IfOk result (λ shared. shared ≡ id.items) }
-{
-    Spelling::from_vec(id)
 }
 
 // A prefix with the `/` behind it.
@@ -196,7 +190,7 @@ pub fn versioned(
     Shared::new(
         alloc,
         Identity {
-            id: shared_name(alloc, id.as_slice())?,
+            id: InlineText::from_slice(alloc, id.as_slice())?,
             prefix: before.prefix.clone()?,
             fixed: Fixed::Version,
         },
@@ -220,7 +214,7 @@ pub fn given(alloc: Global, before: &Identity, id: Spelling) -> Result<Shared<Id
     Shared::new(
         alloc,
         Identity {
-            id,
+            id: InlineText::from_slice(alloc, id.as_bytes())?,
             prefix,
             fixed: Fixed::Id,
         },

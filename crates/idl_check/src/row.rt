@@ -10,9 +10,9 @@ ghost use Rattle.idl_tree.specs.Name.{spell_name};
 
 use crate::part::{behind, front};
 use crate::using::name_length;
-use idl_base::{Seq, Text};
+use idl_base::{Seq, SharedText};
 use idl_lex::{Token, is_like_keyword};
-use idl_scope::{Names, Path, Shared};
+use idl_scope::{Names, Path};
 use idl_site::Site;
 use idl_tree::{ScopedName, Several};
 use idl_value::{Value, push_value};
@@ -36,7 +36,7 @@ pub fn row_of(
     depth: usize,
     sites: &[Site<'_>],
     unit: Rest<'_>,
-) -> Result<Shared<Text>, AllocError>
+) -> Result<SharedText, AllocError>
     requires { items_length (map item_at sites.now) ≤ 18446744073709551615 }
     ensures { IfOk result (λ row. row ≡ row_of depth (map item_at sites.now) (rest_at unit.entry)) }
 {
@@ -45,7 +45,7 @@ pub fn row_of(
     let begin = row.len();
     push_sites(&mut row, sites, unit)?;
     take_out(&mut row, begin);
-    Shared::new(alloc, Text::from_vec(row))
+    SharedText::from_slice(alloc, row.as_slice())
 }
 
 // Takes out the byte at a place, if there is one.

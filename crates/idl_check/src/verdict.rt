@@ -2,7 +2,7 @@
 
 ghost use Rattle.std.specs.Prelude.{◌≡◌, [], IfOk, None};
 
-use idl_base::Text;
+use idl_base::SharedText;
 use idl_scope::{Facts, Shared, Step};
 use idl_unit::Fault;
 use std::alloc::{AllocError, Global};
@@ -14,7 +14,7 @@ pub struct Verdict {
     /// What it adds: names only where there is no fault.
     pub writes: Shared<Facts>,
     /// Its row in the dump, which a faulty unit and a pragma have not.
-    pub row: Option<Shared<Text>>,
+    pub row: Option<SharedText>,
 }
 
 impl Drop for Verdict {

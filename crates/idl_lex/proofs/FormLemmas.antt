@@ -1,6 +1,7 @@
 -- What an escaped name is of shared bytes.
 use Rattle.std.proofs.Common.{◌≡◌, ◌≤◌, ◌<◌, ◌+◌, ◌-◌, ℕ, suc, List, ◌∷◌, Some, length, ap, ◌∙◌, drop, take, get_or, slice_range, add-one, arith}
 use Rattle.std.proofs.Math.Seq.{drop-cons}
+use Rattle.std.proofs.lemmas.List.{drop-drop, drop-take, length-drop, length-take-le, take-take}
 use Rattle.idl_lex.specs.Kind.{unescaped}
 
 -- a part of bytes is its first byte, and the part from the next place on
@@ -9,3 +10,24 @@ unescaped-slice_range bytes from to order within =
     let count : to - from ≡ suc (to - (from + 1)) = omega (arith, order) in
     let items : drop from bytes ≡ get_or bytes from 0 ∷ drop (from + 1) bytes = rw add-one (drop-cons bytes from 0 (omega (arith, order, within))) in
     ap (λ n. unescaped (take n (drop from bytes))) count ∙ ap (λ rest. unescaped (take (suc (to - (from + 1))) rest)) items
+
+-- as many bytes as from one place up to another
+length-slice_range : (bytes : List ℕ) (from to : ℕ) → from ≤ to → to ≤ length bytes → length (slice_range bytes from to) ≡ to - from
+length-slice_range bytes from to order within = length-take-le (to - from) (drop from bytes) (omega (arith, order, within, length-drop from bytes))
+
+-- a part of an excerpt ends within it
+pub part-within : (block : List ℕ) (begin end to : ℕ) → begin ≤ end → end ≤ length block → to ≤ length (slice_range block begin end) → begin + to ≤ end
+part-within block begin end to order within fits = omega (arith, order, fits, length-slice_range block begin end order within)
+
+-- a part of an excerpt is one of the block, too
+pub part-of_part : (block : List ℕ) (begin end from to : ℕ) → begin ≤ end → end ≤ length block → from ≤ to → to ≤ length (slice_range block begin end)
+    → slice_range (slice_range block begin end) from to ≡ slice_range block (begin + from) (begin + to)
+part-of_part block begin end from to order within inner fits =
+    let size = length-slice_range block begin end order within in
+    let room : end - begin ≡ from + (end - begin - from) = omega (arith, order, inner, fits, size) in
+    let count : to - from ≡ (begin + to) - (begin + from) = omega arith in
+    ap (λ n. take (to - from) (drop from (take n (drop begin block)))) room
+    ∙ ap (take (to - from)) (drop-take from (end - begin - from) (drop begin block))
+    ∙ take-take (to - from) (end - begin - from) (drop from (drop begin block)) (omega (arith, inner, fits, size))
+    ∙ ap (take (to - from)) (drop-drop from begin block)
+    ∙ ap (λ n. take n (drop (begin + from) block)) count

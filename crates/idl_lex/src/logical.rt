@@ -1,20 +1,19 @@
 //! Lines of the joined text: a line of a file, with those that its backslashes join to it.
 
 ghost use Rattle.std.specs.Prelude.{◌≡◌, ◌≤◌, ◌<◌, ◌+◌, ◌++◌, ◌^◌, length, replicate, IfOk, OnOk};
-ghost use Rattle.std.specs.Rc.{rc_slice_items};
 ghost use Rattle.idl_lex.specs.Text.{is_continued, front};
 ghost use Rattle.idl_lex.specs.Logical.{joined_count, continued};
 
 use crate::spelling::Spelling;
+use idl_base::Excerpt;
 use idl_source::Line;
 use std::alloc::{AllocError, Global};
 use std::marker::Model;
-use std::rc::RcSlice;
 
 /// Bytes of a text without the newline that ends them, each with the number of its line. The bytes of one line of a file are shared with it.
 #[derive(Drop)]
 pub struct Logical {
-    bytes: RcSlice<u8>,
+    bytes: Excerpt,
     // The numbers of the first bytes' lines; all further bytes stand on the last line.
     numbers: Vec<u32>,
     last: u32,
@@ -22,14 +21,12 @@ pub struct Logical {
 
 impl Model for Logical {
     ghost use Rattle.std.specs.Prelude.{List};
-    ghost use Rattle.std.specs.Rc.{rc_slice_items};
     ghost use Rattle.idl_lex.specs.Text.{Placed};
     ghost use Rattle.idl_lex.specs.Logical.{placed};
 
     ghost Value = { List Placed };
 
-    ghost view = { λ logical. placed logical.numbers.items logical.last
-        (rc_slice_items logical.bytes) };
+    ghost view = { λ logical. placed logical.numbers.items logical.last logical.bytes };
 }
 
 impl Logical {
@@ -57,7 +54,7 @@ impl Logical {
     pub fn as_bytes(&self) -> &[u8]
         ensures { result.now ≡ bytes_of self.now }
     {
-        self.bytes.as_slice()
+        self.bytes.as_bytes()
     }
 
     /// The number of a byte's line.
@@ -114,7 +111,7 @@ fn join(alloc: Global, lines: &[Line], number: usize) -> Result<Logical, AllocEr
     }
     bytes.extend_from_slice(lines[i].as_bytes())?;
     Ok(Logical {
-        bytes: RcSlice::from_vec(bytes)?,
+        bytes: Excerpt::from_vec(bytes)?,
         numbers,
         last: (number + i) as u32,
     })

@@ -12,7 +12,7 @@ ghost use Rattle.idl_lex.specs.Keywords.{folded};
 ghost use Rattle.idl_lex.specs.Kind.{unescaped};
 
 use crate::form::{Form, Short};
-use idl_base::Datum;
+use idl_base::{Datum, Excerpt};
 use std::alloc::{AllocError, Global};
 use std::cmp::Ordering;
 use std::hash::{Hash, Hasher};
@@ -49,19 +49,17 @@ impl Spelling {
     /// The bytes from one place up to another: a copy of few, and more are shared.
     pub fn new(
         alloc: Global,
-        bytes: &RcSlice<u8>,
+        bytes: &Excerpt,
         from: usize,
         to: usize,
     ) -> Result<Spelling, AllocError>
         requires order { from ≤ to }
-        requires within { to ≤ length (rc_slice_items bytes.now) }
-        ensures { IfOk result (λ spelling.
-            spelling ≡ slice_range (rc_slice_items bytes.now) from to) }
+        requires within { to ≤ length bytes.now }
+        ensures { IfOk result (λ spelling. spelling ≡ slice_range bytes.now from to) }
     {
-        let part = &bytes.as_slice()[from..to];
-        match Short::new(part) {
+        match Short::new(&bytes.as_bytes()[from..to]) {
             Some(short) => Ok(Spelling::short(short)),
-            None => Spelling::shared(alloc, bytes.clone()?, from, to),
+            None => Spelling::part(alloc, bytes, from, to),
         }
     }
 
@@ -98,7 +96,7 @@ impl Spelling {
     {
         match Short::new(bytes) {
             Some(short) => Ok(Spelling::short(short.folded())),
-            None => Spelling::from_vec(bytes.to_ascii_lowercase(alloc)?),
+            None => Spelling::folded_apart(alloc, bytes),
         }
     }
 
@@ -130,6 +128,24 @@ impl Spelling {
         Spelling {
             form: Form::Short(short),
         }
+    }
+
+    // Many bytes, with each capital letter made small.
+    #[inline(never)]
+    fn folded_apart(alloc: Global, bytes: &[u8]) -> Result<Spelling, AllocError>
+        ensures { IfOk result (λ spelling. spelling ≡ folded bytes.now) }
+    {
+        Spelling::from_vec(bytes.to_ascii_lowercase(alloc)?)
+    }
+
+    // Shared bytes of an excerpt, from one place up to another.
+    fn part(alloc: Global, bytes: &Excerpt, from: usize, to: usize) -> Result<Spelling, AllocError>
+        requires order { from ≤ to }
+        requires within { to ≤ length bytes.now }
+        ensures { IfOk result (λ spelling. spelling ≡ slice_range bytes.now from to) }
+    {
+        let (block, begin, _end) = bytes.parts();
+        Spelling::shared(alloc, block.clone()?, begin + from, begin + to)
     }
 
     // All of shared bytes.

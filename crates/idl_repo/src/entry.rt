@@ -7,10 +7,10 @@ ghost use Rattle.idl_scope.specs.Facts.{answers};
 ghost use Rattle.idl_scope.specs.Key.{key_eq};
 
 use crate::row::push_row;
-use idl_base::Text;
+use idl_base::SharedText;
 use idl_event::Code;
 use idl_memo::{Journal, Log, Task, TaskKind};
-use idl_scope::{Entity, Env, Key, Kind, Path, Shared, Stage, entity_in};
+use idl_scope::{Entity, Env, Key, Kind, Path, Stage, entity_in};
 use std::alloc::{AllocError, Global};
 
 // Most rows have no more bytes than these.
@@ -25,7 +25,7 @@ pub struct EntryTask {
 /// What comes of it at the root's end.
 pub struct Entry {
     /// The row of a listing.
-    pub row: Option<Shared<Text>>,
+    pub row: Option<SharedText>,
     /// A struct, union or interface that is never defined.
     pub fault: Option<Code>,
 }
@@ -105,9 +105,9 @@ pub fn entry_by(
     };
     buffer.clear();
     push_row(buffer, env, log, entity.get())?;
-    let row = Text::from_slice(alloc, buffer.as_slice())?;
+    let row = SharedText::from_slice(alloc, buffer.as_slice())?;
     Ok(Entry {
-        row: Some(Shared::new(alloc, row)?),
+        row: Some(row),
         fault: closing_fault(entity.get()),
     })
 }

@@ -11,14 +11,13 @@ use crate::judging::{Ended, Judging};
 use crate::keeping::Keeping;
 use crate::kept::KeptUnits;
 use crate::printing::Printed;
-use idl_base::{Seq, Text};
+use idl_base::{Seq, SharedText};
 use idl_event::{Code, Expansion, Place, diagnostic_row};
-use idl_scope::Shared;
 use idl_unit::split;
 use std::alloc::{AllocError, Global};
 
 /// A row of diagnostics, of a listing or of a dump, whose bytes are shared: a line of text without its newline.
-pub type Row = Shared<Text>;
+pub type Row = SharedText;
 
 /// What compiling a root gives: the rows of its diagnostics, and of its listing and its dump, which are empty where one of them
 /// is an error.
@@ -150,7 +149,7 @@ fn open_rows(alloc: Global, end: &Place, is_open: bool) -> Result<Vec<Row>, Allo
     let mut rows = Vec::new(alloc);
     if is_open {
         let row = diagnostic_row(alloc, end, Code::OpenScope, None)?;
-        rows.push(Shared::new(alloc, row)?)?;
+        rows.push(SharedText::from_slice(alloc, row.as_bytes())?)?;
     }
     Ok(rows)
 }

@@ -6,9 +6,8 @@ ghost use Rattle.std.specs.Option.{option_copied, option_to_list};
 ghost use Rattle.idl_root.specs.Compile.{has_error};
 ghost use Rattle.idl_root.specs.Findings.{event_finding, fault_finding, finding_at, in_order, site_of, tokens_of};
 
-use idl_base::Text;
+use idl_base::SharedText;
 use idl_event::{Code, Event, Expansion, Place, Site, diagnostic_row};
-use idl_scope::Shared;
 use idl_unit::{Fault, SiteRun, UnitText};
 use std::alloc::{AllocError, Global};
 
@@ -17,7 +16,7 @@ use std::alloc::{AllocError, Global};
 pub struct Finding {
     pub event: usize,
     pub code: Code,
-    pub row: Shared<Text>,
+    pub row: SharedText,
 }
 
 /// A unit with tokens: its text, and where each token stands, or of a pragma its first word.
@@ -58,7 +57,7 @@ fn push_event(
     findings.push(Finding {
         event: number,
         code: *code,
-        row: Shared::new(alloc, row)?,
+        row: SharedText::from_slice(alloc, row.as_bytes())?,
     })?;
     Ok(())
 }
@@ -133,7 +132,7 @@ fn finding_at(
         return Ok(None);
     };
     let row = diagnostic_row(alloc, &site.place()?, code, token)?;
-    let row = Shared::new(alloc, row)?;
+    let row = SharedText::from_slice(alloc, row.as_bytes())?;
     Ok(Some(Finding {
         event: site.event,
         code,
@@ -152,7 +151,7 @@ pub fn has_error(findings: &[Finding]) -> bool
 pub fn rows_in_order(
     alloc: Global,
     mut findings: Vec<Finding>,
-) -> Result<Vec<Shared<Text>>, AllocError>
+) -> Result<Vec<SharedText>, AllocError>
     ensures { IfOk result (λ rows. rows.items ≡ map (λ f. f.row) (in_order findings.items)) }
 {
     findings.sort_by_key(|finding| finding.event)?;
@@ -160,7 +159,7 @@ pub fn rows_in_order(
 }
 
 // Their rows, which they share.
-fn rows_of(alloc: Global, findings: &[Finding]) -> Result<Vec<Shared<Text>>, AllocError>
+fn rows_of(alloc: Global, findings: &[Finding]) -> Result<Vec<SharedText>, AllocError>
     ensures { IfOk result (λ rows. rows.items ≡ map (λ f. f.row) findings.now) }
 {
     let mut rows = Vec::new(alloc);
@@ -169,7 +168,7 @@ fn rows_of(alloc: Global, findings: &[Finding]) -> Result<Vec<Shared<Text>>, All
 }
 
 /// Puts in their rows, which they share.
-pub fn push_rows(rows: &mut Vec<Shared<Text>>, findings: &[Finding]) -> Result<(), AllocError>
+pub fn push_rows(rows: &mut Vec<SharedText>, findings: &[Finding]) -> Result<(), AllocError>
     ensures { OnOk result
         (rows.new.items ≡ rows.old.items ++ map (λ f. f.row) findings.now) }
 {

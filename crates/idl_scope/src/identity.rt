@@ -8,7 +8,7 @@ ghost use Rattle.idl_scope.specs.Identity.{fixed_number, fixed_eq, same_fixed};
 use crate::name::shared_name;
 use crate::path::Path;
 use crate::shared::Shared;
-use idl_base::Datum;
+use idl_base::{Datum, InlineText};
 use idl_lex::Spelling;
 use std::alloc::{AllocError, Global};
 
@@ -33,7 +33,8 @@ pub enum Fixed {
 /// The repository id of a declared name.
 #[derive(Clone, PartialEq, Eq)]
 pub struct Identity {
-    pub id: Spelling,
+    /// Most ids stand in place.
+    pub id: InlineText<38>,
     /// The text of the prefix that was in force where the name was declared first.
     pub prefix: Spelling,
     pub fixed: Fixed,

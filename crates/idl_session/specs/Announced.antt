@@ -13,7 +13,7 @@ are_over count lines =
 
 -- what is gathered after these lines
 abbrev pub IsGathered : ℕ → List (List ℕ) → Announced → Type 0
-IsGathered count lines (announced.Whole whole) = whole.items ≡ lines
+IsGathered count lines (announced.Whole whole) = whole ≡ lines
 IsGathered count lines announced.Unfinished = ⊥
 IsGathered count lines announced.OverLimit = are_over count lines ≡ true
 IsGathered count lines announced.NoMemory = Unit {0}
@@ -28,7 +28,7 @@ pub record IsGathering (count taken_count : ℕ) (old new : Stream) (announced :
 
 -- what is gathered of so many lines, as far as they are there
 abbrev pub IsAnnounced : ℕ → List (List ℕ) → Announced → Type 0
-IsAnnounced count lines (announced.Whole whole) = (whole.items ≡ lines) × (length lines ≡ count)
+IsAnnounced count lines (announced.Whole whole) = (whole ≡ lines) × (length lines ≡ count)
 IsAnnounced count lines announced.Unfinished = length lines < count
 IsAnnounced count lines announced.OverLimit = (are_over count lines ≡ true) × (length lines ≡ count)
 IsAnnounced count lines announced.NoMemory = length lines ≡ count

@@ -10,14 +10,14 @@ ghost use Rattle.idl_session.specs.Announced.{IsGathered, TakesAnnounced};
 
 use crate::feed::Feed;
 use crate::line_buffer::{LineBuffer, read_line};
-use idl_source::{Line, MAX_LINE, MAX_LINES, ReadFailed, Source};
+use idl_source::{Lines, MAX_LINE, MAX_LINES, ReadFailed, Source};
 use std::alloc::{AllocError, Global};
 
 /// The lines that a command announces, or why there are none to place.
 #[derive(Drop)]
 pub enum Announced {
     /// All of them.
-    Whole(Vec<Line>),
+    Whole(Lines),
     /// The input ended before the last of them.
     Unfinished,
     /// There are too many, or one is too long.
@@ -52,7 +52,7 @@ pub fn read_announced<S: Source>(
         if !read_line(source, feed, &mut line)? {
             return Ok(Announced::Unfinished);
         }
-        announced = with_line(alloc, announced, line.get());
+        take_line(&mut announced, line.get());
     }
     Ok(announced)
 }
@@ -64,36 +64,24 @@ fn first_announced(alloc: Global, count: usize) -> Announced
     if count > MAX_LINES {
         return Announced::OverLimit;
     }
-    Announced::Whole(Vec::new(alloc))
+    Announced::Whole(Lines::new(alloc))
 }
 
-// What is gathered with one line more, of which nothing was kept if it is too long.
-fn with_line(alloc: Global, announced: Announced, line: Option<&[u8]>) -> Announced
+// Takes one line more, of which nothing was kept if it is too long.
+fn take_line(announced: &mut Announced, line: Option<&[u8]>)
     requires one_line { IfSome line (λ l. IsLine l.now) }
 
     ensures { (count : ℕ) (lines : List (List ℕ)) (next : List ℕ)
         → option_copied line.entry ≡ line_within longest_line next
-        → IsGathered count lines announced → IsGathered count (lines ++ next ∷ []) result }
+        → IsGathered count lines announced.old → IsGathered count (lines ++ next ∷ []) announced.new }
 {
-    match announced {
-        Announced::Whole(lines) => match line {
-            Some(line) => match with_kept(alloc, lines, line) {
-                Ok(lines) => Announced::Whole(lines),
-                Err(_no_memory) => Announced::NoMemory,
-            },
-            None => Announced::OverLimit,
-        },
-        Announced::Unfinished => Announced::Unfinished,
-        Announced::OverLimit => Announced::OverLimit,
-        Announced::NoMemory => Announced::NoMemory,
+    if let Announced::Whole(lines) = announced {
+        let Some(line) = line else {
+            *announced = Announced::OverLimit;
+            return;
+        };
+        if lines.push(line).is_err() {
+            *announced = Announced::NoMemory;
+        }
     }
-}
-
-fn with_kept(alloc: Global, mut lines: Vec<Line>, line: &[u8]) -> Result<Vec<Line>, AllocError>
-    requires one_line { IsLine line.now }
-
-    ensures { IfOk result (λ kept. kept.items ≡ lines.items ++ line.now ∷ []) }
-{
-    lines.push(Line::new(alloc, line)?.unwrap())?;
-    Ok(lines)
 }

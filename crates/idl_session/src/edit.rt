@@ -25,7 +25,7 @@ pub fn place(
         ((result ≡ Err Refusal.Unfinished) × (session.new ≡ session.old)) }
 {
     match announced {
-        Announced::Whole(lines) => place_lines(session, placement, lines),
+        Announced::Whole(lines) => place_lines(session, placement, lines.into_vec()?),
         Announced::Unfinished => Err(Refusal::Unfinished),
         Announced::OverLimit => Err(refusal_of_long(session, placement)),
         Announced::NoMemory => Err(Refusal::NoMemory),

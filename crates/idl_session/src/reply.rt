@@ -78,7 +78,7 @@ pub fn write_lines<K: Sink>(sink: &mut K, rows: &[Row]) -> Result<(), WriteFaile
 {
     let mut reply = Reply::new();
     'rows: for row in rows {
-        reply.push_line(sink, row.get().as_bytes())?;
+        reply.push_line(sink, row.as_bytes())?;
     }
     reply.finish(sink)
 }

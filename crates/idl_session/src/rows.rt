@@ -32,7 +32,7 @@ impl<'a> Rows<'a> {
         ensures { slice_get (rows_of self.entry) i ≡ Some result.now }
     {
         match self {
-            Rows::Texts(texts) => texts[i].get().as_bytes(),
+            Rows::Texts(texts) => texts[i].as_bytes(),
             Rows::Names(names) => names[i].as_bytes(),
         }
     }

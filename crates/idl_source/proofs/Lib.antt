@@ -2,6 +2,7 @@ pub mod CutLemmas
 pub mod DeviceLemmas
 pub mod DirectoryLemmas
 pub mod EntryLemmas
+pub mod LinesLemmas
 pub mod NormalLemmas
 pub mod Ordered
 pub mod PartLemmas

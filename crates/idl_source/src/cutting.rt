@@ -4,6 +4,7 @@ ghost use Rattle.std.specs.Prelude.{◌≡◌, IfOk};
 ghost use Rattle.idl_source.specs.Cut.{cut_lines};
 
 use crate::line::Line;
+use crate::lines::Lines;
 use bstr::ByteSlice;
 use std::alloc::{AllocError, Global};
 
@@ -14,9 +15,9 @@ use std::alloc::{AllocError, Global};
 pub fn cut(alloc: Global, bytes: &[u8]) -> Result<Vec<Line>, AllocError>
     ensures { IfOk result (λ lines. lines.items ≡ cut_lines bytes.now) }
 {
-    let mut lines = Vec::new(alloc);
+    let mut lines = Lines::new(alloc);
     for line in bytes.lines() {
-        lines.push(Line::copied(alloc, line)?)?;
+        lines.push(line)?;
     }
-    Ok(lines)
+    lines.into_vec()
 }

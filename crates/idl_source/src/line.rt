@@ -5,10 +5,9 @@ ghost use Rattle.std.specs.Cmp.{partial_equiv_from_equiv};
 ghost use Rattle.std.specs.Cmp.Lexicographic.{bytes_decides, nat_list_eq_equiv};
 ghost use Rattle.std.specs.Str.{bytes_eq};
 
-use idl_base::Datum;
+use idl_base::{Datum, Excerpt};
 use std::alloc::{AllocError, Global};
 use std::marker::Model;
-use std::rc::RcSlice;
 
 /// The byte that ends a line.
 pub const NEWLINE: u8 = b'\n';
@@ -16,23 +15,21 @@ pub const NEWLINE: u8 = b'\n';
 /// A line of a file: bytes without newline. A clone shares the bytes.
 #[derive(Drop)]
 pub struct Line {
-    bytes: RcSlice<u8>,
+    bytes: Excerpt,
 }
 
 impl Model for Line {
     ghost use Rattle.std.specs.Prelude.{List, ℕ};
-    ghost use Rattle.std.specs.Rc.{rc_slice_items};
     ghost use Rattle.idl_source.specs.Line.{IsLine};
 
     ghost Value = { List ℕ };
 
-    ghost view = { λ line. rc_slice_items line.bytes };
+    ghost view = { λ line. line.bytes };
 
-    ghost invariant = { λ line. IsLine (rc_slice_items line.bytes) };
+    ghost invariant = { λ line. IsLine line.bytes };
 }
 
 impl Line {
-    ghost use Rattle.std.specs.Rc.{rc_slice_items};
     ghost use Rattle.idl_source.specs.Line.{IsLine, newline};
 
     /// Copies the bytes of a line, and answers `None` to bytes with a newline among them.
@@ -52,8 +49,16 @@ impl Line {
         ensures { IfOk result (λ line. line ≡ bytes.now) }
     {
         Ok(Line {
-            bytes: RcSlice::from_slice(alloc, bytes)?,
+            bytes: Excerpt::from_slice(alloc, bytes)?,
         })
+    }
+
+    /// The line of these bytes.
+    pub(crate) fn of(bytes: Excerpt) -> Line
+        requires { IsLine bytes }
+        ensures { result ≡ bytes }
+    {
+        Line { bytes }
     }
 
     /// The bytes, none of them a newline.
@@ -61,12 +66,12 @@ impl Line {
         ensures bytes { result.now ≡ self.now }
         ensures one_line { IsLine self.now }
     {
-        self.bytes.as_slice()
+        self.bytes.as_bytes()
     }
 
     /// The bytes, shared: no byte is copied.
-    pub fn shared(&self) -> Result<RcSlice<u8>, AllocError>
-        ensures { IfOk result (λ bytes. rc_slice_items bytes ≡ self.now) }
+    pub fn shared(&self) -> Result<Excerpt, AllocError>
+        ensures { IfOk result (λ bytes. bytes ≡ self.now) }
     {
         self.bytes.clone()
     }

@@ -23,7 +23,7 @@ fn type_line(session: &mut Session, name: &str, at: usize, text: &str) -> Result
 fn told(alloc: Global, rows: Option<&[Row]>) -> Result<String, AllocError> {
     let mut text = String::new(alloc);
     for row in rows.unwrap_or(&[]) {
-        if let Ok(row) = str::from_utf8(row.get().as_bytes()) {
+        if let Ok(row) = str::from_utf8(row.as_bytes()) {
             text.push_str(row)?;
             text.push('\n')?;
         }

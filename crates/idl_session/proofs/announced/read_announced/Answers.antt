@@ -16,7 +16,7 @@ loop-i-preserved g c =
     let took = rw c.if-not-branch.false at c.in_ok-read_line.ensures.line in
     let nearer = rw c.if-not-branch.false at c.in_ok-read_line.ensures.nearer in
     record {
-      gathering = gathering-more c.args.count c.loop-i.i _ _ _ c.read_line.new.line _ c.loop-i.announced c.with_line-announced.result c.loop-i.invariant.gathering took c.get.ensures.same c.with_line-announced.ensures;
+      gathering = gathering-more c.args.count c.loop-i.i _ _ _ c.read_line.new.line _ c.loop-i.announced c.take_line.new.announced c.loop-i.invariant.gathering took c.get.ensures.same c.take_line.ensures;
       nearer = omega (arith, nearer);
       failures = c.in_ok-read_line.ensures.ok ∙ c.loop-i.invariant.failures;
     }

@@ -3,4 +3,4 @@ use Rattle.idl_source.specs.Cut.{cut_lines}
 use Rattle.idl_source.proofs.cutting.cut.Given as goal
 
 abbrev pub invariant-loop-line : goal.invariant-loop-line
-invariant-loop-line l = l.lines.items ++ l.line-iterator ≡ cut_lines l.fn.bytes
+invariant-loop-line l = l.lines ++ l.line-iterator ≡ cut_lines l.fn.bytes

@@ -5,6 +5,6 @@ use Rattle.idl_lex.proofs.logical.Logical.new.Goals as goal
 
 pub returns-in_ok-shared-in-len1 : goal.returns-in_ok-shared-in-len1
 returns-in_ok-shared-in-len1 c =
-    ap (λ ns. placed ns c.args.number c.in_ok-shared-in-len1.field-0.items.value.items) c.new.ensures.items
+    ap (λ ns. placed ns c.args.number c.in_ok-shared-in-len1.field-0) c.new.ensures.items
     ∙ ap (λ bs. placed [] c.args.number bs) c.in_ok-shared-in-len1.ensures
     ∙ spliced-one c.args.number c.args.lines.now c.line-item.result c.in-len1.len_at_least c.in-len1.len_below c.line-item.is

@@ -1,5 +1,4 @@
 use Rattle.std.proofs.Common.{◌≡◌, ◌∙◌, ◌≤◌, ◌-◌, List, ℕ, IfOk, drop, length, take, ap, subst, sym}
-use Rattle.std.specs.Rc.{rc_slice_items}
 use Rattle.idl_lex.specs.Text.{bytes_of}
 use Rattle.idl_lex.proofs.LogicalLemmas.{bytes_of-placed, length-placed}
 use Rattle.idl_lex.proofs.logical.Logical.spelling.Goals as goal
@@ -7,13 +6,13 @@ use Rattle.idl_lex.proofs.logical.Logical.spelling.Goals as goal
 pub new-requires-clause-within : goal.new-requires-clause-within
 new-requires-clause-within c =
     let inside = c.self.inside in
-    let bytes = rc_slice_items inside.bytes in
+    let bytes = inside.bytes in
     let len = ap length (sym c.self.view_is) ∙ length-placed inside.numbers.items inside.last bytes in
     subst (λ n. c.args.to ≤ n) len c.requires.within
 
 pub returns : goal.returns
 returns c =
     let inside = c.self.inside in
-    let bytes = rc_slice_items inside.bytes in
+    let bytes = inside.bytes in
     let same : bytes ≡ bytes_of c.args.self.now = sym (bytes_of-placed inside.numbers.items inside.last bytes) ∙ ap bytes_of c.self.view_is in
     subst (λ (bs : List ℕ). IfOk c.new.result (λ spelling. spelling ≡ take (c.args.to - c.args.from) (drop c.args.from bs))) same c.new.ensures

@@ -1,0 +1,145 @@
+//! Bytes that clones share.
+
+ghost use Rattle.std.specs.Prelude.{◌≡◌, ◌↔◌, [], IfOk, IsTrue, length};
+ghost use Rattle.std.specs.Cmp.{partial_equiv_from_equiv};
+ghost use Rattle.std.specs.Cmp.Lexicographic.{bytes_decides, nat_list_eq_equiv};
+ghost use Rattle.std.specs.Str.{bytes_eq};
+ghost use Rattle.idl_base.specs.SharedText.{room_bytes};
+
+use crate::Datum;
+use crate::short::Short;
+use std::alloc::{AllocError, Global};
+use std::marker::Model;
+use std::rc::{Rc, RcSlice};
+
+/// Bytes, which clones share. To every contract they are the plain list.
+///
+/// Up to 135 of them stand in one block of memory with the count of who shares them, and more in a block beside it.
+/// Comparisons go byte by byte, and find equal what is one list. Only `from_slice` takes memory.
+#[derive(Drop)]
+pub struct SharedText {
+    room: Room,
+}
+
+impl Model for SharedText {
+    ghost use Rattle.std.specs.Prelude.{List, ℕ};
+    ghost use Rattle.idl_base.specs.SharedText.{room_bytes};
+
+    ghost Value = { List ℕ };
+
+    ghost view = { λ text. room_bytes text.room };
+}
+
+impl SharedText {
+    /// A copy of these bytes, or want of memory.
+    pub fn from_slice(alloc: Global, bytes: &[u8]) -> Result<SharedText, AllocError>
+        ensures { IfOk result (λ text. text ≡ bytes.now) }
+    {
+        let room = Room::of(alloc, bytes)?;
+        Ok(SharedText { room })
+    }
+
+    /// The bytes in order.
+    pub fn as_bytes(&self) -> &[u8]
+        ensures { result.now ≡ self.now }
+    {
+        self.room.as_bytes()
+    }
+
+    /// How many bytes there are.
+    pub fn len(&self) -> usize
+        ensures { result ≡ length self.now }
+    {
+        self.as_bytes().len()
+    }
+
+    /// Whether there is no byte.
+    pub fn is_empty(&self) -> bool
+        ensures { IsTrue result ↔ (self.now ≡ []) }
+    {
+        self.as_bytes().is_empty()
+    }
+}
+
+// Where the bytes stand. Each size fills a block of memory, with the counts and the number of bytes.
+#[derive(Drop)]
+enum Room {
+    Small(Rc<Short<39>>),
+    Middle(Rc<Short<71>>),
+    Large(Rc<Short<103>>),
+    Largest(Rc<Short<135>>),
+    Apart(RcSlice<u8>),
+}
+
+impl Room {
+    // A copy of these bytes.
+    fn of(alloc: Global, bytes: &[u8]) -> Result<Room, AllocError>
+        ensures { IfOk result (λ room. room_bytes room ≡ bytes.now) }
+    {
+        match bytes.len() {
+            0..=39 => Ok(Room::Small(Rc::new(alloc, Short::of(bytes))?)),
+            40..=71 => Ok(Room::Middle(Rc::new(alloc, Short::of(bytes))?)),
+            72..=103 => Ok(Room::Large(Rc::new(alloc, Short::of(bytes))?)),
+            104..=135 => Ok(Room::Largest(Rc::new(alloc, Short::of(bytes))?)),
+            _ => Ok(Room::Apart(RcSlice::from_slice(alloc, bytes)?)),
+        }
+    }
+
+    // The bytes in order.
+    fn as_bytes(&self) -> &[u8]
+        ensures { result.now ≡ room_bytes self.now }
+    {
+        match self {
+            Room::Small(short) => short.as_bytes(),
+            Room::Middle(short) => short.as_bytes(),
+            Room::Large(short) => short.as_bytes(),
+            Room::Largest(short) => short.as_bytes(),
+            Room::Apart(bytes) => bytes.as_slice(),
+        }
+    }
+
+    // The same bytes, shared.
+    fn shared(&self) -> Result<Room, AllocError>
+        ensures { IfOk result (λ room. room_bytes room ≡ room_bytes self.now) }
+    {
+        match self {
+            Room::Small(short) => Ok(Room::Small(short.clone()?)),
+            Room::Middle(short) => Ok(Room::Middle(short.clone()?)),
+            Room::Large(short) => Ok(Room::Large(short.clone()?)),
+            Room::Largest(short) => Ok(Room::Largest(short.clone()?)),
+            Room::Apart(bytes) => Ok(Room::Apart(bytes.clone()?)),
+        }
+    }
+}
+
+impl Clone for SharedText {
+    ghost is_clone = { λ text copy. copy ≡ text };
+
+    fn clone(&self) -> Result<SharedText, AllocError> {
+        let room = self.room.shared()?;
+        Ok(SharedText { room })
+    }
+}
+
+impl PartialEq for SharedText {
+    ghost eq = { bytes_eq };
+
+    ghost laws = { partial_equiv_from_equiv nat_list_eq_equiv };
+
+    fn eq(&self, other: &SharedText) -> bool
+        ensures by_byte { result ≡ bytes_eq self.now other.now }
+        ensures exact { IsTrue result ↔ (self.now ≡ other.now) }
+    {
+        self.as_bytes() == other.as_bytes()
+    }
+}
+
+impl Eq for SharedText {
+    ghost laws = { nat_list_eq_equiv };
+}
+
+impl Datum for SharedText {
+    ghost same = { λ x y. (bytes_decides x y).0 };
+
+    ghost copy = { λ x y h. h };
+}

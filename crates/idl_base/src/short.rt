@@ -1,0 +1,55 @@
+//! Few bytes, in place.
+
+ghost use Rattle.std.specs.Prelude.{◌≡◌, ◌≤◌, ◌<◌, length};
+
+use std::marker::Model;
+
+/// Few bytes, in place.
+#[derive(Drop)]
+pub struct Short<const N: usize> {
+    count: u8,
+    bytes: [u8; N],
+}
+
+impl<const N: usize> Model for Short<N> {
+    ghost use Rattle.std.specs.Prelude.{List, ℕ, take, ◌≤◌};
+
+    ghost Value = { List ℕ };
+
+    ghost view = { λ short. take short.count short.bytes };
+
+    ghost invariant = { λ short. short.count ≤ N };
+}
+
+impl<const N: usize> Short<N> {
+    /// These few bytes.
+    pub fn of(bytes: &[u8]) -> Short<N>
+        requires few { length bytes.now ≤ N }
+        requires counted { N < 256 }
+        ensures { result ≡ bytes.now }
+    {
+        let mut array = [0; N];
+        array[..bytes.len()].copy_from_slice(bytes);
+        Short {
+            count: bytes.len() as u8,
+            bytes: array,
+        }
+    }
+
+    /// The bytes in order.
+    pub fn as_bytes(&self) -> &[u8]
+        ensures { result.now ≡ self.now }
+    {
+        &self.bytes[..self.count as usize]
+    }
+
+    /// The same bytes again.
+    pub fn copied(&self) -> Short<N>
+        ensures { result ≡ self.now }
+    {
+        Short {
+            count: self.count,
+            bytes: self.bytes,
+        }
+    }
+}

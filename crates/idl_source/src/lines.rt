@@ -1,0 +1,124 @@
+//! Lines that are gathered.
+
+ghost use Rattle.std.specs.Prelude.{◌≡◌, ◌∷◌, ◌++◌, [], IfOk, OnOk, length};
+ghost use Rattle.std.specs.Rc.{rc_slice_items};
+ghost use Rattle.idl_source.specs.Line.{IsLine};
+ghost use Rattle.idl_source.specs.Lines.{AreLines, pieces};
+
+use crate::line::Line;
+use idl_base::Excerpt;
+use std::alloc::{AllocError, Global};
+use std::marker::Model;
+use std::rc::RcSlice;
+
+// So many bytes stand in one block, unless a line alone has more.
+const TOGETHER: usize = 4096;
+
+/// Lines that are gathered, one after another. The bytes of many stand together in a block of memory, which these lines share.
+#[derive(Drop)]
+pub struct Lines {
+    lines: Vec<Line>,
+    // The bytes of the last lines, and where among them each of these stands.
+    bytes: Vec<u8>,
+    spots: Vec<Spot>,
+}
+
+// Where a line stands among bytes.
+#[derive(Clone, Copy)]
+struct Spot {
+    from: u32,
+    to: u32,
+}
+
+impl Model for Lines {
+    ghost use Rattle.std.specs.Prelude.{List, ℕ, ◌++◌};
+    ghost use Rattle.idl_source.specs.Lines.{pieces, AreLines};
+
+    ghost Value = { List (List ℕ) };
+
+    ghost view = { λ it. it.lines.items ++ pieces it.bytes.items it.spots.items };
+
+    ghost invariant = { λ it. AreLines it.bytes.items it.spots.items };
+}
+
+impl Lines {
+    /// No lines.
+    pub fn new(alloc: Global) -> Lines
+        ensures { result ≡ [] }
+    {
+        Lines {
+            lines: Vec::new(alloc),
+            bytes: Vec::new(alloc),
+            spots: Vec::new(alloc),
+        }
+    }
+
+    /// Puts in a line.
+    pub fn push(&mut self, line: &[u8]) -> Result<(), AllocError>
+        requires { IsLine line.now }
+        ensures { OnOk result (self.new ≡ self.old ++ line.now ∷ []) }
+    {
+        if !self.has_room_for(line) {
+            self.close()?;
+        }
+        self.add(line)
+    }
+
+    // Puts in a line, whose bytes stand with those of the last ones.
+    fn add(&mut self, line: &[u8]) -> Result<(), AllocError>
+        requires { IsLine line.now }
+        ensures { OnOk result (self.new ≡ self.old ++ line.now ∷ []) }
+    {
+        let from = counted(&self.bytes)?;
+        self.bytes.extend_from_slice(line)?;
+        let to = counted(&self.bytes)?;
+        self.spots.push(Spot { from, to })?;
+        Ok(())
+    }
+
+    /// All the lines.
+    pub fn into_vec(mut self) -> Result<Vec<Line>, AllocError>
+        ensures { IfOk result (λ lines. lines.items ≡ self) }
+    {
+        push_pieces(&mut self.lines, &self.bytes, &self.spots)?;
+        Ok(self.lines)
+    }
+
+    // Whether a line's bytes may stand with those of the last lines.
+    fn has_room_for(&self, line: &[u8]) -> bool {
+        self.bytes.is_empty() || line.len() <= TOGETHER.saturating_sub(self.bytes.len())
+    }
+
+    // Gives the last lines their block.
+    fn close(&mut self) -> Result<(), AllocError>
+        ensures { OnOk result (self.new ≡ self.old) }
+    {
+        push_pieces(&mut self.lines, &self.bytes, &self.spots)?;
+        self.bytes.clear();
+        self.spots.clear();
+        Ok(())
+    }
+}
+
+// How many bytes these are, or want of memory where they are too many.
+fn counted(bytes: &[u8]) -> Result<u32, AllocError>
+    ensures { IfOk result (λ count. count ≡ length bytes.now) }
+{
+    match u32::try_from(bytes.len()) {
+        Ok(count) => Ok(count),
+        Err(_too_many) => Err(AllocError),
+    }
+}
+
+// Puts in the lines that stand among these bytes, which they share from now on.
+fn push_pieces(lines: &mut Vec<Line>, bytes: &[u8], spots: &[Spot]) -> Result<(), AllocError>
+    requires { AreLines bytes.now spots.now }
+    ensures { OnOk result (lines.new.items ≡ lines.old.items ++ pieces bytes.now spots.now) }
+{
+    let block = RcSlice::from_slice(*lines.allocator(), bytes)?;
+    for spot in spots {
+        let piece = Excerpt::new(block.clone()?, spot.from, spot.to);
+        lines.push(Line::of(piece))?;
+    }
+    Ok(())
+}
