@@ -8,6 +8,7 @@ ghost use Rattle.idl_scope.specs.Facts.{answers};
 ghost use Rattle.idl_scope.specs.Key.{key_eq};
 ghost use Rattle.idl_scope.specs.Lookup.{under};
 
+use idl_base::Seq;
 use idl_lex::Spelling;
 use idl_memo::Journal;
 use idl_scope::{
@@ -122,7 +123,7 @@ pub fn first_identity(
     Shared::new(
         alloc,
         Identity {
-            id: shared_id(id)?,
+            id: Seq::from_vec(id),
             prefix: prefix.text.clone()?,
             fixed: Fixed::Nothing,
         },
@@ -141,13 +142,6 @@ fn room_of(prefix: &[u8], path: Names<'_>) -> usize {
         rest = outer;
     }
     room
-}
-
-// An id, from now on shared. It takes no copy.
-fn shared_id(id: Vec<u8>) -> Result<Spelling, AllocError>
-    ensures { IfOk result (λ shared. shared ≡ id.items) }
-{
-    Spelling::from_vec(id)
 }
 
 // A prefix with the `/` behind it.
@@ -188,7 +182,7 @@ pub fn versioned(
 ) -> Result<Shared<Identity>, AllocError>
     ensures { IfOk result (λ d. d ≡ versioned version.0 version.1 before.now) }
 {
-    let stem = before.id.as_bytes();
+    let stem = before.id.as_slice();
     let mut id = Vec::from_slice(alloc, &stem[..stem.len().saturating_sub(3)])?;
     push_number(&mut id, version.0)?;
     id.push(b'.')?;
@@ -196,7 +190,7 @@ pub fn versioned(
     Shared::new(
         alloc,
         Identity {
-            id: shared_name(alloc, id.as_slice())?,
+            id: Seq::from_vec(id),
             prefix: before.prefix.clone()?,
             fixed: Fixed::Version,
         },
@@ -213,7 +207,7 @@ fn push_number(id: &mut Vec<u8>, number: u16) -> Result<(), AllocError>
 }
 
 /// It with this id.
-pub fn given(alloc: Global, before: &Identity, id: Spelling) -> Result<Shared<Identity>, AllocError>
+pub fn given(alloc: Global, before: &Identity, id: Seq<u8>) -> Result<Shared<Identity>, AllocError>
     ensures { IfOk result (λ d. d ≡ given id before.now) }
 {
     let prefix = before.prefix.clone()?;
@@ -233,7 +227,7 @@ pub fn is_given(text: &[u16], before: &Identity) -> bool
 {
     match before.fixed {
         Fixed::Nothing => false,
-        Fixed::Version => !is_spelled(text, before.id.as_bytes()),
+        Fixed::Version => !is_spelled(text, before.id.as_slice()),
         Fixed::Id => true,
     }
 }
@@ -278,12 +272,14 @@ pub fn visible(alloc: Global, text: &[u16]) -> Result<Option<Spelling>, AllocErr
 }
 
 /// The bytes of a text that may be an id.
-pub fn id_text(alloc: Global, text: &[u16]) -> Result<Option<Spelling>, AllocError>
+pub fn id_text(alloc: Global, text: &[u16]) -> Result<Option<Seq<u8>>, AllocError>
     ensures { IfOk result (λ spelled.
         spelled ≡ (if is_id text.now then Some text.now else None)) }
 {
     match visible(alloc, text)? {
-        Some(spelled) if spelled.as_bytes().contains(&b':') => Ok(Some(spelled)),
+        Some(spelled) if spelled.as_bytes().contains(&b':') => {
+            Ok(Some(Seq::from_vec(Vec::from_slice(alloc, spelled.as_bytes())?)))
+        }
         _ => Ok(None),
     }
 }

@@ -40,7 +40,7 @@ pub fn id_of<'e>(env: &'e Env, log: &mut Journal<Env>, path: &Path) -> Result<&'
 {
     let key = DigestedKey::of(Key::IdOf(path.clone()?));
     match identity_in(log.ask(&key, env)?) {
-        Some(identity) => Ok(identity.get().id.as_bytes()),
+        Some(identity) => Ok(identity.get().id.as_slice()),
         None => Ok(&[]),
     }
 }

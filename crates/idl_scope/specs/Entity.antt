@@ -15,21 +15,28 @@ use Rattle.idl_scope.specs.contracts.parts.EntityPartsPartialEq.TheImpl.Laws.{la
 use Rattle.idl_scope.specs.declared.parts.EntityParts.{EntityParts}
 use Rattle.idl_value.specs.Exact.{same_value, value_eq}
 
--- whether two entities are one, by what is known of them
-abbrev pub entity_eq : EntityParts → EntityParts → Bool
-entity_eq e f =
-    path_eq e.path f.path
-    && (kind_eq e.kind f.kind
-    && (beq e.is_local f.is_local
-    && (beq e.is_readonly f.is_readonly
-    && (beq e.is_oneway f.is_oneway
-    && (stage_eq e.stage f.stage
-    && (option_eq data_type_eq e.data_type f.data_type
+-- whether what two entities are declared with is one
+abbrev pub declared_eq : EntityParts → EntityParts → Bool
+declared_eq e f =
+    option_eq data_type_eq e.data_type f.data_type
     && (pointwise path_eq e.bases f.bases
     && (pointwise path_eq e.operations f.operations
     && (option_eq value_eq e.value f.value
     && (pointwise bytes_eq e.enumerators f.enumerators
-    && option_eq signature_eq e.signature f.signature))))))))))
+    && option_eq signature_eq e.signature f.signature))))
+
+-- whether two entities are one but for their paths
+abbrev pub pathless_eq : EntityParts → EntityParts → Bool
+pathless_eq e f =
+    kind_eq e.kind f.kind
+    && (beq e.is_local f.is_local
+    && (beq e.is_readonly f.is_readonly
+    && (beq e.is_oneway f.is_oneway
+    && (stage_eq e.stage f.stage && declared_eq e f))))
+
+-- whether two entities are one, by what is known of them
+abbrev pub entity_eq : EntityParts → EntityParts → Bool
+entity_eq e f = path_eq e.path f.path && pathless_eq e f
 
 pub entity_per : IsPartialEquivalence entity_eq
 entity_per = partial_equivalence

@@ -1,9 +1,9 @@
 -- When two prefixes, or two ids, are one.
 use Rattle.std.specs.Prelude.{◌≡◌, ℕ, Bool, true, ◌==◌, ◌&&◌, if◌then◌else◌, nat_eq, refl}
 use Rattle.std.proofs.Common.{ap, sym, ◌∙◌}
-use Rattle.std.specs.Cmp.Lexicographic.{bytes_decides}
+use Rattle.std.specs.Cmp.Lexicographic.{bytes_decides, pointwise}
 use Rattle.std.specs.Str.{bytes_eq}
-use Rattle.idl_base.specs.Exact.{both, same_number}
+use Rattle.idl_base.specs.Exact.{both, same_list, same_number}
 use Rattle.idl_scope.specs.Path.{path_eq, same_path}
 use Rattle.idl_scope.specs.declared.identity.Fixed.{Fixed}
 use Rattle.idl_scope.specs.declared.identity.Fixed.TheVariants.{Nothing, Version, Id}
@@ -48,13 +48,13 @@ copied_prefix p copy h = λ i. record { text = h.0 i; scope = h.1 i }
 
 -- whether two ids are one, with the prefix and what fixed them
 abbrev pub identity_eq : Identity → Identity → Bool
-identity_eq d e = bytes_eq d.id e.id && (bytes_eq d.prefix e.prefix && fixed_eq d.fixed e.fixed)
+identity_eq d e = pointwise nat_eq d.id e.id && (bytes_eq d.prefix e.prefix && fixed_eq d.fixed e.fixed)
 
 pub same_identity : (d e : Identity) → identity_eq d e ≡ true → d ≡ e
 same_identity d e h =
     let a = both _ _ h in
     let b = both _ _ a.1 in
-    let id = (bytes_decides d.id e.id).0 a.0 in
+    let id = same_list nat_eq same_number d.id e.id a.0 in
     let prefix = (bytes_decides d.prefix e.prefix).0 b.0 in
     let fixed = same_fixed d.fixed e.fixed b.1 in
     λ i. record { id = id i; prefix = prefix i; fixed = fixed i }

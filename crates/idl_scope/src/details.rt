@@ -174,9 +174,7 @@ impl Rare {
     fn is_listless(&self) -> bool
         ensures { IsTrue result → self.now ≡ listless self.now.value self.now.signature }
     {
-        self.bases.is_empty()
-            && self.enumerators.is_empty()
-            && self.operations == SharedList::new()
+        self.bases.is_empty() && self.enumerators.is_empty() && self.operations == SharedList::new()
     }
 
     // The value and the signature.

@@ -2,7 +2,7 @@
 
 ghost use Rattle.std.specs.Prelude.{◌≡◌, IfOk};
 ghost use Rattle.std.specs.Option.{option_copied};
-ghost use Rattle.idl_scope.specs.Entity.{entity_eq, entity_equiv, entity_per};
+ghost use Rattle.idl_scope.specs.Entity.{declared_eq, entity_eq, entity_equiv, entity_per, pathless_eq};
 ghost use Rattle.idl_scope.specs.Facts.{is_operation};
 
 use crate::data_type::DataType;
@@ -102,14 +102,28 @@ impl PartialEq for Entity {
     fn eq(&self, other: &Entity) -> bool
         ensures { result ≡ entity_eq self.now other.now }
     {
-        self.path == other.path
-            && self.kind == other.kind
+        self.path == other.path && self.is_like(other)
+    }
+}
+
+impl Entity {
+    // Whether another is one with it but for its path.
+    fn is_like(&self, other: &Entity) -> bool
+        ensures { result ≡ pathless_eq self.now other.now }
+    {
+        self.kind == other.kind
             && self.is_local == other.is_local
             && self.is_readonly == other.is_readonly
             && self.is_oneway == other.is_oneway
             && self.stage == other.stage
-            && self.data_type == other.data_type
-            && self.details.are_those_of(&other.details)
+            && self.is_declared_like(other)
+    }
+
+    // Whether another is declared with what it is declared with.
+    fn is_declared_like(&self, other: &Entity) -> bool
+        ensures { result ≡ declared_eq self.now other.now }
+    {
+        self.data_type == other.data_type && self.details.are_those_of(&other.details)
     }
 }
 

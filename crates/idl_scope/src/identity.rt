@@ -8,7 +8,7 @@ ghost use Rattle.idl_scope.specs.Identity.{fixed_number, fixed_eq, same_fixed};
 use crate::name::shared_name;
 use crate::path::Path;
 use crate::shared::Shared;
-use idl_base::Datum;
+use idl_base::{Datum, Seq};
 use idl_lex::Spelling;
 use std::alloc::{AllocError, Global};
 
@@ -33,7 +33,7 @@ pub enum Fixed {
 /// The repository id of a declared name.
 #[derive(Clone, PartialEq, Eq)]
 pub struct Identity {
-    pub id: Spelling,
+    pub id: Seq<u8>,
     /// The text of the prefix that was in force where the name was declared first.
     pub prefix: Spelling,
     pub fixed: Fixed,
