@@ -299,13 +299,11 @@ impl<'a> Walker<'a> {
         self.at = last + 1;
         self.gives_back = false;
         let scopes = front(self.cursor.as_slice(), found.reach);
-        let used = Denoting {
-            name,
-            path: entity.path(),
-        };
+        let path = entity.path();
+        let used = Denoting { name, path };
         introduce(alloc, &mut self.own, used, scopes)?;
-        self.found.push(entity.path().clone()?)?;
-        self.clauses.add_raised(way, entity.path())?;
+        self.found.push(path.clone()?)?;
+        self.clauses.add_raised(way, path)?;
         self.follow(way, entity, behind, constants)?;
         Ok(())
     }
