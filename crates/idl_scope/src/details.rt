@@ -153,6 +153,7 @@ impl Details {
 
 impl Rare {
     /// These parts as they are kept.
+    #[inline(always)]
     pub fn into_details(self, alloc: Global) -> Result<Details, AllocError>
         ensures { IfOk result (λ details. rare_in details ≡ self) }
     {

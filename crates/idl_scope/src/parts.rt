@@ -64,6 +64,7 @@ impl Drop for EntityParts {
 
 impl EntityParts {
     /// The entity that has them.
+    #[inline(always)]
     pub fn into_entity(self, alloc: Global) -> Result<Entity, AllocError>
         ensures { IfOk result (λ entity. entity ≡ self) }
     {
