@@ -154,7 +154,7 @@ impl<'a> View<'a> {
         let folded = folded_name(self.env.alloc(), name.as_bytes())?;
         let place = Place {
             kind: before.kind(),
-            path: &before.path,
+            path: before.path(),
         };
         let found = self.found_in(log, place, &folded)?;
         Ok(judged(part, name.as_bytes(), &found))
