@@ -75,8 +75,8 @@ impl Bases {
         bring(alloc, &mut self.operations, &mut self.waiting)?;
         let brings_another = brings_another(alloc, &self.operations, base)?;
         Ok(first_code(&[
-            (base.stage != Stage::Complete, Code::IncompleteBase),
-            (contains(&self.paths, &base.path), Code::RepeatedBase),
+            (base.stage() != Stage::Complete, Code::IncompleteBase),
+            (contains(&self.paths, base.path()), Code::RepeatedBase),
             (brings_another, Code::InheritedTwice),
             (is_local_for(is_local, base), Code::LocalBase),
         ]))
@@ -87,8 +87,8 @@ impl Bases {
         ensures { OnOk result (self.new ≡ with_base base.now self.old) }
     {
         bring(alloc, &mut self.operations, &mut self.waiting)?;
-        self.waiting = base.operations.clone()?;
-        add_path(&mut self.paths, &base.path)
+        self.waiting = base.operations()?;
+        add_path(&mut self.paths, base.path())
     }
 
     /// Their paths, in order.
@@ -128,7 +128,7 @@ fn brings_another(
     if operations.is_empty() {
         return Ok(false);
     }
-    let paths = base.operations.to_vec(alloc)?;
+    let paths = base.operations()?.to_vec(alloc)?;
     any_another(alloc, operations, paths.as_slice())
 }
 
@@ -174,7 +174,7 @@ fn contains(paths: &Table<Path, ()>, path: &Path) -> bool
 fn is_local_for(is_local: bool, base: &Entity) -> bool
     ensures { result ≡ (base.now.is_local && not is_local) }
 {
-    base.is_local && !is_local
+    base.is_local() && !is_local
 }
 
 // The paths of a table in order.

@@ -120,7 +120,7 @@ impl Clauses {
     fn is_raising(&self, entity: &Entity) -> bool
         ensures { result ≡ (kind_eq entity.now.kind Attribute && raises self.now) }
     {
-        entity.kind == Kind::Attribute
+        entity.kind() == Kind::Attribute
             && !(is_nothing(self.raised.as_slice()) && is_nothing(self.raised_by_set.as_slice()))
     }
 
@@ -191,14 +191,14 @@ impl Body {
     ) -> Result<(), AllocError>
         ensures { OnOk result (self.new ≡ with_name way entity.now self.old) }
     {
-        if !is_member(entity.kind) {
+        if !is_member(entity.kind()) {
             return Ok(());
         }
-        let name = entity.path.spelling(alloc)?;
-        let data_type = entity.data_type.clone()?;
+        let name = entity.path().spelling(alloc)?;
+        let data_type = entity.data_type().clone()?;
         let labels = replace(&mut self.labels, Vec::new(alloc));
         if self.members.is_empty() {
-            self.members.reserve_exact(room_for(entity.kind))?;
+            self.members.reserve_exact(room_for(entity.kind()))?;
         }
         self.members.push(Member {
             name,
@@ -222,10 +222,10 @@ impl Body {
     fn make_array(&mut self, array: &Entity) -> Result<(), AllocError>
         ensures { OnOk result (self.new ≡ with_array_type array.now self.old) }
     {
-        if array.kind != Kind::Member {
+        if array.kind() != Kind::Member {
             return Ok(());
         }
-        set_last_type(&mut self.members, array.data_type.clone()?);
+        set_last_type(&mut self.members, array.data_type().clone()?);
         Ok(())
     }
 
@@ -242,13 +242,13 @@ impl Body {
         let Some(entity) = entity else {
             return Ok(None);
         };
-        let mut told = entity.get().clone()?;
+        let mut told = entity.get().parts(alloc)?;
         if told.kind == Kind::Union {
             told.data_type = data_type;
         }
         members.shrink_to_fit();
         told.signature = Some(clauses.signature(alloc, members)?);
-        Ok(Some(Shared::new(alloc, told)?))
+        Ok(Some(Shared::new(alloc, told.into_entity(alloc)?)?))
     }
 }
 

@@ -20,7 +20,9 @@ use idl_base::Seq;
 use idl_event::Code;
 use idl_lex::Spelling;
 use idl_map::SharedList;
-use idl_scope::{Addition, DataType, Element, Entity, Facts, Kind, Path, Scope, Shared, Stage};
+use idl_scope::{
+    Addition, DataType, Element, Entity, EntityParts, Facts, Kind, Path, Scope, Shared, Stage,
+};
 use idl_site::Declaration;
 use idl_value::{Target, Value};
 use std::alloc::{AllocError, Global};
@@ -207,21 +209,21 @@ impl Written {
         let data_type = self.data_type(alloc, way)?;
         let value = self.value(alloc, way, name)?;
         let enumerators = self.enumerators(alloc, way)?;
-        let entity = Entity {
+        let parts = EntityParts {
             path,
             kind: kind_of(way),
             is_local: is_local_in(way),
             is_readonly: is_readonly_in(way),
             is_oneway: is_oneway_in(way),
             stage: stage_of(way),
+            data_type,
             bases: Seq::new(alloc),
             operations: SharedList::new(),
-            data_type,
             value,
             enumerators,
             signature: None,
         };
-        Shared::new(alloc, entity)
+        Shared::new(alloc, parts.into_entity(alloc)?)
     }
 
     /// This name is declared: an enum is a type.
@@ -229,11 +231,11 @@ impl Written {
         ensures { OnOk result
             (held_written self.new ≡ written_after (held_written self.old) entity.now) }
     {
-        if entity.kind != Kind::Enumeration {
+        if entity.kind() != Kind::Enumeration {
             return Ok(());
         }
-        self.name_type(alloc, &entity.path)?;
-        self.enumeration = names_of(alloc, &entity.path)?;
+        self.name_type(alloc, entity.path())?;
+        self.enumeration = names_of(alloc, entity.path())?;
         Ok(())
     }
 
@@ -285,7 +287,7 @@ fn declared_path<'a>(own: &'a Facts, name: &[u8], scope: &Path) -> Option<&'a Pa
     let Some(Addition::Declares(entity)) = own.addition(last) else {
         return None;
     };
-    let path = &entity.get().path;
+    let path = entity.get().path();
     if path.is_child(name, scope) {
         return Some(path);
     }
@@ -307,25 +309,25 @@ pub fn finished(
     if is_finished(ending, begun.get()) {
         return begun.clone();
     }
-    let mut entity = begun.get().clone()?;
-    match begun.get().kind {
+    let mut parts = begun.get().parts(alloc)?;
+    match begun.get().kind() {
         Kind::Interface => {
-            entity.stage = Stage::Open;
-            entity.bases = ending.bases.clone()?;
+            parts.stage = Stage::Open;
+            parts.bases = ending.bases.clone()?;
         }
         Kind::Attribute => {
             let members = Vec::new(alloc);
-            entity.signature = Some(ending.clauses.signature(alloc, members)?);
+            parts.signature = Some(ending.clauses.signature(alloc, members)?);
         }
         _ => {
-            entity.stage = Stage::Complete;
-            entity.value = match ending.value {
+            parts.stage = Stage::Complete;
+            parts.value = match ending.value {
                 Some(value) => Some(Shared::new(alloc, value.clone()?)?),
                 None => None,
             };
         }
     }
-    Shared::new(alloc, entity)
+    Shared::new(alloc, parts.into_entity(alloc)?)
 }
 
 // Whether the end of its unit leaves it as it is, so that it can be shared.
@@ -334,9 +336,11 @@ fn is_finished(ending: Ending<'_>, begun: &Entity) -> bool
         → finished ending.entry.bases.now ending.entry.value.now ending.entry.clauses.now
         begun.now ≡ begun.now }
 {
-    match begun.kind {
+    match begun.kind() {
         Kind::Interface | Kind::Attribute => false,
-        _ => { begun.stage == Stage::Complete && begun.value.is_none() && ending.value.is_none() }
+        _ => {
+            begun.stage() == Stage::Complete && begun.value().is_none() && ending.value.is_none()
+        }
     }
 }
 
@@ -348,48 +352,48 @@ pub fn array_of(
 ) -> Result<Shared<Entity>, AllocError>
     ensures { IfOk result (λ array. array ≡ array_of lengths.now entity.now) }
 {
-    let mut array = entity.clone()?;
-    if let Some(element) = &entity.data_type {
-        array.data_type = Some(element.get().in_arrays(alloc, lengths)?);
+    let mut parts = entity.parts(alloc)?;
+    if let Some(element) = entity.data_type() {
+        parts.data_type = Some(element.get().in_arrays(alloc, lengths)?);
     }
-    Shared::new(alloc, array)
+    Shared::new(alloc, parts.into_entity(alloc)?)
 }
 
 // Whether one of them is declared ahead, and both may be.
 fn come_ahead(old: &Entity, new: &Entity) -> bool
     ensures { result ≡ come_ahead old.now new.now }
 {
-    may_be_ahead(old.kind)
-        && may_be_ahead(new.kind)
-        && (old.stage == Stage::Ahead || new.stage == Stage::Ahead)
+    may_be_ahead(old.kind())
+        && may_be_ahead(new.kind())
+        && (old.stage() == Stage::Ahead || new.stage() == Stage::Ahead)
 }
 
 // Whether both are modules.
 fn are_modules(old: &Entity, new: &Entity) -> bool
     ensures { result ≡ are_modules old.now new.now }
 {
-    old.kind == Kind::Module && new.kind == Kind::Module
+    old.kind() == Kind::Module && new.kind() == Kind::Module
 }
 
 // Whether a name that is there may be declared again as this.
 fn may_follow(old: &Entity, new: &Entity) -> bool
     ensures { result ≡ may_follow old.now new.now }
 {
-    old.path.name() == new.path.name() && (are_modules(old, new) || come_ahead(old, new))
+    old.path().name() == new.path().name() && (are_modules(old, new) || come_ahead(old, new))
 }
 
 // Whether it is then of another kind, or local as the other isn't.
 fn differs(old: &Entity, new: &Entity) -> bool
     ensures { result ≡ differs old.now new.now }
 {
-    old.kind != new.kind || old.is_local != new.is_local
+    old.kind() != new.kind() || old.is_local() != new.is_local()
 }
 
 // Whether the name is the scope's own.
 fn is_name_of_scope(scope: &Scope, new: &Entity) -> bool
     ensures { result ≡ is_name_of_scope scope.now new.now }
 {
-    scope.kind.is_scope() && scope.path.name().eq_ignore_ascii_case(new.path.name())
+    scope.kind.is_scope() && scope.path.name().eq_ignore_ascii_case(new.path().name())
 }
 
 /// The code of the least fault of a declared name.
@@ -420,7 +424,8 @@ pub fn stays(there: &Option<Shared<Entity>>, new: &Entity) -> bool
 {
     match there {
         Some(old) => {
-            may_follow(old.get(), new) && (new.kind == Kind::Module || new.stage == Stage::Ahead)
+            may_follow(old.get(), new)
+                && (new.kind() == Kind::Module || new.stage() == Stage::Ahead)
         }
         None => false,
     }

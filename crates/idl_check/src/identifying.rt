@@ -76,7 +76,7 @@ pub fn ids_of(
         ≡ run key_eq (under view.entry.own.now.additions (ids_of there.now new.now))
         (answers view.entry.env.now) log.old) }
 {
-    if !has_id(new.kind) {
+    if !has_id(new.kind()) {
         return Ok(None);
     }
     let prefix = view.prefix(log)?;
@@ -97,8 +97,8 @@ fn id_before(
         (answers view.entry.env.now) log.old) }
 {
     match there {
-        Some(old) if may_be_ahead(old.get().kind) => {
-            match view.identity(log, &new.path)? {
+        Some(old) if may_be_ahead(old.get().kind()) => {
+            match view.identity(log, new.path())? {
                 Some(identity) => Ok(Some(identity.clone()?)),
                 None => Ok(None),
             }

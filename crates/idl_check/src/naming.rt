@@ -184,7 +184,7 @@ impl<'a> Walker<'a> {
         };
         match resolve(self.env, log, place, &head) {
             Ok(found) => {
-                if found.entity.get().kind.is_scope() {
+                if found.entity.get().kind().is_scope() {
                     return Ok(());
                 }
                 self.note(at, Some(Code::NoScope));
@@ -261,7 +261,7 @@ impl<'a> Walker<'a> {
         ensures env { OnOk result (self.new.env.now ≡ self.old.env.now) }
     {
         match way {
-            Use::AsOperand => self.values.add_operand(&None),
+            Use::AsOperand => self.values.add_operand(None),
             Use::AsDiscriminator => {
                 let labels = Labels::new(self.env.alloc(), None, 0);
                 self.unions.insert(0, labels)?;
@@ -299,13 +299,11 @@ impl<'a> Walker<'a> {
         self.at = last + 1;
         self.gives_back = false;
         let scopes = front(self.cursor.as_slice(), found.reach);
-        let used = Denoting {
-            name,
-            path: &entity.path,
-        };
+        let path = entity.path();
+        let used = Denoting { name, path };
         introduce(alloc, &mut self.own, used, scopes)?;
-        self.found.push(entity.path.clone()?)?;
-        self.clauses.add_raised(way, &entity.path)?;
+        self.found.push(path.clone()?)?;
+        self.clauses.add_raised(way, path)?;
         self.follow(way, entity, behind, constants)?;
         Ok(())
     }
@@ -335,20 +333,20 @@ impl<'a> Walker<'a> {
         match way {
             Use::AsBase(_) => self.bases.add(self.env.alloc(), entity),
             Use::AsType | Use::AsElement => {
-                self.written.name_type(self.env.alloc(), &entity.path)
+                self.written.name_type(self.env.alloc(), entity.path())
             }
             Use::AsConstantType => {
                 self.written.constants = constants;
-                self.written.name_type(self.env.alloc(), &entity.path)
+                self.written.name_type(self.env.alloc(), entity.path())
             }
             Use::AsDiscriminator => {
-                self.written.name_type(self.env.alloc(), &entity.path)?;
-                let count = behind.enumerators.len() as u64;
+                self.written.name_type(self.env.alloc(), entity.path())?;
+                let count = behind.enumerators().len() as u64;
                 let labels = Labels::new(self.env.alloc(), constants, count);
                 self.unions.insert(0, labels)?;
                 Ok(())
             }
-            Use::AsOperand => self.values.add_operand(&entity.value),
+            Use::AsOperand => self.values.add_operand(entity.value()),
             Use::Raised | Use::RaisedBySet => Ok(()),
         }
     }
@@ -366,8 +364,8 @@ fn keep_last(last: &mut Option<Shared<Entity>>, entity: &Shared<Entity>) -> Resu
 fn is_begun(entity: &Entity) -> bool
     ensures { result ≡ is_begun entity.now }
 {
-    entity.stage == Stage::Begun
-        && (entity.kind == Kind::Interface || entity.kind == Kind::Constant)
+    entity.stage() == Stage::Begun
+        && (entity.kind() == Kind::Interface || entity.kind() == Kind::Constant)
 }
 
 // Those that have begun, with one more if it has.
@@ -400,8 +398,8 @@ fn add_identity(
     let (None, Some(ids)) = (&standing.there, &standing.ids) else {
         return Ok(());
     };
-    let identity = first_identity(alloc, ids.prefix.get(), &entity.path)?;
-    own.add(Addition::Identifies(entity.path.clone()?, identity))
+    let identity = first_identity(alloc, ids.prefix.get(), entity.path())?;
+    own.add(Addition::Identifies(entity.path().clone()?, identity))
 }
 
 // Puts in what a declared name adds.

@@ -193,13 +193,13 @@ impl<'a> Speaker<'a> {
         match resolve(self.env, log, place, name) {
             Ok(found) => {
                 let entity = found.entity.get();
-                if !has_id(entity.kind) {
+                if !has_id(entity.kind()) {
                     return Ok(Err(Fault {
                         index: last_at(OPERANDS, name),
                         code: Code::NoRepositoryId,
                     }));
                 }
-                Ok(Ok(self.identified(log, &entity.path)?))
+                Ok(Ok(self.identified(log, entity.path())?))
             }
             Err(NameFault::Memory) => Err(AllocError),
             Err(NameFault::At(code, part)) => Ok(Err(Fault {

@@ -54,9 +54,9 @@ pub fn standing_of(
         ≡ run key_eq (under view.entry.own.now.additions (standing turns scope.now new.now))
         (answers view.entry.env.now) log.old) }
 {
-    let there = there(view, log, &new.path)?;
-    let is_used = is_used(view, log, scope, &new.path)?;
-    let is_inherited = is_inherited(view, log, scope, &new.path)?;
+    let there = there(view, log, new.path())?;
+    let is_used = is_used(view, log, scope, new.path())?;
+    let is_inherited = is_inherited(view, log, scope, new.path())?;
     let ids = ids_of(view, log, &there, new)?;
     Ok(Standing {
         there,
@@ -147,7 +147,7 @@ fn bases_of<'a>(entity: Option<&'a Shared<Entity>>) -> &'a [Path]
     ensures { result.now ≡ bases_of (option_copied entity.entry) }
 {
     match entity {
-        Some(shared) if shared.get().stage.has_bases() => shared.get().bases.as_slice(),
+        Some(shared) if shared.get().stage().has_bases() => shared.get().bases(),
         _ => &[],
     }
 }

@@ -27,8 +27,8 @@ use std::alloc::{AllocError, Global};
 pub fn is_incomplete(entity: &Entity) -> bool
     ensures { result ≡ is_incomplete entity.now }
 {
-    (entity.kind == Kind::Structure || entity.kind == Kind::Union)
-        && entity.stage != Stage::Complete
+    (entity.kind() == Kind::Structure || entity.kind() == Kind::Union)
+        && entity.stage() != Stage::Complete
 }
 
 /// What stands behind a name that is used so and denotes this: through typedefs, each of which is
@@ -80,8 +80,8 @@ fn behind_typedefs(
 fn aliased(entity: &Entity) -> Option<&DataType>
     ensures { option_copied result ≡ aliased entity.now }
 {
-    match &entity.data_type {
-        Some(data_type) if entity.kind == Kind::Alias => Some(data_type.get()),
+    match entity.data_type() {
+        Some(data_type) if entity.kind() == Kind::Alias => Some(data_type.get()),
         _ => None,
     }
 }
@@ -97,8 +97,8 @@ fn path_in(entity: &Entity) -> Option<&Path>
 pub fn constants_of(alloc: Global, entity: &Entity) -> Result<Option<Target>, AllocError>
     ensures { IfOk result (λ target. target ≡ constants_of entity.now) }
 {
-    if entity.kind == Kind::Enumeration {
-        return Ok(Some(Target::Enumeration(names_of(alloc, &entity.path)?)));
+    if entity.kind() == Kind::Enumeration {
+        return Ok(Some(Target::Enumeration(names_of(alloc, entity.path())?)));
     }
     match aliased(entity) {
         Some(data_type) => target_in(data_type),

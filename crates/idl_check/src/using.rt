@@ -82,12 +82,12 @@ fn suits(way: Use, entity: &Entity) -> bool
     ensures { result ≡ suits way entity.now }
 {
     match way {
-        Use::AsBase(_) => entity.kind == Kind::Interface,
+        Use::AsBase(_) => entity.kind() == Kind::Interface,
         Use::AsType | Use::AsElement | Use::AsConstantType | Use::AsDiscriminator => {
-            is_type(entity.kind)
+            is_type(entity.kind())
         }
-        Use::AsOperand => entity.value.is_some(),
-        Use::Raised | Use::RaisedBySet => entity.kind == Kind::Exception,
+        Use::AsOperand => entity.value().is_some(),
+        Use::Raised | Use::RaisedBySet => entity.kind() == Kind::Exception,
     }
 }
 

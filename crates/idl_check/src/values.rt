@@ -72,8 +72,10 @@ impl Values {
     }
 
     /// The value of its next name, if it has one.
-    pub fn add_operand(&mut self, value: &Option<Shared<Value>>) -> Result<(), AllocError>
-        ensures { OnOk result (held_values self.new ≡ with_operand value.now (held_values self.old)) }
+    pub fn add_operand(&mut self, value: Option<&Shared<Value>>) -> Result<(), AllocError>
+        ensures { OnOk result
+            (held_values self.new
+            ≡ with_operand (option_copied value.entry) (held_values self.old)) }
     {
         let operand = match value {
             Some(value) => Some(value.get().clone()?),

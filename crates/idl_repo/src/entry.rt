@@ -116,10 +116,10 @@ pub fn entry_by(
 fn closing_fault(entity: &Entity) -> Option<Code>
     ensures { result ≡ closing_fault entity.now }
 {
-    if entity.stage != Stage::Ahead {
+    if entity.stage() != Stage::Ahead {
         return None;
     }
-    if entity.kind == Kind::Interface {
+    if entity.kind() == Kind::Interface {
         Some(Code::InterfaceNeverDefined)
     } else {
         Some(Code::NeverDefined)

@@ -25,10 +25,10 @@ pub fn push_row(
         (Writes (answers env.now) (row_pieces entity.now)
         (text.old.items, log.old) (text.new.items, log.new)) }
 {
-    text.extend_from_slice(kind_head(entity.kind))?;
-    push_path(text, entity.path.lent())?;
+    text.extend_from_slice(kind_head(entity.kind()))?;
+    push_path(text, entity.path().lent())?;
     text.extend_from_slice(b" ")?;
-    let id = id_of(env, log, &entity.path)?;
+    let id = id_of(env, log, entity.path())?;
     text.extend_from_slice(id)?;
     match TypeCode::of(entity) {
         Some(code) => {
@@ -88,7 +88,7 @@ fn push_uncoded(
         (Writes (answers env.now) (behind_id entity.now)
         (text.old.items, log.old) (text.new.items, log.new)) }
 {
-    match entity.kind {
+    match entity.kind() {
         Kind::Constant => push_constant(text, env, log, entity),
         Kind::Attribute => push_attribute(text, env, log, entity),
         Kind::Operation => push_operation(text, env, log, entity),
@@ -107,9 +107,9 @@ fn push_bases(
         (Writes (answers env.now) (bases_pieces entity.now)
         (text.old.items, log.old) (text.new.items, log.new)) }
 {
-    if entity.kind == Kind::Interface {
+    if entity.kind() == Kind::Interface {
         text.extend_from_slice(b" bases(")?;
-        push_references(text, env, log, entity.bases.as_slice())?;
+        push_references(text, env, log, entity.bases())?;
         text.extend_from_slice(b")")?;
     }
     Ok(())
@@ -127,9 +127,9 @@ fn push_constant(
         (text.old.items, log.old) (text.new.items, log.new)) }
 {
     text.extend_from_slice(b" ")?;
-    push_type(text, env, log, &entity.data_type)?;
+    push_type(text, env, log, entity.data_type())?;
     text.extend_from_slice(b" ")?;
-    if let Some(value) = &entity.value {
+    if let Some(value) = entity.value() {
         push_listed(text, value.get())?;
     }
     Ok(())
@@ -146,8 +146,8 @@ fn push_attribute(
         (Writes (answers env.now) (attribute_pieces entity.now)
         (text.old.items, log.old) (text.new.items, log.new)) }
 {
-    text.extend_from_slice(flag(entity.is_readonly, b" readonly "))?;
-    push_type(text, env, log, &entity.data_type)?;
+    text.extend_from_slice(flag(entity.is_readonly(), b" readonly "))?;
+    push_type(text, env, log, entity.data_type())?;
     text.extend_from_slice(b" get(")?;
     push_references(text, env, log, raised_of(entity))?;
     text.extend_from_slice(b") set(")?;
@@ -167,8 +167,8 @@ fn push_operation(
         (Writes (answers env.now) (operation_pieces entity.now)
         (text.old.items, log.old) (text.new.items, log.new)) }
 {
-    text.extend_from_slice(flag(entity.is_oneway, b" oneway "))?;
-    push_type(text, env, log, &entity.data_type)?;
+    text.extend_from_slice(flag(entity.is_oneway(), b" oneway "))?;
+    push_type(text, env, log, entity.data_type())?;
     text.extend_from_slice(b" (")?;
     push_parameters(text, env, log, members_of(entity))?;
     text.extend_from_slice(b") raises(")?;

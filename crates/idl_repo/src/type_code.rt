@@ -59,8 +59,8 @@ impl<'a> TypeCode<'a> {
         ensures kind { option_map (λ code. code.kind) result ≡ kind_in entity.now }
         ensures entity { IfSome result (λ code. code.entity.now ≡ entity.now) }
     {
-        let kind = match entity.kind {
-            Kind::Interface if entity.is_local => TypeCodeKind::LocalInterface,
+        let kind = match entity.kind() {
+            Kind::Interface if entity.is_local() => TypeCodeKind::LocalInterface,
             Kind::Interface => TypeCodeKind::ObjectReference,
             Kind::Structure => TypeCodeKind::Structure,
             Kind::Union => TypeCodeKind::Union,
@@ -95,7 +95,7 @@ impl<'a> TypeCode<'a> {
             (text.old.items, log.old) (text.new.items, log.new)) }
     {
         text.extend_from_slice(b",")?;
-        text.extend_from_slice(self.entity.path.name())?;
+        text.extend_from_slice(self.entity.path().name())?;
         self.push_parts(text, env, log)?;
         text.extend_from_slice(b")")?;
         Ok(())
@@ -119,14 +119,12 @@ impl<'a> TypeCode<'a> {
                 push_members(text, env, log, members_of(self.entity))
             }
             TypeCodeKind::Union => {
-                push_type_behind(text, env, log, &self.entity.data_type)?;
+                push_type_behind(text, env, log, self.entity.data_type())?;
                 push_entries(text, env, log, members_of(self.entity))?;
                 Ok(())
             }
-            TypeCodeKind::Enumeration => {
-                push_enumerators(text, self.entity.enumerators.as_slice())
-            }
-            TypeCodeKind::Alias => push_type_behind(text, env, log, &self.entity.data_type),
+            TypeCodeKind::Enumeration => { push_enumerators(text, self.entity.enumerators()) }
+            TypeCodeKind::Alias => push_type_behind(text, env, log, self.entity.data_type()),
         }
     }
 }
@@ -145,7 +143,7 @@ pub fn members_of(entity: &Entity) -> &[Member]
 pub fn signature_of(entity: &Entity) -> Option<&Signature>
     ensures { option_copied result ≡ entity.now.signature }
 {
-    match &entity.signature {
+    match entity.signature() {
         Some(signature) => Some(signature.get()),
         None => None,
     }

@@ -1,6 +1,7 @@
 -- When two entities are one.
 use Rattle.std.specs.Prelude.{◌≡◌, Bool, true, ◌&&◌}
 use Rattle.std.specs.Bool.{beq}
+use Rattle.std.specs.Cmp.{IsEquivalence, IsPartialEquivalence}
 use Rattle.std.specs.Cmp.Lexicographic.{bytes_decides, pointwise}
 use Rattle.std.specs.Option.{option_eq}
 use Rattle.std.specs.Str.{bytes_eq}
@@ -9,27 +10,42 @@ use Rattle.idl_scope.specs.DataType.{data_type_eq, same_data_type}
 use Rattle.idl_scope.specs.Path.{path_eq, same_path}
 use Rattle.idl_scope.specs.Kind.{kind_eq, same_kind, stage_eq, same_stage}
 use Rattle.idl_scope.specs.Signature.{same_signature, signature_eq}
-use Rattle.idl_scope.specs.declared.entity.Entity.{Entity}
+use Rattle.idl_scope.specs.contracts.parts.EntityPartsEq.TheImpl.Laws.{laws-law as equivalence}
+use Rattle.idl_scope.specs.contracts.parts.EntityPartsPartialEq.TheImpl.Laws.{laws-law as partial_equivalence}
+use Rattle.idl_scope.specs.declared.parts.EntityParts.{EntityParts}
 use Rattle.idl_value.specs.Exact.{same_value, value_eq}
 
--- whether two entities are one, by what is known of them
-abbrev pub entity_eq : Entity → Entity → Bool
-entity_eq e f =
-    path_eq e.path f.path
-    && (kind_eq e.kind f.kind
+-- whether what two entities are declared with is one
+abbrev pub declared_eq : EntityParts → EntityParts → Bool
+declared_eq e f =
+    option_eq data_type_eq e.data_type f.data_type
+    && (pointwise path_eq e.bases f.bases
+    && (pointwise path_eq e.operations f.operations
+    && (option_eq value_eq e.value f.value
+    && (pointwise bytes_eq e.enumerators f.enumerators
+    && option_eq signature_eq e.signature f.signature))))
+
+-- whether two entities are one but for their paths
+abbrev pub pathless_eq : EntityParts → EntityParts → Bool
+pathless_eq e f =
+    kind_eq e.kind f.kind
     && (beq e.is_local f.is_local
     && (beq e.is_readonly f.is_readonly
     && (beq e.is_oneway f.is_oneway
-    && (stage_eq e.stage f.stage
-    && (pointwise path_eq e.bases f.bases
-    && (pointwise path_eq e.operations f.operations
-    && (option_eq data_type_eq e.data_type f.data_type
-    && (option_eq value_eq e.value f.value
-    && (pointwise bytes_eq e.enumerators f.enumerators
-    && option_eq signature_eq e.signature f.signature))))))))))
+    && (stage_eq e.stage f.stage && declared_eq e f))))
+
+-- whether two entities are one, by what is known of them
+abbrev pub entity_eq : EntityParts → EntityParts → Bool
+entity_eq e f = path_eq e.path f.path && pathless_eq e f
+
+pub entity_per : IsPartialEquivalence entity_eq
+entity_per = partial_equivalence
+
+pub entity_equiv : IsEquivalence entity_eq
+entity_equiv = equivalence
 
 -- entities that are found equal are one
-pub same_entity : (e f : Entity) → entity_eq e f ≡ true → e ≡ f
+pub same_entity : (e f : EntityParts) → entity_eq e f ≡ true → e ≡ f
 same_entity e f h =
     let a = both _ _ h in
     let b = both _ _ a.1 in
@@ -48,9 +64,9 @@ same_entity e f h =
     let readonly = same_bool e.is_readonly f.is_readonly d.0 in
     let oneway = same_bool e.is_oneway f.is_oneway g.0 in
     let stage = same_stage e.stage f.stage j.0 in
-    let bases = same_list path_eq same_path e.bases f.bases k.0 in
-    let operations = same_list path_eq same_path e.operations f.operations l.0 in
-    let data_type = same_option data_type_eq same_data_type e.data_type f.data_type m.0 in
+    let data_type = same_option data_type_eq same_data_type e.data_type f.data_type k.0 in
+    let bases = same_list path_eq same_path e.bases f.bases l.0 in
+    let operations = same_list path_eq same_path e.operations f.operations m.0 in
     let value = same_option value_eq same_value e.value f.value n.0 in
     let enumerators =
     same_list bytes_eq (λ x y. (bytes_decides x y).0) e.enumerators f.enumerators o.0
@@ -63,9 +79,9 @@ same_entity e f h =
       is_readonly = readonly i;
       is_oneway = oneway i;
       stage = stage i;
+      data_type = data_type i;
       bases = bases i;
       operations = operations i;
-      data_type = data_type i;
       value = value i;
       enumerators = enumerators i;
       signature = signature i;

@@ -1,6 +1,7 @@
 pub mod Answer
 pub mod Bases
 pub mod DataType
+pub mod Details
 pub mod Digest
 pub mod Digested
 pub mod Entity

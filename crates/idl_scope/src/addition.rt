@@ -60,7 +60,7 @@ impl Addition {
         ensures { result ≡ key_digest (key_of self.now) }
     {
         match self {
-            Addition::Declares(entity) => entity.get().path.entity_digest(),
+            Addition::Declares(entity) => entity.get().path().entity_digest(),
             Addition::Uses(name, path, body) => introduced(path.digest(), name.as_bytes(), *body),
             Addition::Identifies(path, _) => identified(path.digest()),
         }
@@ -73,7 +73,7 @@ impl Addition {
     {
         let key = match self {
             Addition::Declares(entity) => {
-                let path = &entity.get().path;
+                let path = entity.get().path();
                 Key::Declared(path.folded(alloc)?, path.scope()?)
             }
             Addition::Uses(name, path, body) => {
@@ -91,7 +91,7 @@ impl Addition {
     {
         Ok(match self {
             Addition::Declares(entity) => {
-                let path = &entity.get().path;
+                let path = entity.get().path();
                 let key = Key::Declared(path.folded(alloc)?, path.scope()?);
                 (key, Answer::Known(entity))
             }
@@ -106,7 +106,7 @@ impl Addition {
     {
         match (self, key) {
             (Addition::Declares(entity), Key::Declared(name, scope)) => {
-                entity.get().path.is_found_at(name, scope)
+                entity.get().path().is_found_at(name, scope)
             }
             (Addition::Uses(name, path, body), Key::Introduced(other, scope, number)) => {
                 *other == *name && *scope == *path && *number == *body
@@ -127,7 +127,7 @@ impl Addition {
         if !entity.get().is_operation() {
             return None;
         }
-        Some(&entity.get().path)
+        Some(entity.get().path())
     }
 
     /// The answer that it leaves there.

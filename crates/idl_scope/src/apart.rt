@@ -80,7 +80,7 @@ impl Env {
         let Some(entity) = entity_in(self.answer(&key)) else {
             return Ok(());
         };
-        put_entities(digests, entity.get().bases.as_slice())
+        put_entities(digests, entity.get().bases())
     }
 }
 

@@ -1,62 +1,75 @@
 //! Entities: what names are declared as.
 
-ghost use Rattle.std.specs.Prelude.{◌≡◌};
+ghost use Rattle.std.specs.Prelude.{◌≡◌, IfOk};
+ghost use Rattle.std.specs.Option.{option_copied};
+ghost use Rattle.idl_scope.specs.Entity.{declared_eq, entity_eq, entity_equiv, entity_per, pathless_eq};
 ghost use Rattle.idl_scope.specs.Facts.{is_operation};
 
 use crate::data_type::DataType;
+use crate::details::Details;
 use crate::kind::{Kind, Stage};
+use crate::parts::EntityParts;
 use crate::path::Path;
-use crate::shared::{Shared, copied};
+use crate::shared::{Shared, copied_of};
 use crate::signature::Signature;
 use idl_base::{Datum, Seq};
 use idl_lex::Spelling;
 use idl_map::SharedList;
 use idl_value::Value;
-use std::alloc::AllocError;
+use std::alloc::{AllocError, Global};
+use std::marker::Model;
+use std::mem::size_of;
 
-/// What is known of a declared name, beside places and ids.
-#[derive(PartialEq, Eq)]
+/// What is known of a declared name, beside places and ids. To every contract it is the record of its parts.
+///
+/// What few entities have stands apart, so that the others take little memory.
 pub struct Entity {
-    /// Its name as it is spelled, in the scope in which it is declared.
-    pub path: Path,
-    pub kind: Kind,
-    /// Whether it is an interface that is declared `local`.
-    pub is_local: bool,
-    /// Whether it is an attribute that is declared `readonly`.
-    pub is_readonly: bool,
-    /// Whether it is an operation that is declared `oneway`.
-    pub is_oneway: bool,
-    pub stage: Stage,
-    /// The paths of the direct bases, in order.
-    pub bases: Seq<Path>,
-    /// The paths of the operations and attributes of a closed interface: the inherited ones first, by its bases in order and
-    /// none twice, and then its own in order. What it inherits by its first base is shared with that.
-    pub operations: SharedList<Path>,
-    /// The type that it is declared with: what an operation gives back, if it does, and of a union that of its labels.
-    pub data_type: Option<Shared<DataType>>,
-    /// The value of a constant, once it is told, and of an enumerator.
-    pub value: Option<Shared<Value>>,
-    /// The names of the enumerators of an enum, in order.
-    pub enumerators: Seq<Spelling>,
-    /// What it shows behind its name, once that is told.
-    pub signature: Option<Shared<Signature>>,
+    pub(crate) path: Path,
+    pub(crate) data_type: Option<Shared<DataType>>,
+    pub(crate) details: Details,
+    pub(crate) kind: Kind,
+    pub(crate) is_local: bool,
+    pub(crate) is_readonly: bool,
+    pub(crate) is_oneway: bool,
+    pub(crate) stage: Stage,
+}
+
+// A large root declares hundreds of thousands of names.
+const _: () = prove!(size_of::<Entity>() <= 56);
+
+impl Model for Entity {
+    ghost use Rattle.idl_scope.specs.declared.parts.EntityParts.{EntityParts};
+    ghost use Rattle.idl_scope.specs.Details.{rare_in};
+
+    ghost Value = { EntityParts };
+
+    ghost view = { λ entity. record {
+      path = entity.path;
+      kind = entity.kind;
+      is_local = entity.is_local;
+      is_readonly = entity.is_readonly;
+      is_oneway = entity.is_oneway;
+      stage = entity.stage;
+      data_type = entity.data_type;
+      bases = (rare_in entity.details).bases;
+      operations = (rare_in entity.details).operations;
+      value = (rare_in entity.details).value;
+      enumerators = (rare_in entity.details).enumerators;
+      signature = (rare_in entity.details).signature;
+    } };
 }
 
 impl Drop for Entity {
     fn drop(self) {
         let Entity {
             path: _path,
+            data_type: _data_type,
+            details: _details,
             kind: _kind,
             is_local: _is_local,
             is_readonly: _is_readonly,
             is_oneway: _is_oneway,
             stage: _stage,
-            bases: _bases,
-            operations: _operations,
-            data_type: _data_type,
-            value: _value,
-            enumerators: _enumerators,
-            signature: _signature,
         } = self;
     }
 }
@@ -66,27 +79,56 @@ impl Clone for Entity {
 
     fn clone(&self) -> Result<Entity, AllocError> {
         let path = self.path.clone()?;
-        let bases = self.bases.clone()?;
-        let operations = self.operations.clone()?;
-        let data_type = copied(&self.data_type)?;
-        let value = copied(&self.value)?;
-        let enumerators = self.enumerators.clone()?;
-        let signature = copied(&self.signature)?;
+        let data_type = self.data_type.clone()?;
+        let details = self.details.clone()?;
         Ok(Entity {
             path,
+            data_type,
+            details,
             kind: self.kind,
             is_local: self.is_local,
             is_readonly: self.is_readonly,
             is_oneway: self.is_oneway,
             stage: self.stage,
-            bases,
-            operations,
-            data_type,
-            value,
-            enumerators,
-            signature,
         })
     }
+}
+
+impl PartialEq for Entity {
+    ghost eq = { entity_eq };
+
+    ghost laws = { entity_per };
+
+    fn eq(&self, other: &Entity) -> bool
+        ensures { result ≡ entity_eq self.now other.now }
+    {
+        self.path == other.path && self.is_like(other)
+    }
+}
+
+impl Entity {
+    // Whether another is one with it but for its path.
+    fn is_like(&self, other: &Entity) -> bool
+        ensures { result ≡ pathless_eq self.now other.now }
+    {
+        self.kind == other.kind
+            && self.is_local == other.is_local
+            && self.is_readonly == other.is_readonly
+            && self.is_oneway == other.is_oneway
+            && self.stage == other.stage
+            && self.is_declared_like(other)
+    }
+
+    // Whether another is declared with what it is declared with.
+    fn is_declared_like(&self, other: &Entity) -> bool
+        ensures { result ≡ declared_eq self.now other.now }
+    {
+        self.data_type == other.data_type && self.details.are_those_of(&other.details)
+    }
+}
+
+impl Eq for Entity {
+    ghost laws = { entity_equiv };
 }
 
 impl Datum for Entity {
@@ -98,6 +140,117 @@ impl Datum for Entity {
 }
 
 impl Entity {
+    /// Its parts, each by itself.
+    pub fn parts(&self, alloc: Global) -> Result<EntityParts, AllocError>
+        ensures { IfOk result (λ parts. parts ≡ self.now) }
+    {
+        let path = self.path.clone()?;
+        let data_type = self.data_type.clone()?;
+        let bases = Seq::from_vec(Vec::from_clones(alloc, self.bases())?);
+        let operations = self.operations()?;
+        let value = copied_of(self.value())?;
+        let enumerators = Seq::from_vec(Vec::from_clones(alloc, self.enumerators())?);
+        let signature = copied_of(self.signature())?;
+        Ok(EntityParts {
+            path,
+            kind: self.kind,
+            is_local: self.is_local,
+            is_readonly: self.is_readonly,
+            is_oneway: self.is_oneway,
+            stage: self.stage,
+            data_type,
+            bases,
+            operations,
+            value,
+            enumerators,
+            signature,
+        })
+    }
+
+    /// Its name as it is spelled, in the scope in which it is declared.
+    pub fn path(&self) -> &Path
+        ensures { result.now ≡ self.now.path }
+    {
+        &self.path
+    }
+
+    /// What it is.
+    pub fn kind(&self) -> Kind
+        ensures { result ≡ self.now.kind }
+    {
+        self.kind
+    }
+
+    /// Whether it is an interface that is declared `local`.
+    pub fn is_local(&self) -> bool
+        ensures { result ≡ self.now.is_local }
+    {
+        self.is_local
+    }
+
+    /// Whether it is an attribute that is declared `readonly`.
+    pub fn is_readonly(&self) -> bool
+        ensures { result ≡ self.now.is_readonly }
+    {
+        self.is_readonly
+    }
+
+    /// Whether it is an operation that is declared `oneway`.
+    pub fn is_oneway(&self) -> bool
+        ensures { result ≡ self.now.is_oneway }
+    {
+        self.is_oneway
+    }
+
+    /// How far it has come.
+    pub fn stage(&self) -> Stage
+        ensures { result ≡ self.now.stage }
+    {
+        self.stage
+    }
+
+    /// The type that it is declared with.
+    pub fn data_type(&self) -> &Option<Shared<DataType>>
+        ensures { result.now ≡ self.now.data_type }
+    {
+        &self.data_type
+    }
+
+    /// The paths of the direct bases, in order.
+    pub fn bases(&self) -> &[Path]
+        ensures { result.now ≡ self.now.bases }
+    {
+        self.details.bases()
+    }
+
+    /// The paths of the operations and attributes of a closed interface.
+    pub fn operations(&self) -> Result<SharedList<Path>, AllocError>
+        ensures { IfOk result (λ paths. paths ≡ self.now.operations) }
+    {
+        self.details.operations()
+    }
+
+    /// The value of a constant, once it is told, and of an enumerator.
+    pub fn value(&self) -> Option<&Shared<Value>>
+        ensures { option_copied result ≡ self.now.value }
+    {
+        self.details.value()
+    }
+
+    /// The names of the enumerators of an enum, in order.
+    pub fn enumerators(&self) -> &[Spelling]
+        ensures { result.now ≡ self.now.enumerators }
+    {
+        self.details.enumerators()
+    }
+
+    /// What it shows behind its name, once that is told.
+    pub fn signature(&self) -> Option<&Shared<Signature>>
+        ensures { option_copied result ≡ self.now.signature }
+    {
+        self.details.signature()
+    }
+
     /// Whether it is an operation or an attribute.
     pub fn is_operation(&self) -> bool
         ensures { result ≡ is_operation self.now }

@@ -304,7 +304,7 @@ fn bases_of<'a>(entity: Option<&'a Shared<Entity>>) -> &'a [Path]
     ensures { result.now ≡ bases_of (option_copied entity.entry) }
 {
     match entity {
-        Some(shared) if shared.get().stage.has_bases() => shared.get().bases.as_slice(),
+        Some(shared) if shared.get().stage().has_bases() => shared.get().bases(),
         _ => &[],
     }
 }

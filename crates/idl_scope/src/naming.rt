@@ -153,8 +153,8 @@ impl<'a> View<'a> {
     {
         let folded = folded_name(self.env.alloc(), name.as_bytes())?;
         let place = Place {
-            kind: before.kind,
-            path: &before.path,
+            kind: before.kind(),
+            path: before.path(),
         };
         let found = self.found_in(log, place, &folded)?;
         Ok(judged(part, name.as_bytes(), &found))
@@ -176,7 +176,7 @@ impl<'a> View<'a> {
     {
         let mut entity = first;
         for (part, name) in names.iter().enumerate() {
-            if !entity.get().kind.is_scope() {
+            if !entity.get().kind().is_scope() {
                 return Ok(Err(NameFault::At(NameCode::NoScope, part)));
             }
             match self.next_part(log, entity.get(), part + 1, name)? {
@@ -210,7 +210,7 @@ fn spelled<'a>(
 ) -> Result<&'a Shared<Entity>, NameFault>
     ensures { named result ≡ placed part (judged name.now (entity.now ∷ [])) }
 {
-    if entity.get().path.name() == name {
+    if entity.get().path().name() == name {
         Ok(entity)
     } else {
         Err(NameFault::At(NameCode::OtherSpelling, part))
@@ -227,7 +227,7 @@ fn reach_of(name: &ScopedName, cursor: &[Scope], first: &Entity) -> usize
     match cursor {
         [] => 0,
         [innermost, outer @ ..] => {
-            if first.path.is_in(&innermost.path) {
+            if first.path().is_in(&innermost.path) {
                 0
             } else if innermost.kind == Kind::Module {
                 1
@@ -244,7 +244,7 @@ fn outer_reach(scopes: &[Scope], first: &Entity) -> usize
     ensures within { result ≤ length scopes.now }
 {
     for (index, scope) in scopes.iter().enumerate() {
-        if scope.kind == Kind::Module || first.path.is_in(&scope.path) {
+        if scope.kind == Kind::Module || first.path().is_in(&scope.path) {
             return index;
         }
     }

@@ -70,7 +70,7 @@ fn operations_at(
 {
     let key = Key::of_entity(alloc, path)?;
     match entity_in(answers.get(&key)) {
-        Some(entity) => entity.get().operations.clone(),
+        Some(entity) => entity.get().operations(),
         None => Ok(SharedList::new()),
     }
 }

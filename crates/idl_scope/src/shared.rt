@@ -1,5 +1,6 @@
 //! Values that are shared.
 
+ghost use Rattle.std.specs.Option.{option_copied};
 ghost use Rattle.std.specs.Prelude.{◌≡◌, IfErr, IfOk};
 
 use idl_base::Datum;
@@ -65,6 +66,16 @@ impl<T: Drop> Clone for Shared<T> {
 /// A copy of what is there, if anything is.
 pub fn copied<T: Datum>(value: &Option<T>) -> Result<Option<T>, AllocError>
     ensures { IfOk result (λ copy. copy ≡ value.now) }
+{
+    match value {
+        Some(there) => Ok(Some(there.clone()?)),
+        None => Ok(None),
+    }
+}
+
+/// A copy of what is lent, if anything is.
+pub fn copied_of<T: Datum>(value: Option<&T>) -> Result<Option<T>, AllocError>
+    ensures { IfOk result (λ copy. copy ≡ option_copied value.entry) }
 {
     match value {
         Some(there) => Ok(Some(there.clone()?)),

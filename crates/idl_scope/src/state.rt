@@ -267,7 +267,7 @@ impl State {
         };
         let interface = entity.get();
         let operations = self.operations(alloc, interface)?;
-        let closed = closed(interface, operations)?;
+        let closed = closed(alloc, interface, operations)?;
         Ok(Some(Shared::new(alloc, closed)?))
     }
 
@@ -278,7 +278,7 @@ impl State {
             ≡ inherited (λ k. lookup (key_eq k) self.now.answers) interface.now.bases
             ++ innermost (reverse self.now.inside.items)) }
     {
-        let mut paths = inherited(alloc, &self.answers, interface.bases.as_slice())?;
+        let mut paths = inherited(alloc, &self.answers, interface.bases())?;
         put_last(alloc, &mut paths, innermost(self.inside.as_slice()))?;
         Ok(paths)
     }
@@ -308,7 +308,7 @@ fn put_closing(
     let Some(entity) = closing else {
         return Ok(());
     };
-    let key = Key::of_entity(alloc, &entity.get().path)?;
+    let key = Key::of_entity(alloc, entity.get().path())?;
     let entity = entity.clone()?;
     answers.insert(alloc, key, Answer::Known(entity))?;
     Ok(())
@@ -331,30 +331,18 @@ fn taken_last(
 }
 
 // An interface as it is once it is closed, with these operations and attributes.
-fn closed(interface: &Entity, operations: SharedList<Path>) -> Result<Entity, AllocError>
+fn closed(
+    alloc: Global,
+    interface: &Entity,
+    operations: SharedList<Path>,
+) -> Result<Entity, AllocError>
     ensures { IfOk result (λ entity.
         entity ≡ record interface.now { stage = stages.Complete; operations = operations }) }
 {
-    let path = interface.path.clone()?;
-    let bases = interface.bases.clone()?;
-    let data_type = copied(&interface.data_type)?;
-    let value = copied(&interface.value)?;
-    let enumerators = interface.enumerators.clone()?;
-    let signature = copied(&interface.signature)?;
-    Ok(Entity {
-        path,
-        kind: interface.kind,
-        is_local: interface.is_local,
-        is_readonly: interface.is_readonly,
-        is_oneway: interface.is_oneway,
-        stage: Stage::Complete,
-        bases,
-        operations,
-        data_type,
-        value,
-        enumerators,
-        signature,
-    })
+    let mut parts = interface.parts(alloc)?;
+    parts.stage = Stage::Complete;
+    parts.operations = operations;
+    parts.into_entity(alloc)
 }
 
 // The answers with those of the additions.

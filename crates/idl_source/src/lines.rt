@@ -12,7 +12,7 @@ use std::marker::Model;
 use std::rc::RcSlice;
 
 // So many bytes stand in one block, unless a line alone has more.
-const TOGETHER: usize = 4096;
+const TOGETHER: usize = 256;
 
 /// Lines that are gathered, one after another. The bytes of many stand together in a block of memory, which these lines share.
 #[derive(Drop)]

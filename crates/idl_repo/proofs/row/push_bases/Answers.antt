@@ -7,7 +7,7 @@ use Rattle.idl_repo.proofs.row.push_bases.Goals as goal
 
 pub returns-in_ok-extend_from_slice-2 : goal.returns-in_ok-extend_from_slice-2
 returns-in_ok-extend_from_slice-2 c =
-    let is : kind_eq c.args.entity.now.kind Interface ≡ true = sym c.eq.ensures ∙ c.if-eq.true in
+    let is : kind_eq c.args.entity.now.kind Interface ≡ true = ap (λ kind. kind_eq kind Interface) (sym c.kind.ensures) ∙ sym c.eq.ensures ∙ c.if-eq.true in
     rw is
     (says-then c.in_ok-extend_from_slice.ensures.items
     (writes-then (writes-as (ap references c.as_slice.ensures) c.in_ok-push_references.ensures)
@@ -15,5 +15,5 @@ returns-in_ok-extend_from_slice-2 c =
 
 pub returns-else-eq : goal.returns-else-eq
 returns-else-eq c =
-    let is : kind_eq c.args.entity.now.kind Interface ≡ false = sym c.eq.ensures ∙ c.if-eq.false in
+    let is : kind_eq c.args.entity.now.kind Interface ≡ false = ap (λ kind. kind_eq kind Interface) (sym c.kind.ensures) ∙ sym c.eq.ensures ∙ c.if-eq.false in
     rw is writes-nothing

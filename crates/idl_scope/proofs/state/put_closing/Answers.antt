@@ -12,7 +12,9 @@ pub returns : goal.returns
 returns c = λ k.
     let e = c.in-Some.entity in
     let old = c.args.answers.now in
-    let key = c.in_ok-key.ensures ∙ ap (λ x. entity_key x.path) c.get.ensures in
+    let key =
+    c.in_ok-key.ensures ∙ ap entity_key c.path.ensures ∙ ap (λ x. entity_key x.path) c.get.ensures
+    in
     c.in_ok-insert.ensures.each_key k
     ∙ (λ i. cond (key_eq k (key i)) (Some (Known (c.in_ok-entity.ensures.cases i))) (lookup (key_eq k) old))
     ∙ sym (over-cons (Declares e) [] k (lookup (key_eq k) old))

@@ -30,7 +30,7 @@ returns-then-not-has_id c = λ turns more faults change.
     let gives = c.in-Ok.ensures.asked turns more
     ∙ (λ i. runs_over bank (under (c.new-own.ensures i).additions (denoted turns scopes name)) log)
     ∙ (λ i. runs_over bank (under-none (denoted turns scopes name) i) log) in
-    let none = ap (λ (e : Entity). has_id e.kind) (sym c.get-entity.ensures) ∙ sym c.has_id.ensures ∙ c.if-not-has_id.true in
+    let none = ap (λ (e : Entity). has_id e.kind) (sym c.get-entity.ensures) ∙ ap has_id (sym c.kind.ensures) ∙ sym c.has_id.ensures ∙ c.if-not-has_id.true in
     (λ i. (said_of faults change (Err (fault_at (c.last_at.ensures i) NoRepositoryId)), after))
     ∙ sym (about-none bank faults change (last_at 2 name) found.entity after none)
     ∙ sym (named-found bank faults change turns scopes name log found after gives)
@@ -46,11 +46,12 @@ returns-in-Ok c = λ turns more faults change.
     let gives = c.in-Ok.ensures.asked turns more
     ∙ (λ i. runs_over bank (under (c.new-own.ensures i).additions (denoted turns scopes name)) log)
     ∙ (λ i. runs_over bank (under-none (denoted turns scopes name) i) log) in
-    let some = ap (λ (e : Entity). has_id e.kind) (sym c.get-entity.ensures) ∙ sym c.has_id.ensures ∙ c.if-not-has_id.false in
+    let lent = c.path.ensures ∙ ap (λ (e : Entity). e.path) c.get-entity.ensures in
+    let some = ap (λ (e : Entity). has_id e.kind) (sym c.get-entity.ensures) ∙ ap has_id (sym c.kind.ensures) ∙ sym c.has_id.ensures ∙ c.if-not-has_id.false in
     (λ i. (said_of faults change (Ok (c.in_ok-identified-in-Ok.ensures.named i)), c.in_ok-identified-in-Ok.ensures.logged i))
     ∙ (λ i. (
-      said_of faults change (Ok (named_at bank faults change (c.get-entity.ensures i).path (identity_in (bank (IdOf (c.get-entity.ensures i).path))))),
-      noted key_eq bank after (IdOf (c.get-entity.ensures i).path),
+      said_of faults change (Ok (named_at bank faults change (lent i) (identity_in (bank (IdOf (lent i)))))),
+      noted key_eq bank after (IdOf (lent i)),
     ))
     ∙ sym (about-named bank faults change (last_at 2 name) found.entity after some)
     ∙ sym (named-found bank faults change turns scopes name log found after gives)

@@ -39,12 +39,13 @@ returns-clause-visit c =
       found = found;
       values = values_after way f.value (held_values w.values);
     } in
-    let path = c.in_ok-clone.ensures.cases ∙ ap (λ (f : Entity). f.path) c.get-entity.ensures in
+    let lent = c.path-path.ensures ∙ ap (λ (f : Entity). f.path) c.get-entity.ensures in
+    let path = c.in_ok-clone.ensures.cases ∙ lent in
     let scopes = c.front-scopes.ensures ∙ ap (take reach) c.as_slice.ensures.value in
     c.in_ok-follow.ensures.walk
     ∙ (λ i. after before c.last_at-last.result (c.in_ok-introduce.ensures i).additions (c.in_ok-push.ensures.items i) (c.in_ok-add_raised.ensures i) (c.get-entity.ensures i))
     ∙ (λ i. after before (c.last_at-last.ensures i) (with_uses (folded name.first) (scopes i) before.own.additions) (before.found ++ path i ∷ [])
-    (with_raised way (c.get-entity.ensures i).path before.clauses) e)
+    (with_raised way (lent i) before.clauses) e)
     ∙ (λ i. after (c.note.ensures i) last (with_uses (folded name.first) (take reach (c.note.ensures i).cursor) (c.note.ensures i).own.additions) ((c.note.ensures i).found ++ e.path ∷ [])
     (with_raised way e.path (c.note.ensures i).clauses) e)
     ∙ (λ i. record (after (record old { bases = c.in_ok-code.ensures.same i }) last (with_uses (folded name.first) (take reach old.cursor) old.own.additions) (old.found ++ e.path ∷ []) (with_raised way e.path old.clauses) e)

@@ -25,7 +25,7 @@ returns-then-is_scope-clause-run c = λ turns more.
       first = c.in_ok-clone.ensures.cases i;
       rest = c.new.ensures i;
     }))) log) in
-    let scope = ap (λ (e : Entity). is_scope e.kind) (sym c.get.ensures) ∙ sym c.is_scope.ensures ∙ c.if-is_scope.true in
+    let scope = ap (λ (e : Entity). is_scope e.kind) (sym c.get.ensures) ∙ ap is_scope (sym c.kind.ensures) ∙ sym c.is_scope.ensures ∙ c.if-is_scope.true in
     (λ i. (record w { at = c.last_at.ensures i + 1; gives_back = false }, after))
     ∙ (λ i. (sym (head-scope name w found w.fault scope) i, after))
     ∙ sym (head_by bank turns name w log (Ok found) after gives)
@@ -44,7 +44,7 @@ returns-in-Ok-clause-run c = λ turns more.
       first = c.in_ok-clone.ensures.cases i;
       rest = c.new.ensures i;
     }))) log) in
-    let other = ap (λ (e : Entity). is_scope e.kind) (sym c.get.ensures) ∙ sym c.is_scope.ensures ∙ c.if-is_scope.false in
+    let other = ap (λ (e : Entity). is_scope e.kind) (sym c.get.ensures) ∙ ap is_scope (sym c.kind.ensures) ∙ sym c.is_scope.ensures ∙ c.if-is_scope.false in
     (λ i. (held (c.note.ensures i), after))
     ∙ (λ i. (record w { at = c.last_at.ensures i + 1; gives_back = false; fault = noted w.fault (fault_at w.at NoScope ∷ []) }, after))
     ∙ (λ i. (sym (head-other name w found w.fault other) i, after))

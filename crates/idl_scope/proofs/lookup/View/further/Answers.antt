@@ -14,7 +14,7 @@ returns-in-Err c turns more =
     let part = c.loop-part.part in
     let name = c.index-names-part.result in
     let here = from_here names part name c.loop-part-test.true c.index-names-part.is in
-    let is_one = ap (λ e. is_scope e.kind) (sym c.get.ensures) ∙ sym c.is_scope.ensures ∙ c.if-not-is_scope.false in
+    let is_one = ap (λ e. is_scope e.kind) (sym c.get.ensures) ∙ ap is_scope (sym c.kind.ensures) ∙ sym c.is_scope.ensures ∙ c.if-not-is_scope.false in
     let given = rw c.in-Err.is at c.in_ok-next.ensures turns more in
     let gives = given ∙ ap (λ e. runs own bank (part_of (part + 1) name (has turns e.kind e.path (folded name))) c.loop-part.log) c.get-in-loop-part.ensures in
     sym (further_on own bank turns part c.loop-part.entity.now name (drop (part + 1) names) c.loop-part.log (Err c.in-Err.fault) _ is_one gives)
@@ -29,7 +29,7 @@ loop-part-preserved c turns more =
     let part = c.loop-part.part in
     let name = c.index-names-part.result in
     let here = from_here names part name c.loop-part-test.true c.index-names-part.is in
-    let is_one = ap (λ e. is_scope e.kind) (sym c.get.ensures) ∙ sym c.is_scope.ensures ∙ c.if-not-is_scope.false in
+    let is_one = ap (λ e. is_scope e.kind) (sym c.get.ensures) ∙ ap is_scope (sym c.kind.ensures) ∙ sym c.is_scope.ensures ∙ c.if-not-is_scope.false in
     let given = rw c.in-Ok.is at c.in_ok-next.ensures turns more in
     let gives = given ∙ ap (λ e. runs own bank (part_of (part + 1) name (has turns e.kind e.path (folded name))) c.loop-part.log) c.get-in-loop-part.ensures in
     sym (further_on own bank turns part c.loop-part.entity.now name (drop (part + 1) names) c.loop-part.log (Ok c.in-Ok.next.now) _ is_one gives)

@@ -12,7 +12,7 @@ returns c turns more =
     let bank = answers c.args.self.env.now in
     let before = c.args.before.now in
     let same = c.in_ok-folded.ensures ∙ ap folded c.as_bytes.ensures in
-    let gives = c.in_ok-found.ensures turns more ∙ ap (λ n. runs own bank (has turns before.kind before.path n) c.args.log.now) same in
+    let gives = c.in_ok-found.ensures turns more ∙ (λ i. runs own bank (has turns (c.kind.ensures i) (c.path.ensures i) (same i)) c.args.log.now) in
     let judged_is = c.judged.ensures ∙ (λ i. placed c.args.part (judged (c.as_bytes-2.ensures i) (those c.in_ok-found.found))) in
     (λ i. (judged_is i, c.found_in.new.log))
     ∙ sym (part_on own bank c.args.part c.args.name.now (has turns before.kind before.path (folded c.args.name.now)) c.args.log.now _ _ gives)
