@@ -1,18 +1,20 @@
 //! Questions that are told, and not kept.
 
-ghost use Rattle.std.specs.Prelude.{◌≡◌, []};
+ghost use Rattle.std.specs.Prelude.{◌≡◌, [], IfOk, OnErr, OnOk};
 ghost use Rattle.std.specs.Option.{option_copied};
 ghost use Rattle.idl_memo.specs.Query.{noted};
 
 use crate::Bank;
+use crate::told::Told;
+use idl_map::Lent;
+use std::alloc::AllocError;
 use std::marker::Model;
-use std::snapshot::Snapshot;
 
 /// The log of what was asked of a bank, of which contracts alone know. To every contract it is the log, and no byte of it is
 /// kept.
 #[derive(Drop)]
 pub struct Asked<B: Bank> {
-    questions: Questions<B>,
+    entries: Told<B::Key, Option<B::Answer>>,
 }
 
 impl<B: Bank> Model for Asked<B> {
@@ -20,28 +22,7 @@ impl<B: Bank> Model for Asked<B> {
 
     ghost Value = { List (B.Key × Option B.Answer) };
 
-    ghost view = { λ asked. asked.questions.1 };
-}
-
-// The questions before the last, its key, and the bank that answers.
-#[derive(Drop)]
-struct Questions<B: Bank> {
-    last: Option<(Snapshot<Questions<B>>, Snapshot<B::Key>, Snapshot<B>)>,
-}
-
-impl<B: Bank> Model for Questions<B> {
-    ghost use Rattle.std.specs.Prelude.{ℕ, List, Option};
-    ghost use Rattle.idl_memo.specs.Asked.{log_of};
-
-    ghost Value = { ℕ × List (B.Key × Option B.Answer) };
-
-    ghost view = { λ questions. log_of B.Key.eq B.at questions.last };
-
-    ghost size = { λ seen. seen.0 };
-
-    ghost use Rattle.std.proofs.Common.{arith};
-
-    ghost size_decreases = { λ a h. Prim.grind arith };
+    ghost view = { λ asked. asked.entries.items };
 }
 
 impl<B: Bank> Asked<B> {
@@ -50,7 +31,7 @@ impl<B: Bank> Asked<B> {
         ensures { result ≡ [] }
     {
         Asked {
-            questions: Questions { last: None },
+            entries: Told::new(),
         }
     }
 
@@ -59,10 +40,23 @@ impl<B: Bank> Asked<B> {
         ensures answer { option_copied result ≡ B.at bank.now key.now }
         ensures logged { self.new ≡ noted B.Key.eq (B.at bank.now) self.old key.now }
     {
-        let before = Snapshot::of(&self.questions);
-        self.questions = Questions {
-            last: Some((before, Snapshot::of(key), Snapshot::of(bank))),
-        };
+        self.entries = self.entries.and(key, bank);
         bank.answer(key)
+    }
+
+    /// The same at a key that is lent. Where the bank fails to answer, nothing is logged.
+    pub fn ask_lent<'b, L: Lent<B::Key>>(
+        &mut self,
+        key: &L,
+        bank: &'b B,
+    ) -> Result<Option<&'b B::Answer>, AllocError>
+        ensures answer { IfOk result (λ answer. option_copied answer ≡ B.at bank.now (L.key key.now)) }
+        ensures logged { OnOk result
+            (self.new ≡ noted B.Key.eq (B.at bank.now) self.old (L.key key.now)) }
+        ensures err { OnErr result (self.new ≡ self.old) }
+    {
+        let answer = bank.answer_lent(key)?;
+        self.entries = self.entries.and(key, bank);
+        Ok(answer)
     }
 }
