@@ -15,7 +15,7 @@ ghost use Rattle.idl_scope.specs.declared.lookup.TheConstants.{TURNS};
 
 use crate::identifying::{Ids, ids_of};
 use idl_memo::Journal;
-use idl_scope::{DigestedKey, Entity, Env, Key, Path, Scope, Shared, View};
+use idl_scope::{Entity, Env, LentKey, Path, Scope, Shared, View};
 use std::alloc::AllocError;
 
 /// What stands under a folded name in the scope in which it is declared.
@@ -79,8 +79,7 @@ fn there(
         (log.new
         ≡ noted key_eq (answers view.entry.env.now) log.old (entity_key path.now)) }
 {
-    let key = Key::of_entity(view.env.alloc(), path)?;
-    copied(view.entity(log, &key)?)
+    copied(view.standing_at(log, path)?)
 }
 
 // The entity, if there is one.
@@ -108,10 +107,9 @@ fn is_used(
         ≡ noted key_eq (answers view.entry.env.now) log.old
         (Introduced (folded (name_of path.now)) scope.now.path scope.now.body)) }
 {
-    let name = path.folded(view.env.alloc())?;
-    let key = DigestedKey::of(Key::Introduced(name, scope.path.clone()?, scope.body));
-    let before = log.ask(&key, view.env)?;
-    match view.own.get(&key) {
+    let key = LentKey::introduced(view.env.alloc(), path, &scope.path, scope.body);
+    let before = log.ask_lent(&key, view.env)?;
+    match view.own.get(&key)? {
         Some(_addition) => Ok(true),
         None => Ok(before.is_some()),
     }
@@ -135,8 +133,7 @@ fn is_inherited(
     if !scope.kind.inherits() {
         return Ok(false);
     }
-    let key = Key::of_entity(view.env.alloc(), &scope.path)?;
-    let entity = view.entity(log, &key)?;
+    let entity = view.standing_at(log, &scope.path)?;
     let name = path.folded(view.env.alloc())?;
     let found = view.reached(log, &name, bases_of(entity))?;
     Ok(has_operation(found.as_slice()))

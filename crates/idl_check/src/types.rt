@@ -16,7 +16,7 @@ use idl_base::Seq;
 use idl_lex::Spelling;
 use idl_memo::Journal;
 use idl_scope::{
-    DataType, Element, Entity, Env, Key, Kind, Layer, Path, Shared, Stage, TURNS, Unvalued, View,
+    DataType, Element, Entity, Env, Kind, Layer, Path, Shared, Stage, TURNS, Unvalued, View,
 };
 use idl_site::{Shape, Use};
 use idl_tree::BasicType;
@@ -67,8 +67,7 @@ fn behind_typedefs(
         let Some(path) = path_in(behind.get()) else {
             return Ok(behind);
         };
-        let key = Key::of_entity(view.env.alloc(), path)?;
-        let Some(next) = view.entity(log, &key)? else {
+        let Some(next) = view.standing_at(log, path)? else {
             return Ok(behind);
         };
         behind = next.clone()?;

@@ -7,8 +7,8 @@ ghost use Rattle.std.specs.Option.{option_copied};
 ghost use Rattle.idl_map.specs.declared.slot.Slot.TheVariants.{Empty, One};
 ghost use Rattle.idl_map.specs.Slots.{IsSound, comes_by, entries_of, led};
 
-use crate::Digest;
 use crate::slot::{Slot, Way, beginning, branch_of, choice, first_slots};
+use crate::{Digest, Lent};
 use idl_base::{Datum, Table};
 use std::alloc::{AllocError, Global};
 
@@ -62,6 +62,33 @@ impl<K: Digest + Ord, V: Datum> Arena<K, V> {
             }
         }
         self.among_rest(key)
+    }
+
+    /// The value at a key that is lent, or nothing. The key is made where the rest has entries.
+    pub fn get_lent<L: Lent<K>>(&self, key: &L) -> Result<Option<&V>, AllocError>
+        requires { IsSound self.now }
+        ensures { IfOk result (λ value.
+            option_copied value ≡ lookup (K.eq (L.key key.now)) (entries_of K.digest_of self.now)) }
+    {
+        if let Slot::One(place) = self.slots[self.way_of(key.key_digest()).place] {
+            let entry = &self.entries[place as usize];
+            if key.is(&entry.0) {
+                return Ok(Some(&entry.1));
+            }
+        }
+        self.lent_among_rest(key)
+    }
+
+    // The value that the rest has at a key that is lent.
+    fn lent_among_rest<L: Lent<K>>(&self, key: &L) -> Result<Option<&V>, AllocError>
+        ensures { IfOk result (λ value.
+            option_copied value ≡ lookup (K.eq (L.key key.now)) self.now.rest) }
+    {
+        if self.rest.is_empty() {
+            return Ok(None);
+        }
+        let key = key.owned()?;
+        Ok(self.rest.get(&key))
     }
 
     // The value that the rest has at a key. It is empty but where digests of many bits are one.

@@ -4,11 +4,13 @@
 mod arena;
 mod digest;
 mod digest_table;
+mod lent;
 mod list;
 mod map;
 mod slot;
 
 pub use digest::Digest;
 pub use digest_table::DigestTable;
+pub use lent::Lent;
 pub use list::SharedList;
 pub use map::Map;

@@ -1,11 +1,11 @@
 //! A map by the digests of its keys.
 
-ghost use Rattle.std.specs.Prelude.{◌≡◌, [], Some, OnOk, OnErr, if◌then◌else◌};
+ghost use Rattle.std.specs.Prelude.{◌≡◌, [], Some, IfOk, OnOk, OnErr, if◌then◌else◌};
 ghost use Rattle.std.specs.Map.{lookup};
 ghost use Rattle.std.specs.Option.{option_copied};
 
-use crate::Digest;
 use crate::arena::Arena;
+use crate::{Digest, Lent};
 use idl_base::Datum;
 use std::alloc::{AllocError, Global};
 use std::marker::Model;
@@ -51,6 +51,16 @@ impl<K: Digest + Ord, V: Datum> Map<K, V> {
         match &self.arena {
             Some(arena) => arena.get(key),
             None => None,
+        }
+    }
+
+    /// The value at a key that is lent, or nothing. It takes memory only where digests of many bits are one, to make the key.
+    pub fn get_lent<L: Lent<K>>(&self, key: &L) -> Result<Option<&V>, AllocError>
+        ensures { IfOk result (λ value. option_copied value ≡ lookup (K.eq (L.key key.now)) self.now) }
+    {
+        match &self.arena {
+            Some(arena) => arena.get_lent(key),
+            None => Ok(None),
         }
     }
 

@@ -8,3 +8,4 @@ pub mod Noting
 pub mod ProgressLaws
 pub mod QueryLaws
 pub mod Telling
+mod Walks

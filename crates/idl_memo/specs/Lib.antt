@@ -1,4 +1,3 @@
-pub mod Asked
 pub mod Buckets
 pub mod Cause
 pub mod Fresh

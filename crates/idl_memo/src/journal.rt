@@ -6,7 +6,7 @@ ghost use Rattle.idl_memo.specs.Journal.{AreNoted};
 ghost use Rattle.idl_memo.specs.Query.{noted};
 
 use crate::{Asked, Bank, Log};
-use idl_map::Digest;
+use idl_map::{Digest, Lent};
 use std::alloc::{AllocError, Global};
 use std::marker::Model;
 use std::mem::replace;
@@ -115,6 +115,25 @@ impl<B: Bank> Journal<B> {
         match &mut self.log {
             Some(log) => log.ask(key, bank),
             None => Ok(self.told.ask(key, bank)),
+        }
+    }
+    /// The same at a key that is lent, which is made only where it goes into a log, or where the bank makes it.
+    pub fn ask_lent<'b, L: Lent<B::Key>>(
+        &mut self,
+        key: &L,
+        bank: &'b B,
+    ) -> Result<Option<&'b B::Answer>, AllocError>
+        ensures answer { IfOk result (λ answer. option_copied answer ≡ B.at bank.now (L.key key.now)) }
+        ensures logged { OnOk result
+            (self.new ≡ noted B.Key.eq (B.at bank.now) self.old (L.key key.now)) }
+        ensures err { OnErr result (self.new ≡ self.old) }
+    {
+        if let Some(digests) = &mut self.digests {
+            digests.push(key.key_digest())?;
+        }
+        match &mut self.log {
+            Some(log) => log.ask_lent(key, bank),
+            None => self.told.ask_lent(key, bank),
         }
     }
 }

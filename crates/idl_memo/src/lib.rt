@@ -16,6 +16,7 @@ mod meter;
 mod obtained;
 mod query;
 mod task;
+mod told;
 
 pub use asked::Asked;
 pub use bank::Bank;

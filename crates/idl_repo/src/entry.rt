@@ -10,7 +10,7 @@ use crate::row::push_row;
 use idl_base::SharedText;
 use idl_event::Code;
 use idl_memo::{Journal, Log, Task, TaskKind};
-use idl_scope::{Entity, Env, Key, Kind, Path, Stage, entity_in};
+use idl_scope::{Entity, Env, Kind, LentKey, Path, Stage, entity_in};
 use std::alloc::{AllocError, Global};
 
 // Most rows have no more bytes than these.
@@ -96,8 +96,8 @@ pub fn entry_by(
         (e, log.new) ≡ run key_eq (entry path.now) (answers env.now) log.old) }
 {
     let alloc = env.alloc();
-    let key = Key::of_entity(alloc, path)?;
-    let Some(entity) = entity_in(log.ask(&key, env)?) else {
+    let key = LentKey::of_entity(alloc, path);
+    let Some(entity) = entity_in(log.ask_lent(&key, env)?) else {
         return Ok(Entry {
             row: None,
             fault: None,

@@ -9,7 +9,7 @@ ghost use Rattle.idl_scope.specs.Key.{key_eq};
 ghost use Rattle.idl_scope.specs.declared.key.Key.TheVariants as key;
 
 use idl_memo::Journal;
-use idl_scope::{DigestedKey, Env, Key, Path, identity_in};
+use idl_scope::{Env, LentKey, Path, identity_in};
 use idl_value::{Value, push_value};
 use itoa::Buffer;
 use std::alloc::AllocError;
@@ -38,8 +38,8 @@ pub fn id_of<'e>(env: &'e Env, log: &mut Journal<Env>, path: &Path) -> Result<&'
     ensures logged { OnOk result
         (log.new ≡ noted key_eq (answers env.now) log.old (key.IdOf path.now)) }
 {
-    let key = DigestedKey::of(Key::IdOf(path.clone()?));
-    match identity_in(log.ask(&key, env)?) {
+    let key = LentKey::id_of(env.alloc(), path);
+    match identity_in(log.ask_lent(&key, env)?) {
         Some(identity) => Ok(identity.get().id.as_bytes()),
         None => Ok(&[]),
     }

@@ -11,6 +11,7 @@ pub mod Held
 pub mod Identity
 pub mod Key
 pub mod Kind
+pub mod LentKey
 pub mod Lookup
 pub mod Meaning
 pub mod Outside

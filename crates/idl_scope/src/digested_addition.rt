@@ -8,6 +8,7 @@ ghost use Rattle.idl_scope.specs.Key.{key_digest, key_eq};
 use crate::addition::Addition;
 use crate::answer::Answer;
 use crate::digested::DigestedKey;
+use crate::lent_key::LentKey;
 use idl_map::Digest;
 use std::alloc::{AllocError, Global};
 use std::marker::Model;
@@ -74,6 +75,14 @@ impl DigestedAddition {
         self.digest
     }
 
+    // Whether that key is lent here.
+    #[inline]
+    fn is_asked(&self, key: &LentKey<'_>) -> bool
+        ensures { result ≡ key_eq key.now (key_of self.now) }
+    {
+        self.digest == key.digest() && key.is_of(&self.addition)
+    }
+
     // Whether this is that key.
     #[inline]
     fn is_at(&self, key: &DigestedKey) -> bool
@@ -97,4 +106,11 @@ pub fn place_among(additions: &[DigestedAddition], key: &DigestedKey) -> Option<
     ensures { result ≡ position (λ a. key_eq key.now (key_of a)) additions.now }
 {
     additions.iter().position(|addition| addition.is_at(key))
+}
+
+/// The place among additions of the first at whose key a question is.
+pub fn asked_among(additions: &[DigestedAddition], key: &LentKey<'_>) -> Option<usize>
+    ensures { result ≡ position (λ a. key_eq key.now (key_of a)) additions.now }
+{
+    additions.iter().position(|addition| addition.is_asked(key))
 }

@@ -14,6 +14,7 @@ use crate::past::Past;
 use crate::plain::PlainTypes;
 use crate::shared::Shared;
 use crate::state::State;
+use idl_map::Lent;
 use idl_memo::Bank;
 use std::alloc::{AllocError, Global};
 use std::marker::Model;
@@ -148,5 +149,11 @@ impl Bank for Env {
         ensures { option_copied result ≡ answers self.now key.now }
     {
         self.state.answers.get(key)
+    }
+
+    fn answer_lent<L: Lent<DigestedKey>>(&self, key: &L) -> Result<Option<&Answer>, AllocError>
+        ensures { IfOk result (λ answer. option_copied answer ≡ answers self.now (L.key key.now)) }
+    {
+        self.state.answers.get_lent(key)
     }
 }

@@ -10,8 +10,10 @@ ghost use Rattle.idl_scope.specs.declared.facts.TheConstants.{FEW};
 
 use crate::addition::{Addition, Step};
 use crate::digested::DigestedKey;
-use crate::digested_addition::{DigestedAddition, is_digest_among, place_among};
+use crate::digested_addition::{DigestedAddition, asked_among, is_digest_among, place_among};
+use crate::lent_key::LentKey;
 use idl_base::Table;
+use idl_map::Lent;
 use std::alloc::{AllocError, Global};
 use std::marker::Model;
 
@@ -130,15 +132,15 @@ impl Facts {
         self.step = step;
     }
 
-    /// The addition at a key, or nothing.
-    pub fn get(&self, key: &DigestedKey) -> Option<&Addition>
-        ensures { option_copied result ≡ addition_at self.now.additions key.now }
+    /// The addition at a key, or nothing. It takes memory only where there are many additions.
+    pub fn get(&self, key: &LentKey<'_>) -> Result<Option<&Addition>, AllocError>
+        ensures { IfOk result (λ a. option_copied a ≡ addition_at self.now.additions key.now) }
     {
         if self.count == 0 {
-            return None;
+            return Ok(None);
         }
-        match place_among(self.first.as_slice(), key) {
-            Some(place) => Some(self.first[place].addition()),
+        match asked_among(self.first.as_slice(), key) {
+            Some(place) => Ok(Some(self.first[place].addition())),
             None => behind(&self.others, key),
         }
     }
@@ -217,12 +219,16 @@ fn has_room(first: &Vec<DigestedAddition>, others: &Table<DigestedKey, DigestedA
 // The addition at a key among those behind the first ones.
 fn behind<'a>(
     others: &'a Table<DigestedKey, DigestedAddition>,
-    key: &DigestedKey,
-) -> Option<&'a Addition>
-    ensures { option_copied result ≡ lookup (key_eq key.now) others.now }
+    key: &LentKey<'_>,
+) -> Result<Option<&'a Addition>, AllocError>
+    ensures { IfOk result (λ a. option_copied a ≡ lookup (key_eq key.now) others.now) }
 {
     if others.is_empty() {
-        return None;
+        return Ok(None);
     }
-    Some(others.get(key)?.addition())
+    let key = key.owned()?;
+    match others.get(&key) {
+        Some(addition) => Ok(Some(addition.addition())),
+        None => Ok(None),
+    }
 }

@@ -24,6 +24,7 @@ mod identity;
 mod key;
 mod kind;
 mod laws;
+mod lent_key;
 mod lookup;
 mod name;
 mod naming;
@@ -54,6 +55,7 @@ pub use laws::{
     adding, agreeing_around, denotation, exchanging, found_in_a_scope, introduction, own_facts,
     own_path, reliance,
 };
+pub use lent_key::LentKey;
 pub use lookup::{Place, TURNS, View};
 pub use name::{folded_name, shared_name};
 pub use naming::{Standpoint, resolve};

@@ -13,7 +13,6 @@ ghost use Rattle.idl_scope.specs.declared.lookup.TheConstants.{TURNS};
 use crate::addition::Addition;
 use crate::answer::{Answer, Scope, entity_in, identity_in, prefix_in};
 use crate::base_queue::BaseQueue;
-use crate::digest::under;
 use crate::digested::DigestedKey;
 use crate::entity::Entity;
 use crate::env::Env;
@@ -22,6 +21,7 @@ use crate::finds::Finds;
 use crate::identity::{Identity, Prefix};
 use crate::key::Key;
 use crate::kind::Kind;
+use crate::lent_key::LentKey;
 use crate::path::Path;
 use crate::shared::Shared;
 use idl_lex::Spelling;
@@ -46,11 +46,11 @@ pub struct Place<'a> {
 }
 
 impl<'a> View<'a> {
-    /// What is declared at a key.
-    pub fn entity(
+    // What is declared at a key.
+    fn entity(
         self,
         log: &mut Journal<Env>,
-        key: &DigestedKey,
+        key: &LentKey<'_>,
     ) -> Result<Option<&'a Shared<Entity>>, AllocError>
         ensures entity { IfOk result (λ e.
             option_copied e
@@ -58,8 +58,8 @@ impl<'a> View<'a> {
             (over self.entry.own.now.additions key.now (answers self.entry.env.now key.now))) }
         ensures logged { OnOk result (log.new ≡ noted key_eq (answers self.entry.env.now) log.old key.now) }
     {
-        let before = log.ask(key, self.env)?;
-        match self.own.get(key) {
+        let before = log.ask_lent(key, self.env)?;
+        match self.own.get(key)? {
             Some(addition) => Ok(declared_by(addition)),
             None => Ok(entity_in(before)),
         }
@@ -96,9 +96,9 @@ impl<'a> View<'a> {
         ensures logged { OnOk result
             (log.new ≡ noted key_eq (answers self.entry.env.now) log.old (IdOf path.now)) }
     {
-        let key = DigestedKey::of(Key::IdOf(path.clone()?));
-        let before = log.ask(&key, self.env)?;
-        match self.own.get(&key) {
+        let key = LentKey::id_of(self.env.alloc(), path);
+        let before = log.ask_lent(&key, self.env)?;
+        match self.own.get(&key)? {
             Some(addition) => Ok(identified_by(addition)),
             None => Ok(identity_in(before)),
         }
@@ -118,14 +118,13 @@ impl<'a> View<'a> {
         ensures logged { OnOk result
             (log.new ≡ noted key_eq (answers self.entry.env.now) log.old (Declared name.now path.now)) }
     {
-        let digest = under(path.digest(), name.as_bytes());
-        let key = DigestedKey::declared(digest, name.clone()?, path.clone()?);
+        let key = LentKey::declared(self.env.alloc(), name, path);
         self.entity(log, &key)
     }
 
-    // The entity at a path. It stands apart, since most scopes are modules, of which no entity is asked.
+    /// The entity at a path. It stands apart, since most scopes are modules, of which no entity is asked.
     #[inline(never)]
-    fn standing_at(
+    pub fn standing_at(
         self,
         log: &mut Journal<Env>,
         path: &Path,
@@ -137,7 +136,7 @@ impl<'a> View<'a> {
         ensures logged { OnOk result
             (log.new ≡ noted key_eq (answers self.entry.env.now) log.old (entity_key path.now)) }
     {
-        let key = Key::of_entity(self.env.alloc(), path)?;
+        let key = LentKey::of_entity(self.env.alloc(), path);
         self.entity(log, &key)
     }
 

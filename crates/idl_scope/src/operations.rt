@@ -12,7 +12,7 @@ use crate::addition::Addition;
 use crate::answer::{Answer, entity_in};
 use crate::digested::DigestedKey;
 use crate::facts::Facts;
-use crate::key::Key;
+use crate::lent_key::LentKey;
 use crate::path::Path;
 use crate::queue::join;
 use idl_base::{Seq, Table};
@@ -68,8 +68,8 @@ fn operations_at(
     ensures { IfOk result (λ paths.
         paths ≡ operations_of (entity_in (lookup (key_eq (entity_key path.now)) answers.now))) }
 {
-    let key = Key::of_entity(alloc, path)?;
-    match entity_in(answers.get(&key)) {
+    let key = LentKey::of_entity(alloc, path);
+    match entity_in(answers.get_lent(&key)?) {
         Some(entity) => entity.get().operations(),
         None => Ok(SharedList::new()),
     }

@@ -199,6 +199,16 @@ impl Path {
         }
     }
 
+    /// The bytes of its name, folded; the global scope has none.
+    pub(crate) fn folded_bytes(&self) -> &[u8]
+        ensures { result.now ≡ folded (name_of self.now) }
+    {
+        match &self.innermost {
+            None => &[],
+            Some(part) => part.folded_name.as_bytes(),
+        }
+    }
+
     /// The path of the scope around; of the global scope, its own.
     pub fn scope(&self) -> Result<Path, AllocError>
         ensures { IfOk result (λ path. path ≡ scope_of self.now) }
@@ -216,9 +226,16 @@ impl Path {
     pub fn is_in(&self, scope: &Path) -> bool
         ensures { result ≡ path_eq (scope_of self.now) scope.now }
     {
+        self.is_below(&scope.innermost)
+    }
+
+    // The same, by the parts of that path.
+    fn is_below(&self, scope: &Option<Rc<Part>>) -> bool
+        ensures { result ≡ path_eq (scope_of self.now) (path_of scope.now) }
+    {
         match &self.innermost {
-            None => are_one(&self.innermost, &scope.innermost),
-            Some(part) => are_one(&part.around, &scope.innermost),
+            None => are_one(&self.innermost, scope),
+            Some(part) => are_one(&part.around, scope),
         }
     }
 
@@ -243,6 +260,28 @@ impl Path {
         match &self.innermost {
             None => { name.as_bytes() == self.name() && are_one(&scope.innermost, &self.innermost) }
             Some(part) => *name == part.folded_name && are_one(&scope.innermost, &part.around),
+        }
+    }
+
+    /// Whether this is its own name, folded.
+    pub(crate) fn has_folded(&self, name: &Spelling) -> bool
+        ensures { result ≡ bytes_eq (folded (name_of self.now)) name.now }
+    {
+        match &self.innermost {
+            None => self.name() == name.as_bytes(),
+            Some(part) => part.folded_name == *name,
+        }
+    }
+
+    /// Whether what stands at another path is found under the same folded name in the same scope.
+    pub(crate) fn is_found_with(&self, other: &Path) -> bool
+        ensures { result
+            ≡ bytes_eq (folded (name_of self.now)) (folded (name_of other.now))
+            && path_eq (scope_of self.now) (scope_of other.now) }
+    {
+        match &other.innermost {
+            None => self.folded_bytes() == other.name() && self.is_below(&other.innermost),
+            Some(part) => self.has_folded(&part.folded_name) && self.is_below(&part.around),
         }
     }
 }

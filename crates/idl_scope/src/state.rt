@@ -22,6 +22,7 @@ use crate::facts::Facts;
 use crate::identity::Prefix;
 use crate::key::Key;
 use crate::kind::{Kind, Stage};
+use crate::lent_key::LentKey;
 use crate::name::shared_name;
 use crate::operations::{add_inside, inherited, innermost, leave, put_last};
 use crate::path::Path;
@@ -261,8 +262,8 @@ impl State {
         if !scope.kind.inherits() {
             return Ok(None);
         }
-        let key = Key::of_entity(alloc, &scope.path)?;
-        let Some(entity) = entity_in(self.answers.get(&key)) else {
+        let key = LentKey::of_entity(alloc, &scope.path);
+        let Some(entity) = entity_in(self.answers.get_lent(&key)?) else {
             return Ok(None);
         };
         let interface = entity.get();

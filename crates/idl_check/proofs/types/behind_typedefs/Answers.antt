@@ -1,11 +1,9 @@
 use Rattle.std.proofs.Common.{◌≡◌, ◌∙◌, ◌+◌, ◌-◌, None, Some, sym, ap, arith}
 use Rattle.std.specs.Option.{option_copied}
-use Rattle.idl_memo.specs.Query.{noted}
 use Rattle.idl_check.specs.Types.{aliased, behind_typedefs, path_in}
 use Rattle.idl_check.proofs.TypeLemmas.{behind_nothing, behind_on, fewer_turns, next_turn}
 use Rattle.idl_scope.proofs.RunLemmas.{runs, seen_at}
 use Rattle.idl_scope.specs.Facts.{answers, entity_in, entity_key}
-use Rattle.idl_scope.specs.Key.{key_eq}
 use Rattle.idl_scope.specs.declared.entity.Entity.{Entity}
 use Rattle.idl_scope.specs.declared.lookup.TheConstants.{TURNS}
 use Rattle.idl_check.proofs.types.behind_typedefs.Goals as goal
@@ -26,10 +24,9 @@ returns-in_default-2 c =
     let path = c.in-Some.path.now in
     let some : path_in (aliased e) ≡ Some path = ap (λ (x : Entity). path_in (aliased x)) (sym c.get.ensures) ∙ sym c.path_in.ensures ∙ ap option_copied c.in-Some.is in
     let none : entity_in (seen_at own bank (entity_key path)) ≡ None =
-    ap (λ k. entity_in (seen_at own bank k)) (sym c.in_ok-key.ensures) ∙ sym c.in_ok-next.ensures.entity ∙ ap option_copied c.in_default-2.is
+    sym c.in_ok-next.ensures.entity ∙ ap option_copied c.in_default-2.is
     in
     (λ i. (e, c.in_ok-next.ensures.logged i))
-    ∙ (λ i. (e, noted key_eq bank log (c.in_ok-key.ensures i)))
     ∙ sym (behind_nothing own bank (TURNS - (at + 1)) e path log some none)
     ∙ ap (λ turns. runs own bank (behind_typedefs turns e) log) (sym (fewer_turns TURNS at c.loop-turn-test.true))
     ∙ c.loop-turn.invariant.run
@@ -45,13 +42,12 @@ loop-turn-preserved c =
     let next = c.in-Some-2.next.now in
     let some : path_in (aliased e) ≡ Some path = ap (λ (x : Entity). path_in (aliased x)) (sym c.get.ensures) ∙ sym c.path_in.ensures ∙ ap option_copied c.in-Some.is in
     let there : entity_in (seen_at own bank (entity_key path)) ≡ Some next =
-    ap (λ k. entity_in (seen_at own bank k)) (sym c.in_ok-key.ensures) ∙ sym c.in_ok-next.ensures.entity ∙ ap option_copied c.in-Some-2.is
+    sym c.in_ok-next.ensures.entity ∙ ap option_copied c.in-Some-2.is
     in
     record {
       within = next_turn TURNS at c.loop-turn-test.true;
       run =
           (λ i. runs own bank (behind_typedefs (TURNS - (at + 1)) (c.in_ok-behind-2.ensures.cases i)) (c.in_ok-next.ensures.logged i))
-          ∙ (λ i. runs own bank (behind_typedefs (TURNS - (at + 1)) next) (noted key_eq bank log (c.in_ok-key.ensures i)))
           ∙ sym (behind_on own bank (TURNS - (at + 1)) e path next log some there)
           ∙ ap (λ turns. runs own bank (behind_typedefs turns e) log) (sym (fewer_turns TURNS at c.loop-turn-test.true))
           ∙ c.loop-turn.invariant.run;

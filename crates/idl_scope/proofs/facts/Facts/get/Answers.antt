@@ -1,6 +1,6 @@
-use Rattle.std.proofs.Common.{◌≡◌, Some, None, sym, ap, ◌∙◌, map}
+use Rattle.std.proofs.Common.{◌≡◌, IfOk, Some, None, sym, ap, ◌∙◌, map, subst}
 use Rattle.std.specs.List.{position}
-use Rattle.std.specs.Option.{option_or}
+use Rattle.std.specs.Option.{option_copied, option_or}
 use Rattle.std.proofs.lemmas.List.Quantifiers.{position-Some}
 use Rattle.std.proofs.lemmas.Option.{slice_get-get_or}
 use Rattle.idl_scope.specs.Facts.{UnitFacts, addition_at, key_of}
@@ -41,8 +41,9 @@ returns-in-None c =
     let k = c.args.key.now in
     let test = λ (a : Addition). key_eq k (key_of a) in
     let nowhere : position test first ≡ None = ap (position test) (sym c.as_slice.ensures.value) ∙ sym c.in-None.ensures in
-    c.behind.ensures
-    ∙ lookup-addition_at c.self.inside.others k c.self.invariant.0
+    subst (λ found. IfOk c.behind.result (λ a. option_copied a ≡ found))
+    (lookup-addition_at c.self.inside.others k c.self.invariant.0
     ∙ sym (ap (λ o. option_or o (addition_at more k)) (absent k first nowhere))
     ∙ sym (addition_at-append k first more)
-    ∙ ap (λ (f : UnitFacts). addition_at f.additions k) c.self.view_is
+    ∙ ap (λ (f : UnitFacts). addition_at f.additions k) c.self.view_is)
+    c.behind.ensures
