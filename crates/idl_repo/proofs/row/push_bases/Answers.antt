@@ -10,7 +10,7 @@ returns-in_ok-extend_from_slice-2 c =
     let is : kind_eq c.args.entity.now.kind Interface ≡ true = ap (λ kind. kind_eq kind Interface) (sym c.kind.ensures) ∙ sym c.eq.ensures ∙ c.if-eq.true in
     rw is
     (says-then c.in_ok-extend_from_slice.ensures.items
-    (writes-then (writes-as (ap references c.as_slice.ensures) c.in_ok-push_references.ensures)
+    (writes-then (writes-as (ap references c.bases.ensures) c.in_ok-push_references.ensures)
     (writes-text c.in_ok-extend_from_slice-2.ensures.items)))
 
 pub returns-else-eq : goal.returns-else-eq

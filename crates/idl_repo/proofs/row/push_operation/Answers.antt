@@ -1,13 +1,14 @@
-use Rattle.std.proofs.Common.{ap}
+use Rattle.std.proofs.Common.{◌∙◌, ap, codes}
 use Rattle.idl_repo.proofs.WriteLemmas.{says-as, says-then, writes-as, writes-text, writes-then}
 use Rattle.idl_repo.specs.Pieces.{commas}
-use Rattle.idl_repo.specs.Row.{contexts_word, parameter_pieces, references}
+use Rattle.idl_repo.specs.Row.{contexts_word, flag, parameter_pieces, references}
+use Rattle.idl_repo.specs.TypeCode.{type_pieces}
 use Rattle.idl_repo.proofs.row.push_operation.Goals as goal
 
 pub returns : goal.returns
 returns c =
-    says-as c.in_ok-extend_from_slice.ensures.items c.flag.ensures
-    (writes-then c.in_ok-push_type.ensures
+    says-as c.in_ok-extend_from_slice.ensures.items (c.flag.ensures ∙ ap (λ stands. flag stands (codes " oneway ")) c.is_oneway.ensures)
+    (writes-then (writes-as (ap type_pieces c.data_type.ensures) c.in_ok-push_type.ensures)
     (says-then c.in_ok-extend_from_slice-2.ensures.items
     (writes-then (writes-as (ap (commas parameter_pieces) c.members_of.ensures) c.in_ok-push_parameters.ensures)
     (says-then c.in_ok-extend_from_slice-3.ensures.items

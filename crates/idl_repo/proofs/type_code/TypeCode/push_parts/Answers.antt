@@ -1,7 +1,7 @@
 use Rattle.std.proofs.Common.{ap, flat_map, inl, inr}
 use Rattle.std.proofs.lemmas.Result.{on_ok_weaker}
 use Rattle.idl_repo.proofs.WriteLemmas.{text-as, writes-as, writes-nothing, writes-then}
-use Rattle.idl_repo.specs.TypeCode.{entries_of, enumerator_word}
+use Rattle.idl_repo.specs.TypeCode.{entries_of, enumerator_word, type_behind}
 use Rattle.idl_repo.proofs.type_code.TypeCode.push_parts.Goals as goal
 
 pub returns-in-ObjectReference : goal.returns-in-ObjectReference
@@ -15,9 +15,9 @@ returns-in-ObjectReference c =
 pub returns-in_ok-push_entries-in-Union : goal.returns-in_ok-push_entries-in-Union
 returns-in_ok-push_entries-in-Union c =
     rw c.in-Union.is
-    (writes-then c.in_ok-push_type_behind-in-Union.ensures (writes-as (ap entries_of c.members_of-in-Union.ensures) c.in_ok-push_entries-in-Union.ensures))
+    (writes-then (writes-as (ap type_behind c.data_type.ensures) c.in_ok-push_type_behind-in-Union.ensures) (writes-as (ap entries_of c.members_of-in-Union.ensures) c.in_ok-push_entries-in-Union.ensures))
 
 pub returns-in-Enumeration : goal.returns-in-Enumeration
 returns-in-Enumeration c =
     rw c.in-Enumeration.is
-    (on_ok_weaker c.push_enumerators.result (λ e. text-as e (ap (flat_map enumerator_word) c.as_slice.ensures)) c.push_enumerators.ensures)
+    (on_ok_weaker c.push_enumerators.result (λ e. text-as e (ap (flat_map enumerator_word) c.enumerators.ensures)) c.push_enumerators.ensures)
