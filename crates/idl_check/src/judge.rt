@@ -27,9 +27,10 @@ ghost use Rattle.idl_event.specs.declared.code.Code.TheVariants.{MisplacedUnit, 
 
 use crate::codes::lesser;
 use crate::placing::{depth, faulty_step, is_misplaced, opened_kind, opening_fault, step_of};
-use crate::row::{Rest, row_of};
+use crate::row::{Rest, write_row};
 use crate::verdict::{Verdict, adding};
 use crate::walk::Walker;
+use idl_base::SharedText;
 use idl_event::Code;
 use idl_lex::Token;
 use idl_memo::Journal;
@@ -48,16 +49,22 @@ pub struct Judge<'a> {
     pub scopes: &'a [Scope],
 }
 
-// The tree of a unit, and the sites of that tree.
+// A unit that has a tree, and the sites of that tree.
 #[derive(Clone, Copy)]
-struct Spelled<'t> {
+struct Sited<'t> {
+    judge: Judge<'t>,
     tree: &'t Tree,
     sites: &'t [Site<'t>],
 }
 
 impl<'a> Judge<'a> {
-    /// The verdict of the unit, whose text this is.
-    pub fn verdict(self, log: &mut Journal<Env>, text: &UnitText) -> Result<Verdict, AllocError>
+    /// The verdict of the unit, whose text this is. Its row is written in a buffer before it is copied.
+    pub fn verdict(
+        self,
+        buffer: &mut Vec<u8>,
+        log: &mut Journal<Env>,
+        text: &UnitText,
+    ) -> Result<Verdict, AllocError>
         requires { text.now ≡ unit.Tokens self.tokens.now }
         ensures { IfOk result (λ v. (turns : ℕ) → TURNS ≤ turns →
             (v, log.new)
@@ -65,7 +72,7 @@ impl<'a> Judge<'a> {
             (answers self.entry.env.now) log.old) }
     {
         match parse(self.env.alloc(), text) {
-            Ok(tree) => self.with_tree(log, &tree),
+            Ok(tree) => self.with_tree(buffer, log, &tree),
             Err(SyntaxFault::Rule(fault)) => self.refused(log, self.with_opening(fault)),
             Err(SyntaxFault::NoTree(_place)) => self.without_tree(log),
             Err(SyntaxFault::Memory) => Err(AllocError),
@@ -100,7 +107,12 @@ impl<'a> Judge<'a> {
     }
 
     // The verdict of a unit that has a tree, and that no rule of tokens refuses.
-    fn with_tree(self, log: &mut Journal<Env>, tree: &UnitTree) -> Result<Verdict, AllocError>
+    fn with_tree(
+        self,
+        buffer: &mut Vec<u8>,
+        log: &mut Journal<Env>,
+        tree: &UnitTree,
+    ) -> Result<Verdict, AllocError>
         requires rules { least_fault (token_faults self.tokens.now) ≡ None }
         requires tree { IsTreeOf (unit.Tokens self.tokens.now) tree.now }
         ensures { IfOk result (λ v. (turns : ℕ) → TURNS ≤ turns →
@@ -112,7 +124,7 @@ impl<'a> Judge<'a> {
             return self.refused(log, fault);
         }
         match tree {
-            UnitTree::Tokens(tree) => self.by_names(log, tree),
+            UnitTree::Tokens(tree) => self.by_names(buffer, log, tree),
             UnitTree::Pragma(_pragma) => Err(AllocError),
         }
     }
@@ -132,7 +144,12 @@ impl<'a> Judge<'a> {
     }
 
     // The verdict of a unit that has this tree.
-    fn by_names(self, log: &mut Journal<Env>, tree: &Tree) -> Result<Verdict, AllocError>
+    fn by_names(
+        self,
+        buffer: &mut Vec<u8>,
+        log: &mut Journal<Env>,
+        tree: &Tree,
+    ) -> Result<Verdict, AllocError>
         requires { lexemes self.tokens.now ≡ spell tree.now }
         ensures { IfOk result (λ v. (turns : ℕ) → TURNS ≤ turns →
             (v, log.new)
@@ -143,36 +160,13 @@ impl<'a> Judge<'a> {
         if is_misplaced(tree, self.scopes) {
             return self.misplaced(log, sites.as_slice());
         }
-        let unit = Spelled {
+        let unit = Sited {
+            judge: self,
             tree,
             sites: sites.as_slice(),
         };
         let mut walker = Walker::new(self.env, self.scopes);
-        self.walked(log, unit, &mut walker)
-    }
-
-    // The verdict of a unit that its scope holds, over whose sites this walk goes.
-    fn walked(
-        self,
-        log: &mut Journal<Env>,
-        unit: Spelled<'_>,
-        walker: &mut Walker<'_>,
-    ) -> Result<Verdict, AllocError>
-        requires sites { map item_at unit.sites.now ≡ items (unit_parts unit.tree.now) }
-        requires room { HasRoomFor (held walker.old) (map item_at unit.sites.now) }
-        requires env { walker.old.env.now ≡ self.env.now }
-        ensures { IfOk result (λ v. (turns : ℕ) → TURNS ≤ turns →
-            (v, log.new)
-            ≡ run key_eq
-            (and_then (walk turns (items (unit_parts unit.entry.tree.now)) (held walker.old))
-            (λ w. judged self.entry.tokens.now self.entry.scopes.now unit.entry.tree.now w))
-            (answers self.entry.env.now) log.old) }
-    {
-        walker.walk(log, unit.sites)?;
-        match walker.fault {
-            Some(fault) => self.refused(log, fault),
-            None => self.sound(log, unit, walker),
-        }
+        unit.walked(buffer, log, &mut walker)
     }
 
     // The verdict of a unit that its scope doesn't hold.
@@ -207,43 +201,6 @@ impl<'a> Judge<'a> {
         Ok(())
     }
 
-    // The verdict of a unit without fault, over which a walk has come so far.
-    fn sound(
-        self,
-        log: &mut Journal<Env>,
-        unit: Spelled<'_>,
-        walker: &mut Walker<'_>,
-    ) -> Result<Verdict, AllocError>
-        requires sites { map item_at unit.sites.now ≡ items (unit_parts unit.tree.now) }
-        requires room { items_length (map item_at unit.sites.now) ≤ 18446744073709551615 }
-        ensures { IfOk result (λ v.
-            (v, log.new)
-            ≡ run key_eq
-            (asking (step_of unit.entry.tree.now (path_around self.entry.scopes.now))
-            (sound self.entry.tokens.now self.entry.scopes.now unit.entry.tree.now
-            (held walker.old)))
-            (answers self.entry.env.now) log.old) }
-    {
-        let alloc = self.env.alloc();
-        let rest = Rest {
-            tokens: self.tokens,
-            found: walker.found.as_slice(),
-            values: walker.values.told.as_slice(),
-            in_value: false,
-        };
-        let row = row_of(alloc, row_depth(unit.tree, self.scopes), unit.sites, rest)?;
-        let around = path_around(self.scopes)?;
-        let step = step_of(alloc, &walker.own, unit.tree, &around)?;
-        self.ask_step(log, &step)?;
-        let facts = walker.take_facts(step)?;
-        let writes = Shared::new(alloc, facts)?;
-        Ok(Verdict {
-            fault: None,
-            writes,
-            row: Some(row),
-        })
-    }
-
     // Of a scope that is opened it is asked how often it was before.
     fn ask_step(self, log: &mut Journal<Env>, step: &Step) -> Result<(), AllocError>
         ensures { OnOk result ((v : UnitVerdict) →
@@ -262,6 +219,70 @@ impl<'a> Judge<'a> {
             | Step::Enters
             | Step::Leaves => Ok(()),
         }
+    }
+}
+
+impl<'t> Sited<'t> {
+    // The verdict of a unit that its scope holds, over whose sites this walk goes.
+    fn walked(
+        self,
+        buffer: &mut Vec<u8>,
+        log: &mut Journal<Env>,
+        walker: &mut Walker<'_>,
+    ) -> Result<Verdict, AllocError>
+        requires sites { map item_at self.sites.now ≡ items (unit_parts self.tree.now) }
+        requires room { HasRoomFor (held walker.old) (map item_at self.sites.now) }
+        requires env { walker.old.env.now ≡ self.judge.env.now }
+        ensures { IfOk result (λ v. (turns : ℕ) → TURNS ≤ turns →
+            (v, log.new)
+            ≡ run key_eq
+            (and_then (walk turns (items (unit_parts self.entry.tree.now)) (held walker.old))
+            (λ w. judged self.entry.judge.tokens.now self.entry.judge.scopes.now self.entry.tree.now w))
+            (answers self.entry.judge.env.now) log.old) }
+    {
+        walker.walk(log, self.sites)?;
+        match walker.fault {
+            Some(fault) => self.judge.refused(log, fault),
+            None => self.sound(buffer, log, walker),
+        }
+    }
+
+    // The verdict of a unit without fault, over which a walk has come so far.
+    fn sound(
+        self,
+        buffer: &mut Vec<u8>,
+        log: &mut Journal<Env>,
+        walker: &mut Walker<'_>,
+    ) -> Result<Verdict, AllocError>
+        requires sites { map item_at self.sites.now ≡ items (unit_parts self.tree.now) }
+        requires room { items_length (map item_at self.sites.now) ≤ 18446744073709551615 }
+        ensures { IfOk result (λ v.
+            (v, log.new)
+            ≡ run key_eq
+            (asking (step_of self.entry.tree.now (path_around self.entry.judge.scopes.now))
+            (sound self.entry.judge.tokens.now self.entry.judge.scopes.now self.entry.tree.now
+            (held walker.old)))
+            (answers self.entry.judge.env.now) log.old) }
+    {
+        let alloc = self.judge.env.alloc();
+        let rest = Rest {
+            tokens: self.judge.tokens,
+            found: walker.found.as_slice(),
+            values: walker.values.told.as_slice(),
+            in_value: false,
+        };
+        write_row(buffer, row_depth(self.tree, self.judge.scopes), self.sites, rest)?;
+        let row = SharedText::from_slice(alloc, buffer.as_slice())?;
+        let around = path_around(self.judge.scopes)?;
+        let step = step_of(alloc, &walker.own, self.tree, &around)?;
+        self.judge.ask_step(log, &step)?;
+        let facts = walker.take_facts(step)?;
+        let writes = Shared::new(alloc, facts)?;
+        Ok(Verdict {
+            fault: None,
+            writes,
+            row: Some(row),
+        })
     }
 }
 

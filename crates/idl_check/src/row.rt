@@ -10,13 +10,13 @@ ghost use Rattle.idl_tree.specs.Name.{spell_name};
 
 use crate::part::{behind, front};
 use crate::using::name_length;
-use idl_base::{Seq, SharedText};
+use idl_base::Seq;
 use idl_lex::{Token, is_like_keyword};
 use idl_scope::{Names, Path};
 use idl_site::Site;
 use idl_tree::{ScopedName, Several};
 use idl_value::{Value, push_value};
-use std::alloc::{AllocError, Global};
+use std::alloc::AllocError;
 
 /// What a row is still to be made of: tokens, and the paths of what the names among them denote.
 #[derive(Clone, Copy)]
@@ -29,23 +29,24 @@ pub struct Rest<'a> {
     pub in_value: bool,
 }
 
-/// The row of a unit around which so many scopes are open.
+/// Writes the row of a unit around which so many scopes are open, in place of what stands in a buffer.
 #[tactic(auto, unfolding(crate::specs::Row::row_of), using(crate::proofs::RowLemmas::behind_blanks))]
-pub fn row_of(
-    alloc: Global,
+pub fn write_row(
+    buffer: &mut Vec<u8>,
     depth: usize,
     sites: &[Site<'_>],
     unit: Rest<'_>,
-) -> Result<SharedText, AllocError>
+) -> Result<(), AllocError>
     requires { items_length (map item_at sites.now) ≤ 18446744073709551615 }
-    ensures { IfOk result (λ row. row ≡ row_of depth (map item_at sites.now) (rest_at unit.entry)) }
+    ensures { OnOk result
+        (buffer.new.items ≡ row_of depth (map item_at sites.now) (rest_at unit.entry)) }
 {
-    let mut row = Vec::with_capacity(alloc, room_of(depth, unit.tokens))?;
-    push_blanks(&mut row, depth)?;
-    let begin = row.len();
-    push_sites(&mut row, sites, unit)?;
-    take_out(&mut row, begin);
-    SharedText::from_slice(alloc, row.as_slice())
+    buffer.clear();
+    push_blanks(buffer, depth)?;
+    let begin = buffer.len();
+    push_sites(buffer, sites, unit)?;
+    take_out(buffer, begin);
+    Ok(())
 }
 
 // Takes out the byte at a place, if there is one.
@@ -55,12 +56,6 @@ fn take_out(row: &mut Vec<u8>, place: usize)
     if place < row.len() {
         row.remove(place);
     }
-}
-
-// As many bytes as most rows have that are made of these tokens: five for each, and some more.
-fn room_of(depth: usize, tokens: &[Token]) -> usize {
-    let words = tokens.len().saturating_mul(5).saturating_add(8);
-    words.saturating_add(depth).saturating_add(depth)
 }
 
 // Two blanks for each open scope.

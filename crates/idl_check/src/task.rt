@@ -44,7 +44,8 @@ impl Task<Env> for DeclarationTask {
 
     fn run(&self, alloc: Global, bank: &Env, log: &mut Log<Env>) -> Result<Verdict, AllocError> {
         let mut journal = Journal::taking(alloc, log);
-        let verdict = verdict_of(bank, &mut journal, &self.text);
+        let mut buffer = Vec::new(alloc);
+        let verdict = verdict_of(&mut buffer, bank, &mut journal, &self.text);
         journal.give_back(log)?;
         verdict
     }
@@ -52,9 +53,15 @@ impl Task<Env> for DeclarationTask {
 
 /// The verdict of a unit. What it asks goes into the journal, behind what is there.
 ///
-/// After want of memory nothing is said of the journal.
+/// Its row is written in a buffer before it is copied. What stands in the buffer is given up, and the rows of many units may be
+/// written in one. After want of memory nothing is said of the journal.
 #[tactic(auto, unfolding(crate::specs::Verdict::verdict))]
-pub fn verdict_of(env: &Env, log: &mut Journal<Env>, text: &UnitText) -> Result<Verdict, AllocError>
+pub fn verdict_of(
+    buffer: &mut Vec<u8>,
+    env: &Env,
+    log: &mut Journal<Env>,
+    text: &UnitText,
+) -> Result<Verdict, AllocError>
     ensures { IfOk result (λ v. (turns : ℕ) → TURNS ≤ turns →
         (v, log.new) ≡ run key_eq (verdict turns text.now) (answers env.now) log.old) }
 {
@@ -66,7 +73,7 @@ pub fn verdict_of(env: &Env, log: &mut Journal<Env>, text: &UnitText) -> Result<
                 tokens: run.as_slice(),
                 scopes,
             };
-            judge.verdict(log, text)
+            judge.verdict(buffer, log, text)
         }
         UnitText::Pragma(tokens, inside) => {
             let speaker = Speaker {

@@ -35,6 +35,8 @@ pub struct Gathered<'a> {
     pub listed: Vec<Listed<'a>>,
     /// What is kept of the units, if anything is.
     pub keeping: Option<Keeping<'a>>,
+    /// In which rows are written before they are copied.
+    pub buffer: Vec<u8>,
 }
 
 /// What came of all units.
@@ -61,6 +63,7 @@ impl<'a> Drop for Gathered<'a> {
             rows: _rows,
             listed: _listed,
             keeping: _keeping,
+            buffer: _buffer,
         } = self;
     }
 }
@@ -88,6 +91,7 @@ impl<'a> Judging<'a> {
                 rows,
                 listed,
                 keeping,
+                buffer: Vec::new(alloc),
             },
         })
     }
@@ -167,6 +171,7 @@ impl<'a> Gathered<'a> {
             rows,
             listed: _listed,
             keeping,
+            buffer: _buffer,
         } = self;
         let kept = match keeping {
             Some(keeping) => Some(keeping.ended(entries)),
@@ -223,11 +228,11 @@ impl<'a> Gathered<'a> {
             IfSome self.new.keeping (λ k. IsKeeping k (env.now ++ facts ∷ []))) }
     {
         let Some(keeping) = &mut self.keeping else {
-            let verdict = verdict_over(env, unit.text)?;
+            let verdict = verdict_over(&mut self.buffer, env, unit.text)?;
             self.add_verdict(alloc, unit, &verdict)?;
             return Ok(verdict.writes.clone()?);
         };
-        let judgement = keeping.judge(alloc, env, unit.text)?;
+        let judgement = keeping.judge(&mut self.buffer, env, unit.text)?;
         self.add_verdict(alloc, unit, &judgement.verdict)?;
         Ok(judgement.verdict.writes.clone()?)
     }
@@ -297,11 +302,15 @@ fn boundary(alloc: Global, step: Step) -> Result<Shared<Facts>, AllocError>
     Shared::new(alloc, facts)
 }
 
-// The verdict of a text over facts. What it asks is not kept.
-fn verdict_over(env: &Env, text: &UnitText) -> Result<Verdict, AllocError>
+// The verdict of a text over facts, whose row is written in a buffer. What it asks is not kept.
+fn verdict_over(
+    buffer: &mut Vec<u8>,
+    env: &Env,
+    text: &UnitText,
+) -> Result<Verdict, AllocError>
     ensures { IfOk result (λ verdict. verdict ≡ verdict_over env.now text.now) }
 {
-    verdict_of(env, &mut Journal::told(), text)
+    verdict_of(buffer, env, &mut Journal::told(), text)
 }
 
 // Puts in the row of a unit, if it has one.

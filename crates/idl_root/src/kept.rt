@@ -130,18 +130,24 @@ impl KeptUnits {
 }
 
 impl Judgement {
-    /// What is judged of a text over facts.
-    pub fn new(alloc: Global, env: &Env, text: &UnitText) -> Result<Rc<Judgement>, AllocError>
+    /// What is judged of a text over facts, whose row is written in a buffer.
+    pub fn new(
+        buffer: &mut Vec<u8>,
+        env: &Env,
+        text: &UnitText,
+    ) -> Result<Rc<Judgement>, AllocError>
         ensures { IfOk result (λ judgement. IsJudged env.now text.now judgement.value) }
     {
-        let (verdict, asked) = noted_verdict(alloc, env, text)?;
+        let alloc = env.alloc();
+        let (verdict, asked) = noted_verdict(alloc, buffer, env, text)?;
         Ok(Rc::new(alloc, Judgement { verdict, asked })?)
     }
 }
 
-// The verdict of a text over facts, and digests of the keys that it asked.
+// The verdict of a text over facts, whose row is written in a buffer, and digests of the keys that it asked.
 fn noted_verdict(
     alloc: Global,
+    buffer: &mut Vec<u8>,
     env: &Env,
     text: &UnitText,
 ) -> Result<(Verdict, Vec<u64>), AllocError>
@@ -151,7 +157,7 @@ fn noted_verdict(
 {
     reliance::<Env, DeclarationTask>();
     let mut journal = Journal::noting(alloc);
-    let verdict = verdict_of(env, &mut journal, text)?;
+    let verdict = verdict_of(buffer, env, &mut journal, text)?;
     let Some(digests) = journal.digests() else {
         return Err(AllocError);
     };

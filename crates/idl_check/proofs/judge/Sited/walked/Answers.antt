@@ -5,17 +5,17 @@ use Rattle.idl_check.proofs.VisitLemmas.{runs_over}
 use Rattle.idl_check.specs.Held.{held}
 use Rattle.idl_check.specs.Walk.{walk}
 use Rattle.idl_scope.specs.Facts.{answers}
-use Rattle.idl_check.proofs.judge.Judge.walked.Goals as goal
+use Rattle.idl_check.proofs.judge.Sited.walked.Goals as goal
 
 pub sound-requires : goal.sound-requires
 sound-requires c = record { sites = c.requires.sites; room = omega (arith, c.requires.room) }
 
 pub returns-in-Some : goal.returns-in-Some
 returns-in-Some c =
-    let bank = answers c.args.self.env.now in
-    let tokens = c.args.self.tokens.now in
-    let scopes = c.args.self.scopes.now in
-    let tree = c.args.unit.tree.now in
+    let bank = answers c.args.self.judge.env.now in
+    let tokens = c.args.self.judge.tokens.now in
+    let scopes = c.args.self.judge.scopes.now in
+    let tree = c.args.self.tree.now in
     let from = held c.args.walker.now in
     let w = held c.walk.new.self in
     let log = c.args.log.now in
@@ -29,10 +29,10 @@ returns-in-Some c =
 
 pub returns-in-None : goal.returns-in-None
 returns-in-None c =
-    let bank = answers c.args.self.env.now in
-    let tokens = c.args.self.tokens.now in
-    let scopes = c.args.self.scopes.now in
-    let tree = c.args.unit.tree.now in
+    let bank = answers c.args.self.judge.env.now in
+    let tokens = c.args.self.judge.tokens.now in
+    let scopes = c.args.self.judge.scopes.now in
+    let tree = c.args.self.tree.now in
     let from = held c.args.walker.now in
     let w = held c.walk.new.self in
     let log = c.args.log.now in
