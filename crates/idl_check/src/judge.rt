@@ -271,7 +271,12 @@ impl<'t> Sited<'t> {
             values: walker.values.told.as_slice(),
             in_value: false,
         };
-        write_row(buffer, row_depth(self.tree, self.judge.scopes), self.sites, rest)?;
+        write_row(
+            buffer,
+            row_depth(self.tree, self.judge.scopes),
+            self.sites,
+            rest,
+        )?;
         let row = SharedText::from_slice(alloc, buffer.as_slice())?;
         let around = path_around(self.judge.scopes)?;
         let step = step_of(alloc, &walker.own, self.tree, &around)?;

@@ -303,11 +303,7 @@ fn boundary(alloc: Global, step: Step) -> Result<Shared<Facts>, AllocError>
 }
 
 // The verdict of a text over facts, whose row is written in a buffer. What it asks is not kept.
-fn verdict_over(
-    buffer: &mut Vec<u8>,
-    env: &Env,
-    text: &UnitText,
-) -> Result<Verdict, AllocError>
+fn verdict_over(buffer: &mut Vec<u8>, env: &Env, text: &UnitText) -> Result<Verdict, AllocError>
     ensures { IfOk result (λ verdict. verdict ≡ verdict_over env.now text.now) }
 {
     verdict_of(buffer, env, &mut Journal::told(), text)
