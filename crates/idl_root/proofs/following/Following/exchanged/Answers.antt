@@ -1,4 +1,4 @@
-use Rattle.std.proofs.Common.{◌≡◌, ◌++◌, map, rules, true}
+use Rattle.std.proofs.Common.{◌≡◌, ◌++◌, map, rules}
 use Rattle.idl_root.specs.Followed.{StayAlike}
 use Rattle.idl_root.specs.Kept.{added_by}
 use Rattle.idl_root.specs.declared.kept.KeptUnit.{KeptUnit}

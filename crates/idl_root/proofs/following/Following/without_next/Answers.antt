@@ -1,4 +1,4 @@
-use Rattle.std.proofs.Common.{◌≡◌, ◌++◌, ◌∙◌, [], Bool, false, ap, map, rules}
+use Rattle.std.proofs.Common.{◌≡◌, ◌++◌, [], false, map, rules}
 use Rattle.idl_root.specs.Kept.{added_by}
 use Rattle.idl_root.specs.declared.kept.KeptUnit.{KeptUnit}
 use Rattle.idl_root.specs.declared.kept.KeptUnit.TheVariants.{Judged}
