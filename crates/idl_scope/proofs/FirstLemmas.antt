@@ -69,12 +69,6 @@ module _ (k : Key) where
       by true rest = refl
       by false rest = rest
 
--- where there are none
-pub none_there : (additions : List Addition) (entries : List (Key × Addition)) → length additions + length entries ≡ 0 → additions ++ map (λ e. e.1) entries ≡ []
-none_there [] [] h = refl
-none_there [] (e ∷ entries) h = absurd (omega (arith, h))
-none_there (a ∷ additions) entries h = absurd (omega (arith, h))
-
 -- one more goes behind those of which none is at its key
 pub with_addition-behind : (additions more : List Addition) (a : Addition) → addition_at additions (key_of a) ≡ None → with_addition (additions ++ more) a ≡ additions ++ with_addition more a
 with_addition-behind [] more a h = refl
