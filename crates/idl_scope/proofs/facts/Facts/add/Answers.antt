@@ -23,8 +23,8 @@ returns c =
     ∙ (λ i. record { additions = with_addition-last first more a (ap (map (λ e. e.1)) none) others i; step = c.self.inside.step })
     ∙ ap (λ (f : UnitFacts). record f { additions = with_addition f.additions a }) c.self.view_is
 
-pub invariant_of-self : goal.invariant_of-self
-invariant_of-self c =
+pub invariant_of-self-2 : goal.invariant_of-self-2
+invariant_of-self-2 c =
     let first = c.self.inside.first.items in
     let more = map (λ e. e.1) c.self.inside.others in
     let a = c.args.addition in
@@ -32,7 +32,7 @@ invariant_of-self c =
     let others : addition_at first (key_of a) ≡ None =
     (λ i. addition_at (sym c.as_slice.ensures.value i) (key_of (sym c.of-addition.ensures i))) ∙ c.if-may_be_among.ensures refl in
     let put = ap (λ l. l ++ more) (c.in_ok-push.ensures.items ∙ ap (λ b. first ++ b ∷ []) c.of-addition.ensures) ∙ with_addition-last first more a (ap (map (λ e. e.1)) none) others in
-    let own : c.mark.result ≡ mark (key_digest (key_of a)) = c.mark.ensures ∙ ap mark (c.digest.ensures ∙ ap (λ b. key_digest (key_of b)) c.of-addition.ensures) in (
+    let own : c.mark.result ≡ mark (key_digest (key_of a)) = c.mark.ensures ∙ ap mark (c.digest-digest.ensures ∙ ap (λ b. key_digest (key_of b)) c.of-addition.ensures) in (
       c.self.invariant.0,
       (
         omega (arith, c.self.invariant.1.0, ap length c.in_ok-push.ensures.items, length-append first (c.of-addition.result ∷ [])),
