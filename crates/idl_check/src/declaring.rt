@@ -1,7 +1,7 @@
 //! Declared names: what they are declared as, and what is wrong with that.
 
 ghost use Rattle.std.specs.Prelude.{◌≡◌, ◌∷◌, [], IfOk, IfSome, None, OnOk, Some, true};
-ghost use Rattle.idl_check.specs.Declaring.{are_modules, come_ahead, data_type_in, declared_table, differs, entity_of, enumerators_in, finished, is_local_in, is_name_of_scope, is_oneway_in, is_readonly_in, kind_of, may_follow, stage_of, stays, value_in, written_after};
+ghost use Rattle.idl_check.specs.Declaring.{are_modules, come_ahead, data_type_in, declared_table, differs, entity_of, finished, is_local_in, is_name_of_scope, is_oneway_in, is_readonly_in, kind_of, may_follow, stage_of, stays, value_in, written_after};
 ghost use Rattle.idl_check.specs.Held.{held_written};
 ghost use Rattle.idl_check.specs.Bodies.{array_of};
 ghost use Rattle.idl_scope.specs.DataType.{plain_type};
@@ -19,9 +19,8 @@ use crate::types::names_of;
 use idl_base::Seq;
 use idl_event::Code;
 use idl_lex::Spelling;
-use idl_map::SharedList;
 use idl_scope::{
-    Addition, DataType, Element, Entity, EntityParts, Facts, Kind, Path, Scope, Shared, Stage,
+    Addition, DataType, Element, Entity, Facts, Kind, Nature, Path, Scope, Shared, Stage,
 };
 use idl_site::Declaration;
 use idl_value::{Target, Value};
@@ -92,6 +91,26 @@ fn stage_of(way: Declaration) -> Stage
         | Declaration::Union
         | Declaration::Constant => Stage::Begun,
         _ => Stage::Complete,
+    }
+}
+
+// What a name is declared as.
+fn nature_of(way: Declaration) -> Nature
+    ensures { result
+        ≡ record {
+          kind = kind_of way;
+          is_local = is_local_in way;
+          is_readonly = is_readonly_in way;
+          is_oneway = is_oneway_in way;
+          stage = stage_of way;
+        } }
+{
+    Nature {
+        kind: kind_of(way),
+        is_local: is_local_in(way),
+        is_readonly: is_readonly_in(way),
+        is_oneway: is_oneway_in(way),
+        stage: stage_of(way),
     }
 }
 
@@ -184,16 +203,6 @@ impl Written {
         }
     }
 
-    // The enumerators of an enum.
-    fn enumerators(&self, alloc: Global, way: Declaration) -> Result<Seq<Spelling>, AllocError>
-        ensures { IfOk result (λ names. names ≡ enumerators_in (held_written self.now) way) }
-    {
-        match way {
-            Declaration::Enumeration => self.enumerators.clone(),
-            _ => Ok(Seq::new(alloc)),
-        }
-    }
-
     /// The entity that a name is declared as in the scope at a path.
     pub fn entity(
         &self,
@@ -208,22 +217,14 @@ impl Written {
         let path = scope.child(alloc, name)?;
         let data_type = self.data_type(alloc, way)?;
         let value = self.value(alloc, way, name)?;
-        let enumerators = self.enumerators(alloc, way)?;
-        let parts = EntityParts {
-            path,
-            kind: kind_of(way),
-            is_local: is_local_in(way),
-            is_readonly: is_readonly_in(way),
-            is_oneway: is_oneway_in(way),
-            stage: stage_of(way),
-            data_type,
-            bases: Seq::new(alloc),
-            operations: SharedList::new(),
-            value,
-            enumerators,
-            signature: None,
-        };
-        Shared::new(alloc, parts.into_entity(alloc)?)
+        let entity = Entity::listless(path, nature_of(way), data_type, value);
+        match way {
+            Declaration::Enumeration => {
+                let names = self.enumerators.clone()?;
+                Shared::new(alloc, entity.with_enumerators(alloc, names)?)
+            }
+            _ => Shared::new(alloc, entity),
+        }
     }
 
     /// This name is declared: an enum is a type.

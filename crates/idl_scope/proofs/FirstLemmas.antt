@@ -1,5 +1,5 @@
 -- Additions that are looked through one by one.
-use Rattle.std.proofs.Common.{◌≡◌, ◌<◌, ◌+◌, ℕ, zero, suc, Bool, true, false, cond, List, [], ◌∷◌, ◌++◌, length, map, Some, None, is_some, refl, sym, ap, ◌∙◌, arith, ◌||◌, nat_eq, nat_lt}
+use Rattle.std.proofs.Common.{◌≡◌, ◌<◌, ℕ, zero, suc, Bool, true, false, cond, List, [], ◌∷◌, ◌++◌, length, Some, None, is_some, refl, sym, ap, ◌∙◌, arith, ◌||◌, nat_eq, nat_lt}
 use Rattle.std.specs.Map.{lookup}
 use Rattle.std.specs.Prelude.{get_or, slice_get, slice_set}
 use Rattle.std.proofs.lemmas.List.Quantifiers.{position-Some}
@@ -68,12 +68,6 @@ module _ (k : Key) where
           → cond b (Some a) (addition_at (additions ++ more) k) ≡ option_or (cond b (Some a) (addition_at additions k)) (addition_at more k)
       by true rest = refl
       by false rest = rest
-
--- where there are none
-pub none_there : (additions : List Addition) (entries : List (Key × Addition)) → length additions + length entries ≡ 0 → additions ++ map (λ e. e.1) entries ≡ []
-none_there [] [] h = refl
-none_there [] (e ∷ entries) h = absurd (omega (arith, h))
-none_there (a ∷ additions) entries h = absurd (omega (arith, h))
 
 -- one more goes behind those of which none is at its key
 pub with_addition-behind : (additions more : List Addition) (a : Addition) → addition_at additions (key_of a) ≡ None → with_addition (additions ++ more) a ≡ additions ++ with_addition more a

@@ -9,6 +9,7 @@ mod FewLemmas
 pub mod FirstLemmas
 pub mod Introduced
 pub mod LookupLaws
+pub mod MarkLemmas
 pub mod Meant
 pub mod Membership
 pub mod OperationLemmas

@@ -100,18 +100,18 @@ impl Addition {
         })
     }
 
-    /// Whether this is that key.
-    pub(crate) fn is_at(&self, key: &Key) -> bool
-        ensures { result ≡ key_eq key.now (key_of self.now) }
+    /// Whether another changes the answer at that key too.
+    pub(crate) fn has_key_of(&self, other: &Addition) -> bool
+        ensures { result ≡ key_eq (key_of self.now) (key_of other.now) }
     {
-        match (self, key) {
-            (Addition::Declares(entity), Key::Declared(name, scope)) => {
-                entity.get().path().is_found_at(name, scope)
+        match (self, other) {
+            (Addition::Declares(entity), Addition::Declares(same)) => {
+                entity.get().path().is_found_with(same.get().path())
             }
-            (Addition::Uses(name, path, body), Key::Introduced(other, scope, number)) => {
-                *other == *name && *scope == *path && *number == *body
+            (Addition::Uses(name, path, body), Addition::Uses(word, scope, number)) => {
+                *name == *word && *path == *scope && *body == *number
             }
-            (Addition::Identifies(path, _), Key::IdOf(other)) => *other == *path,
+            (Addition::Identifies(path, _), Addition::Identifies(same, _)) => *path == *same,
             _ => false,
         }
     }

@@ -1,6 +1,6 @@
 //! What few entities have.
 
-ghost use Rattle.std.specs.Prelude.{◌≡◌, IfOk, IsTrue};
+ghost use Rattle.std.specs.Prelude.{◌≡◌, IfOk, IsTrue, None};
 ghost use Rattle.std.specs.Cmp.Lexicographic.{pointwise};
 ghost use Rattle.std.specs.Option.{option_copied, option_eq};
 ghost use Rattle.idl_scope.specs.Details.{listless, rare_eq, rare_in};
@@ -70,6 +70,16 @@ impl Clone for Details {
 }
 
 impl Details {
+    /// A value alone, if there is one.
+    pub fn valued(value: Option<Shared<Value>>) -> Details
+        ensures { rare_in result ≡ listless value None }
+    {
+        match value {
+            Some(value) => Details::Valued(value),
+            None => Details::Nothing,
+        }
+    }
+
     /// The paths of the bases.
     pub fn bases(&self) -> &[Path]
         ensures { result.now ≡ (rare_in self.now).bases }

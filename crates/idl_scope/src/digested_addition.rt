@@ -83,12 +83,12 @@ impl DigestedAddition {
         self.digest == key.digest() && key.is_of(&self.addition)
     }
 
-    // Whether this is that key.
+    // Whether another changes the answer at that key too.
     #[inline]
-    fn is_at(&self, key: &DigestedKey) -> bool
-        ensures { result ≡ key_eq key.now (key_of self.now) }
+    fn is_at_one_with(&self, other: &DigestedAddition) -> bool
+        ensures { result ≡ key_eq (key_of self.now) (key_of other.now) }
     {
-        self.digest == key.digest() && self.addition.is_at(key.key())
+        self.digest == other.digest() && self.addition.has_key_of(&other.addition)
     }
 }
 
@@ -101,11 +101,13 @@ pub fn is_digest_among(additions: &[DigestedAddition], other: &DigestedAddition)
     additions.iter().any(|addition| addition.digest() == digest)
 }
 
-/// The place among additions of the first that is at a key.
-pub fn place_among(additions: &[DigestedAddition], key: &DigestedKey) -> Option<usize>
-    ensures { result ≡ position (λ a. key_eq key.now (key_of a)) additions.now }
+/// The place among additions of the first that is at the key of another.
+pub fn place_among(additions: &[DigestedAddition], other: &DigestedAddition) -> Option<usize>
+    ensures { result ≡ position (λ a. key_eq (key_of other.now) (key_of a)) additions.now }
 {
-    additions.iter().position(|addition| addition.is_at(key))
+    additions
+        .iter()
+        .position(|addition| other.is_at_one_with(addition))
 }
 
 /// The place among additions of the first at whose key a question is.

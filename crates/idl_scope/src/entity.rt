@@ -1,6 +1,6 @@
 //! Entities: what names are declared as.
 
-ghost use Rattle.std.specs.Prelude.{◌≡◌, IfOk};
+ghost use Rattle.std.specs.Prelude.{◌≡◌, [], IfOk, None};
 ghost use Rattle.std.specs.Option.{option_copied};
 ghost use Rattle.idl_scope.specs.Entity.{declared_eq, entity_eq, entity_equiv, entity_per, pathless_eq};
 ghost use Rattle.idl_scope.specs.Facts.{is_operation};
@@ -32,6 +32,19 @@ pub struct Entity {
     pub(crate) is_readonly: bool,
     pub(crate) is_oneway: bool,
     pub(crate) stage: Stage,
+}
+
+/// What a name is declared as, and how far that has come.
+#[derive(Clone, Copy)]
+pub struct Nature {
+    pub kind: Kind,
+    /// Whether it is an interface that is declared `local`.
+    pub is_local: bool,
+    /// Whether it is an attribute that is declared `readonly`.
+    pub is_readonly: bool,
+    /// Whether it is an operation that is declared `oneway`.
+    pub is_oneway: bool,
+    pub stage: Stage,
 }
 
 // A large root declares hundreds of thousands of names.
@@ -140,6 +153,54 @@ impl Datum for Entity {
 }
 
 impl Entity {
+    /// An entity without bases, operations, enumerators and signature, as most are.
+    pub fn listless(
+        path: Path,
+        nature: Nature,
+        data_type: Option<Shared<DataType>>,
+        value: Option<Shared<Value>>,
+    ) -> Entity
+        ensures { result
+            ≡ record {
+              path = path;
+              kind = nature.kind;
+              is_local = nature.is_local;
+              is_readonly = nature.is_readonly;
+              is_oneway = nature.is_oneway;
+              stage = nature.stage;
+              data_type = data_type;
+              bases = [];
+              operations = [];
+              value = value;
+              enumerators = [];
+              signature = None;
+            } }
+    {
+        Entity {
+            path,
+            data_type,
+            details: Details::valued(value),
+            kind: nature.kind,
+            is_local: nature.is_local,
+            is_readonly: nature.is_readonly,
+            is_oneway: nature.is_oneway,
+            stage: nature.stage,
+        }
+    }
+
+    /// It with these enumerators.
+    pub fn with_enumerators(
+        &self,
+        alloc: Global,
+        names: Seq<Spelling>,
+    ) -> Result<Entity, AllocError>
+        ensures { IfOk result (λ entity. entity ≡ record self.now { enumerators = names }) }
+    {
+        let mut parts = self.parts(alloc)?;
+        parts.enumerators = names;
+        parts.into_entity(alloc)
+    }
+
     /// Its parts, each by itself.
     pub fn parts(&self, alloc: Global) -> Result<EntityParts, AllocError>
         ensures { IfOk result (λ parts. parts ≡ self.now) }

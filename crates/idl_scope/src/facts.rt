@@ -1,9 +1,10 @@
 //! What a unit adds.
 
-ghost use Rattle.std.specs.Prelude.{◌≡◌, ◌<◌, ◌++◌, ◌∷◌, [], IfErr, IfOk, IsTrue, OnErr, OnOk, length, slice_get};
+ghost use Rattle.std.specs.Prelude.{◌≡◌, ◌<◌, ◌++◌, ◌∷◌, ◌↔◌, [], IfErr, IfOk, IsFalse, IsTrue, None, OnErr, OnOk, bit_and, length, slice_get};
 ghost use Rattle.std.specs.Map.{lookup};
 ghost use Rattle.std.specs.Option.{option_copied};
-ghost use Rattle.idl_scope.specs.Facts.{addition_at, with_addition};
+ghost use Rattle.idl_scope.specs.Facts.{addition_at, key_of, with_addition};
+ghost use Rattle.idl_scope.specs.Held.{AreMarked, mark};
 ghost use Rattle.idl_scope.specs.Key.{key_eq};
 ghost use Rattle.idl_scope.specs.declared.addition.Step.TheVariants.{Stays};
 ghost use Rattle.idl_scope.specs.declared.facts.TheConstants.{FEW};
@@ -26,10 +27,12 @@ const USUAL: usize = 8;
 /// What a unit adds, or its earlier tokens: names that are declared and introduced, and then how the open scopes change.
 ///
 /// Most units add little: so the first additions stand in a list that is gone through by the digests of their keys, and makes
-/// none of these keys. Those behind them are found in a table.
+/// none of these keys. Whether it is worth while is told by marks of these digests. Those behind them are found in a table.
 pub struct Facts {
     alloc: Global,
     first: Vec<DigestedAddition>,
+    // The marks of the digests of all keys: where a digest's is not among them, no addition is at such a key.
+    marks: u64,
     others: Table<DigestedKey, DigestedAddition>,
     // How many there are of both.
     count: usize,
@@ -39,7 +42,7 @@ pub struct Facts {
 impl Model for Facts {
     ghost use Rattle.std.specs.Prelude.{◌≡◌, ◌+◌, ◌++◌, length, map};
     ghost use Rattle.idl_scope.specs.Facts.{UnitFacts};
-    ghost use Rattle.idl_scope.specs.Held.{HaveOwnKeys};
+    ghost use Rattle.idl_scope.specs.Held.{AreMarked, HaveOwnKeys};
 
     ghost Value = { UnitFacts };
 
@@ -50,7 +53,8 @@ impl Model for Facts {
 
     ghost invariant = { λ facts.
         HaveOwnKeys facts.others
-        × (facts.count ≡ length facts.first.items + length facts.others) };
+        × ((facts.count ≡ length facts.first.items + length facts.others)
+        × AreMarked facts.marks (facts.first.items ++ map (λ e. e.1) facts.others)) };
 }
 
 impl Drop for Facts {
@@ -58,6 +62,7 @@ impl Drop for Facts {
         let Facts {
             alloc: _alloc,
             first: _first,
+            marks: _marks,
             others: _others,
             count: _count,
             step: _step,
@@ -73,6 +78,7 @@ impl Facts {
         Facts {
             alloc,
             first: Vec::new(alloc),
+            marks: 0,
             others: Table::new(alloc),
             count: 0,
             step: Step::Stays,
@@ -89,10 +95,12 @@ impl Facts {
         if !has_room(&self.first, &self.others) {
             return self.put(addition);
         }
-        if is_digest_among(self.first.as_slice(), &addition) {
+        if may_be_among(self.marks, self.first.as_slice(), &addition) {
             return self.put(addition);
         }
+        let digest = addition.digest();
         push(&mut self.first, addition)?;
+        self.marks |= mark(digest);
         self.count += 1;
         Ok(())
     }
@@ -107,18 +115,22 @@ impl Facts {
         let Some(count) = self.count.checked_add(1) else {
             return Err(AllocError);
         };
-        let key = addition.key(self.alloc)?;
-        if let Some(place) = place_among(self.first.as_slice(), &key) {
+        let marks = self.marks | mark(addition.digest());
+        if let Some(place) = place_among(self.first.as_slice(), &addition) {
             self.first[place] = addition;
+            self.marks = marks;
             return Ok(());
         }
         if has_room(&self.first, &self.others) {
             self.first.push(addition)?;
+            self.marks = marks;
             self.count = count;
             return Ok(());
         }
+        let key = addition.key(self.alloc)?;
         let is_new = !self.others.contains(&key);
         self.others.insert(key, addition)?;
+        self.marks = marks;
         if is_new {
             self.count = count;
         }
@@ -136,9 +148,17 @@ impl Facts {
     pub fn get(&self, key: &LentKey<'_>) -> Result<Option<&Addition>, AllocError>
         ensures { IfOk result (λ a. option_copied a ≡ addition_at self.now.additions key.now) }
     {
-        if self.count == 0 {
+        if !is_marked(self.marks, key.digest()) {
             return Ok(None);
         }
+        self.find(key)
+    }
+
+    // The same, where an addition may be at the key. It stands apart, since none is at most keys.
+    #[inline(never)]
+    fn find(&self, key: &LentKey<'_>) -> Result<Option<&Addition>, AllocError>
+        ensures { IfOk result (λ a. option_copied a ≡ addition_at self.now.additions key.now) }
+    {
         match asked_among(self.first.as_slice(), key) {
             Some(place) => Ok(Some(self.first[place].addition())),
             None => behind(&self.others, key),
@@ -181,6 +201,7 @@ impl Facts {
         let Facts {
             alloc: _alloc,
             first,
+            marks: _marks,
             others: _others,
             count: _count,
             step,
@@ -231,4 +252,29 @@ fn behind<'a>(
         Some(addition) => Ok(Some(addition.addition())),
         None => Ok(None),
     }
+}
+
+// The mark of a digest: one of 64 bits, by its first 6.
+#[inline]
+fn mark(digest: u64) -> u64
+    ensures { result ≡ mark digest }
+{
+    1 << (digest >> 58)
+}
+
+// Whether the mark of a digest is among marks.
+#[inline]
+fn is_marked(marks: u64, digest: u64) -> bool
+    ensures { IsFalse result ↔ (bit_and marks (mark digest) ≡ 0) }
+{
+    marks & mark(digest) != 0
+}
+
+// Whether one of the additions, of which these are the marks, may be at the key of another.
+#[inline]
+fn may_be_among(marks: u64, additions: &[DigestedAddition], other: &DigestedAddition) -> bool
+    requires { AreMarked marks additions.now }
+    ensures { IsFalse result → addition_at additions.now (key_of other.now) ≡ None }
+{
+    is_marked(marks, other.digest()) && is_digest_among(additions, other)
 }

@@ -43,7 +43,7 @@ pub use addition::{Addition, Step};
 pub use answer::{Answer, Scope, count_in, entity_in, identity_in, prefix_in, scopes_in};
 pub use data_type::{DataType, Element, Layer};
 pub use digested::DigestedKey;
-pub use entity::Entity;
+pub use entity::{Entity, Nature};
 pub use env::Env;
 pub use facts::Facts;
 pub use fault::{NameCode, NameFault};

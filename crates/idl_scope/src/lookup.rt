@@ -173,6 +173,9 @@ impl<'a> View<'a> {
             (under self.entry.own.now.additions (reached turns name.now bases.now))
             (answers self.entry.env.now) log.old) }
     {
+        if bases.is_empty() {
+            return Ok(Vec::new(self.env.alloc()));
+        }
         let mut queue = BaseQueue::new(self.env.alloc());
         queue.join(bases)?;
         let mut found = Vec::new(self.env.alloc());

@@ -1,10 +1,14 @@
-use Rattle.std.proofs.Common.{◌≡◌, ◌++◌, ◌∷◌, [], refl, sym, ap, ◌∙◌, false, map, nat_eq}
-use Rattle.std.specs.List.{list_any}
-use Rattle.idl_scope.specs.Facts.{UnitFacts, key_of, with_addition}
+use Rattle.std.proofs.Common.{◌≡◌, ◌++◌, ◌∷◌, [], None, refl, sym, ap, ◌∙◌, map, length, length-append, arith}
+use Rattle.idl_scope.specs.Facts.{UnitFacts, addition_at, key_of, with_addition}
+use Rattle.idl_scope.specs.Held.{mark}
 use Rattle.idl_scope.specs.Key.{key_digest}
-use Rattle.idl_scope.specs.declared.addition.Addition.{Addition}
-use Rattle.idl_scope.proofs.FirstLemmas.{unlike, with_addition-last}
+use Rattle.idl_scope.proofs.FirstLemmas.{with_addition-last}
+use Rattle.idl_scope.proofs.MarkLemmas.{AreMarked-first, AreMarked-then}
 use Rattle.idl_scope.proofs.facts.Facts.add.Goals as goal
+
+pub may_be_among-requires : goal.may_be_among-requires
+may_be_among-requires c =
+    rw c.as_slice.ensures.value (AreMarked-first c.self.inside.marks c.self.inside.first.items (map (λ e. e.1) c.self.inside.others) c.self.invariant.1.1)
 
 pub returns : goal.returns
 returns c =
@@ -12,10 +16,26 @@ returns c =
     let more = map (λ e. e.1) c.self.inside.others in
     let a = c.args.addition in
     let none : c.self.inside.others ≡ [] = c.if-not-has_room.ensures.none refl in
-    let test = λ (b other : Addition). nat_eq (key_digest (key_of other)) (key_digest (key_of b)) in
-    let others : list_any (test a) first ≡ false =
-    (λ i. list_any (test (sym c.of-addition.ensures i)) (sym c.as_slice.ensures.value i)) ∙ sym c.if-is_digest_among.ensures in
+    let others : addition_at first (key_of a) ≡ None =
+    (λ i. addition_at (sym c.as_slice.ensures.value i) (key_of (sym c.of-addition.ensures i))) ∙ c.if-may_be_among.ensures refl in
     (λ i. record { additions = c.in_ok-push.ensures.items i ++ more; step = c.self.inside.step })
     ∙ (λ i. record { additions = (first ++ c.of-addition.ensures i ∷ []) ++ more; step = c.self.inside.step })
-    ∙ (λ i. record { additions = with_addition-last first more a (ap (map (λ e. e.1)) none) (unlike first (key_of a) others) i; step = c.self.inside.step })
+    ∙ (λ i. record { additions = with_addition-last first more a (ap (map (λ e. e.1)) none) others i; step = c.self.inside.step })
     ∙ ap (λ (f : UnitFacts). record f { additions = with_addition f.additions a }) c.self.view_is
+
+pub invariant_of-self-2 : goal.invariant_of-self-2
+invariant_of-self-2 c =
+    let first = c.self.inside.first.items in
+    let more = map (λ e. e.1) c.self.inside.others in
+    let a = c.args.addition in
+    let none : c.self.inside.others ≡ [] = c.if-not-has_room.ensures.none refl in
+    let others : addition_at first (key_of a) ≡ None =
+    (λ i. addition_at (sym c.as_slice.ensures.value i) (key_of (sym c.of-addition.ensures i))) ∙ c.if-may_be_among.ensures refl in
+    let put = ap (λ l. l ++ more) (c.in_ok-push.ensures.items ∙ ap (λ b. first ++ b ∷ []) c.of-addition.ensures) ∙ with_addition-last first more a (ap (map (λ e. e.1)) none) others in
+    let own : c.mark.result ≡ mark (key_digest (key_of a)) = c.mark.ensures ∙ ap mark (c.digest-digest.ensures ∙ ap (λ b. key_digest (key_of b)) c.of-addition.ensures) in (
+      c.self.invariant.0,
+      (
+        omega (arith, c.self.invariant.1.0, ap length c.in_ok-push.ensures.items, length-append first (c.of-addition.result ∷ [])),
+        AreMarked-then c.self.inside.marks c.mark.result (first ++ more) _ a own put c.self.invariant.1.1,
+      ),
+    )

@@ -3,7 +3,7 @@ use Rattle.std.specs.Cmp.{both_ways}
 use Rattle.idl_base.specs.Exact.{same_number}
 use Rattle.idl_scope.specs.Facts.{key_of}
 use Rattle.idl_scope.specs.Key.{key_digest, same_key}
-use Rattle.idl_scope.proofs.digested_addition.DigestedAddition.is_at.Goals as goal
+use Rattle.idl_scope.proofs.digested_addition.DigestedAddition.is_at_one_with.Goals as goal
 
 pub returns-else-self-digest : goal.returns-else-self-digest
 returns-else-self-digest c =
@@ -11,4 +11,4 @@ returns-else-self-digest c =
     let differ = c.if-self-digest.false in
     both_ways _ _
     (λ h. absurd (differ (same_number _ _ h)))
-    (λ h. absurd (differ (mine ∙ ap key_digest (sym (same_key c.args.key.now (key_of c.args.self.now) h)) ∙ sym c.digest.ensures)))
+    (λ h. absurd (differ (mine ∙ ap key_digest (same_key (key_of c.args.self.now) (key_of c.args.other.now) h) ∙ sym c.digest.ensures)))
