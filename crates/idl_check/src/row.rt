@@ -1,6 +1,6 @@
 //! The row of a unit in the dump.
 
-ghost use Rattle.std.specs.Prelude.{◌≡◌, ◌≤◌, ◌+◌, ◌∷◌, ◌++◌, ◌||◌, [], codes, false, IfOk, OnOk, drop, flat_map, length, map, take, if◌then◌else◌};
+ghost use Rattle.std.specs.Prelude.{◌≡◌, ◌≤◌, ◌+◌, ◌∷◌, ◌++◌, ◌||◌, [], codes, false, OnOk, drop, flat_map, length, map, take, if◌then◌else◌};
 ghost use Rattle.std.specs.List.{repeat};
 ghost use Rattle.std.specs.Str.{bytes_eq};
 ghost use Rattle.idl_check.specs.Row.{behind_site, character, escaped, next_path, next_value, octal, path_word, row_of, site_text, spaced, text_word, token_text, unit_text};
