@@ -142,10 +142,10 @@ impl<'a> LentKey<'a> {
     {
         match (&self.parts, addition) {
             (Parts::Declared(name, scope), Addition::Declares(entity)) => {
-                entity.get().path.is_found_at(name, scope)
+                entity.get().path().is_found_at(name, scope)
             }
             (Parts::Entity(path), Addition::Declares(entity)) => {
-                path.is_found_with(&entity.get().path)
+                path.is_found_with(entity.get().path())
             }
             (Parts::Introduced(path, scope, body), Addition::Uses(name, other, number)) => {
                 path.has_folded(name) && **scope == *other && *body == *number
