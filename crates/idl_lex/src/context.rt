@@ -33,6 +33,7 @@ impl Beginning {
     ghost use Rattle.std.specs.Prelude.{◌≡◌, ◌∷◌, [], ℕ, true};
     ghost use Rattle.idl_lex.specs.Context.{is_nothing, is_include, beginning_after};
     ghost use Rattle.idl_lex.specs.Marks.{is_lone_mark};
+    ghost use Rattle.idl_lex.specs.Word.{is_word};
 
     /// Whether there is no token.
     pub fn is_nothing(self) -> bool
@@ -59,6 +60,18 @@ impl Beginning {
         ensures { (b : ℕ) → is_lone_mark b ≡ true → result ≡ beginning_after self (b ∷ []) }
     {
         match self {
+            Beginning::Include => Beginning::Include,
+            _ => Beginning::Other,
+        }
+    }
+
+    // The beginning with one word more.
+    fn with_word(self, word: &[u8]) -> Beginning
+        requires { is_word word.now ≡ true }
+        ensures { result ≡ beginning_after self word.now }
+    {
+        match self {
+            Beginning::Hash if word == b"include".as_slice() => Beginning::Include,
             Beginning::Include => Beginning::Include,
             _ => Beginning::Other,
         }
@@ -114,7 +127,7 @@ impl Context {
         ensures { result ≡ context_after self word.now }
     {
         Context {
-            beginning: self.beginning.with(word),
+            beginning: self.beginning.with_word(word),
             follows_word: true,
         }
     }

@@ -2,7 +2,7 @@
 
 ghost use Rattle.std.specs.Prelude.{◌≡◌, ◌≤◌, ◌<◌, ◌+◌, ◌++◌, ◌-◌, false, ℕ, List, drop, length, slice_index, take, true, IfOk, IfSome, IsTrue, OnOk, ◌∷◌, []};
 ghost use Rattle.idl_lex.specs.Context.{is_include};
-ghost use Rattle.idl_lex.specs.Lexer.{begins_word, coming, ended, is_open};
+ghost use Rattle.idl_lex.specs.Lexer.{begins_quote, begins_word, coming, ended, is_open};
 ghost use Rattle.idl_lex.specs.Logical.{line_at};
 ghost use Rattle.idl_lex.specs.Scan.{closing_end, further};
 ghost use Rattle.idl_lex.specs.Text.{Placed, bytes_of};
@@ -99,7 +99,8 @@ fn push_pieces(
             i += 1;
             continue;
         }
-        closing = closing_for(first, bytes, closing);
+        let includes = now.beginning.is_include();
+        closing = closing_for(includes && first == b'<', bytes, closing);
         let end = piece_end(now, bytes, i, closing);
         let piece = &bytes[i..end];
         if is_open(piece) {
@@ -139,8 +140,17 @@ fn begins_word(bytes: &[u8]) -> bool
     ensures { result ≡ begins_word bytes.now }
 {
     match bytes {
-        [b'L', quote, ..] if is_quote(*quote) => false,
-        [first, ..] => is_word_start(*first),
+        [first, rest @ ..] if is_word_start(*first) => *first != b'L' || !begins_quote(rest),
+        _ => false,
+    }
+}
+
+// Whether a quote comes first.
+fn begins_quote(bytes: &[u8]) -> bool
+    ensures { result ≡ begins_quote bytes.now }
+{
+    match bytes {
+        [first, ..] => is_quote(*first),
         [] => false,
     }
 }
@@ -183,13 +193,13 @@ fn piece_end(context: Context, bytes: &[u8], i: usize, closing: Option<usize>) -
     i + 1 + further(includes, bytes[i], &bytes[i + 1..])
 }
 
-// Where the last `>` ends, as far as it is known: it is looked up before the first `<`, which alone asks for it.
-fn closing_for(first: u8, bytes: &[u8], known: Option<usize>) -> Option<usize>
+// Where the last `>` ends, as far as it is known: it is looked up as soon as it is asked for.
+fn closing_for(asked: bool, bytes: &[u8], known: Option<usize>) -> Option<usize>
     requires { IfSome known (λ end. end ≡ closing_end bytes.now) }
     ensures { IfSome result (λ end. end ≡ closing_end bytes.now) }
 {
     match known {
-        None if first == b'<' => Some(closing_end(bytes)),
+        None if asked => Some(closing_end(bytes)),
         _ => known,
     }
 }
