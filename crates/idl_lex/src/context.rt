@@ -31,7 +31,7 @@ pub struct Context {
 
 impl Beginning {
     ghost use Rattle.std.specs.Prelude.{◌≡◌, ◌∷◌, [], ℕ, true};
-    ghost use Rattle.idl_lex.specs.Context.{is_nothing, is_include, beginning_after};
+    ghost use Rattle.idl_lex.specs.Context.{is_hash, is_nothing, is_include, beginning_after};
     ghost use Rattle.idl_lex.specs.Marks.{is_lone_mark};
     ghost use Rattle.idl_lex.specs.Word.{is_word};
 
@@ -55,6 +55,16 @@ impl Beginning {
         }
     }
 
+    // Whether `#` is the one token.
+    fn is_hash(self) -> bool
+        ensures { result ≡ is_hash self }
+    {
+        match self {
+            Beginning::Hash => true,
+            _ => false,
+        }
+    }
+
     // The beginning with one token more that is neither `#` nor `include`.
     fn with_other(self) -> Beginning
         ensures { (b : ℕ) → is_lone_mark b ≡ true → result ≡ beginning_after self (b ∷ []) }
@@ -70,10 +80,10 @@ impl Beginning {
         requires { is_word word.now ≡ true }
         ensures { result ≡ beginning_after self word.now }
     {
-        match self {
-            Beginning::Hash if word == b"include".as_slice() => Beginning::Include,
-            Beginning::Include => Beginning::Include,
-            _ => Beginning::Other,
+        if self.is_include() || self.is_hash() && word == b"include".as_slice() {
+            Beginning::Include
+        } else {
+            Beginning::Other
         }
     }
 

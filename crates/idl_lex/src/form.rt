@@ -151,8 +151,8 @@ impl Short {
             put_ends(&mut array, bytes, 4);
         } else if 2 <= len {
             put_ends(&mut array, bytes, 2);
-        } else {
-            put_ends(&mut array, bytes, len);
+        } else if len == 1 {
+            array[0] = bytes[0];
         }
         Short {
             count: len as u8,
@@ -199,9 +199,7 @@ impl Short {
     pub fn folded(mut self) -> Short
         ensures { result ≡ folded self }
     {
-        // Eight bytes at a time: two of them twice.
-        self.bytes[..8].make_ascii_lowercase();
-        self.bytes[MOST - 8..].make_ascii_lowercase();
+        self.bytes.make_ascii_lowercase();
         self
     }
 }
