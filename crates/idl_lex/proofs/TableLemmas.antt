@@ -174,5 +174,5 @@ like_keyword-if_alike word lt = by (bytes_eq (folded k.0) (folded word)) refl wh
       let alike = (bytes_decides (folded k.0) (folded word)).0 e in
       sym (like_keyword-at word lt alike) ∙ sym (if_alike-same word k alike)
   by false e =
-      let other = λ alike. false≢true (sym e ∙ (bytes_decides (folded k.0) (folded word)).1 alike) in
+      let other : folded k.0 ≢ folded word = λ alike. false≢true (sym e ∙ (bytes_decides (folded k.0) (folded word)).1 alike) in
       sym (like_keyword-other word other) ∙ sym (if_alike-other word k other)

@@ -1,7 +1,8 @@
 -- What each byte is, as a table has it.
 use Rattle.std.specs.Prelude.{ℕ, List, [], ◌∷◌}
 
--- by each byte: 1 where it is white space, 2 a mark that stands alone, 3 a digit, 4 a letter or `_`, and 0 another one
+-- by each byte: 1 where it is white space, 2 a mark that stands alone, 3 a digit, 4 a letter or
+-- `_`, and 0 another one
 unfoldable pub classes : List ℕ
 classes =
     0 ∷ 0 ∷ 0 ∷ 0 ∷ 0 ∷ 0 ∷ 0 ∷ 0 ∷ 0 ∷ 1 ∷ 1 ∷ 1 ∷ 1 ∷ 1 ∷ 0 ∷ 0 ∷ 0 ∷ 0 ∷ 0 ∷ 0 ∷ 0 ∷ 0 ∷ 0 ∷ 0

@@ -105,7 +105,10 @@ fn finish(tokens: &mut Vec<PlacedToken>, before: Before) -> Result<(), AllocErro
     match before {
         Before::Fresh => Ok(()),
         Before::Comment(opening) => {
-            let Opening { token, context: _context } = Box::into_inner(opening);
+            let Opening {
+                token,
+                context: _context,
+            } = Box::into_inner(opening);
             tokens.push(token)?;
             Ok(())
         }

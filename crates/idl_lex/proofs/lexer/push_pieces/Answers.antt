@@ -125,7 +125,7 @@ returns-then-is_open c = λ newline rest.
     ∙ ap (λ bs. token_of now bs c.line_at-then-is_open.result) (c.in_ok-spelling.ensures ∙ opening-spelled now line i end within is opened)
     ∙ ap (λ n. token_of now (codes "/*") n) c.line_at-then-is_open.ensures in
     ap (λ ts. c.pieces.tokens.items ++ ts)
-    (ap (λ o. after_comment o.token o.context rest) c.in_ok-opening.ensures
+    (ap (λ o. after_comment o.token o.context rest) c.in_ok-opening.ensures.ok
     ∙ ap (λ t. after_comment t c.after-context.result rest) token
     ∙ ap (λ x. after_comment (token_of now (codes "/*") (line_at line i)) x rest) c.after-context.ensures
     ∙ sym (tokens_after-comment now line i end newline rest within is opened))
