@@ -196,6 +196,7 @@ impl Short {
     }
 
     /// The bytes with each capital letter made small.
+    #[inline(never)]
     pub fn folded(mut self) -> Short
         ensures { result ≡ folded self }
     {
