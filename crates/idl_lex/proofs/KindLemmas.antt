@@ -1,13 +1,20 @@
 -- A word's kind is told without a look at what else might begin as it does.
-use Rattle.std.proofs.Common.{◌≡◌, ◌≢◌, ◌∙◌, ◌<◌, ℕ, nat_eq, Bool, true, false, ◌&&◌, ◌||◌, if◌then◌else◌, List, [], ◌∷◌, get_or, length, refl, sym, ap, arith}
+use Rattle.std.proofs.Common.{◌≡◌, ◌≢◌, ◌∙◌, ◌<◌, ℕ, nat_eq, Bool, true, false, ◌&&◌, ◌||◌, if◌then◌else◌, List, [], ◌∷◌, get_or, length, Some, refl, sym, ap, arith}
 use Rattle.std.proofs.lemmas.Bool.{false≢true}
+use Rattle.std.specs.Cmp.Lexicographic.{bytes_decides}
 use Rattle.std.specs.List.{list_all}
+use Rattle.std.specs.Str.{bytes_eq}
 use Rattle.idl_lex.proofs.CountLemmas.{eq-false}
+use Rattle.idl_lex.proofs.TableLemmas.{if_alike-same}
 use Rattle.idl_lex.specs.Byte.{is_digit, is_letter, is_quote, is_word_byte, is_word_start}
-use Rattle.idl_lex.specs.Kind.{escaped_kind, kind_of, letter_kind, other_kind, word_kind}
+use Rattle.idl_lex.specs.Keywords.{folded}
+use Rattle.idl_lex.specs.KeywordTable.{if_alike}
+use Rattle.idl_lex.specs.Kind.{escaped_kind, kind_beside, kind_of, letter_kind, other_kind, word_kind}
 use Rattle.idl_lex.specs.Literal.{literal_kind}
 use Rattle.idl_lex.specs.Number.{number_kind}
 use Rattle.idl_lex.specs.Word.{is_word}
+use Rattle.idl_lex.specs.declared.kind.Kind.{Kind}
+use Rattle.idl_lex.specs.declared.kind.Kind.TheVariants.{Miscased}
 
 both : (a b : Bool) → a && b ≡ true → (a ≡ true) × (b ≡ true)
 both true b h = (refl, h)
@@ -49,3 +56,14 @@ word_kind-is (b ∷ rest) h other =
 pub word_kind-none : (word : List ℕ) → is_word word ≡ true → length word < 1 → word_kind word ≡ kind_of word
 word_kind-none [] h none = absurd (false≢true h)
 word_kind-none (b ∷ rest) h none = absurd (omega (arith, none))
+
+-- the kind of a word beside the one keyword that it can be
+pub kind-same : (word : List ℕ) (k : List ℕ × Kind) → bytes_eq k.0 word ≡ true → kind_beside word (if_alike word (Some k)) ≡ k.1
+kind-same word k same =
+    ap (kind_beside word) (if_alike-same word k (ap folded ((bytes_decides k.0 word).0 same)))
+    ∙ ap (λ b. if b then k.1 else Miscased) same
+
+pub kind-alike : (word : List ℕ) (k : List ℕ × Kind) → bytes_eq k.0 word ≡ false → folded k.0 ≡ folded word → kind_beside word (if_alike word (Some k)) ≡ Miscased
+kind-alike word k other alike =
+    ap (kind_beside word) (if_alike-same word k alike)
+    ∙ ap (λ b. if b then k.1 else Miscased) other

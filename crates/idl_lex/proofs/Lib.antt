@@ -1,5 +1,6 @@
 pub mod AlikeLemmas
 pub mod BlockLemmas
+pub mod ByteLemmas
 pub mod CountLemmas
 pub mod CutLemmas
 pub mod FormLemmas

@@ -9,7 +9,7 @@ use Rattle.std.specs.Cmp.Lexicographic.{bytes_decides}
 use Rattle.std.specs.List.{list_all}
 use Rattle.std.specs.Str.{bytes_eq}
 use Rattle.idl_lex.specs.Keywords.{folded, keywords, like_keyword}
-use Rattle.idl_lex.specs.KeywordTable.{place, places}
+use Rattle.idl_lex.specs.KeywordTable.{if_alike, letter, place, places}
 use Rattle.idl_lex.specs.WordTable.{entry_of}
 use Rattle.idl_lex.specs.declared.kind.Kind.{Kind}
 use Rattle.idl_lex.specs.declared.kind.Kind.TheVariants.{Refused}
@@ -125,26 +125,54 @@ like_keyword-other word other = by (like_keyword word) refl where
   by None h = refl
   by (Some k) h = let it = found_here word k h in absurd (other (ap (λ k. folded k.0) it.here ∙ it.alike))
 
--- a letter of a word in lower case
-abbrev low : List ℕ → ℕ → ℕ
-low word i = to_ascii_lowercase (get_or word i 0)
+-- a capital letter and a small one are the same letter
+letter-lowercase : (c : ℕ) → to_ascii_lowercase c % 32 ≡ c % 32
+letter-lowercase c = cases (nat_lt c 65) (nat_lt c 91) where
+  cases : (small large : Bool) → cond small c (cond large (c + 32) c) % 32 ≡ c % 32
+  cases true large = refl
+  cases false true = omega arith
+  cases false false = refl
 
-low-folded : (word : List ℕ) (i : ℕ) → get_or (folded word) i 0 ≡ low word i
-low-folded word i = get_or-map to_ascii_lowercase word i 0
+letter-folded : (word : List ℕ) (i : ℕ) → letter (folded word) i ≡ letter word i
+letter-folded word i = ap (λ c. c % 32) (get_or-map to_ascii_lowercase word i 0) ∙ letter-lowercase (get_or word i 0)
 
 of_some_length : (n : ℕ) → 2 ≤ n → n ≤ 11 → nat_lt n 2 || nat_lt 11 n ≡ false
 of_some_length n long short = ap (λ b. b || nat_lt 11 n) (le-ltb n 2 long) ∙ le-ltb 11 n short
 
 -- where a word of some length stands, by its letters
 pub place-folded : (word : List ℕ) (n : ℕ) → length word ≡ n → 2 ≤ n → n ≤ 11
-    → place (folded word) ≡ get_or places ((low word 0 + 9 * low word 1 + 11 * low word (n - 2) + n) % 256) 0
+    → place (folded word) ≡ get_or places ((letter word 0 + 9 * letter word 1 + 11 * letter word (n - 2) + n) % 256) 0
 place-folded word n len long short =
-    ap (λ m. if nat_lt m 2 || nat_lt 11 m then 64 else get_or places ((get_or (folded word) 0 0 + 9 * get_or (folded word) 1 0 + 11 * get_or (folded word) (m - 2) 0 + m) % 256) 0) (length-map word to_ascii_lowercase ∙ len)
-    ∙ ap (λ b. if b then 64 else get_or places ((get_or (folded word) 0 0 + 9 * get_or (folded word) 1 0 + 11 * get_or (folded word) (n - 2) 0 + n) % 256) 0) (of_some_length n long short)
-    ∙ (λ i. get_or places ((low-folded word 0 i + 9 * low-folded word 1 i + 11 * low-folded word (n - 2) i + n) % 256) 0)
+    ap (λ m. if nat_lt m 2 || nat_lt 11 m then 64 else get_or places ((letter (folded word) 0 + 9 * letter (folded word) 1 + 11 * letter (folded word) (m - 2) + m) % 256) 0) (length-map word to_ascii_lowercase ∙ len)
+    ∙ ap (λ b. if b then 64 else get_or places ((letter (folded word) 0 + 9 * letter (folded word) 1 + 11 * letter (folded word) (n - 2) + n) % 256) 0) (of_some_length n long short)
+    ∙ (λ i. get_or places ((letter-folded word 0 i + 9 * letter-folded word 1 i + 11 * letter-folded word (n - 2) i + n) % 256) 0)
 
 -- what is read at the place that a word tells
 pub entry_of-at : (entries : List (Bor (List ℕ) × Kind)) (word : List ℕ) (i : ℕ) (d : Bor (List ℕ) × Kind) → map entry_of entries ≡ keywords
     → i ≡ place (folded word) → i < length entries → entry_of (get_or entries i d) ≡ at (place (folded word))
 entry_of-at entries word i d all is lt =
     sym (get_or-map-within entry_of entries i d ([], Refused) lt) ∙ ap (λ ks. get_or ks i ([], Refused)) all ∙ ap at is
+
+-- a keyword that is the word but for the case of letters, and one that is not
+pub if_alike-same : (word : List ℕ) (k : Keyed) → folded k.0 ≡ folded word → if_alike word (Some k) ≡ Some k
+if_alike-same word k alike = ap (λ b. if b then Some k else None) ((bytes_decides (folded k.0) (folded word)).1 alike)
+
+pub if_alike-other : (word : List ℕ) (k : Keyed) → folded k.0 ≢ folded word → if_alike word (Some k) ≡ None
+if_alike-other word k other = by (bytes_eq (folded k.0) (folded word)) refl where
+  by : (b : Bool) → bytes_eq (folded k.0) (folded word) ≡ b → if_alike word (Some k) ≡ None
+  by true e = absurd (other ((bytes_decides (folded k.0) (folded word)).0 e))
+  by false e = ap (λ b. if b then Some k else None) e
+
+-- the keyword at a word's place is the one that the word can be
+pub like_keyword-if_alike : (word : List ℕ) → place (folded word) < 64 → like_keyword word ≡ if_alike word (Some (at (place (folded word))))
+like_keyword-if_alike word lt = by (bytes_eq (folded k.0) (folded word)) refl where
+  k : Keyed
+  k = at (place (folded word))
+
+  by : (b : Bool) → bytes_eq (folded k.0) (folded word) ≡ b → like_keyword word ≡ if_alike word (Some k)
+  by true e =
+      let alike = (bytes_decides (folded k.0) (folded word)).0 e in
+      sym (like_keyword-at word lt alike) ∙ sym (if_alike-same word k alike)
+  by false e =
+      let other : folded k.0 ≢ folded word = λ alike. false≢true (sym e ∙ (bytes_decides (folded k.0) (folded word)).1 alike) in
+      sym (like_keyword-other word other) ∙ sym (if_alike-other word k other)

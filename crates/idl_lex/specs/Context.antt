@@ -19,6 +19,13 @@ is_nothing Hash = false
 is_nothing Include = false
 is_nothing Other = false
 
+-- `#` is the one token before
+abbrev pub is_hash : Beginning → Bool
+is_hash Nothing = false
+is_hash Hash = true
+is_hash Include = false
+is_hash Other = false
+
 -- the line begins with `#` `include`
 abbrev pub is_include : Beginning → Bool
 is_include Nothing = false

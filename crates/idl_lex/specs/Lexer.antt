@@ -22,7 +22,7 @@ after_comment opening c text =
 -- the tokens of a text that begins in this
 abbrev pub coming : Before → List Placed → List PlacedToken
 coming Fresh text = tokens_after line_start 0 text
-coming (Comment opening c) text = after_comment opening c text
+coming (Comment opening) text = after_comment opening.value.token opening.value.context text
 
 -- a quote comes first
 abbrev pub begins_quote : List ℕ → Bool

@@ -1,4 +1,5 @@
 pub mod Byte
+pub mod ByteTable
 pub mod Word
 pub mod WordTable
 pub mod Form

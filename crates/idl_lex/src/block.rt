@@ -5,7 +5,7 @@ ghost use Rattle.idl_lex.specs.Block.{IsBlock};
 ghost use Rattle.idl_lex.specs.Lexer.{coming};
 
 use crate::lexed::Lexed;
-use crate::lexer::{Before, push_line};
+use crate::lexer::{Before, Opening, push_line};
 use crate::logical::{Logical, joined_count};
 use crate::token::PlacedToken;
 use idl_source::Line;
@@ -104,8 +104,12 @@ fn finish(tokens: &mut Vec<PlacedToken>, before: Before) -> Result<(), AllocErro
 {
     match before {
         Before::Fresh => Ok(()),
-        Before::Comment(opening, _) => {
-            tokens.push(opening)?;
+        Before::Comment(opening) => {
+            let Opening {
+                token,
+                context: _context,
+            } = Box::into_inner(opening);
+            tokens.push(token)?;
             Ok(())
         }
     }

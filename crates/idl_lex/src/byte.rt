@@ -1,13 +1,49 @@
 //! Classes of bytes.
 
-ghost use Rattle.std.specs.Prelude.{◌≡◌, ◌≤◌};
+ghost use Rattle.std.specs.Prelude.{◌≡◌, ◌≤◌, get_or};
 ghost use Rattle.idl_lex.specs.Byte.{is_space, is_letter, is_digit, is_word_start, is_word_byte, is_quote, is_x, is_e, is_d, is_sign, digit_value, is_digit_of};
+ghost use Rattle.idl_lex.specs.ByteTable.{classes};
+
+// What each byte is: white space, a mark that stands alone, a digit, a letter or `_`, or another one.
+const CLASSES: [u8; 256] = [
+    0, 0, 0, 0, 0, 0, 0, 0, 0, 1, 1, 1, 1, 1, 0, 0, 0, 0, 0, 0, 0, 0, 0, 0, 0, 0, 0, 0, 0, 0, 0, 0,
+    1, 0, 0, 0, 0, 0, 0, 0, 2, 2, 0, 0, 2, 0, 0, 0, 3, 3, 3, 3, 3, 3, 3, 3, 3, 3, 0, 2, 0, 0, 0, 0,
+    0, 4, 4, 4, 4, 4, 4, 4, 4, 4, 4, 4, 4, 4, 4, 4, 4, 4, 4, 4, 4, 4, 4, 4, 4, 4, 4, 2, 0, 2, 0, 4,
+    0, 4, 4, 4, 4, 4, 4, 4, 4, 4, 4, 4, 4, 4, 4, 4, 4, 4, 4, 4, 4, 4, 4, 4, 4, 4, 4, 2, 0, 2, 0, 0,
+    0, 0, 0, 0, 0, 0, 0, 0, 0, 0, 0, 0, 0, 0, 0, 0, 0, 0, 0, 0, 0, 0, 0, 0, 0, 0, 0, 0, 0, 0, 0, 0,
+    0, 0, 0, 0, 0, 0, 0, 0, 0, 0, 0, 0, 0, 0, 0, 0, 0, 0, 0, 0, 0, 0, 0, 0, 0, 0, 0, 0, 0, 0, 0, 0,
+    0, 0, 0, 0, 0, 0, 0, 0, 0, 0, 0, 0, 0, 0, 0, 0, 0, 0, 0, 0, 0, 0, 0, 0, 0, 0, 0, 0, 0, 0, 0, 0,
+    0, 0, 0, 0, 0, 0, 0, 0, 0, 0, 0, 0, 0, 0, 0, 0, 0, 0, 0, 0, 0, 0, 0, 0, 0, 0, 0, 0, 0, 0, 0, 0,
+];
+
+const SPACE: u8 = 1;
+
+/// A mark that none other begins with, and neither a number nor a comment.
+pub const LONE_MARK: u8 = 2;
+
+const DIGIT: u8 = 3;
+
+const WORD_START: u8 = 4;
+
+/// What the byte is.
+pub fn class(b: u8) -> u8
+    ensures { result ≡ get_or classes b 0 }
+{
+    classes()[b as usize]
+}
+
+#[tactic(auto, unfolding(crate::specs::ByteTable::classes))]
+fn classes() -> &'static [u8]
+    ensures { result.now ≡ classes }
+{
+    &CLASSES
+}
 
 /// Whether the byte is a blank, a tab, a newline, a form feed or a carriage return.
 pub fn is_space(b: u8) -> bool
     ensures { result ≡ is_space b }
 {
-    b == b' ' || 9 <= b && b <= 13
+    class(b) == SPACE
 }
 
 /// Whether the byte is an ASCII letter.
@@ -28,14 +64,14 @@ pub fn is_digit(b: u8) -> bool
 pub fn is_word_start(b: u8) -> bool
     ensures { result ≡ is_word_start b }
 {
-    is_letter(b) || b == b'_'
+    class(b) == WORD_START
 }
 
 /// Whether the byte can stand in a word.
 pub fn is_word_byte(b: u8) -> bool
     ensures { result ≡ is_word_byte b }
 {
-    is_word_start(b) || is_digit(b)
+    DIGIT <= class(b)
 }
 
 /// Whether the byte is a quote of a character or of a string.

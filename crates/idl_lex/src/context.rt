@@ -31,8 +31,9 @@ pub struct Context {
 
 impl Beginning {
     ghost use Rattle.std.specs.Prelude.{◌≡◌, ◌∷◌, [], ℕ, true};
-    ghost use Rattle.idl_lex.specs.Context.{is_nothing, is_include, beginning_after};
+    ghost use Rattle.idl_lex.specs.Context.{is_hash, is_nothing, is_include, beginning_after};
     ghost use Rattle.idl_lex.specs.Marks.{is_lone_mark};
+    ghost use Rattle.idl_lex.specs.Word.{is_word};
 
     /// Whether there is no token.
     pub fn is_nothing(self) -> bool
@@ -54,6 +55,16 @@ impl Beginning {
         }
     }
 
+    // Whether `#` is the one token.
+    fn is_hash(self) -> bool
+        ensures { result ≡ is_hash self }
+    {
+        match self {
+            Beginning::Hash => true,
+            _ => false,
+        }
+    }
+
     // The beginning with one token more that is neither `#` nor `include`.
     fn with_other(self) -> Beginning
         ensures { (b : ℕ) → is_lone_mark b ≡ true → result ≡ beginning_after self (b ∷ []) }
@@ -61,6 +72,18 @@ impl Beginning {
         match self {
             Beginning::Include => Beginning::Include,
             _ => Beginning::Other,
+        }
+    }
+
+    // The beginning with one word more.
+    fn with_word(self, word: &[u8]) -> Beginning
+        requires { is_word word.now ≡ true }
+        ensures { result ≡ beginning_after self word.now }
+    {
+        if self.is_include() || self.is_hash() && word == b"include".as_slice() {
+            Beginning::Include
+        } else {
+            Beginning::Other
         }
     }
 
@@ -114,7 +137,7 @@ impl Context {
         ensures { result ≡ context_after self word.now }
     {
         Context {
-            beginning: self.beginning.with(word),
+            beginning: self.beginning.with_word(word),
             follows_word: true,
         }
     }

@@ -1,6 +1,6 @@
 //! The forms in which the bytes of a spelling are held: few in place, and more in shared bytes.
 
-ghost use Rattle.std.specs.Prelude.{◌≡◌, ◌≤◌, ◌<◌, ◌∷◌, ◌↔◌, [], IfNone, IfOk, IfSome, IsTrue, drop, length, slice_range, take};
+ghost use Rattle.std.specs.Prelude.{◌≡◌, ◌≤◌, ◌<◌, ◌∷◌, ◌↔◌, ◌*◌, [], IfNone, IfOk, IfSome, IsTrue, drop, length, slice_range, take};
 ghost use Rattle.std.specs.Int.{to_le_bytes, w64};
 ghost use Rattle.std.specs.Rc.{rc_slice_items};
 ghost use Rattle.idl_lex.specs.Form.{IsWithin, form_bytes};
@@ -143,10 +143,19 @@ impl Short {
         requires { length bytes.now ≤ 14 }
         ensures { result ≡ bytes.now }
     {
+        let len = bytes.len();
         let mut array = [0; MOST];
-        array[..bytes.len()].copy_from_slice(bytes);
+        if 8 <= len {
+            put_ends(&mut array, bytes, 8);
+        } else if 4 <= len {
+            put_ends(&mut array, bytes, 4);
+        } else if 2 <= len {
+            put_ends(&mut array, bytes, 2);
+        } else if len == 1 {
+            array[0] = bytes[0];
+        }
         Short {
-            count: bytes.len() as u8,
+            count: len as u8,
             bytes: array,
         }
     }
@@ -187,12 +196,25 @@ impl Short {
     }
 
     /// The bytes with each capital letter made small.
+    #[inline(never)]
     pub fn folded(mut self) -> Short
         ensures { result ≡ folded self }
     {
         self.bytes.make_ascii_lowercase();
         self
     }
+}
+
+// Puts in few bytes: so many of the first ones, and so many of the last ones, which are all of them.
+fn put_ends(array: &mut [u8; MOST], bytes: &[u8], count: usize)
+    requires few { length bytes.now ≤ 14 }
+    requires within { count ≤ length bytes.now }
+    requires all { length bytes.now ≤ 2 * count }
+    ensures { take (length bytes.now) array.new ≡ bytes.now }
+{
+    let len = bytes.len();
+    array[..count].copy_from_slice(&bytes[..count]);
+    array[len - count..len].copy_from_slice(&bytes[len - count..]);
 }
 
 // Whether these are the same bytes: the first eight are, and the last eight.

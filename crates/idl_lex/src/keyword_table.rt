@@ -1,10 +1,9 @@
 //! The table of keywords, and the look-up of a word in it.
 
-ghost use Rattle.std.specs.Prelude.{◌≡◌, ◌<◌, ◌↔◌, IsTrue, length, map};
-ghost use Rattle.std.specs.Char.{to_ascii_lowercase};
+ghost use Rattle.std.specs.Prelude.{◌≡◌, ◌%◌, ◌↔◌, IsTrue, length, map};
 ghost use Rattle.std.specs.Option.{option_map};
 ghost use Rattle.idl_lex.specs.Keywords.{folded, keywords, like_keyword};
-ghost use Rattle.idl_lex.specs.KeywordTable.{place, places};
+ghost use Rattle.idl_lex.specs.KeywordTable.{if_alike, place, places};
 ghost use Rattle.idl_lex.specs.WordTable.{entry_of};
 
 use crate::keyword::Keyword;
@@ -81,17 +80,17 @@ const KEYWORDS: [Entry<Kind>; 64] = [
 
 // Where each keyword stands in the table, by what three of its letters and its length make together; 64 for what none makes.
 const PLACES: [u8; 256] = [
-    64, 64, 23, 64, 64, 64, 46, 64, 64, 64, 64, 64, 64, 6, 64, 64, 64, 29, 64, 53, 64, 64, 40, 64,
-    64, 64, 64, 64, 0, 56, 64, 64, 64, 64, 62, 64, 64, 52, 64, 64, 33, 64, 24, 64, 64, 64, 64, 64,
-    64, 64, 64, 64, 64, 64, 31, 64, 42, 64, 5, 13, 64, 64, 54, 64, 7, 64, 55, 63, 64, 64, 34, 47,
-    64, 44, 64, 10, 64, 64, 14, 64, 64, 64, 64, 26, 22, 64, 64, 64, 64, 64, 64, 64, 64, 64, 64, 64,
-    45, 64, 21, 64, 15, 64, 64, 64, 64, 64, 64, 16, 64, 64, 64, 64, 64, 64, 64, 20, 19, 38, 64, 64,
-    64, 9, 2, 3, 64, 64, 35, 64, 64, 51, 64, 28, 64, 64, 64, 64, 64, 64, 64, 64, 64, 64, 64, 64,
-    64, 27, 64, 64, 49, 64, 36, 64, 64, 64, 64, 64, 11, 64, 64, 64, 64, 64, 64, 64, 64, 64, 64, 64,
-    64, 8, 64, 43, 64, 64, 64, 64, 64, 64, 57, 64, 64, 64, 64, 64, 60, 64, 64, 64, 17, 64, 64, 64,
-    64, 4, 64, 64, 64, 18, 64, 64, 64, 64, 64, 64, 25, 64, 48, 64, 64, 39, 64, 37, 64, 64, 64, 64,
-    64, 59, 64, 58, 64, 64, 64, 64, 64, 64, 64, 64, 61, 64, 64, 64, 64, 50, 64, 64, 64, 41, 64, 32,
-    64, 64, 64, 64, 64, 12, 64, 64, 64, 64, 64, 64, 1, 64, 30, 64,
+    64, 64, 64, 64, 61, 64, 64, 64, 64, 50, 64, 64, 64, 41, 64, 32, 64, 64, 64, 64, 64, 12, 64, 64,
+    64, 64, 64, 64, 1, 64, 30, 64, 64, 64, 23, 64, 64, 64, 46, 64, 64, 64, 64, 64, 64, 6, 64, 64,
+    64, 29, 64, 53, 64, 64, 40, 64, 64, 64, 64, 64, 0, 56, 64, 64, 64, 64, 62, 64, 64, 52, 64, 64,
+    33, 64, 24, 64, 64, 64, 64, 64, 64, 64, 64, 64, 64, 64, 31, 64, 42, 64, 5, 13, 64, 64, 54, 64,
+    7, 64, 55, 63, 64, 64, 34, 47, 64, 44, 64, 10, 64, 64, 14, 64, 64, 64, 64, 26, 22, 64, 64, 64,
+    64, 64, 64, 64, 64, 64, 64, 64, 45, 64, 21, 64, 15, 64, 64, 64, 64, 64, 64, 16, 64, 64, 64, 64,
+    64, 64, 64, 20, 19, 38, 64, 64, 64, 9, 2, 3, 64, 64, 35, 64, 64, 51, 64, 28, 64, 64, 64, 64,
+    64, 64, 64, 64, 64, 64, 64, 64, 64, 27, 64, 64, 49, 64, 36, 64, 64, 64, 64, 64, 11, 64, 64, 64,
+    64, 64, 64, 64, 64, 64, 64, 64, 64, 8, 64, 43, 64, 64, 64, 64, 64, 64, 57, 64, 64, 64, 64, 64,
+    60, 64, 64, 64, 17, 64, 64, 64, 64, 4, 64, 64, 64, 18, 64, 64, 64, 64, 64, 64, 25, 64, 48, 64,
+    64, 39, 64, 37, 64, 64, 64, 64, 64, 59, 64, 58, 64, 64, 64, 64,
 ];
 
 // A place past the table.
@@ -104,16 +103,22 @@ const LONGEST: usize = 11;
 pub fn like_keyword(word: &[u8]) -> Option<Entry<Kind>>
     ensures { option_map entry_of result ≡ like_keyword word.now }
 {
+    match keyword_at(word) {
+        Some(entry) if are_alike(entry.0, word) => Some(entry),
+        _ => None,
+    }
+}
+
+/// The one keyword that the word can be but for the case of letters, if it can be one.
+pub fn keyword_at(word: &[u8]) -> Option<Entry<Kind>>
+    ensures { like_keyword word.now ≡ if_alike word.now (option_map entry_of result) }
+{
     let keywords = table();
     let place = place_of(word);
     if keywords.len() <= place {
         return None;
     }
-    let entry = keywords[place];
-    if !are_alike(entry.0, word) {
-        return None;
-    }
-    Some(entry)
+    Some(keywords[place])
 }
 
 #[tactic(auto, unfolding(crate::specs::Keywords::keywords))]
@@ -132,16 +137,15 @@ fn place_of(word: &[u8]) -> usize
     if len < 2 || LONGEST < len {
         return NOWHERE;
     }
-    let mixed = folded(word[0]) + 9 * folded(word[1]) + 11 * folded(word[len - 2]) + len;
+    let mixed = letter(word[0]) + 9 * letter(word[1]) + 11 * letter(word[len - 2]) + len;
     places()[mixed % 256] as usize
 }
 
-// The byte, in lower case if it is a letter.
-fn folded(b: u8) -> usize
-    ensures value { result ≡ to_ascii_lowercase b }
-    ensures small { result < 256 }
+// Which letter the byte is, if it is one: a capital one and a small one are the same.
+fn letter(b: u8) -> usize
+    ensures { result ≡ b % 32 }
 {
-    b.to_ascii_lowercase() as usize
+    (b % 32) as usize
 }
 
 #[tactic(auto, unfolding(crate::specs::KeywordTable::places))]
@@ -151,8 +155,8 @@ fn places() -> &'static [u8]
     &PLACES
 }
 
-// Whether two words are the same but for the case of letters.
-fn are_alike(a: &[u8], b: &[u8]) -> bool
+/// Whether two words are the same but for the case of letters.
+pub fn are_alike(a: &[u8], b: &[u8]) -> bool
     ensures { IsTrue result ↔ (folded a.now ≡ folded b.now) }
 {
     if a.len() != b.len() {

@@ -7,7 +7,7 @@ ghost use Rattle.idl_lex.specs.Word.{is_word};
 
 use crate::byte::{is_digit, is_letter, is_quote};
 use crate::keyword::Keyword;
-use crate::keyword_table::like_keyword;
+use crate::keyword_table::{are_alike, keyword_at, like_keyword};
 use crate::literal::literal_kind;
 use crate::mark::{Mark, PreprocessorMark};
 use crate::mark_table::mark_kind;
@@ -118,10 +118,10 @@ fn letter_kind(b: u8, rest: &[u8], spelling: &[u8]) -> Kind
 fn word_kind(word: &[u8]) -> Kind
     ensures { result ≡ word_kind word.now }
 {
-    match like_keyword(word) {
+    match keyword_at(word) {
         Some((spelling, kind)) if are_same(spelling, word) => kind,
-        Some(_) => Kind::Miscased,
-        None => Kind::Identifier,
+        Some((spelling, _)) if are_alike(spelling, word) => Kind::Miscased,
+        _ => Kind::Identifier,
     }
 }
 

@@ -2,7 +2,7 @@
 
 ghost use Rattle.std.specs.Prelude.{◌≡◌, ◌≤◌, ◌<◌, ◌+◌, ◌++◌, ◌-◌, false, ℕ, List, drop, length, slice_index, take, true, IfOk, IfSome, IsTrue, OnOk, ◌∷◌, []};
 ghost use Rattle.idl_lex.specs.Context.{is_include};
-ghost use Rattle.idl_lex.specs.Lexer.{begins_word, coming, ended, is_open};
+ghost use Rattle.idl_lex.specs.Lexer.{begins_quote, begins_word, coming, ended, is_open};
 ghost use Rattle.idl_lex.specs.Logical.{line_at};
 ghost use Rattle.idl_lex.specs.Scan.{closing_end, further};
 ghost use Rattle.idl_lex.specs.Text.{Placed, bytes_of};
@@ -12,6 +12,7 @@ ghost use Rattle.idl_lex.specs.declared.lexer.Before.TheVariants.{Fresh};
 
 use crate::byte::{is_quote, is_space, is_word_start};
 use crate::context::{Context, ends_block, is_gap};
+use crate::kind::kind_of_word;
 use crate::logical::Logical;
 use crate::mark_table::is_lone_mark;
 use crate::state::{State, closing_end, further, taken, word_len};
@@ -24,8 +25,15 @@ use std::ops::Range;
 pub enum Before {
     /// In nothing: the line before it has ended.
     Fresh,
-    /// In a comment, which is this token if it isn't closed. Where it is closed this stands before what comes after it.
-    Comment(PlacedToken, Context),
+    /// In a comment.
+    Comment(Box<Opening>),
+}
+
+/// A comment that is open: the token that it is if it isn't closed, and what stands before what comes after it where it is.
+#[derive(Drop)]
+pub struct Opening {
+    pub token: PlacedToken,
+    pub context: Context,
 }
 
 impl Before {
@@ -35,7 +43,7 @@ impl Before {
     {
         match self {
             Before::Fresh => true,
-            Before::Comment(_, _) => false,
+            Before::Comment(_) => false,
         }
     }
 }
@@ -51,13 +59,13 @@ pub fn push_line(
 {
     match before {
         Before::Fresh => push_pieces(tokens, line, 0, Context::line_start()),
-        Before::Comment(opening, context) => {
+        Before::Comment(opening) => {
             let bytes = line.as_bytes();
             if !ends_block(bytes) {
-                return Ok(Before::Comment(opening, context));
+                return Ok(Before::Comment(opening));
             }
             let from = taken(State::Block(false), bytes);
-            let after = push_pieces(tokens, line, from, context)?;
+            let after = push_pieces(tokens, line, from, opening.context)?;
             Ok(after)
         }
     }
@@ -99,13 +107,16 @@ fn push_pieces(
             i += 1;
             continue;
         }
-        closing = closing_for(first, bytes, closing);
+        let includes = now.beginning.is_include();
+        closing = closing_for(includes && first == b'<', bytes, closing);
         let end = piece_end(now, bytes, i, closing);
         let piece = &bytes[i..end];
         if is_open(piece) {
             let spelling = line.spelling(i, i + 2)?;
-            let opening = PlacedToken::new(now, spelling, line.line_at(i));
-            return Ok(Before::Comment(opening, now.after(b" ")));
+            let token = PlacedToken::new(now, spelling, line.line_at(i));
+            let context = now.after(b" ");
+            let opening = Box::new(*tokens.allocator(), Opening { token, context })?;
+            return Ok(Before::Comment(opening));
         }
         push_piece(tokens, now, line, i..end)?;
         now = now.after(piece);
@@ -129,8 +140,9 @@ fn push_word(
         ≡ tokens.old.items ++ token_of context bytes (line_at line.now word.start) ∷ []) }
 {
     let Range { start, end } = word;
+    let kind = kind_of_word(&line.as_bytes()[start..end]);
     let spelling = line.spelling(start, end)?;
-    tokens.push(PlacedToken::word(context, spelling, line.line_at(start)))?;
+    tokens.push(PlacedToken::word(context, spelling, kind, line.line_at(start)))?;
     Ok(())
 }
 
@@ -139,8 +151,17 @@ fn begins_word(bytes: &[u8]) -> bool
     ensures { result ≡ begins_word bytes.now }
 {
     match bytes {
-        [b'L', quote, ..] if is_quote(*quote) => false,
-        [first, ..] => is_word_start(*first),
+        [first, rest @ ..] if is_word_start(*first) => *first != b'L' || !begins_quote(rest),
+        _ => false,
+    }
+}
+
+// Whether a quote comes first.
+fn begins_quote(bytes: &[u8]) -> bool
+    ensures { result ≡ begins_quote bytes.now }
+{
+    match bytes {
+        [first, ..] => is_quote(*first),
         [] => false,
     }
 }
@@ -183,13 +204,13 @@ fn piece_end(context: Context, bytes: &[u8], i: usize, closing: Option<usize>) -
     i + 1 + further(includes, bytes[i], &bytes[i + 1..])
 }
 
-// Where the last `>` ends, as far as it is known: it is looked up before the first `<`, which alone asks for it.
-fn closing_for(first: u8, bytes: &[u8], known: Option<usize>) -> Option<usize>
+// Where the last `>` ends, as far as it is known: it is looked up as soon as it is asked for.
+fn closing_for(asked: bool, bytes: &[u8], known: Option<usize>) -> Option<usize>
     requires { IfSome known (λ end. end ≡ closing_end bytes.now) }
     ensures { IfSome result (λ end. end ≡ closing_end bytes.now) }
 {
     match known {
-        None if first == b'<' => Some(closing_end(bytes)),
+        None if asked => Some(closing_end(bytes)),
         _ => known,
     }
 }

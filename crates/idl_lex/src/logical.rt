@@ -69,6 +69,7 @@ impl Logical {
     }
 
     /// The bytes from one place up to another, shared.
+    #[inline]
     pub fn spelling(&self, from: usize, to: usize) -> Result<Spelling, AllocError>
         requires order { from ≤ to }
         requires within { to ≤ length self.now }

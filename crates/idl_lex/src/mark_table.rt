@@ -4,6 +4,7 @@ ghost use Rattle.std.specs.Prelude.{◌≡◌, ◌∷◌, [], true};
 ghost use Rattle.idl_lex.specs.Kind.{kind_of};
 ghost use Rattle.idl_lex.specs.Marks.{is_lone_mark, mark_kind};
 
+use crate::byte::{LONE_MARK, class};
 use crate::kind::{Defect, Kind};
 use crate::mark::{Mark, PreprocessorMark};
 
@@ -22,10 +23,7 @@ pub fn mark_kind(spelling: &[u8]) -> Option<Kind>
 pub fn is_lone_mark(b: u8) -> bool
     ensures { result ≡ is_lone_mark b }
 {
-    match b {
-        b';' | b',' | b'{' | b'}' | b'(' | b')' | b'[' | b']' => true,
-        _ => false,
-    }
+    class(b) == LONE_MARK
 }
 
 /// The kind of a mark that none other begins with.
@@ -33,9 +31,16 @@ pub fn lone_kind(b: u8) -> Kind
     requires { is_lone_mark b ≡ true }
     ensures { result ≡ kind_of (b ∷ []) }
 {
-    match single(b) {
-        Some(kind) => kind,
-        None => Kind::Bad(Defect::UnknownByte),
+    match b {
+        b';' => Kind::Punctuation(Mark::Semicolon),
+        b',' => Kind::Punctuation(Mark::Comma),
+        b'{' => Kind::Punctuation(Mark::OpenBrace),
+        b'}' => Kind::Punctuation(Mark::CloseBrace),
+        b'(' => Kind::Punctuation(Mark::OpenParenthesis),
+        b')' => Kind::Punctuation(Mark::CloseParenthesis),
+        b'[' => Kind::Punctuation(Mark::OpenBracket),
+        b']' => Kind::Punctuation(Mark::CloseBracket),
+        _ => Kind::Bad(Defect::UnknownByte),
     }
 }
 

@@ -139,6 +139,7 @@ impl Spelling {
     }
 
     // Shared bytes of an excerpt, from one place up to another.
+    #[inline(never)]
     fn part(alloc: Global, bytes: &Excerpt, from: usize, to: usize) -> Result<Spelling, AllocError>
         requires order { from ≤ to }
         requires within { to ≤ length bytes.now }
@@ -198,9 +199,17 @@ impl PartialEq for Spelling {
     {
         match (&self.form, &other.form) {
             (Form::Short(own), Form::Short(theirs)) if own.is_copy_of(theirs) => true,
-            _ => self.as_bytes() == other.as_bytes(),
+            _ => are_equal(self.as_bytes(), other.as_bytes()),
         }
     }
+}
+
+// Whether these are the same bytes, one by one.
+#[inline(never)]
+fn are_equal(bytes: &[u8], others: &[u8]) -> bool
+    ensures { result ≡ bytes_eq bytes.now others.now }
+{
+    bytes == others
 }
 
 impl Eq for Spelling {

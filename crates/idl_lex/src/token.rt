@@ -13,7 +13,7 @@ ghost use Rattle.idl_lex.specs.Tokens.{token_of};
 ghost use Rattle.idl_lex.specs.Word.{is_word};
 
 use crate::context::Context;
-use crate::kind::{Kind, kind_of, kind_of_word};
+use crate::kind::{Kind, kind_of};
 use crate::mark_table::lone_kind;
 use crate::spelling::Spelling;
 use crate::word::is_word;
@@ -56,13 +56,14 @@ impl Token {
         }
     }
 
-    /// The token that a word is.
-    pub(crate) fn word(spelling: Spelling) -> Token
-        requires { is_word spelling ≡ true }
+    /// The token that a word is, which is of this kind.
+    pub(crate) fn word(spelling: Spelling, kind: Kind) -> Token
+        requires word { is_word spelling ≡ true }
+        requires kind { kind ≡ kind_of spelling }
         ensures { result ≡ spelling }
     {
         Token {
-            kind: kind_of_word(spelling.as_bytes()),
+            kind,
             word: true,
             spelling,
         }
@@ -205,12 +206,13 @@ impl PlacedToken {
         PlacedToken::placed(context, Token::new(spelling), line)
     }
 
-    /// The token that a word is, on this line.
-    pub(crate) fn word(context: Context, spelling: Spelling, line: u32) -> PlacedToken
-        requires { is_word spelling ≡ true }
+    /// The token that a word is, which is of this kind, on this line.
+    pub(crate) fn word(context: Context, spelling: Spelling, kind: Kind, line: u32) -> PlacedToken
+        requires word { is_word spelling ≡ true }
+        requires kind { kind ≡ kind_of spelling }
         ensures { result ≡ token_of context spelling line }
     {
-        PlacedToken::placed(context, Token::word(spelling), line)
+        PlacedToken::placed(context, Token::word(spelling, kind), line)
     }
 
     /// The token that a mark is which none other begins with, on this line.

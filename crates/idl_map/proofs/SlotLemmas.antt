@@ -163,15 +163,15 @@ unfolding choice
 choice_below shift d = omega arith
 
 -- digests begin within the first slots, so that each is led to nothing where these are empty
-pub led_to_nothing : (count d n : ℕ) (slots : List Slot) → 512 ≤ n → slots ≡ replicate n Empty → IsEnd count (led slots d)
+pub led_to_nothing : (count d n : ℕ) (slots : List Slot) → 4096 ≤ n → slots ≡ replicate n Empty → IsEnd count (led slots d)
 led_to_nothing count d n slots long is =
-    let at = 8 * (d % 64) + choice 6 d in
-    let low : at < n = omega (arith, choice_below 6 d, long) in
+    let at = 8 * (d % 512) + choice 9 d in
+    let low : at < n = omega (arith, choice_below 9 d, long) in
     let within : at < length (replicate n Empty) = omega (arith, low, length-replicate n Empty) in
     let nothing : get_or (replicate n Empty) at Empty ≡ Empty = get_or-replicate n at Empty Empty low in
     let end : IsEnd count (get_or (replicate n Empty) at Empty) = subst (IsEnd count) (sym nothing) tt in
     let there : led slots d ≡ Empty =
-    ap (λ xs. led xs d) is ∙ in_branch d 6 (8 * (d % 64)) count 0 (replicate n Empty) at (omega arith) within end ∙ nothing in
+    ap (λ xs. led xs d) is ∙ in_branch d 9 (8 * (d % 512)) count 0 (replicate n Empty) at (omega arith) within end ∙ nothing in
     subst (IsEnd count) (sym there) tt
 
 -- a slot by which a digest comes, and that is no branch, is the one to which it is led

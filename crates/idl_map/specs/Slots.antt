@@ -27,9 +27,9 @@ comes_from digest place slot (next ∷ slots) zero = goes_to digest place slot
 comes_from digest place slot (next ∷ slots) (suc ahead) =
     comes_from digest (place + 1) (if goes_to digest place slot then next else slot) slots ahead
 
--- where a digest begins: at that of the first 64 branches that its last six bits choose
+-- where a digest begins: at that of the first 512 branches that its last nine bits choose
 abbrev pub beginning : ℕ → Slot
-beginning digest = Many 6 (8 * (digest % 64))
+beginning digest = Many 9 (8 * (digest % 512))
 
 -- where slots lead a digest, and whether it comes by the slot at a place on its way
 abbrev pub led : List Slot → ℕ → Slot

@@ -18,7 +18,7 @@ const BITS: u8 = 30;
 /// Entries, the slots in which the digests of their keys find their places, and the rest, which has the entries for which
 /// there was no place.
 ///
-/// The slots are branches of eight, one after another. Digests begin in the first 64 of them, by their last six bits, and each
+/// The slots are branches of eight, one after another. Digests begin in the first 512 of them, by their last nine bits, and each
 /// other stands behind the slot that leads to it. Where a slot leads a digest follows from the digest alone: an entry counts if
 /// its own key is led to it. No entry is ever taken out.
 pub struct Arena<K: Digest + Ord, V: Datum> {
@@ -142,7 +142,7 @@ impl<K: Digest + Ord, V: Datum> Arena<K, V> {
     {
         let mut way = Way {
             place: beginning(digest),
-            shift: 9,
+            shift: 12,
         };
         while let Slot::Many(shift, first) = self.slots[way.place] {
             way = Way {

@@ -55,8 +55,8 @@ pub fn branch_of(shift: u8, digest: u64, entry: u32) -> [Slot; 8]
     slots
 }
 
-/// So many slots stand first, where digests begin: 64 branches.
-pub const FIRST: usize = 512;
+/// So many slots stand first, where digests begin: 512 branches.
+pub const FIRST: usize = 4096;
 
 /// The first slots, which are empty.
 pub fn first_slots(alloc: Global) -> Result<Vec<Slot>, AllocError>
@@ -69,11 +69,11 @@ pub fn first_slots(alloc: Global) -> Result<Vec<Slot>, AllocError>
     Ok(slots)
 }
 
-/// The place at which a digest begins: its last six bits choose the branch.
+/// The place at which a digest begins: its last nine bits choose the branch.
 pub fn beginning(digest: u64) -> usize
-    ensures { result ≡ 8 * (digest % 64) + choice 6 digest }
+    ensures { result ≡ 8 * (digest % 512) + choice 9 digest }
 {
-    8 * (digest % 64) as usize + choice(6, digest)
+    8 * (digest % 512) as usize + choice(9, digest)
 }
 
 /// Which slot of a branch the bits of a digest choose, from a bit on.

@@ -120,13 +120,14 @@ returns-then-is_open c = λ newline rest.
     let within : i < length line = omega (arith, c.pieces-test.true, ap length same, length-bytes_of line) in
     let is : EndsAt now line i end = subst (λ bs. end ≡ i + 1 + further (is_include now.beginning) (get_or bs i 0) (drop (i + 1) bs)) same c.piece_end-end.ensures.end in
     let opened : is_open (piece_of line i end) ≡ true = sym (c.is_open.ensures ∙ ap (λ bs. is_open (take (end - i) (drop i bs))) same) ∙ c.if-is_open.true in
-    let opening : c.new-opening.result ≡ token_of now (codes "/*") (line_at line i) =
-    c.new-opening.ensures
+    let token : c.new-token.result ≡ token_of now (codes "/*") (line_at line i) =
+    c.new-token.ensures
     ∙ ap (λ bs. token_of now bs c.line_at-then-is_open.result) (c.in_ok-spelling.ensures ∙ opening-spelled now line i end within is opened)
     ∙ ap (λ n. token_of now (codes "/*") n) c.line_at-then-is_open.ensures in
     ap (λ ts. c.pieces.tokens.items ++ ts)
-    (ap (λ t. after_comment t c.after.result rest) opening
-    ∙ ap (λ x. after_comment (token_of now (codes "/*") (line_at line i)) x rest) c.after.ensures
+    (ap (λ o. after_comment o.token o.context rest) c.in_ok-opening.ensures.ok
+    ∙ ap (λ t. after_comment t c.after-context.result rest) token
+    ∙ ap (λ x. after_comment (token_of now (codes "/*") (line_at line i)) x rest) c.after-context.ensures
     ∙ sym (tokens_after-comment now line i end newline rest within is opened))
     ∙ c.pieces.invariant.tokens newline rest
 

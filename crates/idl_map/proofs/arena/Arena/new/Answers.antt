@@ -4,4 +4,4 @@ use Rattle.idl_map.proofs.arena.Arena.new.Goals as goal
 
 pub returns-clause-sound : goal.returns-clause-sound
 returns-clause-sound g c =
-    λ d. led_to_nothing (length c.new.result.items) d 512 c.in_ok-first_slots.field-0.items (omega arith) c.in_ok-first_slots.ensures
+    λ d. led_to_nothing (length c.new.result.items) d 4096 c.in_ok-first_slots.field-0.items (omega arith) c.in_ok-first_slots.ensures

@@ -10,7 +10,7 @@ pub loop-shift-init : goal.loop-shift-init
 loop-shift-init g c =
     let arena = c.args.self.now in
     let d = c.args.digest in
-    let into = goes_in d 6 (8 * (d % 64)) (length arena.entries.items) 0 arena.slots.items (c.requires d) in
+    let into = goes_in d 9 (8 * (d % 512)) (length arena.entries.items) 0 arena.slots.items (c.requires d) in
     record {
       within = omega (arith, into.high, c.beginning.ensures, arena.slots.ok.0);
       comes = into.comes c.beginning.result (omega (arith, c.beginning.ensures));
