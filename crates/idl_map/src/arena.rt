@@ -13,7 +13,7 @@ use idl_base::{Datum, Table};
 use std::alloc::{AllocError, Global};
 
 // How many bits of a digest choose among slots. Keys that are alike in all of them come into one table.
-const BITS: u8 = 30;
+const BITS: u8 = 48;
 
 /// Entries, the slots in which the digests of their keys find their places, and the rest, which has the entries for which
 /// there was no place.

@@ -19,4 +19,4 @@ invariant-loop-place g l =
 
 -- fewer bits are left
 abbrev pub decreases-loop-place : goal.decreases-loop-place
-decreases-loop-place g l = 30 - l.way.shift
+decreases-loop-place g l = 48 - l.way.shift
