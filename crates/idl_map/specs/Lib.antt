@@ -1,3 +1,3 @@
+pub mod Buckets
 pub mod DigestTable
 pub mod Items
-pub mod Slots

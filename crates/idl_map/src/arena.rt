@@ -6,7 +6,7 @@ ghost use Rattle.std.specs.Map.{lookup};
 ghost use Rattle.std.specs.Option.{option_copied};
 
 use crate::bits::{lowest, without};
-use crate::bucket::{Bucket, tag_of};
+use crate::buckets::tag_of;
 use crate::index::Index;
 use crate::{Digest, Lent};
 use idl_base::{Datum, Table};
@@ -104,11 +104,11 @@ impl<K: Digest + Ord, V: Datum> Arena<K, V> {
     #[inline]
     fn place_of<L: Lent<K>>(&self, key: &L) -> Option<usize> {
         let digest = key.key_digest();
-        let bucket = self.index.bucket(digest)?;
-        let mut marks = bucket.marked(tag_of(digest));
+        let number = self.index.bucket_of(digest);
+        let mut marks = self.index.marked(number, tag_of(digest));
         while marks != 0 {
             let slot = lowest(marks);
-            let place = bucket.place(slot);
+            let place = self.index.place(number, slot);
             if let Some(entry) = self.entries.get(place)
                 && key.is(&entry.0)
             {

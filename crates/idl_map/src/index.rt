@@ -1,9 +1,10 @@
 //! Digests, and the buckets in which they find their places.
 
-ghost use Rattle.std.specs.Prelude.{◌≡◌, ◌++◌, ◌∷◌, ◌%◌, [], ℕ, Some, IfOk, IsTrue, IsFalse, OnOk, OnErr, option_copied, slice_get};
-ghost use Rattle.idl_map.specs.Buckets.{Finds, HasIn, IsIndexed, number_in, tag_of};
+ghost use Rattle.std.specs.Prelude.{◌≡◌, ◌++◌, ◌∷◌, [], ℕ, ◌%◌, ◌<◌, ◌^◌, Some, IfOk, IsTrue, IsFalse, OnErr, length, slice_get, vec_len};
+ghost use Rattle.std.specs.Int.{bit_at};
+ghost use Rattle.idl_map.specs.Buckets.{AreKept, FindsIn, HasAt, IsIndexed, IsOf, StandsAt, number_in, tag_of};
 
-use crate::bucket::{Bucket, tag_of};
+use crate::buckets::{Buckets, tag_of};
 use std::alloc::{AllocError, Global};
 
 /// The buckets among which digests with one last six bits choose: the first of them, and how many there are, less one.
@@ -16,15 +17,19 @@ pub struct Part {
 // How many parts there are.
 const PARTS: usize = 64;
 
+// A part doesn't grow where there are more buckets than so many.
+const MANY: usize = 1 << 30;
+
 /// Digests in order, and the places of each in the buckets of 64 parts. The last six bits of a digest choose the part, others the
 /// bucket in it, and its first eight are its tag there.
 ///
-/// A part has more buckets behind all others when a bucket of it is full. Those that it had stay unused.
+/// At first all parts have one bucket. A part whose bucket is full has others behind all that there are, twice as many as before;
+/// those that it had stay unused.
 #[derive(Drop)]
 pub struct Index {
     digests: Vec<u64>,
     parts: Vec<Part>,
-    buckets: Vec<Bucket>,
+    buckets: Buckets,
 }
 
 impl Index {
@@ -35,8 +40,8 @@ impl Index {
     {
         let mut parts = Vec::new(alloc);
         parts.resize(PARTS, Part { first: 0, mask: 0 })?;
-        let mut buckets = Vec::new(alloc);
-        buckets.push(Bucket::empty())?;
+        let mut buckets = Buckets::new(alloc);
+        buckets.extend(1)?;
         Ok(Index {
             digests: Vec::new(alloc),
             parts,
@@ -44,85 +49,122 @@ impl Index {
         })
     }
 
-    /// The bucket in which a digest has its places.
+    /// The number of the bucket in which a digest has its places.
     #[inline]
-    pub fn bucket(&self, digest: u64) -> Option<&Bucket>
+    pub fn bucket_of(&self, digest: u64) -> usize
         requires { IsIndexed self.now }
         ensures { (i : ℕ) → slice_get self.now.digests.items i ≡ Some digest
-            → HasIn (option_copied result) (tag_of digest) i }
+            → HasAt self.now.buckets result (tag_of digest) i }
     {
-        let part = self.parts[(digest % 64) as usize];
-        self.buckets.get(number_in(part, digest))
+        number_in(self.parts[(digest % 64) as usize], digest)
+    }
+
+    /// The slots of a bucket that have a tag.
+    #[inline]
+    pub fn marked(&self, number: usize, tag: u8) -> u64
+        requires { 0 < tag }
+        ensures { (slot i : ℕ) → StandsAt self.now.buckets number slot tag i → bit_at result slot ≡ 1 }
+    {
+        self.buckets.marked(number, tag)
+    }
+
+    /// The place in a slot of a bucket.
+    #[inline]
+    pub fn place(&self, number: usize, slot: usize) -> usize
+        ensures { (t i : ℕ) → StandsAt self.now.buckets number slot t i → result ≡ i }
+    {
+        self.buckets.place(number, slot) as usize
     }
 
     /// Puts a digest last, unless there is no room for its place.
     pub fn push(&mut self, digest: u64) -> Result<bool, AllocError>
         requires { IsIndexed self.old }
         ensures sound { IsIndexed self.new }
-        ensures pushed { OnOk result
-            (IsTrue result → self.new.digests.items ≡ self.old.digests.items ++ digest ∷ []) }
-        ensures full { OnOk result
-            (IsFalse result → self.new.digests.items ≡ self.old.digests.items) }
+        ensures pushed { IfOk result (λ there. IsTrue there
+            → self.new.digests.items ≡ self.old.digests.items ++ digest ∷ []) }
+        ensures full { IfOk result (λ there. IsFalse there
+            → self.new.digests.items ≡ self.old.digests.items) }
         ensures err { OnErr result (self.new.digests.items ≡ self.old.digests.items) }
     {
-        let place = self.digests.len();
-        if place > u32::MAX as usize {
-            return Ok(false);
-        }
         self.digests.reserve(1)?;
-        let part = self.parts[(digest % 64) as usize];
-        if !put(&mut self.buckets, part, digest, place as u32) {
-            if !self.grow(digest)? {
-                return Ok(false);
-            }
-            let part = self.parts[(digest % 64) as usize];
-            if !put(&mut self.buckets, part, digest, place as u32) {
-                return Ok(false);
-            }
+        let place = self.digests.len();
+        if place > u32::MAX as usize || !self.find_room(digest, place as u32)? {
+            return Ok(false);
         }
         self.digests.push(digest)?;
         Ok(true)
     }
 
+    // Puts a place in at a digest, and gives its part more buckets where it needs them.
+    fn find_room(&mut self, digest: u64, place: u32) -> Result<bool, AllocError>
+        requires { IsIndexed self.old }
+        ensures sound { IsIndexed self.new }
+        ensures digests { self.new.digests.items ≡ self.old.digests.items }
+        ensures found { IfOk result (λ there. IsTrue there
+            → (part : Part) → slice_get self.new.parts.items (digest % 64) ≡ Some part
+            → FindsIn part self.new.buckets digest place) }
+    {
+        if self.put(digest, place) {
+            return Ok(true);
+        }
+        self.grow(digest)?;
+        Ok(self.put(digest, place))
+    }
+
+    // Puts a place in at a digest, unless its bucket is full.
+    fn put(&mut self, digest: u64, place: u32) -> bool
+        requires { IsIndexed self.old }
+        ensures sound { IsIndexed self.new }
+        ensures digests { self.new.digests.items ≡ self.old.digests.items }
+        ensures found { IsTrue result
+            → (part : Part) → slice_get self.new.parts.items (digest % 64) ≡ Some part
+            → FindsIn part self.new.buckets digest place }
+    {
+        let part = self.parts[(digest % 64) as usize];
+        put_in(&mut self.buckets, part, digest, place)
+    }
+
     // Gives the part of a digest twice as many buckets, unless there are many for so few digests.
-    fn grow(&mut self, digest: u64) -> Result<bool, AllocError>
+    fn grow(&mut self, digest: u64) -> Result<(), AllocError>
         requires { IsIndexed self.old }
         ensures sound { IsIndexed self.new }
         ensures digests { self.new.digests.items ≡ self.old.digests.items }
     {
         let first = self.buckets.len();
-        if first > self.digests.len().saturating_add(64) || first > 1 << 30 {
-            return Ok(false);
+        if first > self.digests.len().saturating_add(64) || first > MANY {
+            return Ok(());
         }
         let number = (digest % 64) as usize;
         let old = self.parts[number];
-        let wide = if old.first == 0 {
-            0
-        } else {
-            old.mask.saturating_mul(2) | 1
+        let part = wider(old, first as u32);
+        self.buckets.extend(part.mask as usize + 1)?;
+        let target = Target {
+            part,
+            number: digest % 64,
+            digests: &self.digests,
         };
-        let part = Part {
-            first: first as u32,
-            mask: wide,
-        };
-        self.buckets
-            .resize(first + wide as usize + 1, Bucket::empty())?;
-        for ahead in 0..=old.mask {
-            let Some(bucket) = self.buckets.get(old.first as usize + ahead as usize) else {
-                return Ok(false);
-            };
-            let bucket = *bucket;
-            if !take_over(&mut self.buckets, part, &self.digests, &bucket, digest) {
-                return Ok(false);
-            }
+        if target.take_all(&mut self.buckets, old) {
+            self.parts[number] = part;
         }
-        self.parts[number] = part;
-        Ok(true)
+        Ok(())
     }
+}
+
+// A part of twice as many buckets as another has, the first of which has this number.
+fn wider(part: Part, first: u32) -> Part
+    ensures { result.mask < 2 ^ 31 }
+{
+    let mask = if part.first == 0 {
+        0
+    } else {
+        part.mask % (1 << 30) * 2 + 1
+    };
+    Part { first, mask }
 }
 
 // The number of the bucket of a digest in its part.
 #[inline]
+#[tactic(auto, unfolding(crate::specs::Buckets::number_in))]
 fn number_in(part: Part, digest: u64) -> usize
     ensures { result ≡ number_in part digest }
 {
@@ -130,31 +172,66 @@ fn number_in(part: Part, digest: u64) -> usize
 }
 
 // Puts a place in at a digest, unless its bucket is full.
-fn put(buckets: &mut [Bucket], part: Part, digest: u64, place: u32) -> bool {
-    match buckets.get_mut(number_in(part, digest)) {
-        Some(bucket) => bucket.put(tag_of(digest), place),
-        None => false,
-    }
+fn put_in(buckets: &mut Buckets, part: Part, digest: u64, place: u32) -> bool
+    ensures kept { AreKept buckets.old buckets.new }
+    ensures put { IsTrue result → FindsIn part buckets.new digest place }
+{
+    buckets.put(number_in(part, digest), tag_of(digest), place)
 }
 
-// Puts the places of a bucket in at their digests, of those that are of the part of a digest.
-fn take_over(
-    buckets: &mut [Bucket],
+// A part that is to have the places of those digests that its number chooses.
+#[derive(Clone, Copy)]
+struct Target<'a> {
     part: Part,
-    digests: &[u64],
-    bucket: &Bucket,
-    digest: u64,
-) -> bool {
-    for slot in 0..12 {
-        let place = bucket.places[slot];
-        if bucket.tags[slot] == 0 {
-            return true;
-        }
-        if let Some(other) = digests.get(place as usize) {
-            if *other % 64 == digest % 64 && !put(buckets, part, *other, place) {
+    number: u64,
+    digests: &'a [u64],
+}
+
+impl<'a> Target<'a> {
+    // Puts the places of its digests in that another part has.
+    fn take_all(&self, buckets: &mut Buckets, old: Part) -> bool
+        ensures kept { AreKept buckets.old buckets.new }
+        ensures taken { IsTrue result
+            → (d i : ℕ) → IsOf self.now.digests.now self.now.number d i
+            → FindsIn old buckets.old d i → FindsIn self.now.part buckets.new d i }
+    {
+        for ahead in 0..old.mask as usize + 1 {
+            if !self.take(buckets, old.first as usize + ahead) {
                 return false;
             }
         }
+        true
     }
-    true
+
+    // The same of those that a bucket has.
+    fn take(&self, buckets: &mut Buckets, number: usize) -> bool
+        ensures kept { AreKept buckets.old buckets.new }
+        ensures taken { IsTrue result
+            → (d i : ℕ) → IsOf self.now.digests.now self.now.number d i
+            → HasAt buckets.old number (tag_of d) i → FindsIn self.now.part buckets.new d i }
+    {
+        for slot in 0..16 {
+            if let Some(place) = buckets.place_in(number, slot)
+                && !self.put(buckets, place)
+            {
+                return false;
+            }
+        }
+        true
+    }
+
+    // Puts a place in at its digest, if that is one of those.
+    fn put(&self, buckets: &mut Buckets, place: u32) -> bool
+        ensures kept { AreKept buckets.old buckets.new }
+        ensures put { IsTrue result
+            → (d : ℕ) → IsOf self.now.digests.now self.now.number d place
+            → FindsIn self.now.part buckets.new d place }
+    {
+        match self.digests.get(place as usize) {
+            Some(digest) => {
+                *digest % 64 != self.number || put_in(buckets, self.part, *digest, place)
+            }
+            None => true,
+        }
+    }
 }

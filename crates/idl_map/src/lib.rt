@@ -3,7 +3,7 @@
 
 mod arena;
 mod bits;
-mod bucket;
+mod buckets;
 mod digest;
 mod digest_table;
 mod index;
