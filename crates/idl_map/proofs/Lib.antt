@@ -1,3 +1,5 @@
 pub mod ListLemmas
 pub mod PlaceLemmas
 pub mod BitLemmas
+pub mod BucketLemmas
+pub mod ItemLemmas

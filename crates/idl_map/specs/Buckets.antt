@@ -17,6 +17,8 @@ places_at buckets number = slice_index_or buckets.places.items number []
 
 -- a place stands in a slot of a bucket with this tag
 pub record StandsAt (buckets : Buckets) (number slot tag place : ℕ) : Type 0 where
+  pub among_tags : number < length buckets.tags.items
+  pub among_places : number < length buckets.places.items
   pub below : slot < 16
   pub tagged : slice_index (tags_at buckets number) slot ≡ tag
   pub placed : slice_index (places_at buckets number) slot ≡ place

@@ -1,9 +1,9 @@
-//! The parts of a map: entries, and the slots in which digests find their places.
+//! The parts of a map: entries, and the index in which digests find their places.
 
-ghost use Rattle.std.specs.Prelude.{◌≡◌, ◌<◌, [], true, IfOk, OnOk, OnErr, Some, vec_len, if◌then◌else◌};
-ghost use Rattle.std.proofs.Math.ListN.{get_or};
-ghost use Rattle.std.specs.Map.{lookup};
+ghost use Rattle.std.specs.Prelude.{◌≡◌, ◌↔◌, [], ℕ, None, Some, IfOk, OnOk, OnErr, slice_get, if◌then◌else◌};
+ghost use Rattle.std.specs.Map.{keys_of, lookup};
 ghost use Rattle.std.specs.Option.{option_copied};
+ghost use Rattle.idl_map.specs.Entries.{IsSound, entries_of};
 
 use crate::bits::{lowest, without};
 use crate::buckets::tag_of;
@@ -12,6 +12,9 @@ use crate::{Digest, Lent};
 use idl_base::{Datum, Table};
 use std::alloc::{AllocError, Global};
 
+/// Entries, the index of the digests of their keys, and the rest, which has the entries for which the index had no room.
+///
+/// No entry is ever taken out.
 pub struct Arena<K: Digest + Ord, V: Datum> {
     index: Index,
     entries: Vec<(K, V)>,
@@ -54,7 +57,10 @@ impl<'a, K: Digest> Lent<K> for Own<'a, K> {
 
 impl<K: Digest + Ord, V: Datum> Arena<K, V> {
     /// The arena without entries.
-    pub fn new(alloc: Global) -> Result<Arena<K, V>, AllocError> {
+    pub fn new(alloc: Global) -> Result<Arena<K, V>, AllocError>
+        ensures sound { IfOk result (λ arena. IsSound K.digest_of arena) }
+        ensures entries { IfOk result (λ arena. entries_of arena ≡ []) }
+    {
         Ok(Arena {
             index: Index::new(alloc)?,
             entries: Vec::new(alloc),
@@ -63,7 +69,10 @@ impl<K: Digest + Ord, V: Datum> Arena<K, V> {
     }
 
     /// The value at a key, or nothing.
-    pub fn get(&self, key: &K) -> Option<&V> {
+    pub fn get(&self, key: &K) -> Option<&V>
+        requires { IsSound K.digest_of self.now }
+        ensures { option_copied result ≡ lookup (K.eq key.now) (entries_of self.now) }
+    {
         match self.place_of(&Own { key }) {
             Some(place) => Some(&self.entries[place].1),
             None => self.among_rest(key),
@@ -71,7 +80,11 @@ impl<K: Digest + Ord, V: Datum> Arena<K, V> {
     }
 
     /// The value at a key that is lent, or nothing. The key is made where the rest has entries.
-    pub fn get_lent<L: Lent<K>>(&self, key: &L) -> Result<Option<&V>, AllocError> {
+    pub fn get_lent<L: Lent<K>>(&self, key: &L) -> Result<Option<&V>, AllocError>
+        requires { IsSound K.digest_of self.now }
+        ensures { IfOk result (λ value.
+            option_copied value ≡ lookup (K.eq (L.key key.now)) (entries_of self.now)) }
+    {
         match self.place_of(key) {
             Some(place) => Ok(Some(&self.entries[place].1)),
             None => self.lent_among_rest(key),
@@ -90,7 +103,7 @@ impl<K: Digest + Ord, V: Datum> Arena<K, V> {
         Ok(self.rest.get(&key))
     }
 
-    // The value that the rest has at a key. It is empty but where digests of many bits are one.
+    // The value that the rest has at a key. It is empty but where many digests choose one bucket.
     fn among_rest(&self, key: &K) -> Option<&V>
         ensures { option_copied result ≡ lookup (K.eq key.now) self.now.rest }
     {
@@ -100,9 +113,13 @@ impl<K: Digest + Ord, V: Datum> Arena<K, V> {
         self.rest.get(key)
     }
 
-    // The place of the entry at a key.
+    // The place of the entry at a key, or nothing.
     #[inline]
-    fn place_of<L: Lent<K>>(&self, key: &L) -> Option<usize> {
+    fn place_of<L: Lent<K>>(&self, key: &L) -> Option<usize>
+        requires { IsSound K.digest_of self.now }
+        ensures { (i : ℕ)
+            → (result ≡ Some i) ↔ (slice_get (keys_of self.now.entries.items) i ≡ Some (L.key key.now)) }
+    {
         let digest = key.key_digest();
         let number = self.index.bucket_of(digest);
         let mut marks = self.index.marked(number, tag_of(digest));
@@ -120,7 +137,16 @@ impl<K: Digest + Ord, V: Datum> Arena<K, V> {
     }
 
     /// Puts a value in at a key. Want of memory leaves what each key has.
-    pub fn insert(&mut self, key: K, value: V) -> Result<(), AllocError> {
+    pub fn insert(&mut self, key: K, value: V) -> Result<(), AllocError>
+        requires { IsSound K.digest_of self.old }
+        ensures sound { IsSound K.digest_of self.new }
+        ensures each_key { OnOk result
+            ((k : K)
+            → lookup (K.eq k) (entries_of self.new)
+            ≡ (if K.eq k key then Some value else lookup (K.eq k) (entries_of self.old))) }
+        ensures err { OnErr result
+            ((k : K) → lookup (K.eq k) (entries_of self.new) ≡ lookup (K.eq k) (entries_of self.old)) }
+    {
         if let Some(place) = self.place_of(&Own { key: &key }) {
             let entry = &mut self.entries[place];
             entry.1 = value;
@@ -130,7 +156,17 @@ impl<K: Digest + Ord, V: Datum> Arena<K, V> {
     }
 
     // Puts an entry in at a new key.
-    fn push(&mut self, key: K, value: V) -> Result<(), AllocError> {
+    fn push(&mut self, key: K, value: V) -> Result<(), AllocError>
+        requires sound { IsSound K.digest_of self.old }
+        requires absent { lookup (K.eq key) self.old.entries.items ≡ None }
+        ensures sound { IsSound K.digest_of self.new }
+        ensures each_key { OnOk result
+            ((k : K)
+            → lookup (K.eq k) (entries_of self.new)
+            ≡ (if K.eq k key then Some value else lookup (K.eq k) (entries_of self.old))) }
+        ensures err { OnErr result
+            ((k : K) → lookup (K.eq k) (entries_of self.new) ≡ lookup (K.eq k) (entries_of self.old)) }
+    {
         self.entries.reserve(1)?;
         if self.index.push(key.digest())? {
             self.entries.push((key, value))?;

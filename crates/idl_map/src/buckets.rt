@@ -19,7 +19,9 @@ pub struct Buckets {
 
 impl Buckets {
     /// No bucket. It takes no memory.
-    pub fn new(alloc: Global) -> Buckets {
+    pub fn new(alloc: Global) -> Buckets
+        ensures { length result.tags.items ≡ 0 }
+    {
         Buckets {
             tags: Vec::new(alloc),
             places: Vec::new(alloc),

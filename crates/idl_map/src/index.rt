@@ -211,13 +211,24 @@ impl<'a> Target<'a> {
             → HasAt buckets.old number (tag_of d) i → FindsIn self.now.part buckets.new d i }
     {
         for slot in 0..16 {
-            if let Some(place) = buckets.place_in(number, slot)
-                && !self.put(buckets, place)
-            {
+            if !self.take_slot(buckets, number, slot) {
                 return false;
             }
         }
         true
+    }
+
+    // The same of the one in a slot.
+    fn take_slot(&self, buckets: &mut Buckets, number: usize, slot: usize) -> bool
+        ensures kept { AreKept buckets.old buckets.new }
+        ensures taken { IsTrue result
+            → (d i : ℕ) → IsOf self.now.digests.now self.now.number d i
+            → StandsAt buckets.old number slot (tag_of d) i → FindsIn self.now.part buckets.new d i }
+    {
+        match buckets.place_in(number, slot) {
+            Some(place) => self.put(buckets, place),
+            None => true,
+        }
     }
 
     // Puts a place in at its digest, if that is one of those.

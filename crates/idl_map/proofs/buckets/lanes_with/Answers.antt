@@ -1,4 +1,4 @@
-use Rattle.std.proofs.Common.{◌≡◌, ◌≤◌, ◌%◌, ◌^◌, cond, eqb, false, length, get_or, map, replicate, sym, ap, subst, ◌∙◌, arith, w8}
+use Rattle.std.proofs.Common.{◌≡◌, ◌%◌, ◌^◌, cond, eqb, false, length, get_or, replicate, sym, ap, subst, ◌∙◌, arith, w8}
 use Rattle.std.specs.Int.{bit_at}
 use Rattle.std.specs.Simd.Lanes.{zip2, mask_l}
 use Rattle.std.proofs.lemmas.Simd.{length-zip2, get_or-zip2, get_or-replicate, bit_mask_l, tops_compared, mask_l-mod}
