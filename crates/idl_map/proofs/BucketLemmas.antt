@@ -1,12 +1,11 @@
 -- Digests in buckets.
-use Rattle.std.proofs.Common.{◌≡◌, ◌≢◌, ◌<◌, ◌≤◌, ◌+◌, ◌/◌, ◌%◌, ◌^◌, ℕ, zero, suc, Bool, true, false, cond, List, [], ◌∷◌, ◌++◌, Some, inl, inr, ◌⊎◌, length, slice_get, get_or, bit_and, refl, sym, ap, ◌∙◌, subst, arith}
+use Rattle.std.proofs.Common.{◌≡◌, ◌≢◌, ◌<◌, ◌≤◌, ◌+◌, ◌/◌, ◌%◌, ◌^◌, ℕ, Bool, true, false, cond, inl, inr, ◌⊎◌, bit_and, refl, sym, subst, arith}
 use Rattle.std.proofs.Math.Dec.{eqb}
-use Rattle.std.proofs.Math.ListN.{set}
 use Rattle.std.proofs.lemmas.Bool.Decides.{eqb_tells}
 use Rattle.std.proofs.lemmas.Nat.{and_le_r}
 use Rattle.idl_map.specs.declared.buckets.Buckets.{Buckets}
 use Rattle.idl_map.specs.declared.index.Part.{Part}
-use Rattle.idl_map.specs.Buckets.{AreKept, FindsIn, HasAt, number_in, tag_of}
+use Rattle.idl_map.specs.Buckets.{AreKept, FindsIn, number_in, tag_of}
 
 -- no digest has the tag 0
 pub tag_of_some : (digest : ℕ) → 0 < tag_of digest

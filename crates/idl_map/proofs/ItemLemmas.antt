@@ -1,5 +1,5 @@
 -- Items of lists at their places.
-use Rattle.std.proofs.Common.{◌≡◌, ◌≢◌, ◌<◌, ℕ, zero, suc, List, [], ◌∷◌, Some, length, slice_get, get_or, refl, sym, ap, arith}
+use Rattle.std.proofs.Common.{◌≡◌, ◌≢◌, ◌<◌, ℕ, zero, suc, List, [], ◌∷◌, Some, length, slice_get, refl, ap, arith}
 use Rattle.std.proofs.Math.ListN.{set}
 
 module _ {A : Type 0} where

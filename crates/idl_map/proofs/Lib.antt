@@ -3,3 +3,4 @@ pub mod PlaceLemmas
 pub mod BitLemmas
 pub mod BucketLemmas
 pub mod ItemLemmas
+pub mod EntryLemmas

@@ -1,6 +1,6 @@
 //! The parts of a map: entries, and the index in which digests find their places.
 
-ghost use Rattle.std.specs.Prelude.{◌≡◌, ◌↔◌, [], ℕ, None, Some, IfOk, OnOk, OnErr, slice_get, if◌then◌else◌};
+ghost use Rattle.std.specs.Prelude.{◌≡◌, ◌↔◌, [], ℕ, None, Some, IfOk, IsTrue, OnOk, OnErr, slice_get, if◌then◌else◌};
 ghost use Rattle.std.specs.Map.{keys_of, lookup};
 ghost use Rattle.std.specs.Option.{option_copied};
 ghost use Rattle.idl_map.specs.Entries.{IsSound, entries_of};
@@ -126,14 +126,24 @@ impl<K: Digest + Ord, V: Datum> Arena<K, V> {
         while marks != 0 {
             let slot = lowest(marks);
             let place = self.index.place(number, slot);
-            if let Some(entry) = self.entries.get(place)
-                && key.is(&entry.0)
-            {
+            if self.is_at(place, key) {
                 return Some(place);
             }
             marks = without(marks, slot);
         }
         None
+    }
+
+    // Whether there is an entry at a place, and at a key.
+    #[inline]
+    fn is_at<L: Lent<K>>(&self, place: usize, key: &L) -> bool
+        ensures { IsTrue result
+            ↔ (slice_get (keys_of self.now.entries.items) place ≡ Some (L.key key.now)) }
+    {
+        match self.entries.get(place) {
+            Some(entry) => key.is(&entry.0),
+            None => false,
+        }
     }
 
     /// Puts a value in at a key. Want of memory leaves what each key has.

@@ -1,4 +1,4 @@
-use Rattle.std.proofs.Common.{◌≡◌, ◌<◌, ◌⊎◌, ℕ, Some, false, slice_get}
+use Rattle.std.proofs.Common.{◌≡◌, ◌⊎◌, ℕ, Some, slice_get}
 use Rattle.std.specs.Map.{keys_of}
 use Rattle.std.specs.Int.{bit_at}
 use Rattle.idl_map.specs.Buckets.{StandsAt, tag_of}

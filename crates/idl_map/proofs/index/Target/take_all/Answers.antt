@@ -20,9 +20,11 @@ loop-ahead-preserved c =
       taken = λ d i n below of at. elim (below_next n c.loop-ahead.ahead below) [
         | inl low ↦ FindsIn-kept target.part before after d i c.take.ensures.kept (c.loop-ahead.invariant.taken d i n low of at)
         | inr here ↦
-            c.take.ensures.taken c.if-not-take.false d i of
-            (at.0, c.loop-ahead.invariant.kept (first + c.loop-ahead.ahead) at.0 (tag_of d) i (tag_of_some d)
-            (subst (λ (m : ℕ). StandsAt old (first + m) at.0 (tag_of d) i) here at.1))
+            c.take.ensures.taken c.if-not-take.false d i of (
+              at.0,
+              c.loop-ahead.invariant.kept (first + c.loop-ahead.ahead) at.0 (tag_of d) i (tag_of_some d)
+                  (subst (λ (m : ℕ). StandsAt old (first + m) at.0 (tag_of d) i) here at.1),
+            )
       ];
     }
 

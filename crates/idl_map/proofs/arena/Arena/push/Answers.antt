@@ -1,0 +1,51 @@
+use Rattle.std.proofs.Common.{◌≡◌, ◌++◌, [], ◌∷◌, map, sym, ap, subst, ◌∙◌}
+use Rattle.std.proofs.lemmas.List.{map-append}
+use Rattle.std.proofs.lemmas.Result.{on_ok_weaker}
+use Rattle.std.specs.Map.{keys_of, lookup}
+use Rattle.idl_base.specs.Table.{AreDistinct, insert_entry}
+use Rattle.idl_base.proofs.Exactness.{Decides-eq}
+use Rattle.idl_base.proofs.TableLemmas.{AreDistinct-push, keys_of-push, nowhere-lookup}
+use Rattle.idl_map.proofs.EntryLemmas.{lookup-push, lookup-rest}
+use Rattle.idl_map.proofs.arena.Arena.push.Goals as goal
+
+pub returns-then-branch-clause-sound : goal.returns-then-branch-clause-sound
+returns-then-branch-clause-sound g c =
+    let digest_of = g.K.Digest.digest_of in
+    let es = c.args.self.now.entries.items in
+    let key = c.args.key in
+    let after = c.push-then-branch.new.self.items in
+    let grown : after ≡ es ++ (key, c.args.value) ∷ [] = c.in_ok-push-2.ensures.items ∙ ap (λ fs. fs ++ (key, c.args.value) ∷ []) c.in_ok-reserve.ensures.items in
+    let keys : keys_of after ≡ keys_of es ++ key ∷ [] = ap keys_of grown ∙ keys_of-push es key c.args.value in
+    let nowhere = nowhere-lookup g.K.PartialEq.eq (Decides-eq g.K.PartialEq.eq g.met.K.Eq.laws g.met.K.Datum.same) es key c.requires.absent in
+    record {
+      distinct = subst AreDistinct (sym keys) (AreDistinct-push (keys_of es) key c.requires.sound.distinct nowhere);
+      digests =
+          c.in_ok-push.ensures.pushed c.if-branch.true
+          ∙ ap (λ ds. ds ++ c.digest.result ∷ []) c.requires.sound.digests
+          ∙ ap (λ d. map digest_of (keys_of es) ++ d ∷ []) c.digest.ensures
+          ∙ sym (map-append digest_of (keys_of es) (key ∷ []))
+          ∙ ap (map digest_of) (sym keys);
+      indexed = c.push.ensures.sound;
+    }
+
+pub returns-then-branch-clause-each_key : goal.returns-then-branch-clause-each_key
+returns-then-branch-clause-each_key g c k =
+    let eq = g.K.PartialEq.eq in
+    let es = c.args.self.now.entries.items in
+    let rest = c.args.self.now.rest in
+    let grown : c.push-then-branch.new.self.items ≡ es ++ (c.args.key, c.args.value) ∷ [] =
+    c.in_ok-push-2.ensures.items ∙ ap (λ fs. fs ++ (c.args.key, c.args.value) ∷ []) c.in_ok-reserve.ensures.items in
+    ap (λ fs. lookup (eq k) (fs ++ rest)) grown
+    ∙ lookup-push eq g.met.K.Eq.laws g.met.K.Datum.same c.args.key c.args.value k es rest c.requires.absent
+
+pub returns-clause-each_key : goal.returns-clause-each_key
+returns-clause-each_key g c =
+    let eq = g.K.PartialEq.eq in
+    let es = c.args.self.now.entries.items in
+    let rest = c.args.self.now.rest in
+    on_ok_weaker c.insert.result
+    (λ put k.
+    ap (λ fs. lookup (eq k) (c.reserve.new.self.items ++ fs)) put
+    ∙ ap (λ fs. lookup (eq k) (fs ++ insert_entry eq rest c.args.key c.args.value)) c.in_ok-reserve.ensures.items
+    ∙ lookup-rest eq g.met.K.Eq.laws g.met.K.Datum.same c.args.key c.args.value k es rest c.requires.absent)
+    c.insert.ensures.entries
