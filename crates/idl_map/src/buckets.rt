@@ -4,6 +4,7 @@ ghost use Rattle.std.specs.Prelude.{◌≡◌, ◌<◌, ◌+◌, ◌^◌, ℕ, I
 ghost use Rattle.std.specs.Int.{bit_at};
 ghost use Rattle.idl_map.specs.Buckets.{AreKept, HasAt, StandsAt, tag_of};
 
+use crate::bits::lowest;
 use std::alloc::{AllocError, Global};
 use std::simd::prelude::*;
 
@@ -98,16 +99,16 @@ impl Buckets {
 }
 
 // A slot that is empty by its tag, or nothing.
+#[inline]
 fn empty_slot(tags: &[u8; 16]) -> Option<usize>
     ensures below { IfSome result (λ slot. slot < 16) }
     ensures empty { IfSome result (λ slot. slice_index tags.now slot ≡ 0) }
 {
-    for slot in 0..16 {
-        if tags[slot] == 0 {
-            return Some(slot);
-        }
+    let empty = lanes_with(u8x16::from_array(*tags), 0);
+    if empty == 0 {
+        return None;
     }
-    None
+    Some(lowest(empty))
 }
 
 /// The tag of a digest: its first eight bits, but 1 where these are 0.
@@ -124,7 +125,9 @@ pub fn tag_of(digest: u64) -> u8
 // The lanes that have a tag.
 #[inline]
 fn lanes_with(tags: u8x16, tag: u8) -> u64
-    ensures { (slot : ℕ) → slot < 16 → slice_index tags slot ≡ tag → bit_at result slot ≡ 1 }
+    ensures set { (slot : ℕ) → slot < 16 → slice_index tags slot ≡ tag → bit_at result slot ≡ 1 }
+    ensures below { (slot : ℕ) → bit_at result slot ≡ 1 → slot < 16 }
+    ensures tagged { (slot : ℕ) → bit_at result slot ≡ 1 → slice_index tags slot ≡ tag }
 {
     tags.simd_eq(u8x16::splat(tag)).to_bitmask()
 }
