@@ -23,8 +23,8 @@ const MANY: usize = 1 << 30;
 /// Digests in order, and the places of each in the buckets of 64 parts. The last six bits of a digest choose the part, others the
 /// bucket in it, and its first eight are its tag there.
 ///
-/// At first all parts have one bucket. A part whose bucket is full has others behind all that there are, twice as many as before;
-/// those that it had stay unused.
+/// At first all parts have one bucket. A part of which a bucket is full has others made behind all that there are, four times as
+/// many as before; those that it had stay unused.
 #[derive(Drop)]
 pub struct Index {
     digests: Vec<u64>,
@@ -124,7 +124,7 @@ impl Index {
         put_in(&mut self.buckets, part, digest, place)
     }
 
-    // Gives the part of a digest twice as many buckets, unless there are many for so few digests.
+    // Gives the part of a digest four times as many buckets, unless there are many for so few digests.
     fn grow(&mut self, digest: u64) -> Result<(), AllocError>
         requires { IsIndexed self.old }
         ensures sound { IsIndexed self.new }
@@ -150,14 +150,14 @@ impl Index {
     }
 }
 
-// A part of twice as many buckets as another has, the first of which has this number.
+// A part of four times as many buckets as another has, the first of which has this number.
 fn wider(part: Part, first: u32) -> Part
     ensures { result.mask < 2 ^ 31 }
 {
     let mask = if part.first == 0 {
         0
     } else {
-        part.mask % (1 << 30) * 2 + 1
+        part.mask % (1 << 29) * 4 + 3
     };
     Part { first, mask }
 }
