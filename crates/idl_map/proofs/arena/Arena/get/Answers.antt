@@ -1,5 +1,5 @@
 use Rattle.std.proofs.Common.{◌≡◌, Some, slice_get, sym, ◌∙◌, arith}
-use Rattle.std.specs.Map.{keys_of}
+use Rattle.std.specs.Map.{keys_of, lookup}
 use Rattle.std.proofs.lemmas.Map.Entries.{length-keys_of}
 use Rattle.std.proofs.lemmas.Option.{none-some, slice_get_within}
 use Rattle.idl_map.proofs.EntryLemmas.{lookup-absent, lookup-present}
@@ -22,4 +22,4 @@ returns-in-None g c =
     let arena = c.args.self.now in
     let absent = lookup-absent g.K.PartialEq.eq g.met.K.Eq.laws g.met.K.Datum.same arena.entries.items arena.rest c.args.key.now
     (λ i at. none-some i (sym c.in-None.is ∙ (c.place_of.ensures i).1 at)) in
-    c.among_rest.ensures ∙ sym absent
+    ◌∙◌ {b = lookup (g.K.PartialEq.eq c.args.key.now) arena.rest} c.among_rest.ensures (sym absent)
