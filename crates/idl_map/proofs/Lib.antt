@@ -1,4 +1,6 @@
 pub mod ListLemmas
 pub mod PlaceLemmas
-pub mod SlotLemmas
+pub mod BitLemmas
+pub mod BucketLemmas
+pub mod ItemLemmas
 pub mod EntryLemmas

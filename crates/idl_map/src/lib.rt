@@ -2,12 +2,14 @@
 #![tactic(auto)]
 
 mod arena;
+mod bits;
+mod buckets;
 mod digest;
 mod digest_table;
+mod index;
 mod lent;
 mod list;
 mod map;
-mod slot;
 
 pub use digest::Digest;
 pub use digest_table::DigestTable;

@@ -12,8 +12,9 @@ use std::marker::Model;
 
 /// Values by their keys. To every contract it is a list of entries, the first of which counts at a key.
 ///
-/// A look-up goes down by the bits of the key's digest, as far as keys are alike in them, and then compares the key with
-/// those alone that are alike in all these bits: one mostly, and logarithmically many of them, whatever the keys are.
+/// A look-up compares the key with those entries alone whose digests choose the same bucket and have the same tag: with none
+/// mostly where the key has no value, and else with one. Where many keys choose one bucket, it compares the key with
+/// logarithmically many besides, whatever they are.
 pub struct Map<K: Digest + Ord, V: Datum> {
     arena: Option<Arena<K, V>>,
 }
@@ -23,11 +24,11 @@ impl<K: Digest + Ord, V: Datum> Model for Map<K, V> {
 
     ghost Value = { List (K × V) };
 
-    ghost use Rattle.idl_map.specs.Slots.{IsSoundMap, map_entries};
+    ghost use Rattle.idl_map.specs.Entries.{IsSoundMap, map_entries};
 
-    ghost view = { λ map. map_entries K.digest_of map.arena };
+    ghost view = { λ map. map_entries map.arena };
 
-    ghost invariant = { λ map. IsSoundMap map.arena };
+    ghost invariant = { λ map. IsSoundMap K.digest_of map.arena };
 }
 
 impl<K: Digest + Ord, V: Datum> Drop for Map<K, V> {
@@ -54,7 +55,7 @@ impl<K: Digest + Ord, V: Datum> Map<K, V> {
         }
     }
 
-    /// The value at a key that is lent, or nothing. It takes memory only where digests of many bits are one, to make the key.
+    /// The value at a key that is lent, or nothing. It takes memory only where many keys choose one bucket, to make the key.
     pub fn get_lent<L: Lent<K>>(&self, key: &L) -> Result<Option<&V>, AllocError>
         ensures { IfOk result (λ value. option_copied value ≡ lookup (K.eq (L.key key.now)) self.now) }
     {

@@ -1,32 +1,47 @@
-use Rattle.std.proofs.Common.{◌≡◌, ◌<◌, ◌++◌, Some, cond, false, length, sym, ap, ◌∙◌, subst, arith}
-use Rattle.std.proofs.lemmas.List.{get_or_read}
-use Rattle.std.proofs.lemmas.Result.{on_ok_weaker}
-use Rattle.std.specs.Map.{lookup}
-use Rattle.idl_map.specs.Slots.{IsEnd, led, reached}
-use Rattle.idl_map.specs.declared.slot.Slot.TheVariants.{Empty, One}
-use Rattle.idl_map.proofs.EntryLemmas.{lookup-rest, value_at}
+use Rattle.std.proofs.Common.{◌≡◌, ◌++◌, Some, map, slice_get, sym, ap, subst, ◌∙◌, arith}
+use Rattle.std.specs.Prelude.{slice_set}
+use Rattle.std.specs.Map.{keys_of, lookup}
+use Rattle.std.proofs.lemmas.Map.Entries.{length-keys_of}
+use Rattle.std.proofs.lemmas.Option.{none-some, slice_get_within}
+use Rattle.idl_base.specs.Table.{AreDistinct}
+use Rattle.idl_base.proofs.Exactness.{Decides-eq}
+use Rattle.idl_base.proofs.TableLemmas.{key-at, keys_of-slice_set, lookup-nowhere}
+use Rattle.idl_map.proofs.EntryLemmas.{lookup-replace}
 use Rattle.idl_map.proofs.arena.Arena.insert.Goals as goal
 
-pub returns-then-way-ge-BITS-clause-each_key : goal.returns-then-way-ge-BITS-clause-each_key
-returns-then-way-ge-BITS-clause-each_key g c =
+pub index_mut-entry-requires : goal.index_mut-entry-requires
+index_mut-entry-requires g c =
+    let entries = c.args.self.now.entries in
+    let at : slice_get (keys_of entries.items) c.in-Some.place ≡ Some c.args.key = (c.place_of.ensures c.in-Some.place).0 c.in-Some.is in
+    omega (arith, slice_get_within (keys_of entries.items) c.in-Some.place c.args.key at, length-keys_of entries.items, entries.ok.0)
+
+pub returns-in-Some-clause-sound : goal.returns-in-Some-clause-sound
+returns-in-Some-clause-sound g c =
+    let es = c.args.self.now.entries.items in
+    let place = c.in-Some.place in
+    let entry = c.index_mut-entry.result.now in
+    let at : slice_get (keys_of es) place ≡ Some c.args.key = (c.place_of.ensures place).0 c.in-Some.is in
+    let own : entry.0 ≡ c.args.key = ap (λ e. e.0) c.index_mut-entry.ensures.value ∙ key-at es place c.args.key entry at in
+    let keys : keys_of (slice_set es place (entry.0, c.args.value)) ≡ keys_of es = keys_of-slice_set es place entry.0 c.args.value (at ∙ ap Some (sym own)) in
+    record {
+      distinct = subst AreDistinct (sym keys) c.requires.distinct;
+      digests = c.requires.digests ∙ ap (map g.K.Digest.digest_of) (sym keys);
+      indexed = c.requires.indexed;
+    }
+
+pub returns-in-Some-clause-each_key : goal.returns-in-Some-clause-each_key
+returns-in-Some-clause-each_key g c k =
     let eq = g.K.PartialEq.eq in
-    let same = g.met.K.Datum.same in
-    let digest_of = g.K.Digest.digest_of in
-    let key = c.args.key in
-    let arena = c.loop-place.self in
-    let slots = arena.slots.items in
-    let entries = arena.entries.items in
-    let way = c.loop-place.way in
-    let entry = c.index-in-One.result.now in
-    let at : way.place < length slots = omega (arith, c.loop-place.invariant.within, arena.slots.ok.0) in
-    let is : led slots (digest_of key) ≡ One c.in-One.place =
-    ap (led slots) (sym c.digest-digest.ensures) ∙ sym c.loop-place.invariant.end
-    ∙ sym (get_or_read slots way.place c.index.result.now at c.index.ensures Empty) ∙ c.in-One.is in
-    let within : c.in-One.place < length entries = subst (IsEnd (length entries)) is (c.loop-place.invariant.sound (digest_of key)) in
-    on_ok_weaker c.insert.result
-    (λ after k.
-    ap (λ r. lookup (eq k) (reached (λ x. led slots (digest_of x)) 0 entries ++ r)) after
-    ∙ lookup-rest eq same digest_of g.met.K.Eq.laws slots entries arena.rest key c.args.value
-    (value_at eq same digest_of key (led slots (digest_of key)) entries c.in-One.place entry false is within c.index-in-One.ensures (sym c.eq.ensures ∙ c.if-eq.false)) k
-    ∙ ap (cond (eq k key) (Some c.args.value)) (c.loop-place.invariant.kept k))
-    c.insert.ensures.entries
+    let es = c.args.self.now.entries.items in
+    let rest = c.args.self.now.rest in
+    let place = c.in-Some.place in
+    let entry = c.index_mut-entry.result.now in
+    let at : slice_get (keys_of es) place ≡ Some c.args.key = (c.place_of.ensures place).0 c.in-Some.is in
+    let own : entry.0 ≡ c.args.key = ap (λ e. e.0) c.index_mut-entry.ensures.value ∙ key-at es place c.args.key entry at in
+    ap (λ x. lookup (eq k) (slice_set es place (x, c.args.value) ++ rest)) own
+    ∙ lookup-replace eq g.met.K.Eq.laws g.met.K.Datum.same c.args.key c.args.value k es rest place c.requires.distinct at
+
+pub push-requires-clause-absent : goal.push-requires-clause-absent
+push-requires-clause-absent g c =
+    lookup-nowhere g.K.PartialEq.eq (Decides-eq g.K.PartialEq.eq g.met.K.Eq.laws g.met.K.Datum.same) c.args.self.now.entries.items c.args.key
+    (λ j h. none-some j (sym c.in_default.is ∙ (c.place_of.ensures j).1 h))

@@ -1,0 +1,55 @@
+-- Buckets, in which digests find the places of entries.
+use Rattle.std.specs.Prelude.{◌≡◌, ℕ, ◌+◌, ◌/◌, ◌%◌, ◌^◌, ◌<◌, ◌==◌, List, [], Some, bit_and, length, slice_get, slice_index, slice_index_or, if◌then◌else◌}
+use Rattle.idl_map.specs.declared.buckets.Buckets.{Buckets}
+use Rattle.idl_map.specs.declared.index.Part.{Part}
+use Rattle.idl_map.specs.declared.index.Index.{Index}
+
+-- the tag of a digest: its first eight bits, but 1 where these are 0
+unfoldable pub tag_of : ℕ → ℕ
+tag_of digest = if digest / 2 ^ 56 == 0 then 1 else digest / 2 ^ 56
+
+-- the tags of a bucket and its places, by its number
+abbrev pub tags_at : Buckets → ℕ → List ℕ
+tags_at buckets number = slice_index_or buckets.tags.items number []
+
+abbrev pub places_at : Buckets → ℕ → List ℕ
+places_at buckets number = slice_index_or buckets.places.items number []
+
+-- a place stands in a slot of a bucket with this tag
+pub record StandsAt (buckets : Buckets) (number slot tag place : ℕ) : Type 0 where
+  pub among_tags : number < length buckets.tags.items
+  pub among_places : number < length buckets.places.items
+  pub below : slot < 16
+  pub tagged : slice_index (tags_at buckets number) slot ≡ tag
+  pub placed : slice_index (places_at buckets number) slot ≡ place
+
+-- it stands in one of its slots
+abbrev pub HasAt : Buckets → ℕ → ℕ → ℕ → Type 0
+HasAt buckets number tag place = (slot : ℕ) × StandsAt buckets number slot tag place
+
+-- what stands in a slot stands there later too
+abbrev pub AreKept : Buckets → Buckets → Type 0
+AreKept old new =
+    (number slot tag place : ℕ) → 0 < tag → StandsAt old number slot tag place
+    → StandsAt new number slot tag place
+
+-- the number of the bucket of a digest in its part
+unfoldable pub number_in : Part → ℕ → ℕ
+number_in part digest = part.first + bit_and (digest / 2 ^ 32 % 2 ^ 32) part.mask
+
+-- a digest finds a place in its bucket of a part
+abbrev pub FindsIn : Part → Buckets → ℕ → ℕ → Type 0
+FindsIn part buckets digest place =
+    HasAt buckets (number_in part digest) (tag_of digest) place
+
+-- a digest stands at this place of digests, and chooses the part with this number
+abbrev pub IsOf : List ℕ → ℕ → ℕ → ℕ → Type 0
+IsOf digests number digest place =
+    (slice_get digests place ≡ Some digest) × (digest % 64 ≡ number)
+
+-- each digest finds its place in the part that it chooses, one of 64
+pub record IsIndexed (index : Index) : Type 0 where
+  pub parts : length index.parts.items ≡ 64
+  pub finds : (digest place : ℕ) → slice_get index.digests.items place ≡ Some digest
+      → (part : Part) → slice_get index.parts.items (digest % 64) ≡ Some part
+      → FindsIn part index.buckets digest place
