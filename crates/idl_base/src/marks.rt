@@ -1,6 +1,6 @@
 //! Marks of digests, by which most of what isn't among something is told at once.
 
-ghost use Rattle.std.specs.Prelude.{◌≡◌, ◌<◌, ℕ, false, true};
+ghost use Rattle.std.specs.Prelude.{◌≡◌, ◌<◌, ◌^◌, ℕ, false, true};
 ghost use Rattle.idl_base.specs.Marks.{bit_of, is_marked, word_of};
 
 use std::marker::Model;
@@ -40,7 +40,8 @@ impl<const N: usize> Marks<N> {
     pub fn has(&self, digest: u64) -> bool
         ensures { result ≡ is_marked self.now digest }
     {
-        self.words[word_of(self.words.len(), digest)] & bit_of(digest) != 0
+        let words = self.words.as_slice();
+        words[word_of(words.len(), digest)] & mask_of(digest) != 0
     }
 
     /// Marks a digest.
@@ -50,8 +51,9 @@ impl<const N: usize> Marks<N> {
         ensures kept { (other : ℕ) → is_marked self.old other ≡ true
             → is_marked self.new other ≡ true }
     {
-        let place = word_of(self.words.len(), digest);
-        self.words[place] |= bit_of(digest);
+        let words = self.words.as_mut_slice();
+        let place = word_of(words.len(), digest);
+        words[place] |= mask_of(digest);
     }
 }
 
@@ -65,10 +67,10 @@ fn word_of(count: usize, digest: u64) -> usize
     (digest >> 48) as usize % count
 }
 
-// The bit of a digest in its word.
+// The bit of a digest, alone in a word.
 #[inline]
-fn bit_of(digest: u64) -> u64
-    ensures { result ≡ bit_of digest }
+fn mask_of(digest: u64) -> u64
+    ensures { result ≡ 2 ^ bit_of digest }
 {
     1 << (digest >> 58)
 }
