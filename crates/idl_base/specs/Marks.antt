@@ -1,13 +1,13 @@
 -- Marks of digests: words of bits by which most of what isn't among something is told at once.
 use Rattle.std.specs.Prelude.{◌≡◌, ℕ, ◌/◌, ◌%◌, ◌^◌, Bool, false, List, Option, None, bit_and, length, nat_eq, not, slice_index_or}
 
--- the place of a digest's word among so many: its first 16 bits tell
+-- the place of a digest's word among so many, and which bit of that is its own: its first 10 bits
+-- tell both
 abbrev pub word_of : ℕ → ℕ → ℕ
-word_of count digest = digest / 2 ^ 48 % count
+word_of count digest = digest / 2 ^ 60 % count
 
--- which bit of its word is a digest's: its last 6 bits tell
 abbrev pub bit_of : ℕ → ℕ
-bit_of digest = digest % 64
+bit_of digest = digest / 2 ^ 54 % 64
 
 -- whether a bit of a word is set
 abbrev pub has_bit : ℕ → ℕ → Bool

@@ -5,7 +5,7 @@ ghost use Rattle.idl_base.specs.Marks.{bit_of, is_marked, word_of};
 
 use std::marker::Model;
 
-/// Marks of digests: `N` words of 64 bits. A digest's first bits choose the word, and its last ones the bit.
+/// Marks of digests: `N` words of 64 bits, among which a digest's first 10 bits choose one. More than 16 words are of no use.
 ///
 /// Whatever was marked is found marked. Digests share bits, so that others are found marked too; that few are is promised
 /// by no clause. To every contract marks are their words.
@@ -64,7 +64,7 @@ fn word_of(count: usize, digest: u64) -> usize
     ensures place { result ≡ word_of count digest }
     ensures within { result < count }
 {
-    (digest >> 48) as usize % count
+    (digest >> 60) as usize % count
 }
 
 // The bit of a digest, alone in a word.
@@ -72,5 +72,5 @@ fn word_of(count: usize, digest: u64) -> usize
 fn mask_of(digest: u64) -> u64
     ensures { result ≡ 2 ^ bit_of digest }
 {
-    1 << (digest % 64)
+    1 << ((digest >> 54) % 64)
 }
