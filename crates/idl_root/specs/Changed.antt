@@ -1,7 +1,10 @@
--- Digests whose marks tell most others at once.
-use Rattle.std.specs.Prelude.{◌≡◌, ℕ, true, List, All}
-use Rattle.idl_base.specs.Marks.{is_marked}
+-- Marks by which digests that are not among some are told at once.
+use Rattle.std.specs.Prelude.{◌≡◌, ℕ, ◌/◌, ◌^◌, Bool, true, List, All, slice_index_or}
 
--- each of these digests is marked
-abbrev pub AreMarked : List ℕ → List ℕ → Type 0
-AreMarked marks digests = All (λ d. is_marked marks d ≡ true) digests
+-- the place of the mark of a digest
+abbrev pub mark_of : ℕ → ℕ
+mark_of digest = digest / 2 ^ 54
+
+-- each of these digests has its mark, if there is a place for it
+abbrev pub AreMarked : List Bool → List ℕ → Type 0
+AreMarked marks digests = All (λ d. slice_index_or marks (mark_of d) true ≡ true) digests

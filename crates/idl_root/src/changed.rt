@@ -1,24 +1,24 @@
 //! Digests of keys that may be answered otherwise than before.
 
 ghost use Rattle.std.specs.Prelude.{◌≡◌, ◌++◌, ◌∷◌, [], IfOk, IsFalse, IsTrue, OnOk, Contains, map};
+ghost use Rattle.idl_root.specs.Changed.{mark_of};
 ghost use Rattle.idl_root.specs.Followed.{ShareNone};
 ghost use Rattle.idl_scope.specs.Facts.{key_of};
 ghost use Rattle.idl_scope.specs.Key.{key_digest};
 
-use idl_base::Marks;
 use idl_scope::Facts;
 use std::alloc::{AllocError, Global};
 use std::marker::Model;
 
-// So many words of marks there are.
-const WORDS: usize = 16;
+// So many marks there are.
+const MARKS: usize = 1024;
 
 /// Digests of keys that may be answered otherwise than before, with marks by which most others are told at once.
 ///
 /// To every contract they are the list of the digests.
 pub struct Changed {
     digests: Vec<u64>,
-    marks: Marks<WORDS>,
+    marks: Vec<bool>,
 }
 
 impl Model for Changed {
@@ -29,7 +29,7 @@ impl Model for Changed {
 
     ghost view = { λ changed. changed.digests.items };
 
-    ghost invariant = { λ changed. AreMarked changed.marks changed.digests.items };
+    ghost invariant = { λ changed. AreMarked changed.marks.items changed.digests.items };
 }
 
 impl Drop for Changed {
@@ -43,13 +43,13 @@ impl Drop for Changed {
 
 impl Changed {
     /// No key is.
-    pub fn new(alloc: Global) -> Changed
-        ensures { result ≡ [] }
+    pub fn new(alloc: Global) -> Result<Changed, AllocError>
+        ensures { IfOk result (λ changed. changed ≡ []) }
     {
-        Changed {
+        Ok(Changed {
             digests: Vec::new(alloc),
-            marks: Marks::new(),
-        }
+            marks: vec![in alloc; false; MARKS]?,
+        })
     }
 
     /// How many there are.
@@ -68,7 +68,10 @@ impl Changed {
     fn has(&self, digest: u64) -> bool
         ensures { IsFalse result → Contains self.now digest → ⊥ }
     {
-        self.marks.has(digest) && self.digests.contains(&digest)
+        match self.marks.get(mark_of(digest)) {
+            Some(false) => false,
+            _ => self.digests.contains(&digest),
+        }
     }
 
     /// With those of the keys at which facts add.
@@ -89,8 +92,18 @@ impl Changed {
     pub fn push(&mut self, digest: u64) -> Result<(), AllocError>
         ensures { OnOk result (self.new ≡ self.old ++ digest ∷ []) }
     {
-        self.marks.mark(digest);
+        let place = mark_of(digest);
+        if place < self.marks.len() {
+            self.marks[place] = true;
+        }
         self.digests.push(digest)?;
         Ok(())
     }
+}
+
+// The place of the mark of a digest.
+fn mark_of(digest: u64) -> usize
+    ensures { result ≡ mark_of digest }
+{
+    (digest >> 54) as usize
 }

@@ -51,19 +51,23 @@ impl<'k> Drop for Following<'k> {
 
 impl<'k> Following<'k> {
     /// Before the first of so many units.
-    pub fn new(alloc: Global, earlier: &'k KeptUnits, count: usize) -> Following<'k>
-        ensures { IsFollowed result [] }
+    pub fn new(
+        alloc: Global,
+        earlier: &'k KeptUnits,
+        count: usize,
+    ) -> Result<Following<'k>, AllocError>
+        ensures { IfOk result (λ following. IsFollowed following []) }
     {
         let kept = earlier.units();
-        Following {
+        Ok(Following {
             alloc,
             earlier,
             kept,
-            changed: Changed::new(alloc),
+            changed: Changed::new(alloc)?,
             is_around: false,
             less: kept.len().saturating_sub(count),
             more: count.saturating_sub(kept.len()),
-        }
+        })
     }
 
     /// What was judged of the next unit, if it is of this text and nothing that it asked has changed.

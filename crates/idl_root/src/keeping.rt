@@ -39,7 +39,7 @@ impl<'k> Keeping<'k> {
         ensures { IfOk result (λ keeping. IsKeeping keeping []) }
     {
         let kept = Vec::with_capacity(alloc, count)?;
-        let following = Following::new(alloc, earlier, count);
+        let following = Following::new(alloc, earlier, count)?;
         Ok(Keeping {
             kept,
             following: Some(following),

@@ -8,4 +8,4 @@ pub returns : goal.returns
 returns c =
     let all = c.args.earlier.now.0 in
     let kept = c.units-kept.result.now in
-    subst (λ changed. IsBeside (map added_by all) false changed kept []) (sym c.new.ensures) (beside-start all kept c.units-kept.ensures.items c.units-kept.ensures.kept)
+    subst (λ changed. IsBeside (map added_by all) false changed kept []) (sym c.in_ok-new.ensures) (beside-start all kept c.units-kept.ensures.items c.units-kept.ensures.kept)
