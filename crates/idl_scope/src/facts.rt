@@ -57,7 +57,7 @@ impl Model for Facts {
         HaveOwnKeys facts.others
         × ((facts.count ≡ length facts.first.items + length facts.others)
         × AreMarked facts.marks key_digest
-            (addition_at (facts.first.items ++ map (λ e. e.1) facts.others))) };
+        (addition_at (facts.first.items ++ map (λ e. e.1) facts.others))) };
 }
 
 impl Drop for Facts {
@@ -256,11 +256,7 @@ fn behind<'a>(
 
 // Whether one of the additions, of which these are the marks, may be at the key of another.
 #[inline]
-fn may_be_among(
-    marks: &Marks<1>,
-    additions: &[DigestedAddition],
-    other: &DigestedAddition,
-) -> bool
+fn may_be_among(marks: &Marks<1>, additions: &[DigestedAddition], other: &DigestedAddition) -> bool
     requires { AreMarked marks.now key_digest (addition_at additions.now) }
     ensures { IsFalse result → addition_at additions.now (key_of other.now) ≡ None }
 {
