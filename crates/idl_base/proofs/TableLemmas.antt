@@ -1,6 +1,6 @@
 -- A table's entries by the index of their places.
 use Rattle.std.specs.Prelude.{nat_lt, slice_get, slice_set, slice_index_or}
-use Rattle.std.proofs.Common.{◌≡◌, ◌≢◌, ◌↔◌, ◌+◌, ℕ, zero, suc, ◌<◌, Bool, true, false, not, cond, if◌then◌else◌, List, [], ◌∷◌, ◌++◌, Option, None, Some, is_some, length, ◌⊎◌, inl, inr, refl, sym, ap, ◌∙◌, arith}
+use Rattle.std.proofs.Common.{◌≡◌, ◌≢◌, ◌↔◌, ◌+◌, ℕ, zero, suc, ◌<◌, Bool, true, false, not, cond, if◌then◌else◌, List, [], ◌∷◌, ◌++◌, Option, None, Some, is_some, length, ◌⊎◌, inl, inr, refl, sym, ap, ◌∙◌, arith, true≢false}
 use Rattle.std.specs.Bool.{Decides}
 use Rattle.std.specs.List.{position, position_or_len}
 use Rattle.std.specs.Map.{lookup, keys_of}
@@ -123,6 +123,36 @@ module _ {K V : Type 0} (eq : K → K → Bool) (exact : (x y : K) → Decides (
           let within : i < length (keys_of es) = slice_get_within (keys_of es) i k h in
           let below : i < length es = omega (arith, length-keys_of es) in
           ap (λ n. cond (nat_lt n (length es)) (Some n) None) (position_or_len-at es k i distinct h) ∙ ap (λ b. cond b (Some i) None) (lt-ltb i (length es) below)
+
+module _ {V : Type 0} (v : V) where
+  -- of two values at one key the first counts
+  pub cond-twice : (b : Bool) (w : V) (o : Option V) → cond b (Some v) o ≡ cond b (Some v) (cond b (Some w) o)
+  cond-twice true w o = refl
+  cond-twice false w o = refl
+
+  -- of two at keys that differ it doesn't matter which is first
+  pub cond-apart : (a b : Bool) (w : V) (o : Option V) → (a ≡ true → b ≡ true → ⊥) → cond a (Some w) (cond b (Some v) o) ≡ cond b (Some v) (cond a (Some w) o)
+  cond-apart true true w o apart = absurd (apart refl refl)
+  cond-apart true false w o apart = refl
+  cond-apart false b w o apart = refl
+
+module _ {K V : Type 0} (eq : K → K → Bool) (same : (x y : K) → eq x y ≡ true → x ≡ y) (key : K) (v : V) (q : K) where
+  -- a look-up behind a put
+  pub lookup-insert_entry : (es : List (K × V)) → lookup (eq q) (insert_entry eq es key v) ≡ cond (eq q key) (Some v) (lookup (eq q) es)
+  lookup-insert_entry [] = refl
+  lookup-insert_entry (e ∷ es) = by (eq key e.0) refl (lookup-insert_entry es)
+    where
+      by : (b : Bool) → eq key e.0 ≡ b → lookup (eq q) (insert_entry eq es key v) ≡ cond (eq q key) (Some v) (lookup (eq q) es)
+          → lookup (eq q) (insert_entry eq (e ∷ es) key v) ≡ cond (eq q key) (Some v) (lookup (eq q) (e ∷ es))
+      by true t rest =
+          ap (λ b. lookup (eq q) (cond b ((e.0, v) ∷ es) (e ∷ insert_entry eq es key v))) t
+          ∙ cond-twice v (eq q e.0) e.1 (lookup (eq q) es)
+          ∙ ap (λ k. cond (eq q k) (Some v) (lookup (eq q) (e ∷ es))) (sym (same key e.0 t))
+      by false t rest =
+          ap (λ b. lookup (eq q) (cond b ((e.0, v) ∷ es) (e ∷ insert_entry eq es key v))) t
+          ∙ ap (cond (eq q e.0) (Some e.1)) rest
+          ∙ cond-apart v (eq q e.0) (eq q key) e.1 (lookup (eq q) es)
+          (λ here there. true≢false (sym here ∙ ap (λ x. eq x e.0) (same q key there) ∙ t))
 
 module _ {K : Type 0} where
   -- an item before the last

@@ -14,7 +14,6 @@ use Rattle.idl_site.specs.declared.site.Declaration.{Declaration}
 use Rattle.idl_site.specs.declared.site.Declaration.TheVariants as declaration
 use Rattle.idl_site.specs.declared.site.Use.{Use}
 use Rattle.idl_site.specs.declared.site.Use.TheVariants.{Raised, RaisedBySet}
-use Rattle.idl_tree.specs.declared.operation.Direction.{Direction}
 use Rattle.idl_tree.specs.declared.operation.Direction.TheVariants.{In, Out}
 use Rattle.idl_tree.specs.declared.several.Several.{Several}
 use Rattle.idl_value.specs.declared.value.Value.{Value}

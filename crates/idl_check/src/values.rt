@@ -1,6 +1,6 @@
 //! The expressions of a unit.
 
-ghost use Rattle.std.specs.Prelude.{◌≡◌, [], IfOk, OnOk};
+ghost use Rattle.std.specs.Prelude.{◌≡◌, IfOk, OnOk};
 ghost use Rattle.std.specs.Option.{option_copied};
 ghost use Rattle.idl_check.specs.Held.{held_values};
 ghost use Rattle.idl_check.specs.Values.{begun_at, code_of, no_values, number_of, outcome_for, value_for, with_operand, with_value};

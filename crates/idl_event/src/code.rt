@@ -120,7 +120,7 @@ pub enum Code {
     NoRepositoryId,
     /// A struct or union that is never defined. (E75)
     NeverDefined,
-    /// An interface that is never defined: the one warning. (W80)
+    /// An interface that is never defined: the one warning, of the number 80.
     InterfaceNeverDefined,
 }
 

@@ -32,8 +32,8 @@ places =
     ∷ 64 ∷ 18 ∷ 64 ∷ 64 ∷ 64 ∷ 64 ∷ 64 ∷ 64 ∷ 25 ∷ 64 ∷ 48 ∷ 64 ∷ 64 ∷ 39 ∷ 64 ∷ 37 ∷ 64 ∷ 64 ∷ 64
     ∷ 64 ∷ 64 ∷ 59 ∷ 64 ∷ 58 ∷ 64 ∷ 64 ∷ 64 ∷ 64 ∷ []
 
--- where the keyword stands that a word in lower case can be; 64 where it can be none, as a word of
--- one byte or of more than 11
+-- where the keyword stands that a word can be, whatever its case; 64 where it can be none, as a
+-- word of one byte or of more than 11
 abbrev pub place : List ℕ → ℕ
 place word =
     if nat_lt (length word) 2 || nat_lt 11 (length word) then 64 else get_or places (mixed word) 0

@@ -4,7 +4,6 @@ pub mod ArrivalLemmas
 pub mod ConditionLemmas
 pub mod DirectiveLemmas
 pub mod MacroLemmas
-pub mod MarkLemmas
 pub mod OutputLemmas
 pub mod PlainLemmas
 pub mod ReplaceLemmas

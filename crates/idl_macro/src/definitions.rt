@@ -10,12 +10,14 @@ ghost use Rattle.idl_event.specs.Expanding.{arrival, arrived};
 ghost use Rattle.idl_lex.specs.Tokens.{tokens_in};
 ghost use Rattle.idl_macro.specs.Macros.{body_in, macro_of};
 
-use crate::marks::Marks;
-use idl_base::{Table, with_bytes};
+use idl_base::{Marks, Table, with_bytes};
 use idl_event::{Answer, Progress, RootBank};
 use idl_lex::{PlacedToken, Spelling, TokenRange};
 use std::alloc::{AllocError, Global};
 use std::marker::Model;
+
+// So many words of marks there are.
+const WORDS: usize = 16;
 
 /// What a root itself has said of words: the body of a macro, or that the macro is removed.
 ///
@@ -23,20 +25,23 @@ use std::marker::Model;
 #[derive(Drop)]
 pub struct Definitions {
     entries: Table<Spelling, Option<TokenRange>>,
-    marks: Marks,
+    marks: Marks<WORDS>,
 }
 
 impl Model for Definitions {
     ghost use Rattle.std.specs.Prelude.{List, ℕ, Option};
-    ghost use Rattle.std.specs.Map.{keys_of};
+    ghost use Rattle.std.specs.Map.{lookup};
+    ghost use Rattle.std.specs.Str.{bytes_eq};
+    ghost use Rattle.idl_base.specs.Digest.{with_bytes};
+    ghost use Rattle.idl_base.specs.Marks.{AreMarked};
     ghost use Rattle.idl_lex.specs.Tokens.{Token};
-    ghost use Rattle.idl_macro.specs.Marks.{AreMarked};
 
     ghost Value = { List (List ℕ × Option (List Token)) };
 
     ghost view = { λ definitions. definitions.entries };
 
-    ghost invariant = { λ definitions. AreMarked definitions.marks (keys_of definitions.entries) };
+    ghost invariant = { λ definitions. AreMarked definitions.marks (with_bytes 0)
+        (λ word. lookup (bytes_eq word) definitions.entries) };
 }
 
 /// The macros of a root: what the root has said of them, and the bank that is asked of the others.
@@ -111,7 +116,7 @@ impl Definitions {
         ensures ok { OnOk result (self.new ≡ insert_entry bytes_eq self.old word.now body) }
         ensures err { OnErr result (self.new ≡ self.old) }
     {
-        self.marks.mark(word);
+        self.marks.mark(with_bytes(0, word.as_bytes()));
         self.entries.insert(word.clone()?, body)?;
         Ok(())
     }

@@ -8,7 +8,6 @@
 mod conditional;
 mod definitions;
 mod directive;
-mod marks;
 mod replacement;
 mod word;
 

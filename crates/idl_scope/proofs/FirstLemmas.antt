@@ -1,9 +1,10 @@
 -- Additions that are looked through one by one.
-use Rattle.std.proofs.Common.{◌≡◌, ◌<◌, ℕ, zero, suc, Bool, true, false, cond, List, [], ◌∷◌, ◌++◌, length, Some, None, is_some, refl, sym, ap, ◌∙◌, arith, ◌||◌, nat_eq, nat_lt}
+use Rattle.std.proofs.Common.{◌≡◌, ◌<◌, ℕ, zero, suc, Bool, true, false, cond, List, [], ◌∷◌, ◌++◌, length, Some, None, is_some, refl, sym, ap, ◌∙◌, arith, ◌||◌, nat_eq, nat_lt, true≢false}
 use Rattle.std.specs.Map.{lookup}
 use Rattle.std.specs.Prelude.{get_or, slice_get, slice_set}
 use Rattle.std.proofs.lemmas.List.Quantifiers.{position-Some}
 use Rattle.idl_base.specs.Table.{insert_entry}
+use Rattle.idl_base.proofs.TableLemmas.{cond-apart, cond-twice}
 use Rattle.std.specs.List.{find, list_any, position, position_or_len}
 use Rattle.std.specs.Option.{option_or}
 use Rattle.std.proofs.lemmas.Bool.{eqb-false, ltb-false}
@@ -68,6 +69,21 @@ module _ (k : Key) where
           → cond b (Some a) (addition_at (additions ++ more) k) ≡ option_or (cond b (Some a) (addition_at additions k)) (addition_at more k)
       by true rest = refl
       by false rest = rest
+
+-- what is at a key with one more
+pub addition_at-with_addition : (additions : List Addition) (a : Addition) (k : Key) → addition_at (with_addition additions a) k ≡ cond (key_eq k (key_of a)) (Some a) (addition_at additions k)
+addition_at-with_addition [] a k = refl
+addition_at-with_addition (b ∷ additions) a k = by (key_eq (key_of a) (key_of b)) refl (addition_at-with_addition additions a k)
+  where
+    by : (t : Bool) → key_eq (key_of a) (key_of b) ≡ t → addition_at (with_addition additions a) k ≡ cond (key_eq k (key_of a)) (Some a) (addition_at additions k)
+        → addition_at (cond t (a ∷ additions) (b ∷ with_addition additions a)) k ≡ cond (key_eq k (key_of a)) (Some a) (addition_at (b ∷ additions) k)
+    by true t rest =
+        cond-twice a (key_eq k (key_of a)) b (addition_at additions k)
+        ∙ ap (λ own. cond (key_eq k (key_of a)) (Some a) (cond (key_eq k own) (Some b) (addition_at additions k))) (same_key (key_of a) (key_of b) t)
+    by false t rest =
+        ap (cond (key_eq k (key_of b)) (Some b)) rest
+        ∙ cond-apart a (key_eq k (key_of b)) (key_eq k (key_of a)) b (addition_at additions k)
+        (λ here there. true≢false (sym here ∙ ap (λ q. key_eq q (key_of b)) (same_key k (key_of a) there) ∙ t))
 
 -- one more goes behind those of which none is at its key
 pub with_addition-behind : (additions more : List Addition) (a : Addition) → addition_at additions (key_of a) ≡ None → with_addition (additions ++ more) a ≡ additions ++ with_addition more a

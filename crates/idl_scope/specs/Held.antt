@@ -1,8 +1,8 @@
 -- How facts are kept, and what they come to: each addition at its key, and each answer at its key.
-use Rattle.std.specs.Prelude.{◌≡◌, ◌≢◌, ℕ, ◌/◌, ◌^◌, List, [], ◌∷◌, Option, None, Some, bit_and, reverse}
+use Rattle.std.specs.Prelude.{◌≡◌, List, [], ◌∷◌, Option, None, Some, reverse}
 use Rattle.std.specs.Map.{lookup}
 use Rattle.idl_scope.specs.Facts.{key_of, World}
-use Rattle.idl_scope.specs.Key.{key_digest, key_eq}
+use Rattle.idl_scope.specs.Key.{key_eq}
 use Rattle.idl_scope.specs.declared.addition.Addition.{Addition}
 use Rattle.idl_scope.specs.declared.answer.Scope.{Scope}
 use Rattle.idl_scope.specs.declared.key.Key.{Key}
@@ -12,20 +12,6 @@ use Rattle.idl_scope.specs.declared.state.State.{State}
 abbrev pub HaveOwnKeys : List (Key × Addition) → Type 0
 HaveOwnKeys [] = Unit {0}
 HaveOwnKeys (e ∷ entries) = (e.0 ≡ key_of e.1) × HaveOwnKeys entries
-
--- the mark of a digest: one of 64 bits, by its first 6
-abbrev pub mark : ℕ → ℕ
-mark digest = 2 ^ (digest / 2 ^ 58)
-
--- the mark of a digest is among marks
-abbrev pub IsMarked : ℕ → ℕ → Type 0
-IsMarked marks digest = bit_and marks (mark digest) ≢ 0
-
--- the marks of the digests at whose keys additions are
-abbrev pub AreMarked : ℕ → List Addition → Type 0
-AreMarked marks [] = Unit {0}
-AreMarked marks (a ∷ additions) =
-    IsMarked marks (key_digest (key_of a)) × AreMarked marks additions
 
 -- what is kept comes to: the lists have the innermost scope, and the file that was entered last, last
 abbrev pub held : State → World

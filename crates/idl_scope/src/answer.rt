@@ -1,6 +1,6 @@
 //! What is answered about names.
 
-ghost use Rattle.std.specs.Prelude.{◌≡◌, IfOk, IfSome, None};
+ghost use Rattle.std.specs.Prelude.{◌≡◌, IfSome, None};
 ghost use Rattle.std.specs.Option.{option_copied};
 ghost use Rattle.idl_scope.specs.Facts.{count_in, entity_in, global_scope, identity_in, no_prefix, prefix_in, scopes_in};
 ghost use Rattle.idl_scope.specs.declared.answer.Answer.TheVariants as answers;

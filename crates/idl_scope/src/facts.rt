@@ -1,11 +1,11 @@
 //! What a unit adds.
 
-ghost use Rattle.std.specs.Prelude.{◌≡◌, ◌<◌, ◌++◌, ◌∷◌, ◌↔◌, [], IfErr, IfOk, IsFalse, IsTrue, None, OnErr, OnOk, bit_and, length, slice_get};
+ghost use Rattle.std.specs.Prelude.{◌≡◌, ◌<◌, ◌++◌, ◌∷◌, [], IfErr, IfOk, IsFalse, IsTrue, None, OnErr, OnOk, length, slice_get};
 ghost use Rattle.std.specs.Map.{lookup};
 ghost use Rattle.std.specs.Option.{option_copied};
+ghost use Rattle.idl_base.specs.Marks.{AreMarked};
 ghost use Rattle.idl_scope.specs.Facts.{addition_at, key_of, with_addition};
-ghost use Rattle.idl_scope.specs.Held.{AreMarked, mark};
-ghost use Rattle.idl_scope.specs.Key.{key_eq};
+ghost use Rattle.idl_scope.specs.Key.{key_digest, key_eq};
 ghost use Rattle.idl_scope.specs.declared.addition.Step.TheVariants.{Stays};
 ghost use Rattle.idl_scope.specs.declared.facts.TheConstants.{FEW};
 
@@ -13,7 +13,7 @@ use crate::addition::{Addition, Step};
 use crate::digested::DigestedKey;
 use crate::digested_addition::{DigestedAddition, asked_among, is_digest_among, place_among};
 use crate::lent_key::LentKey;
-use idl_base::Table;
+use idl_base::{Marks, Table};
 use idl_map::Lent;
 use std::alloc::{AllocError, Global};
 use std::marker::Model;
@@ -32,7 +32,7 @@ pub struct Facts {
     alloc: Global,
     first: Vec<DigestedAddition>,
     // The marks of the digests of all keys: where a digest's is not among them, no addition is at such a key.
-    marks: u64,
+    marks: Marks<1>,
     others: Table<DigestedKey, DigestedAddition>,
     // How many there are of both.
     count: usize,
@@ -41,8 +41,10 @@ pub struct Facts {
 
 impl Model for Facts {
     ghost use Rattle.std.specs.Prelude.{◌≡◌, ◌+◌, ◌++◌, length, map};
-    ghost use Rattle.idl_scope.specs.Facts.{UnitFacts};
-    ghost use Rattle.idl_scope.specs.Held.{AreMarked, HaveOwnKeys};
+    ghost use Rattle.idl_base.specs.Marks.{AreMarked};
+    ghost use Rattle.idl_scope.specs.Facts.{UnitFacts, addition_at};
+    ghost use Rattle.idl_scope.specs.Held.{HaveOwnKeys};
+    ghost use Rattle.idl_scope.specs.Key.{key_digest};
 
     ghost Value = { UnitFacts };
 
@@ -54,7 +56,8 @@ impl Model for Facts {
     ghost invariant = { λ facts.
         HaveOwnKeys facts.others
         × ((facts.count ≡ length facts.first.items + length facts.others)
-        × AreMarked facts.marks (facts.first.items ++ map (λ e. e.1) facts.others)) };
+        × AreMarked facts.marks key_digest
+        (addition_at (facts.first.items ++ map (λ e. e.1) facts.others))) };
 }
 
 impl Drop for Facts {
@@ -78,7 +81,7 @@ impl Facts {
         Facts {
             alloc,
             first: Vec::new(alloc),
-            marks: 0,
+            marks: Marks::new(),
             others: Table::new(alloc),
             count: 0,
             step: Step::Stays,
@@ -95,12 +98,12 @@ impl Facts {
         if !has_room(&self.first, &self.others) {
             return self.put(addition);
         }
-        if may_be_among(self.marks, self.first.as_slice(), &addition) {
+        if may_be_among(&self.marks, self.first.as_slice(), &addition) {
             return self.put(addition);
         }
         let digest = addition.digest();
         push(&mut self.first, addition)?;
-        self.marks |= mark(digest);
+        self.marks.mark(digest);
         self.count += 1;
         Ok(())
     }
@@ -115,22 +118,19 @@ impl Facts {
         let Some(count) = self.count.checked_add(1) else {
             return Err(AllocError);
         };
-        let marks = self.marks | mark(addition.digest());
+        self.marks.mark(addition.digest());
         if let Some(place) = place_among(self.first.as_slice(), &addition) {
             self.first[place] = addition;
-            self.marks = marks;
             return Ok(());
         }
         if has_room(&self.first, &self.others) {
             self.first.push(addition)?;
-            self.marks = marks;
             self.count = count;
             return Ok(());
         }
         let key = addition.key(self.alloc)?;
         let is_new = !self.others.contains(&key);
         self.others.insert(key, addition)?;
-        self.marks = marks;
         if is_new {
             self.count = count;
         }
@@ -148,7 +148,7 @@ impl Facts {
     pub fn get(&self, key: &LentKey<'_>) -> Result<Option<&Addition>, AllocError>
         ensures { IfOk result (λ a. option_copied a ≡ addition_at self.now.additions key.now) }
     {
-        if !is_marked(self.marks, key.digest()) {
+        if !self.marks.has(key.digest()) {
             return Ok(None);
         }
         self.find(key)
@@ -254,27 +254,11 @@ fn behind<'a>(
     }
 }
 
-// The mark of a digest: one of 64 bits, by its first 6.
-#[inline]
-fn mark(digest: u64) -> u64
-    ensures { result ≡ mark digest }
-{
-    1 << (digest >> 58)
-}
-
-// Whether the mark of a digest is among marks.
-#[inline]
-fn is_marked(marks: u64, digest: u64) -> bool
-    ensures { IsFalse result ↔ (bit_and marks (mark digest) ≡ 0) }
-{
-    marks & mark(digest) != 0
-}
-
 // Whether one of the additions, of which these are the marks, may be at the key of another.
 #[inline]
-fn may_be_among(marks: u64, additions: &[DigestedAddition], other: &DigestedAddition) -> bool
-    requires { AreMarked marks additions.now }
+fn may_be_among(marks: &Marks<1>, additions: &[DigestedAddition], other: &DigestedAddition) -> bool
+    requires { AreMarked marks.now key_digest (addition_at additions.now) }
     ensures { IsFalse result → addition_at additions.now (key_of other.now) ≡ None }
 {
-    is_marked(marks, other.digest()) && is_digest_among(additions, other)
+    marks.has(other.digest()) && is_digest_among(additions, other)
 }

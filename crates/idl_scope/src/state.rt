@@ -2,7 +2,7 @@
 
 ghost use Rattle.std.specs.Prelude.{◌≡◌, ◌<◌, ◌∷◌, ◌++◌, [], IfOk, drop, map, OnOk, option_to_list, reverse};
 ghost use Rattle.std.specs.Option.{option_map};
-ghost use Rattle.idl_scope.specs.Facts.{after, after_closing, after_nameless, after_opening, after_step, closed, closing, entity_key, first_world, given_back, inherited, innermost, joined, more_inside, nameless, next_body, no_prefix, operations_among, operations_of, path_around, prefix_in, with_additions, with_answer, count_in, entity_in, scopes_in, over};
+ghost use Rattle.idl_scope.specs.Facts.{after, after_step, closed, closing, first_world, given_back, inherited, innermost, nameless, next_body, path_around, prefix_in, with_additions, count_in, entity_in, scopes_in, over};
 ghost use Rattle.idl_scope.specs.Held.{closable, held};
 ghost use Rattle.idl_scope.specs.Key.{key_eq};
 ghost use Rattle.idl_scope.specs.declared.addition.Addition.TheVariants.{Declares};

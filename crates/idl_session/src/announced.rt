@@ -70,7 +70,6 @@ fn first_announced(alloc: Global, count: usize) -> Announced
 // Takes one line more, of which nothing was kept if it is too long.
 fn take_line(announced: &mut Announced, line: Option<&[u8]>)
     requires one_line { IfSome line (λ l. IsLine l.now) }
-
     ensures { (count : ℕ) (lines : List (List ℕ)) (next : List ℕ)
         → option_copied line.entry ≡ line_within longest_line next
         → IsGathered count lines announced.old → IsGathered count (lines ++ next ∷ []) announced.new }

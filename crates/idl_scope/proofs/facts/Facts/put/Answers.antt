@@ -2,13 +2,14 @@ use Rattle.std.proofs.Common.{◌≡◌, ◌++◌, [], suc, refl, cond, false, t
 use Rattle.std.specs.List.{position}
 use Rattle.std.proofs.lemmas.List.{length-set}
 use Rattle.std.specs.Map.{lookup}
+use Rattle.idl_base.specs.Marks.{is_marked}
 use Rattle.idl_base.specs.Table.{insert_entry}
 use Rattle.idl_scope.specs.Facts.{UnitFacts, key_of, with_addition}
-use Rattle.idl_scope.specs.Held.{HaveOwnKeys, mark}
+use Rattle.idl_scope.specs.Held.{HaveOwnKeys}
 use Rattle.idl_scope.specs.Key.{key_eq}
 use Rattle.idl_scope.proofs.AnswerLemmas.{HaveOwnKeys-insert_entry, additions-insert_entry}
 use Rattle.idl_scope.proofs.FirstLemmas.{absent, length-insert_entry, with_addition-at, with_addition-behind, with_addition-last}
-use Rattle.idl_scope.proofs.MarkLemmas.{AreMarked-then}
+use Rattle.idl_scope.proofs.MarkLemmas.{AreMarked-with_addition}
 use Rattle.idl_scope.proofs.facts.Facts.put.Goals as goal
 
 pub invariant_of-self : goal.invariant_of-self
@@ -17,11 +18,11 @@ invariant_of-self c =
     let more = map (λ e. e.1) c.self.inside.others in
     let a = c.args.addition in
     let there = ap (position (λ b. key_eq (key_of a) (key_of b))) (sym c.as_slice.ensures.value) ∙ sym c.in-Some-place_among.ensures in
-    let own = c.mark.ensures ∙ ap mark c.digest.ensures in (
+    let marked = ap (is_marked c.mark.new.self) (sym c.digest.ensures) ∙ c.mark.ensures.marked in (
       c.self.invariant.0,
       (
         omega (arith, c.self.invariant.1.0, length-set first c.in-Some-place_among.place a),
-        AreMarked-then c.self.inside.marks c.mark.result (first ++ more) _ a own (sym (with_addition-at first more a c.in-Some-place_among.place there)) c.self.invariant.1.1,
+        AreMarked-with_addition c.self.inside.marks c.mark.new.self (first ++ more) _ a c.mark.ensures.kept marked (sym (with_addition-at first more a c.in-Some-place_among.place there)) c.self.invariant.1.1,
       ),
     )
 
@@ -33,11 +34,11 @@ invariant_of-self-then-has_room c =
     let nowhere = ap (position (λ b. key_eq (key_of a) (key_of b))) (sym c.as_slice.ensures.value) ∙ sym c.in_default-place_among.ensures in
     let none : c.self.inside.others ≡ [] = c.if-has_room.ensures.none refl in
     let put = ap (λ l. l ++ more) c.in_ok-push.ensures.items ∙ with_addition-last first more a (ap (map (λ e. e.1)) none) (absent (key_of a) first nowhere) in
-    let own = c.mark.ensures ∙ ap mark c.digest.ensures in (
+    let marked = ap (is_marked c.mark.new.self) (sym c.digest.ensures) ∙ c.mark.ensures.marked in (
       c.self.invariant.0,
       (
         omega (arith, c.self.invariant.1.0, c.in-Some.ensures, ap length c.in_ok-push.ensures.items, length-append first (a ∷ [])),
-        AreMarked-then c.self.inside.marks c.mark.result (first ++ more) _ a own put c.self.invariant.1.1,
+        AreMarked-with_addition c.self.inside.marks c.mark.new.self (first ++ more) _ a c.mark.ensures.kept marked put c.self.invariant.1.1,
       ),
     )
 
@@ -75,7 +76,7 @@ invariant_of-self-then-is_new c =
       own,
       (
         omega (arith, c.self.invariant.1.0, c.in-Some.ensures, ap length c.in_ok-insert.ensures.entries, count),
-        AreMarked-then c.self.inside.marks c.mark.result (first ++ map (λ e. e.1) entries) _ a (c.mark.ensures ∙ ap mark c.digest.ensures) grown c.self.invariant.1.1,
+        AreMarked-with_addition c.self.inside.marks c.mark.new.self (first ++ map (λ e. e.1) entries) _ a c.mark.ensures.kept (ap (is_marked c.mark.new.self) (sym c.digest.ensures) ∙ c.mark.ensures.marked) grown c.self.invariant.1.1,
       ),
     )
 
@@ -93,7 +94,7 @@ invariant_of-self-else-is_new c =
       own,
       (
         omega (arith, c.self.invariant.1.0, ap length c.in_ok-insert.ensures.entries, count),
-        AreMarked-then c.self.inside.marks c.mark.result (first ++ map (λ e. e.1) entries) _ a (c.mark.ensures ∙ ap mark c.digest.ensures) grown c.self.invariant.1.1,
+        AreMarked-with_addition c.self.inside.marks c.mark.new.self (first ++ map (λ e. e.1) entries) _ a c.mark.ensures.kept (ap (is_marked c.mark.new.self) (sym c.digest.ensures) ∙ c.mark.ensures.marked) grown c.self.invariant.1.1,
       ),
     )
 
