@@ -102,7 +102,7 @@ impl Buckets {
 }
 
 // A slot that is empty by its tag, or nothing.
-#[inline]
+#[inline(always)]
 fn empty_slot(tags: &[u8; 16]) -> Option<usize>
     ensures below { IfSome result (λ slot. slot < 16) }
     ensures empty { IfSome result (λ slot. slice_index tags.now slot ≡ 0) }
