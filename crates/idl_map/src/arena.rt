@@ -92,6 +92,7 @@ impl<K: Digest + Ord, V: Datum> Arena<K, V> {
     }
 
     // The value that the rest has at a key that is lent.
+    #[inline]
     fn lent_among_rest<L: Lent<K>>(&self, key: &L) -> Result<Option<&V>, AllocError>
         ensures { IfOk result (λ value.
             option_copied value ≡ lookup (K.eq (L.key key.now)) self.now.rest) }
@@ -99,6 +100,15 @@ impl<K: Digest + Ord, V: Datum> Arena<K, V> {
         if self.rest.is_empty() {
             return Ok(None);
         }
+        self.made_among_rest(key)
+    }
+
+    // The same, where the rest has entries. It stands apart, since it is empty but where many digests choose one bucket.
+    #[inline(never)]
+    fn made_among_rest<L: Lent<K>>(&self, key: &L) -> Result<Option<&V>, AllocError>
+        ensures { IfOk result (λ value.
+            option_copied value ≡ lookup (K.eq (L.key key.now)) self.now.rest) }
+    {
         let key = key.owned()?;
         Ok(self.rest.get(&key))
     }
@@ -125,7 +135,7 @@ impl<K: Digest + Ord, V: Datum> Arena<K, V> {
     }
 
     // The same, where the spot of the key's digest is known.
-    #[inline]
+    #[inline(always)]
     fn place_at<L: Lent<K>>(&self, spot: Spot, key: &L) -> Option<usize>
         requires sound { IsSound K.digest_of self.now }
         requires spot { IsSpot self.now.index.parts.items spot }
@@ -172,16 +182,13 @@ impl<K: Digest + Ord, V: Datum> Arena<K, V> {
         if self.index.marked(spot) == 0 {
             return self.push(spot, key, value);
         }
-        self.put(spot, key, value)
+        self.put(key, value)
     }
 
-    // The same, where the spot of the key's digest is known. It stands apart, since most keys are new and have a tag that their
-    // bucket hasn't.
+    // The same for any key. It stands apart, since most keys are new and have a tag that their bucket hasn't.
     #[inline(never)]
-    fn put(&mut self, spot: Spot, key: K, value: V) -> Result<(), AllocError>
-        requires sound { IsSound K.digest_of self.old }
-        requires spot { IsSpot self.old.index.parts.items spot }
-        requires digest { spot.digest ≡ K.digest_of key }
+    fn put(&mut self, key: K, value: V) -> Result<(), AllocError>
+        requires { IsSound K.digest_of self.old }
         ensures sound { IsSound K.digest_of self.new }
         ensures each_key { OnOk result
             ((k : K)
@@ -190,6 +197,7 @@ impl<K: Digest + Ord, V: Datum> Arena<K, V> {
         ensures err { OnErr result
             ((k : K) → lookup (K.eq k) (entries_of self.new) ≡ lookup (K.eq k) (entries_of self.old)) }
     {
+        let spot = self.index.spot_of(key.digest());
         if let Some(place) = self.place_at(spot, &Own { key: &key }) {
             let entry = &mut self.entries[place];
             entry.1 = value;

@@ -24,9 +24,9 @@ returns-in-Some-clause-sound g c =
     let own : entry.0 ≡ c.args.key = ap (λ e. e.0) c.index_mut-entry.ensures.value ∙ key-at es place c.args.key entry at in
     let keys : keys_of (slice_set es place (entry.0, c.args.value)) ≡ keys_of es = keys_of-slice_set es place entry.0 c.args.value (at ∙ ap Some (sym own)) in
     record {
-      distinct = subst AreDistinct (sym keys) c.requires.sound.distinct;
-      digests = c.requires.sound.digests ∙ ap (map g.K.Digest.digest_of) (sym keys);
-      indexed = c.requires.sound.indexed;
+      distinct = subst AreDistinct (sym keys) c.requires.distinct;
+      digests = c.requires.digests ∙ ap (map g.K.Digest.digest_of) (sym keys);
+      indexed = c.requires.indexed;
     }
 
 pub returns-in-Some-clause-each_key : goal.returns-in-Some-clause-each_key
@@ -39,7 +39,7 @@ returns-in-Some-clause-each_key g c k =
     let at : slice_get (keys_of es) place ≡ Some c.args.key = (c.place_at.ensures place).0 c.in-Some.is in
     let own : entry.0 ≡ c.args.key = ap (λ e. e.0) c.index_mut-entry.ensures.value ∙ key-at es place c.args.key entry at in
     ap (λ x. lookup (eq k) (slice_set es place (x, c.args.value) ++ rest)) own
-    ∙ lookup-replace eq g.met.K.Eq.laws g.met.K.Datum.same c.args.key c.args.value k es rest place c.requires.sound.distinct at
+    ∙ lookup-replace eq g.met.K.Eq.laws g.met.K.Datum.same c.args.key c.args.value k es rest place c.requires.distinct at
 
 pub push-requires-clause-absent : goal.push-requires-clause-absent
 push-requires-clause-absent g c =
