@@ -12,9 +12,11 @@ of_ends first last = mixed (mixed 0 first) last
 abbrev pub ends : Width → ℕ → List ℕ → ℕ
 ends width n word = of_ends (from_le_bytes width (take n word)) (from_le_bytes width (drop (length word - n) word))
 
--- a digest of a word: of eight bytes at either end, or four, or of each where it has fewer
+-- a digest of a word: of eight bytes at either end, or four, which are all that it has; of each byte where it has more than
+-- sixteen, or fewer than four
 unfoldable pub digest_of : List ℕ → ℕ
 digest_of word =
-    if nat_le 8 (length word) then ends w64 8 word
+    if nat_le 17 (length word) then with_bytes 0 word
+    else if nat_le 8 (length word) then ends w64 8 word
     else if nat_le 4 (length word) then ends w32 4 word
     else with_bytes 0 word
