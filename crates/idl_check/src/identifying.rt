@@ -11,9 +11,7 @@ ghost use Rattle.idl_scope.specs.Lookup.{under};
 use idl_base::InlineText;
 use idl_lex::Spelling;
 use idl_memo::Journal;
-use idl_scope::{
-    Entity, Env, Fixed, Identity, Kind, Prefix, Shared, View, shared_name,
-};
+use idl_scope::{Entity, Env, Fixed, Identity, Kind, Prefix, Shared, View, shared_name};
 use itoa::Buffer;
 use std::alloc::{AllocError, Global};
 
@@ -97,9 +95,7 @@ fn id_before(
         (answers view.entry.env.now) log.old) }
 {
     match there {
-        Some(old) if may_be_ahead(old.get().kind()) => {
-            view.identity(log, new.path())
-        }
+        Some(old) if may_be_ahead(old.get().kind()) => { view.identity(log, new.path()) }
         _ => Ok(None),
     }
 }

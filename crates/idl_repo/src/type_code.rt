@@ -10,8 +10,8 @@ use crate::piece::{push_id, push_listed, push_number};
 use idl_lex::Spelling;
 use idl_memo::Journal;
 use idl_scope::{
-    Answer, DataType, Element, Entity, Env, Kind, Layer, Member, Path, Shared, Signature,
-    Unvalued, push_id_at,
+    Answer, DataType, Element, Entity, Env, Kind, Layer, Member, Path, Shared, Signature, Unvalued,
+    push_id_at,
 };
 use idl_value::{IntegerKind, Target, Value};
 use std::alloc::AllocError;

@@ -77,4 +77,3 @@ relative-inside (n ∷ t) p h =
 -- and one elsewhere is told whole
 pub relative-elsewhere : (path p : List (List ℕ)) → is_within (scope_of path) p ≡ false → relative path p ≡ path
 relative-elsewhere path p h = cond-false (is_within (scope_of path) p) (take (length path - length p) path) path h
-

@@ -133,9 +133,7 @@ pub fn identity_at(
     ensures { IfOk result (λ d. d ≡ identity_at path.now (option_copied answer.entry)) }
 {
     match answer {
-        Some(Answer::Appeared(prefix)) => {
-            Ok(Some(Identity::first(alloc, prefix.get(), path)?))
-        }
+        Some(Answer::Appeared(prefix)) => { Ok(Some(Identity::first(alloc, prefix.get(), path)?)) }
         Some(Answer::Identified(identity)) => Ok(Some(identity.clone()?)),
         _ => Ok(None),
     }
