@@ -73,7 +73,7 @@ pub fn verdict_of(
                 tokens: run.as_slice(),
                 scopes,
             };
-            judge.verdict(buffer, log, text)
+            judge.verdict(buffer, log)
         }
         UnitText::Pragma(tokens, inside) => {
             let speaker = Speaker {
