@@ -3,7 +3,7 @@
 ghost use Rattle.std.specs.Prelude.{◌≡◌, ◌∷◌, ◌++◌, ◌&&◌, [], IfNone, IfOk, OnOk, drop, flat_map, option_to_list};
 ghost use Rattle.idl_scope.specs.Kind.{kind_eq};
 ghost use Rattle.idl_scope.specs.declared.kind.Kind.TheVariants.{Attribute};
-ghost use Rattle.idl_check.specs.Bodies.{begun_body, comes_out, goes_in, is_member, is_nothing, joined_text, no_clauses, raises, raising, signature_of, told_body, told_innermost, with_array_body, with_array_type, with_body_label, with_context, with_last_type, with_member, with_name, with_next_label, with_raised};
+ghost use Rattle.idl_check.specs.Bodies.{begun_body, comes_out, goes_in, is_member, is_nothing, joined_text, nested, no_clauses, raises, raising, signature_of, told_body, told_innermost, with_array_body, with_array_type, with_body_label, with_context, with_last_type, with_member, with_name, with_next_label, with_raised};
 
 use crate::few::Few;
 use crate::last_type::LastType;
@@ -370,8 +370,7 @@ pub fn end_innermost(
 
 // Takes out the first of these scopes, if there is one.
 fn take_first(bodies: &mut Vec<Body>) -> Option<Body>
-    ensures some { bodies.old.items ≡ option_to_list result ++ bodies.new.items }
-    ensures none { IfNone result (bodies.old.items ≡ []) }
+    ensures { bodies.old.items ≡ nested result bodies.new.items }
 {
     if bodies.is_empty() {
         return None;
