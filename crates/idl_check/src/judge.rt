@@ -11,7 +11,7 @@ ghost use Rattle.idl_scope.specs.Key.{key_eq};
 ghost use Rattle.idl_scope.specs.declared.lookup.TheConstants.{TURNS};
 ghost use Rattle.idl_site.specs.Item.{item_at, items, items_length};
 ghost use Rattle.idl_site.specs.UnitParts.{unit_parts};
-ghost use Rattle.idl_syntax.specs.Parse.{IsTreeAt};
+ghost use Rattle.idl_syntax.specs.Parse.{IsTreeOf};
 ghost use Rattle.idl_tree.specs.Lexeme.{lexemes};
 ghost use Rattle.idl_tree.specs.Unit.{spell};
 ghost use Rattle.idl_tree.specs.declared.unit.Tree.{Tree as UnitsTree};
@@ -22,6 +22,7 @@ ghost use Rattle.std.specs.Option.{option_map};
 ghost use Rattle.idl_unit.specs.Faults.{least_fault};
 ghost use Rattle.idl_unit.specs.TokenRules.{fault_at, token_faults};
 ghost use Rattle.idl_unit.specs.declared.fault.Fault.{Fault as UnitFault};
+ghost use Rattle.idl_unit.specs.declared.unit.UnitText.TheVariants as unit;
 ghost use Rattle.idl_event.specs.declared.code.Code.TheVariants.{MisplacedUnit, NoTree};
 
 use crate::codes::lesser;
@@ -35,9 +36,9 @@ use idl_lex::Token;
 use idl_memo::Journal;
 use idl_scope::{DigestedKey, Env, Facts, Key, Path, Scope, Shared, Step, View, folded_name};
 use idl_site::{Site, sites};
-use idl_syntax::{SyntaxFault, parse_tokens};
+use idl_syntax::{SyntaxFault, UnitTree, parse};
 use idl_tree::Tree;
-use idl_unit::Fault;
+use idl_unit::{Fault, UnitText};
 use std::alloc::AllocError;
 
 /// A unit of tokens, in the scopes that are open around it.
@@ -57,20 +58,21 @@ struct Sited<'t> {
 }
 
 impl<'a> Judge<'a> {
-    /// The verdict of the unit. Its row is written in a buffer before it is copied.
+    /// The verdict of the unit, whose text this is. Its row is written in a buffer before it is copied.
     pub fn verdict(
         self,
         buffer: &mut Vec<u8>,
         log: &mut Journal<Env>,
+        text: &UnitText,
     ) -> Result<Verdict, AllocError>
+        requires { text.now ≡ unit.Tokens self.tokens.now }
         ensures { IfOk result (λ v. (turns : ℕ) → TURNS ≤ turns →
             (v, log.new)
             ≡ run key_eq (token_verdict turns self.entry.tokens.now self.entry.scopes.now)
             (answers self.entry.env.now) log.old) }
     {
-        let mut tree = None;
-        match parse_tokens(self.env.alloc(), self.tokens, &mut tree) {
-            Ok(()) => self.with_tree(buffer, log, &tree),
+        match parse(self.env.alloc(), text) {
+            Ok(tree) => self.with_tree(buffer, log, &tree),
             Err(SyntaxFault::Rule(fault)) => self.refused(log, self.with_opening(fault)),
             Err(SyntaxFault::NoTree(_place)) => self.without_tree(log),
             Err(SyntaxFault::Memory) => Err(AllocError),
@@ -109,10 +111,10 @@ impl<'a> Judge<'a> {
         self,
         buffer: &mut Vec<u8>,
         log: &mut Journal<Env>,
-        tree: &Option<Tree>,
+        tree: &UnitTree,
     ) -> Result<Verdict, AllocError>
         requires rules { least_fault (token_faults self.tokens.now) ≡ None }
-        requires tree { IsTreeAt self.tokens.now tree.now }
+        requires tree { IsTreeOf (unit.Tokens self.tokens.now) tree.now }
         ensures { IfOk result (λ v. (turns : ℕ) → TURNS ≤ turns →
             (v, log.new)
             ≡ run key_eq (token_verdict turns self.entry.tokens.now self.entry.scopes.now)
@@ -122,8 +124,8 @@ impl<'a> Judge<'a> {
             return self.refused(log, fault);
         }
         match tree {
-            Some(tree) => self.by_names(buffer, log, tree),
-            None => Err(AllocError),
+            UnitTree::Tokens(tree) => self.by_names(buffer, log, tree),
+            UnitTree::Pragma(_pragma) => Err(AllocError),
         }
     }
 

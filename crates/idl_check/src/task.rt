@@ -73,7 +73,7 @@ pub fn verdict_of(
                 tokens: run.as_slice(),
                 scopes,
             };
-            judge.verdict(buffer, log)
+            judge.verdict(buffer, log, text)
         }
         UnitText::Pragma(tokens, inside) => {
             let speaker = Speaker {

@@ -1,10 +1,8 @@
 -- What a whole reading says of the tokens of the code.
-use Rattle.std.proofs.Common.{◌≡◌, ℕ, ◌+◌, ◌<◌, List, [], ◌∷◌, length, Option, None, Some, Ok, Err, subst, arith}
+use Rattle.std.proofs.Common.{◌≡◌, ℕ, ◌+◌, ◌<◌, List, [], ◌∷◌, length, Ok, Err, subst, arith}
 use Rattle.std.proofs.lemmas.List.{length-map}
-use Rattle.std.specs.Borrow.{Bor}
 use Rattle.idl_syntax.specs.Fault.{IsFault}
-use Rattle.idl_syntax.specs.Gives.{Fails, Puts}
-use Rattle.idl_syntax.specs.Parse.{IsTreeAt}
+use Rattle.idl_syntax.specs.Gives.{Fails}
 use Rattle.idl_syntax.specs.declared.error.ReadError.{ReadError}
 use Rattle.idl_syntax.specs.declared.error.ReadError.TheVariants as errors
 use Rattle.idl_tree.specs.Fault.{IsFaultAt}
@@ -31,15 +29,3 @@ pub rest_found : ((n : ℕ) (tokens : Lexemes) (tree : Tree) (next : Lexeme) (mo
 rest_found law tokens [] tree read some = absurd (omega (arith, some))
 rest_found law tokens (t ∷ rest) tree read some =
     subst (IsFaultAt spell (lexemes tokens)) (length-map (t ∷ rest) lexeme_of) (law (length tokens + 1) (lexemes tokens) tree (lexeme_of t) (lexemes rest) (enough tokens) read)
-
--- of the tree in its place
-
-pub tree_placed : ((n : ℕ) (tokens : Lexemes) (tree : Tree) → length tokens < n → unit_at n tokens ≡ Ok (tree, []) → tokens ≡ spell tree)
-    → (tokens : List (List ℕ)) (rest : Bor (List (List ℕ))) (place : Option Tree) → Puts (unit_at (length tokens + 1)) tokens place (Ok rest) → length rest.now ≡ 0 → IsTreeAt tokens place
-tree_placed found tokens rest None read none = absurd read
-tree_placed found tokens rest (Some tree) read none = tree_found found tokens rest.now tree read none
-
-pub rest_placed : ((n : ℕ) (tokens : Lexemes) (tree : Tree) (next : Lexeme) (more : Lexemes) → length tokens < n → unit_at n tokens ≡ Ok (tree, next ∷ more) → IsFaultAt spell tokens (length (next ∷ more)))
-    → (tokens : List (List ℕ)) (rest : Bor (List (List ℕ))) (place : Option Tree) → Puts (unit_at (length tokens + 1)) tokens place (Ok rest) → 0 < length rest.now → IsFaultAt spell (lexemes tokens) (length rest.now)
-rest_placed law tokens rest None read some = absurd read
-rest_placed law tokens rest (Some tree) read some = rest_found law tokens rest.now tree read some

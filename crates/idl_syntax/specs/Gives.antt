@@ -1,5 +1,5 @@
 -- What a function gives over the tokens that are left, by what a reader reads.
-use Rattle.std.specs.Prelude.{◌≡◌, ◌<◌, ◌≤◌, ℕ, List, length, Result, Ok, Err, Bool, Option, None, Some, IfOk}
+use Rattle.std.specs.Prelude.{◌≡◌, ◌<◌, ◌≤◌, ℕ, List, length, Result, Ok, Err, Bool, Option, IfOk}
 use Rattle.std.specs.Borrow.{Bor}
 use Rattle.idl_syntax.specs.declared.error.ReadError.{ReadError}
 use Rattle.idl_syntax.specs.declared.error.ReadError.TheVariants as errors
@@ -23,12 +23,6 @@ Gives view (Err why) read = Fails why read
 -- the tree with the tokens behind it, or the place of the fault, is what the reader reads
 abbrev pub Reads : {A : Type 0} → Reader A → Tokens → Result (A × Bor Tokens) ReadError → Type 0
 Reads reader tokens result = Gives (λ x. (x.0, lexemes x.1.now)) result (reader (lexemes tokens))
-
--- the same where the tree is put in a place
-abbrev pub Puts : {A : Type 0} → Reader A → Tokens → Option A → Result (Bor Tokens) ReadError → Type 0
-Puts reader tokens place (Err why) = Fails why (reader (lexemes tokens))
-Puts reader tokens (Some x) (Ok rest) = reader (lexemes tokens) ≡ Ok (x, lexemes rest.now)
-Puts reader tokens None (Ok rest) = ⊥
 
 -- the tokens behind the one that is to pass this test
 abbrev pub Passes : (Option Lexeme → Bool) → Tokens → Result (Bor Tokens) ReadError → Type 0

@@ -10,7 +10,6 @@ use Rattle.idl_tree.specs.Fault.{IsFaultAt}
 use Rattle.idl_tree.specs.Lexeme.{lexemes}
 use Rattle.idl_tree.specs.Pragma.{pragma_of}
 use Rattle.idl_tree.specs.Unit.{spell}
-use Rattle.idl_tree.specs.declared.unit.Tree.{Tree}
 use Rattle.idl_unit.specs.TokenRules.{fault_at, token_faults}
 use Rattle.idl_unit.specs.declared.fault.Fault.{Fault}
 use Rattle.idl_unit.specs.declared.unit.UnitText.{UnitText}
@@ -33,11 +32,6 @@ abbrev pub IsTreeOf : UnitText → UnitTree → Type 0
 IsTreeOf (unit.Tokens tokens) (tree.Tokens t) = lexemes tokens ≡ spell t
 IsTreeOf (unit.Pragma tokens inside) (tree.Pragma p) = pragma_of tokens ≡ Some p
 IsTreeOf text other = ⊥
-
--- a unit of tokens is the spelling of the tree that stands in this place
-abbrev pub IsTreeAt : List Token → Option Tree → Type 0
-IsTreeAt tokens None = ⊥
-IsTreeAt tokens (Some t) = lexemes tokens ≡ spell t
 
 -- No tree has this spelling. The tokens before the one with this number are the beginning of one,
 -- and through it they are none; without a number all of them are the beginning of one.

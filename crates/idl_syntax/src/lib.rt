@@ -23,4 +23,4 @@ mod unit;
 mod unit_tree;
 mod version;
 
-pub use unit_tree::{SyntaxFault, UnitTree, parse, parse_tokens};
+pub use unit_tree::{SyntaxFault, UnitTree, parse};

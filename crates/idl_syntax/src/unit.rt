@@ -8,12 +8,10 @@ ghost use Rattle.idl_tree.specs.ReadConstruction.{construction_at, enumeration_a
 ghost use Rattle.idl_tree.specs.ReadExpression.{expression_at};
 ghost use Rattle.idl_tree.specs.ReadInterface.{attribute_with, operation_with, readonly_attribute_with};
 ghost use Rattle.idl_tree.specs.ReadType.{type_at};
-ghost use Rattle.idl_tree.specs.ReadUnit.{constant_type_with, constant_with, ended_with, exception_with, native_at, structure_unit_with, typedef_with, union_unit_with, unit_at, unit_by};
-ghost use Rattle.idl_tree.specs.Reading.{first};
-ghost use Rattle.idl_tree.specs.Tests.{keyword_of};
+ghost use Rattle.idl_tree.specs.ReadUnit.{constant_type_with, constant_with, ended_with, exception_with, native_at, structure_unit_with, typedef_with, union_unit_with, unit_at};
 ghost use Rattle.idl_tree.specs.declared.construction.Construction.TheVariants as construction;
 ghost use Rattle.idl_tree.specs.declared.unit.Tree.TheVariants as tree;
-ghost use Rattle.idl_syntax.specs.Gives.{Advances, Puts, Reads, Remains};
+ghost use Rattle.idl_syntax.specs.Gives.{Advances, Reads, Remains};
 ghost use Rattle.idl_syntax.specs.Nested.{nested};
 
 use crate::attribute::{attribute, readonly_attribute};
@@ -31,32 +29,15 @@ use idl_lex::{Keyword, Mark, Spelling, Token};
 use idl_tree::{Constant, ConstantType, Construction, Exception, Forward, Tree, Typedef};
 use std::alloc::Global;
 
-/// A unit, with parts of less than so many levels. Its tree is put in a place, since trees are large.
+/// A unit, with parts of less than so many levels.
 #[tactic(auto, unfolding(idl_tree::specs::ReadUnit::unit_at, idl_tree::specs::ReadUnit::unit_with))]
-pub fn unit<'t>(
-    alloc: Global,
-    depth: usize,
-    tokens: &'t [Token],
-    place: &mut Option<Tree>,
-) -> Result<&'t [Token], ReadError>
-    ensures reads { Puts (unit_at depth) tokens.now place.new result }
+pub fn unit(alloc: Global, depth: usize, tokens: &[Token]) -> Result<(Tree, &[Token]), ReadError>
+    ensures reads { Reads (unit_at depth) tokens.now result }
+    ensures shorter { Advances tokens.now result }
 {
     if is_at(tokens, Mark::CloseBrace) {
-        let (tree, rest) = closing(tokens)?;
-        *place = Some(tree);
-        return Ok(rest);
+        return closing(tokens);
     }
-    let (tree, rest) = unit_by(alloc, depth, tokens)?;
-    *place = Some(tree);
-    Ok(rest)
-}
-
-/// A unit that is no closing, by its first keyword.
-fn unit_by(alloc: Global, depth: usize, tokens: &[Token]) -> Result<(Tree, &[Token]), ReadError>
-    ensures reads { Reads
-        (λ ts. unit_by (expression_at depth) (type_at depth) (construction_at depth)
-        (keyword_of (first ts)) ts) tokens.now result }
-{
     match keyword(tokens) {
         Some(Keyword::Module) => module(tokens),
         Some(Keyword::Local | Keyword::Interface) => interface(alloc, tokens),

@@ -1,7 +1,7 @@
 //! The tree of a unit, or its fault.
 
-ghost use Rattle.std.specs.Prelude.{◌≡◌, None, Some, IfOk, IfErr, OnOk};
-ghost use Rattle.idl_syntax.specs.Parse.{IsFaultOf, IsTreeAt, IsTreeOf, StopsAt, pragma_faults, rule_faults, told_fault};
+ghost use Rattle.std.specs.Prelude.{◌≡◌, None, Some, IfOk, IfErr};
+ghost use Rattle.idl_syntax.specs.Parse.{IsFaultOf, IsTreeOf, StopsAt, pragma_faults, rule_faults, told_fault};
 ghost use Rattle.idl_syntax.specs.declared.unit_tree.SyntaxFault.TheVariants as fault;
 ghost use Rattle.idl_tree.specs.Fault.{IsFaultAt};
 ghost use Rattle.idl_tree.specs.Lexeme.{lexemes};
@@ -90,29 +90,10 @@ pub fn parse(alloc: Global, unit: &UnitText) -> Result<UnitTree, SyntaxFault>
     }
 }
 
-/// The tree of a unit of tokens.
+/// The tree of a unit of tokens. It is made where it is given back, since trees are large.
 fn tokens_tree(alloc: Global, tokens: &[Token]) -> Result<UnitTree, SyntaxFault>
     ensures rules { IfOk result (λ tree. least_fault (token_faults tokens.now) ≡ None) }
     ensures tree { IfOk result (IsTreeOf (unit.Tokens tokens.now)) }
-    ensures fault { IfErr result
-        (IsFaultOf (unit.Tokens tokens.now) (least_fault (token_faults tokens.now))) }
-{
-    let mut place = None;
-    parse_tokens(alloc, tokens, &mut place)?;
-    match place {
-        Some(tree) => Ok(UnitTree::Tokens(tree)),
-        None => Err(SyntaxFault::Memory),
-    }
-}
-
-/// The tree of a unit of tokens, as `parse` has it, is put in a place, since trees are large.
-pub fn parse_tokens(
-    alloc: Global,
-    tokens: &[Token],
-    place: &mut Option<Tree>,
-) -> Result<(), SyntaxFault>
-    ensures rules { OnOk result (least_fault (token_faults tokens.now) ≡ None) }
-    ensures tree { OnOk result (IsTreeAt tokens.now place.new) }
     ensures fault { IfErr result
         (IsFaultOf (unit.Tokens tokens.now) (least_fault (token_faults tokens.now))) }
 {
@@ -121,9 +102,9 @@ pub fn parse_tokens(
     }
     // It does nothing: it carries the laws of what is read.
     reading();
-    match unit(alloc, tokens.len() + 1, tokens, place) {
-        Ok([]) => Ok(()),
-        Ok(rest) => Err(SyntaxFault::NoTree(stop(tokens, rest.len()))),
+    match unit(alloc, tokens.len() + 1, tokens) {
+        Ok((tree, [])) => Ok(UnitTree::Tokens(tree)),
+        Ok((_tree, rest)) => Err(SyntaxFault::NoTree(stop(tokens, rest.len()))),
         Err(ReadError::Memory) => Err(SyntaxFault::Memory),
         Err(ReadError::Syntax(left)) => Err(SyntaxFault::NoTree(stop(tokens, left))),
     }

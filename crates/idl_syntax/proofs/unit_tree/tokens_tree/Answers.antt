@@ -2,17 +2,17 @@ use Rattle.std.proofs.Common.{◌≡◌, ◌<◌, None, length, subst, arith, ru
 use Rattle.std.proofs.lemmas.Grind.{common_steps}
 use Rattle.idl_syntax.specs.Fault.{IsFault}
 use Rattle.idl_syntax.specs.declared.error.ReadError.TheVariants as errors
-use Rattle.idl_syntax.proofs.Parses.{fault_found, rest_placed, tree_placed}
+use Rattle.idl_syntax.proofs.Parses.{fault_found, rest_found}
 use Rattle.idl_tree.specs.Lexeme.{lexemes}
 use Rattle.idl_unit.specs.Faults.{least_fault}
 use Rattle.idl_unit.specs.TokenRules.{token_faults}
-use Rattle.idl_syntax.proofs.unit_tree.parse_tokens.Goals as goal
+use Rattle.idl_syntax.proofs.unit_tree.tokens_tree.Goals as goal
 
 pub returns-in-Ok-clause-fault : goal.returns-in-Ok-clause-fault
 returns-in-Ok-clause-fault c =
     let least : least_fault (token_faults c.args.tokens.now) ≡ None = search rules in
     let some : 0 < length c.in-Ok.rest.now = first_of (search rules, omega (arith, c.in-Ok.len_at_least), grind (arith, common_steps)) in
-    (least, c.stop.ensures (rest_placed c.reading.ensures.rest c.args.tokens.now c.in-Ok.rest c.place.now c.in-Ok.ensures.reads some))
+    (least, c.stop.ensures (rest_found c.reading.ensures.rest c.args.tokens.now c.in-Ok.rest.now c.in-Ok._tree c.in-Ok.ensures.reads some))
 
 pub returns-in-Err-Syntax-clause-fault : goal.returns-in-Err-Syntax-clause-fault
 returns-in-Err-Syntax-clause-fault c =
