@@ -11,7 +11,7 @@ use Rattle.idl_scope.specs.Lookup.{Lookup}
 use Rattle.idl_scope.specs.declared.addition.Addition.{Addition}
 use Rattle.idl_scope.specs.declared.addition.Addition.TheVariants.{Appears}
 use Rattle.idl_scope.specs.declared.entity.Entity.{Entity}
-use Rattle.idl_scope.specs.declared.identity.Fixed.TheVariants.{Version, Id}
+use Rattle.idl_scope.specs.declared.identity.Fixed.TheVariants.{Nothing, Version, Id}
 use Rattle.idl_scope.specs.declared.identity.Identity.{Identity}
 use Rattle.idl_scope.specs.declared.key.Key.TheVariants.{Prefix as PrefixKey, IdOf}
 use Rattle.idl_scope.specs.declared.kind.Kind.{Kind}
