@@ -1,11 +1,10 @@
 -- What keys have in entries, and in the rest behind them.
 use Rattle.std.proofs.Common.{◌≡◌, ◌≢◌, ℕ, Bool, true, false, cond, List, [], ◌∷◌, ◌++◌, Option, None, Some, slice_get, slice_index_or, slice_set, refl, sym, ap, ◌∙◌}
-use Rattle.std.proofs.lemmas.Bool.{false≢true}
 use Rattle.std.specs.Cmp.{IsEquivalence}
 use Rattle.std.specs.Map.{keys_of, lookup}
 use Rattle.idl_base.specs.Table.{AreDistinct, insert_entry}
 use Rattle.idl_base.proofs.Exactness.{Decides-eq}
-use Rattle.idl_base.proofs.TableLemmas.{insert_entry-at, insert_entry-new, lookup-at, lookup-nowhere}
+use Rattle.idl_base.proofs.TableLemmas.{insert_entry-at, insert_entry-new, lookup-at, lookup-insert_entry, lookup-nowhere}
 
 module _ {V : Type 0} where
   -- one answer, or else another
@@ -45,36 +44,10 @@ module _ {K V : Type 0} (eq : K → K → Bool) (laws : IsEquivalence eq) (same 
       lookup-append (eq k) es rest ∙ ap (λ o. otherwise o (lookup (eq k) rest)) (lookup-nowhere eq (Decides-eq eq laws same) es k nowhere)
 
   module _ (key : K) (v : V) (q : K) where
-    first_twice : (b : Bool) (w : V) (o : Option V) → cond b (Some v) o ≡ cond b (Some v) (cond b (Some w) o)
-    first_twice true w o = refl
-    first_twice false w o = refl
-
-    one_apart : (a b : Bool) (w : V) (o : Option V) → (a ≡ true → b ≡ true → ⊥) → cond a (Some w) (cond b (Some v) o) ≡ cond b (Some v) (cond a (Some w) o)
-    one_apart true true w o apart = absurd (apart refl refl)
-    one_apart true false w o apart = refl
-    one_apart false b w o apart = refl
-
-    -- after a put into a table
-    lookup-insert_entry : (es : List (K × V)) → lookup (eq q) (insert_entry eq es key v) ≡ cond (eq q key) (Some v) (lookup (eq q) es)
-    lookup-insert_entry [] = refl
-    lookup-insert_entry (e ∷ es) = by (eq key e.0) refl (lookup-insert_entry es)
-      where
-        by : (b : Bool) → eq key e.0 ≡ b → lookup (eq q) (insert_entry eq es key v) ≡ cond (eq q key) (Some v) (lookup (eq q) es)
-            → lookup (eq q) (insert_entry eq (e ∷ es) key v) ≡ cond (eq q key) (Some v) (lookup (eq q) (e ∷ es))
-        by true t rest =
-            ap (λ b. lookup (eq q) (cond b ((e.0, v) ∷ es) (e ∷ insert_entry eq es key v))) t
-            ∙ first_twice (eq q e.0) e.1 (lookup (eq q) es)
-            ∙ ap (λ k. cond (eq q k) (Some v) (lookup (eq q) (e ∷ es))) (sym (same key e.0 t))
-        by false t rest =
-            ap (λ b. lookup (eq q) (cond b ((e.0, v) ∷ es) (e ∷ insert_entry eq es key v))) t
-            ∙ ap (cond (eq q e.0) (Some e.1)) rest
-            ∙ one_apart (eq q e.0) (eq q key) e.1 (lookup (eq q) es)
-            (λ here there. false≢true (sym t ∙ ap (λ x. eq x e.0) (sym (same q key there)) ∙ here))
-
     put_first : (es rest : List (K × V)) → lookup (eq q) (insert_entry eq es key v ++ rest) ≡ cond (eq q key) (Some v) (lookup (eq q) (es ++ rest))
     put_first es rest =
         lookup-append (eq q) (insert_entry eq es key v) rest
-        ∙ ap (λ o. otherwise o (lookup (eq q) rest)) (lookup-insert_entry es)
+        ∙ ap (λ o. otherwise o (lookup (eq q) rest)) (lookup-insert_entry eq same key v q es)
         ∙ otherwise-first (eq q key) v (lookup (eq q) es) (lookup (eq q) rest)
         ∙ ap (cond (eq q key) (Some v)) (sym (lookup-append (eq q) es rest))
 
@@ -95,6 +68,6 @@ module _ {K V : Type 0} (eq : K → K → Bool) (laws : IsEquivalence eq) (same 
         → lookup (eq q) (es ++ insert_entry eq rest key v) ≡ cond (eq q key) (Some v) (lookup (eq q) (es ++ rest))
     lookup-rest es rest absent =
         lookup-append (eq q) es (insert_entry eq rest key v)
-        ∙ ap (otherwise (lookup (eq q) es)) (lookup-insert_entry rest)
+        ∙ ap (otherwise (lookup (eq q) es)) (lookup-insert_entry eq same key v q rest)
         ∙ otherwise-last (eq q key) v (lookup (eq q) es) (lookup (eq q) rest) (λ there. ap (λ k. lookup (eq k) es) (same q key there) ∙ absent)
         ∙ ap (cond (eq q key) (Some v)) (sym (lookup-append (eq q) es rest))
