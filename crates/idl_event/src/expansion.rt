@@ -6,9 +6,9 @@ ghost use Rattle.idl_event.specs.Apart.{StandApart, TokensFirst, others_in, site
 ghost use Rattle.idl_event.specs.declared.event.Event.{Event};
 
 use crate::event::Event;
+use crate::runs::Runs;
 use crate::sites::Sites;
 use crate::told::Told;
-use idl_lex::Token;
 use std::marker::Model;
 use std::rc::Rc;
 
@@ -16,7 +16,7 @@ use std::rc::Rc;
 /// that they are shared.
 #[derive(Drop)]
 pub struct Expansion {
-    text: Rc<Vec<Token>>,
+    text: Runs,
     sites: Rc<Sites>,
     others: Vec<(usize, Event)>,
 }
@@ -28,20 +28,16 @@ impl Model for Expansion {
 
     ghost Value = { List Event };
 
-    ghost view = { λ e. woven e.sites.value e.text.value.items e.others.items };
+    ghost view = { λ e. woven e.sites.value e.text e.others.items };
 
-    ghost invariant = { λ e. StandApart e.sites.value e.text.value.items e.others.items };
+    ghost invariant = { λ e. StandApart e.sites.value e.text e.others.items };
 }
 
 impl Expansion {
     /// What consists of these tokens, at these sites, and of these other events.
-    pub fn from_parts(
-        text: Rc<Vec<Token>>,
-        sites: Rc<Sites>,
-        others: Vec<(usize, Event)>,
-    ) -> Expansion
-        requires { StandApart sites.value text.value.items others.items }
-        ensures { result ≡ woven sites.value text.value.items others.items }
+    pub fn from_parts(text: Runs, sites: Rc<Sites>, others: Vec<(usize, Event)>) -> Expansion
+        requires { StandApart sites.value text others.items }
+        ensures { result ≡ woven sites.value text others.items }
     {
         Expansion {
             text,
@@ -51,8 +47,8 @@ impl Expansion {
     }
 
     /// The tokens of its text in order.
-    pub fn text(&self) -> &Rc<Vec<Token>>
-        ensures { result.now.value.items ≡ tokens_in (enumerate_from 0 self.now) }
+    pub fn text(&self) -> &Runs
+        ensures { result.now ≡ tokens_in (enumerate_from 0 self.now) }
     {
         &self.text
     }
@@ -76,7 +72,7 @@ impl Expansion {
         ensures { result ≡ enumerate_from 0 self.now }
     {
         Events {
-            text: self.text.as_slice(),
+            text: &self.text,
             sites: &self.sites,
             others: &self.others,
             tokens_passed: 0,
@@ -89,7 +85,7 @@ impl Expansion {
 /// number.
 #[derive(Drop)]
 pub struct Events<'a> {
-    text: &'a [Token],
+    text: &'a Runs,
     sites: &'a Sites,
     others: &'a [(usize, Event)],
     tokens_passed: usize,

@@ -9,6 +9,7 @@ ghost use Rattle.idl_event.specs.declared.sites.Stretch.{Stretch};
 use crate::file_name::FileName;
 use crate::place::Place;
 use crate::site::Site;
+use idl_lex::FileTokens;
 use std::alloc::{AllocError, Global};
 use std::marker::Model;
 
@@ -104,13 +105,36 @@ impl Sites {
             return Ok(());
         }
         let Place { file, line } = place;
-        let stretch = stretch_of(&mut self.stretches, file, others)?;
+        let stretch = stretch_of(&mut self.stretches, &file, others)?;
         self.spots.push(Spot {
             first,
             line,
             stretch,
         })?;
         self.count += count;
+        Ok(())
+    }
+
+    /// The sites of tokens of a file more.
+    pub fn push_text(
+        &mut self,
+        file: &FileName,
+        others: usize,
+        tokens: &FileTokens<'_>,
+    ) -> Result<(), AllocError>
+        ensures more { OnOk result
+            (self.new ≡ self.old ++ text_sites (length self.old + others) file.now tokens.now) }
+        ensures kept { OnErr result (self.new ≡ self.old) }
+    {
+        let Ok(first) = u32::try_from(self.count) else {
+            return Err(AllocError);
+        };
+        if tokens.len() > MOST - self.count {
+            return Err(AllocError);
+        }
+        let stretch = stretch_of(&mut self.stretches, file, others)?;
+        push_lines(&mut self.spots, Start { first, stretch }, tokens)?;
+        self.count += tokens.len();
         Ok(())
     }
 
@@ -171,24 +195,69 @@ fn goes_on(spots: &[Spot], stretches: &[Stretch], place: &Place, others: usize) 
 // The number of a stretch of this file behind so many other events: of the last one, or of one more.
 fn stretch_of(
     stretches: &mut Vec<Stretch>,
-    file: FileName,
+    file: &FileName,
     others: usize,
 ) -> Result<u32, AllocError>
     ensures more { (more : List Stretch) × (stretches.new.items ≡ stretches.old.items ++ more) }
     ensures there { IfOk result (λ number.
-        slice_get stretches.new.items number ≡ Some (record { file = file; others = others })) }
+        slice_get stretches.new.items number ≡ Some (record { file = file.now; others = others })) }
 {
     let Ok(next) = u32::try_from(stretches.len()) else {
         return Err(AllocError);
     };
-    if is_last(stretches, &file, others) {
+    if is_last(stretches, file, others) {
         return Ok(next - 1);
     }
     let Ok(others) = u32::try_from(others) else {
         return Err(AllocError);
     };
+    let file = file.clone()?;
     stretches.push(Stretch { file, others })?;
     Ok(next)
+}
+
+// Where tokens begin: the number of the first of them, and their stretch.
+#[derive(Clone, Copy)]
+struct Start {
+    first: u32,
+    stretch: u32,
+}
+
+// The spots of tokens of a file, which begin here: one for each line.
+fn push_lines(
+    spots: &mut Vec<Spot>,
+    start: Start,
+    tokens: &FileTokens<'_>,
+) -> Result<(), AllocError> {
+    let before = spots.len();
+    let mut last = last_line(spots, start.stretch);
+    let mut i = 0;
+    'tokens: while i < tokens.len() {
+        let line = tokens.line_at(i);
+        if last != Some(line) {
+            let spot = Spot {
+                first: start.first + i as u32,
+                line,
+                stretch: start.stretch,
+            };
+            if let Err(error) = spots.push(spot) {
+                spots.truncate(before);
+                return Err(AllocError);
+            }
+            last = Some(line);
+        }
+        i += 1;
+    }
+    Ok(())
+}
+
+// The line of the last spot, if that is in this stretch.
+fn last_line(spots: &[Spot], stretch: u32) -> Option<u32> {
+    let spot = spots.last()?;
+    if spot.stretch != stretch {
+        return None;
+    }
+    Some(spot.line)
 }
 
 // Whether the last stretch is one of this file, behind so many other events.

@@ -49,8 +49,8 @@ pub fn walk_line<'b, B: RootBank>(
     }
 }
 
-// A line of text.
-fn walk_text<B: RootBank>(
+/// Lines of text.
+pub fn walk_text<B: RootBank>(
     root: &mut Root<B>,
     groups: &Groups,
     site: &Site<'_, B>,

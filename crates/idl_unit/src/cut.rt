@@ -8,11 +8,10 @@ ghost use Rattle.idl_unit.specs.Placing.{ahead, after_token, begun, IsWithin, to
 ghost use Rattle.idl_unit.specs.Units.{units_of};
 
 use crate::ending::first_unit;
-use crate::run::Run;
 use crate::site_run::SiteRun;
 use crate::unit::{Unit, UnitText, Units};
-use idl_event::{Event, Events, Expansion, Place, Sites, Told};
-use idl_lex::Token;
+use idl_event::{Event, Events, Expansion, Place, Runs, Sites, Told};
+use idl_lex::{Token, TokenRange};
 use std::alloc::{AllocError, Global};
 use std::rc::Rc;
 
@@ -33,7 +32,7 @@ pub fn split(alloc: Global, expansion: &Expansion) -> Result<Units, AllocError>
 // How far the cut has come.
 #[derive(Drop)]
 struct Cut<'a> {
-    text: &'a Rc<Vec<Token>>,
+    text: &'a Runs,
     sites: &'a Rc<Sites>,
     units: Vec<Unit>,
     // How many tokens stand in the units so far.
@@ -44,7 +43,7 @@ struct Cut<'a> {
 
 impl<'a> Cut<'a> {
     fn new(alloc: Global, expansion: &'a Expansion) -> Cut<'a>
-        ensures text { result.text.now.value.items ≡ tokens_in (enumerate_from 0 expansion.now) }
+        ensures text { result.text.now ≡ tokens_in (enumerate_from 0 expansion.now) }
         ensures sites { result.sites.now.value ≡ sites_in (enumerate_from 0 expansion.now) }
         ensures units { result.units.items ≡ [] }
         ensures taken { result.taken ≡ 0 }
@@ -68,7 +67,7 @@ impl<'a> Cut<'a> {
         ensures none { IfOk result (λ more. IsFalse more → events.new ≡ []) }
     {
         if events.pass_tokens(1) == 1 {
-            self.put_token()?;
+            self.put_token(alloc)?;
             self.pass(events);
             return Ok(true);
         }
@@ -98,7 +97,7 @@ impl<'a> Cut<'a> {
             ≡ to_come self.old ((number, event_told event.entry) ∷ events)) }
     {
         match event {
-            Told::Emitted(_file, _line, _token) => self.put_token(),
+            Told::Emitted(_file, _line, _token) => self.put_token(alloc),
             Told::Other(event) => self.put_other(alloc, number, event),
         }
     }
@@ -111,7 +110,7 @@ impl<'a> Cut<'a> {
             → to_come self.new events ≡ to_come self.old ((number, event.now) ∷ events)) }
     {
         match event {
-            Event::Emitted(_place, _token) => self.put_token()?,
+            Event::Emitted(_place, _token) => self.put_token(alloc)?,
             Event::Entered(file) => self.units.push(Unit::Entered(file.clone()?))?,
             Event::Left(file) => self.units.push(Unit::Left(file.clone()?))?,
             Event::Pragma(place, tokens) => {
@@ -125,7 +124,7 @@ impl<'a> Cut<'a> {
     }
 
     // Puts in what a token more gives: a unit, unless it stands inside one.
-    fn put_token(&mut self) -> Result<(), AllocError>
+    fn put_token(&mut self, alloc: Global) -> Result<(), AllocError>
         requires within { IsWithin self.old }
         ensures within { OnOk result (IsWithin self.new) }
         ensures units { OnOk result (self.new.units.items
@@ -136,11 +135,11 @@ impl<'a> Cut<'a> {
             self.inside -= 1;
             return Ok(());
         }
-        self.begin()
+        self.begin(alloc)
     }
 
     // Puts in the unit that begins here.
-    fn begin(&mut self) -> Result<(), AllocError>
+    fn begin(&mut self, alloc: Global) -> Result<(), AllocError>
         requires within { IsWithin self.old }
         requires outside { self.old.inside ≡ 0 }
         ensures within { OnOk result (IsWithin self.new) }
@@ -149,14 +148,18 @@ impl<'a> Cut<'a> {
         ensures ahead { OnOk result (ahead self.new ≡ after_token (ahead self.old)) }
     {
         let from = self.taken;
-        let text = self.text.as_slice();
         // Where no token is left, none begins.
-        if from == text.len() {
+        let Some((run, place)) = self.text.run_from(from) else {
             return Ok(());
-        }
-        let len = first_unit(&text[from..]);
+        };
+        let (_before, front) = run.as_slice().split_at(place);
+        let len = self.first_len(alloc, front)?;
+        let text = if len <= front.len() {
+            run.part(place, place + len)?
+        } else {
+            TokenRange::take(&mut self.text.gathered(alloc, from, len)?)?
+        };
         let to = from + len;
-        let text = Run::new(self.text.clone()?, from, to)?;
         let sites = SiteRun::new(self.sites.clone()?, from, to)?;
         let unit = Unit::Spelled(UnitText::Tokens(text), sites);
         self.units.push(unit)?;
@@ -164,13 +167,18 @@ impl<'a> Cut<'a> {
         self.inside = len - 1;
         Ok(())
     }
-}
 
-// The one site of a pragma: that many events stand before it.
-fn one_site(alloc: Global, event: usize, place: &Place) -> Result<SiteRun, AllocError>
-    ensures { IfOk result (λ sites. sites ≡ site_at event place.now ∷ []) }
-{
-    let mut sites = Sites::new(alloc);
-    sites.push(place.clone()?, event)?;
-    SiteRun::new(Rc::new(alloc, sites)?, 0, 1)
+    // How many tokens the unit has that begins with these, which are in one run. Where they are not the last of the text and no
+    // token stands behind the unit, it may go on: it is looked for among copies then, twice as many each time.
+    fn first_len(&self, alloc: Global, front: &[Token]) -> Result<usize, AllocError> {
+        let left = self.text.len() - self.taken;
+        let mut len = first_unit(front);
+        let mut count = front.len();
+        'more: while len == count && count < left {
+            count = count.saturating_mul(2).min(left);
+            let tokens = self.text.gathered(alloc, self.taken, count)?;
+            len = first_unit(&tokens);
+        }
+        Ok(len)
+    }
 }
