@@ -1,8 +1,9 @@
 //! The events of a root while it is expanded.
 
-ghost use Rattle.std.specs.Prelude.{◌≡◌, ◌<◌, ◌++◌, ◌∷◌, [], IfOk, OnErr, OnOk, length, map};
+ghost use Rattle.std.specs.Prelude.{◌≡◌, ◌<◌, ◌++◌, ◌∷◌, [], IfOk, OnOk, length, map};
+ghost use Rattle.idl_event.specs.Apart.{emitted_in};
+ghost use Rattle.idl_event.specs.Runs.{tokens_of};
 ghost use Rattle.idl_event.specs.declared.event.Event.TheVariants.{Emitted};
-ghost use Rattle.idl_lex.specs.Tokens.{tokens_in};
 
 use crate::event::Event;
 use crate::expansion::Expansion;
@@ -32,8 +33,9 @@ pub struct ExpansionBuilder {
 }
 
 impl Model for ExpansionBuilder {
-    ghost use Rattle.std.specs.Prelude.{List};
+    ghost use Rattle.std.specs.Prelude.{◌++◌, List};
     ghost use Rattle.idl_event.specs.Apart.{StandApart, woven};
+    ghost use Rattle.idl_event.specs.Runs.{tokens_of};
     ghost use Rattle.idl_event.specs.declared.event.Event.{Event};
 
     ghost Value = { List Event };

@@ -4,13 +4,12 @@ ghost use Rattle.std.specs.Prelude.{◌≡◌, ◌↔◌, ◌++◌, ◌<◌, ◌
 ghost use Rattle.std.specs.Option.{option_copied, option_to_list};
 ghost use Rattle.idl_memo.specs.Progress.{after_item, after_key};
 ghost use Rattle.idl_event.specs.Items.{event_of, rules, tokens_left, turns_left, beginning};
-ghost use Rattle.idl_event.specs.Expanding.{after_tokens};
+ghost use Rattle.idl_event.specs.Expanding.{after_text};
 ghost use Rattle.idl_event.specs.Key.{key_eq};
 ghost use Rattle.idl_event.specs.Limits.{turns_at_most};
 ghost use Rattle.idl_event.specs.declared.event.Event.TheVariants.{Emitted};
 ghost use Rattle.idl_event.specs.declared.event.Item.TheVariants.{Kept};
 ghost use Rattle.idl_event.specs.declared.key.Key.TheVariants.{Macro};
-ghost use Rattle.idl_lex.specs.Tokens.{tokens_in};
 
 use crate::allowance::Allowance;
 use crate::builder::ExpansionBuilder;

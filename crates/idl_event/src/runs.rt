@@ -1,8 +1,7 @@
 //! The tokens of a text, as runs of tokens that are shared.
 
-ghost use Rattle.std.specs.Prelude.{◌≡◌, ◌≤◌, ◌<◌, ◌×◌, ◌++◌, List, IfNone, IfOk, IfSome, drop, length};
-ghost use Rattle.std.specs.List.{flat_map};
-ghost use Rattle.std.specs.Option.{option_copied};
+ghost use Rattle.std.specs.Prelude.{◌≡◌, ◌≤◌, ◌<◌, ◌×◌, ◌++◌, List, IfNone, IfOk, IfSome, None, OnErr, OnOk, Some, drop, length, slice_get, take};
+ghost use Rattle.idl_event.specs.Runs.{tokens_of};
 ghost use Rattle.idl_lex.specs.Tokens.{Token as Bytes};
 
 use idl_lex::{Token, TokenRange};
@@ -74,7 +73,8 @@ impl Runs {
 
     /// The token with this number.
     pub fn get(&self, index: usize) -> Option<&Token>
-        ensures { option_copied result ≡ slice_get self.now index }
+        ensures some { IfSome result (λ t. slice_get self.now index ≡ Some t.now) }
+        ensures none { IfNone result (slice_get self.now index ≡ None) }
     {
         let (run, place) = self.run_from(index)?;
         run.as_slice().get(place)

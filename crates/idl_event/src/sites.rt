@@ -1,9 +1,9 @@
 //! Where the tokens of a text stand.
 
-ghost use Rattle.std.specs.Prelude.{◌≡◌, ◌++◌, ◌∷◌, ◌+◌, ◌-◌, ◌<◌, ◌^◌, List, [], IfNone, IfOk, IfSome, IsTrue, None, OnErr, OnOk, Some, length, slice_get};
+ghost use Rattle.std.specs.Prelude.{◌≡◌, ◌++◌, ◌∷◌, ◌+◌, ◌-◌, ◌<◌, ◌≤◌, ◌^◌, List, [], IfNone, IfOk, IfSome, IsTrue, None, OnErr, OnOk, Some, length, slice_get};
 ghost use Rattle.std.specs.Option.{option_copied, option_map};
-ghost use Rattle.idl_event.specs.Apart.{site_at, sites_at};
-ghost use Rattle.idl_event.specs.Sites.{Rise, StandsAt, found, in_stretch, spot_at};
+ghost use Rattle.idl_event.specs.Apart.{site_at, sites_at, text_sites};
+ghost use Rattle.idl_event.specs.Sites.{HaveSites, Rise, StandsAt, found, in_stretch, spot_at};
 ghost use Rattle.idl_event.specs.declared.sites.Stretch.{Stretch};
 
 use crate::file_name::FileName;
@@ -216,48 +216,54 @@ fn stretch_of(
     Ok(next)
 }
 
-// Where tokens begin: the number of the first of them, and their stretch.
+// Where tokens begin: the number of the first of them, and that of their stretch.
 #[derive(Clone, Copy)]
 struct Start {
     first: u32,
     stretch: u32,
 }
 
-// The spots of tokens of a file, which begin here: one for each line.
+// The spots of tokens of a file go behind the others: one for each line.
 fn push_lines(
     spots: &mut Vec<Spot>,
     start: Start,
     tokens: &FileTokens<'_>,
-) -> Result<(), AllocError> {
+) -> Result<(), AllocError>
+    requires { start.first + length tokens.now ≤ 2 ^ 32 }
+    ensures more { OnOk result
+        (HaveSites spots.old.items spots.new.items start.first start.stretch tokens.now) }
+    ensures kept { OnErr result (spots.new.items ≡ spots.old.items) }
+{
     let before = spots.len();
-    let mut last = last_line(spots, start.stretch);
+    let mut last = None;
     let mut i = 0;
     'tokens: while i < tokens.len() {
         let line = tokens.line_at(i);
-        if last != Some(line) {
+        if !is_on(last, line) {
             let spot = Spot {
                 first: start.first + i as u32,
                 line,
                 stretch: start.stretch,
             };
-            if let Err(error) = spots.push(spot) {
+            if spots.push(spot).is_err() {
                 spots.truncate(before);
                 return Err(AllocError);
             }
-            last = Some(line);
         }
+        last = Some(line);
         i += 1;
     }
     Ok(())
 }
 
-// The line of the last spot, if that is in this stretch.
-fn last_line(spots: &[Spot], stretch: u32) -> Option<u32> {
-    let spot = spots.last()?;
-    if spot.stretch != stretch {
-        return None;
+// Whether it is this line.
+fn is_on(last: Option<u32>, line: u32) -> bool
+    ensures { IsTrue result → last ≡ Some line }
+{
+    match last {
+        Some(last) => last == line,
+        None => false,
     }
-    Some(spot.line)
 }
 
 // Whether the last stretch is one of this file, behind so many other events.

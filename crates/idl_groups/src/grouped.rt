@@ -1,9 +1,9 @@
 //! The tokens of a file with the branches of its groups.
 
-ghost use Rattle.std.specs.Prelude.{◌≡◌, ◌≤◌, ◌<◌, ◌++◌, ◌∷◌, ◌↔◌, [], IsTrue, drop, length, IfOk, IfSome};
+ghost use Rattle.std.specs.Prelude.{◌≡◌, ◌≤◌, ◌<◌, ◌++◌, ◌∷◌, ◌↔◌, [], IsTrue, drop, length, map, IfOk, IfSome};
 ghost use Rattle.idl_lex.specs.Tokens.{lines_of};
 ghost use Rattle.idl_groups.specs.Jump.{IsJump};
-ghost use Rattle.idl_groups.specs.Line.{lines_from};
+ghost use Rattle.idl_groups.specs.Line.{Text, lines_from};
 ghost use Rattle.idl_groups.specs.Matching.{IsTableOf};
 
 use crate::directive::directive_on;
