@@ -16,7 +16,7 @@ use Rattle.idl_macro.specs.Macros.{Definitions, macro_of}
 use Rattle.idl_macro.proofs.ArrivalLemmas.{arrival-and_then}
 
 -- what is there is there when it is read
-pub is_some-tokens : (body : Option (Bor (List PlacedToken))) → is_some body ≡ is_some (option_map tokens_in (option_copied body))
+pub is_some-tokens : (body : Option (Bor (List Token))) → is_some body ≡ is_some (option_copied body)
 is_some-tokens None = refl
 is_some-tokens (Some body) = refl
 
