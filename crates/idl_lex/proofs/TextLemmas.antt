@@ -4,7 +4,7 @@ use Rattle.std.proofs.Math.Seq.{take-add}
 use Rattle.std.proofs.lemmas.List.{drop-append-le, drop-drop, drop_more, get_or-map, length-map, length-take-le, take-append-drop, take-append-le, take-take}
 use Rattle.std.proofs.lemmas.List.Elements.{All-append, All-cons, All-nil}
 use Rattle.std.proofs.lemmas.List.Sums.{prefix_len-le-length}
-use Rattle.std.specs.List.{All}
+use Rattle.std.specs.List.{All, flat_map}
 use Rattle.std.specs.Str.{bytes_eq}
 use Rattle.idl_lex.specs.Block.{tokens_in_blocks}
 use Rattle.idl_lex.specs.Moved.{moved_token, moved_tokens}
@@ -119,6 +119,19 @@ IsMoreText-next tokens count n here begins text is is_one =
       begins = subst BeginsLine (drop-drop n count tokens) (begins-after left n some same);
       text = subst (All IsText) (sym lines) (All-append IsText (lines_of front) (line ∷ []) text (All-cons IsText line [] line_is (All-nil IsText)));
     }
+
+lines_after-joined : (n : ℕ) (tokens : List PlacedToken) → flat_map (λ line. line) (lines_after n tokens) ≡ drop n tokens
+lines_after-joined zero [] = refl
+lines_after-joined (suc n) [] = refl
+lines_after-joined (suc n) (t ∷ tokens) = lines_after-joined n tokens
+lines_after-joined zero (t ∷ tokens) =
+    let k = followers_on_line tokens in
+    ap (λ ts. t ∷ (take k tokens ++ ts)) (lines_after-joined k tokens) ∙ ap (λ ts. t ∷ ts) (take-append-drop k tokens)
+
+-- the lines of tokens are these, end to end
+pub lines_of-joined : (tokens : List PlacedToken) → flat_map (λ line. line) (lines_of tokens) ≡ tokens
+unfolding lines_of
+lines_of-joined tokens = lines_after-joined 0 tokens
 
 -- Tokens are those of lines of text and those behind them.
 pub record IsTextFirst (left text rest : List PlacedToken) : Type 0 where

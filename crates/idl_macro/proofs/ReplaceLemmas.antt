@@ -147,3 +147,15 @@ module _ (bank : Key → Option Answer) (file : List ℕ) (definitions : Definit
   pub reached-text-nil : (p : Reached) → reached bank (text file definitions []) p ≡ p
   unfolding text
   reached-text-nil p = refl
+
+  -- two texts, end to end
+  pub reached-text-append : (front behind : List PlacedToken) (p : Reached)
+      → reached bank (text file definitions (front ++ behind)) p ≡ reached bank (text file definitions behind) (reached bank (text file definitions front) p)
+  unfolding text
+  reached-text-append [] behind p = refl
+  reached-text-append (t ∷ front) behind p =
+      let first = replaced_at (item_of Text (place_at file t)) (place_at file t) definitions (t.token ∷ []) in
+      let q = reached bank first p in
+      reached-followed_by bank first (text file definitions (front ++ behind)) p
+      ∙ reached-text-append front behind q
+      ∙ ap (reached bank (text file definitions behind)) (sym (reached-followed_by bank first (text file definitions front) p))

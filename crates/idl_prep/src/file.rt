@@ -8,7 +8,7 @@ ghost use Rattle.idl_prep.specs.State.{ended, onward};
 use crate::groups::Groups;
 use crate::inclusion::Inclusion;
 use crate::jump::jump;
-use crate::pass::{end_file, walk_line, walk_text};
+use crate::pass::{end_file, walk_line, walk_texts};
 use crate::root::Root;
 use crate::site::Site;
 use idl_event::{Event, Item, LexedFile, RootBank};
@@ -33,7 +33,7 @@ pub fn walk_file<B: RootBank>(
         }
         let (text, behind) = left.first_text();
         if !text.is_empty() {
-            walk_text(root, &groups, site, &text)?;
+            walk_texts(root, &groups, site, &text)?;
             left = jump(root, &groups, site.file, behind)?;
             continue;
         }

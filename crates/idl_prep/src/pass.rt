@@ -1,7 +1,8 @@
 //! One line of a file after another, inside the groups that are open.
 
-ghost use Rattle.std.specs.Prelude.{◌≡◌, ◌∷◌, [], List, Option, IfOk, OnOk};
+ghost use Rattle.std.specs.Prelude.{◌≡◌, ◌++◌, ◌∷◌, [], List, Option, IfOk, OnOk, map};
 ghost use Rattle.idl_memo.specs.Query.{and_then};
+ghost use Rattle.idl_lex.specs.Tokens.{lines_of};
 ghost use Rattle.idl_groups.specs.Line as spec;
 ghost use Rattle.idl_groups.specs.Line.{Directed, Text, NullDirective};
 ghost use Rattle.idl_groups.specs.Tree.{IsBranch, part};
@@ -49,8 +50,27 @@ pub fn walk_line<'b, B: RootBank>(
     }
 }
 
-/// Lines of text.
-pub fn walk_text<B: RootBank>(
+/// Lines of text, one after another.
+pub fn walk_texts<B: RootBank>(
+    root: &mut Root<B>,
+    groups: &Groups,
+    site: &Site<'_, B>,
+    tokens: &FileTokens<'_>,
+) -> Result<(), AllocError>
+    ensures { let bank = B.at site.now.bank.now in let file = site.now.file.now in
+        OnOk result ((enter : Enter) (lines : List spec.Line)
+        → to_come bank enter file groups.now lines root.new
+        ≡ to_come bank enter file groups.now (map Text (lines_of tokens.now) ++ lines) root.old) }
+{
+    if !groups.is_walked() {
+        return Ok(());
+    }
+    root.emit(site, tokens)?;
+    Ok(())
+}
+
+// A line of text.
+fn walk_text<B: RootBank>(
     root: &mut Root<B>,
     groups: &Groups,
     site: &Site<'_, B>,
