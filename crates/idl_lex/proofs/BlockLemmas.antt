@@ -95,7 +95,7 @@ some-front : (front rest : List (List ℕ)) → 0 < length front → 0 < length 
 some-front [] rest some = absurd (omega (arith, some))
 some-front (l ∷ front) rest some = omega arith
 
-joined_count-pos : (lines : List (List ℕ)) → 0 < length lines → 0 < joined_count lines
+pub joined_count-pos : (lines : List (List ℕ)) → 0 < length lines → 0 < joined_count lines
 joined_count-pos [] some = absurd (omega (arith, some))
 joined_count-pos (bytes ∷ lines) some = joined_count-some bytes lines
 

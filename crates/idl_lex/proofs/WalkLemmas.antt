@@ -182,7 +182,9 @@ begins-behind (t ∷ tokens) = by t.starts_line refl (begins-behind tokens)
   where
     by : (b : Bool) → t.starts_line ≡ b → BeginsLine (drop (followers_on_line tokens) tokens) → BeginsLine (drop (cond (not b) (1 + followers_on_line tokens) 0) (t ∷ tokens))
     by true e later = e
-    by false e later = later
+    by false e later =
+        let more : suc (followers_on_line tokens) ≡ 1 + followers_on_line tokens = omega arith in
+        subst (λ n. BeginsLine (drop n (t ∷ tokens))) more later
 
 -- and among the first ones, up to it, they are the same
 pub followers-own : (tokens : List PlacedToken) → followers_on_line (take (followers_on_line tokens) tokens) ≡ followers_on_line tokens
@@ -192,7 +194,11 @@ followers-own (t ∷ tokens) = by t.starts_line refl (followers-own tokens)
     by : (b : Bool) → t.starts_line ≡ b → followers_on_line (take (followers_on_line tokens) tokens) ≡ followers_on_line tokens
         → followers_on_line (take (cond (not b) (1 + followers_on_line tokens) 0) (t ∷ tokens)) ≡ cond (not b) (1 + followers_on_line tokens) 0
     by true e later = refl
-    by false e later = ap (λ b. cond (not b) (1 + followers_on_line (take (followers_on_line tokens) tokens)) 0) e ∙ ap (λ n. 1 + n) later
+    by false e later =
+        let more : 1 + followers_on_line tokens ≡ suc (followers_on_line tokens) = omega arith in
+        ap (λ n. followers_on_line (take n (t ∷ tokens))) more
+        ∙ ap (λ b. cond (not b) (1 + followers_on_line (take (followers_on_line tokens) tokens)) 0) e
+        ∙ ap (λ n. 1 + n) later
 
 -- they end where a line begins
 pub followers-front : (front behind : List PlacedToken) → BeginsLine behind → followers_on_line (front ++ behind) ≡ followers_on_line front

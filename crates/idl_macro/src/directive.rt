@@ -209,7 +209,7 @@ fn are_same(body: &[Token], other: &[Token]) -> bool
         return false;
     }
     'tokens: for (i, token) in body.iter().enumerate() {
-        if token != &other[i] {
+        if *token != other[i] {
             return false;
         }
     }

@@ -157,7 +157,8 @@ impl<'a> Cut<'a> {
         let text = if len <= front.len() {
             run.part(place, place + len)?
         } else {
-            TokenRange::take(&mut self.text.gathered(alloc, from, len)?)?
+            let mut copies = self.text.gathered(alloc, from, len)?;
+            TokenRange::take(&mut copies)?
         };
         let to = from + len;
         let sites = SiteRun::new(self.sites.clone()?, from, to)?;
@@ -181,4 +182,13 @@ impl<'a> Cut<'a> {
         }
         Ok(len)
     }
+}
+
+// The one site of a pragma: that many events stand before it.
+fn one_site(alloc: Global, event: usize, place: &Place) -> Result<SiteRun, AllocError>
+    ensures { IfOk result (λ sites. sites ≡ site_at event place.now ∷ []) }
+{
+    let mut sites = Sites::new(alloc);
+    sites.push(place.clone()?, event)?;
+    SiteRun::new(Rc::new(alloc, sites)?, 0, 1)
 }

@@ -7,7 +7,7 @@ use Rattle.idl_lex.specs.Logical.{joined_count}
 use Rattle.idl_lex.specs.Moved.{moved_tokens}
 use Rattle.idl_lex.specs.Text.{joined}
 use Rattle.idl_lex.specs.Tokens.{tokens_after, tokens_of}
-use Rattle.idl_lex.proofs.BlockLemmas.{CutMore-joined, tokens_of-behind, tokens_of-joined}
+use Rattle.idl_lex.proofs.BlockLemmas.{CutMore-joined, joined_count-pos, tokens_of-behind, tokens_of-joined}
 use Rattle.idl_lex.proofs.LogicalLemmas.{joined-nil}
 use Rattle.idl_lex.proofs.TokensLemmas.{tokens_after-nil}
 use Rattle.idl_lex.proofs.block.cut_block.Goals.{else-lines-test, then-lines-test+then-is_fresh+then-is_end}
@@ -40,6 +40,14 @@ lines-preserved c =
           ∙ c.lines.invariant.tokens (take (end - start) (drop start lines) ++ rest) (inl here)
           ∙ ap tokens_of more.same;
     }
+
+pub lines-smaller : goal.lines-smaller
+lines-smaller c =
+    let lines = c.args.lines.now in
+    let start = c.lines.count in
+    let here : start < length lines = omega (arith, c.lines-test.true) in
+    let is : c.joined_count.result ≡ joined_count (drop start lines) = c.joined_count.ensures.count ∙ ap joined_count (take_rest lines start) in
+    omega (arith, here, is, joined_count-pos (drop start lines) (omega (arith, here, length-drop start lines)))
 
 pub returns-clause-block : goal.returns-clause-block
 returns-clause-block c =

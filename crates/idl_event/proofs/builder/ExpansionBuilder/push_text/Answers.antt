@@ -1,11 +1,40 @@
-use Rattle.std.proofs.Common.{List, ◌≡◌, ◌∙◌, ◌++◌, ◌+◌, [], ◌∷◌, append-nil, append_assoc, length, map, sym, ap, subst₂, rules}
+use Rattle.std.proofs.Common.{List, ◌≡◌, ◌∙◌, ◌++◌, ◌+◌, [], ◌∷◌, append-nil, length, map, sym, ap, subst₂, rules}
 use Rattle.idl_event.proofs.ApartLemmas.{woven-text}
-use Rattle.idl_event.proofs.RunsLemmas.{tokens_of-push}
+use Rattle.idl_event.proofs.RunsLemmas.{tokens_of-more}
 use Rattle.idl_event.specs.Apart.{StandApart, emitted_in, text_sites, woven}
 use Rattle.idl_event.specs.Runs.{tokens_of}
 use Rattle.idl_event.specs.declared.event.Event.{Event}
-use Rattle.idl_lex.specs.Tokens.{tokens_in}
+use Rattle.idl_lex.specs.Tokens.{Token, tokens_in}
 use Rattle.idl_event.proofs.builder.ExpansionBuilder.push_text.Goals as goal
 
+pub invariant_of-self : goal.invariant_of-self
+invariant_of-self c =
+    let b = c.self.inside in
+    let more = c.args.tokens.now in
+    let n = length b.sites + c.len-2.result in
+    let number : n ≡ length b.sites + length b.others.items = search rules in
+    let sites : c.push_text.new.self ≡ b.sites ++ text_sites n c.args.file.now more = search rules in
+    let closed : tokens_of c.close.new.runs.items ++ c.close.new.open.items ≡ tokens_of b.runs.items ++ b.open.items = search rules in
+    let none : c.close.new.open.items ≡ [] = search rules in
+    let pushed : c.push_reserved.new.self.items ≡ c.close.new.runs.items ++ tokens_in more ∷ [] = search rules in
+    let text : tokens_of c.push_reserved.new.self.items ++ c.close.new.open.items ≡ (tokens_of b.runs.items ++ b.open.items) ++ tokens_in more =
+    tokens_of-more (tokens_of b.runs.items ++ b.open.items) c.close.new.runs.items c.push_reserved.new.self.items (tokens_in more) c.close.new.open.items closed none pushed in
+    subst₂ (λ ss ts. StandApart ss ts b.others.items) (sym sites) (sym text)
+    (woven-text b.sites (tokens_of b.runs.items ++ b.open.items) b.others.items n c.args.file.now more c.self.invariant number).1
+
 pub returns : goal.returns
-returns c = ?
+returns c =
+    let b = c.self.inside in
+    let more = c.args.tokens.now in
+    let n = length b.sites + c.len-2.result in
+    let number : n ≡ length b.sites + length b.others.items = search rules in
+    let sites : c.push_text.new.self ≡ b.sites ++ text_sites n c.args.file.now more = search rules in
+    let closed : tokens_of c.close.new.runs.items ++ c.close.new.open.items ≡ tokens_of b.runs.items ++ b.open.items = search rules in
+    let none : c.close.new.open.items ≡ [] = search rules in
+    let pushed : c.push_reserved.new.self.items ≡ c.close.new.runs.items ++ tokens_in more ∷ [] = search rules in
+    let text : tokens_of c.push_reserved.new.self.items ++ c.close.new.open.items ≡ (tokens_of b.runs.items ++ b.open.items) ++ tokens_in more =
+    tokens_of-more (tokens_of b.runs.items ++ b.open.items) c.close.new.runs.items c.push_reserved.new.self.items (tokens_in more) c.close.new.open.items closed none pushed in
+    ap (λ ss. woven ss (tokens_of c.push_reserved.new.self.items ++ c.close.new.open.items) b.others.items) sites
+    ∙ ap (λ ts. woven (b.sites ++ text_sites n c.args.file.now more) ts b.others.items) text
+    ∙ (woven-text b.sites (tokens_of b.runs.items ++ b.open.items) b.others.items n c.args.file.now more c.self.invariant number).0
+    ∙ ap (λ (es : List Event). es ++ map (emitted_in c.args.file.now) more) c.self.view_is

@@ -10,7 +10,7 @@ use Rattle.idl_lex.proofs.PartLemmas.{length-part}
 use Rattle.idl_lex.proofs.WalkLemmas.{line-read}
 use Rattle.idl_lex.proofs.file_tokens.FileTokens.line_at.Goals as goal
 
-nowhere : TokenPlace
+abbrev nowhere : TokenPlace
 nowhere = record { line = 0; starts_line = false; follows_word = false }
 
 pub overflow_add-result-2 : goal.overflow_add-result-2

@@ -11,7 +11,7 @@ use Rattle.idl_lex.proofs.ApartLemmas.{placed_at-read}
 use Rattle.idl_lex.proofs.PartLemmas.{part-first}
 use Rattle.idl_lex.proofs.file_tokens.FileTokens.split_first.Goals as goal
 
-nowhere : TokenPlace
+abbrev nowhere : TokenPlace
 nowhere = record { line = 0; starts_line = false; follows_word = false }
 
 pub invariant_of-first : goal.invariant_of-first
