@@ -1,9 +1,11 @@
 //! The cut of an expansion into units.
 
-ghost use Rattle.std.specs.Prelude.{◌≡◌, ◌∷◌, ◌++◌, ◌≤◌, ◌<◌, [], List, IfOk, IsFalse, IsTrue, OnOk, length};
+ghost use Rattle.std.specs.Prelude.{◌≡◌, ◌×◌, ◌∷◌, ◌++◌, ◌≤◌, ◌<◌, [], List, IfOk, IsFalse, IsTrue, OnOk, drop, length, take};
 ghost use Rattle.std.specs.List.{enumerate_from};
 ghost use Rattle.idl_event.specs.Apart.{Numbered, site_at, sites_in, tokens_in};
 ghost use Rattle.idl_event.specs.Told.{event_told};
+ghost use Rattle.idl_lex.specs.Tokens.{Token as Bytes};
+ghost use Rattle.idl_unit.specs.Ending.{token_units};
 ghost use Rattle.idl_unit.specs.Placing.{ahead, after_token, begun, IsWithin, to_come};
 ghost use Rattle.idl_unit.specs.Units.{units_of};
 
@@ -171,7 +173,17 @@ impl<'a> Cut<'a> {
 
     // How many tokens the unit has that begins with these, which are in one run. Where they are not the last of the text and no
     // token stands behind the unit, it may go on: it is looked for among copies then, twice as many each time.
-    fn first_len(&self, alloc: Global, front: &[Token]) -> Result<usize, AllocError> {
+    fn first_len(&self, alloc: Global, front: &[Token]) -> Result<usize, AllocError>
+        requires within { self.now.taken ≤ length self.now.text.now }
+        requires some { 0 < length front.now }
+        requires front { (rest : List Bytes)
+            × (drop self.now.taken self.now.text.now ≡ front.now ++ rest) }
+        ensures cut { let left = drop self.now.taken self.now.text.now in
+            IfOk result (λ len. token_units left ≡ take len left ∷ token_units (drop len left)) }
+        ensures some { IfOk result (λ len. 0 < len) }
+        ensures within { IfOk result (λ len.
+            len ≤ length (drop self.now.taken self.now.text.now)) }
+    {
         let left = self.text.len() - self.taken;
         let mut len = first_unit(front);
         let mut count = front.len();
