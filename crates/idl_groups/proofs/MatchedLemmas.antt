@@ -78,8 +78,8 @@ module _ (lines : ℕ → List Line) where
   }
 
   opens-alone : (texts : List (List PlacedToken)) (rest : List Line) (xs : List GroupFault) (bs : List OpenBranch) → AreOpen lines (map Text texts ++ rest) xs bs → AreOpen lines rest xs bs
-  opens-alone [] rest xs bs open = open
-  opens-alone (text ∷ texts) rest xs bs open = opens-alone texts rest xs bs (open-alone lines (Text text) (map Text texts ++ rest) xs bs tt open)
+  opens-alone [] rest xs bs are = are
+  opens-alone (text ∷ texts) rest xs bs are = opens-alone texts rest xs bs (open-alone lines (Text text) (map Text texts ++ rest) xs bs tt are)
 
   -- and so are the next lines, if they are all of text
   pub matched-texts : (at after : ℕ) (texts : List (List PlacedToken)) (bs : List OpenBranch) (ss : List BranchSpan) (xs : List GroupFault) → at ≤ after → lines at ≡ map Text texts ++ lines after

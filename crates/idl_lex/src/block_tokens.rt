@@ -56,6 +56,7 @@ impl TokenBuffer {
     }
 
     /// Puts in a token.
+    #[inline(always)]
     pub fn push(&mut self, placed: PlacedToken) -> Result<(), AllocError>
         ensures { OnOk result (self.new ≡ self.old ++ placed ∷ []) }
     {

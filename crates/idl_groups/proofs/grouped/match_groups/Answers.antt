@@ -36,8 +36,8 @@ lines_at-text tokens left text rest at count is lines texts all size =
 pub lines-init : goal.lines-init
 lines-init c = record { within = omega arith; left = c.all-left.ensures.tokens; matched = c.new-matching.ensures (lines_at c.args.lexed.now) }
 
-pub overflow_add-at-then-not-is_empty : goal.overflow_add-at-then-not-is_empty
-overflow_add-at-then-not-is_empty c =
+pub overflow_add-at : goal.overflow_add-at
+overflow_add-at c =
     let tokens = c.args.lexed.now in
     let here = c.lines.invariant in
     omega (arith, within-first tokens c.lines.left c.first_text-text.result.0 c.first_text-text.result.1 c.lines.at c.len-at.result here.left c.first_text-text.ensures.all c.len-at.ensures here.within, c.all-left.ensures.room)

@@ -1,4 +1,4 @@
-use Rattle.std.proofs.Common.{◌≡◌, ◌∙◌, ap, drop}
+use Rattle.std.proofs.Common.{◌∙◌, ap, drop}
 use Rattle.std.specs.List.{slice_range}
 use Rattle.idl_lex.specs.Moved.{moved_tokens}
 use Rattle.idl_lex.specs.declared.block.Block.{Block}

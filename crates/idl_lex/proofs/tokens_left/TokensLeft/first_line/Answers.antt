@@ -1,4 +1,4 @@
-use Rattle.std.proofs.Common.{◌≡◌, ◌∙◌, ◌+◌, ap, arith, drop, get_or, length, length-drop}
+use Rattle.std.proofs.Common.{◌≡◌, ap, arith, drop, get_or, length, length-drop}
 use Rattle.std.proofs.lemmas.List.{length-map}
 use Rattle.idl_lex.specs.Moved.{moved_token, moved_tokens}
 use Rattle.idl_lex.proofs.WalkLemmas.{IsFirstLine-here, IsHere-some, IsParted-first}

@@ -1,8 +1,6 @@
-use Rattle.std.proofs.Common.{◌≡◌, ◌∙◌, ◌+◌, ap, arith, drop, get_or, length, length-drop, subst, sym, true}
-use Rattle.std.proofs.lemmas.List.{length-map}
+use Rattle.std.proofs.Common.{arith, get_or, subst, sym}
 use Rattle.std.specs.List.{All}
-use Rattle.idl_lex.specs.Moved.{moved_token, moved_tokens}
-use Rattle.idl_lex.specs.Tokens.{is_text, lines_of}
+use Rattle.idl_lex.specs.Tokens.{lines_of}
 use Rattle.idl_lex.proofs.TextLemmas.{IsText, IsTextFirst-end, IsTextFirst-here}
 use Rattle.idl_lex.proofs.WalkLemmas.{IsHere-some}
 use Rattle.idl_lex.proofs.tokens_left.TokensLeft.first_text.Goals as goal
