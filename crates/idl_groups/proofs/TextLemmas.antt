@@ -6,7 +6,7 @@ use Rattle.std.specs.List.{All}
 use Rattle.std.specs.Str.{bytes_eq}
 use Rattle.idl_lex.specs.Tokens.{is_text, lines_of}
 use Rattle.idl_lex.specs.declared.token.PlacedToken.{PlacedToken}
-use Rattle.idl_groups.specs.Line.{Line, Text, after_hash, lines_from, read}
+use Rattle.idl_groups.specs.Line.{Text, after_hash, lines_from, read}
 
 read-text : (line : List PlacedToken) → is_text line ≡ true → read line ≡ Text line
 read-text [] is = refl

@@ -1,6 +1,5 @@
-use Rattle.std.proofs.Common.{◌≡◌, ◌∙◌, ◌++◌, ap, map, sym}
-use Rattle.idl_lex.specs.Tokens.{lines_of}
-use Rattle.idl_groups.specs.Line.{Text, lines_from}
+use Rattle.std.proofs.Common.{◌∙◌, ap, sym}
+use Rattle.idl_groups.specs.Line.{lines_from}
 use Rattle.idl_groups.proofs.LeftLemmas.{behind-first, within-first}
 use Rattle.idl_groups.proofs.TextLemmas.{lines_from-text}
 use Rattle.idl_groups.proofs.grouped.LinesLeft.first_text.Goals as goal
