@@ -2,8 +2,9 @@
 use Rattle.std.proofs.Common.{◌≡◌, ◌∙◌, ℕ, zero, suc, ◌+◌, ◌-◌, ◌<◌, ◌≤◌, Bool, true, false, leb, leb-true, leb-false, List, [], ◌∷◌, ◌++◌, append-nil, drop, get_or, length, length-append, take, refl, sym, ap, subst, arith}
 use Rattle.std.proofs.Math.Seq.{drop-append_seam}
 use Rattle.std.proofs.lemmas.Grind.{flat_map-append}
-use Rattle.std.proofs.lemmas.List.{drop-append-le, drop-drop, drop_more, take-append-drop, take_all, take_more}
+use Rattle.std.proofs.lemmas.List.{drop-append-le, drop-drop, drop_more, take-append-drop, take-take, take_all, take_more}
 use Rattle.std.specs.List.{AllWithin}
+use Rattle.std.specs.List.Sorted.{IsNonDecreasingBy}
 use Rattle.idl_event.specs.Runs.{starts_of, tokens_of}
 use Rattle.idl_lex.specs.Tokens.{Token}
 
@@ -11,7 +12,18 @@ use Rattle.idl_lex.specs.Tokens.{Token}
 pub tokens_of-push : (runs : List (List Token)) (run : List Token) → tokens_of (runs ++ run ∷ []) ≡ tokens_of runs ++ run
 tokens_of-push runs run = flat_map-append (λ run. run) runs (run ∷ []) ∙ ap (λ ts. tokens_of runs ++ ts) (append-nil run)
 
-starts_of-push : (n : ℕ) (runs : List (List Token)) (run : List Token) → starts_of n (runs ++ run ∷ []) ≡ starts_of n runs ++ (n + length (tokens_of runs)) ∷ []
+-- one more run, where no token is behind them
+pub tokens_of-more : (all : List Token) (runs more : List (List Token)) (run open_end : List Token) → tokens_of runs ++ open_end ≡ all → open_end ≡ [] → more ≡ runs ++ run ∷ []
+    → tokens_of more ++ open_end ≡ all ++ run
+tokens_of-more all runs more run open_end is none pushed =
+    let alone : tokens_of runs ≡ all = sym (ap (λ ts. tokens_of runs ++ ts) none ∙ append-nil (tokens_of runs)) ∙ is in
+    ap (λ rs. tokens_of rs ++ open_end) pushed
+    ∙ ap (λ ts. ts ++ open_end) (tokens_of-push runs run)
+    ∙ ap (λ ts. (tokens_of runs ++ run) ++ ts) none
+    ∙ append-nil (tokens_of runs ++ run)
+    ∙ ap (λ ts. ts ++ run) alone
+
+pub starts_of-push : (n : ℕ) (runs : List (List Token)) (run : List Token) → starts_of n (runs ++ run ∷ []) ≡ starts_of n runs ++ (n + length (tokens_of runs)) ∷ []
 starts_of-push n [] run = let e : n ≡ n + 0 = omega arith in ap (λ k. k ∷ []) e
 starts_of-push n (r ∷ runs) run =
     let e : n + length r + length (tokens_of runs) ≡ n + length (r ++ tokens_of runs) = omega (arith, length-append r (tokens_of runs)) in
@@ -97,3 +109,23 @@ IsRunAt-point (run ∷ runs) index (suc k) d here le before behind =
         let lt : k + 1 < length (run ∷ runs) = leb-false (length (run ∷ runs)) (k + 1) more in
         let next = leb-false (get_or (starts_of 0 (run ∷ runs)) (k + 1) 0) index (behind (k + 1) 0 (omega arith) (omega (arith, lt, length-starts 0 (run ∷ runs)))) in
         omega (arith, next, starts_at 0 (run ∷ runs) (k + 1) 0 lt)
+
+-- the first runs have no more tokens than more of them
+first-le : (runs : List (List Token)) (k : ℕ) → length (tokens_of (take k runs)) ≤ length (tokens_of runs)
+first-le runs k =
+    let parts : tokens_of runs ≡ tokens_of (take k runs) ++ tokens_of (drop k runs) =
+    ap tokens_of (sym (take-append-drop k runs)) ∙ flat_map-append (λ run. run) (take k runs) (drop k runs) in
+    omega (arith, ap length parts, length-append (tokens_of (take k runs)) (tokens_of (drop k runs)))
+
+-- the starts of runs don't fall
+pub starts-rise : (runs : List (List Token)) → IsNonDecreasingBy (λ (s : ℕ). s) (starts_of 0 runs)
+starts-rise runs = λ i j d le lt.
+    let high : j < length runs = omega (arith, lt, length-starts 0 runs) in
+    let low : i < length runs = omega (arith, le, high) in
+    omega (
+      arith,
+      starts_at 0 runs i d low,
+      starts_at 0 runs j d high,
+      first-le (take j runs) i,
+      ap (λ rs. length (tokens_of rs)) (take-take i j runs le),
+    )

@@ -370,9 +370,9 @@ HaveSites-none spots first stretch = λ st s is kept.
 -- one token more
 HaveSites-next : (old spots spots' : List Spot) (first stretch : ℕ) (front : List PlacedToken) (t : PlacedToken) → HaveSites old spots first stretch front
     → ((st : List Stretch) (s : Stretch) → slice_get st stretch ≡ Some s → AreKept st spots (first + length front)
-        → AreKept st spots' (first + length front + 1)
-        × (sites_of st spots' (first + length front + 1)
-        ≡ sites_of st spots (first + length front) ++ site_at (length (sites_of st spots (first + length front)) + s.others) (record { file = s.file; line = t.line }) ∷ []))
+    → AreKept st spots' (first + length front + 1)
+    × (sites_of st spots' (first + length front + 1)
+    ≡ sites_of st spots (first + length front) ++ site_at (length (sites_of st spots (first + length front)) + s.others) (record { file = s.file; line = t.line }) ∷ []))
     → HaveSites old spots' first stretch (front ++ t ∷ [])
 HaveSites-next old spots spots' first stretch front t have step = λ st s is kept.
     let had = have st s is kept in

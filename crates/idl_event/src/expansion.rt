@@ -113,13 +113,13 @@ impl<'a> Events<'a> {
         ensures most { result ≤ most }
         ensures passed { TokensFirst result self.old self.new }
     {
-        let number = self.tokens_passed + self.others_passed;
-        let free = tokens_before(self.others, self.others_passed, number);
         let left = self
             .text
             .len()
             .min(self.sites.len())
             .saturating_sub(self.tokens_passed);
+        let number = self.tokens_passed + self.others_passed;
+        let free = tokens_before(self.others, self.others_passed, number);
         let count = most.min(free).min(left);
         self.tokens_passed += count;
         count

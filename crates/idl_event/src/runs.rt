@@ -1,6 +1,6 @@
 //! The tokens of a text, as runs of tokens that are shared.
 
-ghost use Rattle.std.specs.Prelude.{◌≡◌, ◌≤◌, ◌<◌, ◌×◌, ◌++◌, List, IfNone, IfOk, IfSome, None, OnErr, OnOk, Some, drop, length, slice_get, take};
+ghost use Rattle.std.specs.Prelude.{◌≡◌, ◌≤◌, ◌<◌, ◌+◌, ◌^◌, ◌++◌, List, IfNone, IfOk, IfSome, None, OnErr, OnOk, Some, drop, length, slice_get, take};
 ghost use Rattle.idl_event.specs.Runs.{tokens_of};
 ghost use Rattle.idl_lex.specs.Tokens.{Token as Bytes};
 
@@ -13,12 +13,12 @@ use std::marker::Model;
 pub struct Runs {
     runs: Vec<TokenRange>,
     // How many tokens are before each of them.
-    starts: Vec<usize>,
-    count: usize,
+    starts: Vec<u32>,
+    count: u32,
 }
 
 impl Model for Runs {
-    ghost use Rattle.std.specs.Prelude.{◌≡◌, ◌×◌, ◌<◌, ◌^◌, List, length};
+    ghost use Rattle.std.specs.Prelude.{◌≡◌, ◌<◌, ◌^◌, List, length};
     ghost use Rattle.idl_event.specs.Runs.{starts_of, tokens_of};
     ghost use Rattle.idl_lex.specs.Tokens.{Token};
 
@@ -31,18 +31,15 @@ impl Model for Runs {
 }
 
 impl Runs {
-    /// The tokens of these runs, end to end. A number that is too large is as want of memory.
+    /// The tokens of these runs, end to end. Numbers from the first 2^32 on are as want of memory.
     pub fn new(alloc: Global, runs: Vec<TokenRange>) -> Result<Runs, AllocError>
         ensures { IfOk result (λ all. all ≡ tokens_of runs.items) }
     {
         let mut starts = Vec::with_capacity(alloc, runs.len())?;
-        let mut count = 0usize;
+        let mut count = 0;
         'runs: for run in &runs {
             starts.push(count)?;
-            let Some(sum) = count.checked_add(run.len()) else {
-                return Err(AllocError);
-            };
-            count = sum;
+            count = sum(count, run.len())?;
         }
         Ok(Runs {
             runs,
@@ -53,9 +50,10 @@ impl Runs {
 
     /// How many tokens they are.
     pub fn len(&self) -> usize
-        ensures { result ≡ length self.now }
+        ensures value { result ≡ length self.now }
+        ensures small { result < 2 ^ 32 }
     {
-        self.count
+        self.count as usize
     }
 
     /// The run that the token with this number is in, and how many tokens of the run are before it.
@@ -64,11 +62,14 @@ impl Runs {
             × (rest : List Bytes) × (drop index self.now ≡ drop at.1 at.0.now ++ rest)) }
         ensures none { IfNone result (length self.now ≤ index) }
     {
-        if self.count <= index {
+        if self.count as usize <= index {
             return None;
         }
-        let place = self.starts.partition_point(|start| *start <= index) - 1;
-        Some((&self.runs[place], index - self.starts[place]))
+        let place = self
+            .starts
+            .partition_point(|start| *start as usize <= index)
+            - 1;
+        Some((&self.runs[place], index - self.starts[place] as usize))
     }
 
     /// The token with this number.
@@ -89,7 +90,7 @@ impl Runs {
     ) -> Result<Vec<Token>, AllocError>
         ensures { IfOk result (λ tokens. tokens.items ≡ take count (drop from self.now)) }
     {
-        let mut left = count.min(self.count.saturating_sub(from));
+        let mut left = count.min(self.len().saturating_sub(from));
         let mut gathered = Vec::with_capacity(alloc, left)?;
         'runs: while left > 0 {
             let Some((run, place)) = self.run_from(from + gathered.len()) else {
@@ -101,6 +102,19 @@ impl Runs {
             left -= more;
         }
         Ok(gathered)
+    }
+}
+
+// The number of so many tokens and so many more.
+fn sum(count: u32, more: usize) -> Result<u32, AllocError>
+    ensures { IfOk result (λ sum. sum ≡ count + more) }
+{
+    let Ok(more) = u32::try_from(more) else {
+        return Err(AllocError);
+    };
+    match count.checked_add(more) {
+        Some(sum) => Ok(sum),
+        None => Err(AllocError),
     }
 }
 

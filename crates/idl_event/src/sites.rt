@@ -1,6 +1,6 @@
 //! Where the tokens of a text stand.
 
-ghost use Rattle.std.specs.Prelude.{◌≡◌, ◌++◌, ◌∷◌, ◌+◌, ◌-◌, ◌<◌, ◌≤◌, ◌^◌, List, [], IfNone, IfOk, IfSome, IsTrue, None, OnErr, OnOk, Some, length, slice_get};
+ghost use Rattle.std.specs.Prelude.{◌≡◌, ◌⊎◌, ◌++◌, ◌∷◌, ◌+◌, ◌-◌, ◌<◌, ◌≤◌, ◌^◌, List, [], IfNone, IfOk, IfSome, IsTrue, None, OnErr, OnOk, Some, length, slice_get};
 ghost use Rattle.std.specs.Option.{option_copied, option_map};
 ghost use Rattle.idl_event.specs.Apart.{site_at, sites_at, text_sites};
 ghost use Rattle.idl_event.specs.Sites.{HaveSites, Rise, StandsAt, found, in_stretch, spot_at};
@@ -239,20 +239,32 @@ fn push_lines(
     let mut i = 0;
     'tokens: while i < tokens.len() {
         let line = tokens.line_at(i);
-        if !is_on(last, line) {
-            let spot = Spot {
-                first: start.first + i as u32,
-                line,
-                stretch: start.stretch,
-            };
-            if spots.push(spot).is_err() {
-                spots.truncate(before);
-                return Err(AllocError);
-            }
+        let spot = Spot {
+            first: start.first + i as u32,
+            line,
+            stretch: start.stretch,
+        };
+        if let Err(error) = put_spot(spots, last, spot) {
+            spots.truncate(before);
+            return Err(error);
         }
         last = Some(line);
         i += 1;
     }
+    Ok(())
+}
+
+// The spot goes behind the others, unless the last one is on its line already.
+fn put_spot(spots: &mut Vec<Spot>, last: Option<u32>, spot: Spot) -> Result<(), AllocError>
+    ensures put { OnOk result
+        ((last ≡ Some spot.line) × (spots.new.items ≡ spots.old.items)
+        ⊎ (spots.new.items ≡ spots.old.items ++ spot ∷ [])) }
+    ensures kept { OnErr result (spots.new.items ≡ spots.old.items) }
+{
+    if is_on(last, spot.line) {
+        return Ok(());
+    }
+    spots.push(spot)?;
     Ok(())
 }
 

@@ -10,7 +10,7 @@ pub invariant_of-self-in-Ok : goal.invariant_of-self-in-Ok
 invariant_of-self-in-Ok c =
     let b = c.self.inside in
     let more = c.args.tokens.now in
-    let n = length b.sites + c.len-2.result in
+    let n = length b.sites + c.len.result in
     let number : n ≡ length b.sites + length b.others.items = search rules in
     let sites : c.push_text.new.self ≡ b.sites ++ text_sites n c.args.file.now more = search rules in
     let opened : c.push_clones.new.text.items ≡ b.open.items ++ tokens_in more = search rules in
@@ -23,7 +23,7 @@ pub returns-in-Ok : goal.returns-in-Ok
 returns-in-Ok c =
     let b = c.self.inside in
     let more = c.args.tokens.now in
-    let n = length b.sites + c.len-2.result in
+    let n = length b.sites + c.len.result in
     let number : n ≡ length b.sites + length b.others.items = search rules in
     let sites : c.push_text.new.self ≡ b.sites ++ text_sites n c.args.file.now more = search rules in
     let opened : c.push_clones.new.text.items ≡ b.open.items ++ tokens_in more = search rules in

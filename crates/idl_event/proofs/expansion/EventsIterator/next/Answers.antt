@@ -1,6 +1,4 @@
-use Rattle.std.proofs.Common.{◌≡◌, ◌∙◌, [], None, Some, length, refl, slice_get, sym, rules}
-use Rattle.std.proofs.lemmas.Bool.{ltb-false, ltb-true}
-use Rattle.std.proofs.lemmas.Option.{slice_get_past, slice_get_read}
+use Rattle.std.proofs.Common.{◌≡◌, ◌∙◌, [], None, Some, slice_get, sym, rules}
 use Rattle.idl_event.proofs.ApartLemmas.{passed-no_token, passed-none, passed-other, passed-token}
 use Rattle.idl_event.specs.Apart.{site_at}
 use Rattle.idl_event.proofs.expansion.EventsIterator.next.Goals as goal
@@ -31,8 +29,7 @@ returns-in_err-file-in-None-clause-steps c =
 pub returns-in_err-token-in-None-clause-steps : goal.returns-in_err-token-in-None-clause-steps
 returns-in_err-token-in-None-clause-steps c =
     let e = c.self.inside in
-    let at : slice_get e.text.now e.tokens_passed ≡ None =
-    slice_get_past e.text.now e.tokens_passed (ltb-false e.tokens_passed (length e.text.now) (sym c.in_err-token-in-None.ensures.lookup.0)) in
+    let at : slice_get e.text.now e.tokens_passed ≡ None = c.in_err-token-in-None.ensures.none in
     let none : c.args.self.now ≡ [] = sym c.self.view_is
     ∙ passed-no_token e.sites.now e.text.now e.others.now e.tokens_passed e.others_passed c.self.invariant c.in-None.ensures.none at in
     search rules
@@ -42,9 +39,7 @@ invariant_of-self-in-None c =
     let e = c.self.inside in
     let stands = c.in_ok-file-in-None.ensures.some in
     let site = site_at stands.0 (record { file = c.in_ok-file-in-None.file.now; line = c.in_ok-file-in-None.line }) in
-    let at_token : slice_get e.text.now e.tokens_passed ≡ Some c.in_ok-token-in-None.token.now =
-    slice_get_read e.text.now (length e.text.now) e.tokens_passed c.in_ok-token-in-None.token.now refl
-    (ltb-true e.tokens_passed (length e.text.now) (sym c.in_ok-token-in-None.ensures.lookup.0)) c.in_ok-token-in-None.ensures.lookup.1 in
+    let at_token : slice_get e.text.now e.tokens_passed ≡ Some c.in_ok-token-in-None.token.now = c.in_ok-token-in-None.ensures.some in
     (passed-token e.sites.now e.text.now e.others.now e.tokens_passed e.others_passed c.self.invariant
     site c.in_ok-token-in-None.token.now c.in-None.ensures.none stands.1 at_token).1
 
@@ -53,9 +48,7 @@ returns-in_ok-token-in-None-clause-steps c =
     let e = c.self.inside in
     let stands = c.in_ok-file-in-None.ensures.some in
     let site = site_at stands.0 (record { file = c.in_ok-file-in-None.file.now; line = c.in_ok-file-in-None.line }) in
-    let at_token : slice_get e.text.now e.tokens_passed ≡ Some c.in_ok-token-in-None.token.now =
-    slice_get_read e.text.now (length e.text.now) e.tokens_passed c.in_ok-token-in-None.token.now refl
-    (ltb-true e.tokens_passed (length e.text.now) (sym c.in_ok-token-in-None.ensures.lookup.0)) c.in_ok-token-in-None.ensures.lookup.1 in
+    let at_token : slice_get e.text.now e.tokens_passed ≡ Some c.in_ok-token-in-None.token.now = c.in_ok-token-in-None.ensures.some in
     sym c.self.view_is
     ∙ (passed-token e.sites.now e.text.now e.others.now e.tokens_passed e.others_passed c.self.invariant
     site c.in_ok-token-in-None.token.now c.in-None.ensures.none stands.1 at_token).0
