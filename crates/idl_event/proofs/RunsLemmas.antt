@@ -1,5 +1,5 @@
 -- Runs of tokens, end to end.
-use Rattle.std.proofs.Common.{◌≡◌, ◌∙◌, ℕ, zero, suc, ◌+◌, ◌-◌, ◌<◌, ◌≤◌, Bool, true, false, leb, leb-true, leb-false, List, [], ◌∷◌, ◌++◌, append-nil, drop, get_or, length, length-append, take, refl, sym, ap, subst, arith}
+use Rattle.std.proofs.Common.{◌≡◌, ◌∙◌, ℕ, zero, suc, ◌+◌, ◌-◌, ◌<◌, ◌≤◌, Bool, true, false, leb, leb-true, leb-false, List, [], ◌∷◌, ◌++◌, append-nil, drop, get_or, length, length-append, length-drop, slice_get, take, refl, sym, ap, subst, arith}
 use Rattle.std.proofs.Math.Seq.{drop-append_seam}
 use Rattle.std.proofs.lemmas.Grind.{flat_map-append}
 use Rattle.std.proofs.lemmas.List.{drop-append-le, drop-drop, drop_more, take-append-drop, take-take, take_all, take_more}
@@ -129,3 +129,21 @@ starts-rise runs = λ i j d le lt.
       first-le (take j runs) i,
       ap (λ rs. length (tokens_of rs)) (take-take i j runs le),
     )
+
+get-behind : (tokens : List Token) (i : ℕ) → slice_get tokens i ≡ slice_get (drop i tokens) 0
+get-behind [] zero = refl
+get-behind [] (suc i) = refl
+get-behind (t ∷ tokens) zero = refl
+get-behind (t ∷ tokens) (suc i) = get-behind tokens i
+
+get-first : (tokens more : List Token) → 0 < length tokens → slice_get (tokens ++ more) 0 ≡ slice_get tokens 0
+get-first [] more some = absurd (omega (arith, some))
+get-first (t ∷ tokens) more some = refl
+
+-- a token is the one at its place in its run
+pub read-behind : (all run later : List Token) (index place : ℕ) → place < length run → drop index all ≡ drop place run ++ later → slice_get all index ≡ slice_get run place
+read-behind all run later index place lt is =
+    get-behind all index
+    ∙ ap (λ ts. slice_get ts 0) is
+    ∙ get-first (drop place run) later (omega (arith, lt, length-drop place run))
+    ∙ sym (get-behind run place)
