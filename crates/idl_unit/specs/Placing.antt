@@ -1,5 +1,5 @@
 -- Words for the steps of the cut of events.
-use Rattle.std.specs.Prelude.{◌≡◌, ℕ, ◌-◌, ◌≤◌, List, [], ◌∷◌, ◌++◌, drop, length, nat_eq, nat_lt, take, if◌then◌else◌}
+use Rattle.std.specs.Prelude.{◌≡◌, ℕ, ◌-◌, ◌<◌, ◌≤◌, List, [], ◌∷◌, ◌++◌, drop, length, nat_eq, nat_lt, take, if◌then◌else◌}
 use Rattle.idl_event.specs.Apart.{Numbered}
 use Rattle.idl_event.specs.declared.event.Event.TheVariants as event
 use Rattle.idl_event.specs.declared.site.Site.{Site}
@@ -61,3 +61,10 @@ pub record IsWithin (cut : Cut) : Type 0 where
   pub length_same : length cut.sites.now.value
       ≡ length cut.text.now
   pub taken_at_most : cut.taken ≤ length cut.text.now
+
+-- the first unit of these tokens
+pub record IsFirstUnit (unit left : List Token) : Type 0 where
+  pub some : 0 < length unit
+  pub within : length unit ≤ length left
+  pub first : unit ≡ take (length unit) left
+  pub cut : token_units left ≡ unit ∷ token_units (drop (length unit) left)

@@ -1,12 +1,12 @@
 //! The cut of an expansion into units.
 
-ghost use Rattle.std.specs.Prelude.{◌≡◌, ◌∷◌, ◌++◌, ◌≤◌, ◌<◌, [], List, IfOk, IsFalse, IsTrue, OnOk, drop, length, take};
+ghost use Rattle.std.specs.Prelude.{◌≡◌, ◌∷◌, ◌++◌, ◌≤◌, ◌<◌, [], List, IfNone, IfOk, IfSome, IsFalse, IsTrue, OnOk, drop, length, take};
 ghost use Rattle.std.specs.List.{enumerate_from};
 ghost use Rattle.idl_event.specs.Apart.{Numbered, site_at, sites_in, tokens_in};
 ghost use Rattle.idl_event.specs.Told.{event_told};
 ghost use Rattle.idl_lex.specs.Tokens.{Token as Bytes};
 ghost use Rattle.idl_unit.specs.Ending.{token_units};
-ghost use Rattle.idl_unit.specs.Placing.{ahead, after_token, begun, IsWithin, to_come};
+ghost use Rattle.idl_unit.specs.Placing.{ahead, after_token, begun, IsFirstUnit, IsWithin, to_come};
 ghost use Rattle.idl_unit.specs.Units.{units_of};
 
 use crate::ending::first_unit;
@@ -149,19 +149,12 @@ impl<'a> Cut<'a> {
             ≡ self.old.units.items ++ begun (ahead self.old)) }
         ensures ahead { OnOk result (ahead self.new ≡ after_token (ahead self.old)) }
     {
-        let from = self.taken;
         // Where no token is left, none begins.
-        let Some((run, place)) = self.text.run_from(from) else {
+        let Some(text) = self.next_unit(alloc)? else {
             return Ok(());
         };
-        let (_before, front) = run.as_slice().split_at(place);
-        let len = self.first_len(alloc, front)?;
-        let text = if len <= front.len() {
-            run.part(place, place + len)?
-        } else {
-            let mut copies = self.text.gathered(alloc, from, len)?;
-            TokenRange::take(&mut copies)?
-        };
+        let len = text.len();
+        let from = self.taken;
         let to = from + len;
         let sites = SiteRun::new(self.sites.clone()?, from, to)?;
         let unit = Unit::Spelled(UnitText::Tokens(text), sites);
@@ -169,6 +162,26 @@ impl<'a> Cut<'a> {
         self.taken = to;
         self.inside = len - 1;
         Ok(())
+    }
+
+    // The unit of the tokens that are left, if there are some: shared with its run, unless it goes on behind that.
+    fn next_unit(&self, alloc: Global) -> Result<Option<TokenRange>, AllocError>
+        requires { self.now.taken ≤ length self.now.text.now }
+        ensures none { IfOk result (λ unit. IfNone unit
+            (length self.now.text.now ≤ self.now.taken)) }
+        ensures some { let left = drop self.now.taken self.now.text.now in
+            IfOk result (λ unit. IfSome unit (λ text. IsFirstUnit text left)) }
+    {
+        let Some((run, place)) = self.text.run_from(self.taken) else {
+            return Ok(None);
+        };
+        let (_before, front) = run.as_slice().split_at(place);
+        let len = self.first_len(alloc, front)?;
+        if len <= front.len() {
+            return Ok(Some(run.part(place, place + len)?));
+        }
+        let mut copies = self.text.gathered(alloc, self.taken, len)?;
+        Ok(Some(TokenRange::take(&mut copies)?))
     }
 
     // How many tokens the unit has that begins with these, which are in one run. Where they are not the last of the text and no
