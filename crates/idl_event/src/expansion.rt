@@ -71,6 +71,8 @@ impl Expansion {
     pub fn events(&self) -> Events<'_>
         ensures { result ≡ enumerate_from 0 self.now }
     {
+        // So many tokens can be counted.
+        let _count = self.text.len();
         Events {
             text: &self.text,
             sites: &self.sites,
@@ -93,7 +95,7 @@ pub struct Events<'a> {
 }
 
 impl<'a> Model for Events<'a> {
-    ghost use Rattle.std.specs.Prelude.{List, ℕ, ◌+◌};
+    ghost use Rattle.std.specs.Prelude.{List, ℕ, ◌+◌, ◌<◌, ◌^◌, length};
     ghost use Rattle.idl_event.specs.Apart.{ArePassed, events_from, woven};
     ghost use Rattle.idl_event.specs.declared.event.Event.{Event};
 
@@ -104,7 +106,8 @@ impl<'a> Model for Events<'a> {
         (woven e.sites.now e.text.now e.others.now) };
 
     ghost invariant = { λ e.
-        ArePassed e.sites.now e.text.now e.others.now e.tokens_passed e.others_passed };
+        ArePassed e.sites.now e.text.now e.others.now e.tokens_passed e.others_passed
+        × (length e.text.now < 2 ^ 32) };
 }
 
 impl<'a> Events<'a> {

@@ -17,4 +17,4 @@ returns-clause-some c =
     lent c.get.result (slice_get c.args.self.now c.args.index)
     (copied-get c.as_slice.result.now place c.get.result c.get.ensures.lookup
     ∙ ap (λ ts. slice_get ts place) c.as_slice.ensures
-    ∙ sym (read-behind c.args.self.now run some.1.0 c.args.index place some.0 some.1.1))
+    ∙ sym (read-behind c.args.self.now run some.1 c.args.index place some.0 some.2))

@@ -66,10 +66,8 @@ returns-clause-some c =
     let same : length (tokens_of (take (k - 1) runs)) ≡ first = omega (arith, start) in
     let is : get_or runs (k - 1) run ≡ run = sym c.index.ensures in (
       omega (arith, at.inside, same, ap length is),
-      (
-        tokens_of (drop (k - 1 + 1) runs),
-        ap (drop index) (sym c.self.view_is)
-            ∙ run-from runs (k - 1) index run at.within at.begins at.inside
-            ∙ (λ j. drop (index - same j) (is j) ++ tokens_of (drop (k - 1 + 1) runs)),
-      ),
+      tokens_of (drop (k - 1 + 1) runs),
+      ap (drop index) (sym c.self.view_is)
+          ∙ run-from runs (k - 1) index run at.within at.begins at.inside
+          ∙ (λ j. drop (index - same j) (is j) ++ tokens_of (drop (k - 1 + 1) runs)),
     )

@@ -46,10 +46,11 @@ invariant_of-self-2 c =
     let s : Stretch = record { file = c.args.file.now; others = c.args.others } in
     let more = c.stretch_of.ensures.more in
     let there : slice_get stretches c.in_ok-stretch.stretch ≡ Some s = search rules in
+    let first : b.count ≡ c.in-Ok.first = search rules in
     let kept : AreKept stretches b.spots.items b.count =
     subst (λ l. AreKept l b.spots.items b.count) (sym more.1) (stretch-more b.stretches.items more.0 b.spots.items b.count c.self.invariant).0 in
-    let pushed = c.in_ok-push_lines.ensures.more stretches s there kept in
-    subst (λ n. AreKept stretches c.push_lines.new.spots.items (b.count + n)) (sym c.len-2.ensures) pushed.0
+    let pushed = c.in_ok-push_lines.ensures.more stretches s there (subst (AreKept stretches b.spots.items) first kept) in
+    subst₂ (λ n m. AreKept stretches c.push_lines.new.spots.items (n + m)) (sym first) (sym c.len-2.ensures) pushed.0
 
 pub returns-clause-more : goal.returns-clause-more
 returns-clause-more c =
@@ -58,10 +59,11 @@ returns-clause-more c =
     let s : Stretch = record { file = c.args.file.now; others = c.args.others } in
     let more = c.stretch_of.ensures.more in
     let there : slice_get stretches c.in_ok-stretch.stretch ≡ Some s = search rules in
+    let first : b.count ≡ c.in-Ok.first = search rules in
     let all = stretch-more b.stretches.items more.0 b.spots.items b.count c.self.invariant in
     let kept : AreKept stretches b.spots.items b.count = subst (λ l. AreKept l b.spots.items b.count) (sym more.1) all.0 in
-    let pushed = c.in_ok-push_lines.ensures.more stretches s there kept in
-    let before = ap (λ l. sites_of l b.spots.items b.count) more.1 ∙ all.1 ∙ c.self.view_is in
-    ap (λ n. sites_of stretches c.push_lines.new.spots.items (b.count + n)) c.len-2.ensures
+    let pushed = c.in_ok-push_lines.ensures.more stretches s there (subst (AreKept stretches b.spots.items) first kept) in
+    let before = ap (sites_of stretches b.spots.items) (sym first) ∙ ap (λ l. sites_of l b.spots.items b.count) more.1 ∙ all.1 ∙ c.self.view_is in
+    (λ j. sites_of stretches c.push_lines.new.spots.items (first j + c.len-2.ensures j))
     ∙ pushed.1
     ∙ ap (λ l. l ++ text_sites (length l + c.args.others) c.args.file.now c.args.tokens.now) before
