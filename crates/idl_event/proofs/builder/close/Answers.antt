@@ -1,4 +1,4 @@
-use Rattle.std.proofs.Common.{◌≡◌, ◌∙◌, ◌++◌, ◌∷◌, [], append-nil, ap, sym, rules}
+use Rattle.std.proofs.Common.{◌≡◌, ◌∙◌, ◌++◌, ◌∷◌, [], append-nil, ap, rules}
 use Rattle.idl_event.specs.Runs.{tokens_of}
 use Rattle.idl_event.proofs.RunsLemmas.{tokens_of-push}
 use Rattle.idl_event.proofs.builder.close.Goals as goal

@@ -1,4 +1,4 @@
-use Rattle.std.proofs.Common.{◌≡◌, ◌∙◌, ◌⊎◌, inl, inr, ◌+◌, ◌-◌, ◌<◌, ◌^◌, ◌++◌, ◌∷◌, [], ℕ, List, Some, None, false, get_or, length, map, slice_get, refl, sym, ap, subst, append-nil, append_assoc, arith, take, rules}
+use Rattle.std.proofs.Common.{◌≡◌, ◌∙◌, ◌⊎◌, inl, inr, ◌+◌, ◌-◌, ◌<◌, ◌^◌, ◌++◌, ◌∷◌, [], ℕ, List, Some, false, get_or, length, map, slice_get, refl, sym, ap, subst, append-nil, append_assoc, arith, take, rules}
 use Rattle.std.proofs.lemmas.List.{length-take-le, take_all, take_more}
 use Rattle.std.proofs.lemmas.Option.{slice_get-get_or, slice_get-map}
 use Rattle.std.specs.Option.{option_map, unwrap_or}

@@ -1,4 +1,4 @@
-use Rattle.std.proofs.Common.{◌≡◌, ◌≤◌, ◌+◌, ◌-◌, drop, length, take}
+use Rattle.std.proofs.Common.{◌≡◌, ◌+◌, drop, length, take}
 use Rattle.idl_event.proofs.runs.Runs.gathered.Given as goal
 
 abbrev pub invariant-runs : goal.invariant-runs

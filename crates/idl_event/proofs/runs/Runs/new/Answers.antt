@@ -1,4 +1,4 @@
-use Rattle.std.proofs.Common.{◌≡◌, ◌∙◌, ◌+◌, ◌<◌, ◌++◌, ◌∷◌, [], ℕ, List, ap, arith, get_or, length, length-append, sym, take}
+use Rattle.std.proofs.Common.{◌≡◌, ◌∙◌, ◌+◌, ◌<◌, ◌++◌, ◌∷◌, [], List, ap, arith, get_or, length, length-append, sym, take}
 use Rattle.std.proofs.lemmas.List.{take_more}
 use Rattle.idl_event.specs.Runs.{starts_of, tokens_of}
 use Rattle.idl_lex.specs.Tokens.{Token}

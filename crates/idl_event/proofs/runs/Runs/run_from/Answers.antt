@@ -1,4 +1,4 @@
-use Rattle.std.proofs.Common.{◌≡◌, ◌∙◌, ◌-◌, ◌<◌, ◌≤◌, ◌+◌, ◌++◌, [], ℕ, List, ap, arith, drop, get_or, leb, length, sym, rules, take}
+use Rattle.std.proofs.Common.{◌≡◌, ◌∙◌, ◌-◌, ◌<◌, ◌≤◌, ◌+◌, ◌++◌, [], ℕ, ap, arith, drop, get_or, leb, length, sym, rules, take}
 use Rattle.std.proofs.lemmas.List.Sorted.{IsPartitionPoint-from_clause, IsPartitionedBy-leb}
 use Rattle.idl_event.specs.Runs.{starts_of, tokens_of}
 use Rattle.idl_event.proofs.RunsLemmas.{IsRunAt-point, length-starts, run-from, starts-rise, starts_at}

@@ -1,5 +1,4 @@
-use Rattle.std.proofs.Common.{◌≡◌, ◌∙◌, ◌+◌, ◌≤◌, ◌^◌, ◌++◌, Some, length, slice_get, refl, sym, ap, subst, subst₂, rules}
-use Rattle.std.proofs.lemmas.Result.{on_err_weaker}
+use Rattle.std.proofs.Common.{◌≡◌, ◌∙◌, ◌+◌, ◌++◌, Some, length, slice_get, sym, ap, subst, subst₂, rules}
 use Rattle.idl_event.proofs.SitesLemmas.{stretch-more}
 use Rattle.idl_event.specs.Apart.{text_sites}
 use Rattle.idl_event.specs.Sites.{AreKept, sites_of}
