@@ -39,9 +39,11 @@ invariant_of-self-in-None c =
     let e = c.self.inside in
     let stands = c.in_ok-file-in-None.ensures.some in
     let site = site_at stands.0 (record { file = c.in_ok-file-in-None.file.now; line = c.in_ok-file-in-None.line }) in
-    let at_token : slice_get e.text.now e.tokens_passed ≡ Some c.in_ok-token-in-None.token.now = c.in_ok-token-in-None.ensures.some in
-    ((passed-token e.sites.now e.text.now e.others.now e.tokens_passed e.others_passed c.self.invariant.0
-    site c.in_ok-token-in-None.token.now c.in-None.ensures.none stands.1 at_token).1, c.self.invariant.1)
+    let at_token : slice_get e.text.now e.tokens_passed ≡ Some c.in_ok-token-in-None.token.now = c.in_ok-token-in-None.ensures.some in (
+      (passed-token e.sites.now e.text.now e.others.now e.tokens_passed e.others_passed c.self.invariant.0
+          site c.in_ok-token-in-None.token.now c.in-None.ensures.none stands.1 at_token).1,
+      c.self.invariant.1,
+    )
 
 pub returns-in_ok-token-in-None-clause-steps : goal.returns-in_ok-token-in-None-clause-steps
 returns-in_ok-token-in-None-clause-steps c =
