@@ -1,7 +1,6 @@
 -- What the reading of `defined X` and a whole condition ask and tell, and what comes of them.
 use Rattle.std.proofs.Common.{◌≡◌, ℕ, zero, suc, List, [], ◌∷◌, ◌++◌, Option, None, Some, is_some, drop, refl, ap, sym, ◌∙◌, append_assoc}
 use Rattle.std.specs.Option.{option_map}
-use Rattle.std.proofs.lemmas.List.{map-append}
 use Rattle.idl_memo.specs.Query.{Done, Ask, Tell, and_then}
 use Rattle.idl_condition.specs.Arithmetic.{Value}
 use Rattle.idl_event.specs.Expanding.{Expanding, Reached, arrival, arrived}

@@ -1,4 +1,4 @@
-use Rattle.std.proofs.Common.{◌≡◌, ◌<◌, ◌+◌, ◌∷◌, [], ℕ, List, Option, None, Bor, false, drop, get_or, length, sym, ap, ◌∙◌, arith}
+use Rattle.std.proofs.Common.{◌≡◌, ◌<◌, ◌+◌, [], List, Option, None, Bor, false, drop, get_or, length, sym, ap, ◌∙◌, arith}
 use Rattle.std.proofs.lemmas.List.{drop_more, get_or-map, length-map}
 use Rattle.std.specs.Option.{option_copied}
 use Rattle.idl_event.specs.Expanding.{Reached, arrival, arrived, reached}

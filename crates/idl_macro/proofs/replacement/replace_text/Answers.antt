@@ -1,4 +1,4 @@
-use Rattle.std.proofs.Common.{◌≡◌, ℕ, [], ◌∷◌, sym, ap, ◌∙◌, List, drop, refl, subst, take, arith}
+use Rattle.std.proofs.Common.{◌≡◌, [], ◌∷◌, sym, ap, ◌∙◌, List, drop, refl, subst, take, arith}
 use Rattle.idl_event.specs.Expanding.{after_text, reached}
 use Rattle.idl_event.specs.declared.place.Place.{Place}
 use Rattle.idl_lex.specs.declared.token.PlacedToken.{PlacedToken}
