@@ -16,7 +16,7 @@ ghost use Rattle.idl_site.specs.Item.{Item as item, item_at, item_length};
 ghost use Rattle.idl_unit.specs.TokenRules.{fault_at};
 
 use crate::bases::Bases;
-use crate::bodies::{Body, Clauses, end_innermost};
+use crate::bodies::{Body, Clauses, Nest, end_innermost};
 use crate::codes::lesser;
 use crate::cursor::Cursor;
 use crate::declaring::{Ending, Written, finished, kind_of, path_in};
@@ -34,7 +34,8 @@ use idl_unit::Fault;
 use std::alloc::{AllocError, Global};
 use std::mem::replace;
 
-/// How far a walk has come.
+/// How far a walk has come. Of its many fields most are empty, so each is dropped where it stands.
+#[derive(Drop)]
 pub struct Walker<'a> {
     pub env: &'a Env,
     /// The number of the next token.
@@ -51,7 +52,7 @@ pub struct Walker<'a> {
     /// What was declared last.
     pub last: Option<Shared<Entity>>,
     /// The scopes of the unit around it, the innermost first.
-    pub bodies: Vec<Body>,
+    pub bodies: Nest,
     pub clauses: Clauses,
     /// The labels of the unions around it, the innermost first.
     pub unions: Vec<Labels>,
@@ -62,28 +63,6 @@ pub struct Walker<'a> {
     pub values: Values,
     /// The least fault so far.
     pub fault: Option<Fault>,
-}
-
-impl<'a> Drop for Walker<'a> {
-    fn drop(self) {
-        let Walker {
-            env: _env,
-            at: _at,
-            cursor: _cursor,
-            own: _own,
-            begun: _begun,
-            bases: _bases,
-            written: _written,
-            last: _last,
-            bodies: _bodies,
-            clauses: _clauses,
-            unions: _unions,
-            gives_back: _gives_back,
-            found: _found,
-            values: _values,
-            fault: _fault,
-        } = self;
-    }
 }
 
 impl<'a> Walker<'a> {
@@ -102,7 +81,7 @@ impl<'a> Walker<'a> {
             bases: Bases::new(alloc),
             written: Written::new(alloc),
             last: None,
-            bodies: Vec::new(alloc),
+            bodies: Nest::new(alloc),
             clauses: Clauses::new(alloc),
             unions: Vec::new(alloc),
             gives_back: false,
@@ -267,13 +246,13 @@ impl<'a> Walker<'a> {
               cursor = with_scope way name.now self.old.cursor;
               bodies =
                   begun_body self.old.last self.old.written.data_type
-                  ∷ self.old.bodies.items;
+                  ∷ self.old.bodies;
             }) }
         ensures env { OnOk result (self.new.env.now ≡ self.old.env.now) }
     {
         let alloc = self.env.alloc();
         let body = Body::new(alloc, &self.last, &self.written.data_type)?;
-        self.bodies.insert(0, body)?;
+        self.bodies.begin(body)?;
         let Some(innermost) = self.cursor.innermost() else {
             return Ok(());
         };
