@@ -32,8 +32,8 @@ pub enum Output {
     Operand(Vec<Token>),
 }
 
-/// The tokens of a text are replaced, each at its own place, and emitted. Most stand for themselves: those of a line are emitted
-/// at once, and a replacement begins only where there is a macro.
+/// The tokens of a text are replaced, each at its own place, and emitted. Most stand for themselves: those that follow one
+/// another are emitted at once, and a replacement begins only where there is a macro.
 #[inline(never)]
 #[tactic(auto, unfolding(crate::specs::Replace::text))]
 pub fn replace_text<B: RootBank>(
