@@ -2,53 +2,55 @@
 use Rattle.std.proofs.Common.{◌≡◌, ℕ, zero, suc, ◌-◌, ◌≤◌, false, nat_eq, if◌then◌else◌, List, [], ◌∷◌, ◌++◌, length, map, Option, None, Some, refl, sym, ap, ◌∙◌, arith, append-nil, append_assoc}
 use Rattle.std.proofs.Math.Dec.{eqb-suc-zero}
 use Rattle.idl_memo.specs.Progress.{after_item, with_item}
-use Rattle.idl_event.specs.Expanding.{Reached, after_tokens}
+use Rattle.idl_event.specs.Expanding.{Reached, after_text}
+use Rattle.idl_event.specs.Apart.{emitted_in}
 use Rattle.idl_event.specs.Items.{rules, spend}
 use Rattle.idl_event.specs.declared.allowance.Allowance.{Allowance}
 use Rattle.idl_event.specs.declared.event.Event.{Event}
 use Rattle.idl_event.specs.declared.event.Event.TheVariants.{Emitted}
 use Rattle.idl_event.specs.declared.event.Item.TheVariants.{Kept}
 use Rattle.idl_event.specs.declared.place.Place.{Place}
+use Rattle.idl_event.specs.declared.file_name.FileName.{FileName}
 use Rattle.idl_lex.specs.Tokens.{Token}
+use Rattle.idl_lex.specs.declared.token.PlacedToken.{PlacedToken}
 
 not-zero : (n k : ℕ) → suc k ≤ n → nat_eq n 0 ≡ false
 not-zero zero k le = absurd (omega (arith, le))
 not-zero (suc n) k le = eqb-suc-zero n
 
-module _ (place : Place) where
-  -- with these events more, and so many tokens less
-  abbrev with_tokens : List Event → ℕ → Allowance → Reached → Reached
-  with_tokens events count left p = record {
-    kept = p.kept ++ events;
-    left = Some (record { turns = left.turns; tokens = left.tokens - count });
-    log = p.log;
-  }
+-- with these events more, and so many tokens less
+abbrev with_tokens : List Event → ℕ → Allowance → Reached → Reached
+with_tokens events count left p = record {
+  kept = p.kept ++ events;
+  left = Some (record { turns = left.turns; tokens = left.tokens - count });
+  log = p.log;
+}
 
-  -- one token
-  pub after-token : (t : Token) (p : Reached) (left : Allowance) (k : ℕ) → p.left ≡ Some left → suc k ≤ left.tokens
-      → after_item rules (Kept (Emitted place t)) p ≡ with_tokens (Emitted place t ∷ []) 1 left p
-  after-token t p left k going le =
-      ap (λ (o : Option Allowance). elim o [ None ↦ p | Some l ↦ with_item rules p (Kept (Emitted place t)) (spend l (Kept (Emitted place t))) ]) going
-      ∙ ap (λ b. with_item rules p (Kept (Emitted place t)) (if b then None else Some (record left { tokens = left.tokens - 1 }))) (not-zero left.tokens k le)
+-- one token
+pub after-token : (place : Place) (t : Token) (p : Reached) (left : Allowance) (k : ℕ) → p.left ≡ Some left → suc k ≤ left.tokens
+    → after_item rules (Kept (Emitted place t)) p ≡ with_tokens (Emitted place t ∷ []) 1 left p
+after-token place t p left k going le =
+    ap (λ (o : Option Allowance). elim o [ None ↦ p | Some l ↦ with_item rules p (Kept (Emitted place t)) (spend l (Kept (Emitted place t))) ]) going
+    ∙ ap (λ b. with_item rules p (Kept (Emitted place t)) (if b then None else Some (record left { tokens = left.tokens - 1 }))) (not-zero left.tokens k le)
 
-  -- and all of them
-  pub after_tokens-within : (ts : List Token) (p : Reached) (left : Allowance) → p.left ≡ Some left → length ts ≤ left.tokens
-      → after_tokens place ts p ≡ with_tokens (map (Emitted place) ts) (length ts) left p
-  after_tokens-within [] p left going le =
-      let none : left.tokens ≡ left.tokens - 0 = omega arith in
-      λ j. record {
-        kept = sym (append-nil p.kept) j;
-        left = (going ∙ ap (λ n. Some (record left { tokens = n })) none) j;
-        log = p.log;
-      }
-  after_tokens-within (t ∷ ts) p left going le =
-      let less : left.tokens - 1 - length ts ≡ left.tokens - length (t ∷ ts) = omega arith in
-      let e = Emitted place t in
-      let q = with_tokens (e ∷ []) 1 left p in
-      ap (after_tokens place ts) (after-token t p left (length ts) going le)
-      ∙ after_tokens-within ts q (record left { tokens = left.tokens - 1 }) refl (omega (arith, le))
-      ∙ (λ j. record {
-        kept = append_assoc p.kept (e ∷ []) (map (Emitted place) ts) j;
-        left = Some (record left { tokens = less j });
-        log = p.log;
-      })
+-- and all of a text
+pub after_text-within : (file : FileName) (ts : List PlacedToken) (p : Reached) (left : Allowance) → p.left ≡ Some left → length ts ≤ left.tokens
+    → after_text file ts p ≡ with_tokens (map (emitted_in file) ts) (length ts) left p
+after_text-within file [] p left going le =
+    let none : left.tokens ≡ left.tokens - 0 = omega arith in
+    λ j. record {
+      kept = sym (append-nil p.kept) j;
+      left = (going ∙ ap (λ n. Some (record left { tokens = n })) none) j;
+      log = p.log;
+    }
+after_text-within file (t ∷ ts) p left going le =
+    let less : left.tokens - 1 - length ts ≡ left.tokens - length (t ∷ ts) = omega arith in
+    let e = emitted_in file t in
+    let q = with_tokens (e ∷ []) 1 left p in
+    ap (after_text file ts) (after-token (record { file = file; line = t.line }) t.token p left (length ts) going le)
+    ∙ after_text-within file ts q (record left { tokens = left.tokens - 1 }) refl (omega (arith, le))
+    ∙ (λ j. record {
+      kept = append_assoc p.kept (e ∷ []) (map (emitted_in file) ts) j;
+      left = Some (record left { tokens = less j });
+      log = p.log;
+    })

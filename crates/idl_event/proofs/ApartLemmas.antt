@@ -4,12 +4,15 @@ use Rattle.std.specs.Prelude.{flat_map}
 use Rattle.std.specs.List.{enumerate_from, fold}
 use Rattle.std.proofs.lemmas.List.{drop_at, drop-drop, length-append, take_at}
 use Rattle.std.proofs.lemmas.List.Sums.{fold-append}
-use Rattle.idl_event.specs.Apart.{AreApart, ArePassed, Numbered, StandApart, TokensFirst, emitted, events_from, other_in, others_in, place_in, site_at, site_in, sites_at, sites_in, token_in, tokens_in, with_event, woven}
+use Rattle.idl_event.specs.Apart.{AreApart, ArePassed, Numbered, StandApart, TokensFirst, emitted, events_from, other_in, others_in, place_in, emitted_in, site_at, site_in, sites_in, text_sites, token_in, tokens_in, with_event, woven}
 use Rattle.idl_event.specs.declared.event.Event.{Event}
 use Rattle.idl_event.specs.declared.event.Event.TheVariants as event
 use Rattle.idl_event.specs.declared.place.Place.{Place}
 use Rattle.idl_event.specs.declared.site.Site.{Site}
+use Rattle.idl_event.specs.declared.file_name.FileName.{FileName}
 use Rattle.idl_lex.specs.Tokens.{Token}
+use Rattle.idl_lex.specs.Tokens as lexed
+use Rattle.idl_lex.specs.declared.token.PlacedToken.{PlacedToken}
 
 -- what is gathered of events, with one more
 gathered-push : {A : Type 0} (f : Numbered → List A) (n : ℕ) (events : List Event) (e : Event)
@@ -101,28 +104,29 @@ woven-token sites tokens others n place token s is =
       },
     )
 
--- tokens at one place put last
-pub woven-tokens : (sites : List Site) (tokens : List Token) (others : List Numbered) (n : ℕ) (place : Place) (more : List Token) → StandApart sites tokens others
+-- tokens of a file's text put last
+pub woven-text : (sites : List Site) (tokens : List Token) (others : List Numbered) (n : ℕ) (file : FileName) (more : List PlacedToken) → StandApart sites tokens others
     → n ≡ length sites + length others
-    → (woven (sites ++ sites_at n place (length more)) (tokens ++ more) others ≡ woven sites tokens others ++ map (event.Emitted place) more)
-    × StandApart (sites ++ sites_at n place (length more)) (tokens ++ more) others
-woven-tokens sites tokens others n place [] s is =
+    → (woven (sites ++ text_sites n file more) (tokens ++ lexed.tokens_in more) others ≡ woven sites tokens others ++ map (emitted_in file) more)
+    × StandApart (sites ++ text_sites n file more) (tokens ++ lexed.tokens_in more) others
+woven-text sites tokens others n file [] s is =
     let ss = append-nil sites in
     let ts = append-nil tokens in (
       (λ j. woven (ss j) (ts j) others) ∙ sym (append-nil (woven sites tokens others)),
       subst₂ (λ a b. StandApart a b others) (sym ss) (sym ts) s,
     )
-woven-tokens sites tokens others n place (t ∷ more) s is =
+woven-text sites tokens others n file (t ∷ more) s is =
+    let place : Place = record { file = file; line = t.line } in
     let site = site_at n place in
-    let one = woven-token sites tokens others n place t s is in
+    let one = woven-token sites tokens others n place t.token s is in
     let longer : n + 1 ≡ length (sites ++ site ∷ []) + length others = omega (arith, is, length-append sites (site ∷ [])) in
-    let rest = woven-tokens (sites ++ site ∷ []) (tokens ++ t ∷ []) others (n + 1) place more one.1 longer in
-    let ss = append_assoc sites (site ∷ []) (sites_at (n + 1) place (length more)) in
-    let ts = append_assoc tokens (t ∷ []) more in (
+    let rest = woven-text (sites ++ site ∷ []) (tokens ++ t.token ∷ []) others (n + 1) file more one.1 longer in
+    let ss = append_assoc sites (site ∷ []) (text_sites (n + 1) file more) in
+    let ts = append_assoc tokens (t.token ∷ []) (lexed.tokens_in more) in (
       sym (λ j. woven (ss j) (ts j) others)
           ∙ rest.0
-          ∙ ap (λ es. es ++ map (event.Emitted place) more) one.0
-          ∙ append_assoc (woven sites tokens others) (event.Emitted place t ∷ []) (map (event.Emitted place) more),
+          ∙ ap (λ es. es ++ map (emitted_in file) more) one.0
+          ∙ append_assoc (woven sites tokens others) (emitted_in file t ∷ []) (map (emitted_in file) more),
       subst₂ (λ a b. StandApart a b others) ss ts rest.1,
     )
 

@@ -1,4 +1,5 @@
 pub mod AfterLemmas
 pub mod ApartLemmas
 pub mod LogLemmas
+pub mod RunsLemmas
 pub mod SitesLemmas

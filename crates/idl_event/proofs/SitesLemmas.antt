@@ -1,17 +1,19 @@
 -- The sites of tokens that are kept by lines and stretches: the one with a number, and one more.
-use Rattle.std.proofs.Common.{◌≡◌, ◌∙◌, ◌⊎◌, inl, inr, ℕ, zero, suc, ◌+◌, ◌-◌, ◌<◌, ◌≤◌, ◌^◌, Bool, true, false, Bor, List, [], ◌∷◌, ◌++◌, Option, None, Some, leb, get_or, slice_get, length, refl, sym, ap, subst, arith, append-nil, append_assoc, if◌then◌else◌}
+use Rattle.std.proofs.Common.{◌≡◌, ◌∙◌, ◌⊎◌, inl, inr, ℕ, zero, suc, ◌+◌, ◌-◌, ◌<◌, ◌≤◌, ◌^◌, Bool, true, false, Bor, List, [], ◌∷◌, ◌++◌, Option, None, Some, leb, get_or, slice_get, length, length-append, refl, sym, ap, subst, arith, append-nil, append_assoc, if◌then◌else◌}
 use Rattle.std.proofs.lemmas.Bool.{leb-false, leb-true}
 use Rattle.std.proofs.lemmas.Option.{slice_get_past, slice_get_read, slice_get_within}
 use Rattle.std.specs.List.{AllByRecursion, AllWithin}
 use Rattle.std.specs.List.Sorted.{IsNonDecreasingBy}
 use Rattle.std.specs.Option.{option_copied, option_map, unwrap_or}
 use Rattle.std.specs.Slice.{IsItemAt}
-use Rattle.idl_event.specs.Apart.{site_at, sites_at}
-use Rattle.idl_event.specs.Sites.{AreBefore, AreKept, Rise, found, in_stretch, site_in, sites_of, spot_at}
+use Rattle.idl_event.specs.Apart.{site_at, sites_at, text_sites}
+use Rattle.idl_event.specs.Sites.{AreBefore, AreKept, HaveSites, Rise, found, in_stretch, site_in, sites_of, spot_at}
+use Rattle.idl_event.specs.declared.file_name.FileName.{FileName}
 use Rattle.idl_event.specs.declared.place.Place.{Place}
 use Rattle.idl_event.specs.declared.site.Site.{Site}
 use Rattle.idl_event.specs.declared.sites.Spot.{Spot}
 use Rattle.idl_event.specs.declared.sites.Stretch.{Stretch}
+use Rattle.idl_lex.specs.declared.token.PlacedToken.{PlacedToken}
 
 -- what `get` lends
 pub copied-get : {X : Type 0} (xs : List X) (i : ℕ) (r : Option (Bor X)) → IsItemAt xs i r → option_copied r ≡ slice_get xs i
@@ -342,3 +344,77 @@ line-run st more spots n kept place others stretch (suc k) is some few =
           ∙ append_assoc front (site_at (length front + others) place ∷ []) (sites_at (length (sites_of (st ++ more) all (n + 1)) + others) place k)
           ∙ ap (λ j. front ++ site_at (length front + others) place ∷ sites_at j place k) long,
     )
+
+-- ---- the tokens of a file's text
+
+length-text_sites : (n : ℕ) (file : FileName) (tokens : List PlacedToken) → length (text_sites n file tokens) ≡ length tokens
+length-text_sites n file [] = refl
+length-text_sites n file (t ∷ tokens) = ap suc (length-text_sites (n + 1) file tokens)
+
+text_sites-push : (n : ℕ) (file : FileName) (front : List PlacedToken) (t : PlacedToken)
+    → text_sites n file (front ++ t ∷ []) ≡ text_sites n file front ++ site_at (n + length front) (record { file = file; line = t.line }) ∷ []
+text_sites-push n file [] t =
+    let e : n ≡ n + 0 = omega arith in
+    ap (λ k. site_at k (record { file = file; line = t.line }) ∷ []) e
+text_sites-push n file (u ∷ front) t =
+    let e : n + 1 + length front ≡ n + suc (length front) = omega arith in
+    ap (λ l. site_at n (record { file = file; line = u.line }) ∷ l) (text_sites-push (n + 1) file front t ∙ ap (λ k. text_sites (n + 1) file front ++ site_at k (record { file = file; line = t.line }) ∷ []) e)
+
+pub HaveSites-none : (spots : List Spot) (first stretch : ℕ) → HaveSites spots spots first stretch []
+HaveSites-none spots first stretch = λ st s is kept.
+    let none : first + 0 ≡ first = omega arith in (
+      subst (AreKept st spots) (sym none) kept,
+      ap (sites_of st spots) none ∙ sym (append-nil (sites_of st spots first)),
+    )
+
+-- one token more
+HaveSites-next : (old spots spots' : List Spot) (first stretch : ℕ) (front : List PlacedToken) (t : PlacedToken) → HaveSites old spots first stretch front
+    → ((st : List Stretch) (s : Stretch) → slice_get st stretch ≡ Some s → AreKept st spots (first + length front)
+    → AreKept st spots' (first + length front + 1)
+    × (sites_of st spots' (first + length front + 1)
+    ≡ sites_of st spots (first + length front) ++ site_at (length (sites_of st spots (first + length front)) + s.others) (record { file = s.file; line = t.line }) ∷ []))
+    → HaveSites old spots' first stretch (front ++ t ∷ [])
+HaveSites-next old spots spots' first stretch front t have step = λ st s is kept.
+    let had = have st s is kept in
+    let next = step st s is had.0 in
+    let count : first + length (front ++ t ∷ []) ≡ first + length front + 1 = omega (arith, longer front t) in
+    let before = sites_of st old first in
+    let n = length before + s.others in
+    let sites = text_sites n s.file front in
+    let place : Place = record { file = s.file; line = t.line } in
+    let number : length (before ++ sites) + s.others ≡ n + length front = omega (arith, length-append before sites, length-text_sites n s.file front) in (
+      subst (AreKept st spots') (sym count) next.0,
+      ap (sites_of st spots') count
+          ∙ next.1
+          ∙ ap (λ l. l ++ site_at (length l + s.others) place ∷ []) had.1
+          ∙ append_assoc before sites (site_at (length (before ++ sites) + s.others) place ∷ [])
+          ∙ ap (λ k. before ++ (sites ++ site_at k place ∷ [])) number
+          ∙ ap (λ l. before ++ l) (sym (text_sites-push n s.file front t)),
+    )
+
+-- on the line of the last spot
+pub HaveSites-on : (old spots : List Spot) (first stretch : ℕ) (front : List PlacedToken) (t : PlacedToken) → HaveSites old spots first stretch front
+    → ((st : List Stretch) (s : Stretch) → slice_get st stretch ≡ Some s → in_stretch st (slice_get spots (length spots - 1)) ≡ Some (t.line, s))
+    → first + length front < 2 ^ 32 → HaveSites old spots first stretch (front ++ t ∷ [])
+HaveSites-on old spots first stretch front t have last few =
+    HaveSites-next old spots spots first stretch front t have
+    (λ st s is kept. push-on st spots (first + length front) kept t.line s (last st s is) few)
+
+-- on another
+pub HaveSites-line : (old spots : List Spot) (first stretch : ℕ) (front : List PlacedToken) (t : PlacedToken) (spot : Spot) → HaveSites old spots first stretch front
+    → spot.first ≡ first + length front → spot.line ≡ t.line → spot.stretch ≡ stretch → first + length front < 2 ^ 32
+    → HaveSites old (spots ++ spot ∷ []) first stretch (front ++ t ∷ [])
+HaveSites-line old spots first stretch front t spot have begins line inside few =
+    HaveSites-next old spots (spots ++ spot ∷ []) first stretch front t have
+    (λ st s is kept.
+    let more = line-more st spots (first + length front) kept spot s begins (ap (slice_get st) inside ∙ is) few in
+    (more.0, more.1 ∙ ap (λ k. sites_of st spots (first + length front) ++ site_at (length (sites_of st spots (first + length front)) + s.others) (record { file = s.file; line = k }) ∷ []) line))
+
+-- the last spot is one that was put in
+pub in_stretch-last : (spots : List Spot) (spot : Spot) (stretch : ℕ) → spot.stretch ≡ stretch → (st : List Stretch) (s : Stretch) → slice_get st stretch ≡ Some s
+    → in_stretch st (slice_get (spots ++ spot ∷ []) (length (spots ++ spot ∷ []) - 1)) ≡ Some (spot.line, s)
+in_stretch-last spots spot stretch inside st s is =
+    let end : length (spots ++ spot ∷ []) - 1 ≡ length spots = omega (arith, longer spots spot) in
+    ap (λ i. in_stretch st (slice_get (spots ++ spot ∷ []) i)) end
+    ∙ ap (in_stretch st) (slice_get-last spots spot)
+    ∙ ap (option_map (λ (s : Stretch). (spot.line, s))) (ap (slice_get st) inside ∙ is)

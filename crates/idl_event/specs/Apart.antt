@@ -3,9 +3,11 @@ use Rattle.std.specs.Prelude.{◌≡◌, ℕ, zero, suc, ◌+◌, ◌≤◌, Lis
 use Rattle.std.specs.List.{enumerate_from, fold}
 use Rattle.idl_event.specs.declared.event.Event.{Event}
 use Rattle.idl_event.specs.declared.event.Event.TheVariants as event
+use Rattle.idl_event.specs.declared.file_name.FileName.{FileName}
 use Rattle.idl_event.specs.declared.place.Place.{Place}
 use Rattle.idl_event.specs.declared.site.Site.{Site}
 use Rattle.idl_lex.specs.Tokens.{Token}
+use Rattle.idl_lex.specs.declared.token.PlacedToken.{PlacedToken}
 
 -- an event with its number
 abbrev pub Numbered : Type 0
@@ -18,6 +20,16 @@ site_at n place = record { file = place.file; line = place.line; event = n }
 abbrev pub sites_at : ℕ → Place → ℕ → List Site
 sites_at n place zero = []
 sites_at n place (suc count) = site_at n place ∷ sites_at (n + 1) place count
+
+-- a token of a file's text, as an event at its line
+abbrev pub emitted_in : FileName → PlacedToken → Event
+emitted_in file t = event.Emitted (record { file = file; line = t.line }) t.token
+
+-- the sites of tokens of a file, whose events come one after the other
+abbrev pub text_sites : ℕ → FileName → List PlacedToken → List Site
+text_sites n file [] = []
+text_sites n file (t ∷ tokens) =
+    record { file = file; line = t.line; event = n } ∷ text_sites (n + 1) file tokens
 
 abbrev pub place_in : Site → Place
 place_in site = record { file = site.file; line = site.line }

@@ -3,17 +3,17 @@ use Rattle.std.specs.Prelude.{List, [], ◌∷◌, Option}
 use Rattle.std.specs.Option.{option_map}
 use Rattle.idl_memo.specs.Progress.{Progress, after_item, progress_after}
 use Rattle.idl_memo.specs.Query.{Query, outcome}
+use Rattle.idl_event.specs.Apart.{emitted_in}
 use Rattle.idl_event.specs.Items.{rules}
 use Rattle.idl_event.specs.Key.{key_eq}
 use Rattle.idl_event.specs.declared.allowance.Allowance.{Allowance}
 use Rattle.idl_event.specs.declared.event.Event.{Event}
-use Rattle.idl_event.specs.declared.event.Event.TheVariants.{Emitted}
 use Rattle.idl_event.specs.declared.event.Item.{Item}
 use Rattle.idl_event.specs.declared.event.Item.TheVariants.{Kept}
+use Rattle.idl_event.specs.declared.file_name.FileName.{FileName}
 use Rattle.idl_event.specs.declared.key.Answer.{Answer}
 use Rattle.idl_event.specs.declared.key.Key.{Key}
-use Rattle.idl_event.specs.declared.place.Place.{Place}
-use Rattle.idl_lex.specs.Tokens.{Token}
+use Rattle.idl_lex.specs.declared.token.PlacedToken.{PlacedToken}
 
 -- what a root asks and tells, and what comes of it
 abbrev pub Expanding : Type 0 → Type 0
@@ -27,11 +27,10 @@ Reached = Progress Key (Option Answer) Event Allowance
 abbrev pub reached : {A : Type 0} → (Key → Option Answer) → Expanding A → Reached → Reached
 reached bank query p = progress_after rules key_eq bank query p
 
--- where it comes to with these tokens of a text, one after the other at one place
-abbrev pub after_tokens : Place → List Token → Reached → Reached
-after_tokens place [] p = p
-after_tokens place (t ∷ ts) p =
-    after_tokens place ts (after_item rules (Kept (Emitted place t)) p)
+-- where it comes to with these tokens of a file's text, one after the other, each at its line
+abbrev pub after_text : FileName → List PlacedToken → Reached → Reached
+after_text file [] p = p
+after_text file (t ∷ ts) p = after_text file ts (after_item rules (Kept (emitted_in file t)) p)
 
 -- where it ends: what was reached, and what came of it unless a limit was passed
 abbrev pub arrived : {A : Type 0} → A → Reached → Reached × Option A

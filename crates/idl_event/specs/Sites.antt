@@ -1,12 +1,13 @@
 -- How the sites of tokens are kept: by stretches, and by lines in these.
-use Rattle.std.specs.Prelude.{◌≡◌, ℕ, zero, suc, ◌+◌, ◌<◌, ◌≤◌, ◌^◌, List, [], ◌∷◌, ◌++◌, nat_le, slice_get, Option, None, Some, if◌then◌else◌, ⊤}
+use Rattle.std.specs.Prelude.{◌≡◌, ℕ, zero, suc, ◌+◌, ◌<◌, ◌≤◌, ◌^◌, List, [], ◌∷◌, ◌++◌, length, nat_le, slice_get, Option, None, Some, if◌then◌else◌, ⊤}
 use Rattle.std.specs.List.{AllByRecursion}
 use Rattle.std.specs.Option.{option_map, unwrap_or}
-use Rattle.idl_event.specs.Apart.{site_at}
+use Rattle.idl_event.specs.Apart.{site_at, text_sites}
 use Rattle.idl_event.specs.declared.place.Place.{Place}
 use Rattle.idl_event.specs.declared.site.Site.{Site}
 use Rattle.idl_event.specs.declared.sites.Spot.{Spot}
 use Rattle.idl_event.specs.declared.sites.Stretch.{Stretch}
+use Rattle.idl_lex.specs.declared.token.PlacedToken.{PlacedToken}
 
 -- the last of these that begins at the token with this number, or before it
 abbrev pub spot_at : List Spot → ℕ → Option Spot
@@ -52,3 +53,14 @@ pub record AreKept (stretches : List Stretch) (spots : List Spot) (count : ℕ) 
 -- the token with this number stands at this place
 abbrev pub StandsAt : List Site → ℕ → Place → Type 0
 StandsAt sites i place = (event : ℕ) × (slice_get sites i ≡ Some (site_at event place))
+
+-- tokens of a file, from this number on and in a stretch with this number, have spots more: with
+-- these they have their sites
+abbrev pub HaveSites : List Spot → List Spot → ℕ → ℕ → List PlacedToken → Type 0
+HaveSites old new first stretch tokens =
+    (stretches : List Stretch) (s : Stretch) → slice_get stretches stretch ≡ Some s
+    → AreKept stretches old first
+    → AreKept stretches new (first + length tokens)
+    × (sites_of stretches new (first + length tokens)
+    ≡ sites_of stretches old first
+    ++ text_sites (length (sites_of stretches old first) + s.others) s.file tokens)

@@ -1,17 +1,23 @@
 //! The events of a root while it is expanded.
 
-ghost use Rattle.std.specs.Prelude.{◌≡◌, ◌<◌, ◌++◌, ◌∷◌, [], IfOk, OnErr, OnOk, length, map};
+ghost use Rattle.std.specs.Prelude.{◌≡◌, ◌<◌, ◌++◌, ◌∷◌, [], IfOk, OnOk, length, map};
+ghost use Rattle.idl_event.specs.Apart.{emitted_in};
+ghost use Rattle.idl_event.specs.Runs.{tokens_of};
 ghost use Rattle.idl_event.specs.declared.event.Event.TheVariants.{Emitted};
-ghost use Rattle.idl_lex.specs.Tokens.{tokens_in};
 
 use crate::event::Event;
 use crate::expansion::Expansion;
+use crate::file_name::FileName;
 use crate::place::Place;
+use crate::runs::{Runs, push_clones};
 use crate::sites::Sites;
-use idl_lex::{PlacedToken, Token};
+use idl_lex::{FileTokens, Token, TokenRange};
 use std::alloc::{AllocError, Global};
 use std::marker::Model;
 use std::rc::Rc;
+
+// Fewer tokens than these are copied, since a run takes as much memory as some.
+const FEW: usize = 16;
 
 /// The events of a root so far: to every contract the list of them.
 ///
@@ -19,21 +25,24 @@ use std::rc::Rc;
 /// its event, and each other event its own.
 #[derive(Drop)]
 pub struct ExpansionBuilder {
-    text: Vec<Token>,
+    // The tokens of the text: runs of them, and those behind these, which are shared as soon as another run follows.
+    runs: Vec<TokenRange>,
+    open: Vec<Token>,
     sites: Sites,
     others: Vec<(usize, Event)>,
 }
 
 impl Model for ExpansionBuilder {
-    ghost use Rattle.std.specs.Prelude.{List};
+    ghost use Rattle.std.specs.Prelude.{◌++◌, List};
     ghost use Rattle.idl_event.specs.Apart.{StandApart, woven};
+    ghost use Rattle.idl_event.specs.Runs.{tokens_of};
     ghost use Rattle.idl_event.specs.declared.event.Event.{Event};
 
     ghost Value = { List Event };
 
-    ghost view = { λ b. woven b.sites b.text.items b.others.items };
+    ghost view = { λ b. woven b.sites (tokens_of b.runs.items ++ b.open.items) b.others.items };
 
-    ghost invariant = { λ b. StandApart b.sites b.text.items b.others.items };
+    ghost invariant = { λ b. StandApart b.sites (tokens_of b.runs.items ++ b.open.items) b.others.items };
 }
 
 impl ExpansionBuilder {
@@ -42,7 +51,8 @@ impl ExpansionBuilder {
         ensures { result ≡ [] }
     {
         ExpansionBuilder {
-            text: Vec::new(alloc),
+            runs: Vec::new(alloc),
+            open: Vec::new(alloc),
             sites: Sites::new(alloc),
             others: Vec::new(alloc),
         }
@@ -58,24 +68,39 @@ impl ExpansionBuilder {
         ensures { OnOk result (self.new ≡ self.old ++ Emitted place token.now ∷ []) }
     {
         let token = token.clone()?;
-        self.text.reserve(1)?;
+        self.open.reserve(1)?;
         self.sites.push(place, self.others.len())?;
-        self.text.push_reserved(token);
+        self.open.push_reserved(token);
         Ok(())
     }
 
-    /// Tokens of the text more, all at one place.
-    pub fn push_tokens(&mut self, place: Place, tokens: &[PlacedToken]) -> Result<(), AllocError>
+    /// Tokens of the text more, each at its line of a file. Unless they are few, they are shared.
+    pub fn push_text(&mut self, file: &FileName, tokens: &FileTokens<'_>) -> Result<(), AllocError>
         requires some { 0 < length tokens.now }
-        ensures { OnOk result
-            (self.new ≡ self.old ++ map (Emitted place) (tokens_in tokens.now)) }
+        ensures { OnOk result (self.new ≡ self.old ++ map (emitted_in file.now) tokens.now) }
     {
-        let before = self.text.len();
-        push_clones(&mut self.text, tokens)?;
-        match self.sites.push_run(place, self.others.len(), tokens.len()) {
+        if tokens.len() < FEW {
+            return self.push_copies(file, tokens);
+        }
+        let range = tokens.shared()?;
+        close(&mut self.runs, &mut self.open)?;
+        self.runs.reserve(1)?;
+        self.sites.push_text(file, self.others.len(), tokens)?;
+        self.runs.push_reserved(range);
+        Ok(())
+    }
+
+    // Copies of a few tokens of a file.
+    fn push_copies(&mut self, file: &FileName, tokens: &FileTokens<'_>) -> Result<(), AllocError>
+        requires some { 0 < length tokens.now }
+        ensures { OnOk result (self.new ≡ self.old ++ map (emitted_in file.now) tokens.now) }
+    {
+        let before = self.open.len();
+        push_clones(&mut self.open, tokens.as_slice())?;
+        match self.sites.push_text(file, self.others.len(), tokens) {
             Ok(()) => Ok(()),
             Err(error) => {
-                self.text.truncate(before);
+                self.open.truncate(before);
                 Err(error)
             }
         }
@@ -99,29 +124,26 @@ impl ExpansionBuilder {
     pub fn build(mut self, alloc: Global) -> Result<Expansion, AllocError>
         ensures { IfOk result (λ expansion. expansion ≡ self) }
     {
-        self.text.shrink_to_fit();
+        close(&mut self.runs, &mut self.open)?;
+        self.runs.shrink_to_fit();
         self.sites.shrink_to_fit();
-        let text = Rc::new(alloc, self.text)?;
+        let runs = Runs::new(alloc, self.runs)?;
         let sites = Rc::new(alloc, self.sites)?;
-        Ok(Expansion::from_parts(text, sites, self.others))
+        Ok(Expansion::from_parts(runs, sites, self.others))
     }
 }
 
-// Copies of these tokens go behind the text.
-fn push_clones(text: &mut Vec<Token>, tokens: &[PlacedToken]) -> Result<(), AllocError>
-    ensures ok { OnOk result (text.new.items ≡ text.old.items ++ tokens_in tokens.now) }
-    ensures err { OnErr result (text.new.items ≡ text.old.items) }
+// The tokens behind the runs are a run too, if there are some.
+fn close(runs: &mut Vec<TokenRange>, open: &mut Vec<Token>) -> Result<(), AllocError>
+    ensures all { tokens_of runs.new.items ++ open.new.items ≡ tokens_of runs.old.items ++ open.old.items }
+    ensures none { OnOk result (open.new.items ≡ []) }
 {
-    let before = text.len();
-    text.reserve(tokens.len())?;
-    'tokens: for placed in tokens {
-        match placed.token.clone() {
-            Ok(token) => text.push_reserved(token),
-            Err(error) => {
-                text.truncate(before);
-                return Err(error);
-            }
-        }
+    if open.is_empty() {
+        return Ok(());
     }
+    runs.reserve(1)?;
+    open.shrink_to_fit();
+    let range = TokenRange::take(open)?;
+    runs.push_reserved(range);
     Ok(())
 }

@@ -6,9 +6,9 @@ ghost use Rattle.idl_event.specs.Apart.{StandApart, TokensFirst, others_in, site
 ghost use Rattle.idl_event.specs.declared.event.Event.{Event};
 
 use crate::event::Event;
+use crate::runs::Runs;
 use crate::sites::Sites;
 use crate::told::Told;
-use idl_lex::Token;
 use std::marker::Model;
 use std::rc::Rc;
 
@@ -16,7 +16,7 @@ use std::rc::Rc;
 /// that they are shared.
 #[derive(Drop)]
 pub struct Expansion {
-    text: Rc<Vec<Token>>,
+    text: Runs,
     sites: Rc<Sites>,
     others: Vec<(usize, Event)>,
 }
@@ -28,20 +28,16 @@ impl Model for Expansion {
 
     ghost Value = { List Event };
 
-    ghost view = { λ e. woven e.sites.value e.text.value.items e.others.items };
+    ghost view = { λ e. woven e.sites.value e.text e.others.items };
 
-    ghost invariant = { λ e. StandApart e.sites.value e.text.value.items e.others.items };
+    ghost invariant = { λ e. StandApart e.sites.value e.text e.others.items };
 }
 
 impl Expansion {
     /// What consists of these tokens, at these sites, and of these other events.
-    pub fn from_parts(
-        text: Rc<Vec<Token>>,
-        sites: Rc<Sites>,
-        others: Vec<(usize, Event)>,
-    ) -> Expansion
-        requires { StandApart sites.value text.value.items others.items }
-        ensures { result ≡ woven sites.value text.value.items others.items }
+    pub fn from_parts(text: Runs, sites: Rc<Sites>, others: Vec<(usize, Event)>) -> Expansion
+        requires { StandApart sites.value text others.items }
+        ensures { result ≡ woven sites.value text others.items }
     {
         Expansion {
             text,
@@ -51,8 +47,8 @@ impl Expansion {
     }
 
     /// The tokens of its text in order.
-    pub fn text(&self) -> &Rc<Vec<Token>>
-        ensures { result.now.value.items ≡ tokens_in (enumerate_from 0 self.now) }
+    pub fn text(&self) -> &Runs
+        ensures { result.now ≡ tokens_in (enumerate_from 0 self.now) }
     {
         &self.text
     }
@@ -75,8 +71,10 @@ impl Expansion {
     pub fn events(&self) -> Events<'_>
         ensures { result ≡ enumerate_from 0 self.now }
     {
+        // So many tokens can be counted.
+        let _count = self.text.len();
         Events {
-            text: self.text.as_slice(),
+            text: &self.text,
             sites: &self.sites,
             others: &self.others,
             tokens_passed: 0,
@@ -89,7 +87,7 @@ impl Expansion {
 /// number.
 #[derive(Drop)]
 pub struct Events<'a> {
-    text: &'a [Token],
+    text: &'a Runs,
     sites: &'a Sites,
     others: &'a [(usize, Event)],
     tokens_passed: usize,
@@ -97,7 +95,7 @@ pub struct Events<'a> {
 }
 
 impl<'a> Model for Events<'a> {
-    ghost use Rattle.std.specs.Prelude.{List, ℕ, ◌+◌};
+    ghost use Rattle.std.specs.Prelude.{List, ℕ, ◌+◌, ◌<◌, ◌^◌, length};
     ghost use Rattle.idl_event.specs.Apart.{ArePassed, events_from, woven};
     ghost use Rattle.idl_event.specs.declared.event.Event.{Event};
 
@@ -108,7 +106,8 @@ impl<'a> Model for Events<'a> {
         (woven e.sites.now e.text.now e.others.now) };
 
     ghost invariant = { λ e.
-        ArePassed e.sites.now e.text.now e.others.now e.tokens_passed e.others_passed };
+        ArePassed e.sites.now e.text.now e.others.now e.tokens_passed e.others_passed
+        × (length e.text.now < 2 ^ 32) };
 }
 
 impl<'a> Events<'a> {
@@ -117,13 +116,13 @@ impl<'a> Events<'a> {
         ensures most { result ≤ most }
         ensures passed { TokensFirst result self.old self.new }
     {
-        let number = self.tokens_passed + self.others_passed;
-        let free = tokens_before(self.others, self.others_passed, number);
         let left = self
             .text
             .len()
             .min(self.sites.len())
             .saturating_sub(self.tokens_passed);
+        let number = self.tokens_passed + self.others_passed;
+        let free = tokens_before(self.others, self.others_passed, number);
         let count = most.min(free).min(left);
         self.tokens_passed += count;
         count

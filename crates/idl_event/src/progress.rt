@@ -4,23 +4,23 @@ ghost use Rattle.std.specs.Prelude.{◌≡◌, ◌↔◌, ◌++◌, ◌<◌, ◌
 ghost use Rattle.std.specs.Option.{option_copied, option_to_list};
 ghost use Rattle.idl_memo.specs.Progress.{after_item, after_key};
 ghost use Rattle.idl_event.specs.Items.{event_of, rules, tokens_left, turns_left, beginning};
-ghost use Rattle.idl_event.specs.Expanding.{after_tokens};
+ghost use Rattle.idl_event.specs.Expanding.{after_text};
 ghost use Rattle.idl_event.specs.Key.{key_eq};
 ghost use Rattle.idl_event.specs.Limits.{turns_at_most};
 ghost use Rattle.idl_event.specs.declared.event.Event.TheVariants.{Emitted};
 ghost use Rattle.idl_event.specs.declared.event.Item.TheVariants.{Kept};
 ghost use Rattle.idl_event.specs.declared.key.Key.TheVariants.{Macro};
-ghost use Rattle.idl_lex.specs.Tokens.{tokens_in};
 
 use crate::allowance::Allowance;
 use crate::builder::ExpansionBuilder;
 use crate::code::Code;
 use crate::event::{Event, Item};
+use crate::file_name::FileName;
 use crate::hinted_log::HintedLog;
 use crate::key::{Answer, Key};
 use crate::place::Place;
 use crate::root_bank::RootBank;
-use idl_lex::{PlacedToken, Spelling, Token};
+use idl_lex::{FileTokens, Spelling, Token};
 use idl_memo::{Bank, Log};
 use std::alloc::{AllocError, Global};
 use std::marker::Model;
@@ -131,11 +131,12 @@ impl<B: RootBank> Progress<B> {
         }
     }
 
-    /// Tokens of the text more, all at one place, where the limits leave as many: the same as `emit` with each, at less cost.
-    pub fn emit_all(&mut self, place: Place, tokens: &[PlacedToken]) -> Result<(), AllocError>
+    /// Tokens of the text more, each at its line of a file, where the limits leave as many: the same as `emit` with each, at
+    /// less cost.
+    pub fn emit_text(&mut self, file: &FileName, tokens: &FileTokens<'_>) -> Result<(), AllocError>
         requires some { 0 < length tokens.now }
         requires room { length tokens.now ≤ tokens_left self.old.left }
-        ensures { OnOk result (self.new ≡ after_tokens place (tokens_in tokens.now) self.old) }
+        ensures { OnOk result (self.new ≡ after_text file.now tokens.now self.old) }
     {
         let Some(left) = self.left else {
             return Ok(());
@@ -144,7 +145,7 @@ impl<B: RootBank> Progress<B> {
             turns: left.turns,
             tokens: left.tokens - tokens.len(),
         });
-        self.kept.push_tokens(place, tokens)
+        self.kept.push_text(file, tokens)
     }
 
     /// The bank's answer at a key, which is logged.

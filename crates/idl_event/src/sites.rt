@@ -1,14 +1,15 @@
 //! Where the tokens of a text stand.
 
-ghost use Rattle.std.specs.Prelude.{◌≡◌, ◌++◌, ◌∷◌, ◌+◌, ◌-◌, ◌<◌, ◌^◌, List, [], IfNone, IfOk, IfSome, IsTrue, None, OnErr, OnOk, Some, length, slice_get};
+ghost use Rattle.std.specs.Prelude.{◌≡◌, ◌⊎◌, ◌++◌, ◌∷◌, ◌+◌, ◌-◌, ◌<◌, ◌≤◌, ◌^◌, List, [], IfNone, IfOk, IfSome, IsTrue, None, OnErr, OnOk, Some, length, slice_get};
 ghost use Rattle.std.specs.Option.{option_copied, option_map};
-ghost use Rattle.idl_event.specs.Apart.{site_at, sites_at};
-ghost use Rattle.idl_event.specs.Sites.{Rise, StandsAt, found, in_stretch, spot_at};
+ghost use Rattle.idl_event.specs.Apart.{site_at, sites_at, text_sites};
+ghost use Rattle.idl_event.specs.Sites.{HaveSites, Rise, StandsAt, found, in_stretch, spot_at};
 ghost use Rattle.idl_event.specs.declared.sites.Stretch.{Stretch};
 
 use crate::file_name::FileName;
 use crate::place::Place;
 use crate::site::Site;
+use idl_lex::FileTokens;
 use std::alloc::{AllocError, Global};
 use std::marker::Model;
 
@@ -105,13 +106,36 @@ impl Sites {
             return Ok(());
         }
         let Place { file, line } = place;
-        let stretch = stretch_of(&mut self.stretches, file, others)?;
+        let stretch = stretch_of(&mut self.stretches, &file, others)?;
         self.spots.push(Spot {
             first,
             line,
             stretch,
         })?;
         self.count += count;
+        Ok(())
+    }
+
+    /// The sites of tokens of a file more.
+    pub fn push_text(
+        &mut self,
+        file: &FileName,
+        others: usize,
+        tokens: &FileTokens<'_>,
+    ) -> Result<(), AllocError>
+        ensures more { OnOk result
+            (self.new ≡ self.old ++ text_sites (length self.old + others) file.now tokens.now) }
+        ensures kept { OnErr result (self.new ≡ self.old) }
+    {
+        let Ok(first) = u32::try_from(self.count) else {
+            return Err(AllocError);
+        };
+        if tokens.len() > MOST - self.count {
+            return Err(AllocError);
+        }
+        let stretch = stretch_of(&mut self.stretches, file, others)?;
+        push_lines(&mut self.spots, Start { first, stretch }, tokens)?;
+        self.count += tokens.len();
         Ok(())
     }
 
@@ -172,24 +196,87 @@ fn goes_on(spots: &[Spot], stretches: &[Stretch], place: &Place, others: usize) 
 // The number of a stretch of this file behind so many other events: of the last one, or of one more.
 fn stretch_of(
     stretches: &mut Vec<Stretch>,
-    file: FileName,
+    file: &FileName,
     others: usize,
 ) -> Result<u32, AllocError>
     ensures more { (more : List Stretch) × (stretches.new.items ≡ stretches.old.items ++ more) }
     ensures there { IfOk result (λ number.
-        slice_get stretches.new.items number ≡ Some (record { file = file; others = others })) }
+        slice_get stretches.new.items number ≡ Some (record { file = file.now; others = others })) }
 {
     let Ok(next) = u32::try_from(stretches.len()) else {
         return Err(AllocError);
     };
-    if is_last(stretches, &file, others) {
+    if is_last(stretches, file, others) {
         return Ok(next - 1);
     }
     let Ok(others) = u32::try_from(others) else {
         return Err(AllocError);
     };
+    let file = file.clone()?;
     stretches.push(Stretch { file, others })?;
     Ok(next)
+}
+
+// Where tokens begin: the number of the first of them, and that of their stretch.
+#[derive(Clone, Copy)]
+struct Start {
+    first: u32,
+    stretch: u32,
+}
+
+// The spots of tokens of a file go behind the others: one for each line.
+fn push_lines(
+    spots: &mut Vec<Spot>,
+    start: Start,
+    tokens: &FileTokens<'_>,
+) -> Result<(), AllocError>
+    requires { start.first + length tokens.now ≤ 2 ^ 32 }
+    ensures more { OnOk result
+        (HaveSites spots.old.items spots.new.items start.first start.stretch tokens.now) }
+    ensures kept { OnErr result (spots.new.items ≡ spots.old.items) }
+{
+    let before = spots.len();
+    let mut last = None;
+    let mut i = 0;
+    'tokens: while i < tokens.len() {
+        let line = tokens.line_at(i);
+        let spot = Spot {
+            first: start.first + i as u32,
+            line,
+            stretch: start.stretch,
+        };
+        if let Err(error) = put_spot(spots, last, spot) {
+            spots.truncate(before);
+            return Err(error);
+        }
+        last = Some(line);
+        i += 1;
+    }
+    Ok(())
+}
+
+// The spot goes behind the others, unless the last one is on its line already.
+fn put_spot(spots: &mut Vec<Spot>, last: Option<u32>, spot: Spot) -> Result<(), AllocError>
+    ensures put { OnOk result
+        ((last ≡ Some spot.line) × (spots.new.items ≡ spots.old.items)
+        ⊎ (spots.new.items ≡ spots.old.items ++ spot ∷ [])) }
+    ensures kept { OnErr result (spots.new.items ≡ spots.old.items) }
+{
+    if is_on(last, spot.line) {
+        return Ok(());
+    }
+    spots.push(spot)?;
+    Ok(())
+}
+
+// Whether it is this line.
+fn is_on(last: Option<u32>, line: u32) -> bool
+    ensures { IsTrue result → last ≡ Some line }
+{
+    match last {
+        Some(last) => last == line,
+        None => false,
+    }
 }
 
 // Whether the last stretch is one of this file, behind so many other events.

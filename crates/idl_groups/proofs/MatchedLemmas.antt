@@ -1,11 +1,12 @@
 -- What is matched, by the next line.
-use Rattle.std.proofs.Common.{◌≡◌, ◌≤◌, ◌-◌, ℕ, true, false, List, [], ◌∷◌, ◌++◌, ap, sym, subst, ◌∙◌, inl, inr, append_assoc, drop, length, length-append, arith, slice_range, take}
+use Rattle.std.proofs.Common.{◌≡◌, ◌≤◌, ◌-◌, ℕ, true, false, List, [], ◌∷◌, ◌++◌, ap, sym, subst, ◌∙◌, inl, inr, append_assoc, drop, length, length-append, map, arith, slice_range, take}
 use Rattle.std.proofs.Math.Seq.{drop-append_seam}
 use Rattle.std.proofs.lemmas.List.{append-nil, drop-append-le, take-append-le, take_all, length-drop}
 use Rattle.std.proofs.lemmas.List.Elements.{All-cons, All-head, All-nil, All-push, All-tail, All-weaker}
 use Rattle.std.specs.List.{All}
+use Rattle.idl_lex.specs.declared.token.PlacedToken.{PlacedToken}
 use Rattle.idl_groups.specs.Jump.{IsJump, IsNextOfGroup, fault_at}
-use Rattle.idl_groups.specs.Line.{Directive, Line, Directed}
+use Rattle.idl_groups.specs.Line.{Directive, Line, Directed, Text}
 use Rattle.idl_groups.specs.Matching.{AreOpen, IsMatched, IsSpan, span_of}
 use Rattle.idl_groups.specs.Tree.{IsBranch, is_else}
 use Rattle.idl_groups.specs.TreeLaw.{IsLineAlone}
@@ -74,6 +75,19 @@ module _ (lines : ℕ → List Line) where
     are_spans = spans-same at after xs ss later m.are_spans;
     come = come-later at after bs later m.come;
     are_open = open-alone lines l (lines after) xs bs alone (subst (λ (ls : List Line). AreOpen lines ls xs bs) is m.are_open);
+  }
+
+  opens-alone : (texts : List (List PlacedToken)) (rest : List Line) (xs : List GroupFault) (bs : List OpenBranch) → AreOpen lines (map Text texts ++ rest) xs bs → AreOpen lines rest xs bs
+  opens-alone [] rest xs bs are = are
+  opens-alone (text ∷ texts) rest xs bs are = opens-alone texts rest xs bs (open-alone lines (Text text) (map Text texts ++ rest) xs bs tt are)
+
+  -- and so are the next lines, if they are all of text
+  pub matched-texts : (at after : ℕ) (texts : List (List PlacedToken)) (bs : List OpenBranch) (ss : List BranchSpan) (xs : List GroupFault) → at ≤ after → lines at ≡ map Text texts ++ lines after
+      → IsMatched lines at bs ss xs → IsMatched lines after bs ss xs
+  matched-texts at after texts bs ss xs later is m = record {
+    are_spans = spans-same at after xs ss later m.are_spans;
+    come = come-later at after bs later m.come;
+    are_open = opens-alone texts (lines after) xs bs (subst (λ (ls : List Line). AreOpen lines ls xs bs) is m.are_open);
   }
 
   pub matched-opening : (at after : ℕ) (d : Directive) (what : Test) (b : OpenBranch) (bs cs : List OpenBranch) (ss : List BranchSpan) (xs : List GroupFault) → d.kind ≡ Opening what → at ≤ after

@@ -1,9 +1,9 @@
 //! The tokens of a file with the branches of its groups.
 
-ghost use Rattle.std.specs.Prelude.{◌≡◌, ◌≤◌, ◌<◌, ◌++◌, ◌∷◌, ◌↔◌, [], IsTrue, drop, length, IfOk, IfSome};
+ghost use Rattle.std.specs.Prelude.{◌≡◌, ◌≤◌, ◌<◌, ◌++◌, ◌∷◌, ◌↔◌, [], IsTrue, drop, length, map, IfOk, IfSome};
 ghost use Rattle.idl_lex.specs.Tokens.{lines_of};
 ghost use Rattle.idl_groups.specs.Jump.{IsJump};
-ghost use Rattle.idl_groups.specs.Line.{lines_from};
+ghost use Rattle.idl_groups.specs.Line.{Text, lines_from};
 ghost use Rattle.idl_groups.specs.Matching.{IsTableOf};
 
 use crate::directive::directive_on;
@@ -114,6 +114,21 @@ impl<'a> LinesLeft<'a> {
         (line, rest)
     }
 
+    /// The tokens of the lines of text that come first, or of some of these, and the lines after them.
+    pub fn first_text(&self) -> (FileTokens<'a>, LinesLeft<'a>)
+        requires { 0 < length self.now }
+        ensures lines { lines_from self.now ≡ map Text (lines_of result.0) ++ lines_from result.1 }
+        ensures all { self.now ≡ result.0 ++ result.1 }
+    {
+        let (text, tokens) = self.tokens.first_text();
+        let rest = LinesLeft {
+            file: self.file,
+            before: self.before + text.len(),
+            tokens,
+        };
+        (text, rest)
+    }
+
     /// What comes after the branch of a group that begins with these lines, and the faults of groups in that branch; `None`
     /// where no branch begins whose group has come to its `else`, or hasn't.
     pub fn jump(&self, has_else: bool) -> Option<(LinesLeft<'a>, &'a [GroupFault])>
@@ -143,6 +158,12 @@ fn match_groups(alloc: Global, lexed: &Lexed) -> Result<BranchTable, AllocError>
     let mut left = lexed.all();
     let mut at = 0;
     'lines: while !left.is_empty() {
+        let (text, behind) = left.first_text();
+        if !text.is_empty() {
+            at += text.len();
+            left = behind;
+            continue;
+        }
         let (line, rest) = left.first_line();
         let after = at + line.len();
         if let Some(directive) = directive_on(&line) {

@@ -95,7 +95,7 @@ some-front : (front rest : List (List ℕ)) → 0 < length front → 0 < length 
 some-front [] rest some = absurd (omega (arith, some))
 some-front (l ∷ front) rest some = omega arith
 
-joined_count-pos : (lines : List (List ℕ)) → 0 < length lines → 0 < joined_count lines
+pub joined_count-pos : (lines : List (List ℕ)) → 0 < length lines → 0 < joined_count lines
 joined_count-pos [] some = absurd (omega (arith, some))
 joined_count-pos (bytes ∷ lines) some = joined_count-some bytes lines
 
@@ -145,15 +145,15 @@ CutMore-joined lines rest start end here is within closed =
 -- ---- blocks
 
 -- the tokens of lines are those of a block and, further down, those of the lines behind it
-pub IsBlock-tokens : (lines : List (List ℕ)) (block : Block) → IsBlock lines block → tokens_of lines ≡ block.tokens.items ++ moved_tokens block.lines (tokens_of (drop block.lines lines))
+pub IsBlock-tokens : (lines : List (List ℕ)) (block : Block) → IsBlock lines block → tokens_of lines ≡ block.tokens ++ moved_tokens block.lines (tokens_of (drop block.lines lines))
 IsBlock-tokens lines block is = by is.apart
   where
-    by : (block.lines ≡ length lines) ⊎ IsApart (take block.lines lines) → tokens_of lines ≡ block.tokens.items ++ moved_tokens block.lines (tokens_of (drop block.lines lines))
+    by : (block.lines ≡ length lines) ⊎ IsApart (take block.lines lines) → tokens_of lines ≡ block.tokens ++ moved_tokens block.lines (tokens_of (drop block.lines lines))
     by (inl all) =
         let whole : take block.lines lines ≡ lines = ap (λ k. take k lines) all ∙ take-length lines in
         let none : drop block.lines lines ≡ [] = drop_all block.lines lines (omega (arith, all)) in
-        ap tokens_of (sym whole) ∙ sym is.own ∙ sym (append-nil block.tokens.items)
-        ∙ ap (λ ts. block.tokens.items ++ moved_tokens block.lines ts) (sym (ap tokens_of none ∙ tokens_of-nil))
+        ap tokens_of (sym whole) ∙ sym is.own ∙ sym (append-nil block.tokens)
+        ∙ ap (λ ts. block.tokens ++ moved_tokens block.lines ts) (sym (ap tokens_of none ∙ tokens_of-nil))
     by (inr apart) =
         ap tokens_of (sym (take-append-drop block.lines lines)) ∙ apart (drop block.lines lines)
         ∙ (λ i. sym is.own i ++ moved_tokens (length-take-le block.lines lines is.within i) (tokens_of (drop block.lines lines)))
@@ -172,9 +172,9 @@ AreBlocks-tokens lines lb tb [] are all = sym (ap (moved_tokens lb) (no_lines li
 AreBlocks-tokens lines lb tb (b ∷ blocks) are all =
     let block = b.block.value in
     let later = drop block.lines lines in
-    let rest = AreBlocks-tokens later (lb + block.lines) (tb + length block.tokens.items) blocks are.3 (omega (arith, all, lines-there b blocks, length-drop block.lines lines)) in
-    (λ i. moved_tokens (are.0 i) block.tokens.items ++ (rest ∙ sym (moved_tokens-twice lb block.lines (tokens_of later))) i)
-    ∙ sym (map-append (moved_token lb) block.tokens.items (moved_tokens block.lines (tokens_of later)))
+    let rest = AreBlocks-tokens later (lb + block.lines) (tb + length block.tokens) blocks are.3 (omega (arith, all, lines-there b blocks, length-drop block.lines lines)) in
+    (λ i. moved_tokens (are.0 i) block.tokens ++ (rest ∙ sym (moved_tokens-twice lb block.lines (tokens_of later))) i)
+    ∙ sym (map-append (moved_token lb) block.tokens (moved_tokens block.lines (tokens_of later)))
     ∙ ap (moved_tokens lb) (sym (IsBlock-tokens lines block are.2))
 
 -- the tokens of the blocks of a file are those of the file
@@ -182,9 +182,9 @@ pub AreBlocks-all : (lines : List (List ℕ)) (blocks : List PlacedBlock) → Ar
 AreBlocks-all lines blocks are all = AreBlocks-tokens lines 0 0 blocks are all ∙ moved_tokens-zero (tokens_of lines)
 
 -- how many tokens a block and those after it have
-length-there : (b : PlacedBlock) (blocks : List PlacedBlock) → length (tokens_in_blocks (b ∷ blocks)) ≡ length b.block.value.tokens.items + length (tokens_in_blocks blocks)
+length-there : (b : PlacedBlock) (blocks : List PlacedBlock) → length (tokens_in_blocks (b ∷ blocks)) ≡ length b.block.value.tokens + length (tokens_in_blocks blocks)
 length-there b blocks =
-    length-append (tokens_there b) (tokens_in_blocks blocks) ∙ ap (λ n. n + length (tokens_in_blocks blocks)) (length-map b.block.value.tokens.items (moved_token b.lines_before))
+    length-append (tokens_there b) (tokens_in_blocks blocks) ∙ ap (λ n. n + length (tokens_in_blocks blocks)) (length-map b.block.value.tokens (moved_token b.lines_before))
 
 -- one more block behind the others
 pub AreBlocks-push : (lines : List (List ℕ)) (lines_before tokens_before : ℕ) (blocks : List PlacedBlock) (b : PlacedBlock) → AreBlocks lines lines_before tokens_before blocks
@@ -197,7 +197,7 @@ AreBlocks-push lines lb tb (x ∷ blocks) b are line token is =
       are.0,
       are.1,
       are.2,
-      AreBlocks-push (drop n lines) (lb + n) (tb + length x.block.value.tokens.items) blocks b are.3
+      AreBlocks-push (drop n lines) (lb + n) (tb + length x.block.value.tokens) blocks b are.3
           (omega (arith, line, lines-there x blocks)) (omega (arith, token, length-there x blocks))
           (subst (λ ls. IsBlock ls b.block.value) (ap (λ m. drop m lines) (lines-there x blocks) ∙ sym (drop-drop k n lines)) is),
     )
@@ -231,7 +231,7 @@ AreBlocks-at lines lb tb [] k b are lt = absurd (omega (arith, lt))
 AreBlocks-at lines lb tb (x ∷ blocks) zero b are lt = record { behind = 0; is = omega (arith, are.0); tokens = omega (arith, are.1); block = are.2 }
 AreBlocks-at lines lb tb (x ∷ blocks) (suc k) b are lt =
     let n = x.block.value.lines in
-    let m = length x.block.value.tokens.items in
+    let m = length x.block.value.tokens in
     let rest = AreBlocks-at (drop n lines) (lb + n) (tb + m) blocks k b are.3 (omega (arith, lt)) in
     record {
       behind = n + rest.behind;
@@ -250,13 +250,13 @@ pub lines_in-push : (blocks : List PlacedBlock) (b : PlacedBlock) → lines_in_b
 lines_in-push [] b = omega (arith, lines-there b [])
 lines_in-push (x ∷ blocks) b = omega (arith, lines-there x (blocks ++ b ∷ []), lines-there x blocks, lines_in-push blocks b)
 
-pub tokens_in-push : (blocks : List PlacedBlock) (b : PlacedBlock) → length (tokens_in_blocks (blocks ++ b ∷ [])) ≡ length (tokens_in_blocks blocks) + length b.block.value.tokens.items
+pub tokens_in-push : (blocks : List PlacedBlock) (b : PlacedBlock) → length (tokens_in_blocks (blocks ++ b ∷ [])) ≡ length (tokens_in_blocks blocks) + length b.block.value.tokens
 tokens_in-push [] b = omega (arith, length-there b [])
 tokens_in-push (x ∷ blocks) b = omega (arith, length-there x (blocks ++ b ∷ []), length-there x blocks, tokens_in-push blocks b)
 
 -- the tokens up to the next block
 pub tokens_in-more : (blocks : List PlacedBlock) (k : ℕ) (b : PlacedBlock) → k < length blocks
-    → length (tokens_in_blocks (take (k + 1) blocks)) ≡ length (tokens_in_blocks (take k blocks)) + length (get_or blocks k b).block.value.tokens.items
+    → length (tokens_in_blocks (take (k + 1) blocks)) ≡ length (tokens_in_blocks (take k blocks)) + length (get_or blocks k b).block.value.tokens
 tokens_in-more blocks k b lt = ap (λ bs. length (tokens_in_blocks bs)) (take_more blocks k b lt) ∙ tokens_in-push (take k blocks) (get_or blocks k b)
 
 -- and up to the last one

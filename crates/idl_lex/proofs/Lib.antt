@@ -1,4 +1,5 @@
 pub mod AlikeLemmas
+pub mod ApartLemmas
 pub mod BlockLemmas
 pub mod ByteLemmas
 pub mod CountLemmas
@@ -16,6 +17,7 @@ pub mod NumberLemmas
 pub mod PartLemmas
 pub mod PieceLemmas
 pub mod TableLemmas
+pub mod TextLemmas
 pub mod TokensLemmas
 pub mod WalkLemmas
 pub mod WordLemmas

@@ -5,7 +5,7 @@ use Rattle.std.proofs.lemmas.List.{map-append, take-map}
 use Rattle.std.proofs.lemmas.Simd.{map-map}
 use Rattle.idl_source.specs.Line.{newline}
 use Rattle.idl_lex.specs.Context.{context_after, is_gap, is_include}
-use Rattle.idl_lex.specs.Moved.{AreElsewhere, moved_byte, moved_text, moved_token, moved_tokens}
+use Rattle.idl_lex.specs.Moved.{moved_byte, moved_text, moved_token, moved_tokens}
 use Rattle.idl_lex.specs.Piece.{is_piece, longest}
 use Rattle.idl_lex.specs.Text.{Placed, bytes_of, front, is_continued, joined, numbered}
 use Rattle.idl_lex.specs.Tokens.{piece_rest, spelled, token_if, token_of, tokens_after, tokens_in}
@@ -79,6 +79,3 @@ tokens_after-moved down c zero (p ∷ text) =
 -- they are the same
 pub tokens_in-moved : (down : ℕ) (tokens : List PlacedToken) → tokens_in (moved_tokens down tokens) ≡ tokens_in tokens
 tokens_in-moved down tokens = map-map (λ (t : PlacedToken). t.token) (moved_token down) tokens
-
-pub tokens_in-AreElsewhere : (tokens there : List PlacedToken) → AreElsewhere tokens there → tokens_in tokens ≡ tokens_in there
-tokens_in-AreElsewhere tokens there is = sym (tokens_in-moved is.down tokens) ∙ ap tokens_in is.same

@@ -1,21 +1,26 @@
 -- A walk over the tokens of a file, line by line: which lines they stand on, and where the first line of them ends.
-use Rattle.std.proofs.Common.{◌≡◌, ◌∙◌, ◌⊎◌, inl, inr, ◌+◌, ◌-◌, ◌^◌, ◌<◌, ◌≤◌, leb, leb-true, leb-false, ◌++◌, ◌∷◌, ℕ, zero, suc, Bool, true, false, if◌then◌else◌, cond, not, List, [], drop, get_or, length, length-append, length-drop, take, refl, sym, ap, subst, arith}
+use Rattle.std.proofs.Common.{◌≡◌, ◌∙◌, ◌⊎◌, inl, inr, ◌+◌, ◌-◌, ◌^◌, ◌<◌, ◌≤◌, leb, leb-true, leb-false, ◌++◌, ◌∷◌, ℕ, zero, suc, Bool, true, false, if◌then◌else◌, cond, not, Some, List, [], drop, get_or, length, length-append, length-drop, map, take, refl, sym, ap, subst, arith}
 use Rattle.std.proofs.Math.Seq.{drop-append_seam}
 use Rattle.std.proofs.lemmas.Grind.{flat_map-append}
-use Rattle.std.proofs.lemmas.List.{drop-append-le, drop-drop, drop_more, length-map, length-take-le, take-append-drop, take-append-le, take-take}
+use Rattle.std.proofs.lemmas.List.{drop-append-le, drop-drop, drop_more, get_or-drop, get_or-map, get_or-take, length-map, length-take-le, take-append-drop, take-append-le, take-take}
 use Rattle.std.proofs.lemmas.List.Elements.{All-append, All-cons, All-head, All-nil, All-tail}
 use Rattle.std.proofs.lemmas.List.Sums.{prefix_len-le-length}
-use Rattle.std.specs.List.{All, AllWithin, drop-map}
+use Rattle.std.proofs.lemmas.Option.{slice_get-get_or, slice_get-map}
+use Rattle.std.specs.List.{All, AllWithin, drop-map, prefix_len, slice_get, slice_range}
+use Rattle.std.specs.Option.{option_map}
 use Rattle.std.specs.List.Sorted.{IsNonDecreasingBy}
 use Rattle.idl_source.specs.Line.{newline}
 use Rattle.idl_lex.proofs.BlockLemmas.{AreBlocks-at, tokens_in-all, tokens_in-more}
+use Rattle.idl_lex.proofs.PartLemmas.{length-part, part-map}
 use Rattle.idl_lex.proofs.TokensLemmas.{after_gap, after_token, lines_of-first}
 use Rattle.idl_lex.specs.Block.{AreBlocks, AreBlocksOf, AreOfSomeFile, IsPlace, tokens_in_blocks, tokens_there}
 use Rattle.idl_lex.specs.Context.{context_after, is_gap, is_newline, is_nothing, line_start}
-use Rattle.idl_lex.specs.Moved.{AreElsewhere, moved_token, moved_tokens}
+use Rattle.idl_lex.specs.Moved.{moved_token, moved_tokens}
 use Rattle.idl_lex.specs.Text.{Placed, bytes_of, front, is_continued, joined, numbered}
-use Rattle.idl_lex.specs.Tokens.{followers_on_line, lines_of, piece_rest, spelled, token_if, token_of, tokens_after, tokens_of}
+use Rattle.idl_lex.specs.Tokens.{BeginsLine, followers_on_line, lines_of, piece_rest, spelled, token_if, token_of, tokens_after, tokens_of}
+use Rattle.idl_lex.specs.Apart.{place_of, placed_at}
 use Rattle.idl_lex.specs.declared.block.PlacedBlock.{PlacedBlock}
+use Rattle.idl_lex.specs.declared.block_tokens.TokenPlace.{TokenPlace}
 use Rattle.idl_lex.specs.declared.context.Context.{Context}
 use Rattle.idl_lex.specs.declared.token.PlacedToken.{PlacedToken}
 
@@ -73,11 +78,8 @@ tokens_of-within most lines le = tokens_after-within most line_start 0 (joined 1
 -- ---- tokens that begin with one that starts a line
 
 -- the first token, if there is one, starts a line
-abbrev pub BeginsLine : List PlacedToken → Type 0
-BeginsLine [] = Unit {0}
-BeginsLine (t ∷ tokens) = t.starts_line ≡ true
 
-begins-append : (a b : List PlacedToken) → BeginsLine a → BeginsLine b → BeginsLine (a ++ b)
+pub begins-append : (a b : List PlacedToken) → BeginsLine a → BeginsLine b → BeginsLine (a ++ b)
 begins-append [] b first second = second
 begins-append (t ∷ a) b first second = first
 
@@ -116,8 +118,8 @@ AreBlocks-begins lines lb tb [] are = tt
 AreBlocks-begins lines lb tb (b ∷ blocks) are =
     let block = b.block.value in
     begins-append (tokens_there b) (tokens_in_blocks blocks)
-    (begins-moved b.lines_before block.tokens.items (subst BeginsLine (sym are.2.own) (tokens_of-begins (take block.lines lines))))
-    (AreBlocks-begins (drop block.lines lines) (lb + block.lines) (tb + length block.tokens.items) blocks are.3)
+    (begins-moved b.lines_before block.tokens (subst BeginsLine (sym are.2.own) (tokens_of-begins (take block.lines lines))))
+    (AreBlocks-begins (drop block.lines lines) (lb + block.lines) (tb + length block.tokens) blocks are.3)
 
 -- and so do those behind a block
 AreBlocks-behind : (lines : List (List ℕ)) (lines_before tokens_before : ℕ) (blocks : List PlacedBlock) (k : ℕ) → AreBlocks lines lines_before tokens_before blocks → BeginsLine (tokens_in_blocks (drop k blocks))
@@ -125,7 +127,7 @@ AreBlocks-behind lines lb tb blocks zero are = AreBlocks-begins lines lb tb bloc
 AreBlocks-behind lines lb tb [] (suc k) are = tt
 AreBlocks-behind lines lb tb (b ∷ blocks) (suc k) are =
     let block = b.block.value in
-    AreBlocks-behind (drop block.lines lines) (lb + block.lines) (tb + length block.tokens.items) blocks k are.3
+    AreBlocks-behind (drop block.lines lines) (lb + block.lines) (tb + length block.tokens) blocks k are.3
 
 -- ---- the tokens behind a first one on its line
 
@@ -133,8 +135,73 @@ followers-moved : (down : ℕ) (tokens : List PlacedToken) → followers_on_line
 followers-moved down [] = refl
 followers-moved down (t ∷ tokens) = ap (λ n. cond (not t.starts_line) (1 + n) 0) (followers-moved down tokens)
 
+-- they are seen by the places alone
+pub followers-places : (tokens : List PlacedToken) → prefix_len (λ (p : TokenPlace). not p.starts_line) (map place_of tokens) ≡ followers_on_line tokens
+followers-places [] = refl
+followers-places (t ∷ tokens) = ap (λ n. cond (not t.starts_line) (1 + n) 0) (followers-places tokens)
+
+-- those among the tokens of a block from one number up to another
+pub followers-range : (down : ℕ) (all : List PlacedToken) (places : List TokenPlace) (from to : ℕ) → places ≡ map place_of all
+    → prefix_len (λ (p : TokenPlace). not p.starts_line) (slice_range places from to) ≡ followers_on_line (moved_tokens down (slice_range all from to))
+followers-range down all places from to e =
+    ap (λ ps. prefix_len (λ (p : TokenPlace). not p.starts_line) (slice_range ps from to)) e
+    ∙ ap (prefix_len (λ (p : TokenPlace). not p.starts_line)) (part-map place_of all from to)
+    ∙ followers-places (slice_range all from to)
+    ∙ sym (followers-moved down (slice_range all from to))
+
+-- those behind a place in them
+pub followers-from : (down : ℕ) (all now : List PlacedToken) (places : List TokenPlace) (from to k : ℕ) → places ≡ map place_of all
+    → moved_tokens down (slice_range all from to) ≡ now → prefix_len (λ (p : TokenPlace). not p.starts_line) (drop k (slice_range places from to)) ≡ followers_on_line (drop k now)
+followers-from down all now places from to k e is =
+    let part = slice_range all from to in
+    ap (λ ps. prefix_len (λ (p : TokenPlace). not p.starts_line) (drop k (slice_range ps from to))) e
+    ∙ ap (λ ps. prefix_len (λ (p : TokenPlace). not p.starts_line) (drop k ps)) (part-map place_of all from to)
+    ∙ ap (prefix_len (λ (p : TokenPlace). not p.starts_line)) (drop-map place_of k part)
+    ∙ followers-places (drop k part)
+    ∙ sym (followers-moved down (drop k part))
+    ∙ ap followers_on_line (sym (drop-map (moved_token down) k part) ∙ ap (drop k) is)
+
+-- the line of one of them
+pub line-read : (down : ℕ) (all : List PlacedToken) (from to index : ℕ) (place : TokenPlace) → from + index < to → to ≤ length all
+    → slice_get (map (λ (t : PlacedToken). t.line) (moved_tokens down (slice_range all from to))) index ≡ Some (down + (get_or (map place_of all) (from + index) place).line)
+line-read down all from to index place lt le =
+    let part = slice_range all from to in
+    let d = placed_at [] place in
+    let x : PlacedToken = get_or all (from + index) d in
+    let there : get_or part index d ≡ x = get_or-take (to - from) (drop from all) index d (omega (arith, lt)) ∙ get_or-drop from all index d in
+    let line : x.line ≡ (get_or (map place_of all) (from + index) place).line = ap (λ (p : TokenPlace). p.line) (sym (get_or-map place_of all (from + index) d place (omega (arith, lt, le)))) in
+    let sum : x.line + down ≡ down + (get_or (map place_of all) (from + index) place).line = omega (arith, line) in
+    slice_get-map (λ (t : PlacedToken). t.line) (moved_tokens down part) index
+    ∙ ap (option_map (λ (t : PlacedToken). t.line)) (slice_get-map (moved_token down) part index ∙ ap (option_map (moved_token down)) (slice_get-get_or part index d (omega (arith, length-part all from to le, lt)) ∙ ap Some there))
+    ∙ ap Some sum
+
+-- the token behind them begins a line
+pub begins-behind : (tokens : List PlacedToken) → BeginsLine (drop (followers_on_line tokens) tokens)
+begins-behind [] = tt
+begins-behind (t ∷ tokens) = by t.starts_line refl (begins-behind tokens)
+  where
+    by : (b : Bool) → t.starts_line ≡ b → BeginsLine (drop (followers_on_line tokens) tokens) → BeginsLine (drop (cond (not b) (1 + followers_on_line tokens) 0) (t ∷ tokens))
+    by true e later = e
+    by false e later =
+        let more : suc (followers_on_line tokens) ≡ 1 + followers_on_line tokens = omega arith in
+        subst (λ n. BeginsLine (drop n (t ∷ tokens))) more later
+
+-- and among the first ones, up to it, they are the same
+pub followers-own : (tokens : List PlacedToken) → followers_on_line (take (followers_on_line tokens) tokens) ≡ followers_on_line tokens
+followers-own [] = refl
+followers-own (t ∷ tokens) = by t.starts_line refl (followers-own tokens)
+  where
+    by : (b : Bool) → t.starts_line ≡ b → followers_on_line (take (followers_on_line tokens) tokens) ≡ followers_on_line tokens
+        → followers_on_line (take (cond (not b) (1 + followers_on_line tokens) 0) (t ∷ tokens)) ≡ cond (not b) (1 + followers_on_line tokens) 0
+    by true e later = refl
+    by false e later =
+        let more : 1 + followers_on_line tokens ≡ suc (followers_on_line tokens) = omega arith in
+        ap (λ n. followers_on_line (take n (t ∷ tokens))) more
+        ∙ ap (λ b. cond (not b) (1 + followers_on_line (take (followers_on_line tokens) tokens)) 0) e
+        ∙ ap (λ n. 1 + n) later
+
 -- they end where a line begins
-followers-front : (front behind : List PlacedToken) → BeginsLine behind → followers_on_line (front ++ behind) ≡ followers_on_line front
+pub followers-front : (front behind : List PlacedToken) → BeginsLine behind → followers_on_line (front ++ behind) ≡ followers_on_line front
 followers-front [] [] begins = refl
 followers-front [] (t ∷ behind) begins = ap (λ b. cond (not b) (1 + followers_on_line behind) 0) begins
 followers-front (t ∷ front) behind begins = ap (λ n. cond (not t.starts_line) (1 + n) 0) (followers-front front behind begins)
@@ -175,18 +242,18 @@ IsPlace-past blocks block place before is past = by is.within
 -- A place in a block: the tokens from it on, those of the block and those behind it.
 pub record IsHere (blocks : List PlacedBlock) (block place before : ℕ) (b : PlacedBlock) : Type 0 where
   pub lines_before : b.lines_before ≤ 200000
-  pub numbers : All (λ (t : PlacedToken). t.line ≤ 200000) b.block.value.tokens.items
-  pub within : place < length b.block.value.tokens.items
-  pub all : drop before (tokens_in_blocks blocks) ≡ moved_tokens b.lines_before (drop place b.block.value.tokens.items) ++ tokens_in_blocks (drop (block + 1) blocks)
+  pub numbers : All (λ (t : PlacedToken). t.line ≤ 200000) b.block.value.tokens
+  pub within : place < length b.block.value.tokens
+  pub all : drop before (tokens_in_blocks blocks) ≡ moved_tokens b.lines_before (drop place b.block.value.tokens) ++ tokens_in_blocks (drop (block + 1) blocks)
   pub begins : BeginsLine (tokens_in_blocks (drop (block + 1) blocks))
-  pub end : before + (length b.block.value.tokens.items - place) ≤ length (tokens_in_blocks blocks)
+  pub end : before + (length b.block.value.tokens - place) ≤ length (tokens_in_blocks blocks)
   pub countable : length (tokens_in_blocks blocks) < 2 ^ 64
 
 IsHere-place : (lines : List (List ℕ)) (blocks : List PlacedBlock) (block place before : ℕ) (b : PlacedBlock) → AreBlocksOf lines blocks → IsPlace blocks block place before
     → block < length blocks → IsHere blocks block place before (get_or blocks block b)
 IsHere-place lines blocks block place before b are is some =
     let here = get_or blocks block b in
-    let tokens = here.block.value.tokens.items in
+    let tokens = here.block.value.tokens in
     let front = tokens_in_blocks (take block blocks) in
     let later = tokens_in_blocks (drop (block + 1) blocks) in
     let at = AreBlocks-at lines 0 0 blocks block b are.each some in
@@ -213,8 +280,8 @@ IsHere-place lines blocks block place before b are is some =
     }
   where
     by : (before < length (tokens_in_blocks (take (block + 1) blocks))) ⊎ ((length blocks ≤ block) × (before ≡ length (tokens_in_blocks blocks)))
-        → length (tokens_in_blocks (take (block + 1) blocks)) ≡ length (tokens_in_blocks (take block blocks)) + length (get_or blocks block b).block.value.tokens.items
-        → place < length (get_or blocks block b).block.value.tokens.items
+        → length (tokens_in_blocks (take (block + 1) blocks)) ≡ length (tokens_in_blocks (take block blocks)) + length (get_or blocks block b).block.value.tokens
+        → place < length (get_or blocks block b).block.value.tokens
     by (inl less) more = omega (arith, less, is.is, more)
     by (inr none) more = absurd (omega (arith, some, none.0))
 
@@ -227,27 +294,21 @@ IsHere-some blocks block place before b left file is e some =
 
 -- ---- the first line
 
-pub followers-elsewhere : (tokens there : List PlacedToken) → AreElsewhere tokens there → followers_on_line (drop 1 tokens) ≡ followers_on_line (drop 1 there)
-followers-elsewhere tokens there is =
-    sym (followers-moved is.down (drop 1 tokens))
-    ∙ ap followers_on_line (sym (drop-map (moved_token is.down) 1 tokens))
-    ∙ ap (λ ts. followers_on_line (drop 1 ts)) is.same
-
 -- The first line from a place on, which is within the place's block.
 pub record IsFirstLine (blocks : List PlacedBlock) (before place : ℕ) (b : PlacedBlock) (count : ℕ) : Type 0 where
-  pub within : count ≤ length (drop place b.block.value.tokens.items)
+  pub within : count ≤ length (drop place b.block.value.tokens)
   pub first : count ≡ 1 + followers_on_line (drop 1 (drop before (tokens_in_blocks blocks)))
-  pub line : take count (drop before (tokens_in_blocks blocks)) ≡ take count (moved_tokens b.lines_before (drop place b.block.value.tokens.items))
+  pub line : take count (drop before (tokens_in_blocks blocks)) ≡ take count (moved_tokens b.lines_before (drop place b.block.value.tokens))
   pub end : before + count ≤ length (tokens_in_blocks blocks)
 
 pub IsFirstLine-here : (blocks : List PlacedBlock) (block place before : ℕ) (b : PlacedBlock) (here : List PlacedToken) (count : ℕ) → IsHere blocks block place before b
-    → here ≡ moved_tokens b.lines_before (drop place b.block.value.tokens.items) → count ≡ 1 + followers_on_line (drop 1 here) → IsFirstLine blocks before place b count
+    → here ≡ moved_tokens b.lines_before (drop place b.block.value.tokens) → count ≡ 1 + followers_on_line (drop 1 here) → IsFirstLine blocks before place b count
 IsFirstLine-here blocks block place before b here count at same is =
-    let tokens = drop place b.block.value.tokens.items in
+    let tokens = drop place b.block.value.tokens in
     let left = moved_tokens b.lines_before tokens in
     let later = tokens_in_blocks (drop (block + 1) blocks) in
     let size : length left ≡ length tokens = length-map tokens (moved_token b.lines_before) in
-    let some : 0 < length tokens = omega (arith, at.within, length-drop place b.block.value.tokens.items) in
+    let some : 0 < length tokens = omega (arith, at.within, length-drop place b.block.value.tokens) in
     let one : drop 1 (left ++ later) ≡ drop 1 left ++ later = drop-append-le 1 left later (omega (arith, some, size)) in
     let alike : followers_on_line (drop 1 (drop before (tokens_in_blocks blocks))) ≡ followers_on_line (drop 1 left) =
     ap (λ ts. followers_on_line (drop 1 ts)) at.all ∙ ap followers_on_line one ∙ followers-front (drop 1 left) later at.begins in
@@ -257,7 +318,7 @@ IsFirstLine-here blocks block place before b here count at same is =
       within = within;
       first = omega (arith, is_here, alike);
       line = ap (take count) at.all ∙ take-append-le count left later (omega (arith, within, size));
-      end = omega (arith, within, at.end, at.within, length-drop place b.block.value.tokens.items);
+      end = omega (arith, within, at.end, at.within, length-drop place b.block.value.tokens);
     }
 
 -- tokens are those of their first line and those behind it
@@ -266,7 +327,7 @@ pub record IsParted (left line rest : List PlacedToken) : Type 0 where
   pub all : left ≡ line ++ rest
 
 pub IsParted-first : (blocks : List PlacedBlock) (before place : ℕ) (b : PlacedBlock) (count : ℕ) (left here line rest : List PlacedToken) → IsFirstLine blocks before place b count
-    → drop before (tokens_in_blocks blocks) ≡ left → 0 < length left → here ≡ moved_tokens b.lines_before (drop place b.block.value.tokens.items)
+    → drop before (tokens_in_blocks blocks) ≡ left → 0 < length left → here ≡ moved_tokens b.lines_before (drop place b.block.value.tokens)
     → line ≡ take count here → rest ≡ drop (before + count) (tokens_in_blocks blocks) → IsParted left line rest
 IsParted-first blocks before place b count left here line rest first e some same front back =
     let line_is : take count left ≡ line = ap (take count) (sym e) ∙ first.line ∙ ap (take count) (sym same) ∙ sym front in

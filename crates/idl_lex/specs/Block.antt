@@ -20,12 +20,12 @@ IsApart lines =
 pub record IsBlock (lines : List (List ℕ)) (block : Block) : Type 0 where
   pub some : 0 < block.lines
   pub within : block.lines ≤ length lines
-  pub own : block.tokens.items ≡ tokens_of (take block.lines lines)
+  pub own : block.tokens ≡ tokens_of (take block.lines lines)
   pub apart : (block.lines ≡ length lines) ⊎ IsApart (take block.lines lines)
 
 -- the tokens of a block where it stands in a file
 abbrev pub tokens_there : PlacedBlock → List PlacedToken
-tokens_there placed = moved_tokens placed.lines_before placed.block.value.tokens.items
+tokens_there placed = moved_tokens placed.lines_before placed.block.value.tokens
 
 -- the tokens of blocks, end to end
 abbrev pub tokens_in_blocks : List PlacedBlock → List PlacedToken
@@ -42,7 +42,7 @@ AreBlocks lines lines_before tokens_before (b ∷ blocks) =
     let block = b.block.value in
     (b.lines_before ≡ lines_before) × (b.tokens_before ≡ tokens_before) × IsBlock lines block
     × AreBlocks (drop block.lines lines) (lines_before + block.lines)
-    (tokens_before + length block.tokens.items) blocks
+    (tokens_before + length block.tokens) blocks
 
 -- blocks of a whole file: all its lines, as many as a file may have, and no more tokens than can be
 -- counted

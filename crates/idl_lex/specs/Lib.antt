@@ -15,6 +15,7 @@ pub mod Context
 pub mod Text
 pub mod Logical
 pub mod Tokens
+pub mod Apart
 pub mod Cut
 pub mod Lexer
 pub mod Moved

@@ -1,5 +1,5 @@
 -- Texts and tokens that stand elsewhere: so many lines further down.
-use Rattle.std.specs.Prelude.{◌≡◌, ℕ, ◌+◌, List, map}
+use Rattle.std.specs.Prelude.{ℕ, ◌+◌, List, map}
 use Rattle.idl_lex.specs.Text.{Placed}
 use Rattle.idl_lex.specs.declared.token.PlacedToken.{PlacedToken}
 
@@ -18,8 +18,3 @@ moved_token down token = record token { line = token.line + down }
 -- tokens so many lines further down
 abbrev pub moved_tokens : ℕ → List PlacedToken → List PlacedToken
 moved_tokens down tokens = map (moved_token down) tokens
-
--- the first tokens are the second ones where these stand so many lines further down
-pub record AreElsewhere (tokens there : List PlacedToken) : Type 0 where
-  pub down : ℕ
-  pub same : moved_tokens down tokens ≡ there

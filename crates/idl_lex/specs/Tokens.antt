@@ -1,7 +1,8 @@
 -- The tokens of a text: each piece is the longest that can begin at its place, and those that are
 -- no tokens are dropped.
-use Rattle.std.specs.Prelude.{ℕ, zero, suc, ◌-◌, List, [], ◌∷◌, ◌++◌, codes, map, not, take, if◌then◌else◌}
+use Rattle.std.specs.Prelude.{◌≡◌, Bool, true, ⊤, ℕ, zero, suc, ◌-◌, List, [], ◌∷◌, ◌++◌, codes, map, not, take, if◌then◌else◌}
 use Rattle.std.specs.List.{prefix_len}
+use Rattle.std.specs.Str.{bytes_eq}
 use Rattle.idl_lex.specs.Context.{line_start, is_nothing, is_include, is_gap, context_after}
 use Rattle.idl_lex.specs.Kind.{begins_block}
 use Rattle.idl_lex.specs.Piece.{is_piece, longest}
@@ -69,3 +70,13 @@ lines_after zero (t ∷ tokens) =
 -- tokens by lines
 unfoldable pub lines_of : List PlacedToken → List (List PlacedToken)
 lines_of tokens = lines_after zero tokens
+
+-- a line of text: it begins with no `#`
+abbrev pub is_text : List PlacedToken → Bool
+is_text [] = true
+is_text (t ∷ tokens) = not (bytes_eq t.token (codes "#"))
+
+-- the first of them starts a line, if there is one
+abbrev pub BeginsLine : List PlacedToken → Type 0
+BeginsLine [] = ⊤
+BeginsLine (t ∷ tokens) = t.starts_line ≡ true

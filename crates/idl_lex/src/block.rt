@@ -4,10 +4,10 @@ ghost use Rattle.std.specs.Prelude.{◌≡◌, ◌≤◌, ◌<◌, ◌++◌, [],
 ghost use Rattle.idl_lex.specs.Block.{IsBlock};
 ghost use Rattle.idl_lex.specs.Lexer.{coming};
 
+use crate::block_tokens::{BlockTokens, TokenBuffer};
 use crate::lexed::Lexed;
 use crate::lexer::{Before, Opening, push_line};
 use crate::logical::{Logical, joined_count};
-use crate::token::PlacedToken;
 use idl_source::Line;
 use std::alloc::{AllocError, Global};
 use std::rc::Rc;
@@ -22,7 +22,7 @@ const TOKENS_OF_LINE: usize = 8;
 #[derive(Drop)]
 pub struct Block {
     pub lines: usize,
-    pub tokens: Vec<PlacedToken>,
+    pub tokens: BlockTokens,
 }
 
 /// A block where it stands in a file: how many lines and tokens of the file are before it. Texts of the file share the
@@ -73,7 +73,7 @@ pub fn cut_block(alloc: Global, lines: &[Line], ends: Ends<'_>) -> Result<Block,
     ensures whole { ends.entry.old ≡ None → length lines.now ≤ ends.entry.lines
         → IfOk result (λ block. block.lines ≡ length lines.now) }
 {
-    let mut tokens = Vec::with_capacity(alloc, usual_room(lines.len()))?;
+    let mut tokens = TokenBuffer::with_capacity(alloc, usual_room(lines.len()))?;
     let mut before = Before::Fresh;
     let mut count = 0;
     'lines: while count < lines.len() {
@@ -86,10 +86,10 @@ pub fn cut_block(alloc: Global, lines: &[Line], ends: Ends<'_>) -> Result<Block,
         count = end;
     }
     finish(&mut tokens, before)?;
-    tokens.shrink_to_fit();
+    let shared = tokens.share(alloc)?;
     Ok(Block {
         lines: count,
-        tokens,
+        tokens: shared,
     })
 }
 
@@ -99,8 +99,8 @@ fn usual_room(lines: usize) -> usize {
 }
 
 // Puts in what is left at the end of a text: a comment that isn't closed.
-fn finish(tokens: &mut Vec<PlacedToken>, before: Before) -> Result<(), AllocError>
-    ensures { OnOk result (tokens.new.items ≡ tokens.old.items ++ coming before []) }
+fn finish(tokens: &mut TokenBuffer, before: Before) -> Result<(), AllocError>
+    ensures { OnOk result (tokens.new ≡ tokens.old ++ coming before []) }
 {
     match before {
         Before::Fresh => Ok(()),

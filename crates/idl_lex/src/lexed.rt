@@ -109,7 +109,7 @@ pub fn lex(alloc: Global, file: &File, old: Option<&Lexed>) -> Result<Lexed, All
 // How many tokens of a file are before what comes after a block, where so many are before the block. No place has a number
 // that is too large.
 fn tokens_behind(before: usize, block: &Block) -> Result<usize, AllocError>
-    ensures sum { IfOk result (λ sum. sum ≡ before + length block.now.tokens.items) }
+    ensures sum { IfOk result (λ sum. sum ≡ before + length block.now.tokens) }
     ensures fits { IfOk result (λ sum. sum < 2 ^ 64) }
 {
     match before.checked_add(block.tokens.len()) {

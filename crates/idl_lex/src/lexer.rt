@@ -10,6 +10,7 @@ ghost use Rattle.idl_lex.specs.Tokens.{token_if, token_of, tokens_after};
 ghost use Rattle.idl_lex.specs.Word.{is_word};
 ghost use Rattle.idl_lex.specs.declared.lexer.Before.TheVariants.{Fresh};
 
+use crate::block_tokens::TokenBuffer;
 use crate::byte::{is_quote, is_space, is_word_start};
 use crate::context::{Context, ends_block, is_gap};
 use crate::kind::kind_of_word;
@@ -50,12 +51,12 @@ impl Before {
 
 /// Puts in the tokens of a line that begins in this, and answers what the next line begins in.
 pub fn push_line(
-    tokens: &mut Vec<PlacedToken>,
+    tokens: &mut TokenBuffer,
     line: &Logical,
     before: Before,
 ) -> Result<Before, AllocError>
     ensures { IfOk result (λ after. (newline : ℕ) → (rest : List Placed) →
-        tokens.new.items ++ coming after rest ≡ tokens.old.items ++ coming before (line.now ++ ended newline rest)) }
+        tokens.new ++ coming after rest ≡ tokens.old ++ coming before (line.now ++ ended newline rest)) }
 {
     match before {
         Before::Fresh => push_pieces(tokens, line, 0, Context::line_start()),
@@ -73,14 +74,14 @@ pub fn push_line(
 
 // Puts in the tokens from a place of a line on, where this stands before it, and answers what the next line begins in.
 fn push_pieces(
-    tokens: &mut Vec<PlacedToken>,
+    tokens: &mut TokenBuffer,
     line: &Logical,
     from: usize,
     context: Context,
 ) -> Result<Before, AllocError>
     requires { from ≤ length line.now }
     ensures { IfOk result (λ after. (newline : ℕ) → (rest : List Placed) →
-        tokens.new.items ++ coming after rest ≡ tokens.old.items ++ tokens_after context 0 (drop from line.now ++ ended newline rest)) }
+        tokens.new ++ coming after rest ≡ tokens.old ++ tokens_after context 0 (drop from line.now ++ ended newline rest)) }
 {
     let bytes = line.as_bytes();
     let mut closing = None;
@@ -115,7 +116,7 @@ fn push_pieces(
             let spelling = line.spelling(i, i + 2)?;
             let token = PlacedToken::new(now, spelling, line.line_at(i));
             let context = now.after(b" ");
-            let opening = Box::new(*tokens.allocator(), Opening { token, context })?;
+            let opening = Box::new(tokens.allocator(), Opening { token, context })?;
             return Ok(Before::Comment(opening));
         }
         push_piece(tokens, now, line, i..end)?;
@@ -127,7 +128,7 @@ fn push_pieces(
 
 // Puts in the token that a word of a line is.
 fn push_word(
-    tokens: &mut Vec<PlacedToken>,
+    tokens: &mut TokenBuffer,
     context: Context,
     line: &Logical,
     word: Range<usize>,
@@ -136,8 +137,8 @@ fn push_word(
     requires within { word.end ≤ length line.now }
     requires word { is_word (take (word.end - word.start) (drop word.start (bytes_of line.now))) ≡ true }
     ensures { let bytes = take (word.end - word.start) (drop word.start (bytes_of line.now)) in
-        OnOk result (tokens.new.items
-        ≡ tokens.old.items ++ token_of context bytes (line_at line.now word.start) ∷ []) }
+        OnOk result (tokens.new
+        ≡ tokens.old ++ token_of context bytes (line_at line.now word.start) ∷ []) }
 {
     let Range { start, end } = word;
     let kind = kind_of_word(&line.as_bytes()[start..end]);
@@ -168,7 +169,7 @@ fn begins_quote(bytes: &[u8]) -> bool
 
 // Puts in the token that a piece of a line is, if it is one.
 fn push_piece(
-    tokens: &mut Vec<PlacedToken>,
+    tokens: &mut TokenBuffer,
     context: Context,
     line: &Logical,
     piece: Range<usize>,
@@ -178,8 +179,8 @@ fn push_piece(
     requires closed { let bytes = take (piece.end - piece.start) (drop piece.start (bytes_of line.now)) in
         is_open bytes ≡ false }
     ensures { let bytes = take (piece.end - piece.start) (drop piece.start (bytes_of line.now)) in
-        OnOk result (tokens.new.items
-        ≡ tokens.old.items ++ token_if context bytes (line_at line.now piece.start)) }
+        OnOk result (tokens.new
+        ≡ tokens.old ++ token_if context bytes (line_at line.now piece.start)) }
 {
     let Range { start, end } = piece;
     if is_gap(&line.as_bytes()[start..end]) {

@@ -5,6 +5,7 @@
 #![tactic(auto)]
 
 mod block;
+mod block_tokens;
 mod blocks;
 mod byte;
 mod context;

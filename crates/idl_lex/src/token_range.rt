@@ -1,6 +1,6 @@
 //! Tokens of a file that are shared.
 
-ghost use Rattle.std.specs.Prelude.{◌≡◌, ◌≤◌, ◌<◌, ◌↔◌, IsTrue, flat_map, length, refl, IfOk, slice_range};
+ghost use Rattle.std.specs.Prelude.{◌≡◌, ◌≤◌, ◌<◌, ◌↔◌, [], IsTrue, flat_map, length, refl, IfOk, OnErr, OnOk, slice_range};
 ghost use Rattle.std.specs.Cmp.{partial_equiv_from_equiv};
 ghost use Rattle.std.specs.Cmp.Lexicographic.{bytes_decides, lists_equiv, lists_per, nat_list_eq_equiv, pointwise, pointwise_decides};
 ghost use Rattle.std.specs.Hash as fed;
@@ -8,33 +8,36 @@ ghost use Rattle.std.specs.Str.{bytes_eq};
 ghost use Rattle.std.proofs.Common.{ap};
 ghost use Rattle.idl_lex.specs.Tokens.{tokens_in, tokens_of};
 
-use crate::block::{Block, Ends, cut_block};
-use crate::token::PlacedToken;
+use crate::block::{Ends, cut_block};
+use crate::token::Token;
 use idl_base::Datum;
 use idl_source::Line;
 use std::alloc::{AllocError, Global};
 use std::hash::{Hash, Hasher};
 use std::marker::Model;
+use std::mem::replace;
 use std::rc::Rc;
 
-/// Tokens of a block that are shared with it: those of a macro's body, or of a pragma. To every contract they are their list,
-/// wherever they stand.
+/// Tokens that are shared: those of a macro's body, of a pragma, or of a unit. To every contract they are their list, wherever
+/// they stand.
 #[derive(Drop)]
 pub struct TokenRange {
-    block: Rc<Block>,
-    from: usize,
-    to: usize,
+    tokens: Rc<Vec<Token>>,
+    from: u32,
+    to: u32,
 }
+
+// A root has thousands of units.
+const _: () = prove!(size_of::<TokenRange>() <= 16);
 
 impl Model for TokenRange {
     ghost use Rattle.std.specs.Prelude.{◌≤◌, List, ℕ, length, slice_range};
-    ghost use Rattle.idl_lex.specs.Tokens.{tokens_in};
 
     ghost Value = { List (List ℕ) };
 
-    ghost view = { λ range. tokens_in (slice_range range.block.value.tokens.items range.from range.to) };
+    ghost view = { λ range. slice_range range.tokens.value.items range.from range.to };
 
-    ghost invariant = { λ range. (range.from ≤ range.to) × (range.to ≤ length range.block.value.tokens.items) };
+    ghost invariant = { λ range. (range.from ≤ range.to) × (range.to ≤ length range.tokens.value.items) };
 }
 
 impl TokenRange {
@@ -49,28 +52,73 @@ impl TokenRange {
             old: None,
         };
         let block = cut_block(alloc, lines, ends)?;
-        let to = block.tokens.len();
-        Ok(TokenRange {
-            block: Rc::new(alloc, block)?,
-            from: 0,
-            to,
-        })
+        let tokens = block.tokens.tokens().clone()?;
+        let to = tokens.len();
+        TokenRange::new(tokens, 0, to)
     }
 
-    /// Tokens of a file, shared with it.
-    pub(crate) fn new(block: Rc<Block>, from: usize, to: usize) -> TokenRange
-        requires order { from ≤ to }
-        requires within { to ≤ length block.value.tokens.items }
-        ensures { result ≡ tokens_in (slice_range block.value.tokens.items from to) }
+    /// The tokens of a list, which are shared from now on: none is left there. Want of memory leaves them there, and so do
+    /// numbers from the first 2^32 on.
+    pub fn take(tokens: &mut Vec<Token>) -> Result<TokenRange, AllocError>
+        ensures range { IfOk result (λ range. range ≡ tokens.old.items) }
+        ensures none { OnOk result (tokens.new.items ≡ []) }
+        ensures kept { OnErr result (tokens.new.items ≡ tokens.old.items) }
     {
-        TokenRange { block, from, to }
+        let Ok(to) = u32::try_from(tokens.len()) else {
+            return Err(AllocError);
+        };
+        let alloc = *tokens.allocator();
+        match Rc::new(alloc, replace(tokens, Vec::new(alloc))) {
+            Ok(shared) => Ok(TokenRange {
+                tokens: shared,
+                from: 0,
+                to,
+            }),
+            Err(failed) => {
+                *tokens = failed.value;
+                Err(AllocError)
+            }
+        }
+    }
+
+    /// The tokens of a list from one number up to another. Numbers from the first 2^32 on are as want of memory.
+    pub(crate) fn new(
+        tokens: Rc<Vec<Token>>,
+        from: usize,
+        to: usize,
+    ) -> Result<TokenRange, AllocError>
+        requires order { from ≤ to }
+        requires within { to ≤ length tokens.value.items }
+        ensures { IfOk result (λ range. range ≡ slice_range tokens.value.items from to) }
+    {
+        let (Ok(from), Ok(to)) = (u32::try_from(from), u32::try_from(to)) else {
+            return Err(AllocError);
+        };
+        Ok(TokenRange { tokens, from, to })
+    }
+
+    /// The tokens from one number up to another, shared with all.
+    pub fn part(&self, from: usize, to: usize) -> Result<TokenRange, AllocError>
+        requires order { from ≤ to }
+        requires within { to ≤ length self.now }
+        ensures { IfOk result (λ range. range ≡ slice_range self.now from to) }
+    {
+        let start = self.from as usize;
+        TokenRange::new(self.tokens.clone()?, start + from, start + to)
+    }
+
+    /// How many tokens they are.
+    pub fn len(&self) -> usize
+        ensures { result ≡ length self.now }
+    {
+        (self.to - self.from) as usize
     }
 
     /// The tokens in order.
-    pub fn as_slice(&self) -> &[PlacedToken]
-        ensures { tokens_in result.now ≡ self.now }
+    pub fn as_slice(&self) -> &[Token]
+        ensures { result.now ≡ self.now }
     {
-        &self.block.tokens[self.from..self.to]
+        &self.tokens.as_slice()[self.from as usize..self.to as usize]
     }
 }
 
@@ -79,7 +127,7 @@ impl Clone for TokenRange {
 
     fn clone(&self) -> Result<TokenRange, AllocError> {
         Ok(TokenRange {
-            block: self.block.clone()?,
+            tokens: self.tokens.clone()?,
             from: self.from,
             to: self.to,
         })
@@ -95,7 +143,7 @@ impl PartialEq for TokenRange {
         ensures by_token { result ≡ pointwise bytes_eq self.now other.now }
         ensures exact { IsTrue result ↔ (self.now ≡ other.now) }
     {
-        have_same_tokens(self.as_slice(), other.as_slice())
+        self.as_slice() == other.as_slice()
     }
 }
 
@@ -110,8 +158,8 @@ impl Hash for TokenRange {
 
     fn hash<H: Hasher>(&self, state: &mut H) {
         let mut left = self.as_slice();
-        while let [placed, rest @ ..] = left {
-            placed.token.hash(state);
+        while let [token, rest @ ..] = left {
+            token.hash(state);
             left = rest;
         }
     }
@@ -121,21 +169,4 @@ impl Datum for TokenRange {
     ghost same = { λ x y. (pointwise_decides bytes_decides x y).0 };
 
     ghost copy = { λ x y h. h };
-}
-
-// Whether the tokens are the same, wherever they stand.
-fn have_same_tokens(a: &[PlacedToken], b: &[PlacedToken]) -> bool
-    ensures { result ≡ pointwise bytes_eq (tokens_in a.now) (tokens_in b.now) }
-{
-    let mut others = b;
-    for placed in a {
-        let [other, rest @ ..] = others else {
-            return false;
-        };
-        if placed.token != other.token {
-            return false;
-        }
-        others = rest;
-    }
-    others.is_empty()
 }

@@ -1,12 +1,12 @@
 //! A walk over the tokens of a file, line by line.
 
-ghost use Rattle.std.specs.Prelude.{◌≡◌, ◌≤◌, ◌<◌, ◌++◌, ◌∷◌, [], ◌↔◌, ◌+◌, IsTrue, drop, length, take};
+ghost use Rattle.std.specs.Prelude.{◌≡◌, ◌≤◌, ◌<◌, ◌++◌, ◌∷◌, [], ◌↔◌, ◌+◌, IsTrue, drop, length, take, true};
 ghost use Rattle.idl_lex.specs.Block.{AreOfSomeFile, tokens_in_blocks};
-ghost use Rattle.idl_lex.specs.Tokens.{followers_on_line, lines_of};
+ghost use Rattle.std.specs.List.{All};
+ghost use Rattle.idl_lex.specs.Tokens.{is_text, lines_of};
 
 use crate::block::PlacedBlock;
 use crate::file_tokens::FileTokens;
-use crate::token::PlacedToken;
 use std::marker::Model;
 
 /// The tokens of a file that are left, from a place on. To every contract they are their list.
@@ -76,8 +76,7 @@ impl<'a> TokensLeft<'a> {
     {
         let placed = &self.blocks[self.block];
         let here = FileTokens::new(&placed.block, placed.lines_before as u32, self.place);
-        let (_first, followers) = here.as_slice().split_at(1);
-        let count = 1 + line_rest(followers);
+        let count = here.first_line_len();
         let (line, _rest) = here.split_at(count);
         let rest = TokensLeft::new(
             self.blocks,
@@ -87,12 +86,25 @@ impl<'a> TokensLeft<'a> {
         );
         (line, rest)
     }
-}
 
-// How many tokens stand on a line after its first one.
-fn line_rest(tokens: &[PlacedToken]) -> usize
-    ensures len { result ≡ followers_on_line tokens.now }
-    ensures within { result ≤ length tokens.now }
-{
-    tokens.iter().take_while(|token| !token.starts_line).count()
+    /// The tokens of the lines that come first before one that begins with `#`, or of some of these lines, and those after
+    /// them.
+    pub fn first_text(&self) -> (FileTokens<'a>, TokensLeft<'a>)
+        requires { 0 < length self.now }
+        ensures lines { lines_of self.now ≡ lines_of result.0 ++ lines_of result.1 }
+        ensures all { self.now ≡ result.0 ++ result.1 }
+        ensures text { All (λ line. is_text line ≡ true) (lines_of result.0) }
+    {
+        let placed = &self.blocks[self.block];
+        let here = FileTokens::new(&placed.block, placed.lines_before as u32, self.place);
+        let count = here.text_len();
+        let (text, _rest) = here.split_at(count);
+        let rest = TokensLeft::new(
+            self.blocks,
+            self.block,
+            self.place + count,
+            self.before + count,
+        );
+        (text, rest)
+    }
 }

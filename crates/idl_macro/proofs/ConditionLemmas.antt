@@ -1,7 +1,6 @@
 -- What the reading of `defined X` and a whole condition ask and tell, and what comes of them.
 use Rattle.std.proofs.Common.{◌≡◌, ℕ, zero, suc, List, [], ◌∷◌, ◌++◌, Option, None, Some, is_some, drop, refl, ap, sym, ◌∙◌, append_assoc}
 use Rattle.std.specs.Option.{option_map}
-use Rattle.std.proofs.lemmas.List.{map-append}
 use Rattle.idl_memo.specs.Query.{Done, Ask, Tell, and_then}
 use Rattle.idl_condition.specs.Arithmetic.{Value}
 use Rattle.idl_event.specs.Expanding.{Expanding, Reached, arrival, arrived}
@@ -97,7 +96,3 @@ module _ (bank : Key → Option Answer) where
       ap (λ v. arrival bank (judged place word v) r) is_found
       ∙ arrival-and_then bank (operand place definitions read) (λ ts. judged place word (value ts)) given q r is_given
       ∙ arrival-and_then bank (defined_read definitions (tokens_in operands)) (judging place word definitions) read p q is_read
-
--- a token more
-pub tokens_in-push : (items new : List PlacedToken) (u : PlacedToken) (v : Token) → new ≡ items ++ u ∷ [] → u.token ≡ v → tokens_in items ++ v ∷ [] ≡ tokens_in new
-tokens_in-push items new u v push same = ap (λ w. tokens_in items ++ w ∷ []) (sym same) ∙ sym (map-append (λ t. t.token) items (u ∷ [])) ∙ sym (ap tokens_in push)

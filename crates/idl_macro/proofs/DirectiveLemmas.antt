@@ -1,6 +1,6 @@
 -- What the directives of macros ask and tell, by what their operands are.
 use Rattle.std.proofs.Common.{◌≡◌, ℕ, Bool, if◌then◌else◌, List, Option, None, Some, Bor, is_some, refl, ap, ◌∙◌}
-use Rattle.std.specs.Option.{option_copied, option_map}
+use Rattle.std.specs.Option.{option_copied}
 use Rattle.idl_memo.specs.Query.{Done, Tell, and_then}
 use Rattle.idl_event.specs.Expanding.{Expanding, Reached, arrival, arrived}
 use Rattle.idl_event.specs.declared.code.Code.TheVariants.{MalformedMacro, OtherDefinition}
@@ -9,14 +9,14 @@ use Rattle.idl_event.specs.declared.event.Item.TheVariants.{Kept}
 use Rattle.idl_event.specs.declared.key.Answer.{Answer}
 use Rattle.idl_event.specs.declared.key.Key.{Key}
 use Rattle.idl_event.specs.declared.place.Place.{Place}
-use Rattle.idl_lex.specs.Tokens.{Token, tokens_in}
+use Rattle.idl_lex.specs.Tokens.{Token}
 use Rattle.idl_lex.specs.declared.token.PlacedToken.{PlacedToken}
 use Rattle.idl_macro.specs.Directives.{define, defining, definition_in, differs, first_word, is_macro_there, saying, undef}
 use Rattle.idl_macro.specs.Macros.{Definitions, macro_of}
 use Rattle.idl_macro.proofs.ArrivalLemmas.{arrival-and_then}
 
 -- what is there is there when it is read
-pub is_some-tokens : (body : Option (Bor (List PlacedToken))) → is_some body ≡ is_some (option_map tokens_in (option_copied body))
+pub is_some-tokens : (body : Option (Bor (List Token))) → is_some body ≡ is_some (option_copied body)
 is_some-tokens None = refl
 is_some-tokens (Some body) = refl
 

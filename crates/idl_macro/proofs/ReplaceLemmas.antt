@@ -16,14 +16,14 @@ use Rattle.idl_event.specs.declared.event.Item.TheVariants.{Turn}
 use Rattle.idl_event.specs.declared.key.Answer.{Answer}
 use Rattle.idl_event.specs.declared.key.Key.{Key}
 use Rattle.idl_event.specs.declared.place.Place.{Place}
-use Rattle.idl_lex.specs.Tokens.{Token, tokens_in}
+use Rattle.idl_lex.specs.Tokens.{Token}
 use Rattle.idl_lex.specs.declared.token.PlacedToken.{PlacedToken}
 use Rattle.idl_macro.specs.declared.replacement.Output.{Output}
 use Rattle.idl_macro.specs.declared.replacement.Output.TheVariants.{Text}
 
 -- a word in whose replacement the work stands, and what follows it
 abbrev pub Open : Type 0
-Open = List ℕ × Bor (List PlacedToken)
+Open = List ℕ × Bor (List Token)
 
 module _ (bank : Key → Option Answer) where
   -- where one comes to with two, one after the other
@@ -46,14 +46,14 @@ module _ (bank : Key → Option Answer) where
     -- these tokens inside these replacements, the innermost first, and what follows those
     abbrev pub pending : List Open → List Token → Expanding (List Token)
     pending [] tokens = each (within []) tokens
-    pending (f ∷ fs) tokens = followed_by (each (within (f ∷ fs)) tokens) (pending fs (tokens_in f.1.now))
+    pending (f ∷ fs) tokens = followed_by (each (within (f ∷ fs)) tokens) (pending fs f.1.now)
 
     -- the innermost replacement is at its end
-    pub reached-pending-end : (f : Open) (fs : List Open) (p : Reached) → reached bank (pending (f ∷ fs) []) p ≡ reached bank (pending fs (tokens_in f.1.now)) p
-    reached-pending-end f fs p = reached-followed_by (Done []) (pending fs (tokens_in f.1.now)) p
+    pub reached-pending-end : (f : Open) (fs : List Open) (p : Reached) → reached bank (pending (f ∷ fs) []) p ≡ reached bank (pending fs f.1.now) p
+    reached-pending-end f fs p = reached-followed_by (Done []) (pending fs f.1.now) p
 
-    pub outcome-pending-end : (f : Open) (fs : List Open) → outcome (pending (f ∷ fs) []) bank ≡ outcome (pending fs (tokens_in f.1.now)) bank
-    outcome-pending-end f fs = outcome-followed_by (Done []) (pending fs (tokens_in f.1.now))
+    pub outcome-pending-end : (f : Open) (fs : List Open) → outcome (pending (f ∷ fs) []) bank ≡ outcome (pending fs f.1.now) bank
+    outcome-pending-end f fs = outcome-followed_by (Done []) (pending fs f.1.now)
 
     -- the first token comes first
     pub reached-pending-first : (fs : List Open) (t : Token) (tokens : List Token) (p : Reached)
@@ -61,19 +61,19 @@ module _ (bank : Key → Option Answer) where
     reached-pending-first [] t tokens p = reached-followed_by (within [] t) (each (within []) tokens) p
     reached-pending-first (f ∷ fs) t tokens p =
         let rest = each (within (f ∷ fs)) tokens in
-        reached-followed_by (followed_by (within (f ∷ fs) t) rest) (pending fs (tokens_in f.1.now)) p
-        ∙ ap (reached bank (pending fs (tokens_in f.1.now))) (reached-followed_by (within (f ∷ fs) t) rest p)
-        ∙ sym (reached-followed_by rest (pending fs (tokens_in f.1.now)) (reached bank (within (f ∷ fs) t) p))
+        reached-followed_by (followed_by (within (f ∷ fs) t) rest) (pending fs f.1.now) p
+        ∙ ap (reached bank (pending fs f.1.now)) (reached-followed_by (within (f ∷ fs) t) rest p)
+        ∙ sym (reached-followed_by rest (pending fs f.1.now) (reached bank (within (f ∷ fs) t) p))
 
     pub outcome-pending-first : (fs : List Open) (t : Token) (tokens : List Token)
         → outcome (pending fs (t ∷ tokens)) bank ≡ outcome (within fs t) bank ++ outcome (pending fs tokens) bank
     outcome-pending-first [] t tokens = outcome-followed_by (within [] t) (each (within []) tokens)
     outcome-pending-first (f ∷ fs) t tokens =
         let rest = each (within (f ∷ fs)) tokens in
-        outcome-followed_by (followed_by (within (f ∷ fs) t) rest) (pending fs (tokens_in f.1.now))
-        ∙ ap (λ ts. ts ++ outcome (pending fs (tokens_in f.1.now)) bank) (outcome-followed_by (within (f ∷ fs) t) rest)
-        ∙ append_assoc (outcome (within (f ∷ fs) t) bank) (outcome rest bank) (outcome (pending fs (tokens_in f.1.now)) bank)
-        ∙ ap (λ ts. outcome (within (f ∷ fs) t) bank ++ ts) (sym (outcome-followed_by rest (pending fs (tokens_in f.1.now))))
+        outcome-followed_by (followed_by (within (f ∷ fs) t) rest) (pending fs f.1.now)
+        ∙ ap (λ ts. ts ++ outcome (pending fs f.1.now) bank) (outcome-followed_by (within (f ∷ fs) t) rest)
+        ∙ append_assoc (outcome (within (f ∷ fs) t) bank) (outcome rest bank) (outcome (pending fs f.1.now) bank)
+        ∙ ap (λ ts. outcome (within (f ∷ fs) t) bank ++ ts) (sym (outcome-followed_by rest (pending fs f.1.now)))
 
     -- what is made of a token, by the body that it is replaced by
     abbrev pub made : ℕ → List (List ℕ) → Token → Option (List Token) → Expanding (List Token)
@@ -114,22 +114,22 @@ module _ (bank : Key → Option Answer) where
         ∙ ap (λ ts. ts ++ outcome (pending fs tokens) bank) (outcome-replaced (room - length fs) (room - suc (length fs)) (keys_of fs) t None e none)
 
     -- a token that is replaced: a turn, and the tokens of the body, inside one replacement more
-    pub reached-pending-replaced : (fs : List Open) (t : Token) (tokens : Bor (List PlacedToken)) (body : List Token) (p : Reached) → length fs < room → outcome (replacement definitions (keys_of fs) t) bank ≡ Some body
-        → reached bank (pending fs (t ∷ tokens_in tokens.now)) p ≡ reached bank (pending ((t, tokens) ∷ fs) body) (after_item rules (Turn place) (reached bank (replacement definitions (keys_of fs) t) p))
+    pub reached-pending-replaced : (fs : List Open) (t : Token) (tokens : Bor (List Token)) (body : List Token) (p : Reached) → length fs < room → outcome (replacement definitions (keys_of fs) t) bank ≡ Some body
+        → reached bank (pending fs (t ∷ tokens.now)) p ≡ reached bank (pending ((t, tokens) ∷ fs) body) (after_item rules (Turn place) (reached bank (replacement definitions (keys_of fs) t) p))
     reached-pending-replaced fs t tokens body p lt found =
         let e : room - length fs ≡ suc (room - suc (length fs)) = omega arith in
         let q = after_item rules (Turn place) (reached bank (replacement definitions (keys_of fs) t) p) in
-        reached-pending-first fs t (tokens_in tokens.now) p
-        ∙ ap (reached bank (pending fs (tokens_in tokens.now))) (reached-replaced (room - length fs) (room - suc (length fs)) (keys_of fs) t (Some body) p e found)
-        ∙ sym (reached-followed_by (each (within ((t, tokens) ∷ fs)) body) (pending fs (tokens_in tokens.now)) q)
+        reached-pending-first fs t tokens.now p
+        ∙ ap (reached bank (pending fs tokens.now)) (reached-replaced (room - length fs) (room - suc (length fs)) (keys_of fs) t (Some body) p e found)
+        ∙ sym (reached-followed_by (each (within ((t, tokens) ∷ fs)) body) (pending fs tokens.now) q)
 
-    pub outcome-pending-replaced : (fs : List Open) (t : Token) (tokens : Bor (List PlacedToken)) (body : List Token) → length fs < room → outcome (replacement definitions (keys_of fs) t) bank ≡ Some body
-        → outcome (pending fs (t ∷ tokens_in tokens.now)) bank ≡ outcome (pending ((t, tokens) ∷ fs) body) bank
+    pub outcome-pending-replaced : (fs : List Open) (t : Token) (tokens : Bor (List Token)) (body : List Token) → length fs < room → outcome (replacement definitions (keys_of fs) t) bank ≡ Some body
+        → outcome (pending fs (t ∷ tokens.now)) bank ≡ outcome (pending ((t, tokens) ∷ fs) body) bank
     outcome-pending-replaced fs t tokens body lt found =
         let e : room - length fs ≡ suc (room - suc (length fs)) = omega arith in
-        outcome-pending-first fs t (tokens_in tokens.now)
-        ∙ ap (λ ts. ts ++ outcome (pending fs (tokens_in tokens.now)) bank) (outcome-replaced (room - length fs) (room - suc (length fs)) (keys_of fs) t (Some body) e found)
-        ∙ sym (outcome-followed_by (each (within ((t, tokens) ∷ fs)) body) (pending fs (tokens_in tokens.now)))
+        outcome-pending-first fs t tokens.now
+        ∙ ap (λ ts. ts ++ outcome (pending fs tokens.now) bank) (outcome-replaced (room - length fs) (room - suc (length fs)) (keys_of fs) t (Some body) e found)
+        ∙ sym (outcome-followed_by (each (within ((t, tokens) ∷ fs)) body) (pending fs tokens.now))
 
 module _ (bank : Key → Option Answer) (file : List ℕ) (definitions : Definitions) where
   -- a text is replaced token by token, each at its own place
@@ -147,3 +147,15 @@ module _ (bank : Key → Option Answer) (file : List ℕ) (definitions : Definit
   pub reached-text-nil : (p : Reached) → reached bank (text file definitions []) p ≡ p
   unfolding text
   reached-text-nil p = refl
+
+  -- two texts, end to end
+  pub reached-text-append : (front behind : List PlacedToken) (p : Reached)
+      → reached bank (text file definitions (front ++ behind)) p ≡ reached bank (text file definitions behind) (reached bank (text file definitions front) p)
+  unfolding text
+  reached-text-append [] behind p = refl
+  reached-text-append (t ∷ front) behind p =
+      let first = replaced_at (item_of Text (place_at file t)) (place_at file t) definitions (t.token ∷ []) in
+      let q = reached bank first p in
+      reached-followed_by bank first (text file definitions (front ++ behind)) p
+      ∙ reached-text-append front behind q
+      ∙ ap (reached bank (text file definitions behind)) (sym (reached-followed_by bank first (text file definitions front) p))

@@ -17,7 +17,7 @@ use crate::directive::Directive;
 use crate::replacement::replace_operand;
 use idl_condition::{Symbol, evaluate};
 use idl_event::{Code, Event, Item, Progress, RootBank};
-use idl_lex::{PlacedToken, Spelling, Token};
+use idl_lex::{Spelling, Token};
 use std::alloc::{AllocError, Global};
 
 /// `if` and `elif`: whether the condition of the tokens after the directive's word holds.
@@ -49,25 +49,25 @@ pub fn condition<B: RootBank>(
 // The tokens, in which each `defined X` is one token, `1` or `0`.
 fn read_defined<B: RootBank>(
     macros: &Macros<'_, B>,
-    operands: &[PlacedToken],
+    operands: &[Token],
     progress: &mut Progress<B>,
-) -> Result<Vec<PlacedToken>, AllocError>
-    ensures { IfOk result (λ read. arrived (tokens_in read.items) progress.new
+) -> Result<Vec<Token>, AllocError>
+    ensures { IfOk result (λ read. arrived read.items progress.new
         ≡ arrival (B.at macros.now.bank.now)
-        (defined_read macros.now.definitions.now (tokens_in operands.now)) progress.old) }
+        (defined_read macros.now.definitions.now operands.now) progress.old) }
 {
     let alloc = progress.allocator();
     let mut read = Vec::new(alloc);
     let mut left = operands;
-    'tokens: while let Some((placed, rest)) = left.split_first() {
-        match defined_at(placed, rest) {
+    'tokens: while let Some((token, rest)) = left.split_first() {
+        match defined_at(token, rest) {
             Some((word, after)) => {
                 let body = macros.definitions.macro_of(word, macros.bank, progress)?;
-                read.push(truth_at(alloc, placed, body.is_some())?)?;
+                read.push(truth_at(alloc, body.is_some())?)?;
                 left = after;
             }
             None => {
-                read.push(placed.clone()?)?;
+                read.push(token.clone()?)?;
                 left = rest;
             }
         }
@@ -77,41 +77,30 @@ fn read_defined<B: RootBank>(
 
 // The name that is asked for where a token and the rest of the tokens are a `defined X`, and what
 // follows it.
-fn defined_at<'a>(
-    first: &PlacedToken,
-    rest: &'a [PlacedToken],
-) -> Option<(&'a Spelling, &'a [PlacedToken])>
-    ensures { option_map (λ d. (d.0.now, tokens_in d.1.now)) result
-        ≡ option_map {U = Token × List Token} (λ d. (d.0, drop d.1 (tokens_in rest.entry.now)))
-        (defined_at first.now.token (tokens_in rest.entry.now)) }
+fn defined_at<'a>(first: &Token, rest: &'a [Token]) -> Option<(&'a Spelling, &'a [Token])>
+    ensures { option_map (λ d. (d.0.now, d.1.now)) result
+        ≡ option_map {U = Token × List Token} (λ d. (d.0, drop d.1 rest.entry.now))
+        (defined_at first.now rest.entry.now) }
 {
-    if first.token.as_bytes() != b"defined".as_slice() {
+    if first.as_bytes() != b"defined".as_slice() {
         return None;
     }
     match rest {
-        [name, after @ ..] if name.token.is_word() => Some((name.token.spelling(), after)),
+        [name, after @ ..] if name.is_word() => Some((name.spelling(), after)),
         [open, name, close, after @ ..]
-            if open.token.as_bytes() == b"(".as_slice()
-                && name.token.is_word()
-                && close.token.as_bytes() == b")".as_slice() => {
-            Some((name.token.spelling(), after))
-        }
+            if open.as_bytes() == b"(".as_slice()
+                && name.is_word()
+                && close.as_bytes() == b")".as_slice() => { Some((name.spelling(), after)) }
         _ => None,
     }
 }
 
 // The token `1` or `0` in the place of a `defined`.
-fn truth_at(alloc: Global, first: &PlacedToken, is_there: bool) -> Result<PlacedToken, AllocError>
-    ensures { IfOk result (λ placed. placed.token ≡ truth is_there) }
+fn truth_at(alloc: Global, is_there: bool) -> Result<Token, AllocError>
+    ensures { IfOk result (λ token. token ≡ truth is_there) }
 {
     let digit = if is_there { b"1" } else { b"0" };
-    let spelling = Spelling::from_slice(alloc, digit)?;
-    Ok(PlacedToken {
-        token: Token::new(spelling),
-        line: first.line,
-        starts_line: first.starts_line,
-        follows_word: first.follows_word,
-    })
+    Ok(Token::new(Spelling::from_slice(alloc, digit)?))
 }
 
 // The value of the tokens of a condition, if it has one.

@@ -13,7 +13,7 @@ ghost use Rattle.idl_macro.specs.Macros.{body_in, macro_of};
 use crate::digest::digest_of;
 use idl_base::{Marks, Table};
 use idl_event::{Answer, Progress, RootBank};
-use idl_lex::{PlacedToken, Spelling, TokenRange};
+use idl_lex::{Spelling, Token, TokenRange};
 use std::alloc::{AllocError, Global};
 use std::marker::Model;
 
@@ -70,9 +70,9 @@ impl Definitions {
         word: &Spelling,
         bank: &'a B,
         progress: &mut Progress<B>,
-    ) -> Result<Option<&'a [PlacedToken]>, AllocError>
+    ) -> Result<Option<&'a [Token]>, AllocError>
         ensures { IfOk result (λ body.
-            arrived (option_map tokens_in (option_copied body)) progress.new
+            arrived (option_copied body) progress.new
             ≡ arrival (B.at bank.now) (macro_of self.now word.now) progress.old) }
     {
         let digest = digest_of(word.as_bytes());
@@ -125,15 +125,15 @@ impl Definitions {
 }
 
 // The tokens of a body, if there is one.
-fn tokens_of(body: Option<&TokenRange>) -> Option<&[PlacedToken]>
-    ensures { option_map tokens_in (option_copied result) ≡ option_copied body.entry }
+fn tokens_of(body: Option<&TokenRange>) -> Option<&[Token]>
+    ensures { option_copied result ≡ option_copied body.entry }
 {
     Some(body?.as_slice())
 }
 
 // The tokens of the body that is answered, if one is.
-fn body_in(answer: Option<&Answer>) -> Option<&[PlacedToken]>
-    ensures { option_map tokens_in (option_copied result) ≡ body_in (option_copied answer.entry) }
+fn body_in(answer: Option<&Answer>) -> Option<&[Token]>
+    ensures { option_copied result ≡ body_in (option_copied answer.entry) }
 {
     match answer {
         Some(Answer::Macro(text)) => Some(text.tokens().as_slice()),

@@ -14,7 +14,7 @@ ghost use Rattle.idl_macro.specs.Directives.{define, undef, ifdef, ifndef, is_ma
 use crate::definitions::{Definitions, Macros};
 use crate::word::is_macro_word;
 use idl_event::{Answer, Code, Event, Item, Key, Place, Progress, RootBank};
-use idl_lex::{FileToken, FileTokens, PlacedToken, Spelling};
+use idl_lex::{FileToken, FileTokens, Spelling, Token};
 use std::alloc::AllocError;
 
 /// A directive where it stands: its word, and the tokens after that.
@@ -191,9 +191,9 @@ fn opens_parameters(token: &FileToken<'_>) -> bool
 }
 
 // Whether there is a macro with other tokens.
-fn differs(old: Option<&[PlacedToken]>, body: &[PlacedToken]) -> bool
+fn differs(old: Option<&[Token]>, body: &[Token]) -> bool
     ensures { result
-        ≡ differs (option_map tokens_in (option_copied old.entry)) (tokens_in body.now) }
+        ≡ differs (option_copied old.entry) body.now }
 {
     match old {
         Some(old) => !are_same(old, body),
@@ -202,14 +202,14 @@ fn differs(old: Option<&[PlacedToken]>, body: &[PlacedToken]) -> bool
 }
 
 // Whether two bodies have the same tokens, one after another.
-fn are_same(body: &[PlacedToken], other: &[PlacedToken]) -> bool
-    ensures { result ≡ same_tokens (tokens_in body.now) (tokens_in other.now) }
+fn are_same(body: &[Token], other: &[Token]) -> bool
+    ensures { result ≡ same_tokens body.now other.now }
 {
     if body.len() != other.len() {
         return false;
     }
-    'tokens: for (i, placed) in body.iter().enumerate() {
-        if placed.token != other[i].token {
+    'tokens: for (i, token) in body.iter().enumerate() {
+        if *token != other[i] {
             return false;
         }
     }

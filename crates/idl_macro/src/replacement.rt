@@ -9,9 +9,9 @@ ghost use Rattle.std.specs.Option.{option_copied, option_map};
 ghost use Rattle.std.specs.Str.{bytes_eq};
 ghost use Rattle.idl_memo.specs.Progress.{after_item};
 ghost use Rattle.idl_memo.specs.Query.{outcome};
-ghost use Rattle.idl_event.specs.Expanding.{Reached, after_tokens, arrival, arrived, reached};
+ghost use Rattle.idl_event.specs.Expanding.{Reached, after_text, arrival, arrived, reached};
 ghost use Rattle.idl_event.specs.Items.{rules, tokens_left, turns_left};
-ghost use Rattle.idl_lex.specs.Tokens.{Token, tokens_in};
+ghost use Rattle.idl_lex.specs.Tokens.{Token};
 ghost use Rattle.idl_macro.specs.Output.{given, given_more, item_of};
 ghost use Rattle.idl_macro.specs.declared.replacement.Output.TheVariants.{Text};
 ghost use Rattle.idl_macro.specs.Replace.{operand, replaced, replaced_at, replacement, text};
@@ -19,7 +19,7 @@ ghost use Rattle.idl_macro.specs.Replace.{operand, replaced, replaced_at, replac
 use crate::definitions::{Definitions, Macros};
 use idl_base::Table;
 use idl_event::{Answer, FileName, Item, Key, Place, Progress, RootBank};
-use idl_lex::{FileTokens, PlacedToken, Spelling, Token};
+use idl_lex::{FileTokens, Spelling, Token};
 use std::alloc::{AllocError, Global};
 use std::slice::from_ref;
 
@@ -32,8 +32,8 @@ pub enum Output {
     Operand(Vec<Token>),
 }
 
-/// The tokens of a text are replaced, each at its own place, and emitted. Most stand for themselves: those of a line are emitted
-/// at once, and a replacement begins only where there is a macro.
+/// The tokens of a text are replaced, each at its own place, and emitted. Most stand for themselves: those that follow one
+/// another are emitted at once, and a replacement begins only where there is a macro.
 #[inline(never)]
 #[tactic(auto, unfolding(crate::specs::Replace::text))]
 pub fn replace_text<B: RootBank>(
@@ -48,58 +48,53 @@ pub fn replace_text<B: RootBank>(
 {
     let mut left = tokens.copied();
     'tokens: while let Some((first, rest)) = left.split_first() {
+        let count = count_plain(macros, &left, progress)?;
+        if count > 0 {
+            let (plain, behind) = left.split_at(count);
+            progress.emit_text(file, &plain)?;
+            left = behind;
+            continue;
+        }
         let place = Place {
             file: file.clone()?,
             line: first.line(),
         };
-        let count = count_plain(macros, &place, &left, progress)?;
-        if count == 0 {
-            let first = TokensAt {
-                place: &place,
-                tokens: from_ref(first.placed()),
-            };
-            replace(macros, first, progress, &mut Output::Text)?;
-            left = rest;
-            continue;
-        }
-        let (plain, behind) = left.split_at(count);
-        progress.emit_all(place, plain.as_slice())?;
-        left = behind;
+        let first = TokensAt {
+            place: &place,
+            tokens: from_ref(first.token()),
+        };
+        replace(macros, first, progress, &mut Output::Text)?;
+        left = rest;
     }
     Ok(())
 }
 
-// How many tokens come first at a place that stand for themselves, where the limits leave as many as there are: these are to
-// be emitted. Their macros were asked for, and so may that of the next one be.
+// How many tokens come first that stand for themselves, where the limits leave as many as there are: these are to be emitted.
+// Their macros were asked for, and so may that of the next one be.
 fn count_plain<B: RootBank>(
     macros: &Macros<'_, B>,
-    place: &Place,
     tokens: &FileTokens<'_>,
     progress: &mut Progress<B>,
 ) -> Result<usize, AllocError>
     ensures within { IfOk result (λ count. count ≤ length tokens.now) }
     ensures room { IfOk result (λ count. count ≤ tokens_left progress.new.left) }
     ensures plain { let bank = B.at macros.now.bank.now in
-        let definitions = macros.now.definitions.now in let at = place.now in
+        let definitions = macros.now.definitions.now in (file : List ℕ) →
         IfOk result (λ count.
-        reached bank (text at.file definitions tokens.now) progress.old
-        ≡ reached bank (text at.file definitions (drop count tokens.now))
-        (after_tokens at (tokens_in (take count tokens.now)) progress.new)) }
+        reached bank (text file definitions tokens.now) progress.old
+        ≡ reached bank (text file definitions (drop count tokens.now))
+        (after_text file (take count tokens.now) progress.new)) }
 {
+    let tokens = tokens.as_slice();
     if progress.tokens_left() < tokens.len() {
         return Ok(0);
     }
     let mut count = 0;
-    let mut left = tokens.copied();
-    'tokens: while let Some((token, rest)) = left.split_first() {
-        if token.line() != place.line {
-            return Ok(count);
-        }
-        if body_of(macros, token.token(), progress)?.is_some() {
+    'tokens: while count < tokens.len() {
+        if body_of(macros, &tokens[count], progress)?.is_some() {
             return Ok(count);
         }
         count += 1;
-        left = rest;
     }
     Ok(count)
 }
@@ -110,8 +105,8 @@ fn body_of<'a, B: RootBank>(
     macros: &Macros<'a, B>,
     token: &Token,
     progress: &mut Progress<B>,
-) -> Result<Option<&'a [PlacedToken]>, AllocError>
-    ensures { IfOk result (λ body. arrived (option_map tokens_in (option_copied body)) progress.new
+) -> Result<Option<&'a [Token]>, AllocError>
+    ensures { IfOk result (λ body. arrived (option_copied body) progress.new
         ≡ arrival (B.at macros.now.bank.now)
         (replacement macros.now.definitions.now [] token.now) progress.old) }
 {
@@ -131,12 +126,12 @@ fn body_of<'a, B: RootBank>(
 pub fn replace_operand<B: RootBank>(
     macros: &Macros<'_, B>,
     place: &Place,
-    tokens: &[PlacedToken],
+    tokens: &[Token],
     progress: &mut Progress<B>,
 ) -> Result<Vec<Token>, AllocError>
     ensures { IfOk result (λ given. arrived given.items progress.new
         ≡ arrival (B.at macros.now.bank.now)
-        (operand place.now macros.now.definitions.now (tokens_in tokens.now)) progress.old) }
+        (operand place.now macros.now.definitions.now tokens.now) progress.old) }
 {
     let alloc = progress.allocator();
     let mut output = Output::Operand(Vec::new(alloc));
@@ -162,7 +157,7 @@ pub fn nesting()
 #[derive(Clone, Copy)]
 struct TokensAt<'a> {
     place: &'a Place,
-    tokens: &'a [PlacedToken],
+    tokens: &'a [Token],
 }
 
 // The tokens are replaced at their place. Words in whose replacement the work stands have an entry
@@ -178,15 +173,15 @@ fn replace<B: RootBank>(
         ≡ reached (B.at macros.now.bank.now)
         (replaced_at (item_of output.old source.entry.place.now) source.entry.place.now
         macros.now.definitions.now
-        (tokens_in source.entry.tokens.now)) progress.old) }
+        source.entry.tokens.now) progress.old) }
     ensures given { OnOk result (progress.new.left ≢ None → given output.new
         ≡ given_more (given output.old)
         (outcome
         (replaced_at (item_of output.old source.entry.place.now) source.entry.place.now
         macros.now.definitions.now
-        (tokens_in source.entry.tokens.now)) (B.at macros.now.bank.now))) }
+        source.entry.tokens.now) (B.at macros.now.bank.now))) }
 {
-    let mut stack: Table<Spelling, &[PlacedToken]> = Table::new(progress.allocator());
+    let mut stack: Table<Spelling, &[Token]> = Table::new(progress.allocator());
     let mut left = source.tokens;
     'steps: while !progress.is_over() {
         match left.split_first() {
@@ -194,20 +189,17 @@ fn replace<B: RootBank>(
                 None => return Ok(()),
                 Some((_word, rest)) => left = rest,
             },
-            Some((placed, rest)) => {
-                let token = &placed.token;
-                match replacement(&stack, macros, token, progress)? {
-                    None => {
-                        output.put(source.place, token, progress)?;
-                        left = rest;
-                    }
-                    Some(body) => {
-                        progress.tell(Item::Turn(source.place.clone()?))?;
-                        stack.insert(token.spelling().clone()?, rest)?;
-                        left = body;
-                    }
+            Some((token, rest)) => match replacement(&stack, macros, token, progress)? {
+                None => {
+                    output.put(source.place, token, progress)?;
+                    left = rest;
                 }
-            }
+                Some(body) => {
+                    progress.tell(Item::Turn(source.place.clone()?))?;
+                    stack.insert(token.spelling().clone()?, rest)?;
+                    left = body;
+                }
+            },
         }
     }
     Ok(())
@@ -216,12 +208,12 @@ fn replace<B: RootBank>(
 // The body that a token is replaced by: its macro's, if it is a word and doesn't stand in its own
 // replacement.
 fn replacement<'a, B: RootBank>(
-    stack: &Table<Spelling, &'a [PlacedToken]>,
+    stack: &Table<Spelling, &'a [Token]>,
     macros: &Macros<'a, B>,
     token: &Token,
     progress: &mut Progress<B>,
-) -> Result<Option<&'a [PlacedToken]>, AllocError>
-    ensures { IfOk result (λ body. arrived (option_map tokens_in (option_copied body)) progress.new
+) -> Result<Option<&'a [Token]>, AllocError>
+    ensures { IfOk result (λ body. arrived (option_copied body) progress.new
         ≡ arrival (B.at macros.now.bank.now)
         (replacement macros.now.definitions.now (keys_of (reverse stack.now)) token.now)
         progress.old) }

@@ -18,18 +18,11 @@ use Rattle.idl_groups.specs.Line.{Directive, Directed}
 use Rattle.idl_groups.specs.declared.kind.DirectiveKind.{DirectiveKind}
 use Rattle.idl_groups.specs.declared.kind.DirectiveKind.TheVariants.{Alone}
 use Rattle.idl_groups.specs.declared.kind.Plain.{Plain}
-use Rattle.idl_prep.specs.Directive.{Enter, effect, entering, first_spelling, include, including, is_of_idl, parted, plain_effect, plain_or, pragma, pragma_by}
+use Rattle.idl_prep.specs.Directive.{Enter, effect, entering, first_spelling, include, including, is_of_idl, plain_effect, plain_or, pragma, pragma_by}
 use Rattle.idl_prep.specs.Include.{Found, Operand, file_of, operand_of}
 use Rattle.idl_prep.specs.Place.{place_in}
 use Rattle.idl_prep.specs.State.{Said, Way, ended, onward, telling}
 use Rattle.idl_prep.proofs.WayLemmas.{arrival-then}
-
--- a text of tokens is that of the same tokens elsewhere
-pub parted-same : (tokens others : List PlacedToken) → tokens_in tokens ≡ tokens_in others → parted tokens ≡ parted others
-parted-same tokens others same =
-    let with_blank : Token → List ℕ = λ t. 32 ∷ t in
-    let token : PlacedToken → Token = λ t. t.token in
-    ap (drop 1) (sym (flat_map-map with_blank token tokens) ∙ ap (flat_map with_blank) same ∙ flat_map-map with_blank token others)
 
 module _ (bank : Key → Option Answer) (enter : Enter) (file : FileName) (d : Directive) where
   -- a directive of one line: a turn, and what it does

@@ -7,5 +7,6 @@ pub mod PassLemmas
 pub mod RootLemmas
 pub mod RootTaskLemmas
 pub mod StepLemmas
+pub mod TextLemmas
 pub mod WalkLemmas
 pub mod WayLemmas

@@ -9,7 +9,7 @@ use Rattle.idl_macro.specs.Condition.{condition}
 use Rattle.idl_macro.specs.Directives.{define, undef, ifdef, ifndef}
 use Rattle.idl_event.specs.Expanding.{Expanding}
 use Rattle.idl_macro.specs.Macros.{Definitions}
-use Rattle.idl_lex.specs.Tokens.{tokens_in}
+use Rattle.idl_lex.specs.Tokens.{Token, tokens_in}
 use Rattle.idl_macro.specs.Replace.{place_at, text}
 use Rattle.idl_event.specs.declared.file_name.FileName.{FileName}
 use Rattle.idl_event.specs.declared.code.Code.TheVariants as code
@@ -53,8 +53,8 @@ include enter file d s =
     and_then (operand_of (place_in file d) s.definitions d.operands) (including enter file d s)
 
 -- the tokens, parted by one blank: each has one before it, but the first
-abbrev pub parted : List PlacedToken → List ℕ
-parted tokens = drop 1 (flat_map (λ t. 32 ∷ t.token) tokens)
+abbrev pub parted : List Token → List ℕ
+parted tokens = drop 1 (flat_map (λ t. 32 ∷ t) tokens)
 
 -- one of the three pragmas that mean something to IDL
 abbrev pub is_of_idl : List ℕ → Bool
@@ -89,7 +89,7 @@ plain_effect enter file d s plain.Define =
 plain_effect enter file d s plain.Undef =
     and_then (undef (place_in file d) d.word.token s.definitions d.operands) (redefined s)
 plain_effect enter file d s plain.Error =
-    Tell (Kept (Fault (place_in file d) code.Error (Some (parted (d.word ∷ d.operands))))) (Done s)
+    Tell (Kept (Fault (place_in file d) code.Error (Some (parted (tokens_in (d.word ∷ d.operands)))))) (Done s)
 plain_effect enter file d s plain.Pragma = pragma file d s
 plain_effect enter file d s plain.Ignored = Done s
 plain_effect enter file d s plain.Unknown =

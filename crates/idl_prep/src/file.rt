@@ -8,7 +8,7 @@ ghost use Rattle.idl_prep.specs.State.{ended, onward};
 use crate::groups::Groups;
 use crate::inclusion::Inclusion;
 use crate::jump::jump;
-use crate::pass::{end_file, walk_line};
+use crate::pass::{end_file, walk_line, walk_texts};
 use crate::root::Root;
 use crate::site::Site;
 use idl_event::{Event, Item, LexedFile, RootBank};
@@ -30,6 +30,12 @@ pub fn walk_file<B: RootBank>(
     'lines: while !left.is_empty() {
         if root.is_over() {
             return Ok(());
+        }
+        let (text, behind) = left.first_text();
+        if !text.is_empty() {
+            walk_texts(root, &groups, site, &text)?;
+            left = jump(root, &groups, site.file, behind)?;
+            continue;
         }
         let (line, rest) = left.first_line();
         let inclusion = walk_line(root, &mut groups, site, &line)?;

@@ -1,10 +1,9 @@
 //! The lines of a file, as the preprocessor reads them.
 
-ghost use Rattle.std.specs.Prelude.{◌≡◌, ◌<◌, ◌++◌, ◌∷◌, IfOk, IsTrue, codes, length};
+ghost use Rattle.std.specs.Prelude.{◌≡◌, ◌<◌, ◌++◌, ◌∷◌, IfOk, codes, length};
 ghost use Rattle.std.specs.Str.{bytes_eq};
 ghost use Rattle.idl_lex.specs.Tokens.{lines_of};
 ghost use Rattle.idl_macro.specs.Replace.{place_at};
-ghost use Rattle.idl_groups.specs.Line as spec;
 ghost use Rattle.idl_groups.specs.Line.{after_hash, read};
 ghost use Rattle.idl_prep.specs.Place.{place_in};
 ghost use Rattle.idl_prep.specs.Read.{line_of};
@@ -103,16 +102,6 @@ pub enum Line<'t> {
     Text(FileTokens<'t>),
     NullDirective(u32),
     Directed(Directive<'t>),
-}
-
-/// Whether these tokens are a line of text, as those of most lines are.
-pub fn is_text(tokens: &FileTokens<'_>) -> bool
-    ensures { IsTrue result → read tokens.now ≡ spec.Text tokens.now }
-{
-    match tokens.split_first() {
-        Some((first, _rest)) => !is_hash(first.token()),
-        None => true,
-    }
 }
 
 /// The line that these tokens are: a directive where the first is `#`.

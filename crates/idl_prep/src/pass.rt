@@ -1,7 +1,8 @@
 //! One line of a file after another, inside the groups that are open.
 
-ghost use Rattle.std.specs.Prelude.{◌≡◌, ◌∷◌, [], List, Option, IfOk, OnOk};
+ghost use Rattle.std.specs.Prelude.{◌≡◌, ◌++◌, ◌∷◌, [], List, Option, IfOk, OnOk, map};
 ghost use Rattle.idl_memo.specs.Query.{and_then};
+ghost use Rattle.idl_lex.specs.Tokens.{lines_of};
 ghost use Rattle.idl_groups.specs.Line as spec;
 ghost use Rattle.idl_groups.specs.Line.{Directed, Text, NullDirective};
 ghost use Rattle.idl_groups.specs.Tree.{IsBranch, part};
@@ -13,7 +14,7 @@ ghost use Rattle.idl_prep.specs.State.{ended, onward};
 use crate::branch::{begin_branch, begin_group, end_group, skip_group};
 use crate::groups::Groups;
 use crate::inclusion::Inclusion;
-use crate::line::{Directive, Line, is_text, read};
+use crate::line::{Directive, Line, read};
 use crate::perform::{act_bare, act_directive, act_text};
 use crate::root::Root;
 use crate::site::Site;
@@ -36,27 +37,6 @@ pub fn walk_line<'b, B: RootBank>(
         onward bank (λ s. and_then (entered enter inclusion s) after) root.new
         ≡ to_come bank enter file groups.old (spec.read tokens.now ∷ lines) root.old) }
 {
-    if is_text(tokens) {
-        walk_text(root, groups, site, tokens)?;
-        return Ok(None);
-    }
-    walk_read(root, groups, site, tokens)
-}
-
-// The same of a line that is read, as few are that aren't text.
-#[inline(never)]
-fn walk_read<'b, B: RootBank>(
-    root: &mut Root<B>,
-    groups: &mut Groups,
-    site: &Site<'b, B>,
-    tokens: &FileTokens<'_>,
-) -> Result<Option<Inclusion<'b>>, AllocError>
-    ensures { let bank = B.at site.now.bank.now in let file = site.now.file.now in
-        IfOk result (λ inclusion. (enter : Enter) (lines : List spec.Line)
-        → let after = coming enter file groups.new (part lines) in
-        onward bank (λ s. and_then (entered enter inclusion s) after) root.new
-        ≡ to_come bank enter file groups.old (spec.read tokens.now ∷ lines) root.old) }
-{
     match read(tokens) {
         Line::Text(text) => {
             walk_text(root, groups, site, &text)?;
@@ -68,6 +48,25 @@ fn walk_read<'b, B: RootBank>(
         }
         Line::Directed(directive) => walk_directive(root, groups, site, &directive),
     }
+}
+
+/// Lines of text, one after another.
+pub fn walk_texts<B: RootBank>(
+    root: &mut Root<B>,
+    groups: &Groups,
+    site: &Site<'_, B>,
+    tokens: &FileTokens<'_>,
+) -> Result<(), AllocError>
+    ensures { let bank = B.at site.now.bank.now in let file = site.now.file.now in
+        OnOk result ((enter : Enter) (lines : List spec.Line)
+        → to_come bank enter file groups.now lines root.new
+        ≡ to_come bank enter file groups.now (map Text (lines_of tokens.now) ++ lines) root.old) }
+{
+    if !groups.is_walked() {
+        return Ok(());
+    }
+    root.emit(site, tokens)?;
+    Ok(())
 }
 
 // A line of text.

@@ -8,6 +8,7 @@ ghost use Rattle.idl_groups.specs.Line.{Text, NullDirective, Directed};
 ghost use Rattle.idl_groups.specs.declared.kind.DirectiveKind.TheVariants.{Alone};
 ghost use Rattle.idl_prep.specs.Directive.{Enter, effect, parted};
 ghost use Rattle.idl_prep.specs.Place.{place_in};
+ghost use Rattle.idl_lex.specs.Tokens.{tokens_in};
 ghost use Rattle.idl_prep.specs.Pass.{entered};
 ghost use Rattle.idl_prep.specs.State.{ended, onward, telling};
 
@@ -100,7 +101,7 @@ fn act_error<B: RootBank>(
     file: &FileName,
     directive: &Directive<'_>,
 ) -> Result<(), AllocError>
-    ensures { let text = parted (directive.now.word ∷ directive.now.operands) in
+    ensures { let text = parted (tokens_in (directive.now.word ∷ directive.now.operands)) in
         let fault = Fault (place_in file.now directive.now) Error (Some text) in
         OnOk result (root.new ≡ telling (Kept fault) root.old) }
 {

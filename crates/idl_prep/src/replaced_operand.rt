@@ -6,7 +6,7 @@ ghost use Rattle.idl_event.specs.Expanding.{arrival, arrived};
 
 use crate::operand::{Operand, operand_given, operand_in};
 use idl_event::{Item, Place, Progress, RootBank};
-use idl_lex::{FileTokens, PlacedToken};
+use idl_lex::{FileTokens, Token};
 use idl_macro::{Macros, replace_operand};
 use std::alloc::AllocError;
 use std::slice::from_ref;
@@ -24,7 +24,7 @@ pub fn operand_of<B: RootBank>(
         ≡ arrival (B.at macros.now.bank.now) query progress.old) }
 {
     match tokens.split_first() {
-        Some((first, _rest)) => Ok(operand_at(macros, place, first.placed(), progress)?),
+        Some((first, _rest)) => Ok(operand_at(macros, place, first.token(), progress)?),
         None => Ok(None),
     }
 }
@@ -33,14 +33,13 @@ pub fn operand_of<B: RootBank>(
 fn operand_at<B: RootBank>(
     macros: &Macros<'_, B>,
     place: &Place,
-    placed: &PlacedToken,
+    token: &Token,
     progress: &mut Progress<B>,
 ) -> Result<Option<Operand>, AllocError>
-    ensures { let query = operand_at place.now macros.now.definitions.now placed.now.token in
+    ensures { let query = operand_at place.now macros.now.definitions.now token.now in
         IfOk result (λ operand. arrived operand progress.new
         ≡ arrival (B.at macros.now.bank.now) query progress.old) }
 {
-    let token = &placed.token;
     if let Some(operand) = operand_in(token)? {
         progress.tell(Item::Counted(place.clone()?))?;
         return Ok(Some(operand));
@@ -54,7 +53,7 @@ fn operand_at<B: RootBank>(
     {
         None => Ok(None),
         Some(_body) => {
-            let given = replace_operand(macros, place, from_ref(placed), progress)?;
+            let given = replace_operand(macros, place, from_ref(token), progress)?;
             Ok(operand_given(&given)?)
         }
     }

@@ -3,7 +3,7 @@
 ghost use Rattle.std.specs.Prelude.{◌≡◌, IfOk};
 ghost use Rattle.idl_prep.specs.Directive.{parted};
 
-use idl_lex::{PlacedToken, Spelling};
+use idl_lex::{Spelling, Token};
 use std::alloc::{AllocError, Global};
 
 /// A text of these bytes.
@@ -14,13 +14,13 @@ pub fn text_of(alloc: Global, bytes: &[u8]) -> Result<Spelling, AllocError>
 }
 
 /// The text of the tokens, parted by one blank.
-pub fn parted(alloc: Global, tokens: &[PlacedToken]) -> Result<Spelling, AllocError>
+pub fn parted(alloc: Global, tokens: &[Token]) -> Result<Spelling, AllocError>
     ensures { IfOk result (λ text. text ≡ parted tokens.now) }
 {
     let mut text = Vec::new(alloc);
     'tokens: for token in tokens {
         text.extend_from_slice(b" ")?;
-        text.extend_from_slice(token.token.as_bytes())?;
+        text.extend_from_slice(token.as_bytes())?;
     }
     match text.as_slice() {
         [_blank, rest @ ..] => Ok(text_of(alloc, rest)?),

@@ -12,27 +12,23 @@ ghost use Rattle.idl_syntax.specs.Behind.{behind_view};
 
 use crate::version::version;
 use idl_base::Seq;
-use idl_lex::{Kind, Mark, PlacedToken, Spelling, decode};
+use idl_lex::{Kind, Mark, Spelling, Token, decode};
 use idl_tree::{Pragma, ScopedName};
 use std::alloc::{AllocError, Global};
 
 /// The pragma that these tokens are, from the word `pragma` on.
-pub fn pragma(alloc: Global, tokens: &[PlacedToken]) -> Result<Option<Pragma>, AllocError>
-    ensures { IfOk result (λ pragma. pragma ≡ pragma_of (tokens_in tokens.now)) }
+pub fn pragma(alloc: Global, tokens: &[Token]) -> Result<Option<Pragma>, AllocError>
+    ensures { IfOk result (λ pragma. pragma ≡ pragma_of tokens.now) }
 {
     match tokens {
-        [_pragma, word, operands @ ..] => pragma_by(alloc, word.token.as_bytes(), operands),
+        [_pragma, word, operands @ ..] => pragma_by(alloc, word.as_bytes(), operands),
         _ => Ok(None),
     }
 }
 
 /// The pragma with this word and these operands.
-fn pragma_by(
-    alloc: Global,
-    word: &[u8],
-    operands: &[PlacedToken],
-) -> Result<Option<Pragma>, AllocError>
-    ensures { IfOk result (λ pragma. pragma ≡ pragma_by word.now (tokens_in operands.now)) }
+fn pragma_by(alloc: Global, word: &[u8], operands: &[Token]) -> Result<Option<Pragma>, AllocError>
+    ensures { IfOk result (λ pragma. pragma ≡ pragma_by word.now operands.now) }
 {
     if word == b"prefix".as_slice() {
         return prefix(alloc, operands);
@@ -47,8 +43,8 @@ fn pragma_by(
 }
 
 /// A prefix with its text.
-fn prefix(alloc: Global, operands: &[PlacedToken]) -> Result<Option<Pragma>, AllocError>
-    ensures { IfOk result (λ pragma. pragma ≡ prefix_of (only (tokens_in operands.now))) }
+fn prefix(alloc: Global, operands: &[Token]) -> Result<Option<Pragma>, AllocError>
+    ensures { IfOk result (λ pragma. pragma ≡ prefix_of (only operands.now)) }
 {
     match operands {
         [token] => Ok(text(alloc, token)?.map(Pragma::Prefix)),
@@ -57,8 +53,8 @@ fn prefix(alloc: Global, operands: &[PlacedToken]) -> Result<Option<Pragma>, All
 }
 
 /// An id with its name and text.
-fn id(alloc: Global, operands: &[PlacedToken]) -> Result<Option<Pragma>, AllocError>
-    ensures { IfOk result (λ pragma. pragma ≡ id_of (name_before (tokens_in operands.now))) }
+fn id(alloc: Global, operands: &[Token]) -> Result<Option<Pragma>, AllocError>
+    ensures { IfOk result (λ pragma. pragma ≡ id_of (name_before operands.now)) }
 {
     let Some((name, last)) = name_before(alloc, operands)? else {
         return Ok(None);
@@ -70,24 +66,21 @@ fn id(alloc: Global, operands: &[PlacedToken]) -> Result<Option<Pragma>, AllocEr
 }
 
 /// A version with its name and numbers.
-fn versioned(alloc: Global, operands: &[PlacedToken]) -> Result<Option<Pragma>, AllocError>
-    ensures { IfOk result (λ pragma. pragma ≡ versioned (name_before (tokens_in operands.now))) }
+fn versioned(alloc: Global, operands: &[Token]) -> Result<Option<Pragma>, AllocError>
+    ensures { IfOk result (λ pragma. pragma ≡ versioned (name_before operands.now)) }
 {
     let Some((name, last)) = name_before(alloc, operands)? else {
         return Ok(None);
     };
-    match version(last.token.as_bytes()) {
+    match version(last.as_bytes()) {
         Some((major, minor)) => Ok(Some(Pragma::Version(name, major, minor))),
         None => Ok(None),
     }
 }
 
 /// A scoped name, and the one token behind it.
-fn name_before(
-    alloc: Global,
-    tokens: &[PlacedToken],
-) -> Result<Option<(ScopedName, &PlacedToken)>, AllocError>
-    ensures { IfOk result (λ read. behind_view read ≡ name_before (tokens_in tokens.now)) }
+fn name_before(alloc: Global, tokens: &[Token]) -> Result<Option<(ScopedName, &Token)>, AllocError>
+    ensures { IfOk result (λ read. behind_view read ≡ name_before tokens.now) }
 {
     match tokens {
         [first, rest @ ..] if is_separator(first) => name_from(alloc, true, rest),
@@ -99,9 +92,9 @@ fn name_before(
 fn name_from(
     alloc: Global,
     is_global: bool,
-    tokens: &[PlacedToken],
-) -> Result<Option<(ScopedName, &PlacedToken)>, AllocError>
-    ensures { IfOk result (λ read. behind_view read ≡ name_from is_global (tokens_in tokens.now)) }
+    tokens: &[Token],
+) -> Result<Option<(ScopedName, &Token)>, AllocError>
+    ensures { IfOk result (λ read. behind_view read ≡ name_from is_global tokens.now) }
 {
     let [first, rest @ ..] = tokens else {
         return Ok(None);
@@ -123,9 +116,9 @@ fn name_from(
 /// Further parts of a name, each behind `::`, and the one token behind them.
 fn further_parts(
     alloc: Global,
-    tokens: &[PlacedToken],
-) -> Result<Option<(Seq<Spelling>, &PlacedToken)>, AllocError>
-    ensures { IfOk result (λ read. behind_view read ≡ further_parts (tokens_in tokens.now)) }
+    tokens: &[Token],
+) -> Result<Option<(Seq<Spelling>, &Token)>, AllocError>
+    ensures { IfOk result (λ read. behind_view read ≡ further_parts tokens.now) }
 {
     let mut parts = Vec::new(alloc);
     let mut left = tokens;
@@ -146,27 +139,27 @@ fn further_parts(
 }
 
 /// The name that a token is, without an escape, shared with it.
-fn part(token: &PlacedToken) -> Result<Option<Spelling>, AllocError>
-    ensures { IfOk result (λ part. part ≡ part_of token.now.token) }
+fn part(token: &Token) -> Result<Option<Spelling>, AllocError>
+    ensures { IfOk result (λ part. part ≡ part_of token.now) }
 {
-    match token.token.kind() {
-        Kind::Miscased => Ok(Some(token.token.spelling().clone()?)),
-        _ => token.token.shared_name(),
+    match token.kind() {
+        Kind::Miscased => Ok(Some(token.spelling().clone()?)),
+        _ => token.shared_name(),
     }
 }
 
-fn is_separator(token: &PlacedToken) -> bool
-    ensures { result ≡ is_separator (kind_of token.now.token) }
+fn is_separator(token: &Token) -> bool
+    ensures { result ≡ is_separator (kind_of token.now) }
 {
-    matches!(token.token.kind(), Kind::Punctuation(Mark::ColonColon))
+    matches!(token.kind(), Kind::Punctuation(Mark::ColonColon))
 }
 
 /// The value of a narrow string literal.
-fn text(alloc: Global, token: &PlacedToken) -> Result<Option<Seq<u16>>, AllocError>
-    ensures { IfOk result (λ text. text ≡ text_of token.now.token) }
+fn text(alloc: Global, token: &Token) -> Result<Option<Seq<u16>>, AllocError>
+    ensures { IfOk result (λ text. text ≡ text_of token.now) }
 {
-    match token.token.kind() {
-        Kind::String => decode(alloc, token.token.as_bytes()),
+    match token.kind() {
+        Kind::String => decode(alloc, token.as_bytes()),
         _ => Ok(None),
     }
 }

@@ -1,5 +1,6 @@
 pub mod CutLemmas
 pub mod EndingLemmas
+pub mod FrontLemmas
 pub mod HarmlessLemmas
 pub mod HeldLemmas
 pub mod PartsLemmas

@@ -10,7 +10,7 @@ push-some [] x e = cc
 push-some (y ∷ front) x e = cc
 
 -- the first part of a list is the one that ends first
-part-first : {X : Type 0} (ends : List X → List X → Bool) (front back rest : List X) → back ≢ [] → ends (front ++ back) rest ≡ true
+pub part-first : {X : Type 0} (ends : List X → List X → Bool) (front back rest : List X) → back ≢ [] → ends (front ++ back) rest ≡ true
     → ((a b : List X) → back ≡ a ++ b → a ≢ [] → b ≢ [] → ends (front ++ a) (b ++ rest) ≡ false)
     → parts_after ends front (back ++ rest) ≡ (front ++ back) ∷ parts ends rest
 part-first ends front [] rest some end none = absurd (some refl)

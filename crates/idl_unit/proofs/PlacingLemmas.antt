@@ -346,7 +346,7 @@ begin-none text sites from inside outside le =
     )
 
 -- where the cut begins, it is within the text
-pub start-within : (cut : Cut) (events : List Numbered) → cut.text.now.value.items ≡ tokens_in events → cut.sites.now.value ≡ sites_in events
+pub start-within : (cut : Cut) (events : List Numbered) → cut.text.now ≡ tokens_in events → cut.sites.now.value ≡ sites_in events
     → cut.taken ≡ 0 → IsWithin cut
 start-within cut events text sites taken = record {
   length_same = ap length sites ∙ length-sites_in events ∙ sym (ap length text);
@@ -354,11 +354,11 @@ start-within cut events text sites taken = record {
 }
 
 -- and all units are to come
-pub start-to_come : (cut : Cut) (events : List Numbered) → cut.text.now.value.items ≡ tokens_in events → cut.sites.now.value ≡ sites_in events
+pub start-to_come : (cut : Cut) (events : List Numbered) → cut.text.now ≡ tokens_in events → cut.sites.now.value ≡ sites_in events
     → cut.units.items ≡ [] → cut.taken ≡ 0 → cut.inside ≡ 0 → to_come cut events ≡ units_in events
 start-to_come cut events text sites units taken inside =
     ap (λ l. l ++ placed (ahead cut) events) units
-    ∙ ap (λ n. placed (ahead_of (token_units (drop n cut.text.now.value.items)) (drop n cut.sites.now.value) cut.inside) events) taken
+    ∙ ap (λ n. placed (ahead_of (token_units (drop n cut.text.now)) (drop n cut.sites.now.value) cut.inside) events) taken
     ∙ ap (λ l. placed (ahead_of (token_units l) cut.sites.now.value cut.inside) events) text
     ∙ ap (λ l. placed (ahead_of (token_units (tokens_in events)) l cut.inside) events) sites
     ∙ ap (λ n. placed (ahead_of (token_units (tokens_in events)) (sites_in events) n) events) inside

@@ -1,5 +1,5 @@
 -- Words for the steps of the cut of events.
-use Rattle.std.specs.Prelude.{◌≡◌, ℕ, ◌-◌, ◌≤◌, List, [], ◌∷◌, ◌++◌, drop, length, nat_eq, nat_lt, take, if◌then◌else◌}
+use Rattle.std.specs.Prelude.{◌≡◌, ℕ, ◌-◌, ◌<◌, ◌≤◌, List, [], ◌∷◌, ◌++◌, drop, length, nat_eq, nat_lt, take, if◌then◌else◌}
 use Rattle.idl_event.specs.Apart.{Numbered}
 use Rattle.idl_event.specs.declared.event.Event.TheVariants as event
 use Rattle.idl_event.specs.declared.site.Site.{Site}
@@ -47,7 +47,7 @@ placed a ((n, other) ∷ events) = unit_in (nat_lt 0 a.inside) (n, other) ++ pla
 -- what is still to come of a cut
 abbrev pub ahead : Cut → Ahead
 ahead cut = record {
-  units = token_units (drop cut.taken cut.text.now.value.items);
+  units = token_units (drop cut.taken cut.text.now);
   sites = drop cut.taken cut.sites.now.value;
   inside = cut.inside;
 }
@@ -59,5 +59,12 @@ to_come cut events = cut.units.items ++ placed (ahead cut) events
 -- a token has one site, and the cut is within the text
 pub record IsWithin (cut : Cut) : Type 0 where
   pub length_same : length cut.sites.now.value
-      ≡ length cut.text.now.value.items
-  pub taken_at_most : cut.taken ≤ length cut.text.now.value.items
+      ≡ length cut.text.now
+  pub taken_at_most : cut.taken ≤ length cut.text.now
+
+-- the first unit of these tokens
+pub record IsFirstUnit (unit left : List Token) : Type 0 where
+  pub some : 0 < length unit
+  pub within : length unit ≤ length left
+  pub first : unit ≡ take (length unit) left
+  pub cut : token_units left ≡ unit ∷ token_units (drop (length unit) left)

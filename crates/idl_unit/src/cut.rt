@@ -1,18 +1,19 @@
 //! The cut of an expansion into units.
 
-ghost use Rattle.std.specs.Prelude.{◌≡◌, ◌∷◌, ◌++◌, ◌≤◌, ◌<◌, [], List, IfOk, IsFalse, IsTrue, OnOk, length};
+ghost use Rattle.std.specs.Prelude.{◌≡◌, ◌∷◌, ◌++◌, ◌≤◌, ◌<◌, [], List, IfNone, IfOk, IfSome, IsFalse, IsTrue, OnOk, drop, length, take};
 ghost use Rattle.std.specs.List.{enumerate_from};
 ghost use Rattle.idl_event.specs.Apart.{Numbered, site_at, sites_in, tokens_in};
 ghost use Rattle.idl_event.specs.Told.{event_told};
-ghost use Rattle.idl_unit.specs.Placing.{ahead, after_token, begun, IsWithin, to_come};
+ghost use Rattle.idl_lex.specs.Tokens.{Token as Bytes};
+ghost use Rattle.idl_unit.specs.Ending.{token_units};
+ghost use Rattle.idl_unit.specs.Placing.{ahead, after_token, begun, IsFirstUnit, IsWithin, to_come};
 ghost use Rattle.idl_unit.specs.Units.{units_of};
 
 use crate::ending::first_unit;
-use crate::run::Run;
 use crate::site_run::SiteRun;
 use crate::unit::{Unit, UnitText, Units};
-use idl_event::{Event, Events, Expansion, Place, Sites, Told};
-use idl_lex::Token;
+use idl_event::{Event, Events, Expansion, Place, Runs, Sites, Told};
+use idl_lex::{Token, TokenRange};
 use std::alloc::{AllocError, Global};
 use std::rc::Rc;
 
@@ -33,7 +34,7 @@ pub fn split(alloc: Global, expansion: &Expansion) -> Result<Units, AllocError>
 // How far the cut has come.
 #[derive(Drop)]
 struct Cut<'a> {
-    text: &'a Rc<Vec<Token>>,
+    text: &'a Runs,
     sites: &'a Rc<Sites>,
     units: Vec<Unit>,
     // How many tokens stand in the units so far.
@@ -44,7 +45,7 @@ struct Cut<'a> {
 
 impl<'a> Cut<'a> {
     fn new(alloc: Global, expansion: &'a Expansion) -> Cut<'a>
-        ensures text { result.text.now.value.items ≡ tokens_in (enumerate_from 0 expansion.now) }
+        ensures text { result.text.now ≡ tokens_in (enumerate_from 0 expansion.now) }
         ensures sites { result.sites.now.value ≡ sites_in (enumerate_from 0 expansion.now) }
         ensures units { result.units.items ≡ [] }
         ensures taken { result.taken ≡ 0 }
@@ -68,7 +69,7 @@ impl<'a> Cut<'a> {
         ensures none { IfOk result (λ more. IsFalse more → events.new ≡ []) }
     {
         if events.pass_tokens(1) == 1 {
-            self.put_token()?;
+            self.put_token(alloc)?;
             self.pass(events);
             return Ok(true);
         }
@@ -98,7 +99,7 @@ impl<'a> Cut<'a> {
             ≡ to_come self.old ((number, event_told event.entry) ∷ events)) }
     {
         match event {
-            Told::Emitted(_file, _line, _token) => self.put_token(),
+            Told::Emitted(_file, _line, _token) => self.put_token(alloc),
             Told::Other(event) => self.put_other(alloc, number, event),
         }
     }
@@ -111,7 +112,7 @@ impl<'a> Cut<'a> {
             → to_come self.new events ≡ to_come self.old ((number, event.now) ∷ events)) }
     {
         match event {
-            Event::Emitted(_place, _token) => self.put_token()?,
+            Event::Emitted(_place, _token) => self.put_token(alloc)?,
             Event::Entered(file) => self.units.push(Unit::Entered(file.clone()?))?,
             Event::Left(file) => self.units.push(Unit::Left(file.clone()?))?,
             Event::Pragma(place, tokens) => {
@@ -125,7 +126,7 @@ impl<'a> Cut<'a> {
     }
 
     // Puts in what a token more gives: a unit, unless it stands inside one.
-    fn put_token(&mut self) -> Result<(), AllocError>
+    fn put_token(&mut self, alloc: Global) -> Result<(), AllocError>
         requires within { IsWithin self.old }
         ensures within { OnOk result (IsWithin self.new) }
         ensures units { OnOk result (self.new.units.items
@@ -136,11 +137,11 @@ impl<'a> Cut<'a> {
             self.inside -= 1;
             return Ok(());
         }
-        self.begin()
+        self.begin(alloc)
     }
 
     // Puts in the unit that begins here.
-    fn begin(&mut self) -> Result<(), AllocError>
+    fn begin(&mut self, alloc: Global) -> Result<(), AllocError>
         requires within { IsWithin self.old }
         requires outside { self.old.inside ≡ 0 }
         ensures within { OnOk result (IsWithin self.new) }
@@ -148,15 +149,13 @@ impl<'a> Cut<'a> {
             ≡ self.old.units.items ++ begun (ahead self.old)) }
         ensures ahead { OnOk result (ahead self.new ≡ after_token (ahead self.old)) }
     {
-        let from = self.taken;
-        let text = self.text.as_slice();
         // Where no token is left, none begins.
-        if from == text.len() {
+        let Some(text) = self.next_unit(alloc)? else {
             return Ok(());
-        }
-        let len = first_unit(&text[from..]);
+        };
+        let len = text.len();
+        let from = self.taken;
         let to = from + len;
-        let text = Run::new(self.text.clone()?, from, to)?;
         let sites = SiteRun::new(self.sites.clone()?, from, to)?;
         let unit = Unit::Spelled(UnitText::Tokens(text), sites);
         self.units.reserve(1)?;
@@ -164,6 +163,50 @@ impl<'a> Cut<'a> {
         self.taken = to;
         self.inside = len - 1;
         Ok(())
+    }
+
+    // The unit of the tokens that are left, if there are some: shared with its run, unless it goes on behind that.
+    fn next_unit(&self, alloc: Global) -> Result<Option<TokenRange>, AllocError>
+        requires { self.now.taken ≤ length self.now.text.now }
+        ensures none { IfOk result (λ unit. IfNone unit
+            (length self.now.text.now ≤ self.now.taken)) }
+        ensures some { let left = drop self.now.taken self.now.text.now in
+            IfOk result (λ unit. IfSome unit (λ text. IsFirstUnit text left)) }
+    {
+        let Some((run, place)) = self.text.run_from(self.taken) else {
+            return Ok(None);
+        };
+        let (_before, front) = run.as_slice().split_at(place);
+        let len = self.first_len(alloc, front)?;
+        if len <= front.len() {
+            return Ok(Some(run.part(place, place + len)?));
+        }
+        let mut copies = self.text.gathered(alloc, self.taken, len)?;
+        Ok(Some(TokenRange::take(&mut copies)?))
+    }
+
+    // How many tokens the unit has that begins with these, which are in one run. Where they are not the last of the text and no
+    // token stands behind the unit, it may go on: it is looked for among copies then, twice as many each time.
+    fn first_len(&self, alloc: Global, front: &[Token]) -> Result<usize, AllocError>
+        requires within { self.now.taken ≤ length self.now.text.now }
+        requires some { 0 < length front.now }
+        requires front { (rest : List Bytes)
+            × (drop self.now.taken self.now.text.now ≡ front.now ++ rest) }
+        ensures cut { let left = drop self.now.taken self.now.text.now in
+            IfOk result (λ len. token_units left ≡ take len left ∷ token_units (drop len left)) }
+        ensures some { IfOk result (λ len. 0 < len) }
+        ensures within { IfOk result (λ len.
+            len ≤ length (drop self.now.taken self.now.text.now)) }
+    {
+        let left = self.text.len() - self.taken;
+        let mut len = first_unit(front);
+        let mut count = front.len();
+        'more: while len == count && count < left {
+            count = count.saturating_mul(2).min(left);
+            let tokens = self.text.gathered(alloc, self.taken, count)?;
+            len = first_unit(&tokens);
+        }
+        Ok(len)
     }
 }
 

@@ -4,11 +4,10 @@ ghost use Rattle.std.specs.Prelude.{◌≡◌};
 ghost use Rattle.std.proofs.Common.{ap};
 ghost use Rattle.idl_unit.specs.declared.unit.UnitText.TheVariants.{Tokens, Pragma};
 
-use crate::run::Run;
 use crate::site_run::SiteRun;
 use idl_base::Datum;
 use idl_event::FileName;
-use idl_lex::{Token, TokenRange};
+use idl_lex::TokenRange;
 use std::hash::Hash;
 use std::marker::Model;
 
@@ -16,7 +15,7 @@ use std::marker::Model;
 #[derive(Clone, PartialEq, Eq, Hash, Drop)]
 pub enum UnitText {
     /// Tokens of the text: an opening, a closing or a declaration.
-    Tokens(Run<Token>),
+    Tokens(TokenRange),
     /// A pragma from that word on, and whether it stands inside a unit of tokens.
     Pragma(TokenRange, bool),
 }

@@ -1,15 +1,16 @@
-use Rattle.std.proofs.Common.{◌≡◌, ◌≤◌, ◌+◌, ◌++◌, ◌∷◌, List, ℕ, ap, sym, subst, ◌∙◌, IfOk, Result, Ok, Err, [], arith, drop, length, map}
+use Rattle.std.proofs.Common.{◌≡◌, ◌≤◌, ◌+◌, ◌++◌, ◌∷◌, List, ℕ, ap, sym, subst, ◌∙◌, IfOk, Result, Ok, Err, [], arith, drop, length, map, true}
 use Rattle.std.proofs.lemmas.List.{drop_all, length-drop}
-use Rattle.idl_lex.specs.Tokens.{lines_of}
+use Rattle.idl_lex.specs.Tokens.{is_text, lines_of}
 use Rattle.idl_lex.specs.declared.token.PlacedToken.{PlacedToken}
-use Rattle.idl_groups.specs.Line.{Line, read}
+use Rattle.idl_groups.specs.Line.{Line, Text, lines_from, read}
 use Rattle.idl_groups.specs.Matching.{IsMatchedBy, IsSpan, lines_at}
 use Rattle.idl_groups.specs.declared.matching.Matching.{Matching}
 use Rattle.idl_groups.specs.declared.table.BranchTable.{BranchTable}
 use Rattle.std.specs.List.{All}
 use Rattle.std.specs.declared.alloc.AllocError.{AllocError}
 use Rattle.idl_groups.proofs.LeftLemmas.{behind-first, within-first}
-use Rattle.idl_groups.proofs.MatchedLemmas.{matched-alone}
+use Rattle.idl_groups.proofs.MatchedLemmas.{matched-alone, matched-texts}
+use Rattle.idl_groups.proofs.TextLemmas.{lines_from-text}
 use Rattle.idl_groups.proofs.grouped.match_groups.Goals as goal
 
 -- the first line at a place, and those after it
@@ -24,8 +25,41 @@ lines_at-end : (tokens : List PlacedToken) (at : ℕ) → length tokens ≤ at �
 unfolding lines_of
 lines_at-end tokens at end = ap (λ (ts : List PlacedToken). map read (lines_of ts)) (drop_all at tokens end)
 
+-- the lines of text at a place, and those after them
+lines_at-text : (tokens left text rest : List PlacedToken) (at count : ℕ) → left ≡ drop at tokens → lines_of left ≡ lines_of text ++ lines_of rest → All (λ line. is_text line ≡ true) (lines_of text)
+    → left ≡ text ++ rest → count ≡ length text → lines_at tokens at ≡ map Text (lines_of text) ++ lines_at tokens (at + count)
+lines_at-text tokens left text rest at count is lines texts all size =
+    ap lines_from (sym is)
+    ∙ lines_from-text left text rest lines texts
+    ∙ ap (λ (ts : List PlacedToken). map Text (lines_of text) ++ lines_from ts) (behind-first tokens left text rest at count is all size)
+
 pub lines-init : goal.lines-init
 lines-init c = record { within = omega arith; left = c.all-left.ensures.tokens; matched = c.new-matching.ensures (lines_at c.args.lexed.now) }
+
+pub overflow_add-at : goal.overflow_add-at
+overflow_add-at c =
+    let tokens = c.args.lexed.now in
+    let here = c.lines.invariant in
+    omega (arith, within-first tokens c.lines.left c.first_text-text.result.0 c.first_text-text.result.1 c.lines.at c.len-at.result here.left c.first_text-text.ensures.all c.len-at.ensures here.within, c.all-left.ensures.room)
+
+pub lines-preserved-then-not-is_empty : goal.lines-preserved-then-not-is_empty
+lines-preserved-then-not-is_empty c =
+    let tokens = c.args.lexed.now in
+    let left = c.lines.left in
+    let text = c.first_text-text.result.0 in
+    let rest = c.first_text-text.result.1 in
+    let at = c.lines.at in
+    let count = c.len-at.result in
+    let first = c.first_text-text.ensures in
+    let here = c.lines.invariant in
+    let m = c.lines.matching in
+    record {
+      within = within-first tokens left text rest at count here.left first.all c.len-at.ensures here.within;
+      left = behind-first tokens left text rest at count here.left first.all c.len-at.ensures;
+      matched =
+          matched-texts (lines_at tokens) at (at + count) (lines_of text) m.branches m.spans.items m.faults.items (omega arith)
+          (lines_at-text tokens left text rest at count here.left first.lines first.text first.all c.len-at.ensures) here.matched;
+    }
 
 pub overflow_add-after : goal.overflow_add-after
 overflow_add-after c =

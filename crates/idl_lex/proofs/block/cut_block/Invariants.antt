@@ -9,7 +9,7 @@ abbrev pub invariant-lines : goal.invariant-lines
 invariant-lines l = record {
   within : l.count ≤ length l.lines;
   tokens : (rest : List (List ℕ)) → IsClosed l.lines l.count rest
-      → l.tokens.items ++ coming l.before (joined (l.count + 1) rest) ≡ tokens_of (take l.count l.lines ++ rest);
+      → l.tokens ++ coming l.before (joined (l.count + 1) rest) ≡ tokens_of (take l.count l.lines ++ rest);
 }
 
 abbrev pub decreases-lines : goal.decreases-lines

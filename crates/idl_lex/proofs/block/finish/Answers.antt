@@ -6,7 +6,7 @@ use Rattle.idl_lex.proofs.block.finish.Goals as goal
 
 pub returns-in-Fresh : goal.returns-in-Fresh
 returns-in-Fresh c =
-    let tokens = c.args.tokens.now.items in
+    let tokens = c.args.tokens.now in
     sym (append-nil tokens)
     ∙ ap (λ ts. tokens ++ ts) (sym (tokens_after-nil line_start))
     ∙ ap (λ before. tokens ++ coming before []) (sym c.in-Fresh.is)

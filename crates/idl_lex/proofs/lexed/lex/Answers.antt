@@ -22,7 +22,7 @@ cut-preserved c =
     let is : IsBlock (drop count lines) block = subst (λ ls. IsBlock ls block) (take_rest lines count) c.in_ok-block.ensures in
     let there : c.push.new.self.items ≡ blocks ++ b ∷ [] = search rules in
     let same : c.deref.result.now.lines ≡ block.lines = ap (λ (x : Block). x.lines) c.deref.ensures in
-    let more : c.in_ok-tokens.tokens ≡ c.cut.tokens + length block.tokens.items = c.in_ok-tokens.ensures.sum ∙ ap (λ (x : Block). c.cut.tokens + length x.tokens.items) c.deref-in-cut.ensures in
+    let more : c.in_ok-tokens.tokens ≡ c.cut.tokens + length block.tokens = c.in_ok-tokens.ensures.sum ∙ ap (λ (x : Block). c.cut.tokens + length x.tokens) c.deref-in-cut.ensures in
     let here = c.cut.invariant in
     record {
       within = omega (arith, same, is.within, length-drop count lines, here.within);

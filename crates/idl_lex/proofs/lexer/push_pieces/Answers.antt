@@ -27,8 +27,8 @@ pieces-preserved-then-is_space c =
       within = omega (arith, within);
       closing = c.pieces.invariant.closing;
       tokens = λ newline rest.
-          ap (λ x. c.pieces.tokens.items ++ tokens_after x 0 (drop (i + 1) line ++ ended newline rest)) after
-          ∙ ap (λ ts. c.pieces.tokens.items ++ ts) (sym (tokens_after-space now line i newline rest within white))
+          ap (λ x. c.pieces.tokens ++ tokens_after x 0 (drop (i + 1) line ++ ended newline rest)) after
+          ∙ ap (λ ts. c.pieces.tokens ++ ts) (sym (tokens_after-space now line i newline rest within white))
           ∙ c.pieces.invariant.tokens newline rest;
     }
 
@@ -74,9 +74,9 @@ pieces-preserved-then-begins_word c =
       closing = c.pieces.invariant.closing;
       tokens = λ newline rest.
           ap (λ ts. ts ++ tokens_after c.after_word-now.result 0 (drop end line ++ ended newline rest)) c.in_ok-push_word.ensures
-          ∙ append_assoc c.pieces.tokens.items (token ∷ []) (tokens_after c.after_word-now.result 0 (drop end line ++ ended newline rest))
-          ∙ ap (λ x. c.pieces.tokens.items ++ (token ∷ tokens_after x 0 (drop end line ++ ended newline rest))) after
-          ∙ ap (λ ts. c.pieces.tokens.items ++ ts) (sym (at.token newline rest))
+          ∙ append_assoc c.pieces.tokens (token ∷ []) (tokens_after c.after_word-now.result 0 (drop end line ++ ended newline rest))
+          ∙ ap (λ x. c.pieces.tokens ++ (token ∷ tokens_after x 0 (drop end line ++ ended newline rest))) after
+          ∙ ap (λ ts. c.pieces.tokens ++ ts) (sym (at.token newline rest))
           ∙ c.pieces.invariant.tokens newline rest;
     }
 
@@ -103,10 +103,10 @@ pieces-preserved-then-is_lone_mark c =
       within = omega (arith, within);
       closing = c.pieces.invariant.closing;
       tokens = λ newline rest.
-          ap (λ ts. ts ++ tokens_after c.after_mark-now.result 0 (drop (i + 1) line ++ ended newline rest)) c.in_ok-push.ensures.items
-          ∙ append_assoc c.pieces.tokens.items (c.mark.result ∷ []) (tokens_after c.after_mark-now.result 0 (drop (i + 1) line ++ ended newline rest))
-          ∙ (λ k. c.pieces.tokens.items ++ (token k ∷ tokens_after (after k) 0 (drop (i + 1) line ++ ended newline rest)))
-          ∙ ap (λ ts. c.pieces.tokens.items ++ ts) (sym (tokens_after-lone now line i newline rest within lone))
+          ap (λ ts. ts ++ tokens_after c.after_mark-now.result 0 (drop (i + 1) line ++ ended newline rest)) c.in_ok-push.ensures
+          ∙ append_assoc c.pieces.tokens (c.mark.result ∷ []) (tokens_after c.after_mark-now.result 0 (drop (i + 1) line ++ ended newline rest))
+          ∙ (λ k. c.pieces.tokens ++ (token k ∷ tokens_after (after k) 0 (drop (i + 1) line ++ ended newline rest)))
+          ∙ ap (λ ts. c.pieces.tokens ++ ts) (sym (tokens_after-lone now line i newline rest within lone))
           ∙ c.pieces.invariant.tokens newline rest;
     }
 
@@ -124,7 +124,7 @@ returns-then-is_open c = λ newline rest.
     c.new-token.ensures
     ∙ ap (λ bs. token_of now bs c.line_at-then-is_open.result) (c.in_ok-spelling.ensures ∙ opening-spelled now line i end within is opened)
     ∙ ap (λ n. token_of now (codes "/*") n) c.line_at-then-is_open.ensures in
-    ap (λ ts. c.pieces.tokens.items ++ ts)
+    ap (λ ts. c.pieces.tokens ++ ts)
     (ap (λ o. after_comment o.token o.context rest) c.in_ok-opening.ensures.ok
     ∙ ap (λ t. after_comment t c.after-context.result rest) token
     ∙ ap (λ x. after_comment (token_of now (codes "/*") (line_at line i)) x rest) c.after-context.ensures
@@ -148,9 +148,9 @@ pieces-preserved c =
       within = omega (arith, c.piece_end-end.ensures.within, ap length same, length-bytes_of line);
       tokens = λ newline rest.
           ap (λ ts. ts ++ tokens_after c.after-now.result 0 (drop end line ++ ended newline rest)) c.in_ok-push_piece.ensures
-          ∙ append_assoc c.pieces.tokens.items token (tokens_after c.after-now.result 0 (drop end line ++ ended newline rest))
-          ∙ ap (λ x. c.pieces.tokens.items ++ (token ++ tokens_after x 0 (drop end line ++ ended newline rest))) after
-          ∙ ap (λ ts. c.pieces.tokens.items ++ ts) (sym (tokens_after-piece_of now line i end newline rest within is closed))
+          ∙ append_assoc c.pieces.tokens token (tokens_after c.after-now.result 0 (drop end line ++ ended newline rest))
+          ∙ ap (λ x. c.pieces.tokens ++ (token ++ tokens_after x 0 (drop end line ++ ended newline rest))) after
+          ∙ ap (λ ts. c.pieces.tokens ++ ts) (sym (tokens_after-piece_of now line i end newline rest within is closed))
           ∙ c.pieces.invariant.tokens newline rest;
     }
 
@@ -158,7 +158,7 @@ pub returns : goal.returns
 returns c = λ newline rest.
     let line = c.args.line.now in
     let past : length line ≤ c.pieces.i = omega (arith, c.pieces-test.false, ap length c.as_bytes-bytes.ensures, length-bytes_of line) in
-    ap (λ ts. c.pieces.tokens.items ++ ts)
+    ap (λ ts. c.pieces.tokens ++ ts)
     (sym (ap (λ ps. tokens_after c.pieces.now 0 (ps ++ ended newline rest)) (drop_all c.pieces.i line past)
     ∙ tokens_after-newline c.pieces.now newline rest))
     ∙ c.pieces.invariant.tokens newline rest

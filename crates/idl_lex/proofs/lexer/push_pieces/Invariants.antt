@@ -10,8 +10,8 @@ invariant-pieces l = record {
   within : l.i ≤ length l.line;
   closing : IfSome l.closing (λ end. end ≡ closing_end l.bytes);
   tokens : (newline : ℕ) → (rest : List Placed) →
-      l.tokens.items ++ tokens_after l.now 0 (drop l.i l.line ++ ended newline rest)
-      ≡ l.initial.tokens.items ++ tokens_after l.fn.context 0 (drop l.fn.from l.line ++ ended newline rest);
+      l.tokens ++ tokens_after l.now 0 (drop l.i l.line ++ ended newline rest)
+      ≡ l.initial.tokens ++ tokens_after l.fn.context 0 (drop l.fn.from l.line ++ ended newline rest);
 }
 
 abbrev pub decreases-pieces : goal.decreases-pieces

@@ -1,6 +1,6 @@
 use Rattle.std.proofs.Common.{None, Some, true, false, ap, ◌∙◌}
 use Rattle.std.proofs.lemmas.Result.{on_ok_weaker}
-use Rattle.std.specs.Option.{option_copied, option_map}
+use Rattle.std.specs.Option.{option_copied}
 use Rattle.idl_event.specs.Expanding.{arrival, arrived}
 use Rattle.idl_lex.specs.Tokens.{tokens_in}
 use Rattle.idl_macro.specs.Directives.{differs, saying}
@@ -18,17 +18,17 @@ returns-in_default g c =
 pub returns-then-differs : goal.returns-then-differs
 returns-then-differs g c =
     let it = c.args.directive.now in
-    let old = option_map tokens_in (option_copied c.in_ok-old.old) in
+    let old = option_copied c.in_ok-old.old in
     on_ok_weaker c.other_definition.result
     (λ told. ap (arrived c.args.definitions.now) told
     ∙ arrival-define it.place it.word.now c.args.definitions.now it.operands (g.B.Bank.at c.args.bank.now) c.args.progress.now c.macro_of.new.progress
-    c.in-Some.word.now (tokens_in c.in-Some.body) old c.in-Some.ensures c.in_ok-old.ensures true (c.if-differs.ensures ∙ ap (differs old) c.as_slice.ensures.tokens))
+    c.in-Some.word.now (tokens_in c.in-Some.body) old c.in-Some.ensures c.in_ok-old.ensures true (c.if-differs.ensures ∙ ap (differs old) c.as_slice.ensures))
     c.other_definition.ensures
 
 pub returns : goal.returns
 returns g c =
     let it = c.args.directive.now in
-    let old = option_map tokens_in (option_copied c.in_ok-old.old) in
+    let old = option_copied c.in_ok-old.old in
     ap (λ definitions. arrived definitions c.macro_of.new.progress) (c.in_ok-define.ensures.ok ∙ ap (λ body. saying c.args.definitions.now c.in-Some.word.now (Some body)) c.in_ok-shared.ensures)
     ∙ arrival-define it.place it.word.now c.args.definitions.now it.operands (g.B.Bank.at c.args.bank.now) c.args.progress.now c.macro_of.new.progress
-    c.in-Some.word.now (tokens_in c.in-Some.body) old c.in-Some.ensures c.in_ok-old.ensures false (c.if-differs.ensures ∙ ap (differs old) c.as_slice.ensures.tokens)
+    c.in-Some.word.now (tokens_in c.in-Some.body) old c.in-Some.ensures c.in_ok-old.ensures false (c.if-differs.ensures ∙ ap (differs old) c.as_slice.ensures)

@@ -1,8 +1,7 @@
 use Rattle.std.proofs.Common.{None, Some, is_some, ap, ◌∙◌}
-use Rattle.std.specs.Option.{option_copied, option_map}
+use Rattle.std.specs.Option.{option_copied}
 use Rattle.idl_memo.specs.Query.{Done}
 use Rattle.idl_event.specs.Expanding.{arrival, arrived}
-use Rattle.idl_lex.specs.Tokens.{tokens_in}
 use Rattle.idl_macro.specs.Macros.{macro_of}
 use Rattle.idl_macro.proofs.ArrivalLemmas.{arrival-and_then}
 use Rattle.idl_macro.proofs.DirectiveLemmas.{is_macro_there-by, is_some-tokens}
@@ -16,7 +15,7 @@ returns-in_ok-body-in-Some g c =
     let word = c.in-Some.word.now in
     let found = c.in_ok-body-in-Some in
     ap (λ there. arrived (Some there) c.macro_of.new.progress) (c.is_some.ensures ∙ is_some-tokens found.body)
-    ∙ arrival-and_then bank (macro_of definitions word) (λ body. Done (Some (is_some body))) (option_map tokens_in (option_copied found.body)) c.args.progress.now c.macro_of.new.progress found.ensures
+    ∙ arrival-and_then bank (macro_of definitions word) (λ body. Done (Some (is_some body))) (option_copied found.body) c.args.progress.now c.macro_of.new.progress found.ensures
     ∙ ap (λ query. arrival bank query c.args.progress.now)
     (is_macro_there-by it.place it.word.now definitions it.operands (Some word) c.in-Some.ensures)
 

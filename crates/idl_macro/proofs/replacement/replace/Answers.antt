@@ -1,7 +1,7 @@
 -- Each step makes a part of what is pending, and leaves the rest.
 use Rattle.std.proofs.Common.{◌≡◌, ℕ, ◌+◌, ◌<◌, List, [], ◌∷◌, ◌++◌, Option, None, Some, Bor, length, reverse, sym, ap, ◌∙◌, subst}
 use Rattle.std.specs.Map.{keys_of}
-use Rattle.std.specs.Option.{option_copied, option_map}
+use Rattle.std.specs.Option.{option_copied}
 use Rattle.std.proofs.lemmas.List.{length-reverse, nil_from_length, reverse-append, length-append}
 use Rattle.idl_memo.specs.Progress.{after_item}
 use Rattle.idl_memo.proofs.ProgressLaws.{progress_after-over}
@@ -12,8 +12,7 @@ use Rattle.idl_event.specs.Key.{key_eq}
 use Rattle.idl_event.specs.Limits.{turns_at_most}
 use Rattle.idl_event.specs.declared.allowance.Allowance.{Allowance}
 use Rattle.idl_event.specs.declared.event.Item.TheVariants.{Turn}
-use Rattle.idl_lex.specs.Tokens.{Token, tokens_in}
-use Rattle.idl_lex.specs.declared.token.PlacedToken.{PlacedToken}
+use Rattle.idl_lex.specs.Tokens.{Token}
 use Rattle.idl_macro.specs.Output.{given, given_more, item_of}
 use Rattle.idl_macro.specs.Replace.{replacement}
 use Rattle.idl_macro.proofs.AllowanceLemmas.{IsWithinTurns, IsWithinTurns-closed, IsWithinTurns-put, IsWithinTurns-room, IsWithinTurns-turn, left-step, left_by, not_over, replacement-found, work_left, work_left-put, work_left-turn}
@@ -23,8 +22,8 @@ use Rattle.idl_macro.proofs.ReplaceLemmas.{Open, pending, reached-pending-end, o
 use Rattle.idl_macro.proofs.replacement.replace.Goals as goal
 
 -- what is found
-abbrev body_of : Option (Bor (List PlacedToken)) → Option (List Token)
-body_of body = option_map tokens_in (option_copied body)
+abbrev body_of : Option (Bor (List Token)) → Option (List Token)
+body_of body = option_copied body
 
 pub steps-preserved-in-Some-pop : goal.steps-preserved-in-Some-pop
 steps-preserved-in-Some-pop g c =
@@ -39,11 +38,11 @@ steps-preserved-in-Some-pop g c =
     let top : reverse c.steps.stack ≡ f ∷ below = ap reverse popped.entries ∙ reverse-append c.pop.new.self (f ∷ []) in
     record {
       progress = inv.progress
-          ∙ ap (λ (ts : List PlacedToken). reached bank (part (reverse c.steps.stack) (tokens_in ts)) c.steps.progress) nothing
+          ∙ ap (λ (ts : List Token). reached bank (part (reverse c.steps.stack) ts) c.steps.progress) nothing
           ∙ ap (λ (fs : List Open). reached bank (part fs []) c.steps.progress) top
           ∙ reached-pending-end bank item c.args.source.place.now c.args.macros.now.definitions.now (turns_at_most + 1) f below c.steps.progress;
       given = inv.given
-          ∙ ap (λ (ts : List PlacedToken). given_more (given c.steps.output) (outcome (part (reverse c.steps.stack) (tokens_in ts)) bank)) nothing
+          ∙ ap (λ (ts : List Token). given_more (given c.steps.output) (outcome (part (reverse c.steps.stack) ts) bank)) nothing
           ∙ ap (λ (fs : List Open). given_more (given c.steps.output) (outcome (part fs []) bank)) top
           ∙ ap (given_more (given c.steps.output)) (outcome-pending-end bank item c.args.source.place.now c.args.macros.now.definitions.now (turns_at_most + 1) f below);
       item = inv.item;
@@ -53,7 +52,7 @@ steps-preserved-in-Some-pop g c =
 pub steps-smaller-in-None-2 : goal.steps-smaller-in-None-2
 steps-smaller-in-None-2 g c =
     let place = c.args.source.place.now in
-    let t = c.in-Some.placed.now.token in
+    let t = c.in-Some.token.now in
     let it = item_of c.steps.output place t in
     let spent : c.put.new.progress.left ≡ left_by it c.steps.progress.left =
     left-step (g.B.Bank.at c.args.macros.now.bank.now) c.args.macros.now.definitions.now (keys_of (reverse c.steps.stack)) t it
@@ -72,8 +71,8 @@ steps-preserved-in-None-2 g c =
     let item = item_of c.args.output.now place in
     let part = pending bank item place definitions (turns_at_most + 1) in
     let fs = reverse c.steps.stack in
-    let t = c.in-Some.placed.now.token in
-    let rest = tokens_in c.in-Some.rest.now in
+    let t = c.in-Some.token.now in
+    let rest = c.in-Some.rest.now in
     let it = item_of c.steps.output place t in
     let asked = c.in_ok-replacement-in-Some in
     let put = c.in_ok-put-in-None-2.ensures in
@@ -88,11 +87,11 @@ steps-preserved-in-None-2 g c =
     left-step bank definitions (keys_of fs) t it (body_of asked.field-0) c.steps.progress c.replacement.new.progress c.put.new.progress asked.ensures put.progress in
     record {
       progress = inv.progress
-          ∙ ap (λ (ts : List PlacedToken). reached bank (part fs (tokens_in ts)) c.steps.progress) c.in-Some.ensures.cases.0
+          ∙ ap (λ (ts : List Token). reached bank (part fs ts) c.steps.progress) c.in-Some.ensures.cases.0
           ∙ reached-pending-stands bank item place definitions (turns_at_most + 1) fs t rest c.steps.progress room none
           ∙ ap (reached bank (part fs rest)) (sym told);
       given = inv.given
-          ∙ ap (λ (ts : List PlacedToken). given_more (given c.steps.output) (outcome (part fs (tokens_in ts)) bank)) c.in-Some.ensures.cases.0
+          ∙ ap (λ (ts : List Token). given_more (given c.steps.output) (outcome (part fs ts) bank)) c.in-Some.ensures.cases.0
           ∙ ap (given_more (given c.steps.output)) (outcome-pending-stands bank item place definitions (turns_at_most + 1) fs t rest room none)
           ∙ given_more-append (given c.steps.output) (t ∷ []) (outcome (part fs rest) bank)
           ∙ ap (λ (o : Option (List Token)). given_more o (outcome (part fs rest) bank)) (sym put.given);
@@ -107,8 +106,8 @@ steps-smaller g c =
     let bank = g.B.Bank.at c.args.macros.now.bank.now in
     let definitions = c.args.macros.now.definitions.now in
     let hidden = keys_of (reverse c.steps.stack) in
-    let t = c.in-Some.placed.now.token in
-    let body = tokens_in c.in-Some-2.body.now in
+    let t = c.in-Some.token.now in
+    let body = c.in-Some-2.body.now in
     let asked = c.in_ok-replacement-in-Some in
     let spent : c.tell.new.self.left ≡ left_by (Turn place) c.steps.progress.left =
     left-step bank definitions hidden t (Turn place) (body_of asked.field-0) c.steps.progress c.replacement.new.progress c.tell.new.self asked.ensures c.in_ok-tell-in-Some-2.ensures in
@@ -132,9 +131,9 @@ steps-preserved g c =
     let item = item_of c.args.output.now place in
     let part = pending bank item place definitions (turns_at_most + 1) in
     let fs = reverse c.steps.stack in
-    let t = c.in-Some.placed.now.token in
+    let t = c.in-Some.token.now in
     let f : Open = (t, c.in-Some.rest) in
-    let body = tokens_in c.in-Some-2.body.now in
+    let body = c.in-Some-2.body.now in
     let asked = c.in_ok-replacement-in-Some in
     let going = not_over c.is_over.result c.steps.progress.left c.steps-test.true c.is_over.ensures.over.1 in
     let found : outcome (replacement definitions (keys_of fs) t) bank ≡ Some body =
@@ -153,12 +152,12 @@ steps-preserved g c =
     let one_more : length c.insert.new.self ≡ length c.steps.stack + 1 = ap length opened ∙ length-append c.steps.stack (f ∷ []) in
     record {
       progress = inv.progress
-          ∙ ap (λ (ts : List PlacedToken). reached bank (part fs (tokens_in ts)) c.steps.progress) c.in-Some.ensures.cases.0
+          ∙ ap (λ (ts : List Token). reached bank (part fs ts) c.steps.progress) c.in-Some.ensures.cases.0
           ∙ reached-pending-replaced bank item place definitions (turns_at_most + 1) fs t c.in-Some.rest body c.steps.progress room found
           ∙ ap (reached bank (part (f ∷ fs) body)) (sym told)
           ∙ ap (λ (gs : List Open). reached bank (part gs body) c.tell.new.self) (sym top);
       given = inv.given
-          ∙ ap (λ (ts : List PlacedToken). given_more (given c.steps.output) (outcome (part fs (tokens_in ts)) bank)) c.in-Some.ensures.cases.0
+          ∙ ap (λ (ts : List Token). given_more (given c.steps.output) (outcome (part fs ts) bank)) c.in-Some.ensures.cases.0
           ∙ ap (given_more (given c.steps.output)) (outcome-pending-replaced bank item place definitions (turns_at_most + 1) fs t c.in-Some.rest body room found)
           ∙ ap (λ (gs : List Open). given_more (given c.steps.output) (outcome (part gs body) bank)) (sym top);
       item = inv.item;
@@ -170,5 +169,5 @@ steps-preserved g c =
 pub returns-clause-progress : goal.returns-clause-progress
 returns-clause-progress g c =
     let bank = g.B.Bank.at c.args.macros.now.bank.now in
-    let rest = pending bank (item_of c.args.output.now c.args.source.place.now) c.args.source.place.now c.args.macros.now.definitions.now (turns_at_most + 1) (reverse c.steps.stack) (tokens_in c.steps.left.now) in
+    let rest = pending bank (item_of c.args.output.now c.args.source.place.now) c.args.source.place.now c.args.macros.now.definitions.now (turns_at_most + 1) (reverse c.steps.stack) c.steps.left.now in
     sym (c.steps.invariant.progress ∙ progress_after-over rules key_eq bank rest c.steps.progress (c.is_over.ensures.over.0 c.steps-test.false))

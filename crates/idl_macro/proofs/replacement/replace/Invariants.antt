@@ -2,7 +2,6 @@ use Rattle.std.proofs.Common.{◌≡◌, ◌+◌, length, reverse}
 use Rattle.idl_memo.specs.Query.{outcome}
 use Rattle.idl_event.specs.Expanding.{reached}
 use Rattle.idl_event.specs.Limits.{turns_at_most}
-use Rattle.idl_lex.specs.Tokens.{tokens_in}
 use Rattle.idl_macro.specs.Output.{given, given_more, item_of}
 use Rattle.idl_macro.specs.Replace.{replaced_at}
 use Rattle.idl_macro.proofs.AllowanceLemmas.{IsWithinTurns, work_left}
@@ -14,8 +13,8 @@ invariant-steps g l =
     let bank = g.B.Bank.at l.macros.bank.now in
     let definitions = l.macros.definitions.now in
     let item = item_of l.fn.output l.source.place.now in
-    let query = replaced_at item l.source.place.now definitions (tokens_in l.fn.source.tokens.now) in
-    let rest = pending bank item l.source.place.now definitions (turns_at_most + 1) (reverse l.stack) (tokens_in l.left) in
+    let query = replaced_at item l.source.place.now definitions l.fn.source.tokens.now in
+    let rest = pending bank item l.source.place.now definitions (turns_at_most + 1) (reverse l.stack) l.left in
     record {
       -- what the replacements that are open still stand for leads to where the whole leads
       progress : reached bank query l.fn.progress ≡ reached bank rest l.progress;

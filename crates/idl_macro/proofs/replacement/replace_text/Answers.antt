@@ -1,15 +1,26 @@
-use Rattle.std.proofs.Common.{◌≡◌, ℕ, [], ◌∷◌, sym, ap, ◌∙◌, List, drop, refl, subst, take}
-use Rattle.idl_event.specs.Expanding.{after_tokens, reached}
+use Rattle.std.proofs.Common.{◌≡◌, [], ◌∷◌, sym, ap, ◌∙◌, List, drop, refl, subst, take, arith}
+use Rattle.idl_event.specs.Expanding.{after_text, reached}
 use Rattle.idl_event.specs.declared.place.Place.{Place}
-use Rattle.idl_lex.specs.Tokens.{tokens_in}
 use Rattle.idl_lex.specs.declared.token.PlacedToken.{PlacedToken}
 use Rattle.idl_macro.specs.Replace.{place_at, text}
 use Rattle.idl_macro.specs.declared.replacement.Output.TheVariants.{Text}
 use Rattle.idl_macro.proofs.ReplaceLemmas.{reached-text-first, reached-text-nil}
 use Rattle.idl_macro.proofs.replacement.replace_text.Goals as goal
 
-pub tokens-preserved-then-count-eq0 : goal.tokens-preserved-then-count-eq0
-tokens-preserved-then-count-eq0 g c =
+pub tokens-preserved-then-count-gt0 : goal.tokens-preserved-then-count-gt0
+tokens-preserved-then-count-gt0 g c =
+    let bank = g.B.Bank.at c.args.macros.now.bank.now in
+    let definitions = c.args.macros.now.definitions.now in
+    let file = c.args.file.now in
+    let q = c.count_plain.new.progress in
+    let parts = c.split_at-plain.ensures in
+    c.tokens.invariant
+    ∙ c.in_ok-count.ensures.plain file
+    ∙ (λ j. reached bank (text file definitions (sym parts.back j)) (after_text file (sym parts.front j) q))
+    ∙ ap (reached bank (text file definitions c.split_at-plain.result.1)) (sym c.in_ok-emit_text.ensures)
+
+pub tokens-preserved : goal.tokens-preserved
+tokens-preserved g c =
     let bank = g.B.Bank.at c.args.macros.now.bank.now in
     let definitions = c.args.macros.now.definitions.now in
     let file = c.args.file.now in
@@ -19,14 +30,14 @@ tokens-preserved-then-count-eq0 g c =
     let left = c.tokens.left in
     let p = c.tokens.progress in
     let q = c.count_plain.new.progress in
-    let none : c.in_ok-count.count ≡ 0 = c.if-count-eq0.true in
-    let first : reached bank (text place.file definitions left) p ≡ reached bank (text place.file definitions left) q =
-    subst (λ n. reached bank (text place.file definitions left) p ≡ reached bank (text place.file definitions (drop n left)) (after_tokens place (tokens_in (take n left)) q)) none c.in_ok-count.ensures.plain in
+    let none : c.in_ok-count.count ≡ 0 = omega (arith, c.if-count-gt0.false) in
+    let first : reached bank (text file definitions left) p ≡ reached bank (text file definitions left) q =
+    subst (λ n. reached bank (text file definitions left) p ≡ reached bank (text file definitions (drop n left)) (after_text file (take n left) q)) none (c.in_ok-count.ensures.plain file) in
     c.tokens.invariant
-    ∙ subst (λ (f : List ℕ). reached bank (text f definitions left) p ≡ reached bank (text f definitions left) q) (c.in_ok-clone.ensures.cases) first
+    ∙ first
     ∙ ap (λ (ts : List PlacedToken). reached bank (text file definitions ts) q) c.in-Some.ensures
-    ∙ reached-text-first bank file definitions t c.in-Some.rest Text place (tokens_in c.from_ref.result.now) q c.replace.new.progress
-    refl here (ap tokens_in c.from_ref.ensures.value ∙ ap (λ u. u ∷ []) c.placed.ensures) c.in_ok-replace.ensures.progress
+    ∙ reached-text-first bank file definitions t c.in-Some.rest Text place c.from_ref.result.now q c.replace.new.progress
+    refl here (c.from_ref.ensures.value ∙ ap (λ u. u ∷ []) c.token.ensures) c.in_ok-replace.ensures.progress
 
 pub returns : goal.returns
 returns g c =

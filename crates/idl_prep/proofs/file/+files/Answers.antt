@@ -74,6 +74,17 @@ walk_file-lines-preserved g t c =
     ∙ ap (λ ls. to_come bank next file c.lines.groups (map read ls) c.lines.root) (sym c.first_line-line.ensures.lines)
     ∙ c.lines.invariant
 
+pub walk_file-lines-preserved-then-not-is_empty : goal.walk_file-lines-preserved-then-not-is_empty
+walk_file-lines-preserved-then-not-is_empty g t c =
+    let bank = g.B.Bank.at c.args.site.now.bank.now in
+    let next = enter c.args.room in
+    let file = c.args.site.now.file.now in
+    let rest = map read (lines_of c.first_text-text.result.1) in
+    c.in_ok-left-then-not-is_empty.ensures.to_come bank next
+    ∙ c.in_ok-walk_texts.ensures next rest
+    ∙ ap (λ ls. to_come bank next file c.lines.groups ls c.lines.root) (sym c.first_text-text.ensures.lines)
+    ∙ c.lines.invariant
+
 pub walk_file-returns : goal.walk_file-returns
 walk_file-returns g t c =
     let bank = g.B.Bank.at c.args.site.now.bank.now in

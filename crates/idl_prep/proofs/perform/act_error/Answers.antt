@@ -3,10 +3,10 @@ use Rattle.idl_event.specs.declared.code.Code.TheVariants.{Error}
 use Rattle.idl_event.specs.declared.event.Event.TheVariants.{Fault}
 use Rattle.idl_event.specs.declared.event.Item.TheVariants.{Kept}
 use Rattle.idl_event.specs.declared.place.Place.{Place}
+use Rattle.idl_lex.specs.Tokens.{tokens_in}
 use Rattle.idl_prep.specs.Directive.{parted}
 use Rattle.idl_prep.specs.Place.{place_in}
 use Rattle.idl_prep.specs.State.{telling}
-use Rattle.idl_prep.proofs.DirectiveLemmas.{parted-same}
 use Rattle.idl_prep.proofs.perform.act_error.Goals as goal
 
 pub returns : goal.returns
@@ -15,4 +15,4 @@ returns g c =
     c.in_ok-fault.ensures
     ∙ ap (λ (place : Place). telling (Kept (Fault place Error (Some c.in_ok-text.text))) root) c.in_ok-place.ensures
     ∙ ap (λ (text : List ℕ). telling (Kept (Fault (place_in c.args.file.now c.args.directive.now) Error (Some text))) root)
-    (c.in_ok-text.ensures ∙ parted-same c.as_slice.result.now c.tokens.result.now c.as_slice.ensures.tokens ∙ ap parted c.tokens.ensures)
+    (c.in_ok-text.ensures ∙ ap parted (c.as_slice.ensures ∙ ap tokens_in c.tokens.ensures))

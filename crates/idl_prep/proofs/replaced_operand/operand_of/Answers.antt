@@ -12,5 +12,5 @@ returns-in_ok-operand_at-in-Some g c =
     let place = c.args.place.now in
     let definitions = c.args.macros.now.definitions.now in
     c.in_ok-operand_at-in-Some.ensures
-    ∙ ap (λ (t : Token). arrival bank (operand_at place definitions t) c.args.progress.now) c.placed.ensures
+    ∙ ap (λ (t : Token). arrival bank (operand_at place definitions t) c.args.progress.now) c.token.ensures
     ∙ ap (λ (ts : List PlacedToken). arrival bank (operand_of place definitions ts) c.args.progress.now) (sym c.in-Some.ensures)

@@ -1,6 +1,7 @@
 use Rattle.std.proofs.Common.{List, ◌≡◌, ◌∙◌, ◌++◌, ◌∷◌, [], ◌+◌, length, sym, ap, subst, rules}
 use Rattle.idl_event.proofs.ApartLemmas.{woven-other}
 use Rattle.idl_event.specs.Apart.{StandApart, woven}
+use Rattle.idl_event.specs.Runs.{tokens_of}
 use Rattle.idl_event.specs.declared.event.Event.{Event}
 use Rattle.idl_event.proofs.builder.ExpansionBuilder.push.Goals as goal
 
@@ -10,8 +11,8 @@ invariant_of-self-in_default c =
     let n = c.len.result + c.len-in_default.result in
     let number : n ≡ length b.sites + length b.others.items = search rules in
     let others : c.push.new.self.items ≡ b.others.items ++ (n, c.args.event) ∷ [] = search rules in
-    subst (StandApart b.sites b.text.items) (sym others)
-    (woven-other b.sites b.text.items b.others.items n c.args.event c.self.invariant number c.in_default.not-Emitted).1
+    subst (StandApart b.sites (tokens_of b.runs.items ++ b.open.items)) (sym others)
+    (woven-other b.sites (tokens_of b.runs.items ++ b.open.items) b.others.items n c.args.event c.self.invariant number c.in_default.not-Emitted).1
 
 pub returns-in_ok-push-in_default : goal.returns-in_ok-push-in_default
 returns-in_ok-push-in_default c =
@@ -19,6 +20,6 @@ returns-in_ok-push-in_default c =
     let n = c.len.result + c.len-in_default.result in
     let number : n ≡ length b.sites + length b.others.items = search rules in
     let others : c.push.new.self.items ≡ b.others.items ++ (n, c.args.event) ∷ [] = search rules in
-    ap (woven b.sites b.text.items) others
-    ∙ (woven-other b.sites b.text.items b.others.items n c.args.event c.self.invariant number c.in_default.not-Emitted).0
+    ap (woven b.sites (tokens_of b.runs.items ++ b.open.items)) others
+    ∙ (woven-other b.sites (tokens_of b.runs.items ++ b.open.items) b.others.items n c.args.event c.self.invariant number c.in_default.not-Emitted).0
     ∙ ap (λ (es : List Event). es ++ c.args.event ∷ []) c.self.view_is

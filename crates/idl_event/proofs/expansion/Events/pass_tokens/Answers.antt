@@ -9,9 +9,11 @@ invariant_of-self c =
     let count = c.min-count.result in
     let before : count ≤ c.tokens_before-free.result = search rules in
     let short : count ≤ length e.sites.now - e.tokens_passed = search rules in
-    let long : count ≤ length e.text.now - e.tokens_passed = search rules in
-    (passed-tokens e.sites.now e.text.now e.others.now count e.tokens_passed e.others_passed c.self.invariant
-    (λ j event lt. c.tokens_before-free.ensures j event (omega (arith, lt, before))) short long).1
+    let long : count ≤ length e.text.now - e.tokens_passed = search rules in (
+      (passed-tokens e.sites.now e.text.now e.others.now count e.tokens_passed e.others_passed c.self.invariant.0
+          (λ j event lt. c.tokens_before-free.ensures j event (omega (arith, lt, before))) short long).1,
+      c.self.invariant.1,
+    )
 
 pub returns-clause-passed : goal.returns-clause-passed
 returns-clause-passed c =
@@ -21,5 +23,5 @@ returns-clause-passed c =
     let short : count ≤ length e.sites.now - e.tokens_passed = search rules in
     let long : count ≤ length e.text.now - e.tokens_passed = search rules in
     subst (λ old. TokensFirst count old (events_from (e.tokens_passed + count + e.others_passed) (woven e.sites.now e.text.now e.others.now))) c.self.view_is
-    (passed-tokens e.sites.now e.text.now e.others.now count e.tokens_passed e.others_passed c.self.invariant
+    (passed-tokens e.sites.now e.text.now e.others.now count e.tokens_passed e.others_passed c.self.invariant.0
     (λ j event lt. c.tokens_before-free.ensures j event (omega (arith, lt, before))) short long).0

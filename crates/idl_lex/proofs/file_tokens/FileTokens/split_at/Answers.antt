@@ -1,23 +1,24 @@
-use Rattle.std.proofs.Common.{◌≡◌, ◌+◌, ◌≤◌, ap, arith, drop, length, length-drop, subst, sym, take}
-use Rattle.std.proofs.lemmas.List.{length-map}
-use Rattle.std.proofs.lemmas.List.Elements.{All-drop}
-use Rattle.std.specs.List.{All}
-use Rattle.idl_lex.specs.Moved.{moved_token}
-use Rattle.idl_lex.specs.declared.token.PlacedToken.{PlacedToken}
-use Rattle.idl_lex.proofs.PartLemmas.{part-drop}
+use Rattle.std.proofs.Common.{◌∙◌, ◌+◌, ◌≤◌, ap, arith, drop, length, sym, take}
+use Rattle.std.proofs.lemmas.List.{length-map, take-map}
+use Rattle.std.specs.List.{drop-map, slice_range}
+use Rattle.idl_lex.specs.Moved.{moved_token, moved_tokens}
+use Rattle.idl_lex.proofs.PartLemmas.{length-part, part-drop, part-take}
 use Rattle.idl_lex.proofs.file_tokens.FileTokens.split_at.Goals as goal
 
-pub invariant_of-rest : goal.invariant_of-rest
-invariant_of-rest c =
+pub returns-clause-front : goal.returns-clause-front
+returns-clause-front c =
     let it = c.self.inside in
-    let tokens = it.tokens.now in
-    let all = it.block.now.value.tokens.items in
+    let all = it.tokens.now in
     let count = c.args.count in
-    let here = c.self.invariant in
-    let back = c.split_at.ensures.back in
-    let within : count ≤ length tokens = omega (arith, c.requires, ap length c.self.view_is, length-map tokens (moved_token it.lines_before)) in (
-      omega (arith, here.0, ap length back, length-drop count tokens, c.split_at.ensures.front_len),
-      subst (λ ts. ts ≡ take (length ts) (drop (it.from + count) all)) (sym back) (part-drop all tokens it.from count within here.1),
-      here.2,
-      subst (All (λ (t : PlacedToken). t.line ≤ 200000)) (sym back) (All-drop (λ (t : PlacedToken). t.line ≤ 200000) count tokens here.3),
-    )
+    let part = slice_range all it.from it.to in
+    let within : it.from + count ≤ it.to = omega (arith, c.requires, ap length c.self.view_is, length-map part (moved_token it.lines_before), length-part all it.from it.to c.self.invariant.1) in
+    sym (ap (take count) (sym c.self.view_is) ∙ take-map (moved_token it.lines_before) count part ∙ ap (moved_tokens it.lines_before) (part-take all it.from it.to count within))
+
+pub returns-clause-back : goal.returns-clause-back
+returns-clause-back c =
+    let it = c.self.inside in
+    let all = it.tokens.now in
+    let count = c.args.count in
+    let part = slice_range all it.from it.to in
+    let within : it.from + count ≤ it.to = omega (arith, c.requires, ap length c.self.view_is, length-map part (moved_token it.lines_before), length-part all it.from it.to c.self.invariant.1) in
+    sym (ap (drop count) (sym c.self.view_is) ∙ drop-map (moved_token it.lines_before) count part ∙ ap (moved_tokens it.lines_before) (part-drop all it.from it.to count within))

@@ -5,6 +5,6 @@ use Rattle.idl_lex.proofs.token_range.TokenRangePartialEq.eq.Goals as goal
 
 pub returns-clause-exact : goal.returns-clause-exact
 returns-clause-exact c =
-    let value : c.have_same_tokens.result ≡ pointwise bytes_eq c.args.self.now c.args.other.now = search rules in
+    let value : c.eq.result ≡ pointwise bytes_eq c.args.self.now c.args.other.now = search rules in
     let decides = pointwise_decides bytes_decides c.args.self.now c.args.other.now in
     (λ h. decides.0 (sym value ∙ h), λ e. value ∙ decides.1 e)

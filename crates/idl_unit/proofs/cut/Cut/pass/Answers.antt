@@ -9,7 +9,7 @@ pub returns-clause-units : goal.returns-clause-units
 returns-clause-units c =
     let s = c.args.self.now in
     let first = c.pass_tokens.ensures.passed in
-    let units = token_units (drop s.taken s.text.now.value.items) in
+    let units = token_units (drop s.taken s.text.now) in
     let sites = drop s.taken s.sites.now.value in
     let rest = c.pass_tokens.new.self in
     sym (ap (to_come s) first.all
