@@ -270,9 +270,8 @@ fn identifying(
           row = None;
         }) }
 {
-    let mut facts = Facts::new(alloc);
-    facts.add(Addition::Identifies(path.clone()?, identity))?;
-    let writes = Shared::new(alloc, facts)?;
+    let mut writes = Facts::new(alloc);
+    writes.add(Addition::Identifies(path.clone()?, identity))?;
     Ok(Verdict {
         fault: None,
         writes,

@@ -3,7 +3,7 @@
 ghost use Rattle.std.specs.Prelude.{◌≡◌, [], IfOk, None};
 
 use idl_base::SharedText;
-use idl_scope::{Facts, Shared, Step};
+use idl_scope::{Facts, Step};
 use idl_unit::Fault;
 use std::alloc::{AllocError, Global};
 
@@ -12,7 +12,7 @@ pub struct Verdict {
     /// Its least fault.
     pub fault: Option<Fault>,
     /// What it adds: names only where there is no fault.
-    pub writes: Shared<Facts>,
+    pub writes: Facts,
     /// Its row in the dump, which a faulty unit and a pragma have not.
     pub row: Option<SharedText>,
 }
@@ -27,6 +27,20 @@ impl Drop for Verdict {
     }
 }
 
+impl Verdict {
+    /// What it adds, taken out.
+    pub fn into_writes(self) -> Facts
+        ensures { result ≡ self.writes }
+    {
+        let Verdict {
+            fault: _fault,
+            writes,
+            row: _row,
+        } = self;
+        writes
+    }
+}
+
 /// A verdict that adds no name.
 pub fn adding(alloc: Global, fault: Option<Fault>, step: Step) -> Result<Verdict, AllocError>
     ensures { IfOk result (λ verdict.
@@ -37,9 +51,8 @@ pub fn adding(alloc: Global, fault: Option<Fault>, step: Step) -> Result<Verdict
           row = None;
         }) }
 {
-    let mut facts = Facts::new(alloc);
-    facts.then(step);
-    let writes = Shared::new(alloc, facts)?;
+    let mut writes = Facts::new(alloc);
+    writes.then(step);
     Ok(Verdict {
         fault,
         writes,

@@ -27,7 +27,7 @@ use idl_base::Seq;
 use idl_event::Code;
 use idl_lex::Spelling;
 use idl_memo::Journal;
-use idl_scope::{Addition, Entity, Env, Facts, Kind, Path, Scope, Shared, Step, View};
+use idl_scope::{Addition, Entity, Env, Facts, Kind, Path, Room, Scope, Shared, Step, View};
 use idl_site::{Declaration, Site};
 use idl_tree::Several;
 use idl_unit::Fault;
@@ -87,8 +87,8 @@ impl<'a> Drop for Walker<'a> {
 }
 
 impl<'a> Walker<'a> {
-    /// Before the first site of a unit, in these scopes.
-    pub fn new(env: &'a Env, scopes: &'a [Scope]) -> Walker<'a>
+    /// Before the first site of a unit, in these scopes. What is added takes the room that there is.
+    pub fn new(env: &'a Env, scopes: &'a [Scope], room: &mut Room) -> Walker<'a>
         ensures walk { held result ≡ first_walk scopes.now }
         ensures env { result.env.now ≡ env.now }
     {
@@ -97,7 +97,7 @@ impl<'a> Walker<'a> {
             env,
             at: 0,
             cursor: Cursor::new(alloc, scopes),
-            own: Facts::new(alloc),
+            own: Facts::within(alloc, room),
             begun: Few::new(alloc),
             bases: Bases::new(alloc),
             written: Written::new(alloc),

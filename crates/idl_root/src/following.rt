@@ -132,7 +132,7 @@ impl<'k> Following<'k> {
         let Some((_text, judgement, rest)) = judged_first(kept) else {
             return Ok(None);
         };
-        let facts = judgement.verdict.writes.get();
+        let facts = &judgement.verdict.writes;
         let none = Facts::new(alloc);
         if !facts.is_same_step(&none) {
             return Ok(None);
@@ -269,7 +269,7 @@ impl<'k> Following<'k> {
         let Some((_text, judgement, rest)) = judged_first(kept) else {
             return Ok(None);
         };
-        let before = judgement.verdict.writes.get();
+        let before = &judgement.verdict.writes;
         if !before.is_same_step(facts) {
             return Ok(None);
         }

@@ -12,6 +12,7 @@ use crate::facts::Facts;
 use crate::key::Key;
 use crate::past::Past;
 use crate::plain::PlainTypes;
+use crate::room::Room;
 use crate::shared::Shared;
 use crate::state::State;
 use idl_map::Lent;
@@ -100,8 +101,9 @@ impl Env {
         })
     }
 
-    /// The facts so far and these, which are given up. Refused, this environment is too.
-    pub fn add_own(self, facts: Shared<Facts>) -> Result<Env, AllocError>
+    /// The facts so far and these, which are given up. Refused, this environment is too. The room that their first additions
+    /// took is kept.
+    pub fn add_own(self, facts: Facts, room: &mut Room) -> Result<Env, AllocError>
         ensures { IfOk result (λ env. env ≡ self ++ facts ∷ []) }
     {
         let Env {
@@ -114,8 +116,8 @@ impl Env {
         let Some(count) = count.checked_add(1) else {
             return Err(AllocError);
         };
-        let after = before.and(facts.get());
-        state.add_own(alloc, facts)?;
+        let after = before.and(&facts);
+        state.add_own(alloc, facts, room)?;
         Ok(Env {
             alloc,
             facts: after,

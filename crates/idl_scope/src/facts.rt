@@ -13,6 +13,7 @@ use crate::addition::{Addition, Step};
 use crate::digested::DigestedKey;
 use crate::digested_addition::{DigestedAddition, asked_among, is_digest_among, place_among};
 use crate::lent_key::LentKey;
+use crate::room::Room;
 use idl_base::{Marks, Table};
 use idl_map::Lent;
 use std::alloc::{AllocError, Global};
@@ -78,9 +79,24 @@ impl Facts {
     pub fn new(alloc: Global) -> Facts
         ensures { result ≡ record { additions = []; step = Stays } }
     {
+        Facts::of(alloc, Vec::new(alloc))
+    }
+
+    /// The same, where the first additions take the room that there is.
+    pub fn within(alloc: Global, room: &mut Room) -> Facts
+        ensures { result ≡ record { additions = []; step = Stays } }
+    {
+        Facts::of(alloc, room.take())
+    }
+
+    // The same, where the first additions go to this list.
+    fn of(alloc: Global, first: Vec<DigestedAddition>) -> Facts
+        requires { first.items ≡ [] }
+        ensures { result ≡ record { additions = []; step = Stays } }
+    {
         Facts {
             alloc,
-            first: Vec::new(alloc),
+            first,
             marks: Marks::new(),
             others: Table::new(alloc),
             count: 0,

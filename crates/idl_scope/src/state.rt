@@ -26,6 +26,7 @@ use crate::lent_key::LentKey;
 use crate::name::shared_name;
 use crate::operations::{add_inside, inherited, innermost, leave, put_last};
 use crate::path::Path;
+use crate::room::Room;
 use crate::shared::{Shared, copied};
 use idl_base::Seq;
 use idl_lex::Spelling;
@@ -86,24 +87,13 @@ impl State {
         self.take(alloc, facts.step())
     }
 
-    /// The same with facts that are given up.
-    pub fn add_own(&mut self, alloc: Global, facts: Shared<Facts>) -> Result<(), AllocError>
-        requires { (key : Key) → count_in (lookup (key_eq key) self.old.answers) < 18446744073709551615 }
-        ensures { OnOk result (held self.new ≡ after (held self.old) facts) }
-    {
-        match facts.into_own() {
-            Ok(facts) => self.add_given(alloc, facts),
-            Err(facts) => self.add(alloc, facts.get()),
-        }
-    }
-
-    // The same with facts that nobody shares.
-    fn add_given(&mut self, alloc: Global, facts: Facts) -> Result<(), AllocError>
+    /// The same with facts that are given up. The room that their first additions took is kept.
+    pub fn add_own(&mut self, alloc: Global, facts: Facts, room: &mut Room) -> Result<(), AllocError>
         requires { (key : Key) → count_in (lookup (key_eq key) self.old.answers) < 18446744073709551615 }
         ensures { OnOk result (held self.new ≡ after (held self.old) facts) }
     {
         add_inside(&mut self.inside, &facts)?;
-        let step = put_given(alloc, &mut self.answers, facts)?;
+        let step = put_given(alloc, &mut self.answers, facts, room)?;
         self.take(alloc, &step)
     }
 
@@ -373,6 +363,7 @@ fn put_given(
     alloc: Global,
     answers: &mut Map<DigestedKey, Answer>,
     facts: Facts,
+    room: &mut Room,
 ) -> Result<Step, AllocError>
     ensures answers { OnOk result
         ((k : Key)
@@ -381,7 +372,7 @@ fn put_given(
 {
     match facts.into_few() {
         Ok((additions, step)) => {
-            put_few(alloc, answers, additions)?;
+            room.give(put_few(alloc, answers, additions)?);
             Ok(step)
         }
         Err(facts) => {
@@ -391,12 +382,12 @@ fn put_given(
     }
 }
 
-// The same with these additions.
+// The same with these additions; their list, in which none is left.
 fn put_few(
     alloc: Global,
     answers: &mut Map<DigestedKey, Answer>,
     additions: Vec<DigestedAddition>,
-) -> Result<(), AllocError>
+) -> Result<Vec<DigestedAddition>, AllocError>
     ensures { OnOk result
         ((k : Key)
         → lookup (key_eq k) answers.new ≡ over additions.items k (lookup (key_eq k) answers.old)) }
@@ -406,7 +397,7 @@ fn put_few(
         let (key, answer) = addition.into_entry(alloc)?;
         answers.insert(alloc, key, answer)?;
     }
-    Ok(())
+    Ok(additions)
 }
 
 // These scopes are open.

@@ -6,7 +6,7 @@ use Rattle.idl_scope.specs.Held.{held}
 use Rattle.idl_scope.specs.Key.{key_eq}
 use Rattle.idl_scope.specs.declared.state.State.{State}
 use Rattle.idl_scope.proofs.StateLemmas.{count-over}
-use Rattle.idl_scope.proofs.state.State.add_given.Goals as goal
+use Rattle.idl_scope.proofs.state.State.add_own.Goals as goal
 
 pub take-requires : goal.take-requires
 take-requires c = λ key.
