@@ -205,8 +205,8 @@ impl<'a> Gathered<'a> {
                 let unit = Spelled { text, sites };
                 self.add_spelled(alloc, env, unit)
             }
-            Unit::Entered(_file) => self.cross(alloc, env, KeptUnit::Entered),
-            Unit::Left(_file) => self.cross(alloc, env, KeptUnit::Left),
+            Unit::Entered(_file) => Ok(self.cross(alloc, env, KeptUnit::Entered)?),
+            Unit::Left(_file) => Ok(self.cross(alloc, env, KeptUnit::Left)?),
             Unit::End => Ok(Added::Nothing),
         }
     }
