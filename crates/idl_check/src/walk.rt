@@ -35,6 +35,7 @@ use std::alloc::{AllocError, Global};
 use std::mem::replace;
 
 /// How far a walk has come.
+#[derive(Drop)]
 pub struct Walker<'a> {
     pub env: &'a Env,
     /// The number of the next token.
@@ -62,28 +63,6 @@ pub struct Walker<'a> {
     pub values: Values,
     /// The least fault so far.
     pub fault: Option<Fault>,
-}
-
-impl<'a> Drop for Walker<'a> {
-    fn drop(self) {
-        let Walker {
-            env: _env,
-            at: _at,
-            cursor: _cursor,
-            own: _own,
-            begun: _begun,
-            bases: _bases,
-            written: _written,
-            last: _last,
-            bodies: _bodies,
-            clauses: _clauses,
-            unions: _unions,
-            gives_back: _gives_back,
-            found: _found,
-            values: _values,
-            fault: _fault,
-        } = self;
-    }
 }
 
 impl<'a> Walker<'a> {

@@ -27,7 +27,8 @@ pub struct Env {
     facts: Past<Facts>,
     // How many facts there are, since no count among the answers is larger.
     count: usize,
-    state: State,
+    // It stands apart, since an environment is handed on with each unit.
+    state: Box<State>,
     plain: PlainTypes,
 }
 
@@ -41,7 +42,7 @@ impl Model for Env {
     ghost view = { λ env. env.facts };
 
     ghost invariant = { λ env.
-        (env.count ≡ length env.facts) × (held env.state ≡ world env.facts) };
+        (env.count ≡ length env.facts) × (held env.state.value ≡ world env.facts) };
 }
 
 impl Drop for Env {
@@ -61,7 +62,7 @@ impl Env {
     pub fn new(alloc: Global) -> Result<Env, AllocError>
         ensures { IfOk result (λ env. env ≡ []) }
     {
-        let state = State::new(alloc)?;
+        let state = Box::new(alloc, State::new(alloc)?)?;
         let plain = PlainTypes::new(alloc)?;
         Ok(Env {
             alloc,
