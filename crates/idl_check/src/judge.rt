@@ -167,7 +167,7 @@ impl<'a> Judge<'a> {
             sites: sites.as_slice(),
         };
         let mut walker = Walker::new(self.env, self.scopes, &mut scratch.room);
-        unit.walked(&mut scratch.row, log, &mut walker)
+        unit.walked(scratch, log, &mut walker)
     }
 
     // The verdict of a unit that its scope doesn't hold.
@@ -227,7 +227,7 @@ impl<'t> Sited<'t> {
     // The verdict of a unit that its scope holds, over whose sites this walk goes.
     fn walked(
         self,
-        buffer: &mut Vec<u8>,
+        scratch: &mut Scratch,
         log: &mut Journal<Env>,
         walker: &mut Walker<'_>,
     ) -> Result<Verdict, AllocError>
@@ -244,14 +244,14 @@ impl<'t> Sited<'t> {
         walker.walk(log, self.sites)?;
         match walker.fault {
             Some(fault) => self.judge.refused(log, fault),
-            None => self.sound(buffer, log, walker),
+            None => self.sound(scratch, log, walker),
         }
     }
 
     // The verdict of a unit without fault, over which a walk has come so far.
     fn sound(
         self,
-        buffer: &mut Vec<u8>,
+        scratch: &mut Scratch,
         log: &mut Journal<Env>,
         walker: &mut Walker<'_>,
     ) -> Result<Verdict, AllocError>
@@ -273,16 +273,17 @@ impl<'t> Sited<'t> {
             in_value: false,
         };
         write_row(
-            buffer,
+            &mut scratch.row,
             row_depth(self.tree, self.judge.scopes),
             self.sites,
             rest,
         )?;
-        let row = SharedText::from_slice(alloc, buffer.as_slice())?;
+        let row = SharedText::from_slice(alloc, scratch.row.as_slice())?;
         let around = path_around(self.judge.scopes)?;
         let step = step_of(alloc, &walker.own, self.tree, &around)?;
         self.judge.ask_step(log, &step)?;
-        let writes = walker.take_facts(step)?;
+        let facts = walker.take_facts(step)?;
+        let writes = scratch.room.hold(facts)?;
         Ok(Verdict {
             fault: None,
             writes,

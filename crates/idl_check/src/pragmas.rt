@@ -29,7 +29,8 @@ use idl_event::Code;
 use idl_lex::TokenRange;
 use idl_memo::Journal;
 use idl_scope::{
-    Addition, Env, Facts, Identity, NameFault, Path, Scope, Shared, Standpoint, Step, View, resolve,
+    Addition, Env, Facts, Identity, NameFault, Path, Scope, Shared, Standpoint, Step, View, Writes,
+    resolve,
 };
 use idl_syntax::{SyntaxFault, UnitTree, parse};
 use idl_tree::{Pragma, ScopedName};
@@ -270,8 +271,9 @@ fn identifying(
           row = None;
         }) }
 {
-    let mut writes = Facts::new(alloc);
-    writes.add(Addition::Identifies(path.clone()?, identity))?;
+    let mut facts = Facts::new(alloc);
+    facts.add(Addition::Identifies(path.clone()?, identity))?;
+    let writes = Writes::new(alloc, facts)?;
     Ok(Verdict {
         fault: None,
         writes,

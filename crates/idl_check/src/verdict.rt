@@ -3,7 +3,7 @@
 ghost use Rattle.std.specs.Prelude.{◌≡◌, [], IfOk, None};
 
 use idl_base::SharedText;
-use idl_scope::{Facts, Step};
+use idl_scope::{Facts, Step, Writes};
 use idl_unit::Fault;
 use std::alloc::{AllocError, Global};
 
@@ -12,7 +12,7 @@ pub struct Verdict {
     /// Its least fault.
     pub fault: Option<Fault>,
     /// What it adds: names only where there is no fault.
-    pub writes: Facts,
+    pub writes: Writes,
     /// Its row in the dump, which a faulty unit and a pragma have not.
     pub row: Option<SharedText>,
 }
@@ -29,7 +29,7 @@ impl Drop for Verdict {
 
 impl Verdict {
     /// What it adds, taken out.
-    pub fn into_writes(self) -> Facts
+    pub fn into_writes(self) -> Writes
         ensures { result ≡ self.writes }
     {
         let Verdict {
@@ -51,8 +51,9 @@ pub fn adding(alloc: Global, fault: Option<Fault>, step: Step) -> Result<Verdict
           row = None;
         }) }
 {
-    let mut writes = Facts::new(alloc);
-    writes.then(step);
+    let mut facts = Facts::new(alloc);
+    facts.then(step);
+    let writes = Writes::new(alloc, facts)?;
     Ok(Verdict {
         fault,
         writes,

@@ -4,7 +4,7 @@ ghost use Rattle.std.specs.Prelude.{◌≡◌, ◌++◌, IfOk};
 ghost use Rattle.idl_root.specs.Added.{told_by};
 
 use crate::kept::Judgement;
-use idl_scope::{Env, Facts, Room};
+use idl_scope::{Env, Room, Writes};
 use std::alloc::AllocError;
 use std::rc::Rc;
 
@@ -14,7 +14,7 @@ pub enum Added {
     /// Not even how the open scopes change.
     Nothing,
     /// These facts, which are given up to the environment.
-    Given(Facts),
+    Given(Writes),
     /// The facts of what is judged of it, which is kept.
     Kept(Rc<Judgement>),
 }
@@ -27,7 +27,7 @@ impl Added {
         match self {
             Added::Nothing => Ok(env),
             Added::Given(facts) => env.add_own(facts, room),
-            Added::Kept(judgement) => env.add(&judgement.verdict.writes),
+            Added::Kept(judgement) => env.add(judgement.verdict.writes.get()),
         }
     }
 }

@@ -132,7 +132,7 @@ impl<'k> Following<'k> {
         let Some((_text, judgement, rest)) = judged_first(kept) else {
             return Ok(None);
         };
-        let facts = &judgement.verdict.writes;
+        let facts = judgement.verdict.writes.get();
         let none = Facts::new(alloc);
         if !facts.is_same_step(&none) {
             return Ok(None);
@@ -269,7 +269,7 @@ impl<'k> Following<'k> {
         let Some((_text, judgement, rest)) = judged_first(kept) else {
             return Ok(None);
         };
-        let before = &judgement.verdict.writes;
+        let before = judgement.verdict.writes.get();
         if !before.is_same_step(facts) {
             return Ok(None);
         }

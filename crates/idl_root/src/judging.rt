@@ -18,7 +18,7 @@ use crate::kept::{KeptEntry, KeptUnit, KeptUnits};
 use crate::printing::{Listed, Printed, print_all, print_kept, push_listed};
 use idl_check::{Scratch, Verdict, verdict_of};
 use idl_memo::{Bank, Journal};
-use idl_scope::{DigestedKey, Env, Facts, Key, Shared, Step, scopes_in};
+use idl_scope::{DigestedKey, Env, Facts, Key, Shared, Step, Writes, scopes_in};
 use idl_unit::{Unit, UnitText};
 use std::alloc::{AllocError, Global};
 
@@ -248,9 +248,9 @@ impl<'a> Gathered<'a> {
         ensures kept { IfOk result (λ a.
             IfSome self.new.keeping (λ k. IsKeeping k (env.now ++ told_by a))) }
     {
-        let facts = boundary(alloc, step_of(&unit));
+        let facts = boundary(alloc, step_of(&unit))?;
         if let Some(keeping) = &mut self.keeping {
-            keeping.cross(env, unit, &facts)?;
+            keeping.cross(env, unit, facts.get())?;
         }
         Ok(Added::Given(facts))
     }
@@ -273,7 +273,7 @@ impl<'a> Gathered<'a> {
     {
         push_fault(alloc, &mut self.findings, unit, verdict.fault)?;
         push_row(&mut self.rows, &verdict.row)?;
-        push_listed(&mut self.listed, unit, &verdict.writes)?;
+        push_listed(&mut self.listed, unit, verdict.writes.get())?;
         Ok(())
     }
 }
@@ -290,12 +290,12 @@ fn step_of(unit: &KeptUnit) -> Step
 }
 
 // What a file boundary adds.
-fn boundary(alloc: Global, step: Step) -> Facts
-    ensures { result ≡ boundary step }
+fn boundary(alloc: Global, step: Step) -> Result<Writes, AllocError>
+    ensures { IfOk result (λ writes. writes ≡ boundary step) }
 {
     let mut facts = Facts::new(alloc);
     facts.then(step);
-    facts
+    Writes::new(alloc, facts)
 }
 
 // The verdict of a text over facts. What it asks is not kept.

@@ -124,11 +124,11 @@ fn judged<'k>(
     };
     if let Some(judgement) = following.judgement(text) {
         let judgement = judgement.clone()?;
-        let next = following.with_same(env, &judgement.verdict.writes)?;
+        let next = following.with_same(env, judgement.verdict.writes.get())?;
         return Ok((judgement, next));
     }
     let judgement = Judgement::new(scratch, env, text)?;
-    let next = following.with_other(env, text, &judgement.verdict.writes)?;
+    let next = following.with_other(env, text, judgement.verdict.writes.get())?;
     Ok((judgement, next))
 }
 

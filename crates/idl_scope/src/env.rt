@@ -12,7 +12,7 @@ use crate::facts::Facts;
 use crate::key::Key;
 use crate::past::Past;
 use crate::plain::PlainTypes;
-use crate::room::Room;
+use crate::room::{Room, Writes};
 use crate::shared::Shared;
 use crate::state::State;
 use idl_map::Lent;
@@ -102,9 +102,8 @@ impl Env {
         })
     }
 
-    /// The facts so far and these, which are given up. Refused, this environment is too. The room that their first additions
-    /// took is kept.
-    pub fn add_own(self, facts: Facts, room: &mut Room) -> Result<Env, AllocError>
+    /// The facts so far and these, which are given up. Refused, this environment is too. Their memory is room for others.
+    pub fn add_own(self, facts: Writes, room: &mut Room) -> Result<Env, AllocError>
         ensures { IfOk result (λ env. env ≡ self ++ facts ∷ []) }
     {
         let Env {
@@ -117,8 +116,10 @@ impl Env {
         let Some(count) = count.checked_add(1) else {
             return Err(AllocError);
         };
-        let after = before.and(&facts);
-        state.add_own(alloc, facts, room)?;
+        let after = before.and(facts.get());
+        let mut facts = facts;
+        state.add_own(alloc, &mut facts.inner)?;
+        room.give(facts);
         Ok(Env {
             alloc,
             facts: after,

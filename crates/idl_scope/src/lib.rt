@@ -62,7 +62,7 @@ pub use name::{folded_name, shared_name};
 pub use naming::{Standpoint, resolve};
 pub use parts::EntityParts;
 pub use path::{Names, Path};
-pub use room::Room;
+pub use room::{Room, Writes};
 pub use shared::Shared;
 pub use signature::{Member, Signature};
 pub use unvalued::Unvalued;

@@ -1,48 +1,83 @@
-//! Room for what units add, which is used again from unit to unit.
+//! Facts that are handed on, and the room in which units gather theirs.
 
-ghost use Rattle.std.specs.Prelude.{◌≡◌, []};
+ghost use Rattle.std.specs.Prelude.{◌≡◌, [], IfOk};
 
 use crate::digested_addition::DigestedAddition;
-use std::alloc::Global;
+use crate::facts::Facts;
+use std::alloc::{AllocError, Global};
+use std::marker::Model;
 use std::mem::replace;
 
-/// Room for the first additions of a unit. No contract knows of it.
-pub struct Room {
-    alloc: Global,
-    list: Vec<DigestedAddition>,
+/// Facts behind a pointer, which are handed on as such. To every contract they are the facts themselves.
+#[derive(Drop)]
+pub struct Writes {
+    pub(crate) inner: Box<Facts>,
 }
 
-impl Drop for Room {
-    fn drop(self) {
-        let Room {
-            alloc: _alloc,
-            list: _list,
-        } = self;
+impl Model for Writes {
+    ghost use Rattle.idl_scope.specs.Facts.{UnitFacts};
+
+    ghost Value = { UnitFacts };
+
+    ghost view = { λ writes. writes.inner.value };
+}
+
+/// Room for what a unit adds, which is used again for the next one. No contract knows of it.
+#[derive(Drop)]
+pub struct Room {
+    alloc: Global,
+    spare: Option<Writes>,
+}
+
+impl Writes {
+    /// These facts, moved to memory of their own.
+    pub fn new(alloc: Global, facts: Facts) -> Result<Writes, AllocError>
+        ensures { IfOk result (λ writes. writes ≡ facts) }
+    {
+        let inner = Box::new(alloc, facts)?;
+        Ok(Writes { inner })
+    }
+
+    /// The facts.
+    pub fn get(&self) -> &Facts
+        ensures { result.now ≡ self.now }
+    {
+        &self.inner
     }
 }
 
 impl Room {
     /// No room so far. It takes no memory.
     pub fn new(alloc: Global) -> Room {
-        Room {
-            alloc,
-            list: Vec::new(alloc),
-        }
+        Room { alloc, spare: None }
     }
 
-    /// A list without additions, in the room that there is.
-    pub(crate) fn take(&mut self) -> Vec<DigestedAddition>
+    /// A list for additions.
+    pub(crate) fn list(&mut self) -> Vec<DigestedAddition>
         ensures { result.items ≡ [] }
     {
-        let list = replace(&mut self.list, Vec::new(self.alloc));
-        if list.is_empty() {
-            return list;
+        match &mut self.spare {
+            Some(spare) => spare.inner.take_list(),
+            None => Vec::new(self.alloc),
         }
-        Vec::new(self.alloc)
     }
 
-    /// The room of a list, which is given up.
-    pub(crate) fn give(&mut self, list: Vec<DigestedAddition>) {
-        self.list = list;
+    /// These facts, behind a pointer.
+    pub fn hold(&mut self, facts: Facts) -> Result<Writes, AllocError>
+        ensures { IfOk result (λ writes. writes ≡ facts) }
+    {
+        match replace(&mut self.spare, None) {
+            Some(spare) => {
+                let mut writes = spare;
+                *writes.inner = facts;
+                Ok(writes)
+            }
+            None => Writes::new(self.alloc, facts),
+        }
+    }
+
+    /// The memory of facts, which are given up.
+    pub(crate) fn give(&mut self, writes: Writes) {
+        self.spare = Some(writes);
     }
 }

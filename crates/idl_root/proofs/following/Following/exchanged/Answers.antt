@@ -13,6 +13,7 @@ returns c = λ b.
     let k : KeptUnit = Judged c.in-Some._text.now c.in-Some.judgement.now in
     let f : UnitFacts = added_by k in
     let g : UnitFacts = c.args.facts.now in
+    let before : c.get-before.result.now ≡ f = search rules in
     let steps : f.step ≡ g.step = search rules in
     let changed : c.in_ok-changed.changed ≡ (c.args.self.changed ++ map (λ a. key_digest (key_of a)) f.additions) ++ map (λ a. key_digest (key_of a)) g.additions = search rules in
     let alike : StayAlike c.may_differ-is_around.result c.args.env.now c.in_ok-changed.changed g = search rules in

@@ -12,6 +12,7 @@ pub returns-clause-followed : goal.returns-clause-followed
 returns-clause-followed c = λ facts b.
     let k : KeptUnit = Judged c.in-Some._text.now c.in-Some.judgement.now in
     let f : UnitFacts = added_by k in
+    let before : c.get-facts.result.now ≡ f = search rules in
     let stays : f.step ≡ Stays = search rules in
     let changed : c.in_ok-changed.changed ≡ c.args.self.changed ++ map (λ a. key_digest (key_of a)) f.additions = search rules in
     let may : c.may_differ.result ≡ false → (c.args.self.is_around ≡ false) × (operations_among f.additions ≡ []) = λ no.

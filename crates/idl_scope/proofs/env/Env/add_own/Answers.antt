@@ -15,7 +15,7 @@ pub invariant_of-result : goal.invariant_of-result
 invariant_of-result c =
     let before = c.self.inside.facts in
     let f = c.args.facts in
-    let past = c.and-after.ensures in (
+    let past = c.and-after.ensures ∙ ap (λ g. before ++ g ∷ []) c.get.ensures in (
       grind (arith, c.self.invariant.0, c.in-Some.ensures, ap length past, length-append before (f ∷ [])),
       c.in_ok-add_own.ensures
           ∙ ap (λ (w : World). after w f) c.self.invariant.1
