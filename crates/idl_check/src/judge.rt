@@ -282,8 +282,8 @@ impl<'t> Sited<'t> {
         let around = path_around(self.judge.scopes)?;
         let step = step_of(alloc, &walker.own, self.tree, &around)?;
         self.judge.ask_step(log, &step)?;
-        let facts = walker.take_facts(step)?;
-        let writes = scratch.room.hold(facts)?;
+        walker.finish(step)?;
+        let writes = scratch.room.hold(&mut walker.own)?;
         Ok(Verdict {
             fault: None,
             writes,

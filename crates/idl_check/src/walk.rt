@@ -32,7 +32,6 @@ use idl_site::{Declaration, Site};
 use idl_tree::Several;
 use idl_unit::Fault;
 use std::alloc::{AllocError, Global};
-use std::mem::replace;
 
 /// How far a walk has come.
 #[derive(Drop)]
@@ -306,10 +305,10 @@ impl<'a> Walker<'a> {
         Ok(())
     }
 
-    /// What a unit without fault adds, where it does this to the open scopes. It is taken out.
-    pub fn take_facts(&mut self, step: Step) -> Result<Facts, AllocError>
-        ensures { IfOk result (λ facts.
-            facts
+    /// What a unit without fault adds stands there, where it does this to the open scopes.
+    pub fn finish(&mut self, step: Step) -> Result<(), AllocError>
+        ensures { OnOk result
+            (self.new.own
             ≡ record {
               additions =
                   with_finished
@@ -320,12 +319,11 @@ impl<'a> Walker<'a> {
             }) }
     {
         let alloc = self.env.alloc();
-        let mut own = replace(&mut self.own, Facts::new(alloc));
-        own.then(step);
+        self.own.then(step);
         self.clauses.add_raising(&mut self.begun, &self.last)?;
         let begun = self.begun.as_slice();
         if begun.is_empty() {
-            return Ok(own);
+            return Ok(());
         }
         let paths = self.bases.paths(alloc)?;
         let ending = Ending {
@@ -333,8 +331,7 @@ impl<'a> Walker<'a> {
             value: &self.values.constant,
             clauses: &self.clauses,
         };
-        finish(alloc, &mut own, ending, begun)?;
-        Ok(own)
+        finish(alloc, &mut self.own, ending, begun)
     }
 }
 

@@ -6,7 +6,7 @@ use crate::digested_addition::DigestedAddition;
 use crate::facts::Facts;
 use std::alloc::{AllocError, Global};
 use std::marker::Model;
-use std::mem::replace;
+use std::mem::{replace, swap};
 
 /// Facts behind a pointer, which are handed on as such. To every contract they are the facts themselves.
 #[derive(Drop)]
@@ -62,17 +62,17 @@ impl Room {
         }
     }
 
-    /// These facts, behind a pointer.
-    pub fn hold(&mut self, facts: Facts) -> Result<Writes, AllocError>
-        ensures { IfOk result (λ writes. writes ≡ facts) }
+    /// Facts that are taken out of where they stand, behind a pointer.
+    pub fn hold(&mut self, facts: &mut Facts) -> Result<Writes, AllocError>
+        ensures { IfOk result (λ writes. writes ≡ facts.old) }
     {
         match replace(&mut self.spare, None) {
             Some(spare) => {
                 let mut writes = spare;
-                *writes.inner = facts;
+                swap(&mut *writes.inner, facts);
                 Ok(writes)
             }
-            None => Writes::new(self.alloc, facts),
+            None => Writes::new(self.alloc, replace(facts, Facts::new(self.alloc))),
         }
     }
 
