@@ -282,7 +282,7 @@ impl<'t> Sited<'t> {
         let around = path_around(self.judge.scopes)?;
         let step = step_of(alloc, &walker.own, self.tree, &around)?;
         self.judge.ask_step(log, &step)?;
-        walker.finish(step)?;
+        walker.finish_facts(step)?;
         let writes = scratch.room.hold(&mut walker.own)?;
         Ok(Verdict {
             fault: None,

@@ -306,7 +306,7 @@ impl<'a> Walker<'a> {
     }
 
     /// What a unit without fault adds stands there, where it does this to the open scopes.
-    pub fn finish(&mut self, step: Step) -> Result<(), AllocError>
+    pub fn finish_facts(&mut self, step: Step) -> Result<(), AllocError>
         ensures { OnOk result
             (self.new.own
             ≡ record {
