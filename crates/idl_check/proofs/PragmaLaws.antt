@@ -15,7 +15,7 @@ use Rattle.idl_event.specs.declared.code.Code.TheVariants.{BadIdText, MalformedP
 use Rattle.idl_lex.specs.Tokens.{Token}
 use Rattle.idl_memo.specs.Query.{Ask, Done, and_then, asked, outcome}
 use Rattle.idl_memo.proofs.QueryLaws.{outcome-and_then}
-use Rattle.idl_scope.specs.Facts.{identity_in, scopes_in}
+use Rattle.idl_scope.specs.Facts.{identity_at, scopes_in}
 use Rattle.idl_scope.specs.Lookup.{Lookup, by_result, denoted}
 use Rattle.idl_scope.specs.declared.addition.Addition.TheVariants.{Identifies}
 use Rattle.idl_scope.specs.declared.addition.Step.TheVariants.{Stays}
@@ -180,11 +180,11 @@ module _ (turns : ℕ) (answers : Key → Option Answer) (scopes : List Scope) (
 
   abbrev about_by : ℕ → (Identity → List Fault) → (Identity → Identity) → Entity → Bool → Lookup Said
   about_by at faults change e b =
-      cond b (Ask (IdOf e.path) (λ answer. Done (said_at faults change e.path (identity_in answer)))) (Done (refused_for (fault_at at NoRepositoryId ∷ [])))
+      cond b (Ask (IdOf e.path) (λ answer. Done (said_at faults change e.path (identity_at e.path answer)))) (Done (refused_for (fault_at at NoRepositoryId ∷ [])))
 
   about-if : (at : ℕ) (faults : Identity → List Fault) (change : Identity → Identity) (e : Entity) (b : Bool) → at < n → ((d : Identity) → All (Before n) (faults d))
       → All (Before n) (outcome (about_by at faults change e b) answers).faults
-  about-if at faults change e true lt each = said-at-before faults change e.path (identity_in (answers (IdOf e.path))) each
+  about-if at faults change e true lt each = said-at-before faults change e.path (identity_at e.path (answers (IdOf e.path))) each
   about-if at faults change e false lt each = one-before n at NoRepositoryId lt
 
   module _ (name : ScopedName) (faults : Identity → List Fault) (change : Identity → Identity) (within : last_at 2 name < n) (each : (d : Identity) → All (Before n) (faults d)) where

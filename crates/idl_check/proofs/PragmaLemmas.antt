@@ -15,7 +15,7 @@ use Rattle.idl_event.specs.declared.code.Code.TheVariants.{BadIdText, NoReposito
 use Rattle.idl_lex.specs.Tokens.{Token}
 use Rattle.idl_memo.specs.Query.{Ask, Done, and_then, noted}
 use Rattle.idl_memo.proofs.QueryLaws.{run-and_then_at}
-use Rattle.idl_scope.specs.Facts.{identity_in}
+use Rattle.idl_scope.specs.Facts.{identity_at}
 use Rattle.idl_scope.specs.Key.{key_eq}
 use Rattle.idl_scope.specs.Lookup.{Lookup, by_result, denoted}
 use Rattle.idl_scope.specs.declared.addition.Addition.TheVariants.{Identifies}
@@ -106,14 +106,14 @@ module _ (bank : Key → Option Answer) (faults : Identity → List Fault) (chan
   said-named path (Some d) = refl
 
   abbrev about_by : ℕ → Entity → Bool → Lookup Said
-  about_by at e b = cond b (Ask (IdOf e.path) (λ answer. Done (said_at e.path (identity_in answer)))) (Done (refused_for (fault_at at NoRepositoryId ∷ [])))
+  about_by at e b = cond b (Ask (IdOf e.path) (λ answer. Done (said_at e.path (identity_at e.path answer)))) (Done (refused_for (fault_at at NoRepositoryId ∷ [])))
 
   -- of an entity that may have an id
   pub about-named : (at : ℕ) (e : Entity) (log : List (Key × Option Answer)) → has_id e.kind ≡ true
-      → runs_over bank (about at faults change e) log ≡ (said_of faults change (Ok (named_at e.path (identity_in (bank (IdOf e.path))))), noted key_eq bank log (IdOf e.path))
+      → runs_over bank (about at faults change e) log ≡ (said_of faults change (Ok (named_at e.path (identity_at e.path (bank (IdOf e.path))))), noted key_eq bank log (IdOf e.path))
   about-named at e log h =
       ap (λ b. runs_over bank (about_by at e b) log) h
-      ∙ ap (λ s. (s, noted key_eq bank log (IdOf e.path))) (said-named e.path (identity_in (bank (IdOf e.path))))
+      ∙ ap (λ s. (s, noted key_eq bank log (IdOf e.path))) (said-named e.path (identity_at e.path (bank (IdOf e.path))))
 
   -- and of one that has none
   pub about-none : (at : ℕ) (e : Entity) (log : List (Key × Option Answer)) → has_id e.kind ≡ false

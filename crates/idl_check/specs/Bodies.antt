@@ -8,6 +8,7 @@ use Rattle.idl_scope.specs.declared.data_type.DataType.{DataType}
 use Rattle.idl_scope.specs.declared.entity.Entity.{Entity}
 use Rattle.idl_scope.specs.declared.kind.Kind.{Kind}
 use Rattle.idl_scope.specs.declared.kind.Kind.TheVariants.{Attribute, Member as MemberKind, Parameter, Union}
+use Rattle.idl_scope.specs.declared.kind.Stage.TheVariants.{Complete}
 use Rattle.idl_scope.specs.declared.signature.Member.{Member}
 use Rattle.idl_scope.specs.declared.signature.Signature.{Signature}
 use Rattle.idl_site.specs.declared.site.Declaration.{Declaration}
@@ -78,6 +79,11 @@ pub record Body : Type 0 where
 abbrev pub begun_body : Option Entity → Option DataType → Body
 begun_body entity data_type =
     record { entity = entity; data_type = data_type; members = []; labels = [] }
+
+-- the innermost body, if there is one, with those around it
+abbrev pub nested : Option Body → List Body → List Body
+nested None around = []
+nested (Some b) around = b ∷ around
 
 -- a parameter goes in, and comes out
 abbrev pub goes_in : Declaration → Bool
@@ -151,12 +157,14 @@ abbrev pub with_array_member : List ℕ → Option Entity → List Body → List
 with_array_member lengths None bodies = bodies
 with_array_member lengths (Some e) bodies = with_array_body (array_of lengths e) bodies
 
--- what a body is of, once it ends: of a union the type of its labels is that before it
+-- what a body is of, once it ends: it is complete, and of a union the type of its labels is that
+-- before it
 abbrev pub told_body : Clauses → Body → List Entity
 told_body clauses b =
     elim b.entity [
       | None ↦ []
       | Some e ↦ record e {
+        stage = Complete;
         data_type = if kind_eq e.kind Union then b.data_type else e.data_type;
         signature = Some (signature_of b.members clauses);
       } ∷ []

@@ -1,20 +1,18 @@
--- Repository ids: which names have one, what it is at first, and what pragmas make of it.
-use Rattle.std.specs.Prelude.{ℕ, ◌-◌, Bool, true, false, ◌&&◌, ◌||◌, List, [], ◌∷◌, ◌++◌, codes, decimal, drop, length, nat_eq, nat_le, not, take, Option, None, Some, if◌then◌else◌}
+-- Repository ids: which names have one, and what pragmas make of it.
+use Rattle.std.specs.Prelude.{ℕ, ◌-◌, Bool, true, false, ◌&&◌, ◌||◌, List, ◌∷◌, ◌++◌, decimal, length, nat_eq, nat_le, not, take, Option, None, Some, if◌then◌else◌}
 use Rattle.std.specs.List.{list_all, list_any}
 use Rattle.std.specs.Str.{bytes_eq}
 use Rattle.idl_check.specs.declared.identifying.Ids.{Ids}
 use Rattle.idl_memo.specs.Query.{Done, Ask, and_then}
-use Rattle.idl_scope.specs.Facts.{identity_in, prefix_in, with_addition}
+use Rattle.idl_scope.specs.Facts.{identity_at, prefix_in, with_addition}
 use Rattle.idl_scope.specs.Identity.{fixed_eq}
 use Rattle.idl_scope.specs.Kind.{kind_eq}
 use Rattle.idl_scope.specs.Lookup.{Lookup}
-use Rattle.idl_scope.specs.Path.{path_eq, scope_of}
 use Rattle.idl_scope.specs.declared.addition.Addition.{Addition}
-use Rattle.idl_scope.specs.declared.addition.Addition.TheVariants.{Identifies}
+use Rattle.idl_scope.specs.declared.addition.Addition.TheVariants.{Appears}
 use Rattle.idl_scope.specs.declared.entity.Entity.{Entity}
 use Rattle.idl_scope.specs.declared.identity.Fixed.TheVariants.{Nothing, Version, Id}
 use Rattle.idl_scope.specs.declared.identity.Identity.{Identity}
-use Rattle.idl_scope.specs.declared.identity.Prefix.{Prefix}
 use Rattle.idl_scope.specs.declared.key.Key.TheVariants.{Prefix as PrefixKey, IdOf}
 use Rattle.idl_scope.specs.declared.kind.Kind.{Kind}
 use Rattle.idl_scope.specs.declared.kind.Kind.TheVariants.{Interface, Structure, Union, Enumerator, Parameter, Member}
@@ -25,34 +23,6 @@ has_id Enumerator = false
 has_id Parameter = false
 has_id Member = false
 has_id other = true
-
--- the parts of a path, the outermost first, with `/` between them
-abbrev pub slashed : List (List ℕ) → List ℕ
-slashed [] = []
-slashed (name ∷ []) = name
-slashed (name ∷ scope ∷ outer) = slashed (scope ∷ outer) ++ 47 ∷ name
-
--- whether a path is that of a scope or of what stands in it
-abbrev pub is_within : List (List ℕ) → List (List ℕ) → Bool
-is_within path scope = path_eq (drop (length path - length scope) path) scope
-
--- a path as it is told in a scope: what is declared elsewhere has its whole path
-abbrev pub relative : List (List ℕ) → List (List ℕ) → List (List ℕ)
-relative path scope =
-    if is_within (scope_of path) scope then take (length path - length scope) path else path
-
--- a prefix with the `/` behind it
-abbrev pub prefixed : List ℕ → List ℕ
-prefixed [] = []
-prefixed (c ∷ text) = (c ∷ text) ++ 47 ∷ []
-
--- what the name at a path is identified by where it is declared first
-abbrev pub first_identity : Prefix → List (List ℕ) → Identity
-first_identity p path = record {
-  id = codes "IDL:" ++ prefixed p.text ++ slashed (relative path p.scope) ++ codes ":1.0";
-  prefix = p.text;
-  fixed = Nothing;
-}
 
 -- with another version in place of `1.0`
 abbrev pub versioned : ℕ → ℕ → Identity → Identity
@@ -88,7 +58,7 @@ may_be_ahead kind = kind_eq kind Interface || (kind_eq kind Structure || kind_eq
 abbrev pub id_before : Option Entity → Entity → Lookup (Option Identity)
 id_before None e = Done None
 id_before (Some old) e =
-    if may_be_ahead old.kind then Ask (IdOf e.path) (λ answer. Done (identity_in answer))
+    if may_be_ahead old.kind then Ask (IdOf e.path) (λ answer. Done (identity_at e.path answer))
     else Done None
 
 -- what a declared name that has an id is told of ids: the prefix in force, and its own id
@@ -105,9 +75,9 @@ has_other_prefix None = false
 has_other_prefix (Some ids) =
     elim ids.before [ None ↦ false | Some d ↦ not (bytes_eq d.prefix ids.prefix.text) ]
 
--- what is declared first is identified
+-- what is declared first is identified by its path and the prefix in force
 abbrev pub with_identity : Option Entity → Option Ids → Entity → List Addition → List Addition
 with_identity (Some old) ids e own = own
 with_identity None None e own = own
 with_identity None (Some ids) e own =
-    with_addition own (Identifies e.path (first_identity ids.prefix e.path))
+    with_addition own (Appears e.path ids.prefix)

@@ -6,7 +6,7 @@ use Rattle.idl_check.specs.Identifying.{given, has_id, is_fixed, is_given, is_id
 use Rattle.idl_check.specs.Using.{last_at, name_code, part_at}
 use Rattle.idl_event.specs.declared.code.Code.TheVariants.{BadIdText, NoRepositoryId, RepeatedId, RepeatedVersion}
 use Rattle.idl_memo.specs.Query.{Done, Ask, and_then}
-use Rattle.idl_scope.specs.Facts.{identity_in}
+use Rattle.idl_scope.specs.Facts.{identity_at}
 use Rattle.idl_scope.specs.Lookup.{Lookup, by_result, denoted}
 use Rattle.idl_scope.specs.declared.addition.Addition.{Addition}
 use Rattle.idl_scope.specs.declared.addition.Addition.TheVariants.{Identifies}
@@ -56,7 +56,7 @@ unnamed_faults name Memory = []
 abbrev pub about : ℕ → (Identity → List Fault) → (Identity → Identity) → Entity → Lookup Said
 about at faults change e =
     if has_id e.kind
-    then Ask (IdOf e.path) (λ answer. Done (elim (identity_in answer) [
+    then Ask (IdOf e.path) (λ answer. Done (elim (identity_at e.path answer) [
       | None ↦ refused_for []
       | Some d ↦ record {
         faults = faults d;

@@ -1,14 +1,14 @@
 //! What is told inside a unit of what it declares: the members of scopes, and what clauses say.
 
-ghost use Rattle.std.specs.Prelude.{◌≡◌, ◌++◌, ◌&&◌, [], IfNone, IfOk, OnOk, drop, flat_map, option_to_list};
+ghost use Rattle.std.specs.Prelude.{◌≡◌, ◌∷◌, ◌++◌, ◌&&◌, [], IfNone, IfOk, OnOk, drop, flat_map, option_to_list};
 ghost use Rattle.idl_scope.specs.Kind.{kind_eq};
 ghost use Rattle.idl_scope.specs.declared.kind.Kind.TheVariants.{Attribute};
-ghost use Rattle.idl_check.specs.Bodies.{begun_body, comes_out, goes_in, is_member, is_nothing, joined_text, no_clauses, raises, raising, signature_of, told_body, told_innermost, with_array_body, with_array_type, with_body_label, with_context, with_last_type, with_member, with_name, with_next_label, with_raised};
+ghost use Rattle.idl_check.specs.Bodies.{begun_body, comes_out, goes_in, is_member, is_nothing, joined_text, nested, no_clauses, raises, raising, signature_of, told_body, told_innermost, with_array_body, with_array_type, with_body_label, with_context, with_last_type, with_member, with_name, with_next_label, with_raised};
 
 use crate::few::Few;
 use crate::last_type::LastType;
 use idl_base::Seq;
-use idl_scope::{DataType, Entity, Kind, Member, Path, Shared, Signature};
+use idl_scope::{DataType, Entity, Kind, Member, Path, Shared, Signature, Stage};
 use idl_site::{Declaration, Use};
 use idl_tree::{Direction, Several};
 use idl_value::Value;
@@ -36,6 +36,32 @@ pub struct Body {
     members: Vec<Member>,
     /// The labels since the last of them: their values, and nothing for `default`.
     labels: Vec<Option<Value>>,
+}
+
+/// The scopes of a unit around the walk, the innermost first. That one stands in place: most units
+/// begin one at a time, which then takes no memory.
+pub struct Nest {
+    innermost: Option<Body>,
+    /// Those around the innermost, if there is one.
+    around: Vec<Body>,
+}
+
+impl Model for Nest {
+    ghost use Rattle.std.specs.Prelude.{List};
+    ghost use Rattle.idl_check.specs.Bodies.{Body as ToldBody, nested};
+
+    ghost Value = { List ToldBody };
+
+    ghost view = { λ nest. nested nest.innermost nest.around.items };
+}
+
+impl Drop for Nest {
+    fn drop(self) {
+        let Nest {
+            innermost: _innermost,
+            around: _around,
+        } = self;
+    }
 }
 
 impl Model for Clauses {
@@ -243,6 +269,7 @@ impl Body {
             return Ok(None);
         };
         let mut told = entity.get().parts(alloc)?;
+        told.stage = Stage::Complete;
         if told.kind == Kind::Union {
             told.data_type = data_type;
         }
@@ -252,36 +279,69 @@ impl Body {
     }
 }
 
+impl Nest {
+    /// None. It takes no memory.
+    pub fn new(alloc: Global) -> Nest
+        ensures { result ≡ [] }
+    {
+        Nest {
+            innermost: None,
+            around: Vec::new(alloc),
+        }
+    }
+
+    /// This one begins.
+    pub fn begin(&mut self, body: Body) -> Result<(), AllocError>
+        ensures { OnOk result (self.new ≡ body ∷ self.old) }
+    {
+        match self.innermost.replace(body) {
+            Some(outer) => self.around.insert(0, outer)?,
+            None => self.around.clear(),
+        }
+        Ok(())
+    }
+
+    // The innermost ends, if there is one.
+    fn end(&mut self) -> Option<Body>
+        ensures some { self.old ≡ option_to_list result ++ self.new }
+        ensures none { IfNone result (self.old ≡ []) }
+    {
+        let body = self.innermost.take()?;
+        self.innermost = take_first(&mut self.around);
+        Some(body)
+    }
+}
+
 /// Puts a declared name into the innermost of these scopes, if it is a member.
 pub fn declare_member(
     alloc: Global,
-    bodies: &mut Vec<Body>,
+    bodies: &mut Nest,
     way: Declaration,
     entity: &Entity,
 ) -> Result<(), AllocError>
-    ensures { OnOk result (bodies.new.items ≡ with_member way entity.now bodies.old.items) }
+    ensures { OnOk result (bodies.new ≡ with_member way entity.now bodies.old) }
 {
-    match bodies.first_mut() {
+    match &mut bodies.innermost {
         Some(body) => body.declare(alloc, way, entity),
         None => Ok(()),
     }
 }
 
 /// Puts a label into the innermost of these scopes.
-pub fn label_member(bodies: &mut Vec<Body>, label: Option<Value>) -> Result<(), AllocError>
-    ensures { OnOk result (bodies.new.items ≡ with_body_label label bodies.old.items) }
+pub fn label_member(bodies: &mut Nest, label: Option<Value>) -> Result<(), AllocError>
+    ensures { OnOk result (bodies.new ≡ with_body_label label bodies.old) }
 {
-    match bodies.first_mut() {
+    match &mut bodies.innermost {
         Some(body) => body.label(label),
         None => Ok(()),
     }
 }
 
 /// What was declared last in the innermost of these scopes is this array.
-pub fn make_array(bodies: &mut Vec<Body>, array: &Entity) -> Result<(), AllocError>
-    ensures { OnOk result (bodies.new.items ≡ with_array_body array.now bodies.old.items) }
+pub fn make_array(bodies: &mut Nest, array: &Entity) -> Result<(), AllocError>
+    ensures { OnOk result (bodies.new ≡ with_array_body array.now bodies.old) }
 {
-    match bodies.first_mut() {
+    match &mut bodies.innermost {
         Some(body) => body.make_array(array),
         None => Ok(()),
     }
@@ -290,15 +350,15 @@ pub fn make_array(bodies: &mut Vec<Body>, array: &Entity) -> Result<(), AllocErr
 /// The innermost of these scopes ends: what it is of has begun.
 pub fn end_innermost(
     alloc: Global,
-    bodies: &mut Vec<Body>,
+    bodies: &mut Nest,
     clauses: &Clauses,
     begun: &mut Few<Shared<Entity>>,
 ) -> Result<(), AllocError>
     ensures begun { OnOk result
-        (begun.new ≡ begun.old ++ told_innermost clauses.now bodies.old.items) }
-    ensures bodies { OnOk result (bodies.new.items ≡ drop 1 bodies.old.items) }
+        (begun.new ≡ begun.old ++ told_innermost clauses.now bodies.old) }
+    ensures bodies { OnOk result (bodies.new ≡ drop 1 bodies.old) }
 {
-    let Some(body) = take_innermost(bodies) else {
+    let Some(body) = bodies.end() else {
         return Ok(());
     };
     let Some(told) = body.told(alloc, clauses)? else {
@@ -308,10 +368,9 @@ pub fn end_innermost(
     Ok(())
 }
 
-// Takes out the innermost of these scopes, if there is one.
-fn take_innermost(bodies: &mut Vec<Body>) -> Option<Body>
-    ensures some { bodies.old.items ≡ option_to_list result ++ bodies.new.items }
-    ensures none { IfNone result (bodies.old.items ≡ []) }
+// Takes out the first of these scopes, if there is one.
+fn take_first(bodies: &mut Vec<Body>) -> Option<Body>
+    ensures { bodies.old.items ≡ nested result bodies.new.items }
 {
     if bodies.is_empty() {
         return None;

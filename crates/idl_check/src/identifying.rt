@@ -1,8 +1,8 @@
-//! Repository ids: which names have one, what it is at first, and what pragmas make of it.
+//! Repository ids: which names have one, and what pragmas make of it.
 
 ghost use Rattle.std.specs.Prelude.{◌≡◌, ◌++◌, IfOk, None, OnOk, Some, decimal, if◌then◌else◌};
 ghost use Rattle.std.specs.Str.{bytes_eq};
-ghost use Rattle.idl_check.specs.Identifying.{first_identity, given, has_id, has_other_prefix, id_before, ids_of, is_fixed, is_given, is_id, is_visible, may_be_ahead, prefixed, relative, slashed, versioned};
+ghost use Rattle.idl_check.specs.Identifying.{given, has_id, has_other_prefix, id_before, ids_of, is_fixed, is_given, is_id, is_visible, may_be_ahead, versioned};
 ghost use Rattle.idl_memo.specs.Query.{run};
 ghost use Rattle.idl_scope.specs.Facts.{answers};
 ghost use Rattle.idl_scope.specs.Key.{key_eq};
@@ -11,9 +11,7 @@ ghost use Rattle.idl_scope.specs.Lookup.{under};
 use idl_base::InlineText;
 use idl_lex::Spelling;
 use idl_memo::Journal;
-use idl_scope::{
-    Entity, Env, Fixed, Identity, Kind, Names, Path, Prefix, Shared, View, shared_name,
-};
+use idl_scope::{Entity, Env, Fixed, Identity, Kind, Prefix, Shared, View, shared_name};
 use itoa::Buffer;
 use std::alloc::{AllocError, Global};
 
@@ -97,81 +95,9 @@ fn id_before(
         (answers view.entry.env.now) log.old) }
 {
     match there {
-        Some(old) if may_be_ahead(old.get().kind()) => {
-            match view.identity(log, new.path())? {
-                Some(identity) => Ok(Some(identity.clone()?)),
-                None => Ok(None),
-            }
-        }
+        Some(old) if may_be_ahead(old.get().kind()) => { view.identity(log, new.path()) }
         _ => Ok(None),
     }
-}
-
-/// What the name at a path is identified by where it is declared first.
-pub fn first_identity(
-    alloc: Global,
-    prefix: &Prefix,
-    path: &Path,
-) -> Result<Shared<Identity>, AllocError>
-    ensures { IfOk result (λ d. d ≡ first_identity prefix.now path.now) }
-{
-    let mut id = Vec::with_capacity(alloc, room_of(prefix.text.as_bytes(), path.lent()))?;
-    id.extend_from_slice(b"IDL:")?;
-    push_prefix(&mut id, prefix.text.as_bytes())?;
-    push_slashed(&mut id, path.lent(), &prefix.scope)?;
-    id.extend_from_slice(b":1.0")?;
-    Shared::new(
-        alloc,
-        Identity {
-            id: InlineText::from_slice(alloc, id.as_slice())?,
-            prefix: prefix.text.clone()?,
-            fixed: Fixed::Nothing,
-        },
-    )
-}
-
-// How many bytes an id takes that is told with this prefix and these parts of a path.
-fn room_of(prefix: &[u8], path: Names<'_>) -> usize {
-    let mut room = 7_usize;
-    if !prefix.is_empty() {
-        room = room.saturating_add(prefix.len()).saturating_add(1);
-    }
-    let mut rest = path;
-    while let Some((name, outer)) = rest.split_first() {
-        room = room.saturating_add(name.len()).saturating_add(1);
-        rest = outer;
-    }
-    room
-}
-
-// A prefix with the `/` behind it.
-fn push_prefix(id: &mut Vec<u8>, text: &[u8]) -> Result<(), AllocError>
-    ensures { OnOk result (id.new.items ≡ id.old.items ++ prefixed text.now) }
-{
-    if text.is_empty() {
-        return Ok(());
-    }
-    id.extend_from_slice(text)?;
-    id.push(b'/')?;
-    Ok(())
-}
-
-// The parts of a path as it is told in a scope, the outermost first, with `/` between them.
-#[tactic(auto, using(crate::proofs::IdLemmas::slashed_none, crate::proofs::IdLemmas::slashed_ends, crate::proofs::IdLemmas::slashed_last, crate::proofs::IdLemmas::slashed_further))]
-fn push_slashed(id: &mut Vec<u8>, path: Names<'_>, scope: &Path) -> Result<(), AllocError>
-    ensures { OnOk result (id.new.items ≡ id.old.items ++ slashed (relative path.entry scope.now)) }
-{
-    let Some((name, around)) = path.split_first() else {
-        return Ok(());
-    };
-    if around.is_empty() || around.are_of(scope) {
-        id.extend_from_slice(name)?;
-        return Ok(());
-    }
-    push_slashed(id, around, scope)?;
-    id.push(b'/')?;
-    id.extend_from_slice(name)?;
-    Ok(())
 }
 
 /// It with another version in place of `1.0`.

@@ -5,7 +5,7 @@
 
 ghost use Rattle.std.specs.Prelude.{◌≡◌, ◌≢◌, ◌↔◌, ◌+◌, ◌++◌, ◌<◌, ◌≤◌, Bool, ℕ, List, [], ◌∷◌, All, Contains, codes, decimal, false, length, take, true, None, Option, Some};
 ghost use Rattle.idl_check.specs.AllFaults.{site_faults, unit_faults};
-ghost use Rattle.idl_check.specs.Identifying.{first_identity, is_within, prefixed, relative, slashed, versioned};
+ghost use Rattle.idl_check.specs.Identifying.{versioned};
 ghost use Rattle.idl_check.specs.Placing.{faulty_step, step_of};
 ghost use Rattle.idl_check.specs.Judging.{IsNotAfter, IsSound, IsSpoken, refused_keys, spoken_from, spoken_till, used_names, walked, without_name};
 ghost use Rattle.idl_check.specs.Row.{Rest, unit_text};
@@ -14,6 +14,7 @@ ghost use Rattle.idl_check.specs.Walk.{Walk, visit};
 ghost use Rattle.idl_lex.specs.Tokens.{Token};
 ghost use Rattle.idl_memo.specs.Query.{asked, outcome};
 ghost use Rattle.idl_scope.specs.Facts.{scopes_in};
+ghost use Rattle.idl_scope.specs.Identity.{first_identity, is_within, prefixed, relative, slashed};
 ghost use Rattle.idl_scope.specs.Path.{scope_of};
 ghost use Rattle.idl_scope.specs.declared.addition.Step.TheVariants.{Stays};
 ghost use Rattle.idl_scope.specs.declared.answer.Answer.{Answer};

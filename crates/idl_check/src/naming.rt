@@ -22,7 +22,6 @@ use crate::bases::Bases;
 use crate::bodies::declare_member;
 use crate::declaring::{declared_code, stays};
 use crate::few::Few;
-use crate::identifying::first_identity;
 use crate::labels::Labels;
 use crate::part::front;
 use crate::standing::{Standing, standing_of};
@@ -40,7 +39,7 @@ use idl_scope::{
 use idl_site::{Declaration, Use};
 use idl_tree::ScopedName;
 use idl_value::Target;
-use std::alloc::{AllocError, Global};
+use std::alloc::AllocError;
 
 impl<'a> Walker<'a> {
     /// A declared name.
@@ -98,7 +97,7 @@ impl<'a> Walker<'a> {
         self.written.declare(self.env.alloc(), entity.get())?;
         declare_member(self.env.alloc(), &mut self.bodies, way, entity.get())?;
         keep_last(&mut self.last, &entity)?;
-        add_identity(self.env.alloc(), &mut self.own, standing, entity.get())?;
+        add_identity(&mut self.own, standing, entity.get())?;
         add_declared(&mut self.own, &standing.there, entity)?;
         Ok(())
     }
@@ -381,13 +380,8 @@ fn keep_begun(begun: &mut Few<Shared<Entity>>, entity: &Shared<Entity>) -> Resul
     Ok(())
 }
 
-// Puts in the id of what is declared first.
-fn add_identity(
-    alloc: Global,
-    own: &mut Facts,
-    standing: &Standing,
-    entity: &Entity,
-) -> Result<(), AllocError>
+// Puts in the prefix that tells the id of what is declared first.
+fn add_identity(own: &mut Facts, standing: &Standing, entity: &Entity) -> Result<(), AllocError>
     ensures { OnOk result
         (own.new
         ≡ record own.old {
@@ -398,8 +392,7 @@ fn add_identity(
     let (None, Some(ids)) = (&standing.there, &standing.ids) else {
         return Ok(());
     };
-    let identity = first_identity(alloc, ids.prefix.get(), entity.path())?;
-    own.add(Addition::Identifies(entity.path().clone()?, identity))
+    own.add(Addition::Appears(entity.path().clone()?, ids.prefix.clone()?))
 }
 
 // Puts in what a declared name adds.

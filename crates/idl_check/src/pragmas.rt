@@ -7,7 +7,7 @@ ghost use Rattle.idl_check.specs.Pragmas.{about_name, prefix_faults};
 ghost use Rattle.idl_check.specs.Using.{last_at};
 ghost use Rattle.idl_check.specs.Verdict.{faulty, pragma_judged, pragma_verdict};
 ghost use Rattle.idl_memo.specs.Query.{noted, run};
-ghost use Rattle.idl_scope.specs.Facts.{answers, identity_in};
+ghost use Rattle.idl_scope.specs.Facts.{answers, identity_at};
 ghost use Rattle.idl_scope.specs.Key.{key_eq};
 ghost use Rattle.idl_scope.specs.declared.addition.Addition.TheVariants.{Identifies};
 ghost use Rattle.idl_scope.specs.declared.addition.Step.TheVariants.{Prefixes, Stays};
@@ -215,7 +215,7 @@ impl<'a> Speaker<'a> {
         ensures named { IfOk result (λ named.
             named
             ≡ option_map (λ d. record { path = path.now; identity = d })
-            (identity_in (answers self.entry.env.now (IdOf path.now)))) }
+            (identity_at path.now (answers self.entry.env.now (IdOf path.now)))) }
         ensures logged { OnOk result
             (log.new ≡ noted key_eq (answers self.entry.env.now) log.old (IdOf path.now)) }
     {
@@ -227,7 +227,7 @@ impl<'a> Speaker<'a> {
         match view.identity(log, path)? {
             Some(identity) => Ok(Some(Named {
                 path: path.clone()?,
-                identity: identity.clone()?,
+                identity,
             })),
             None => Ok(None),
         }

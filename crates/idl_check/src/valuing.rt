@@ -250,7 +250,7 @@ impl<'a> Walker<'a> {
             (faulty_if (list_any (λ l. l.has_default) (take 1 self.old.unions.items))
             RepeatedLabel (held self.old) (record (held self.old) {
               unions = with_labels with_default self.old.unions.items;
-              bodies = with_body_label None self.old.bodies.items;
+              bodies = with_body_label None self.old.bodies;
             })) self.old.fault) }
         ensures at { OnOk result (self.new.at ≡ self.old.at) }
         ensures env { OnOk result (self.new.env.now ≡ self.old.env.now) }

@@ -16,7 +16,7 @@ ghost use Rattle.idl_site.specs.Item.{Item as item, item_at, item_length};
 ghost use Rattle.idl_unit.specs.TokenRules.{fault_at};
 
 use crate::bases::Bases;
-use crate::bodies::{Body, Clauses, end_innermost};
+use crate::bodies::{Body, Clauses, Nest, end_innermost};
 use crate::codes::lesser;
 use crate::cursor::Cursor;
 use crate::declaring::{Ending, Written, finished, kind_of, path_in};
@@ -33,7 +33,7 @@ use idl_tree::Several;
 use idl_unit::Fault;
 use std::alloc::{AllocError, Global};
 
-/// How far a walk has come.
+/// How far a walk has come. Of its many fields most are empty, so each is dropped where it stands.
 #[derive(Drop)]
 pub struct Walker<'a> {
     pub env: &'a Env,
@@ -51,7 +51,7 @@ pub struct Walker<'a> {
     /// What was declared last.
     pub last: Option<Shared<Entity>>,
     /// The scopes of the unit around it, the innermost first.
-    pub bodies: Vec<Body>,
+    pub bodies: Nest,
     pub clauses: Clauses,
     /// The labels of the unions around it, the innermost first.
     pub unions: Vec<Labels>,
@@ -80,7 +80,7 @@ impl<'a> Walker<'a> {
             bases: Bases::new(alloc),
             written: Written::new(alloc),
             last: None,
-            bodies: Vec::new(alloc),
+            bodies: Nest::new(alloc),
             clauses: Clauses::new(alloc),
             unions: Vec::new(alloc),
             gives_back: false,
@@ -245,13 +245,13 @@ impl<'a> Walker<'a> {
               cursor = with_scope way name.now self.old.cursor;
               bodies =
                   begun_body self.old.last self.old.written.data_type
-                  ∷ self.old.bodies.items;
+                  ∷ self.old.bodies;
             }) }
         ensures env { OnOk result (self.new.env.now ≡ self.old.env.now) }
     {
         let alloc = self.env.alloc();
         let body = Body::new(alloc, &self.last, &self.written.data_type)?;
-        self.bodies.insert(0, body)?;
+        self.bodies.begin(body)?;
         let Some(innermost) = self.cursor.innermost() else {
             return Ok(());
         };

@@ -71,7 +71,27 @@ impl<B: RootBank> HintedLog<B> {
         ensures logged { OnOk result
             (self.new ≡ noted key_eq (B.at bank.now) self.old (Macro word.now)) }
     {
-        if let Some(key) = self.logged(word, digest) {
+        let places = self.hints.places_of(digest);
+        if let Some(key) = word_at(&self.log, places.first, word) {
+            return Ok(bank.answer(key));
+        }
+        self.ask_further(word, digest, bank)
+    }
+
+    // The same where the word doesn't stand at the first place that is noted for its digest, as most words do.
+    #[inline(never)]
+    fn ask_further<'b>(
+        &mut self,
+        word: &Spelling,
+        digest: u64,
+        bank: &'b B,
+    ) -> Result<Option<&'b Answer>, AllocError>
+        ensures answer { IfOk result (λ answer. option_copied answer ≡ B.at bank.now (Macro word.now)) }
+        ensures logged { OnOk result
+            (self.new ≡ noted key_eq (B.at bank.now) self.old (Macro word.now)) }
+    {
+        let places = self.hints.places_of(digest);
+        if let Some(key) = word_at(&self.log, places.last, word) {
             return Ok(bank.answer(key));
         }
         let place = self.log.len();
@@ -81,21 +101,10 @@ impl<B: RootBank> HintedLog<B> {
         }
         Ok(answer)
     }
-
-    // The key of a word, where it stands at one of the places where it may. One that doesn't may be logged all the same.
-    fn logged(&self, word: &Spelling, digest: u64) -> Option<&Key>
-        ensures { IfSome result (λ key. (key.now ≡ Macro word.now)
-            × (is_logged key_eq self.now (Macro word.now) ≡ true)) }
-    {
-        let places = self.hints.places_of(digest);
-        match word_at(&self.log, places.first, word) {
-            Some(key) => Some(key),
-            None => word_at(&self.log, places.last, word),
-        }
-    }
 }
 
 // The key at a place of a log, if it is that of a word.
+#[inline(always)]
 fn word_at<'a, B: RootBank>(log: &'a Log<B>, place: u32, word: &Spelling) -> Option<&'a Key>
     ensures { IfSome result (λ key. (key.now ≡ Macro word.now)
         × (is_logged key_eq log.now (Macro word.now) ≡ true)) }

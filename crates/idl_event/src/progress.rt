@@ -171,10 +171,21 @@ impl<B: RootBank> Progress<B> {
             (self.new ≡ after_key key_eq (B.at bank.now) (Macro word.now) self.old) }
     {
         if self.left.is_none() {
-            return Ok(bank.answer(&Key::Macro(word.clone()?)));
+            return answer_at(word, bank);
         }
         self.log.ask_word(word, digest, bank)
     }
+}
+
+// The bank's answer at the key of a macro's word.
+#[inline(never)]
+fn answer_at<'b, B: RootBank>(
+    word: &Spelling,
+    bank: &'b B,
+) -> Result<Option<&'b Answer>, AllocError>
+    ensures { IfOk result (λ answer. option_copied answer ≡ B.at bank.now (Macro word.now)) }
+{
+    Ok(bank.answer(&Key::Macro(word.clone()?)))
 }
 
 // What is kept of an item goes behind the events.

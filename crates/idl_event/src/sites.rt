@@ -87,6 +87,7 @@ impl Sites {
     }
 
     /// The sites of so many tokens more, one behind the other at one place.
+    #[inline(always)]
     pub fn push_run(&mut self, place: Place, others: usize, count: usize) -> Result<(), AllocError>
         requires some { 0 < count }
         ensures more { OnOk result

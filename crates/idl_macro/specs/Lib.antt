@@ -1,4 +1,5 @@
 pub mod Condition
+pub mod Digest
 pub mod Directives
 pub mod Macros
 pub mod Output

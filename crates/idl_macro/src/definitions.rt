@@ -4,13 +4,14 @@ ghost use Rattle.std.specs.Prelude.{◌≡◌, [], Some, None, IfOk, OnOk, OnErr
 ghost use Rattle.std.specs.Map.{lookup};
 ghost use Rattle.std.specs.Option.{option_copied, option_map};
 ghost use Rattle.std.specs.Str.{bytes_eq};
-ghost use Rattle.idl_base.specs.Digest.{with_bytes};
 ghost use Rattle.idl_base.specs.Table.{insert_entry};
 ghost use Rattle.idl_event.specs.Expanding.{arrival, arrived};
 ghost use Rattle.idl_lex.specs.Tokens.{tokens_in};
+ghost use Rattle.idl_macro.specs.Digest.{digest_of};
 ghost use Rattle.idl_macro.specs.Macros.{body_in, macro_of};
 
-use idl_base::{Marks, Table, with_bytes};
+use crate::digest::digest_of;
+use idl_base::{Marks, Table};
 use idl_event::{Answer, Progress, RootBank};
 use idl_lex::{PlacedToken, Spelling, TokenRange};
 use std::alloc::{AllocError, Global};
@@ -32,15 +33,15 @@ impl Model for Definitions {
     ghost use Rattle.std.specs.Prelude.{List, ℕ, Option};
     ghost use Rattle.std.specs.Map.{lookup};
     ghost use Rattle.std.specs.Str.{bytes_eq};
-    ghost use Rattle.idl_base.specs.Digest.{with_bytes};
     ghost use Rattle.idl_base.specs.Marks.{AreMarked};
     ghost use Rattle.idl_lex.specs.Tokens.{Token};
+    ghost use Rattle.idl_macro.specs.Digest.{digest_of};
 
     ghost Value = { List (List ℕ × Option (List Token)) };
 
     ghost view = { λ definitions. definitions.entries };
 
-    ghost invariant = { λ definitions. AreMarked definitions.marks (with_bytes 0)
+    ghost invariant = { λ definitions. AreMarked definitions.marks digest_of
         (λ word. lookup (bytes_eq word) definitions.entries) };
 }
 
@@ -63,6 +64,7 @@ impl Definitions {
     }
 
     /// The body of the macro with this word: what the root said of it, else what the bank answers.
+    #[inline(always)]
     pub fn macro_of<'a, B: RootBank>(
         &'a self,
         word: &Spelling,
@@ -73,7 +75,7 @@ impl Definitions {
             arrived (option_map tokens_in (option_copied body)) progress.new
             ≡ arrival (B.at bank.now) (macro_of self.now word.now) progress.old) }
     {
-        let digest = with_bytes(0, word.as_bytes());
+        let digest = digest_of(word.as_bytes());
         match self.said_of(word, digest) {
             Some(said) => Ok(tokens_of(said.as_ref())),
             None => {
@@ -85,7 +87,7 @@ impl Definitions {
 
     // What was said of a word with this digest, if anything was.
     fn said_of(&self, word: &Spelling, digest: u64) -> Option<&Option<TokenRange>>
-        requires { digest ≡ with_bytes 0 word.now }
+        requires { digest ≡ digest_of word.now }
         ensures { option_copied result ≡ lookup (bytes_eq word.now) self.now }
     {
         if !self.marks.has(digest) {
@@ -116,7 +118,7 @@ impl Definitions {
         ensures ok { OnOk result (self.new ≡ insert_entry bytes_eq self.old word.now body) }
         ensures err { OnErr result (self.new ≡ self.old) }
     {
-        self.marks.mark(with_bytes(0, word.as_bytes()));
+        self.marks.mark(digest_of(word.as_bytes()));
         self.entries.insert(word.clone()?, body)?;
         Ok(())
     }

@@ -7,6 +7,7 @@
 
 mod conditional;
 mod definitions;
+mod digest;
 mod directive;
 mod replacement;
 mod word;

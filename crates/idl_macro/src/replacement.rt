@@ -34,6 +34,7 @@ pub enum Output {
 
 /// The tokens of a text are replaced, each at its own place, and emitted. Most stand for themselves: those of a line are emitted
 /// at once, and a replacement begins only where there is a macro.
+#[inline(never)]
 #[tactic(auto, unfolding(crate::specs::Replace::text))]
 pub fn replace_text<B: RootBank>(
     macros: &Macros<'_, B>,
@@ -104,6 +105,7 @@ fn count_plain<B: RootBank>(
 }
 
 // The body that a token in no replacement is replaced by: its macro's, if it is a word.
+#[inline(always)]
 fn body_of<'a, B: RootBank>(
     macros: &Macros<'a, B>,
     token: &Token,

@@ -1,6 +1,7 @@
 pub mod ListLemmas
 pub mod PlaceLemmas
 pub mod BitLemmas
+pub mod LaneLemmas
 pub mod BucketLemmas
 pub mod ItemLemmas
 pub mod EntryLemmas

@@ -3,6 +3,7 @@ use Rattle.std.specs.Prelude.{◌≡◌, ℕ, ◌+◌, ◌/◌, ◌%◌, ◌^◌
 use Rattle.idl_map.specs.declared.buckets.Buckets.{Buckets}
 use Rattle.idl_map.specs.declared.index.Part.{Part}
 use Rattle.idl_map.specs.declared.index.Index.{Index}
+use Rattle.idl_map.specs.declared.index.Spot.{Spot}
 
 -- the tag of a digest: its first eight bits, but 1 where these are 0
 unfoldable pub tag_of : ℕ → ℕ
@@ -47,9 +48,21 @@ abbrev pub IsOf : List ℕ → ℕ → ℕ → ℕ → Type 0
 IsOf digests number digest place =
     (slice_get digests place ≡ Some digest) × (digest % 64 ≡ number)
 
+-- a digest finds a place in the part that it chooses
+abbrev pub Finds : Index → ℕ → ℕ → Type 0
+Finds index digest place =
+    (part : Part) → slice_get index.parts.items (digest % 64) ≡ Some part
+    → FindsIn part index.buckets digest place
+
+-- a spot has the bucket of its digest, in the part that this chooses, and its tag
+pub record IsSpot (parts : List Part) (spot : Spot) : Type 0 where
+  pub part : Part
+  pub chosen : slice_get parts (spot.digest % 64) ≡ Some part
+  pub number : spot.number ≡ number_in part spot.digest
+  pub tag : spot.tag ≡ tag_of spot.digest
+
 -- each digest finds its place in the part that it chooses, one of 64
 pub record IsIndexed (index : Index) : Type 0 where
   pub parts : length index.parts.items ≡ 64
   pub finds : (digest place : ℕ) → slice_get index.digests.items place ≡ Some digest
-      → (part : Part) → slice_get index.parts.items (digest % 64) ≡ Some part
-      → FindsIn part index.buckets digest place
+      → Finds index digest place

@@ -3,11 +3,11 @@
 ghost use Rattle.std.specs.Prelude.{◌≡◌, ◌↔◌, [], ℕ, None, Some, IfOk, IsTrue, OnOk, OnErr, slice_get, if◌then◌else◌};
 ghost use Rattle.std.specs.Map.{keys_of, lookup};
 ghost use Rattle.std.specs.Option.{option_copied};
+ghost use Rattle.idl_map.specs.Buckets.{IsSpot};
 ghost use Rattle.idl_map.specs.Entries.{IsSound, entries_of};
 
 use crate::bits::{lowest, without};
-use crate::buckets::tag_of;
-use crate::index::Index;
+use crate::index::{Index, Spot};
 use crate::{Digest, Lent};
 use idl_base::{Datum, Table};
 use std::alloc::{AllocError, Global};
@@ -92,6 +92,7 @@ impl<K: Digest + Ord, V: Datum> Arena<K, V> {
     }
 
     // The value that the rest has at a key that is lent.
+    #[inline]
     fn lent_among_rest<L: Lent<K>>(&self, key: &L) -> Result<Option<&V>, AllocError>
         ensures { IfOk result (λ value.
             option_copied value ≡ lookup (K.eq (L.key key.now)) self.now.rest) }
@@ -99,6 +100,15 @@ impl<K: Digest + Ord, V: Datum> Arena<K, V> {
         if self.rest.is_empty() {
             return Ok(None);
         }
+        self.made_among_rest(key)
+    }
+
+    // The same, where the rest has entries. It stands apart, since it is empty but where many digests choose one bucket.
+    #[inline(never)]
+    fn made_among_rest<L: Lent<K>>(&self, key: &L) -> Result<Option<&V>, AllocError>
+        ensures { IfOk result (λ value.
+            option_copied value ≡ lookup (K.eq (L.key key.now)) self.now.rest) }
+    {
         let key = key.owned()?;
         Ok(self.rest.get(&key))
     }
@@ -120,12 +130,23 @@ impl<K: Digest + Ord, V: Datum> Arena<K, V> {
         ensures { (i : ℕ)
             → (result ≡ Some i) ↔ (slice_get (keys_of self.now.entries.items) i ≡ Some (L.key key.now)) }
     {
-        let digest = key.key_digest();
-        let number = self.index.bucket_of(digest);
-        let mut marks = self.index.marked(number, tag_of(digest));
+        let spot = self.index.spot_of(key.key_digest());
+        self.place_at(spot, key)
+    }
+
+    // The same, where the spot of the key's digest is known.
+    #[inline(always)]
+    fn place_at<L: Lent<K>>(&self, spot: Spot, key: &L) -> Option<usize>
+        requires sound { IsSound K.digest_of self.now }
+        requires spot { IsSpot self.now.index.parts.items spot }
+        requires digest { spot.digest ≡ K.digest_of (L.key key.now) }
+        ensures { (i : ℕ)
+            → (result ≡ Some i) ↔ (slice_get (keys_of self.now.entries.items) i ≡ Some (L.key key.now)) }
+    {
+        let mut marks = self.index.marked(spot);
         while marks != 0 {
             let slot = lowest(marks);
-            let place = self.index.place(number, slot);
+            let place = self.index.place(spot.number, slot);
             if self.is_at(place, key) {
                 return Some(place);
             }
@@ -157,17 +178,40 @@ impl<K: Digest + Ord, V: Datum> Arena<K, V> {
         ensures err { OnErr result
             ((k : K) → lookup (K.eq k) (entries_of self.new) ≡ lookup (K.eq k) (entries_of self.old)) }
     {
-        if let Some(place) = self.place_of(&Own { key: &key }) {
+        let spot = self.index.spot_of(key.digest());
+        if self.index.marked(spot) == 0 {
+            return self.push(spot, key, value);
+        }
+        self.put(key, value)
+    }
+
+    // The same for any key. It stands apart, since most keys are new and have a tag that their bucket hasn't.
+    #[inline(never)]
+    fn put(&mut self, key: K, value: V) -> Result<(), AllocError>
+        requires { IsSound K.digest_of self.old }
+        ensures sound { IsSound K.digest_of self.new }
+        ensures each_key { OnOk result
+            ((k : K)
+            → lookup (K.eq k) (entries_of self.new)
+            ≡ (if K.eq k key then Some value else lookup (K.eq k) (entries_of self.old))) }
+        ensures err { OnErr result
+            ((k : K) → lookup (K.eq k) (entries_of self.new) ≡ lookup (K.eq k) (entries_of self.old)) }
+    {
+        let spot = self.index.spot_of(key.digest());
+        if let Some(place) = self.place_at(spot, &Own { key: &key }) {
             let entry = &mut self.entries[place];
             entry.1 = value;
             return Ok(());
         }
-        self.push(key, value)
+        self.push(spot, key, value)
     }
 
-    // Puts an entry in at a new key.
-    fn push(&mut self, key: K, value: V) -> Result<(), AllocError>
+    // Puts an entry in at a new key, where the spot of its digest is known.
+    #[inline(always)]
+    fn push(&mut self, spot: Spot, key: K, value: V) -> Result<(), AllocError>
         requires sound { IsSound K.digest_of self.old }
+        requires spot { IsSpot self.old.index.parts.items spot }
+        requires digest { spot.digest ≡ K.digest_of key }
         requires absent { lookup (K.eq key) self.old.entries.items ≡ None }
         ensures sound { IsSound K.digest_of self.new }
         ensures each_key { OnOk result
@@ -178,7 +222,7 @@ impl<K: Digest + Ord, V: Datum> Arena<K, V> {
             ((k : K) → lookup (K.eq k) (entries_of self.new) ≡ lookup (K.eq k) (entries_of self.old)) }
     {
         self.entries.reserve(1)?;
-        if self.index.push(key.digest())? {
+        if self.index.push(spot)? {
             self.entries.push((key, value))?;
             return Ok(());
         }

@@ -58,6 +58,18 @@ impl Buckets {
         }
     }
 
+    /// The slots of a bucket that aren't empty.
+    #[inline]
+    pub fn taken(&self, number: usize) -> u64
+        ensures { (slot tag i : ℕ) → 0 < tag
+            → StandsAt self.now number slot tag i → bit_at result slot ≡ 1 }
+    {
+        match self.tags.get(number) {
+            Some(tags) => lanes_above(u8x16::from_array(*tags)),
+            None => 0,
+        }
+    }
+
     /// The place in a slot of a bucket.
     #[inline]
     pub fn place(&self, number: usize, slot: usize) -> u32
@@ -69,17 +81,8 @@ impl Buckets {
         }
     }
 
-    /// The place in a slot of a bucket, unless it is empty.
-    pub fn place_in(&self, number: usize, slot: usize) -> Option<u32>
-        ensures { (t i : ℕ) → 0 < t → StandsAt self.now number slot t i → result ≡ Some i }
-    {
-        match self.tags.get(number) {
-            Some(tags) if slot < 16 && tags[slot] != 0 => Some(self.place(number, slot)),
-            _ => None,
-        }
-    }
-
     /// Puts a place in a bucket with its tag, unless each slot has one.
+    #[inline]
     pub fn put(&mut self, number: usize, tag: u8, place: u32) -> bool
         ensures kept { AreKept self.old self.new }
         ensures put { IsTrue result → HasAt self.new number tag place }
@@ -99,7 +102,7 @@ impl Buckets {
 }
 
 // A slot that is empty by its tag, or nothing.
-#[inline]
+#[inline(always)]
 fn empty_slot(tags: &[u8; 16]) -> Option<usize>
     ensures below { IfSome result (λ slot. slot < 16) }
     ensures empty { IfSome result (λ slot. slice_index tags.now slot ≡ 0) }
@@ -130,4 +133,12 @@ fn lanes_with(tags: u8x16, tag: u8) -> u64
     ensures tagged { (slot : ℕ) → bit_at result slot ≡ 1 → slice_index tags slot ≡ tag }
 {
     tags.simd_eq(u8x16::splat(tag)).to_bitmask()
+}
+
+// The lanes that have a tag which isn't 0.
+#[inline]
+fn lanes_above(tags: u8x16) -> u64
+    ensures { (slot : ℕ) → slot < 16 → 0 < slice_index tags slot → bit_at result slot ≡ 1 }
+{
+    tags.simd_ne(u8x16::splat(0)).to_bitmask()
 }

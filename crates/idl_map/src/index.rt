@@ -2,8 +2,9 @@
 
 ghost use Rattle.std.specs.Prelude.{◌≡◌, ◌++◌, ◌∷◌, [], ℕ, ◌%◌, ◌<◌, ◌^◌, Some, IfOk, IsTrue, IsFalse, OnErr, length, slice_get, vec_len};
 ghost use Rattle.std.specs.Int.{bit_at};
-ghost use Rattle.idl_map.specs.Buckets.{AreKept, FindsIn, HasAt, IsIndexed, IsOf, StandsAt, number_in, tag_of};
+ghost use Rattle.idl_map.specs.Buckets.{AreKept, Finds, FindsIn, HasAt, IsIndexed, IsOf, IsSpot, StandsAt, number_in, tag_of};
 
+use crate::bits::{lowest, without};
 use crate::buckets::{Buckets, tag_of};
 use std::alloc::{AllocError, Global};
 
@@ -12,6 +13,14 @@ use std::alloc::{AllocError, Global};
 pub struct Part {
     pub first: u32,
     pub mask: u32,
+}
+
+/// Where the places of a digest are: the number of its bucket, and its tag there.
+#[derive(Clone, Copy)]
+pub struct Spot {
+    pub digest: u64,
+    pub number: usize,
+    pub tag: u8,
 }
 
 // How many parts there are.
@@ -49,23 +58,32 @@ impl Index {
         })
     }
 
-    /// The number of the bucket in which a digest has its places.
+    /// The spot of a digest.
     #[inline]
-    pub fn bucket_of(&self, digest: u64) -> usize
+    pub fn spot_of(&self, digest: u64) -> Spot
         requires { IsIndexed self.now }
-        ensures { (i : ℕ) → slice_get self.now.digests.items i ≡ Some digest
-            → HasAt self.now.buckets result (tag_of digest) i }
+        ensures digest { result.digest ≡ digest }
+        ensures spot { IsSpot self.now.parts.items result }
     {
-        number_in(self.parts[(digest % 64) as usize], digest)
+        let part = self.parts[(digest % 64) as usize];
+        Spot {
+            digest,
+            number: number_in(part, digest),
+            tag: tag_of(digest),
+        }
     }
 
-    /// The slots of a bucket that have a tag.
+    /// The slots of a spot's bucket that have its tag. Each place of its digest is in one of them.
     #[inline]
-    pub fn marked(&self, number: usize, tag: u8) -> u64
-        requires { 0 < tag }
-        ensures { (slot i : ℕ) → StandsAt self.now.buckets number slot tag i → bit_at result slot ≡ 1 }
+    pub fn marked(&self, spot: Spot) -> u64
+        requires sound { IsIndexed self.now }
+        requires spot { IsSpot self.now.parts.items spot }
+        ensures marked { (slot i : ℕ)
+            → StandsAt self.now.buckets spot.number slot spot.tag i → bit_at result slot ≡ 1 }
+        ensures found { (i : ℕ) → slice_get self.now.digests.items i ≡ Some spot.digest
+            → HasAt self.now.buckets spot.number spot.tag i }
     {
-        self.buckets.marked(number, tag)
+        self.buckets.marked(spot.number, spot.tag)
     }
 
     /// The place in a slot of a bucket.
@@ -76,52 +94,65 @@ impl Index {
         self.buckets.place(number, slot) as usize
     }
 
-    /// Puts a digest last, unless there is no room for its place.
-    pub fn push(&mut self, digest: u64) -> Result<bool, AllocError>
-        requires { IsIndexed self.old }
+    /// Puts the digest of a spot last, unless there is no room for its place.
+    #[inline(always)]
+    pub fn push(&mut self, spot: Spot) -> Result<bool, AllocError>
+        requires sound { IsIndexed self.old }
+        requires spot { IsSpot self.old.parts.items spot }
         ensures sound { IsIndexed self.new }
         ensures pushed { IfOk result (λ there. IsTrue there
-            → self.new.digests.items ≡ self.old.digests.items ++ digest ∷ []) }
+            → self.new.digests.items ≡ self.old.digests.items ++ spot.digest ∷ []) }
         ensures full { IfOk result (λ there. IsFalse there
             → self.new.digests.items ≡ self.old.digests.items) }
         ensures err { OnErr result (self.new.digests.items ≡ self.old.digests.items) }
     {
-        self.digests.reserve(1)?;
         let place = self.digests.len();
-        if place > u32::MAX as usize || !self.find_room(digest, place as u32)? {
+        if place > u32::MAX as usize || !self.find_room(spot, place as u32)? {
             return Ok(false);
         }
-        self.digests.push(digest)?;
+        self.digests.push(spot.digest)?;
         Ok(true)
     }
 
-    // Puts a place in at a digest, and gives its part more buckets where it needs them.
-    fn find_room(&mut self, digest: u64, place: u32) -> Result<bool, AllocError>
-        requires { IsIndexed self.old }
+    // Puts a place in at a spot, or at the one that its digest has once the part has more buckets.
+    #[inline]
+    fn find_room(&mut self, spot: Spot, place: u32) -> Result<bool, AllocError>
+        requires sound { IsIndexed self.old }
+        requires spot { IsSpot self.old.parts.items spot }
         ensures sound { IsIndexed self.new }
         ensures digests { self.new.digests.items ≡ self.old.digests.items }
         ensures found { IfOk result (λ there. IsTrue there
-            → (part : Part) → slice_get self.new.parts.items (digest % 64) ≡ Some part
-            → FindsIn part self.new.buckets digest place) }
+            → Finds self.new spot.digest place) }
     {
-        if self.put(digest, place) {
+        if self.put(spot, place) {
             return Ok(true);
         }
-        self.grow(digest)?;
-        Ok(self.put(digest, place))
+        self.make_room(spot.digest, place)
     }
 
-    // Puts a place in at a digest, unless its bucket is full.
-    fn put(&mut self, digest: u64, place: u32) -> bool
+    // Gives the part of a digest more buckets, and puts a place in at the digest.
+    #[inline(never)]
+    fn make_room(&mut self, digest: u64, place: u32) -> Result<bool, AllocError>
         requires { IsIndexed self.old }
         ensures sound { IsIndexed self.new }
         ensures digests { self.new.digests.items ≡ self.old.digests.items }
-        ensures found { IsTrue result
-            → (part : Part) → slice_get self.new.parts.items (digest % 64) ≡ Some part
-            → FindsIn part self.new.buckets digest place }
+        ensures found { IfOk result (λ there. IsTrue there → Finds self.new digest place) }
     {
-        let part = self.parts[(digest % 64) as usize];
-        put_in(&mut self.buckets, part, digest, place)
+        self.grow(digest)?;
+        let spot = self.spot_of(digest);
+        Ok(self.put(spot, place))
+    }
+
+    // Puts a place in at a spot, unless its bucket is full.
+    #[inline]
+    fn put(&mut self, spot: Spot, place: u32) -> bool
+        requires sound { IsIndexed self.old }
+        requires spot { IsSpot self.old.parts.items spot }
+        ensures sound { IsIndexed self.new }
+        ensures digests { self.new.digests.items ≡ self.old.digests.items }
+        ensures found { IsTrue result → Finds self.new spot.digest place }
+    {
+        self.buckets.put(spot.number, spot.tag, place)
     }
 
     // Gives the part of a digest four times as many buckets, unless there are many for so few digests.
@@ -204,31 +235,23 @@ impl<'a> Target<'a> {
     }
 
     // The same of those that a bucket has.
+    #[inline]
     fn take(&self, buckets: &mut Buckets, number: usize) -> bool
         ensures kept { AreKept buckets.old buckets.new }
         ensures taken { IsTrue result
             → (d i : ℕ) → IsOf self.now.digests.now self.now.number d i
             → HasAt buckets.old number (tag_of d) i → FindsIn self.now.part buckets.new d i }
     {
-        for slot in 0..16 {
-            if !self.take_slot(buckets, number, slot) {
+        let mut marks = buckets.taken(number);
+        while marks != 0 {
+            let slot = lowest(marks);
+            let place = buckets.place(number, slot);
+            if !self.put(buckets, place) {
                 return false;
             }
+            marks = without(marks, slot);
         }
         true
-    }
-
-    // The same of the one in a slot.
-    fn take_slot(&self, buckets: &mut Buckets, number: usize, slot: usize) -> bool
-        ensures kept { AreKept buckets.old buckets.new }
-        ensures taken { IsTrue result
-            → (d i : ℕ) → IsOf self.now.digests.now self.now.number d i
-            → StandsAt buckets.old number slot (tag_of d) i → FindsIn self.now.part buckets.new d i }
-    {
-        match buckets.place_in(number, slot) {
-            Some(place) => self.put(buckets, place),
-            None => true,
-        }
     }
 
     // Puts a place in at its digest, if that is one of those.

@@ -4,6 +4,7 @@ mod editor;
 mod failures;
 mod listings;
 mod options;
+mod replies;
 mod room;
 mod scripts;
 mod support;

@@ -3,10 +3,11 @@ use Rattle.std.proofs.Common.{◌≡◌, ◌≢◌, ◌∙◌, ℕ, Bool, List, 
 use Rattle.std.specs.Prelude.{if◌then◌else◌}
 use Rattle.idl_memo.specs.Query.{noted}
 use Rattle.idl_repo.proofs.WriteLemmas.{State, id-then, says-then, writes-as, writes-known}
-use Rattle.idl_repo.specs.Pieces.{Pieces, Says, Writes, id_in}
+use Rattle.idl_repo.specs.Pieces.{Pieces, Says, Writes}
 use Rattle.idl_repo.specs.Row.{attribute_pieces, bases_pieces, behind_id, coded_pieces, constant_pieces, operation_pieces}
 use Rattle.idl_repo.specs.TypeCode.{code_head, code_kind, code_pieces, code_word, kind_in, rest_pieces}
 use Rattle.idl_repo.specs.declared.type_code.TypeCodeKind.{TypeCodeKind}
+use Rattle.idl_scope.specs.Facts.{id_at}
 use Rattle.idl_scope.specs.Key.{key_eq}
 use Rattle.idl_scope.specs.Kind.{kind_eq}
 use Rattle.idl_scope.specs.declared.answer.Answer.{Answer}
@@ -37,7 +38,7 @@ behind-coded : (e : Entity) (code : TypeCodeKind) → kind_in e ≡ Some code �
 behind-coded e code h = by-kind e.kind e.is_local code (constant_pieces e) (attribute_pieces e) (operation_pieces e) (coded_pieces e) h
 
 -- its TypeCode begins with the id that was asked already, and goes on with the rest
-pub head-then : {bank : Key → Option Answer} {id old new : List ℕ} {after : List (Key × Option Answer)} {u : State} (log : List (Key × Option Answer)) (e : Entity) (code : TypeCodeKind) → kind_in e ≡ Some code → id ≡ id_in (bank (key.IdOf e.path)) → after ≡ noted key_eq bank log (key.IdOf e.path) → new ≡ old ++ code_head code id → Writes bank (rest_pieces code e ++ bases_pieces e) (new, after) u → Writes bank (behind_id e) (old, after) u
+pub head-then : {bank : Key → Option Answer} {id old new : List ℕ} {after : List (Key × Option Answer)} {u : State} (log : List (Key × Option Answer)) (e : Entity) (code : TypeCodeKind) → kind_in e ≡ Some code → id ≡ id_at e.path (bank (key.IdOf e.path)) → after ≡ noted key_eq bank log (key.IdOf e.path) → new ≡ old ++ code_head code id → Writes bank (rest_pieces code e ++ bases_pieces e) (new, after) u → Writes bank (behind_id e) (old, after) u
 head-then {bank} {id} {old} {new} {after} {u} log e code known is noted_before head rest =
     let word = code_word code in
     let blank = old ++ codes " " in

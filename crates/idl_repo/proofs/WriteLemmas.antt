@@ -1,16 +1,15 @@
 -- Pieces that are written, one after another.
-use Rattle.std.proofs.Common.{◌≡◌, ◌∙◌, ℕ, ◌+◌, ◌-◌, ◌<◌, ◌≤◌, List, [], ◌∷◌, ◌++◌, Bool, true, false, cond, ◌||◌, Option, None, Some, Result, Ok, Err, refl, sym, ap, append_assoc, arith, codes, drop, flat_map, get_or, length, take}
+use Rattle.std.proofs.Common.{◌≡◌, ◌∙◌, ℕ, ◌+◌, ◌-◌, ◌<◌, ◌≤◌, List, [], ◌∷◌, ◌++◌, Bool, true, false, cond, ◌||◌, Option, Result, Ok, Err, refl, sym, ap, append_assoc, arith, codes, drop, flat_map, get_or, length, take}
 use Rattle.std.specs.Prelude.{OnOk, is_ok, if◌then◌else◌}
 use Rattle.std.proofs.lemmas.List.Folds.{list_any-append}
 use Rattle.std.proofs.lemmas.List.{append-nil, flat_map_more, take_all, take_more}
 use Rattle.idl_memo.specs.Query.{asked, is_logged, noted, noted_all, outcome, run}
 use Rattle.idl_memo.proofs.QueryLaws.{noted_all-append}
-use Rattle.idl_repo.specs.Pieces.{IdOf, Pieces, Says, Writes, commas, id_in, ids_in, says, text_over, written}
+use Rattle.idl_repo.specs.Pieces.{IdOf, Pieces, Says, Writes, commas, ids_in, says, text_over, written}
 use Rattle.idl_scope.specs.Digested.{key_equiv}
-use Rattle.idl_scope.specs.Facts.{identity_in}
+use Rattle.idl_scope.specs.Facts.{id_at}
 use Rattle.idl_scope.specs.Key.{key_eq}
 use Rattle.idl_scope.specs.declared.answer.Answer.{Answer}
-use Rattle.idl_scope.specs.declared.identity.Identity.{Identity}
 use Rattle.idl_scope.specs.declared.key.Key.{Key}
 use Rattle.idl_scope.specs.declared.key.Key.TheVariants as key
 
@@ -19,7 +18,7 @@ pub text_over-append : (bank : Key → Option Answer) (p q : Pieces) → text_ov
 unfolding text_over
 text_over-append bank [] q = refl
 text_over-append bank (Says text ∷ p) q = ap (λ x. text ++ x) (text_over-append bank p q) ∙ sym (append_assoc text (text_over bank p) (text_over bank q))
-text_over-append bank (IdOf path ∷ p) q = let id = id_in (bank (key.IdOf path)) in ap (λ x. id ++ x) (text_over-append bank p q) ∙ sym (append_assoc id (text_over bank p) (text_over bank q))
+text_over-append bank (IdOf path ∷ p) q = let id = id_at path (bank (key.IdOf path)) in ap (λ x. id ++ x) (text_over-append bank p q) ∙ sym (append_assoc id (text_over bank p) (text_over bank q))
 
 -- and their ids
 pub ids_in-append : (p q : Pieces) → ids_in (p ++ q) ≡ ids_in p ++ ids_in q
@@ -69,12 +68,12 @@ pub id-then : {bank : Key → Option Answer} {path : List (List ℕ)} {p : Piece
 id-then {bank} {path} {p} {s} {t} {u} h g = writes-then h g
 
 -- an id, as it is answered
-pub writes-id : {bank : Key → Option Answer} {path : List (List ℕ)} {old new : List ℕ} {log after : List (Key × Option Answer)} → new ≡ old ++ id_in (bank (key.IdOf path)) → after ≡ noted key_eq bank log (key.IdOf path) → Writes bank (IdOf path ∷ []) (old, log) (new, after)
+pub writes-id : {bank : Key → Option Answer} {path : List (List ℕ)} {old new : List ℕ} {log after : List (Key × Option Answer)} → new ≡ old ++ id_at path (bank (key.IdOf path)) → after ≡ noted key_eq bank log (key.IdOf path) → Writes bank (IdOf path ∷ []) (old, log) (new, after)
 unfolding text_over ids_in
-writes-id {bank} {path} {old} {new} {log} {after} e l = record { text = e ∙ ap (λ x. old ++ x) (sym (append-nil (id_in (bank (key.IdOf path))))); log = l }
+writes-id {bank} {path} {old} {new} {log} {after} e l = record { text = e ∙ ap (λ x. old ++ x) (sym (append-nil (id_at path (bank (key.IdOf path))))); log = l }
 
 -- and a text that is that id
-pub writes-id-as : {bank : Key → Option Answer} {path : List (List ℕ)} {told old new : List ℕ} {log after : List (Key × Option Answer)} → new ≡ old ++ told → told ≡ id_in (bank (key.IdOf path)) → after ≡ noted key_eq bank log (key.IdOf path) → Writes bank (IdOf path ∷ []) (old, log) (new, after)
+pub writes-id-as : {bank : Key → Option Answer} {path : List (List ℕ)} {told old new : List ℕ} {log after : List (Key × Option Answer)} → new ≡ old ++ told → told ≡ id_at path (bank (key.IdOf path)) → after ≡ noted key_eq bank log (key.IdOf path) → Writes bank (IdOf path ∷ []) (old, log) (new, after)
 writes-id-as {told} {old} e is l = writes-id (e ∙ ap (λ w. old ++ w) is) l
 
 -- a key that is noted is not noted again
@@ -90,7 +89,7 @@ noted-again : (bank : Key → Option Answer) (log : List (Key × Option Answer))
 noted-again bank log k = noted-by bank log k (is_logged key_eq log k) refl
 
 -- an id that was asked already
-pub writes-known : {bank : Key → Option Answer} {path : List (List ℕ)} {id old new : List ℕ} {after : List (Key × Option Answer)} (log : List (Key × Option Answer)) → new ≡ old ++ id → id ≡ id_in (bank (key.IdOf path)) → after ≡ noted key_eq bank log (key.IdOf path) → Writes bank (IdOf path ∷ []) (old, after) (new, after)
+pub writes-known : {bank : Key → Option Answer} {path : List (List ℕ)} {id old new : List ℕ} {after : List (Key × Option Answer)} (log : List (Key × Option Answer)) → new ≡ old ++ id → id ≡ id_at path (bank (key.IdOf path)) → after ≡ noted key_eq bank log (key.IdOf path) → Writes bank (IdOf path ∷ []) (old, after) (new, after)
 writes-known {bank} {path} {id} {old} {new} {after} log e is l = writes-id-as e is (l ∙ sym (noted-again bank log (key.IdOf path)) ∙ ap (λ a. noted key_eq bank a (key.IdOf path)) (sym l))
 
 -- the same pieces
@@ -131,21 +130,18 @@ pub written-over : (bank : Key → Option Answer) (text : List ℕ) (p : Pieces)
 unfolding written text_over
 written-over bank text [] = sym (append-nil text)
 written-over bank text (Says more ∷ p) = written-over bank (text ++ more) p ∙ append_assoc text more (text_over bank p)
-written-over bank text (IdOf path ∷ p) = let id = id_in (bank (key.IdOf path)) in written-over bank (text ++ id) p ∙ append_assoc text id (text_over bank p)
+written-over bank text (IdOf path ∷ p) = let id = id_at path (bank (key.IdOf path)) in written-over bank (text ++ id) p ∙ append_assoc text id (text_over bank p)
 
 -- and what it asks
 pub asked-by-written : (bank : Key → Option Answer) (text : List ℕ) (p : Pieces) → asked (written text p) bank ≡ ids_in p
 unfolding written ids_in
 asked-by-written bank text [] = refl
 asked-by-written bank text (Says more ∷ p) = asked-by-written bank (text ++ more) p
-asked-by-written bank text (IdOf path ∷ p) = ap (λ x. key.IdOf path ∷ x) (asked-by-written bank (text ++ id_in (bank (key.IdOf path))) p)
+asked-by-written bank text (IdOf path ∷ p) = ap (λ x. key.IdOf path ∷ x) (asked-by-written bank (text ++ id_at path (bank (key.IdOf path))) p)
 
--- the id that an answer tells
-pub id-told : (answer : Option Answer) (d : Identity) → identity_in answer ≡ Some d → d.id ≡ id_in answer
-id-told answer d is = ap (λ (there : Option Identity). elim there [ None ↦ [] | Some e ↦ e.id ]) (sym is)
-
-pub id-untold : (answer : Option Answer) → identity_in answer ≡ None → id_in answer ≡ []
-id-untold answer is = ap (λ (there : Option Identity). elim there [ None ↦ [] | Some e ↦ e.id ]) is
+-- the id of an answer at a path that is told by another name
+pub id-told : {asked told path : List (List ℕ)} {answer : Option Answer} (bank : Key → Option Answer) → answer ≡ bank (key.IdOf asked) → asked ≡ path → told ≡ path → id_at told answer ≡ id_at path (bank (key.IdOf path))
+id-told {asked} {told} {path} {answer} bank is a t = ap (λ p. id_at p answer) t ∙ ap (id_at path) (is ∙ ap (λ p. bank (key.IdOf p)) a)
 
 -- pieces that are written come to what their query comes to
 pub writes-run : {bank : Key → Option Answer} {p : Pieces} {old new : List ℕ} {log after : List (Key × Option Answer)} → Writes bank p (old, log) (new, after) → (new, after) ≡ run key_eq (written old p) bank log

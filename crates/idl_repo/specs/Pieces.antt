@@ -1,7 +1,7 @@
 -- Texts in which ids stand: each id is asked where it is told.
-use Rattle.std.specs.Prelude.{◌≡◌, ℕ, List, [], ◌∷◌, ◌++◌, codes, flat_map, Option, None, Some}
+use Rattle.std.specs.Prelude.{◌≡◌, ℕ, List, [], ◌∷◌, ◌++◌, codes, flat_map, Option}
 use Rattle.idl_memo.specs.Query.{Done, Ask, noted_all}
-use Rattle.idl_scope.specs.Facts.{identity_in}
+use Rattle.idl_scope.specs.Facts.{id_at}
 use Rattle.idl_scope.specs.Key.{key_eq}
 use Rattle.idl_scope.specs.Lookup.{Lookup}
 use Rattle.idl_scope.specs.declared.answer.Answer.{Answer}
@@ -19,22 +19,18 @@ Pieces = List Piece
 abbrev pub says : List ℕ → Pieces
 says text = Says text ∷ []
 
--- the id that an answer tells, and nothing where it tells none
-abbrev pub id_in : Option Answer → List ℕ
-id_in answer = elim (identity_in answer) [ None ↦ [] | Some d ↦ d.id ]
-
 -- a text with pieces behind it
 unfoldable pub written : List ℕ → Pieces → Lookup (List ℕ)
 written text [] = Done text
 written text (Says more ∷ pieces) = written (text ++ more) pieces
 written text (IdOf path ∷ pieces) =
-    Ask (key.IdOf path) (λ answer. written (text ++ id_in answer) pieces)
+    Ask (key.IdOf path) (λ answer. written (text ++ id_at path answer) pieces)
 
 -- what pieces come to over a bank
 unfoldable pub text_over : (Key → Option Answer) → Pieces → List ℕ
 text_over bank [] = []
 text_over bank (Says text ∷ pieces) = text ++ text_over bank pieces
-text_over bank (IdOf path ∷ pieces) = id_in (bank (key.IdOf path)) ++ text_over bank pieces
+text_over bank (IdOf path ∷ pieces) = id_at path (bank (key.IdOf path)) ++ text_over bank pieces
 
 -- the ids that they tell, in order
 unfoldable pub ids_in : Pieces → List Key

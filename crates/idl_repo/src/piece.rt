@@ -1,15 +1,16 @@
 //! What rows are made of: numbers, values, and repository ids, each of which is asked where it is told.
 
 ghost use Rattle.std.specs.Prelude.{◌≡◌, ◌∷◌, ◌++◌, [], IfOk, OnOk, decimal};
+ghost use Rattle.std.specs.Option.{option_copied};
 ghost use Rattle.idl_memo.specs.Query.{noted};
-ghost use Rattle.idl_repo.specs.Pieces.{IdOf, Writes, id_in};
+ghost use Rattle.idl_repo.specs.Pieces.{IdOf, Writes};
 ghost use Rattle.idl_repo.specs.TypeCode.{listed_value};
 ghost use Rattle.idl_scope.specs.Facts.{answers};
 ghost use Rattle.idl_scope.specs.Key.{key_eq};
 ghost use Rattle.idl_scope.specs.declared.key.Key.TheVariants as key;
 
 use idl_memo::Journal;
-use idl_scope::{Env, LentKey, Path, identity_in};
+use idl_scope::{Answer, Env, LentKey, Path, push_id_at};
 use idl_value::{Value, push_value};
 use itoa::Buffer;
 use std::alloc::AllocError;
@@ -32,17 +33,19 @@ pub fn push_listed(text: &mut Vec<u8>, value: &Value) -> Result<(), AllocError>
     }
 }
 
-/// The id of what is declared at a path, which is asked for; no bytes where none is told.
-pub fn id_of<'e>(env: &'e Env, log: &mut Journal<Env>, path: &Path) -> Result<&'e [u8], AllocError>
-    ensures id { IfOk result (λ id. id.now ≡ id_in (answers env.now (key.IdOf path.now))) }
+/// What is answered of the id of what is declared at a path, which is asked for.
+pub fn id_of<'e>(
+    env: &'e Env,
+    log: &mut Journal<Env>,
+    path: &Path,
+) -> Result<Option<&'e Answer>, AllocError>
+    ensures answer { IfOk result
+        (λ answer. option_copied answer ≡ answers env.now (key.IdOf path.now)) }
     ensures logged { OnOk result
         (log.new ≡ noted key_eq (answers env.now) log.old (key.IdOf path.now)) }
 {
     let key = LentKey::id_of(env.alloc(), path);
-    match identity_in(log.ask_lent(&key, env)?) {
-        Some(identity) => Ok(identity.get().id.as_bytes()),
-        None => Ok(&[]),
-    }
+    log.ask_lent(&key, env)
 }
 
 /// The same, written.
@@ -56,7 +59,7 @@ pub fn push_id(
         (Writes (answers env.now) (IdOf path.now ∷ [])
         (text.old.items, log.old) (text.new.items, log.new)) }
 {
-    let id = id_of(env, log, path)?;
-    text.extend_from_slice(id)?;
+    let answer = id_of(env, log, path)?;
+    push_id_at(text, path, answer)?;
     Ok(())
 }

@@ -10,7 +10,7 @@ use crate::piece::{id_of, push_listed};
 use crate::type_code::{TypeCode, members_of, push_reference, push_type, push_typed, signature_of};
 use idl_base::Seq;
 use idl_memo::Journal;
-use idl_scope::{Entity, Env, Kind, Member, Names, Path};
+use idl_scope::{Entity, Env, Kind, Member, Names, Path, push_id_at};
 use idl_value::Value;
 use std::alloc::AllocError;
 
@@ -28,11 +28,11 @@ pub fn push_row(
     text.extend_from_slice(kind_head(entity.kind()))?;
     push_path(text, entity.path().lent())?;
     text.extend_from_slice(b" ")?;
-    let id = id_of(env, log, entity.path())?;
-    text.extend_from_slice(id)?;
+    let answer = id_of(env, log, entity.path())?;
+    push_id_at(text, entity.path(), answer)?;
     match TypeCode::of(entity) {
         Some(code) => {
-            code.push_head(text, id)?;
+            code.push_head(text, answer)?;
             code.push_rest(text, env, log)?;
             push_bases(text, env, log, entity)?;
         }

@@ -4,13 +4,14 @@ ghost use Rattle.std.specs.Prelude.{◌≡◌, ◌++◌, IfOk, IfSome, OnOk, cod
 ghost use Rattle.std.specs.Option.{option_copied, option_map};
 ghost use Rattle.idl_repo.specs.Pieces.{Writes};
 ghost use Rattle.idl_repo.specs.TypeCode.{code_head, code_word, default_at, default_word, element_pieces, entries_of, enumerator_word, integer_word, kind_in, label_word, labelled_pieces, layer_end, layer_word, layers_begin, member_pieces, members_of, part_pieces, reference, rest_pieces, size_of, string_word, target_word, type_behind, type_pieces, typed_pieces, unvalued_word};
-ghost use Rattle.idl_scope.specs.Facts.{answers};
+ghost use Rattle.idl_scope.specs.Facts.{answers, id_at};
 
 use crate::piece::{push_id, push_listed, push_number};
 use idl_lex::Spelling;
 use idl_memo::Journal;
 use idl_scope::{
-    DataType, Element, Entity, Env, Kind, Layer, Member, Path, Shared, Signature, Unvalued,
+    Answer, DataType, Element, Entity, Env, Kind, Layer, Member, Path, Shared, Signature, Unvalued,
+    push_id_at,
 };
 use idl_value::{IntegerKind, Target, Value};
 use std::alloc::AllocError;
@@ -73,13 +74,16 @@ impl<'a> TypeCode<'a> {
         Some(TypeCode { kind, entity })
     }
 
-    /// Writes its beginning, behind a blank: its word, and in parentheses its id, which is this.
-    pub fn push_head(self, text: &mut Vec<u8>, id: &[u8]) -> Result<(), AllocError>
+    /// Writes its beginning, behind a blank: its word, and in parentheses its id, of which this is answered.
+    pub fn push_head(self, text: &mut Vec<u8>, answer: Option<&Answer>) -> Result<(), AllocError>
         ensures { OnOk result
-            (text.new.items ≡ text.old.items ++ code_head self.entry.kind id.now) }
+            (text.new.items
+            ≡ text.old.items
+            ++ code_head self.entry.kind
+            (id_at self.entry.entity.now.path (option_copied answer.entry))) }
     {
         text.extend_from_slice(self.kind.head())?;
-        text.extend_from_slice(id)?;
+        push_id_at(text, self.entity.path(), answer)?;
         Ok(())
     }
 

@@ -1,5 +1,5 @@
 -- The names that a unit declares first, addition by addition.
-use Rattle.std.proofs.Common.{◌≡◌, ◌+◌, ◌<◌, ℕ, Bool, true, false, List, [], ◌∷◌, ◌++◌, Some, cond, drop, flat_map, get_or, length, map, refl, ap, sym, ◌∙◌, append_assoc}
+use Rattle.std.proofs.Common.{◌≡◌, ◌+◌, ◌<◌, ℕ, List, [], ◌∷◌, ◌++◌, Some, drop, flat_map, get_or, length, map, refl, ap, sym, ◌∙◌, append_assoc}
 use Rattle.std.specs.Prelude.{slice_get}
 use Rattle.std.proofs.lemmas.List.{at_drop_more, map-append}
 use Rattle.idl_event.specs.declared.site.Site.{Site}
@@ -7,20 +7,15 @@ use Rattle.idl_root.specs.Held.{listed_at}
 use Rattle.idl_root.specs.Printed.{Listed, first_paths, listed_with}
 use Rattle.idl_root.specs.declared.printing.Listed.{Listed as HeldListed}
 use Rattle.idl_scope.proofs.PlaceLemmas.{drop-at1}
-use Rattle.idl_scope.specs.Identity.{fixed_eq}
 use Rattle.idl_scope.specs.declared.addition.Addition.{Addition}
-use Rattle.idl_scope.specs.declared.addition.Addition.TheVariants.{Declares, Uses, Identifies}
-use Rattle.idl_scope.specs.declared.identity.Fixed.TheVariants.{Nothing}
+use Rattle.idl_scope.specs.declared.addition.Addition.TheVariants.{Declares, Uses, Appears, Identifies}
 use Rattle.idl_unit.specs.declared.unit.UnitText.{UnitText}
 
 first_paths-cons : (a : Addition) (additions : List Addition) → first_paths (a ∷ additions) ≡ first_paths (a ∷ []) ++ first_paths additions
 first_paths-cons (Declares e) additions = refl
 first_paths-cons (Uses n path body) additions = refl
-first_paths-cons (Identifies path d) additions = by (fixed_eq d.fixed Nothing)
-  where
-    by : (b : Bool) → cond b (path ∷ first_paths additions) (first_paths additions) ≡ cond b (path ∷ []) [] ++ first_paths additions
-    by true = refl
-    by false = refl
+first_paths-cons (Appears path prefix) additions = refl
+first_paths-cons (Identifies path identity) additions = refl
 
 module _ (text : UnitText) (sites : List Site) where
   -- names, with those of additions from one of these on

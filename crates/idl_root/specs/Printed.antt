@@ -1,5 +1,5 @@
 -- The names of a root that have an id, and what comes of them at its end.
-use Rattle.std.specs.Prelude.{ℕ, ◌-◌, List, [], ◌∷◌, length, map, option_to_list, if◌then◌else◌}
+use Rattle.std.specs.Prelude.{ℕ, ◌-◌, List, [], ◌∷◌, length, map, option_to_list}
 use Rattle.std.specs.Option.{option_map}
 use Rattle.idl_event.specs.declared.site.Site.{Site}
 use Rattle.idl_memo.specs.Query.{outcome}
@@ -9,10 +9,8 @@ use Rattle.idl_root.specs.Findings.{fault_finding, tokens_of}
 use Rattle.idl_root.specs.Judged.{Judged}
 use Rattle.idl_root.specs.declared.finding.Finding.{Finding}
 use Rattle.idl_scope.specs.Facts.{UnitFacts, answers}
-use Rattle.idl_scope.specs.Identity.{fixed_eq}
 use Rattle.idl_scope.specs.declared.addition.Addition.{Addition}
-use Rattle.idl_scope.specs.declared.addition.Addition.TheVariants.{Declares, Uses, Identifies}
-use Rattle.idl_scope.specs.declared.identity.Fixed.TheVariants.{Nothing}
+use Rattle.idl_scope.specs.declared.addition.Addition.TheVariants.{Declares, Uses, Appears, Identifies}
 use Rattle.idl_unit.specs.TokenRules.{fault_at}
 use Rattle.idl_unit.specs.declared.unit.UnitText.{UnitText}
 
@@ -23,13 +21,13 @@ pub record Listed : Type 0 where
   pub text : UnitText
   pub sites : List Site
 
--- the paths of the names that are declared first, of those that have an id: no pragma told it
+-- the paths of the names that are declared first, of those that have an id
 abbrev pub first_paths : List Addition → List (List (List ℕ))
 first_paths [] = []
 first_paths (Declares e ∷ additions) = first_paths additions
 first_paths (Uses n path body ∷ additions) = first_paths additions
-first_paths (Identifies path d ∷ additions) =
-    if fixed_eq d.fixed Nothing then path ∷ first_paths additions else first_paths additions
+first_paths (Appears path prefix ∷ additions) = path ∷ first_paths additions
+first_paths (Identifies path identity ∷ additions) = first_paths additions
 
 -- the names at these paths, which a unit with these tokens declares first
 abbrev pub listed_with : UnitText → List Site → List (List (List ℕ)) → List Listed

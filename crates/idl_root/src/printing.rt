@@ -15,7 +15,7 @@ use crate::kept::KeptEntry;
 use crate::reprinting::Reprinting;
 use idl_memo::Journal;
 use idl_repo::{Entry, entry_by};
-use idl_scope::{Addition, Env, Facts, Fixed, Path, Shared};
+use idl_scope::{Addition, Env, Facts, Path, Shared};
 use idl_unit::{Fault, UnitText};
 use std::alloc::{AllocError, Global};
 
@@ -83,14 +83,12 @@ fn push_name<'a>(
     Ok(())
 }
 
-// The path of a name that is identified by no pragma, but where it is declared first.
+// The path of a name that has an id, where it is declared first.
 fn first_path(addition: &Addition) -> Option<&Path>
     ensures { option_to_list (option_copied result) ≡ first_paths (addition.now ∷ []) }
 {
     match addition {
-        Addition::Identifies(path, identity) if identity.get().fixed == Fixed::Nothing => {
-            Some(path)
-        }
+        Addition::Appears(path, _) => Some(path),
         _ => None,
     }
 }

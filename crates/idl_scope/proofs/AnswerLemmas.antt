@@ -8,7 +8,7 @@ use Rattle.idl_scope.specs.Facts.{addition_at, answer_of, key_of, over, with_add
 use Rattle.idl_scope.specs.Held.{HaveOwnKeys}
 use Rattle.idl_scope.specs.Key.{key_eq, same_key}
 use Rattle.idl_scope.specs.declared.addition.Addition.{Addition}
-use Rattle.idl_scope.specs.declared.addition.Addition.TheVariants.{Declares, Uses, Identifies}
+use Rattle.idl_scope.specs.declared.addition.Addition.TheVariants.{Declares, Uses, Appears, Identifies}
 use Rattle.idl_scope.specs.declared.answer.Answer.{Answer}
 use Rattle.idl_scope.specs.declared.key.Key.{Key}
 use Rattle.idl_scope.specs.declared.key.Key.TheVariants.{Prefix as PrefixKey}
@@ -61,6 +61,7 @@ pub over_prefix : (additions : List Addition) (before : Option Answer) → over 
 over_prefix [] before = refl
 over_prefix (Declares e ∷ additions) before = over_prefix additions before
 over_prefix (Uses n path body ∷ additions) before = over_prefix additions before
+over_prefix (Appears path prefix ∷ additions) before = over_prefix additions before
 over_prefix (Identifies path identity ∷ additions) before = over_prefix additions before
 
 -- and of which this is the last

@@ -3,7 +3,7 @@ use Rattle.std.proofs.Common.{◌≡◌, ℕ, suc, ◌+◌, ◌≤◌, Bool, tru
 use Rattle.idl_scope.specs.Facts.{UnitFacts, World, addition_at, after, after_all, after_closing, after_nameless, after_opening, after_step, answer_of, closing, count_in, first_world, given_back, nameless, next_body, no_prefix, over, path_around, scopes_in, with_additions, with_answer, with_prefix, world}
 use Rattle.idl_scope.specs.Key.{key_eq}
 use Rattle.idl_scope.specs.declared.addition.Addition.{Addition}
-use Rattle.idl_scope.specs.declared.addition.Addition.TheVariants.{Declares, Uses, Identifies}
+use Rattle.idl_scope.specs.declared.addition.Addition.TheVariants.{Declares, Uses, Appears, Identifies}
 use Rattle.idl_scope.specs.declared.addition.Step.{Step}
 use Rattle.idl_scope.specs.declared.addition.Step.TheVariants.{Stays, Opens, OpensNameless, Closes, Prefixes, Enters, Leaves}
 use Rattle.idl_scope.specs.declared.answer.Answer.{Answer}
@@ -18,6 +18,7 @@ over_counts : (before : Option Answer) (n : ℕ) → count_in before ≤ n → (
 over_counts before n h None = h
 over_counts before n h (Some (Declares e)) = omega arith
 over_counts before n h (Some (Uses m path body)) = omega arith
+over_counts before n h (Some (Appears path prefix)) = omega arith
 over_counts before n h (Some (Identifies path identity)) = omega arith
 
 -- nor does more than that of one answer

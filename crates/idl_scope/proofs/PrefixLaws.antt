@@ -5,7 +5,7 @@ use Rattle.idl_scope.proofs.FactsLaws.{after_all-append}
 use Rattle.idl_scope.specs.Facts.{UnitFacts, World, after, after_all, after_closing, after_step, count_in, given_back, nameless, next_body, no_prefix, over, path_around, prefix_in, scopes_in, with_additions, after_nameless}
 use Rattle.idl_scope.specs.Stretch.{IsBalanced, closes, depth, depth_behind, enters, leaves, opens}
 use Rattle.idl_scope.specs.declared.addition.Addition.{Addition}
-use Rattle.idl_scope.specs.declared.addition.Addition.TheVariants.{Declares, Uses, Identifies}
+use Rattle.idl_scope.specs.declared.addition.Addition.TheVariants.{Declares, Uses, Appears, Identifies}
 use Rattle.idl_scope.specs.declared.addition.Step.{Step}
 use Rattle.idl_scope.specs.declared.addition.Step.TheVariants.{Stays, Opens, OpensNameless, Closes, Prefixes, Enters, Leaves}
 use Rattle.idl_scope.specs.declared.answer.Answer.{Answer}
@@ -41,6 +41,7 @@ over_cursor : (additions : List Addition) (before : Option Answer) → over addi
 over_cursor [] before = refl
 over_cursor (Declares e ∷ additions) before = over_cursor additions before
 over_cursor (Uses n path body ∷ additions) before = over_cursor additions before
+over_cursor (Appears path prefix ∷ additions) before = over_cursor additions before
 over_cursor (Identifies path identity ∷ additions) before = over_cursor additions before
 
 -- inside of so many scopes more than these

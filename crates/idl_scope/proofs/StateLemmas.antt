@@ -9,7 +9,7 @@ use Rattle.idl_scope.specs.Held.{closable, held}
 use Rattle.idl_scope.specs.Key.{key_eq}
 use Rattle.idl_scope.specs.Lookup.{inherits}
 use Rattle.idl_scope.specs.declared.addition.Addition.{Addition}
-use Rattle.idl_scope.specs.declared.addition.Addition.TheVariants.{Declares, Uses, Identifies}
+use Rattle.idl_scope.specs.declared.addition.Addition.TheVariants.{Declares, Uses, Appears, Identifies}
 use Rattle.idl_scope.specs.declared.answer.Answer.{Answer}
 use Rattle.idl_scope.specs.declared.answer.Answer.TheVariants.{Open, Count}
 use Rattle.idl_scope.specs.declared.answer.Scope.{Scope}
@@ -71,6 +71,7 @@ operations_among-cons (Declares e) additions = by (is_operation e)
     by true = refl
     by false = refl
 operations_among-cons (Uses n path body) additions = refl
+operations_among-cons (Appears path prefix) additions = refl
 operations_among-cons (Identifies path identity) additions = refl
 
 -- additions count nothing
@@ -84,6 +85,7 @@ count-over additions k before n h = by (addition_at additions k)
     by None = h
     by (Some (Declares e)) = none
     by (Some (Uses m path body)) = none
+    by (Some (Appears path prefix)) = none
     by (Some (Identifies path identity)) = none
 
 -- at first

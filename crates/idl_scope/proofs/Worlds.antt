@@ -11,11 +11,11 @@ use Rattle.idl_scope.specs.Lookup.{bases_of, has_bases}
 use Rattle.idl_scope.specs.Meaning.{own_at, bases_at}
 use Rattle.idl_scope.specs.Path.{name_of, scope_of}
 use Rattle.idl_scope.specs.declared.addition.Addition.{Addition}
-use Rattle.idl_scope.specs.declared.addition.Addition.TheVariants.{Declares, Uses, Identifies}
+use Rattle.idl_scope.specs.declared.addition.Addition.TheVariants.{Declares, Uses, Appears, Identifies}
 use Rattle.idl_scope.specs.declared.addition.Step.{Step}
 use Rattle.idl_scope.specs.declared.addition.Step.TheVariants.{Stays, Opens, OpensNameless, Closes, Prefixes, Enters, Leaves}
 use Rattle.idl_scope.specs.declared.answer.Answer.{Answer}
-use Rattle.idl_scope.specs.declared.answer.Answer.TheVariants.{Open, Known, Used, Count, InForce, Identified}
+use Rattle.idl_scope.specs.declared.answer.Answer.TheVariants.{Open, Known, Used, Count, InForce, Appeared, Identified}
 use Rattle.idl_scope.specs.declared.answer.Scope.{Scope}
 use Rattle.idl_scope.specs.declared.entity.Entity.{Entity}
 use Rattle.idl_scope.specs.declared.identity.Identity.{Identity}
@@ -41,6 +41,7 @@ entity_in-Some (Some (Open s)) e h = absurd (none_some h)
 entity_in-Some (Some Used) e h = absurd (none_some h)
 entity_in-Some (Some (Count n)) e h = absurd (none_some h)
 entity_in-Some (Some (InForce prefix)) e h = absurd (none_some h)
+entity_in-Some (Some (Appeared prefix)) e h = absurd (none_some h)
 entity_in-Some (Some (Identified identity)) e h = absurd (none_some h)
 
 -- ---- answers over additions
@@ -90,6 +91,9 @@ module _ (places : List (List (List ℕ))) where
   no_entity_prefix : (k : Key) (prefix : Prefix) → IsGrounded places k (InForce prefix)
   no_entity_prefix k prefix e h = absurd (let z : InForce prefix ≡ Known e = h in cc)
 
+  no_entity_first : (k : Key) (prefix : Prefix) → IsGrounded places k (Appeared prefix)
+  no_entity_first k prefix e h = absurd (let z : Appeared prefix ≡ Known e = h in cc)
+
   no_entity_identity : (k : Key) (identity : Identity) → IsGrounded places k (Identified identity)
   no_entity_identity k identity e h = absurd (let z : Identified identity ≡ Known e = h in cc)
 
@@ -99,6 +103,7 @@ module _ (places : List (List (List ℕ))) where
       let same = known_same d e h in
       (ap (λ x. entity_key x.path) same, λ c i. within c (let Q : Entity → Type 0 = λ x. IsIn c x.bases in subst Q (sym same) i))
   addition-grounded (Uses n path body) within e h = no_entity_used (Introduced n path body) e h
+  addition-grounded (Appears path prefix) within e h = no_entity_first (IdOf path) prefix e h
   addition-grounded (Identifies path identity) within e h = no_entity_identity (IdOf path) identity e h
 
   pub over-grounded : (additions : List Addition) (answers : Key → Option Answer) → AreGrounded places answers → ((a : Addition) → IsIn a additions → IsGrounded places (key_of a) (answer_of a)) → AreGrounded places (λ k. over additions k (answers k))

@@ -2,12 +2,13 @@
 use Rattle.std.specs.Prelude.{ℕ, ◌+◌, ◌≤◌, List, [], flat_map, length}
 use Rattle.idl_scope.specs.Facts.{UnitFacts}
 use Rattle.idl_scope.specs.declared.addition.Addition.{Addition}
-use Rattle.idl_scope.specs.declared.addition.Addition.TheVariants.{Declares, Uses, Identifies}
+use Rattle.idl_scope.specs.declared.addition.Addition.TheVariants.{Declares, Uses, Appears, Identifies}
 
 -- the paths of the bases that an addition names
 abbrev pub bases_in : Addition → List (List (List ℕ))
 bases_in (Declares e) = e.bases
 bases_in (Uses n path body) = []
+bases_in (Appears path prefix) = []
 bases_in (Identifies path identity) = []
 
 -- those that what a unit adds names

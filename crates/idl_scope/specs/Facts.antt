@@ -2,15 +2,16 @@
 use Rattle.std.specs.Prelude.{ℕ, ◌+◌, Bool, true, List, [], ◌∷◌, ◌++◌, Option, Some, None, decimal, drop, if◌then◌else◌}
 use Rattle.std.specs.List.{list_any}
 use Rattle.idl_lex.specs.Keywords.{folded}
+use Rattle.idl_scope.specs.Identity.{first_identity}
 use Rattle.idl_scope.specs.Key.{key_eq}
 use Rattle.idl_scope.specs.Kind.{kind_eq}
 use Rattle.idl_scope.specs.Path.{name_of, path_eq, scope_of}
 use Rattle.idl_scope.specs.declared.addition.Addition.{Addition}
-use Rattle.idl_scope.specs.declared.addition.Addition.TheVariants.{Declares, Uses, Identifies}
+use Rattle.idl_scope.specs.declared.addition.Addition.TheVariants.{Declares, Uses, Appears, Identifies}
 use Rattle.idl_scope.specs.declared.addition.Step.{Step}
 use Rattle.idl_scope.specs.declared.addition.Step.TheVariants.{Stays, Opens, OpensNameless, Closes, Prefixes, Enters, Leaves}
 use Rattle.idl_scope.specs.declared.answer.Answer.{Answer}
-use Rattle.idl_scope.specs.declared.answer.Answer.TheVariants.{Open, Known, Used, Count, InForce, Identified}
+use Rattle.idl_scope.specs.declared.answer.Answer.TheVariants.{Open, Known, Used, Count, InForce, Appeared, Identified}
 use Rattle.idl_scope.specs.declared.answer.Scope.{Scope}
 use Rattle.idl_scope.specs.declared.entity.Entity.{Entity}
 use Rattle.idl_scope.specs.declared.identity.Identity.{Identity}
@@ -34,12 +35,14 @@ entity_key path = Declared (folded (name_of path)) (scope_of path)
 abbrev pub key_of : Addition → Key
 key_of (Declares e) = entity_key e.path
 key_of (Uses n path body) = Introduced n path body
+key_of (Appears path prefix) = IdOf path
 key_of (Identifies path identity) = IdOf path
 
 -- the answer that it leaves there
 abbrev pub answer_of : Addition → Answer
 answer_of (Declares e) = Known e
 answer_of (Uses n path body) = Used
+answer_of (Appears path prefix) = Appeared prefix
 answer_of (Identifies path identity) = Identified identity
 
 -- the addition at a key, or nothing
@@ -114,9 +117,15 @@ abbrev pub prefix_in : Option Answer → Prefix
 prefix_in (Some (InForce prefix)) = prefix
 prefix_in other = no_prefix
 
-abbrev pub identity_in : Option Answer → Option Identity
-identity_in (Some (Identified identity)) = Some identity
-identity_in other = None
+-- what identifies the name at a path, by what is answered of its id
+abbrev pub identity_at : List (List ℕ) → Option Answer → Option Identity
+identity_at path (Some (Appeared prefix)) = Some (first_identity prefix path)
+identity_at path (Some (Identified identity)) = Some identity
+identity_at path other = None
+
+-- its id, and nothing where none is told
+abbrev pub id_at : List (List ℕ) → Option Answer → List ℕ
+id_at path answer = elim (identity_at path answer) [ None ↦ [] | Some d ↦ d.id ]
 
 -- the paths of operations and attributes among what is declared
 abbrev pub is_operation : Entity → Bool
@@ -127,6 +136,7 @@ operations_among [] = []
 operations_among (Declares e ∷ additions) =
     if is_operation e then e.path ∷ operations_among additions else operations_among additions
 operations_among (Uses n path body ∷ additions) = operations_among additions
+operations_among (Appears path prefix ∷ additions) = operations_among additions
 operations_among (Identifies path identity ∷ additions) = operations_among additions
 
 -- those of the innermost scope, with more

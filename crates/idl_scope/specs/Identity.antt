@@ -1,14 +1,42 @@
--- When two prefixes, or two ids, are one.
-use Rattle.std.specs.Prelude.{◌≡◌, ℕ, Bool, true, ◌==◌, ◌&&◌, if◌then◌else◌, nat_eq, refl}
+-- What identifies a name at first, and when two prefixes, or two ids, are one.
+use Rattle.std.specs.Prelude.{◌≡◌, ℕ, ◌-◌, Bool, true, ◌==◌, ◌&&◌, List, [], ◌∷◌, ◌++◌, codes, drop, if◌then◌else◌, length, nat_eq, refl, take}
 use Rattle.std.proofs.Common.{ap, sym, ◌∙◌}
 use Rattle.std.specs.Cmp.Lexicographic.{bytes_decides}
 use Rattle.std.specs.Str.{bytes_eq}
 use Rattle.idl_base.specs.Exact.{both, same_number}
-use Rattle.idl_scope.specs.Path.{path_eq, same_path}
+use Rattle.idl_scope.specs.Path.{path_eq, same_path, scope_of}
 use Rattle.idl_scope.specs.declared.identity.Fixed.{Fixed}
 use Rattle.idl_scope.specs.declared.identity.Fixed.TheVariants.{Nothing, Version, Id}
 use Rattle.idl_scope.specs.declared.identity.Identity.{Identity}
 use Rattle.idl_scope.specs.declared.identity.Prefix.{Prefix}
+
+-- the parts of a path, the outermost first, with `/` between them
+abbrev pub slashed : List (List ℕ) → List ℕ
+slashed [] = []
+slashed (name ∷ []) = name
+slashed (name ∷ scope ∷ outer) = slashed (scope ∷ outer) ++ 47 ∷ name
+
+-- whether a path is that of a scope or of what stands in it
+abbrev pub is_within : List (List ℕ) → List (List ℕ) → Bool
+is_within path scope = path_eq (drop (length path - length scope) path) scope
+
+-- a path as it is told in a scope: what is declared elsewhere has its whole path
+abbrev pub relative : List (List ℕ) → List (List ℕ) → List (List ℕ)
+relative path scope =
+    if is_within (scope_of path) scope then take (length path - length scope) path else path
+
+-- a prefix with the `/` behind it
+abbrev pub prefixed : List ℕ → List ℕ
+prefixed [] = []
+prefixed (c ∷ text) = (c ∷ text) ++ 47 ∷ []
+
+-- what the name at a path is identified by where it is declared first
+abbrev pub first_identity : Prefix → List (List ℕ) → Identity
+first_identity p path = record {
+  id = codes "IDL:" ++ prefixed p.text ++ slashed (relative path p.scope) ++ codes ":1.0";
+  prefix = p.text;
+  fixed = Nothing;
+}
 
 -- a number for each
 abbrev pub fixed_number : Fixed → ℕ

@@ -8,7 +8,7 @@ use crate::answer::Answer;
 use crate::digest::{identified, introduced};
 use crate::digested::DigestedKey;
 use crate::entity::Entity;
-use crate::identity::Identity;
+use crate::identity::{Identity, Prefix};
 use crate::key::Key;
 use crate::kind::Kind;
 use crate::path::Path;
@@ -23,7 +23,9 @@ pub enum Addition {
     Declares(Shared<Entity>),
     /// A folded name is introduced into the body with this number of the scope at a path.
     Uses(Spelling, Path, usize),
-    /// What is declared at a path has this id, or has it from now on.
+    /// What has an id is declared first, at a path and under this prefix: the two tell its id.
+    Appears(Path, Shared<Prefix>),
+    /// What is declared at a path has this id from now on.
     Identifies(Path, Shared<Identity>),
 }
 
@@ -62,7 +64,9 @@ impl Addition {
         match self {
             Addition::Declares(entity) => entity.get().path().entity_digest(),
             Addition::Uses(name, path, body) => introduced(path.digest(), name.as_bytes(), *body),
-            Addition::Identifies(path, _) => identified(path.digest()),
+            Addition::Appears(path, _) | Addition::Identifies(path, _) => {
+                identified(path.digest())
+            }
         }
     }
 
@@ -79,7 +83,9 @@ impl Addition {
             Addition::Uses(name, path, body) => {
                 Key::Introduced(name.clone()?, path.clone()?, *body)
             }
-            Addition::Identifies(path, _) => Key::IdOf(path.clone()?),
+            Addition::Appears(path, _) | Addition::Identifies(path, _) => {
+                Key::IdOf(path.clone()?)
+            }
         };
         Ok(DigestedKey::known(digest, key))
     }
@@ -96,6 +102,7 @@ impl Addition {
                 (key, Answer::Known(entity))
             }
             Addition::Uses(name, path, body) => (Key::Introduced(name, path, body), Answer::Used),
+            Addition::Appears(path, prefix) => (Key::IdOf(path), Answer::Appeared(prefix)),
             Addition::Identifies(path, identity) => (Key::IdOf(path), Answer::Identified(identity)),
         })
     }
@@ -111,7 +118,10 @@ impl Addition {
             (Addition::Uses(name, path, body), Addition::Uses(word, scope, number)) => {
                 *name == *word && *path == *scope && *body == *number
             }
-            (Addition::Identifies(path, _), Addition::Identifies(same, _)) => *path == *same,
+            (
+                Addition::Appears(path, _) | Addition::Identifies(path, _),
+                Addition::Appears(same, _) | Addition::Identifies(same, _),
+            ) => *path == *same,
             _ => false,
         }
     }
@@ -137,6 +147,7 @@ impl Addition {
         match self {
             Addition::Declares(entity) => Ok(Answer::Known(entity.clone()?)),
             Addition::Uses(_, _, _) => Ok(Answer::Used),
+            Addition::Appears(_, prefix) => Ok(Answer::Appeared(prefix.clone()?)),
             Addition::Identifies(_, identity) => Ok(Answer::Identified(identity.clone()?)),
         }
     }

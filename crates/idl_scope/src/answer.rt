@@ -1,8 +1,8 @@
 //! What is answered about names.
 
-ghost use Rattle.std.specs.Prelude.{◌≡◌, IfSome, None};
+ghost use Rattle.std.specs.Prelude.{◌≡◌, ◌++◌, IfOk, IfSome, None, OnOk};
 ghost use Rattle.std.specs.Option.{option_copied};
-ghost use Rattle.idl_scope.specs.Facts.{count_in, entity_in, global_scope, identity_in, no_prefix, prefix_in, scopes_in};
+ghost use Rattle.idl_scope.specs.Facts.{count_in, entity_in, global_scope, id_at, identity_at, no_prefix, prefix_in, scopes_in};
 ghost use Rattle.idl_scope.specs.declared.answer.Answer.TheVariants as answers;
 
 use crate::entity::Entity;
@@ -35,6 +35,8 @@ pub enum Answer {
     Count(usize),
     /// This prefix is in force.
     InForce(Shared<Prefix>),
+    /// The name was declared first under this prefix, which tells its id with the path.
+    Appeared(Shared<Prefix>),
     /// The name has this id.
     Identified(Shared<Identity>),
 }
@@ -59,6 +61,7 @@ impl Drop for Answer {
             Answer::Known(_entity) => {}
             Answer::Used | Answer::Count(_) => {}
             Answer::InForce(_prefix) => {}
+            Answer::Appeared(_prefix) => {}
             Answer::Identified(_identity) => {}
         }
     }
@@ -121,12 +124,33 @@ pub fn prefix_in<'a>(answer: Option<&'a Answer>) -> Option<&'a Shared<Prefix>>
     }
 }
 
-/// The id that an answer tells, if it does.
-pub fn identity_in<'a>(answer: Option<&'a Answer>) -> Option<&'a Shared<Identity>>
-    ensures { option_copied result ≡ identity_in (option_copied answer.entry) }
+/// What identifies the name at a path, if an answer about its id tells it.
+pub fn identity_at(
+    alloc: Global,
+    path: &Path,
+    answer: Option<&Answer>,
+) -> Result<Option<Shared<Identity>>, AllocError>
+    ensures { IfOk result (λ d. d ≡ identity_at path.now (option_copied answer.entry)) }
 {
     match answer {
-        Some(Answer::Identified(identity)) => Some(identity),
-        _ => None,
+        Some(Answer::Appeared(prefix)) => { Ok(Some(Identity::first(alloc, prefix.get(), path)?)) }
+        Some(Answer::Identified(identity)) => Ok(Some(identity.clone()?)),
+        _ => Ok(None),
+    }
+}
+
+/// Its id, written; no bytes where none is told.
+pub fn push_id_at(
+    text: &mut Vec<u8>,
+    path: &Path,
+    answer: Option<&Answer>,
+) -> Result<(), AllocError>
+    ensures { OnOk result
+        (text.new.items ≡ text.old.items ++ id_at path.now (option_copied answer.entry)) }
+{
+    match answer {
+        Some(Answer::Appeared(prefix)) => prefix.get().push_id(text, path),
+        Some(Answer::Identified(identity)) => text.extend_from_slice(identity.get().id.as_bytes()),
+        _ => Ok(()),
     }
 }

@@ -1,12 +1,12 @@
-//! Repository ids, and the prefixes that they begin with.
+//! Repository ids, how they are told at first, and the prefixes that they begin with.
 
 ghost use Rattle.std.specs.Cmp.{on_equiv, on_per, partial_equiv_from_equiv, nat_eq_equiv};
-ghost use Rattle.std.specs.Prelude.{◌≡◌, IfOk};
+ghost use Rattle.std.specs.Prelude.{◌≡◌, ◌++◌, IfOk, OnOk};
 ghost use Rattle.idl_scope.specs.Facts.{no_prefix};
-ghost use Rattle.idl_scope.specs.Identity.{fixed_number, fixed_eq, same_fixed};
+ghost use Rattle.idl_scope.specs.Identity.{first_identity, fixed_number, fixed_eq, prefixed, relative, same_fixed, slashed};
 
 use crate::name::shared_name;
-use crate::path::Path;
+use crate::path::{Names, Path};
 use crate::shared::Shared;
 use idl_base::{Datum, InlineText};
 use idl_lex::Spelling;
@@ -67,6 +67,72 @@ impl Prefix {
         let text = shared_name(alloc, b"")?;
         let scope = Path::global();
         Shared::new(alloc, Prefix { text, scope })
+    }
+
+    /// Writes the id of the name at a path, as it is where the name is declared first under this prefix.
+    pub(crate) fn push_id(&self, text: &mut Vec<u8>, path: &Path) -> Result<(), AllocError>
+        ensures { OnOk result
+            (text.new.items ≡ text.old.items ++ (first_identity self.now path.now).id) }
+    {
+        text.extend_from_slice(b"IDL:")?;
+        push_prefix(text, self.text.as_bytes())?;
+        push_slashed(text, path.lent(), &self.scope)?;
+        text.extend_from_slice(b":1.0")?;
+        Ok(())
+    }
+}
+
+// A prefix with the `/` behind it.
+fn push_prefix(id: &mut Vec<u8>, text: &[u8]) -> Result<(), AllocError>
+    ensures { OnOk result (id.new.items ≡ id.old.items ++ prefixed text.now) }
+{
+    if text.is_empty() {
+        return Ok(());
+    }
+    id.extend_from_slice(text)?;
+    id.push(b'/')?;
+    Ok(())
+}
+
+// The parts of a path as it is told in a scope, the outermost first, with `/` between them.
+#[tactic(auto, using(crate::proofs::IdLemmas::slashed_none, crate::proofs::IdLemmas::slashed_ends, crate::proofs::IdLemmas::slashed_last, crate::proofs::IdLemmas::slashed_further))]
+fn push_slashed(id: &mut Vec<u8>, path: Names<'_>, scope: &Path) -> Result<(), AllocError>
+    ensures { OnOk result (id.new.items ≡ id.old.items ++ slashed (relative path.entry scope.now)) }
+{
+    let Some((name, around)) = path.split_first() else {
+        return Ok(());
+    };
+    if around.is_empty() || around.are_of(scope) {
+        id.extend_from_slice(name)?;
+        return Ok(());
+    }
+    push_slashed(id, around, scope)?;
+    id.push(b'/')?;
+    id.extend_from_slice(name)?;
+    Ok(())
+}
+
+impl Identity {
+    /// What the name at a path is identified by where it is declared first under a prefix.
+    pub fn first(
+        alloc: Global,
+        prefix: &Prefix,
+        path: &Path,
+    ) -> Result<Shared<Identity>, AllocError>
+        ensures { IfOk result (λ d. d ≡ first_identity prefix.now path.now) }
+    {
+        let mut id = Vec::new(alloc);
+        prefix.push_id(&mut id, path)?;
+        let id = InlineText::from_slice(alloc, id.as_slice())?;
+        let prefix = prefix.text.clone()?;
+        Shared::new(
+            alloc,
+            Identity {
+                id,
+                prefix,
+                fixed: Fixed::Nothing,
+            },
+        )
     }
 }
 

@@ -150,7 +150,9 @@ impl<'a> LentKey<'a> {
             (Parts::Introduced(path, scope, body), Addition::Uses(name, other, number)) => {
                 path.has_folded(name) && **scope == *other && *body == *number
             }
-            (Parts::IdOf(path), Addition::Identifies(other, _)) => **path == *other,
+            (Parts::IdOf(path), Addition::Appears(other, _) | Addition::Identifies(other, _)) => {
+                **path == *other
+            }
             _ => false,
         }
     }

@@ -41,7 +41,9 @@ mod state;
 mod unvalued;
 
 pub use addition::{Addition, Step};
-pub use answer::{Answer, Scope, count_in, entity_in, identity_in, prefix_in, scopes_in};
+pub use answer::{
+    Answer, Scope, count_in, entity_in, identity_at, prefix_in, push_id_at, scopes_in,
+};
 pub use data_type::{DataType, Element, Layer};
 pub use digested::DigestedKey;
 pub use entity::{Entity, Nature};

@@ -3,7 +3,7 @@
 ghost use Rattle.std.specs.Prelude.{◌≡◌, ◌≤◌, ◌++◌, ℕ, IfOk, OnOk, Some, map, option_to_list};
 ghost use Rattle.std.specs.Option.{option_copied};
 ghost use Rattle.idl_memo.specs.Query.{noted, run};
-ghost use Rattle.idl_scope.specs.Facts.{answer_of, answers, entity_in, entity_key, identity_in, over, prefix_in};
+ghost use Rattle.idl_scope.specs.Facts.{answer_of, answers, entity_in, entity_key, identity_at, over, prefix_in};
 ghost use Rattle.idl_scope.specs.Finds.{those};
 ghost use Rattle.idl_scope.specs.Key.{key_eq};
 ghost use Rattle.idl_scope.specs.Lookup.{bases_of, entered, has, outward, reached, under};
@@ -11,7 +11,7 @@ ghost use Rattle.idl_scope.specs.declared.key.Key.TheVariants.{Declared, IdOf, P
 ghost use Rattle.idl_scope.specs.declared.lookup.TheConstants.{TURNS};
 
 use crate::addition::Addition;
-use crate::answer::{Answer, Scope, entity_in, identity_in, prefix_in};
+use crate::answer::{Answer, Scope, entity_in, identity_at, prefix_in};
 use crate::base_queue::BaseQueue;
 use crate::digested::DigestedKey;
 use crate::entity::Entity;
@@ -82,25 +82,29 @@ impl<'a> View<'a> {
         }
     }
 
-    /// The id of what is declared at a path.
+    /// What identifies what is declared at a path.
     pub fn identity(
         self,
         log: &mut Journal<Env>,
         path: &Path,
-    ) -> Result<Option<&'a Shared<Identity>>, AllocError>
+    ) -> Result<Option<Shared<Identity>>, AllocError>
         ensures identity { IfOk result (λ d.
-            option_copied d
-            ≡ identity_in
+            d
+            ≡ identity_at path.now
             (over self.entry.own.now.additions (IdOf path.now)
             (answers self.entry.env.now (IdOf path.now)))) }
         ensures logged { OnOk result
             (log.new ≡ noted key_eq (answers self.entry.env.now) log.old (IdOf path.now)) }
     {
-        let key = LentKey::id_of(self.env.alloc(), path);
+        let alloc = self.env.alloc();
+        let key = LentKey::id_of(alloc, path);
         let before = log.ask_lent(&key, self.env)?;
         match self.own.get(&key)? {
-            Some(addition) => Ok(identified_by(addition)),
-            None => Ok(identity_in(before)),
+            Some(addition) => {
+                let answer = addition.answer()?;
+                identity_at(alloc, path, Some(&answer))
+            }
+            None => identity_at(alloc, path, before),
         }
     }
 
@@ -287,17 +291,7 @@ fn declared_by(addition: &Addition) -> Option<&Shared<Entity>>
 {
     match addition {
         Addition::Declares(entity) => Some(entity),
-        Addition::Uses(_, _, _) | Addition::Identifies(_, _) => None,
-    }
-}
-
-// The id that an addition tells, if it does.
-fn identified_by(addition: &Addition) -> Option<&Shared<Identity>>
-    ensures { option_copied result ≡ identity_in (Some (answer_of addition.now)) }
-{
-    match addition {
-        Addition::Identifies(_, identity) => Some(identity),
-        Addition::Declares(_) | Addition::Uses(_, _, _) => None,
+        Addition::Uses(_, _, _) | Addition::Appears(_, _) | Addition::Identifies(_, _) => None,
     }
 }
 

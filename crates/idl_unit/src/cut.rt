@@ -159,7 +159,8 @@ impl<'a> Cut<'a> {
         let text = Run::new(self.text.clone()?, from, to)?;
         let sites = SiteRun::new(self.sites.clone()?, from, to)?;
         let unit = Unit::Spelled(UnitText::Tokens(text), sites);
-        self.units.push(unit)?;
+        self.units.reserve(1)?;
+        self.units.push_reserved(unit);
         self.taken = to;
         self.inside = len - 1;
         Ok(())

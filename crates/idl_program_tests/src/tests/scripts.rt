@@ -11,13 +11,20 @@ use std::test::Fail;
 // Bytes that a sink takes.
 const ROOM: usize = 65_536;
 
-/// To each text a new session replies: to the lines without `=` before them by the other lines.
+/// For each text, with ` ¶ ` between one and the next, a new session replies to the lines without `=` by the other lines.
 pub fn have_replies(rt: &(impl Abort + AllocGlobal), texts: &[&str]) -> Result<(), Fail> {
-    for text in texts {
-        let (script, want) = parted(rt.alloc(), text)?;
-        let replies = replies(rt.alloc(), script.as_str())?;
-        assert_eq!(rt; replies.as_bytes(), want.as_bytes(), "{script}");
+    for list in texts {
+        for text in list.split(" ¶ ") {
+            has_replies(rt, text)?;
+        }
     }
+    Ok(())
+}
+
+fn has_replies(rt: &(impl Abort + AllocGlobal), text: &str) -> Result<(), Fail> {
+    let (script, want) = parted(rt.alloc(), text)?;
+    let replies = replies(rt.alloc(), script.as_str())?;
+    assert_eq!(rt; replies.as_bytes(), want.as_bytes(), "{script}");
     Ok(())
 }
 

@@ -9,7 +9,7 @@ use Rattle.idl_check.specs.Pragmas.{refused_for}
 use Rattle.idl_check.specs.Using.{last_at, name_code, part_at}
 use Rattle.idl_event.specs.declared.code.Code.TheVariants.{NoRepositoryId}
 use Rattle.idl_memo.specs.Query.{noted}
-use Rattle.idl_scope.specs.Facts.{answers, identity_in}
+use Rattle.idl_scope.specs.Facts.{answers, identity_at}
 use Rattle.idl_scope.specs.Key.{key_eq}
 use Rattle.idl_scope.specs.Lookup.{denoted, under}
 use Rattle.idl_scope.specs.declared.entity.Entity.{Entity}
@@ -50,7 +50,7 @@ returns-in-Ok c = λ turns more faults change.
     let some = ap (λ (e : Entity). has_id e.kind) (sym c.get-entity.ensures) ∙ ap has_id (sym c.kind.ensures) ∙ sym c.has_id.ensures ∙ c.if-not-has_id.false in
     (λ i. (said_of faults change (Ok (c.in_ok-identified-in-Ok.ensures.named i)), c.in_ok-identified-in-Ok.ensures.logged i))
     ∙ (λ i. (
-      said_of faults change (Ok (named_at bank faults change (lent i) (identity_in (bank (IdOf (lent i)))))),
+      said_of faults change (Ok (named_at bank faults change (lent i) (identity_at (lent i) (bank (IdOf (lent i)))))),
       noted key_eq bank after (IdOf (lent i)),
     ))
     ∙ sym (about-named bank faults change (last_at 2 name) found.entity after some)

@@ -25,7 +25,7 @@ returns-clause-visit c = λ s given.
       begun = w.begun ++ cond (is_begun e) (e ∷ []) [];
       written = written_after (held_written w.written) e;
       last = Some e;
-      bodies = with_member c.args.way e w.bodies.items;
+      bodies = with_member c.args.way e w.bodies;
     } in
     let adds : List Addition → List Addition = λ own. cond (stays there.there e) own (with_addition own (Declares e)) in
     (λ i. record (held noted) {
@@ -39,7 +39,7 @@ returns-clause-visit c = λ s given.
     ∙ (λ i. record (after noted) {
       own = adds (c.in_ok-add_identity.ensures i).additions;
       written = written_after (held_written noted.written) (c.get.ensures i);
-      bodies = with_member c.args.way (c.get-2.ensures i) noted.bodies.items;
+      bodies = with_member c.args.way (c.get-2.ensures i) noted.bodies;
     })
     ∙ (λ i. record (after noted) { own = adds (with_identity there.there there.ids (c.get-3.ensures i) noted.own.additions) })
     ∙ (λ i. after (c.note.ensures i))

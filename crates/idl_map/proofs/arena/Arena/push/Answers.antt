@@ -21,8 +21,8 @@ returns-then-branch-clause-sound g c =
       distinct = subst AreDistinct (sym keys) (AreDistinct-push (keys_of es) key c.requires.sound.distinct nowhere);
       digests =
           c.in_ok-push.ensures.pushed c.if-branch.true
-          ∙ ap (λ ds. ds ++ c.digest.result ∷ []) c.requires.sound.digests
-          ∙ ap (λ d. map digest_of (keys_of es) ++ d ∷ []) c.digest.ensures
+          ∙ ap (λ ds. ds ++ c.args.spot.digest ∷ []) c.requires.sound.digests
+          ∙ ap (λ d. map digest_of (keys_of es) ++ d ∷ []) c.requires.digest
           ∙ sym (map-append digest_of (keys_of es) (key ∷ []))
           ∙ ap (map digest_of) (sym keys);
       indexed = c.push.ensures.sound;

@@ -7,9 +7,9 @@ pub returns-clause-sound : goal.returns-clause-sound
 returns-clause-sound c =
     let index = c.find_room.new.self in
     let digests = index.digests.items in
-    let digest = c.args.digest in
+    let digest = c.args.spot.digest in
     let last : c.len-place.result ≡ length digests =
-    omega (arith, c.len-place.ensures, c.reserve.new.self.ok.0, ap length c.find_room.ensures.digests) in
+    omega (arith, c.len-place.ensures, ap length c.find_room.ensures.digests) in
     record {
       parts = c.find_room.ensures.sound.parts;
       finds = λ d i at part is. elim (slice_get-push digests digest d i (ap (λ ds. slice_get ds i) (sym c.in_ok-push.ensures.items) ∙ at)) [

@@ -1,23 +1,22 @@
-use Rattle.std.proofs.Common.{◌≡◌, ◌<◌, ◌%◌, Some, sym, subst, ◌∙◌, arith, slice_get}
-use Rattle.std.proofs.lemmas.Option.{same_Some, slice_get_read}
+use Rattle.std.proofs.Common.{ℕ, sym, subst, ◌∙◌}
+use Rattle.std.proofs.lemmas.Option.{same_Some}
 use Rattle.idl_map.specs.declared.index.Part.{Part}
-use Rattle.idl_map.specs.Buckets.{FindsIn}
+use Rattle.idl_map.specs.Buckets.{FindsIn, HasAt, tag_of}
 use Rattle.idl_map.proofs.BucketLemmas.{FindsIn-kept}
 use Rattle.idl_map.proofs.index.Index.put.Goals as goal
 
 pub returns-clause-sound : goal.returns-clause-sound
 returns-clause-sound c =
     record {
-      parts = c.requires.parts;
-      finds = λ d i at part is. FindsIn-kept part c.args.self.now.buckets c.put_in.new.buckets d i c.put_in.ensures.kept (c.requires.finds d i at part is);
+      parts = c.requires.sound.parts;
+      finds = λ d i at part is. FindsIn-kept part c.args.self.now.buckets c.put.new.self d i c.put.ensures.kept (c.requires.sound.finds d i at part is);
     }
 
 pub returns-clause-found : goal.returns-clause-found
 returns-clause-found c done part is =
-    let digest = c.args.digest in
-    let within : digest % 64 < 64 = omega arith in
-    let own = c.index-part.result.now in
-    let there : slice_get c.args.self.now.parts.items (digest % 64) ≡ Some own =
-    slice_get_read c.args.self.now.parts.items 64 (digest % 64) own (sym c.requires.parts) within c.index-part.ensures in
-    let same : own ≡ part = same_Some own part (sym there ∙ is) in
-    subst (λ (p : Part). FindsIn p c.put_in.new.buckets digest c.args.place) same (c.put_in.ensures.put done)
+    let spot = c.args.spot in
+    let buckets = c.put.new.self in
+    let chosen = c.requires.spot in
+    let there = subst (λ (t : ℕ). HasAt buckets spot.number t c.args.place) chosen.tag (c.put.ensures.put done) in
+    let found = subst (λ (n : ℕ). HasAt buckets n (tag_of spot.digest) c.args.place) chosen.number there in
+    subst (λ (p : Part). FindsIn p buckets spot.digest c.args.place) (same_Some chosen.part part (sym chosen.chosen ∙ is)) found

@@ -1,12 +1,18 @@
-use Rattle.std.proofs.Common.{◌<◌, ℕ}
+use Rattle.std.proofs.Common.{◌≡◌, ◌⊎◌, ℕ}
+use Rattle.std.specs.Int.{bit_at}
 use Rattle.idl_map.specs.Buckets.{AreKept, FindsIn, IsOf, StandsAt, tag_of}
 use Rattle.idl_map.proofs.index.Target.take.Given as goal
 
--- the places in the slots before have been put in
-abbrev pub invariant-loop-slot : goal.invariant-loop-slot
-invariant-loop-slot l =
+-- a place has been put in, or its slot is marked
+abbrev pub invariant-loop-marks : goal.invariant-loop-marks
+invariant-loop-marks l =
     record {
       kept : AreKept l.fn.buckets l.buckets;
-      taken : (d i s : ℕ) → s < l.slot → IsOf l.self.digests.now l.self.number d i
-          → StandsAt l.fn.buckets l.number s (tag_of d) i → FindsIn l.self.part l.buckets d i;
+      taken : (slot d i : ℕ) → IsOf l.self.digests.now l.self.number d i
+          → StandsAt l.fn.buckets l.number slot (tag_of d) i
+          → FindsIn l.self.part l.buckets d i ⊎ (bit_at l.marks slot ≡ 1);
     }
+
+-- fewer marks are left
+abbrev pub decreases-loop-marks : goal.decreases-loop-marks
+decreases-loop-marks l = l.marks

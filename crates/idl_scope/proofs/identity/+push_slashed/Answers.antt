@@ -1,8 +1,8 @@
 use Rattle.std.proofs.Common.{◌≡◌, ◌∙◌, ◌++◌, ◌∷◌, [], append_assoc, ap, false, sym}
-use Rattle.idl_check.proofs.IdLemmas.{slashed_further}
-use Rattle.idl_check.specs.Identifying.{relative, slashed}
+use Rattle.idl_scope.proofs.IdLemmas.{slashed_further}
+use Rattle.idl_scope.specs.Identity.{relative, slashed}
 use Rattle.idl_scope.specs.Path.{path_eq}
-use Rattle.idl_check.proofs.identifying.+push_slashed.Goals as goal
+use Rattle.idl_scope.proofs.identity.+push_slashed.Goals as goal
 
 pub returns : goal.returns
 returns t c =
