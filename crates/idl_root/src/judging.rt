@@ -186,12 +186,7 @@ impl<'a> Gathered<'a> {
     }
 
     // Puts in what comes of one unit more over these facts; what it adds to them.
-    fn add(
-        &mut self,
-        alloc: Global,
-        env: &Env,
-        unit: &'a Unit,
-    ) -> Result<Added, AllocError>
+    fn add(&mut self, alloc: Global, env: &Env, unit: &'a Unit) -> Result<Added, AllocError>
         requires { IfSome self.old.keeping (λ k. IsKeeping k env.now) }
         ensures added { IfOk result (λ a. told_by a ≡ added env.now unit.now) }
         ensures gathered { OnOk result ((facts : List UnitFacts)
