@@ -27,6 +27,26 @@ pub fn jump<'t, B: RootBank>(
         ≡ to_come bank enter file groups (lines_from left.entry) root.old) }
     ensures shorter { IfOk result (λ rest. length rest ≤ length left.entry) }
 {
+    if groups.is_walked() {
+        return Ok(left);
+    }
+    jump_over(root, groups, file, left)
+}
+
+// The same where the lines are skipped, as few are.
+#[inline(never)]
+fn jump_over<'t, B: RootBank>(
+    root: &mut Root<B>,
+    groups: &Groups,
+    file: &FileName,
+    left: LinesLeft<'t>,
+) -> Result<LinesLeft<'t>, AllocError>
+    ensures to_come { let file = file.now in let groups = groups.now in
+        IfOk result (λ rest. (bank : Key → Option Answer) (enter : Enter)
+        → to_come bank enter file groups (lines_from rest) root.new
+        ≡ to_come bank enter file groups (lines_from left.entry) root.old) }
+    ensures shorter { IfOk result (λ rest. length rest ≤ length left.entry) }
+{
     let Some(group) = groups.innermost() else {
         return Ok(left);
     };

@@ -1,15 +1,17 @@
 //! The lines of a file, as the preprocessor reads them.
 
-ghost use Rattle.std.specs.Prelude.{◌≡◌, ◌<◌, ◌++◌, ◌∷◌, IfOk, length};
+ghost use Rattle.std.specs.Prelude.{◌≡◌, ◌<◌, ◌++◌, ◌∷◌, IfOk, IsTrue, codes, length};
+ghost use Rattle.std.specs.Str.{bytes_eq};
 ghost use Rattle.idl_lex.specs.Tokens.{lines_of};
 ghost use Rattle.idl_macro.specs.Replace.{place_at};
+ghost use Rattle.idl_groups.specs.Line as spec;
 ghost use Rattle.idl_groups.specs.Line.{after_hash, read};
 ghost use Rattle.idl_prep.specs.Place.{place_in};
 ghost use Rattle.idl_prep.specs.Read.{line_of};
 
 use idl_event::{FileName, Place};
 use idl_groups::DirectiveKind;
-use idl_lex::{FileToken, FileTokens, Spelling};
+use idl_lex::{FileToken, FileTokens, Spelling, Token};
 use std::alloc::AllocError;
 use std::marker::Model;
 
@@ -103,15 +105,33 @@ pub enum Line<'t> {
     Directed(Directive<'t>),
 }
 
+/// Whether these tokens are a line of text, as those of most lines are.
+pub fn is_text(tokens: &FileTokens<'_>) -> bool
+    ensures { IsTrue result → read tokens.now ≡ spec.Text tokens.now }
+{
+    match tokens.split_first() {
+        Some((first, _rest)) => !is_hash(first.token()),
+        None => true,
+    }
+}
+
 /// The line that these tokens are: a directive where the first is `#`.
 pub fn read<'t>(tokens: &FileTokens<'t>) -> Line<'t>
     ensures { line_of result ≡ read tokens.now }
 {
     match tokens.split_first() {
-        Some((hash, rest)) if hash.token().as_bytes() == b"#".as_slice() => {
-            after_hash(hash.line(), rest)
-        }
+        Some((hash, rest)) if is_hash(hash.token()) => after_hash(hash.line(), rest),
         _ => Line::Text(tokens.copied()),
+    }
+}
+
+// Whether it is `#`.
+fn is_hash(token: &Token) -> bool
+    ensures { result ≡ bytes_eq token.now (codes "#") }
+{
+    match token.as_bytes() {
+        [b] => *b == b'#',
+        _ => false,
     }
 }
 

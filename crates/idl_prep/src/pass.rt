@@ -13,7 +13,7 @@ ghost use Rattle.idl_prep.specs.State.{ended, onward};
 use crate::branch::{begin_branch, begin_group, end_group, skip_group};
 use crate::groups::Groups;
 use crate::inclusion::Inclusion;
-use crate::line::{Directive, Line, read};
+use crate::line::{Directive, Line, is_text, read};
 use crate::perform::{act_bare, act_directive, act_text};
 use crate::root::Root;
 use crate::site::Site;
@@ -25,6 +25,27 @@ use std::alloc::AllocError;
 
 /// The next line of a file: gives the file that is to be entered, if there is one.
 pub fn walk_line<'b, B: RootBank>(
+    root: &mut Root<B>,
+    groups: &mut Groups,
+    site: &Site<'b, B>,
+    tokens: &FileTokens<'_>,
+) -> Result<Option<Inclusion<'b>>, AllocError>
+    ensures { let bank = B.at site.now.bank.now in let file = site.now.file.now in
+        IfOk result (λ inclusion. (enter : Enter) (lines : List spec.Line)
+        → let after = coming enter file groups.new (part lines) in
+        onward bank (λ s. and_then (entered enter inclusion s) after) root.new
+        ≡ to_come bank enter file groups.old (spec.read tokens.now ∷ lines) root.old) }
+{
+    if is_text(tokens) {
+        walk_text(root, groups, site, tokens)?;
+        return Ok(None);
+    }
+    walk_read(root, groups, site, tokens)
+}
+
+// The same of a line that is read, as few are that aren't text.
+#[inline(never)]
+fn walk_read<'b, B: RootBank>(
     root: &mut Root<B>,
     groups: &mut Groups,
     site: &Site<'b, B>,

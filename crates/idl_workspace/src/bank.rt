@@ -187,6 +187,7 @@ impl Bank for SessionBank {
 
     ghost at = { bank_of };
 
+    #[inline]
     #[tactic(auto, unfolding(crate::specs::Bank::bank_of))]
     fn answer(&self, key: &Key) -> Option<&Answer> {
         match key {

@@ -1,6 +1,6 @@
 use Rattle.idl_groups.specs.Line.{lines_from}
 use Rattle.idl_prep.proofs.JumpLemmas.{to_come-jump}
-use Rattle.idl_prep.proofs.jump.jump.Goals as goal
+use Rattle.idl_prep.proofs.jump.jump_over.Goals as goal
 
 pub returns-clause-to_come : goal.returns-clause-to_come
 returns-clause-to_come g c = λ bank enter.
