@@ -19,7 +19,7 @@ invariant_of-result c =
     let past = c.and-after.ensures ∙ ap (λ g. before ++ g ∷ []) c.get.ensures in (
       grind (arith, c.self.invariant.0, c.in-Some.ensures, ap length past, length-append before (f ∷ [])),
       c.in_ok-add_own.ensures
-          ∙ (λ i. after (held (c.deref_mut.ensures.value i)) (c.deref_mut-2.ensures.value i))
+          ∙ (λ i. after (held (c.deref_mut.ensures.value i)) ((c.deref_mut-2.ensures.value ∙ c.facts-2.view_is) i))
           ∙ ap (λ (w : World). after w f) c.self.invariant.1
           ∙ sym (world-push before f)
           ∙ sym (ap world past),

@@ -7,4 +7,4 @@ pub returns-clause-few : goal.returns-clause-few
 returns-clause-few c =
     let first = c.self.inside.first.items in
     let none : c.self.inside.others ≡ [] = c.is_empty.ensures.0 c.if-not-is_empty.false in
-    c.replace.ensures.value ∙ sym (append-nil first) ∙ (λ i. first ++ map (λ e. e.1) (sym none i)) ∙ ap (λ (f : UnitFacts). f.additions) c.self.view_is
+    (λ i. (c.replace.ensures.value i).items) ∙ sym (append-nil first) ∙ (λ i. first ++ map (λ e. e.1) (sym none i)) ∙ ap (λ (f : UnitFacts). f.additions) c.self.view_is
