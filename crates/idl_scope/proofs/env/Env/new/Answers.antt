@@ -6,6 +6,6 @@ use Rattle.idl_scope.proofs.env.Env.new.Goals as goal
 
 pub invariant_of-result : goal.invariant_of-result
 invariant_of-result c = (
-    sym (ap length c.new-4.ensures),
-    ap held c.in_ok-state.ensures.ok ∙ c.in_ok-new.ensures ∙ sym (ap world c.new-4.ensures ∙ world-none),
+  sym (ap length c.new-4.ensures),
+  ap held c.in_ok-state.ensures.ok ∙ c.in_ok-new.ensures ∙ sym (ap world c.new-4.ensures ∙ world-none),
 )
