@@ -22,7 +22,7 @@ pub enum Added {
 impl Added {
     /// The facts of an environment, and these behind them. Facts that are given up leave their room.
     pub fn behind(self, env: Env, room: &mut Room) -> Result<Env, AllocError>
-        ensures { IfOk result (λ after. after ≡ env.entry ++ told_by self) }
+        ensures { IfOk result (λ after. after ≡ env ++ told_by self) }
     {
         match self {
             Added::Nothing => Ok(env),
