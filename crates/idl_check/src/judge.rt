@@ -28,13 +28,14 @@ ghost use Rattle.idl_event.specs.declared.code.Code.TheVariants.{MisplacedUnit, 
 use crate::codes::lesser;
 use crate::placing::{depth, faulty_step, is_misplaced, opened_kind, opening_fault, step_of};
 use crate::row::{Rest, write_row};
+use crate::scratch::Scratch;
 use crate::verdict::{Verdict, adding};
 use crate::walk::Walker;
 use idl_base::SharedText;
 use idl_event::Code;
 use idl_lex::Token;
 use idl_memo::Journal;
-use idl_scope::{DigestedKey, Env, Facts, Key, Path, Scope, Shared, Step, View, folded_name};
+use idl_scope::{DigestedKey, Env, Facts, Key, Path, Scope, Step, View, folded_name};
 use idl_site::{Site, sites};
 use idl_syntax::{SyntaxFault, UnitTree, parse};
 use idl_tree::Tree;
@@ -58,10 +59,10 @@ struct Sited<'t> {
 }
 
 impl<'a> Judge<'a> {
-    /// The verdict of the unit, whose text this is. Its row is written in a buffer before it is copied.
+    /// The verdict of the unit, whose text this is.
     pub fn verdict(
         self,
-        buffer: &mut Vec<u8>,
+        scratch: &mut Scratch,
         log: &mut Journal<Env>,
         text: &UnitText,
     ) -> Result<Verdict, AllocError>
@@ -72,7 +73,7 @@ impl<'a> Judge<'a> {
             (answers self.entry.env.now) log.old) }
     {
         match parse(self.env.alloc(), text) {
-            Ok(tree) => self.with_tree(buffer, log, &tree),
+            Ok(tree) => self.with_tree(scratch, log, &tree),
             Err(SyntaxFault::Rule(fault)) => self.refused(log, self.with_opening(fault)),
             Err(SyntaxFault::NoTree(_place)) => self.without_tree(log),
             Err(SyntaxFault::Memory) => Err(AllocError),
@@ -109,7 +110,7 @@ impl<'a> Judge<'a> {
     // The verdict of a unit that has a tree, and that no rule of tokens refuses.
     fn with_tree(
         self,
-        buffer: &mut Vec<u8>,
+        scratch: &mut Scratch,
         log: &mut Journal<Env>,
         tree: &UnitTree,
     ) -> Result<Verdict, AllocError>
@@ -124,7 +125,7 @@ impl<'a> Judge<'a> {
             return self.refused(log, fault);
         }
         match tree {
-            UnitTree::Tokens(tree) => self.by_names(buffer, log, tree),
+            UnitTree::Tokens(tree) => self.by_names(scratch, log, tree),
             UnitTree::Pragma(_pragma) => Err(AllocError),
         }
     }
@@ -146,7 +147,7 @@ impl<'a> Judge<'a> {
     // The verdict of a unit that has this tree.
     fn by_names(
         self,
-        buffer: &mut Vec<u8>,
+        scratch: &mut Scratch,
         log: &mut Journal<Env>,
         tree: &Tree,
     ) -> Result<Verdict, AllocError>
@@ -165,8 +166,8 @@ impl<'a> Judge<'a> {
             tree,
             sites: sites.as_slice(),
         };
-        let mut walker = Walker::new(self.env, self.scopes);
-        unit.walked(buffer, log, &mut walker)
+        let mut walker = Walker::new(self.env, self.scopes, &mut scratch.room);
+        unit.walked(scratch, log, &mut walker)
     }
 
     // The verdict of a unit that its scope doesn't hold.
@@ -226,7 +227,7 @@ impl<'t> Sited<'t> {
     // The verdict of a unit that its scope holds, over whose sites this walk goes.
     fn walked(
         self,
-        buffer: &mut Vec<u8>,
+        scratch: &mut Scratch,
         log: &mut Journal<Env>,
         walker: &mut Walker<'_>,
     ) -> Result<Verdict, AllocError>
@@ -243,14 +244,14 @@ impl<'t> Sited<'t> {
         walker.walk(log, self.sites)?;
         match walker.fault {
             Some(fault) => self.judge.refused(log, fault),
-            None => self.sound(buffer, log, walker),
+            None => self.sound(scratch, log, walker),
         }
     }
 
     // The verdict of a unit without fault, over which a walk has come so far.
     fn sound(
         self,
-        buffer: &mut Vec<u8>,
+        scratch: &mut Scratch,
         log: &mut Journal<Env>,
         walker: &mut Walker<'_>,
     ) -> Result<Verdict, AllocError>
@@ -272,17 +273,17 @@ impl<'t> Sited<'t> {
             in_value: false,
         };
         write_row(
-            buffer,
+            &mut scratch.row,
             row_depth(self.tree, self.judge.scopes),
             self.sites,
             rest,
         )?;
-        let row = SharedText::from_slice(alloc, buffer.as_slice())?;
+        let row = SharedText::from_slice(alloc, scratch.row.as_slice())?;
         let around = path_around(self.judge.scopes)?;
         let step = step_of(alloc, &walker.own, self.tree, &around)?;
         self.judge.ask_step(log, &step)?;
-        let facts = walker.take_facts(step)?;
-        let writes = Shared::new(alloc, facts)?;
+        walker.finish_facts(step)?;
+        let writes = scratch.room.hold(&mut walker.own)?;
         Ok(Verdict {
             fault: None,
             writes,

@@ -22,6 +22,7 @@ mod part;
 mod placing;
 mod pragmas;
 mod row;
+mod scratch;
 mod standing;
 mod task;
 mod types;
@@ -32,5 +33,6 @@ mod verdict;
 mod walk;
 
 pub use laws::{acceptance, least, numbering, questions, refusal, wording};
+pub use scratch::Scratch;
 pub use task::{DeclarationTask, verdict_of};
 pub use verdict::Verdict;

@@ -29,7 +29,8 @@ use idl_event::Code;
 use idl_lex::TokenRange;
 use idl_memo::Journal;
 use idl_scope::{
-    Addition, Env, Facts, Identity, NameFault, Path, Scope, Shared, Standpoint, Step, View, resolve,
+    Addition, Env, Facts, Identity, NameFault, Path, Scope, Shared, Standpoint, Step, View, Writes,
+    resolve,
 };
 use idl_syntax::{SyntaxFault, UnitTree, parse};
 use idl_tree::{Pragma, ScopedName};
@@ -272,7 +273,7 @@ fn identifying(
 {
     let mut facts = Facts::new(alloc);
     facts.add(Addition::Identifies(path.clone()?, identity))?;
-    let writes = Shared::new(alloc, facts)?;
+    let writes = Writes::new(alloc, facts)?;
     Ok(Verdict {
         fault: None,
         writes,

@@ -9,6 +9,7 @@ ghost use Rattle.idl_scope.specs.declared.lookup.TheConstants.{TURNS};
 
 use crate::judge::Judge;
 use crate::pragmas::Speaker;
+use crate::scratch::Scratch;
 use crate::verdict::Verdict;
 use idl_memo::{Journal, Log, Task, TaskKind};
 use idl_scope::{DigestedKey, Env, Key, scopes_in};
@@ -44,8 +45,8 @@ impl Task<Env> for DeclarationTask {
 
     fn run(&self, alloc: Global, bank: &Env, log: &mut Log<Env>) -> Result<Verdict, AllocError> {
         let mut journal = Journal::taking(alloc, log);
-        let mut buffer = Vec::new(alloc);
-        let verdict = verdict_of(&mut buffer, bank, &mut journal, &self.text);
+        let mut scratch = Scratch::new(alloc);
+        let verdict = verdict_of(&mut scratch, bank, &mut journal, &self.text);
         journal.give_back(log)?;
         verdict
     }
@@ -53,11 +54,11 @@ impl Task<Env> for DeclarationTask {
 
 /// The verdict of a unit. What it asks goes into the journal, behind what is there.
 ///
-/// Its row is written in a buffer before it is copied. What stands in the buffer is given up, and the rows of many units may be
-/// written in one. After want of memory nothing is said of the journal.
+/// The verdicts of many units may be made in the same scratch, what stands there from one before is given up. After want of
+/// memory nothing is said of the journal.
 #[tactic(auto, unfolding(crate::specs::Verdict::verdict))]
 pub fn verdict_of(
-    buffer: &mut Vec<u8>,
+    scratch: &mut Scratch,
     env: &Env,
     log: &mut Journal<Env>,
     text: &UnitText,
@@ -73,7 +74,7 @@ pub fn verdict_of(
                 tokens: run.as_slice(),
                 scopes,
             };
-            judge.verdict(buffer, log, text)
+            judge.verdict(scratch, log, text)
         }
         UnitText::Pragma(tokens, inside) => {
             let speaker = Speaker {

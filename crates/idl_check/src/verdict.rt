@@ -3,7 +3,7 @@
 ghost use Rattle.std.specs.Prelude.{◌≡◌, [], IfOk, None};
 
 use idl_base::SharedText;
-use idl_scope::{Facts, Shared, Step};
+use idl_scope::{Facts, Step, Writes};
 use idl_unit::Fault;
 use std::alloc::{AllocError, Global};
 
@@ -12,7 +12,7 @@ pub struct Verdict {
     /// Its least fault.
     pub fault: Option<Fault>,
     /// What it adds: names only where there is no fault.
-    pub writes: Shared<Facts>,
+    pub writes: Writes,
     /// Its row in the dump, which a faulty unit and a pragma have not.
     pub row: Option<SharedText>,
 }
@@ -24,6 +24,20 @@ impl Drop for Verdict {
             writes: _writes,
             row: _row,
         } = self;
+    }
+}
+
+impl Verdict {
+    /// What it adds, taken out.
+    pub fn into_writes(self) -> Writes
+        ensures { result ≡ self.writes }
+    {
+        let Verdict {
+            fault: _fault,
+            writes,
+            row: _row,
+        } = self;
+        writes
     }
 }
 
@@ -39,7 +53,7 @@ pub fn adding(alloc: Global, fault: Option<Fault>, step: Step) -> Result<Verdict
 {
     let mut facts = Facts::new(alloc);
     facts.then(step);
-    let writes = Shared::new(alloc, facts)?;
+    let writes = Writes::new(alloc, facts)?;
     Ok(Verdict {
         fault,
         writes,

@@ -27,12 +27,11 @@ use idl_base::Seq;
 use idl_event::Code;
 use idl_lex::Spelling;
 use idl_memo::Journal;
-use idl_scope::{Addition, Entity, Env, Facts, Kind, Path, Scope, Shared, Step, View};
+use idl_scope::{Addition, Entity, Env, Facts, Kind, Path, Room, Scope, Shared, Step, View};
 use idl_site::{Declaration, Site};
 use idl_tree::Several;
 use idl_unit::Fault;
 use std::alloc::{AllocError, Global};
-use std::mem::replace;
 
 /// How far a walk has come. Of its many fields most are empty, so each is dropped where it stands.
 #[derive(Drop)]
@@ -66,8 +65,8 @@ pub struct Walker<'a> {
 }
 
 impl<'a> Walker<'a> {
-    /// Before the first site of a unit, in these scopes.
-    pub fn new(env: &'a Env, scopes: &'a [Scope]) -> Walker<'a>
+    /// Before the first site of a unit, in these scopes. What is added takes the room that there is.
+    pub fn new(env: &'a Env, scopes: &'a [Scope], room: &mut Room) -> Walker<'a>
         ensures walk { held result ≡ first_walk scopes.now }
         ensures env { result.env.now ≡ env.now }
     {
@@ -76,7 +75,7 @@ impl<'a> Walker<'a> {
             env,
             at: 0,
             cursor: Cursor::new(alloc, scopes),
-            own: Facts::new(alloc),
+            own: Facts::within(alloc, room),
             begun: Few::new(alloc),
             bases: Bases::new(alloc),
             written: Written::new(alloc),
@@ -306,10 +305,10 @@ impl<'a> Walker<'a> {
         Ok(())
     }
 
-    /// What a unit without fault adds, where it does this to the open scopes. It is taken out.
-    pub fn take_facts(&mut self, step: Step) -> Result<Facts, AllocError>
-        ensures { IfOk result (λ facts.
-            facts
+    /// What a unit without fault adds stands there, where it does this to the open scopes.
+    pub fn finish_facts(&mut self, step: Step) -> Result<(), AllocError>
+        ensures { OnOk result
+            (self.new.own
             ≡ record {
               additions =
                   with_finished
@@ -320,12 +319,11 @@ impl<'a> Walker<'a> {
             }) }
     {
         let alloc = self.env.alloc();
-        let mut own = replace(&mut self.own, Facts::new(alloc));
-        own.then(step);
+        self.own.then(step);
         self.clauses.add_raising(&mut self.begun, &self.last)?;
         let begun = self.begun.as_slice();
         if begun.is_empty() {
-            return Ok(own);
+            return Ok(());
         }
         let paths = self.bases.paths(alloc)?;
         let ending = Ending {
@@ -333,8 +331,7 @@ impl<'a> Walker<'a> {
             value: &self.values.constant,
             clauses: &self.clauses,
         };
-        finish(alloc, &mut own, ending, begun)?;
-        Ok(own)
+        finish(alloc, &mut self.own, ending, begun)
     }
 }
 

@@ -1,3 +1,4 @@
+pub mod Added
 pub mod Judged
 pub mod Findings
 pub mod Printed

@@ -1,6 +1,7 @@
 //! The verdicts of a root's units.
 
 ghost use Rattle.std.specs.Prelude.{◌≡◌, ◌++◌, ◌∷◌, [], All, IfOk, IfSome, List, OnOk, flat_map, option_to_list};
+ghost use Rattle.idl_root.specs.Added.{told_by};
 ghost use Rattle.idl_root.specs.Compile.{is_open};
 ghost use Rattle.idl_root.specs.Followed.{IsKeeping};
 ghost use Rattle.idl_root.specs.Kept.{IsBoundary, IsPrinted, added_by};
@@ -9,14 +10,15 @@ ghost use Rattle.idl_root.specs.Held.{held, to_come, with_gathered, with_judged,
 ghost use Rattle.idl_root.specs.Judged.{added, boundary, judged_at, judged_over, verdict_over};
 ghost use Rattle.idl_scope.specs.Facts.{UnitFacts};
 
+use crate::added::Added;
 use crate::compiled::Row;
 use crate::finding::{Finding, Spelled, push_fault};
 use crate::keeping::Keeping;
 use crate::kept::{KeptEntry, KeptUnit, KeptUnits};
 use crate::printing::{Listed, Printed, print_all, print_kept, push_listed};
-use idl_check::{Verdict, verdict_of};
+use idl_check::{Scratch, Verdict, verdict_of};
 use idl_memo::{Bank, Journal};
-use idl_scope::{DigestedKey, Env, Facts, Key, Shared, Step, scopes_in};
+use idl_scope::{DigestedKey, Env, Facts, Key, Shared, Step, Writes, scopes_in};
 use idl_unit::{Unit, UnitText};
 use std::alloc::{AllocError, Global};
 
@@ -35,8 +37,8 @@ pub struct Gathered<'a> {
     pub listed: Vec<Listed<'a>>,
     /// What is kept of the units, if anything is.
     pub keeping: Option<Keeping<'a>>,
-    /// In which rows are written before they are copied.
-    pub buffer: Vec<u8>,
+    /// In which verdicts are made.
+    pub scratch: Scratch,
 }
 
 /// What came of all units.
@@ -63,7 +65,7 @@ impl<'a> Drop for Gathered<'a> {
             rows: _rows,
             listed: _listed,
             keeping: _keeping,
-            buffer: _buffer,
+            scratch: _scratch,
         } = self;
     }
 }
@@ -91,7 +93,7 @@ impl<'a> Judging<'a> {
                 rows,
                 listed,
                 keeping,
-                buffer: Vec::new(alloc),
+                scratch: Scratch::new(alloc),
             },
         })
     }
@@ -108,9 +110,8 @@ impl<'a> Judging<'a> {
             mut gathered,
         } = self;
         for unit in units {
-            if let Some(facts) = gathered.add(alloc, &env, unit)? {
-                env = env.add_own(facts)?;
-            }
+            let added = gathered.add(alloc, &env, unit)?;
+            env = added.behind(env, &mut gathered.scratch.room)?;
         }
         Ok(Judging { env, gathered })
     }
@@ -171,7 +172,7 @@ impl<'a> Gathered<'a> {
             rows,
             listed: _listed,
             keeping,
-            buffer: _buffer,
+            scratch: _scratch,
         } = self;
         let kept = match keeping {
             Some(keeping) => Some(keeping.ended(entries)),
@@ -184,29 +185,24 @@ impl<'a> Gathered<'a> {
         }
     }
 
-    // Puts in what comes of one unit more over these facts, and gives what it adds to them.
-    fn add(
-        &mut self,
-        alloc: Global,
-        env: &Env,
-        unit: &'a Unit,
-    ) -> Result<Option<Shared<Facts>>, AllocError>
+    // Puts in what comes of one unit more over these facts; what it adds to them.
+    fn add(&mut self, alloc: Global, env: &Env, unit: &'a Unit) -> Result<Added, AllocError>
         requires { IfSome self.old.keeping (λ k. IsKeeping k env.now) }
-        ensures added { IfOk result (λ facts. option_to_list facts ≡ added env.now unit.now) }
+        ensures added { IfOk result (λ a. told_by a ≡ added env.now unit.now) }
         ensures gathered { OnOk result ((facts : List UnitFacts)
             → with_gathered facts self.new
             ≡ with_units (with_gathered facts self.old) (judged_at env.now unit.now)) }
-        ensures kept { IfOk result (λ facts.
-            IfSome self.new.keeping (λ k. IsKeeping k (env.now ++ option_to_list facts))) }
+        ensures kept { IfOk result (λ a.
+            IfSome self.new.keeping (λ k. IsKeeping k (env.now ++ told_by a))) }
     {
         match unit {
             Unit::Spelled(text, sites) => {
                 let unit = Spelled { text, sites };
-                Ok(Some(self.add_spelled(alloc, env, unit)?))
+                self.add_spelled(alloc, env, unit)
             }
-            Unit::Entered(_file) => Ok(Some(self.cross(alloc, env, KeptUnit::Entered)?)),
-            Unit::Left(_file) => Ok(Some(self.cross(alloc, env, KeptUnit::Left)?)),
-            Unit::End => Ok(None),
+            Unit::Entered(_file) => Ok(self.cross(alloc, env, KeptUnit::Entered)?),
+            Unit::Left(_file) => Ok(self.cross(alloc, env, KeptUnit::Left)?),
+            Unit::End => Ok(Added::Nothing),
         }
     }
 
@@ -216,47 +212,42 @@ impl<'a> Gathered<'a> {
         alloc: Global,
         env: &Env,
         unit: Spelled<'a>,
-    ) -> Result<Shared<Facts>, AllocError>
+    ) -> Result<Added, AllocError>
         requires { IfSome self.old.keeping (λ k. IsKeeping k env.now) }
-        ensures added { IfOk result (λ facts.
-            facts ≡ (verdict_over env.now unit.entry.text.now).writes) }
+        ensures added { IfOk result (λ a.
+            told_by a ≡ (verdict_over env.now unit.entry.text.now).writes ∷ []) }
         ensures gathered { OnOk result ((facts : List UnitFacts)
             → with_gathered facts self.new
             ≡ with_judged (with_gathered facts self.old)
             (judged_over env.now unit.entry.text.now unit.entry.sites.now)) }
-        ensures kept { IfOk result (λ facts.
-            IfSome self.new.keeping (λ k. IsKeeping k (env.now ++ facts ∷ []))) }
+        ensures kept { IfOk result (λ a.
+            IfSome self.new.keeping (λ k. IsKeeping k (env.now ++ told_by a))) }
     {
         let Some(keeping) = &mut self.keeping else {
-            let verdict = verdict_over(&mut self.buffer, env, unit.text)?;
+            let verdict = verdict_over(&mut self.scratch, env, unit.text)?;
             self.add_verdict(alloc, unit, &verdict)?;
-            return Ok(verdict.writes.clone()?);
+            return Ok(Added::Given(verdict.into_writes()));
         };
-        let judgement = keeping.judge(&mut self.buffer, env, unit.text)?;
+        let judgement = keeping.judge(&mut self.scratch, env, unit.text)?;
         self.add_verdict(alloc, unit, &judgement.verdict)?;
-        Ok(judgement.verdict.writes.clone()?)
+        Ok(Added::Kept(judgement))
     }
 
     // The same of a file boundary.
-    fn cross(
-        &mut self,
-        alloc: Global,
-        env: &Env,
-        unit: KeptUnit,
-    ) -> Result<Shared<Facts>, AllocError>
+    fn cross(&mut self, alloc: Global, env: &Env, unit: KeptUnit) -> Result<Added, AllocError>
         requires boundary { IsBoundary unit }
         requires kept { IfSome self.old.keeping (λ k. IsKeeping k env.now) }
-        ensures added { IfOk result (λ facts. facts ≡ added_by unit) }
+        ensures added { IfOk result (λ a. told_by a ≡ added_by unit ∷ []) }
         ensures gathered { (facts : List UnitFacts)
             → with_gathered facts self.new ≡ with_gathered facts self.old }
-        ensures kept { IfOk result (λ facts.
-            IfSome self.new.keeping (λ k. IsKeeping k (env.now ++ facts ∷ []))) }
+        ensures kept { IfOk result (λ a.
+            IfSome self.new.keeping (λ k. IsKeeping k (env.now ++ told_by a))) }
     {
         let facts = boundary(alloc, step_of(&unit))?;
         if let Some(keeping) = &mut self.keeping {
             keeping.cross(env, unit, facts.get())?;
         }
-        Ok(facts)
+        Ok(Added::Given(facts))
     }
 
     // Puts in what comes of a unit with this verdict.
@@ -294,19 +285,19 @@ fn step_of(unit: &KeptUnit) -> Step
 }
 
 // What a file boundary adds.
-fn boundary(alloc: Global, step: Step) -> Result<Shared<Facts>, AllocError>
-    ensures { IfOk result (λ facts. facts ≡ boundary step) }
+fn boundary(alloc: Global, step: Step) -> Result<Writes, AllocError>
+    ensures { IfOk result (λ writes. writes ≡ boundary step) }
 {
     let mut facts = Facts::new(alloc);
     facts.then(step);
-    Shared::new(alloc, facts)
+    Writes::new(alloc, facts)
 }
 
-// The verdict of a text over facts, whose row is written in a buffer. What it asks is not kept.
-fn verdict_over(buffer: &mut Vec<u8>, env: &Env, text: &UnitText) -> Result<Verdict, AllocError>
+// The verdict of a text over facts. What it asks is not kept.
+fn verdict_over(scratch: &mut Scratch, env: &Env, text: &UnitText) -> Result<Verdict, AllocError>
     ensures { IfOk result (λ verdict. verdict ≡ verdict_over env.now text.now) }
 {
-    verdict_of(buffer, env, &mut Journal::told(), text)
+    verdict_of(scratch, env, &mut Journal::told(), text)
 }
 
 // Puts in the row of a unit, if it has one.

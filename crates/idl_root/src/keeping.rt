@@ -8,6 +8,7 @@ ghost use Rattle.idl_scope.specs.Facts.{UnitFacts};
 use crate::following::Following;
 use crate::kept::{Judgement, KeptEntry, KeptUnit, KeptUnits};
 use crate::reprinting::Reprinting;
+use idl_check::Scratch;
 use idl_scope::{Env, Facts, Shared};
 use idl_unit::UnitText;
 use std::alloc::{AllocError, Global};
@@ -46,10 +47,10 @@ impl<'k> Keeping<'k> {
         })
     }
 
-    /// What is judged of a text over the facts so far, to which its verdict's are added next. A row is written in a buffer.
+    /// What is judged of a text over the facts so far, to which its verdict's are added next.
     pub fn judge(
         &mut self,
-        buffer: &mut Vec<u8>,
+        scratch: &mut Scratch,
         env: &Env,
         text: &UnitText,
     ) -> Result<Rc<Judgement>, AllocError>
@@ -59,7 +60,7 @@ impl<'k> Keeping<'k> {
             IsKeeping self.new (env.now ++ judgement.value.verdict.writes ∷ [])) }
     {
         let following = replace(&mut self.following, None);
-        let (judgement, next) = judged(buffer, env, text, following)?;
+        let (judgement, next) = judged(scratch, env, text, following)?;
         self.following = next;
         let unit = KeptUnit::Judged(text.clone()?, judgement.clone()?);
         self.kept.push(unit)?;
@@ -105,7 +106,7 @@ impl<'k> Keeping<'k> {
 
 // What is judged of a text, and what is followed behind it.
 fn judged<'k>(
-    buffer: &mut Vec<u8>,
+    scratch: &mut Scratch,
     env: &Env,
     text: &UnitText,
     following: Option<Following<'k>>,
@@ -116,17 +117,17 @@ fn judged<'k>(
         IfSome r.1 (λ f. IsFollowed f (env.now ++ r.0.value.verdict.writes ∷ []))) }
 {
     let Some(before) = following else {
-        return Ok(judged_anew(buffer, env, text)?);
+        return Ok(judged_anew(scratch, env, text)?);
     };
     let Some(following) = before.caught_up(text)? else {
-        return Ok(judged_anew(buffer, env, text)?);
+        return Ok(judged_anew(scratch, env, text)?);
     };
     if let Some(judgement) = following.judgement(text) {
         let judgement = judgement.clone()?;
         let next = following.with_same(env, judgement.verdict.writes.get())?;
         return Ok((judgement, next));
     }
-    let judgement = Judgement::new(buffer, env, text)?;
+    let judgement = Judgement::new(scratch, env, text)?;
     let next = following.with_other(env, text, judgement.verdict.writes.get())?;
     Ok((judgement, next))
 }
@@ -151,12 +152,12 @@ fn crossed<'k>(
 
 // What is judged of a text, where nothing is followed any more.
 fn judged_anew<'k>(
-    buffer: &mut Vec<u8>,
+    scratch: &mut Scratch,
     env: &Env,
     text: &UnitText,
 ) -> Result<(Rc<Judgement>, Option<Following<'k>>), AllocError>
     ensures judged { IfOk result (λ r. IsJudged env.now text.now r.0.value) }
     ensures followed { IfOk result (λ r. r.1 ≡ None) }
 {
-    Ok((Judgement::new(buffer, env, text)?, None))
+    Ok((Judgement::new(scratch, env, text)?, None))
 }

@@ -10,7 +10,7 @@ ghost use Rattle.idl_root.specs.Printed.{entry_over};
 ghost use Rattle.idl_scope.specs.Facts.{answers};
 ghost use Rattle.idl_scope.specs.declared.lookup.TheConstants.{TURNS};
 
-use idl_check::{DeclarationTask, Verdict, verdict_of};
+use idl_check::{DeclarationTask, Scratch, Verdict, verdict_of};
 use idl_memo::{Journal, reliance};
 use idl_repo::{Entry, EntryTask, entry_by};
 use idl_scope::{Env, Path, Shared};
@@ -130,24 +130,24 @@ impl KeptUnits {
 }
 
 impl Judgement {
-    /// What is judged of a text over facts, whose row is written in a buffer.
+    /// What is judged of a text over facts.
     pub fn new(
-        buffer: &mut Vec<u8>,
+        scratch: &mut Scratch,
         env: &Env,
         text: &UnitText,
     ) -> Result<Rc<Judgement>, AllocError>
         ensures { IfOk result (λ judgement. IsJudged env.now text.now judgement.value) }
     {
         let alloc = env.alloc();
-        let (verdict, asked) = noted_verdict(alloc, buffer, env, text)?;
+        let (verdict, asked) = noted_verdict(alloc, scratch, env, text)?;
         Ok(Rc::new(alloc, Judgement { verdict, asked })?)
     }
 }
 
-// The verdict of a text over facts, whose row is written in a buffer, and digests of the keys that it asked.
+// The verdict of a text over facts, and digests of the keys that it asked.
 fn noted_verdict(
     alloc: Global,
-    buffer: &mut Vec<u8>,
+    scratch: &mut Scratch,
     env: &Env,
     text: &UnitText,
 ) -> Result<(Verdict, Vec<u64>), AllocError>
@@ -157,7 +157,7 @@ fn noted_verdict(
 {
     reliance::<Env, DeclarationTask>();
     let mut journal = Journal::noting(alloc);
-    let verdict = verdict_of(buffer, env, &mut journal, text)?;
+    let verdict = verdict_of(scratch, env, &mut journal, text)?;
     let Some(digests) = journal.digests() else {
         return Err(AllocError);
     };

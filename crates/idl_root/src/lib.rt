@@ -4,6 +4,7 @@
 //! Nothing here knows how a root is expanded, what a unit asks, or what became of other roots.
 #![tactic(auto)]
 
+mod added;
 mod changed;
 mod compiled;
 mod finding;

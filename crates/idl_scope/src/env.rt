@@ -12,6 +12,7 @@ use crate::facts::Facts;
 use crate::key::Key;
 use crate::past::Past;
 use crate::plain::PlainTypes;
+use crate::room::{Room, Writes};
 use crate::shared::Shared;
 use crate::state::State;
 use idl_map::Lent;
@@ -26,7 +27,8 @@ pub struct Env {
     facts: Past<Facts>,
     // How many facts there are, since no count among the answers is larger.
     count: usize,
-    state: State,
+    // It stands apart, since an environment is handed on with each unit.
+    state: Box<State>,
     plain: PlainTypes,
 }
 
@@ -40,7 +42,7 @@ impl Model for Env {
     ghost view = { λ env. env.facts };
 
     ghost invariant = { λ env.
-        (env.count ≡ length env.facts) × (held env.state ≡ world env.facts) };
+        (env.count ≡ length env.facts) × (held env.state.value ≡ world env.facts) };
 }
 
 impl Drop for Env {
@@ -60,7 +62,7 @@ impl Env {
     pub fn new(alloc: Global) -> Result<Env, AllocError>
         ensures { IfOk result (λ env. env ≡ []) }
     {
-        let state = State::new(alloc)?;
+        let state = Box::new(alloc, State::new(alloc)?)?;
         let plain = PlainTypes::new(alloc)?;
         Ok(Env {
             alloc,
@@ -100,8 +102,8 @@ impl Env {
         })
     }
 
-    /// The facts so far and these, which are given up. Refused, this environment is too.
-    pub fn add_own(self, facts: Shared<Facts>) -> Result<Env, AllocError>
+    /// The facts so far and these, which are given up. Refused, this environment is too. Their memory is room for others.
+    pub fn add_own(self, facts: Writes, room: &mut Room) -> Result<Env, AllocError>
         ensures { IfOk result (λ env. env ≡ self ++ facts ∷ []) }
     {
         let Env {
@@ -115,7 +117,9 @@ impl Env {
             return Err(AllocError);
         };
         let after = before.and(facts.get());
-        state.add_own(alloc, facts)?;
+        let mut facts = facts;
+        state.add_own(alloc, &mut facts.inner)?;
+        room.give(facts);
         Ok(Env {
             alloc,
             facts: after,

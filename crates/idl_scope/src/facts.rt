@@ -1,6 +1,6 @@
 //! What a unit adds.
 
-ghost use Rattle.std.specs.Prelude.{◌≡◌, ◌<◌, ◌++◌, ◌∷◌, [], IfErr, IfOk, IsFalse, IsTrue, None, OnErr, OnOk, length, slice_get};
+ghost use Rattle.std.specs.Prelude.{◌≡◌, ◌<◌, ◌++◌, ◌∷◌, [], IfOk, IfSome, IsFalse, IsNone, IsTrue, None, OnErr, OnOk, length, slice_get};
 ghost use Rattle.std.specs.Map.{lookup};
 ghost use Rattle.std.specs.Option.{option_copied};
 ghost use Rattle.idl_base.specs.Marks.{AreMarked};
@@ -13,10 +13,12 @@ use crate::addition::{Addition, Step};
 use crate::digested::DigestedKey;
 use crate::digested_addition::{DigestedAddition, asked_among, is_digest_among, place_among};
 use crate::lent_key::LentKey;
+use crate::room::Room;
 use idl_base::{Marks, Table};
 use idl_map::Lent;
 use std::alloc::{AllocError, Global};
 use std::marker::Model;
+use std::mem::replace;
 
 // So many additions are gone through, where more are found in a table.
 const FEW: usize = 32;
@@ -78,9 +80,24 @@ impl Facts {
     pub fn new(alloc: Global) -> Facts
         ensures { result ≡ record { additions = []; step = Stays } }
     {
+        Facts::of(alloc, Vec::new(alloc))
+    }
+
+    /// The same, where the first additions take the room that there is.
+    pub fn within(alloc: Global, room: &mut Room) -> Facts
+        ensures { result ≡ record { additions = []; step = Stays } }
+    {
+        Facts::of(alloc, room.list())
+    }
+
+    // The same, where the first additions go to this list.
+    fn of(alloc: Global, first: Vec<DigestedAddition>) -> Facts
+        requires { first.items ≡ [] }
+        ensures { result ≡ record { additions = []; step = Stays } }
+    {
         Facts {
             alloc,
-            first: Vec::new(alloc),
+            first,
             marks: Marks::new(),
             others: Table::new(alloc),
             count: 0,
@@ -190,23 +207,39 @@ impl Facts {
         Some(addition)
     }
 
-    /// The additions in order, and how the open scopes change; these facts again, where they are many.
-    pub(crate) fn into_few(self) -> Result<(Vec<DigestedAddition>, Step), Facts>
-        ensures few { IfOk result (λ few. self ≡ record { additions = few.0.items; step = few.1 }) }
-        ensures many { IfErr result (λ facts. facts ≡ self) }
+    /// The additions in order, taken out, unless they are many.
+    pub(crate) fn take_few(&mut self) -> Option<Vec<DigestedAddition>>
+        ensures few { IfSome result (λ few. few.items ≡ self.old.additions) }
+        ensures many { IsNone result → self.new ≡ self.old }
+        ensures step { self.new.step ≡ self.old.step }
     {
         if !self.others.is_empty() {
-            return Err(self);
+            return None;
         }
-        let Facts {
-            alloc: _alloc,
-            first,
-            marks: _marks,
-            others: _others,
-            count: _count,
-            step,
-        } = self;
-        Ok((first, step))
+        self.count = 0;
+        Some(replace(&mut self.first, Vec::new(self.alloc)))
+    }
+
+    /// A list without additions, taken out if there is none in it.
+    pub(crate) fn take_list(&mut self) -> Vec<DigestedAddition>
+        ensures list { result.items ≡ [] }
+        ensures kept { self.new ≡ self.old }
+    {
+        let none = Vec::new(self.alloc);
+        if self.first.is_empty() {
+            return replace(&mut self.first, none);
+        }
+        none
+    }
+
+    /// A list without additions, given back where there is none.
+    pub(crate) fn give_list(&mut self, list: Vec<DigestedAddition>)
+        requires { list.items ≡ [] }
+        ensures { self.new ≡ self.old }
+    {
+        if self.first.is_empty() {
+            self.first = list;
+        }
     }
 
     /// How the open scopes change.

@@ -1,7 +1,7 @@
 //! Values that are shared.
 
 ghost use Rattle.std.specs.Option.{option_copied};
-ghost use Rattle.std.specs.Prelude.{◌≡◌, IfErr, IfOk};
+ghost use Rattle.std.specs.Prelude.{◌≡◌, IfOk};
 
 use idl_base::Datum;
 use std::alloc::{AllocError, Global};
@@ -28,19 +28,6 @@ impl<T> Shared<T> {
         ensures { result.now ≡ self.now }
     {
         &self.inner
-    }
-}
-
-impl<T> Shared<T> {
-    /// The value alone, if nobody else shares it.
-    pub(crate) fn into_own(self) -> Result<T, Shared<T>>
-        ensures own { IfOk result (λ value. value ≡ self) }
-        ensures shared { IfErr result (λ shared. shared ≡ self) }
-    {
-        match Rc::try_unwrap(self.inner) {
-            Ok(value) => Ok(value),
-            Err(inner) => Err(Shared { inner }),
-        }
     }
 }
 

@@ -86,25 +86,14 @@ impl State {
         self.take(alloc, facts.step())
     }
 
-    /// The same with facts that are given up.
-    pub fn add_own(&mut self, alloc: Global, facts: Shared<Facts>) -> Result<(), AllocError>
+    /// The same with facts whose additions are taken out of them.
+    pub fn add_own(&mut self, alloc: Global, facts: &mut Facts) -> Result<(), AllocError>
         requires { (key : Key) → count_in (lookup (key_eq key) self.old.answers) < 18446744073709551615 }
-        ensures { OnOk result (held self.new ≡ after (held self.old) facts) }
+        ensures { OnOk result (held self.new ≡ after (held self.old) facts.old) }
     {
-        match facts.into_own() {
-            Ok(facts) => self.add_given(alloc, facts),
-            Err(facts) => self.add(alloc, facts.get()),
-        }
-    }
-
-    // The same with facts that nobody shares.
-    fn add_given(&mut self, alloc: Global, facts: Facts) -> Result<(), AllocError>
-        requires { (key : Key) → count_in (lookup (key_eq key) self.old.answers) < 18446744073709551615 }
-        ensures { OnOk result (held self.new ≡ after (held self.old) facts) }
-    {
-        add_inside(&mut self.inside, &facts)?;
-        let step = put_given(alloc, &mut self.answers, facts)?;
-        self.take(alloc, &step)
+        add_inside(&mut self.inside, facts)?;
+        put_own(alloc, &mut self.answers, facts)?;
+        self.take(alloc, facts.step())
     }
 
     // What it comes to with a change of the open scopes.
@@ -368,45 +357,42 @@ fn put_all(
     Ok(())
 }
 
-// The same with facts that are given up; how the open scopes change.
-fn put_given(
+// The same with additions that are taken out of the facts, unless they are many.
+fn put_own(
     alloc: Global,
     answers: &mut Map<DigestedKey, Answer>,
-    facts: Facts,
-) -> Result<Step, AllocError>
+    facts: &mut Facts,
+) -> Result<(), AllocError>
     ensures answers { OnOk result
         ((k : Key)
-        → lookup (key_eq k) answers.new ≡ over facts.additions k (lookup (key_eq k) answers.old)) }
-    ensures step { IfOk result (λ step. step ≡ facts.step) }
+        → lookup (key_eq k) answers.new ≡ over facts.old.additions k (lookup (key_eq k) answers.old)) }
+    ensures step { OnOk result (facts.new.step ≡ facts.old.step) }
 {
-    match facts.into_few() {
-        Ok((additions, step)) => {
-            put_few(alloc, answers, additions)?;
-            Ok(step)
-        }
-        Err(facts) => {
-            put_all(alloc, answers, &facts)?;
-            facts.step().clone()
-        }
-    }
+    let Some(additions) = facts.take_few() else {
+        return put_all(alloc, answers, facts);
+    };
+    let list = put_few(alloc, answers, additions)?;
+    facts.give_list(list);
+    Ok(())
 }
 
-// The same with these additions.
+// The same with these additions; their list, in which none is left.
 fn put_few(
     alloc: Global,
     answers: &mut Map<DigestedKey, Answer>,
     additions: Vec<DigestedAddition>,
-) -> Result<(), AllocError>
-    ensures { OnOk result
+) -> Result<Vec<DigestedAddition>, AllocError>
+    ensures answers { OnOk result
         ((k : Key)
         → lookup (key_eq k) answers.new ≡ over additions.items k (lookup (key_eq k) answers.old)) }
+    ensures none { IfOk result (λ list. list.items ≡ []) }
 {
     let mut additions = additions;
     'additions: while let Some(addition) = additions.pop() {
         let (key, answer) = addition.into_entry(alloc)?;
         answers.insert(alloc, key, answer)?;
     }
-    Ok(())
+    Ok(additions)
 }
 
 // These scopes are open.

@@ -1,5 +1,6 @@
 use Rattle.std.proofs.Common.{◌<◌, ◌∷◌, [], length, sym, ap, ◌∙◌, arith, length-append}
 use Rattle.idl_scope.specs.Facts.{World, after, count_in, world}
+use Rattle.idl_scope.specs.Held.{held}
 use Rattle.idl_scope.proofs.CountLemmas.{count-world, world-push}
 use Rattle.idl_scope.proofs.env.Env.add.Goals as goal
 
@@ -7,7 +8,7 @@ pub add-requires : goal.add-requires
 add-requires c = λ key.
     let before = c.self.inside.facts in
     let counts = count-world before key in
-    let same = ap (λ (w : World). count_in (w.answers key)) c.self.invariant.1 in
+    let same = ap (λ (w : World). count_in (w.answers key)) (ap held c.deref_mut.ensures.value ∙ c.self.invariant.1) in
     let bound : count_in ((world before).answers key) < 18446744073709551615 = grind (arith, c.self.invariant.0, c.in-Some.ensures) in
     rw same bound
 
@@ -17,7 +18,7 @@ invariant_of-result c =
     let f = c.args.facts.now in (
       grind (arith, c.self.invariant.0, c.in-Some.ensures, ap length c.and.ensures, length-append before (f ∷ [])),
       c.in_ok-add.ensures
-          ∙ ap (λ (w : World). after w f) c.self.invariant.1
+          ∙ ap (λ (w : World). after w f) (ap held c.deref_mut.ensures.value ∙ c.self.invariant.1)
           ∙ sym (world-push before f)
           ∙ sym (ap world c.and.ensures),
     )

@@ -1,5 +1,6 @@
 use Rattle.std.proofs.Common.{◌<◌, ◌∷◌, ◌++◌, [], length, sym, ap, ◌∙◌, arith, length-append}
 use Rattle.idl_scope.specs.Facts.{World, after, count_in, world}
+use Rattle.idl_scope.specs.Held.{held}
 use Rattle.idl_scope.proofs.CountLemmas.{count-world, world-push}
 use Rattle.idl_scope.proofs.env.Env.add_own.Goals as goal
 
@@ -7,7 +8,7 @@ pub add_own-requires : goal.add_own-requires
 add_own-requires c = λ key.
     let before = c.self.inside.facts in
     let counts = count-world before key in
-    let same = ap (λ (w : World). count_in (w.answers key)) c.self.invariant.1 in
+    let same = ap (λ (w : World). count_in (w.answers key)) (ap held c.deref_mut.ensures.value ∙ c.self.invariant.1) in
     let bound : count_in ((world before).answers key) < 18446744073709551615 = grind (arith, c.self.invariant.0, c.in-Some.ensures) in
     rw same bound
 
@@ -18,6 +19,7 @@ invariant_of-result c =
     let past = c.and-after.ensures ∙ ap (λ g. before ++ g ∷ []) c.get.ensures in (
       grind (arith, c.self.invariant.0, c.in-Some.ensures, ap length past, length-append before (f ∷ [])),
       c.in_ok-add_own.ensures
+          ∙ (λ i. after (held (c.deref_mut.ensures.value i)) ((c.deref_mut-2.ensures.value ∙ c.facts-2.view_is) i))
           ∙ ap (λ (w : World). after w f) c.self.invariant.1
           ∙ sym (world-push before f)
           ∙ sym (ap world past),

@@ -1,0 +1,31 @@
+//! What verdicts are made in.
+
+use idl_scope::Room;
+use std::alloc::Global;
+
+/// What the verdicts of many units are made in, one after another. No contract knows of it but by its bytes.
+pub struct Scratch {
+    /// In which a row is written before it is copied.
+    pub row: Vec<u8>,
+    /// Where what a unit adds is gathered.
+    pub room: Room,
+}
+
+impl Drop for Scratch {
+    fn drop(self) {
+        let Scratch {
+            row: _row,
+            room: _room,
+        } = self;
+    }
+}
+
+impl Scratch {
+    /// Nothing stands there. It takes no memory.
+    pub fn new(alloc: Global) -> Scratch {
+        Scratch {
+            row: Vec::new(alloc),
+            room: Room::new(alloc),
+        }
+    }
+}

@@ -1,0 +1,11 @@
+-- What a unit adds, on its way to the environment.
+use Rattle.std.specs.Prelude.{List, [], ◌∷◌}
+use Rattle.idl_root.specs.declared.added.Added.{Added}
+use Rattle.idl_root.specs.declared.added.Added.TheVariants.{Nothing, Given, Kept}
+use Rattle.idl_scope.specs.Facts.{UnitFacts}
+
+-- the facts of which it tells
+abbrev pub told_by : Added → List UnitFacts
+told_by Nothing = []
+told_by (Given facts) = facts ∷ []
+told_by (Kept judgement) = judgement.value.verdict.writes ∷ []
