@@ -158,7 +158,7 @@ with_array_member lengths None bodies = bodies
 with_array_member lengths (Some e) bodies = with_array_body (array_of lengths e) bodies
 
 -- what a body is of, once it ends: it is complete, and of a union the type of its labels is that
--- before it
+-- before it; it stands among the facts from the end of the unit on
 abbrev pub told_body : Clauses → Body → List Entity
 told_body clauses b =
     elim b.entity [
