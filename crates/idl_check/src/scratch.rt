@@ -3,7 +3,7 @@
 use idl_scope::Room;
 use std::alloc::Global;
 
-/// What the verdicts of many units are made in, one after another. No contract knows of it but by its bytes.
+/// What the verdicts of many units are made in, one after another. A verdict is the same whatever stands there.
 pub struct Scratch {
     /// In which a row is written before it is copied.
     pub row: Vec<u8>,

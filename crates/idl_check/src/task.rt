@@ -54,8 +54,8 @@ impl Task<Env> for DeclarationTask {
 
 /// The verdict of a unit. What it asks goes into the journal, behind what is there.
 ///
-/// The verdicts of many units may be made in the same scratch, what stands there from one before is given up. After want of
-/// memory nothing is said of the journal.
+/// The verdicts of many units may be made in one scratch: what stands there from one before is given up. After want of memory
+/// nothing is said of the journal.
 #[tactic(auto, unfolding(crate::specs::Verdict::verdict))]
 pub fn verdict_of(
     scratch: &mut Scratch,

@@ -111,7 +111,7 @@ impl<'a> Spelled<'a> {
     {
         match self.text {
             UnitText::Tokens(run) => Some(run.as_slice().get(index)?.as_bytes()),
-            UnitText::Pragma(tokens, _inside) => { Some(tokens.as_slice().get(index)?.as_bytes()) }
+            UnitText::Pragma(tokens, _inside) => Some(tokens.as_slice().get(index)?.as_bytes()),
         }
     }
 }
