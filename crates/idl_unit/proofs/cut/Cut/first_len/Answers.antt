@@ -1,4 +1,4 @@
-use Rattle.std.proofs.Common.{◌≤◌, drop, length, length-drop, arith}
+use Rattle.std.proofs.Common.{drop, length-drop, arith}
 use Rattle.idl_unit.proofs.FrontLemmas.{units-left}
 use Rattle.idl_unit.proofs.cut.Cut.first_len.Goals as goal
 
