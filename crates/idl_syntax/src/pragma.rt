@@ -6,7 +6,6 @@
 ghost use Rattle.std.specs.Prelude.{◌≡◌, IfOk, Option, List, ℕ};
 ghost use Rattle.std.specs.Option.{option_copied, option_map};
 ghost use Rattle.idl_lex.specs.Kind.{kind_of};
-ghost use Rattle.idl_lex.specs.Tokens.{tokens_in};
 ghost use Rattle.idl_tree.specs.Pragma.{further_parts, id_of, is_separator, name_before, name_from, only, part_of, pragma_by, pragma_of, prefix_of, text_of, versioned};
 ghost use Rattle.idl_syntax.specs.Behind.{behind_view};
 

@@ -1,9 +1,10 @@
 -- The first unit of tokens is that of their first ones, where it ends among these before another token.
-use Rattle.std.proofs.Common.{◌≡◌, ◌≢◌, ◌∙◌, ◌<◌, ◌≤◌, ℕ, true, false, List, [], ◌∷◌, ◌++◌, append_assoc, drop, length, length-drop, take, refl, sym, ap, subst, arith}
-use Rattle.std.proofs.lemmas.List.{drop-append-le, take-append-drop, take-append-le}
+use Rattle.std.proofs.Common.{◌≡◌, ◌≢◌, ◌∙◌, ◌<◌, ◌≤◌, ℕ, Bool, true, false, ltb, List, [], ◌∷◌, ◌++◌, append_assoc, drop, length, length-drop, take, refl, sym, ap, subst, arith}
+use Rattle.std.proofs.lemmas.Bool.{ltb-false, ltb-true}
+use Rattle.std.proofs.lemmas.List.{drop-append-le, length-take-le, take-append-drop, take-append-le, take_all}
 use Rattle.idl_lex.specs.Tokens.{Token}
 use Rattle.idl_unit.specs.Ending.{ends, ends_by, role, rule_by, rule_of, token_units}
-use Rattle.idl_unit.specs.Parts.{AreParts, IsCutInto, IsPart, joined}
+use Rattle.idl_unit.specs.Parts.{IsCutInto, IsPart}
 use Rattle.idl_unit.specs.declared.role.Role.{Role}
 use Rattle.idl_unit.specs.declared.role.Role.TheVariants.{OpenBrace, CloseBrace, Semicolon, Module, Interface, Local, Other}
 use Rattle.idl_unit.specs.declared.role.Rule.{Rule}
@@ -42,7 +43,7 @@ some-behind : (a b : List Token) → b ≢ [] → a ++ b ≢ []
 some-behind [] b some = some
 some-behind (t ∷ a) b some = λ e. cc
 
-pub units-front : (tokens more : List Token) (len : ℕ) → len < length tokens → token_units tokens ≡ take len tokens ∷ token_units (drop len tokens)
+units-front : (tokens more : List Token) (len : ℕ) → len < length tokens → token_units tokens ≡ take len tokens ∷ token_units (drop len tokens)
     → token_units (tokens ++ more) ≡ take len (tokens ++ more) ∷ token_units (drop len (tokens ++ more))
 units-front tokens more len lt is =
     let unit = take len tokens in
@@ -59,3 +60,26 @@ units-front tokens more len lt is =
     ∙ ends-front a (b ++ rest) more sa (some-behind b rest left)
     ∙ part.first a b e sa sb)
     ∙ (λ i. sym (take-append-le len tokens more within) i ∷ token_units (sym (drop-append-le len tokens more within) i))
+
+-- what it is for a list of tokens to begin with a unit of this length
+abbrev pub Begins : ℕ → List Token → Type 0
+Begins len tokens = token_units tokens ≡ take len tokens ∷ token_units (drop len tokens)
+
+units-before : (left : List Token) (count len : ℕ) → count ≤ length left → len < count → Begins len (take count left) → Begins len left
+units-before left count len le lt is =
+    let long : length (take count left) ≡ count = length-take-le count left le in
+    subst (Begins len) (take-append-drop count left) (units-front (take count left) (drop count left) len (omega (arith, long, lt)) is)
+
+units-all : (left : List Token) (count len : ℕ) → length left ≤ count → Begins len (take count left) → Begins len left
+units-all left count len le is = subst (Begins len) (take_all count left le) is
+
+units-by : (left : List Token) (count len : ℕ) (b : Bool) → ltb len count ≡ b → count ≤ length left → (count ≤ len → length left ≤ count)
+    → Begins len (take count left) → Begins len left
+units-by left count len true e le all is = units-before left count len le (ltb-true len count e) is
+units-by left count len false e le all is = units-all left count len (all (ltb-false len count e)) is
+
+-- the unit that the first tokens begin with is that of all, where it ends before the last of the first ones or these are all
+pub units-left : (left : List Token) (count len : ℕ) → count ≤ length left → (count ≤ len → length left ≤ count)
+    → token_units (take count left) ≡ take len (take count left) ∷ token_units (drop len (take count left))
+    → token_units left ≡ take len left ∷ token_units (drop len left)
+units-left left count len = units-by left count len (ltb len count) refl

@@ -155,6 +155,7 @@ impl<'a> Cut<'a> {
         };
         let len = text.len();
         let from = self.taken;
+        prove!(len <= self.text.len() - from);
         let to = from + len;
         let sites = SiteRun::new(self.sites.clone()?, from, to)?;
         let unit = Unit::Spelled(UnitText::Tokens(text), sites);

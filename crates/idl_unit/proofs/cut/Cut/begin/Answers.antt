@@ -1,8 +1,6 @@
-use Rattle.std.proofs.Common.{◌≡◌, ◌∙◌, ◌++◌, ◌∷◌, [], ◌+◌, ◌-◌, ◌≤◌, drop, length, sym, subst, take, ap, rules}
+use Rattle.std.proofs.Common.{◌∙◌, ◌++◌, ◌≤◌, length, sym, ap, rules}
 use Rattle.std.proofs.lemmas.List.{append-nil}
-use Rattle.idl_unit.specs.Ending.{token_units}
-use Rattle.idl_unit.specs.Placing.{IsFirstUnit}
-use Rattle.idl_unit.proofs.PlacingLemmas.{begin-none, begin-some}
+use Rattle.idl_unit.proofs.PlacingLemmas.{begin-none}
 use Rattle.idl_unit.proofs.cut.Cut.begin.Goals as goal
 
 pub returns-in_default-clause-units : goal.returns-in_default-clause-units
