@@ -9,8 +9,8 @@ use Rattle.idl_workspace.proofs.session.Session.change_files.Goals as goal
 
 pub invariant_of-self-2 : goal.invariant_of-self-2
 invariant_of-self-2 c =
-    IsUpToDate-edited c.args.self.now c.self.inside.bank c.set_files.new.self c.self.inside.roots c.in_ok-renewed.renewed _ (keys.File c.in_ok-name.name) _ c.in_ok-answer.answer c.self.inside.work
-    c.self.view_is c.self.invariant c.in_ok-renewed.ensures (ap keys.File c.in_ok-clone.ensures.cases) c.as_ref.ensures.value c.in_ok-set_files.ensures.bank
+    IsUpToDate-edited c.args.self.now c.self-2.inside.bank c.set_files.new.self c.self-2.inside.roots c.in_ok-renewed.renewed _ (keys.File c.in_ok-name.name) _ c.in_ok-answer.answer c.self-2.inside.work
+    (c.self-2.view_is ∙ c.in_ok-renewed.ensures.same) c.self-2.invariant c.in_ok-renewed.ensures.renewed (ap keys.File c.in_ok-clone.ensures.cases) c.as_ref.ensures.value c.in_ok-set_files.ensures.bank
 
 filed : (now : Project) (files : Texts) (inputs : Inputs) (roots : List (List ℕ)) → inputs ≡ record now.inputs { files = files } → roots ≡ now.roots
     → with_files now files ≡ record { inputs = inputs; roots = roots }
@@ -21,9 +21,9 @@ returns c = λ edit memory is. record {
   project = is
       ∙ ap Ok
       (filed c.args.self.now.project c.args.files c.set_files.new.self (keys_of c.in_ok-renewed.renewed.0)
-      (c.in_ok-set_files.ensures.ok ∙ ap (λ (state : State). record state.project.inputs { files = c.args.files }) c.self.view_is) c.in_ok-renewed.ensures.roots);
+      (c.in_ok-set_files.ensures.ok ∙ ap (λ (state : State). record state.project.inputs { files = c.args.files }) (c.self-2.view_is ∙ c.in_ok-renewed.ensures.same)) c.in_ok-renewed.ensures.renewed.roots);
   kept = refl;
   told =
-      work-edited c.args.self.now c.self.inside.bank c.set_files.new.self c.self.inside.roots c.in_ok-renewed.renewed _ (keys.File c.in_ok-name.name) _ c.in_ok-answer.answer c.self.inside.work
-      c.self.view_is c.in_ok-renewed.ensures (ap keys.File c.in_ok-clone.ensures.cases) c.as_ref.ensures.value c.in_ok-set_files.ensures.bank;
+      work-edited c.args.self.now c.self-2.inside.bank c.set_files.new.self c.self-2.inside.roots c.in_ok-renewed.renewed _ (keys.File c.in_ok-name.name) _ c.in_ok-answer.answer c.self-2.inside.work
+      (c.self-2.view_is ∙ c.in_ok-renewed.ensures.same) c.in_ok-renewed.ensures.renewed (ap keys.File c.in_ok-clone.ensures.cases) c.as_ref.ensures.value c.in_ok-set_files.ensures.bank;
 }

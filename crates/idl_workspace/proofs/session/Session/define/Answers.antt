@@ -15,9 +15,9 @@ use Rattle.idl_workspace.proofs.session.Session.define.Goals as goal
 
 pub invariant_of-self-2 : goal.invariant_of-self-2
 invariant_of-self-2 c =
-    IsUpToDate-edited c.args.self.now c.self.inside.bank c.define.new.self c.self.inside.roots c.in_ok-renewed.renewed (keys.Macro c.in_ok-word.word) (keys.Macro c.in_ok-word.word)
-    (Some c.answer.result.now) (Some (answers.Macro (c.in_ok-body.body ∷ []))) c.self.inside.work
-    c.self.view_is c.self.invariant c.in_ok-renewed.ensures refl (ap Some c.answer.ensures) c.in_ok-define.ensures.bank
+    IsUpToDate-edited c.args.self.now c.self-2.inside.bank c.define.new.self c.self-2.inside.roots c.in_ok-renewed.renewed (keys.Macro c.in_ok-word.word) (keys.Macro c.in_ok-word.word)
+    (Some c.answer.result.now) (Some (answers.Macro (c.in_ok-body.body ∷ []))) c.self-2.inside.work
+    (c.self-2.view_is ∙ c.in_ok-renewed.ensures.same) c.self-2.invariant c.in_ok-renewed.ensures.renewed refl (ap Some c.answer.ensures) c.in_ok-define.ensures.bank
 
 -- a macro that isn't refused
 accepted : (over allowed : Bool) (macros : Macros) → None ≡ result_err (cond over (Err OverLimit) (cond allowed (Ok macros) (Err BadMacro)))
@@ -36,20 +36,20 @@ defined project word body inputs roots none made same =
 
 pub returns : goal.returns
 returns c =
-    let project : Project = record { inputs = c.self.inside.bank; roots = keys_of c.self.inside.roots } in
+    let project : Project = record { inputs = c.self-2.inside.bank; roots = keys_of c.self-2.inside.roots } in
     let word = c.in_ok-word.word in
     let none : None ≡ result_err (macros_with project.inputs.macros word c.args.body) =
-    subst (λ (state : State). None ≡ result_err (macros_with state.project.inputs.macros word c.args.body)) (sym c.self.view_is) c.in_default.ensures in
+    subst (λ (state : State). None ≡ result_err (macros_with state.project.inputs.macros word c.args.body)) (sym (c.self-2.view_is ∙ c.in_ok-renewed.ensures.same)) c.in_default.ensures in
     record {
       project =
-          ap (λ (state : State). after state.project (Define c.args.word.now c.args.body)) (sym c.self.view_is)
+          ap (λ (state : State). after state.project (Define c.args.word.now c.args.body)) (sym (c.self-2.view_is ∙ c.in_ok-renewed.ensures.same))
           ∙ ap (λ w. after project (Define w c.args.body)) (sym c.in_ok-word.ensures)
           ∙ defined project word c.args.body c.define.new.self (keys_of c.in_ok-renewed.renewed.0) none
           (c.in_ok-define.ensures.ok ∙ ap (λ (b : List ℕ). record project.inputs { macros = insert_entry bytes_eq project.inputs.macros word b }) c.in_ok-body.ensures)
-          (c.in_ok-renewed.ensures.roots ∙ ap (λ (state : State). state.project.roots) (sym c.self.view_is));
+          (c.in_ok-renewed.ensures.renewed.roots ∙ ap (λ (state : State). state.project.roots) (sym (c.self-2.view_is ∙ c.in_ok-renewed.ensures.same)));
       kept = refl;
       told =
-          work-edited c.args.self.now c.self.inside.bank c.define.new.self c.self.inside.roots c.in_ok-renewed.renewed (keys.Macro word) (keys.Macro word)
-          (Some c.answer.result.now) (Some (answers.Macro (c.in_ok-body.body ∷ []))) c.self.inside.work
-          c.self.view_is c.in_ok-renewed.ensures refl (ap Some c.answer.ensures) c.in_ok-define.ensures.bank;
+          work-edited c.args.self.now c.self-2.inside.bank c.define.new.self c.self-2.inside.roots c.in_ok-renewed.renewed (keys.Macro word) (keys.Macro word)
+          (Some c.answer.result.now) (Some (answers.Macro (c.in_ok-body.body ∷ []))) c.self-2.inside.work
+          (c.self-2.view_is ∙ c.in_ok-renewed.ensures.same) c.in_ok-renewed.ensures.renewed refl (ap Some c.answer.ensures) c.in_ok-define.ensures.bank;
     }

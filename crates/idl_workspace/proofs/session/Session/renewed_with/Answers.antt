@@ -5,6 +5,9 @@ use Rattle.idl_workspace.specs.UpToDate.{State}
 use Rattle.idl_workspace.proofs.session.Session.renewed_with.Goals as goal
 
 pub returns : goal.returns
-returns c =
-    subst (λ (state : State). IsRenewed state.project c.args.key.now (option_copied c.args.answer) c.in_ok-renewed.field-0) c.self.view_is
-    (record { roots = c.in_ok-renewed.ensures.roots; kept = c.in_ok-renewed.ensures.kept; work = c.in_ok-renewed.ensures.work })
+returns c = record {
+  renewed =
+      subst (λ (state : State). IsRenewed state.project c.args.key.now (option_copied c.args.answer) c.in_ok-renewed.field-0) c.self.view_is
+      (record { roots = c.in_ok-renewed.ensures.roots; kept = c.in_ok-renewed.ensures.kept; work = c.in_ok-renewed.ensures.work });
+  same = c.self.view_is;
+}

@@ -10,8 +10,8 @@ use Rattle.idl_workspace.proofs.session.Session.search.Goals as goal
 
 pub invariant_of-self : goal.invariant_of-self
 invariant_of-self c =
-    IsUpToDate-edited c.args.self.now c.self.inside.bank c.set_search.new.self c.self.inside.roots c.in_ok-renewed.renewed keys.Search keys.Search _ _ c.self.inside.work
-    c.self.view_is c.self.invariant c.in_ok-renewed.ensures refl refl c.set_search.ensures.bank
+    IsUpToDate-edited c.args.self.now c.self-2.inside.bank c.set_search.new.self c.self-2.inside.roots c.in_ok-renewed.renewed keys.Search keys.Search _ _ c.self-2.inside.work
+    (c.self-2.view_is ∙ c.in_ok-renewed.ensures.same) c.self-2.invariant c.in_ok-renewed.ensures.renewed refl refl c.set_search.ensures.bank
 
 searched : (project : Project) (given list : List (List ℕ)) (inputs : Inputs) (roots : List (List ℕ)) → search_list given ≡ Ok list
     → inputs ≡ record project.inputs { search = list } → roots ≡ project.roots
@@ -23,16 +23,16 @@ searched project given list inputs roots allowed made same =
 
 pub returns : goal.returns
 returns c =
-    let project : Project = record { inputs = c.self.inside.bank; roots = keys_of c.self.inside.roots } in
+    let project : Project = record { inputs = c.self-2.inside.bank; roots = keys_of c.self-2.inside.roots } in
     let given : List (List ℕ) = map (λ (bytes : Bor (List ℕ)). bytes.now) c.args.list.now in
     record {
       project =
-          ap (λ (state : State). after state.project (Search given)) (sym c.self.view_is)
+          ap (λ (state : State). after state.project (Search given)) (sym (c.self-2.view_is ∙ c.in_ok-renewed.ensures.same))
           ∙ searched project given c.in_ok-list.list.items c.set_search.new.self (keys_of c.in_ok-renewed.renewed.0) c.in_ok-list.ensures.ok
           (c.set_search.ensures.set ∙ ap (λ (list : List (List ℕ)). record project.inputs { search = list }) c.from_vec.ensures)
-          (c.in_ok-renewed.ensures.roots ∙ ap (λ (state : State). state.project.roots) (sym c.self.view_is));
+          (c.in_ok-renewed.ensures.renewed.roots ∙ ap (λ (state : State). state.project.roots) (sym (c.self-2.view_is ∙ c.in_ok-renewed.ensures.same)));
       kept = refl;
       told =
-          work-edited c.args.self.now c.self.inside.bank c.set_search.new.self c.self.inside.roots c.in_ok-renewed.renewed keys.Search keys.Search _ _ c.self.inside.work
-          c.self.view_is c.in_ok-renewed.ensures refl refl c.set_search.ensures.bank;
+          work-edited c.args.self.now c.self-2.inside.bank c.set_search.new.self c.self-2.inside.roots c.in_ok-renewed.renewed keys.Search keys.Search _ _ c.self-2.inside.work
+          (c.self-2.view_is ∙ c.in_ok-renewed.ensures.same) c.in_ok-renewed.ensures.renewed refl refl c.set_search.ensures.bank;
     }

@@ -12,9 +12,9 @@ use Rattle.idl_workspace.proofs.session.Session.undef.Goals as goal
 
 pub invariant_of-self : goal.invariant_of-self
 invariant_of-self c =
-    IsUpToDate-edited c.args.self.now c.self.inside.bank c.undef.new.self c.self.inside.roots c.in_ok-renewed.renewed (keys.Macro c.in_ok-word.word) (keys.Macro c.in_ok-word.word)
-    None None c.self.inside.work
-    c.self.view_is c.self.invariant c.in_ok-renewed.ensures refl refl c.undef.ensures.bank
+    IsUpToDate-edited c.args.self.now c.self-2.inside.bank c.undef.new.self c.self-2.inside.roots c.in_ok-renewed.renewed (keys.Macro c.in_ok-word.word) (keys.Macro c.in_ok-word.word)
+    None None c.self-2.inside.work
+    (c.self-2.view_is ∙ c.in_ok-renewed.ensures.same) c.self-2.invariant c.in_ok-renewed.ensures.renewed refl refl c.undef.ensures.bank
 
 undefined : (project : Project) (word : List ℕ) (inputs : Inputs) (roots : List (List ℕ)) → is_macro_word word ≡ true
     → inputs ≡ record project.inputs { macros = remove_entry (bytes_eq word) project.inputs.macros } → roots ≡ project.roots
@@ -26,18 +26,18 @@ undefined project word inputs roots allowed made same =
 
 pub returns : goal.returns
 returns c =
-    let project : Project = record { inputs = c.self.inside.bank; roots = keys_of c.self.inside.roots } in
+    let project : Project = record { inputs = c.self-2.inside.bank; roots = keys_of c.self-2.inside.roots } in
     let word = c.in_ok-word.word in
     record {
       project =
-          ap (λ (state : State). after state.project (Undef c.args.word.now)) (sym c.self.view_is)
+          ap (λ (state : State). after state.project (Undef c.args.word.now)) (sym (c.self-2.view_is ∙ c.in_ok-renewed.ensures.same))
           ∙ ap (λ w. after project (Undef w)) (sym c.in_ok-word.ensures)
           ∙ undefined project word c.undef.new.self (keys_of c.in_ok-renewed.renewed.0) (ap is_macro_word c.in_ok-word.ensures ∙ sym c.is_macro_word.ensures ∙ c.if-not-is_macro_word.false)
           c.undef.ensures.left
-          (c.in_ok-renewed.ensures.roots ∙ ap (λ (state : State). state.project.roots) (sym c.self.view_is));
+          (c.in_ok-renewed.ensures.renewed.roots ∙ ap (λ (state : State). state.project.roots) (sym (c.self-2.view_is ∙ c.in_ok-renewed.ensures.same)));
       kept = refl;
       told =
-          work-edited c.args.self.now c.self.inside.bank c.undef.new.self c.self.inside.roots c.in_ok-renewed.renewed (keys.Macro word) (keys.Macro word)
-          None None c.self.inside.work
-          c.self.view_is c.in_ok-renewed.ensures refl refl c.undef.ensures.bank;
+          work-edited c.args.self.now c.self-2.inside.bank c.undef.new.self c.self-2.inside.roots c.in_ok-renewed.renewed (keys.Macro word) (keys.Macro word)
+          None None c.self-2.inside.work
+          (c.self-2.view_is ∙ c.in_ok-renewed.ensures.same) c.in_ok-renewed.ensures.renewed refl refl c.undef.ensures.bank;
     }
