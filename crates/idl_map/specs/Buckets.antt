@@ -1,5 +1,5 @@
 -- Buckets, in which digests find the places of entries.
-use Rattle.std.specs.Prelude.{◌≡◌, ℕ, ◌+◌, ◌/◌, ◌%◌, ◌^◌, ◌<◌, ◌==◌, List, [], Some, bit_and, length, slice_get, slice_index, slice_index_or, if◌then◌else◌}
+use Rattle.std.specs.Prelude.{◌≡◌, ℕ, ◌+◌, ◌/◌, ◌%◌, ◌^◌, ◌<◌, ◌==◌, ◌⊎◌, List, [], Some, bit_and, bit_xor, length, slice_get, slice_index, slice_index_or, if◌then◌else◌}
 use Rattle.idl_map.specs.declared.buckets.Buckets.{Buckets}
 use Rattle.idl_map.specs.declared.index.Part.{Part}
 use Rattle.idl_map.specs.declared.index.Index.{Index}
@@ -28,6 +28,12 @@ pub record StandsAt (buckets : Buckets) (number slot tag place : ℕ) : Type 0 w
 abbrev pub HasAt : Buckets → ℕ → ℕ → ℕ → Type 0
 HasAt buckets number tag place = (slot : ℕ) × StandsAt buckets number slot tag place
 
+-- each of its slots has a place
+abbrev pub IsFull : Buckets → ℕ → Type 0
+IsFull buckets number =
+    (slot : ℕ) → slot < 16
+    → (tag : ℕ) × (place : ℕ) × ((0 < tag) × StandsAt buckets number slot tag place)
+
 -- what stands in a slot stands there later too
 abbrev pub AreKept : Buckets → Buckets → Type 0
 AreKept old new =
@@ -38,10 +44,16 @@ AreKept old new =
 unfoldable pub number_in : Part → ℕ → ℕ
 number_in part digest = part.first + bit_and (digest / 2 ^ 32 % 2 ^ 32) part.mask
 
--- a digest finds a place in its bucket of a part
+-- and of the one beside it
+unfoldable pub number_beside : Part → ℕ → ℕ
+number_beside part digest = part.first + bit_and (bit_xor (digest / 2 ^ 32 % 2 ^ 32) 1) part.mask
+
+-- a digest finds a place in its bucket of a part, or, where that is full, in the one beside it
 abbrev pub FindsIn : Part → Buckets → ℕ → ℕ → Type 0
 FindsIn part buckets digest place =
     HasAt buckets (number_in part digest) (tag_of digest) place
+    ⊎ (IsFull buckets (number_in part digest)
+    × HasAt buckets (number_beside part digest) (tag_of digest) place)
 
 -- a digest stands at this place of digests, and chooses the part with this number
 abbrev pub IsOf : List ℕ → ℕ → ℕ → ℕ → Type 0

@@ -1,8 +1,8 @@
 //! Buckets of places, each of which has a tag.
 
-ghost use Rattle.std.specs.Prelude.{◌≡◌, ◌<◌, ◌+◌, ◌^◌, ℕ, IfSome, IsTrue, Some, length, slice_index};
+ghost use Rattle.std.specs.Prelude.{◌≡◌, ◌↔◌, ◌<◌, ◌+◌, ◌^◌, ℕ, IfSome, IsTrue, Some, length, slice_index};
 ghost use Rattle.std.specs.Int.{bit_at};
-ghost use Rattle.idl_map.specs.Buckets.{AreKept, HasAt, StandsAt, tag_of};
+ghost use Rattle.idl_map.specs.Buckets.{AreKept, HasAt, IsFull, StandsAt, tag_of};
 
 use crate::bits::lowest;
 use std::alloc::{AllocError, Global};
@@ -78,6 +78,17 @@ impl Buckets {
         match self.places.get(number) {
             Some(places) if slot < 16 => places[slot],
             _ => 0,
+        }
+    }
+
+    /// Whether a bucket is full: its last slot is the last to be taken.
+    #[inline]
+    pub fn is_full(&self, number: usize) -> bool
+        ensures { IsTrue result ↔ IsFull self.now number }
+    {
+        match self.tags.get(number) {
+            Some(tags) => tags[15] != 0,
+            None => false,
         }
     }
 

@@ -1,8 +1,8 @@
 //! Digests, and the buckets in which they find their places.
 
-ghost use Rattle.std.specs.Prelude.{◌≡◌, ◌++◌, ◌∷◌, [], ℕ, ◌%◌, ◌<◌, ◌^◌, Some, IfOk, IsTrue, IsFalse, OnErr, length, slice_get, vec_len};
+ghost use Rattle.std.specs.Prelude.{◌≡◌, ◌≢◌, ◌↔◌, ◌⊎◌, ◌++◌, ◌∷◌, [], ℕ, ◌%◌, ◌<◌, ◌^◌, Some, IfOk, IsTrue, IsFalse, OnErr, length, slice_get, vec_len};
 ghost use Rattle.std.specs.Int.{bit_at};
-ghost use Rattle.idl_map.specs.Buckets.{AreKept, Finds, FindsIn, HasAt, IsIndexed, IsOf, IsSpot, StandsAt, number_in, tag_of};
+ghost use Rattle.idl_map.specs.Buckets.{AreKept, Finds, FindsIn, HasAt, IsFull, IsIndexed, IsOf, IsSpot, StandsAt, number_beside, number_in, tag_of};
 
 use crate::bits::{lowest, without};
 use crate::buckets::{Buckets, tag_of};
@@ -73,17 +73,43 @@ impl Index {
         }
     }
 
-    /// The slots of a spot's bucket that have its tag. Each place of its digest is in one of them.
+    /// Whether no digest is that of a spot. Where it is false, there may be none either.
     #[inline]
-    pub fn marked(&self, spot: Spot) -> u64
+    pub fn is_new(&self, spot: Spot) -> bool
         requires sound { IsIndexed self.now }
         requires spot { IsSpot self.now.parts.items spot }
-        ensures marked { (slot i : ℕ)
-            → StandsAt self.now.buckets spot.number slot spot.tag i → bit_at result slot ≡ 1 }
-        ensures found { (i : ℕ) → slice_get self.now.digests.items i ≡ Some spot.digest
-            → HasAt self.now.buckets spot.number spot.tag i }
+        ensures { IsTrue result
+            → (i : ℕ) → slice_get self.now.digests.items i ≢ Some spot.digest }
     {
-        self.buckets.marked(spot.number, spot.tag)
+        self.buckets.marked(spot.number, spot.tag) == 0 && !self.buckets.is_full(spot.number)
+    }
+
+    /// The slots of a bucket that have a tag.
+    #[inline]
+    pub fn marked(&self, number: usize, tag: u8) -> u64
+        requires { 0 < tag }
+        ensures { (slot i : ℕ) → StandsAt self.now.buckets number slot tag i → bit_at result slot ≡ 1 }
+    {
+        self.buckets.marked(number, tag)
+    }
+
+    /// Whether a bucket is full.
+    #[inline]
+    pub fn is_full(&self, number: usize) -> bool
+        ensures { IsTrue result ↔ IsFull self.now.buckets number }
+    {
+        self.buckets.is_full(number)
+    }
+
+    /// The bucket beside the one of a spot, in which its digest has places where that is full.
+    pub fn beside(&self, spot: Spot) -> usize
+        requires sound { IsIndexed self.now }
+        requires spot { IsSpot self.now.parts.items spot }
+        ensures { (i : ℕ) → slice_get self.now.digests.items i ≡ Some spot.digest
+            → HasAt self.now.buckets spot.number spot.tag i
+            ⊎ (IsFull self.now.buckets spot.number × HasAt self.now.buckets result spot.tag i) }
+    {
+        number_beside(self.parts[(spot.digest % 64) as usize], spot.digest)
     }
 
     /// The place in a slot of a bucket.
@@ -114,7 +140,7 @@ impl Index {
         Ok(true)
     }
 
-    // Puts a place in at a spot, or at the one that its digest has once the part has more buckets.
+    // Puts a place in at a spot, or where its bucket is full, at its digest.
     #[inline]
     fn find_room(&mut self, spot: Spot, place: u32) -> Result<bool, AllocError>
         requires sound { IsIndexed self.old }
@@ -130,7 +156,7 @@ impl Index {
         self.make_room(spot.digest, place)
     }
 
-    // Gives the part of a digest more buckets, and puts a place in at the digest.
+    // Puts a place in at a digest, at once or when its part has more buckets.
     #[inline(never)]
     fn make_room(&mut self, digest: u64, place: u32) -> Result<bool, AllocError>
         requires { IsIndexed self.old }
@@ -138,9 +164,11 @@ impl Index {
         ensures digests { self.new.digests.items ≡ self.old.digests.items }
         ensures found { IfOk result (λ there. IsTrue there → Finds self.new digest place) }
     {
+        if self.put_beside(digest, place) {
+            return Ok(true);
+        }
         self.grow(digest)?;
-        let spot = self.spot_of(digest);
-        Ok(self.put(spot, place))
+        Ok(self.put_beside(digest, place))
     }
 
     // Puts a place in at a spot, unless its bucket is full.
@@ -153,6 +181,17 @@ impl Index {
         ensures found { IsTrue result → Finds self.new spot.digest place }
     {
         self.buckets.put(spot.number, spot.tag, place)
+    }
+
+    // Puts a place in at a digest, unless its bucket is full and the one beside it too.
+    fn put_beside(&mut self, digest: u64, place: u32) -> bool
+        requires { IsIndexed self.old }
+        ensures sound { IsIndexed self.new }
+        ensures digests { self.new.digests.items ≡ self.old.digests.items }
+        ensures found { IsTrue result → Finds self.new digest place }
+    {
+        let part = self.parts[(digest % 64) as usize];
+        put_in(&mut self.buckets, part, digest, place)
     }
 
     // Gives the part of a digest four times as many buckets, unless there are many for so few digests.
@@ -202,12 +241,29 @@ fn number_in(part: Part, digest: u64) -> usize
     part.first as usize + ((digest >> 32) as u32 & part.mask) as usize
 }
 
-// Puts a place in at a digest, unless its bucket is full.
+// The number of the bucket beside it.
+#[inline]
+#[tactic(auto, unfolding(crate::specs::Buckets::number_beside))]
+fn number_beside(part: Part, digest: u64) -> usize
+    ensures { result ≡ number_beside part digest }
+{
+    part.first as usize + (((digest >> 32) as u32 ^ 1) & part.mask) as usize
+}
+
+// Puts a place in at a digest, unless its bucket is full, and the one beside it.
 fn put_in(buckets: &mut Buckets, part: Part, digest: u64, place: u32) -> bool
     ensures kept { AreKept buckets.old buckets.new }
     ensures put { IsTrue result → FindsIn part buckets.new digest place }
 {
-    buckets.put(number_in(part, digest), tag_of(digest), place)
+    let number = number_in(part, digest);
+    let tag = tag_of(digest);
+    if buckets.put(number, tag, place) {
+        return true;
+    }
+    if !buckets.is_full(number) {
+        return false;
+    }
+    buckets.put(number_beside(part, digest), tag, place)
 }
 
 // A part that is to have the places of those digests that its number chooses.

@@ -1,7 +1,7 @@
 use Rattle.std.proofs.Common.{◌<◌, ◌+◌, ℕ, inl, inr, subst, arith}
 use Rattle.idl_map.specs.Buckets.{HasAt, StandsAt, tag_of}
 use Rattle.idl_map.proofs.BitLemmas.{below_next}
-use Rattle.idl_map.proofs.BucketLemmas.{AreKept-twice, FindsIn-kept, number_ahead, tag_of_some}
+use Rattle.idl_map.proofs.BucketLemmas.{AreKept-twice, FindsIn-kept, beside_ahead, number_ahead, tag_of_some}
 use Rattle.idl_map.proofs.index.Target.take_all.Goals as goal
 
 pub returns-then-not-take-clause-kept : goal.returns-then-not-take-clause-kept
@@ -29,7 +29,13 @@ loop-ahead-preserved c =
     }
 
 pub returns-clause-taken : goal.returns-clause-taken
-returns-clause-taken c done d i of found =
-    let on = number_ahead c.args.old d in
-    let all : on.ahead < c.loop-ahead.ahead = omega (arith, on.below, c.loop-ahead-test.false) in
-    c.loop-ahead.invariant.taken d i on.ahead all of (subst (λ (n : ℕ). HasAt c.args.buckets.now n (tag_of d) i) on.is found)
+returns-clause-taken c done d i of found = elim found [
+  | inl here ↦
+      let on = number_ahead c.args.old d in
+      let all : on.ahead < c.loop-ahead.ahead = omega (arith, on.below, c.loop-ahead-test.false) in
+      c.loop-ahead.invariant.taken d i on.ahead all of (subst (λ (n : ℕ). HasAt c.args.buckets.now n (tag_of d) i) on.is here)
+  | inr beside ↦
+      let on = beside_ahead c.args.old d in
+      let all : on.ahead < c.loop-ahead.ahead = omega (arith, on.below, c.loop-ahead-test.false) in
+      c.loop-ahead.invariant.taken d i on.ahead all of (subst (λ (n : ℕ). HasAt c.args.buckets.now n (tag_of d) i) on.is beside.1)
+]
