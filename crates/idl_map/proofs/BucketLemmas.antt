@@ -18,30 +18,35 @@ tag_of_some digest = by (eqb (digest / 2 ^ 56) 0) (eqb_tells (digest / 2 ^ 56) 0
     by b (inl t) = subst (λ c. 0 < cond c 1 (digest / 2 ^ 56)) (sym t.0) (omega arith)
     by b (inr f) = let some : 0 < digest / 2 ^ 56 = omega (arith, f.1) in subst (λ c. 0 < cond c 1 (digest / 2 ^ 56)) (sym f.0) some
 
--- what is kept twice is kept
-pub AreKept-twice : (a b c : Buckets) → AreKept a b → AreKept b c → AreKept a c
-AreKept-twice a b c first then number slot tag place some at = then number slot tag place some (first number slot tag place some at)
+-- each bucket keeps what it has, and what is kept twice is kept
+pub AreKept-same : (a : Buckets) → AreKept a a
+AreKept-same a =
+    record {
+      stands = λ number slot tag place some at. at;
+      full = λ number full. full;
+    }
 
--- a full bucket stays full
-IsFull-kept : (old new : Buckets) (number : ℕ) → AreKept old new → IsFull old number → IsFull new number
-IsFull-kept old new number kept full slot within =
-    let at = full slot within in
-    (at.0, (at.1.0, (at.1.1.0, kept number slot at.0 at.1.0 at.1.1.0 at.1.1.1)))
+pub AreKept-twice : (a b c : Buckets) → AreKept a b → AreKept b c → AreKept a c
+AreKept-twice a b c first then =
+    record {
+      stands = λ number slot tag place some at. then.stands number slot tag place some (first.stands number slot tag place some at);
+      full = λ number full. then.full number (first.full number full);
+    }
 
 HasAt-kept : (old new : Buckets) (number digest place : ℕ) → AreKept old new → HasAt old number (tag_of digest) place → HasAt new number (tag_of digest) place
-HasAt-kept old new number digest place kept found = (found.0, kept number found.0 (tag_of digest) place (tag_of_some digest) found.1)
+HasAt-kept old new number digest place kept found = (found.0, kept.stands number found.0 (tag_of digest) place (tag_of_some digest) found.1)
 
 -- what a digest finds it finds later too
 pub FindsIn-kept : (part : Part) (old new : Buckets) (digest place : ℕ) → AreKept old new → FindsIn part old digest place → FindsIn part new digest place
 FindsIn-kept part old new digest place kept found = elim found [
   | inl here ↦ inl (HasAt-kept old new (number_in part digest) digest place kept here)
-  | inr beside ↦ inr (IsFull-kept old new (number_in part digest) kept beside.0, HasAt-kept old new (number_beside part digest) digest place kept beside.1)
+  | inr beside ↦ inr (kept.full (number_in part digest) beside.0, HasAt-kept old new (number_beside part digest) digest place kept beside.1)
 ]
 
 -- what has been put in beside a full bucket is found
 pub FindsIn-beside : (part : Part) (old new : Buckets) (digest place : ℕ) → AreKept old new → IsFull old (number_in part digest)
     → HasAt new (number_beside part digest) (tag_of digest) place → FindsIn part new digest place
-FindsIn-beside part old new digest place kept full found = inr (IsFull-kept old new (number_in part digest) kept full, found)
+FindsIn-beside part old new digest place kept full found = inr (kept.full (number_in part digest) full, found)
 
 -- a bucket is one of a part
 pub record IsAhead (part : Part) (number : ℕ) : Type 0 where

@@ -28,17 +28,16 @@ pub record StandsAt (buckets : Buckets) (number slot tag place : ℕ) : Type 0 w
 abbrev pub HasAt : Buckets → ℕ → ℕ → ℕ → Type 0
 HasAt buckets number tag place = (slot : ℕ) × StandsAt buckets number slot tag place
 
--- each of its slots has a place
+-- its last slot isn't empty, which is the last to be taken
 abbrev pub IsFull : Buckets → ℕ → Type 0
 IsFull buckets number =
-    (slot : ℕ) → slot < 16
-    → (tag : ℕ) × (place : ℕ) × ((0 < tag) × StandsAt buckets number slot tag place)
+    (number < length buckets.tags.items) × (0 < slice_index (tags_at buckets number) 15)
 
--- what stands in a slot stands there later too
-abbrev pub AreKept : Buckets → Buckets → Type 0
-AreKept old new =
-    (number slot tag place : ℕ) → 0 < tag → StandsAt old number slot tag place
-    → StandsAt new number slot tag place
+-- what stands in a slot stands there later too, and a full bucket stays full
+pub record AreKept (old new : Buckets) : Type 0 where
+  pub stands : (number slot tag place : ℕ) → 0 < tag → StandsAt old number slot tag place
+      → StandsAt new number slot tag place
+  pub full : (number : ℕ) → IsFull old number → IsFull new number
 
 -- the number of the bucket of a digest in its part
 unfoldable pub number_in : Part → ℕ → ℕ

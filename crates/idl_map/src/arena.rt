@@ -155,12 +155,17 @@ impl<K: Digest + Ord, V: Datum> Arena<K, V> {
     fn place_beside<L: Lent<K>>(&self, spot: Spot, key: &L) -> Option<usize>
         requires sound { IsSound K.digest_of self.now }
         requires spot { IsSpot self.now.index.parts.items spot }
+        requires digest { spot.digest ≡ K.digest_of (L.key key.now) }
+        requires absent { (i : ℕ) → HasAt self.now.index.buckets spot.number spot.tag i
+            → slice_get (keys_of self.now.entries.items) i ≢ Some (L.key key.now) }
+        ensures { (i : ℕ)
+            → (result ≡ Some i) ↔ (slice_get (keys_of self.now.entries.items) i ≡ Some (L.key key.now)) }
     {
         self.place_in(self.index.beside(spot), spot.tag, key)
     }
 
     // The place of the entry at a key, where a bucket has it with a tag.
-    #[inline]
+    #[inline(always)]
     fn place_in<L: Lent<K>>(&self, number: usize, tag: u8, key: &L) -> Option<usize>
         requires { 0 < tag }
         ensures found { IfSome result (λ i.

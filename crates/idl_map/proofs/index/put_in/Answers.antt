@@ -1,4 +1,4 @@
-use Rattle.std.proofs.Common.{ℕ, inl, subst}
+use Rattle.std.proofs.Common.{ℕ, subst}
 use Rattle.idl_map.specs.Buckets.{HasAt, IsFull, tag_of}
 use Rattle.idl_map.proofs.BucketLemmas.{AreKept-twice, FindsIn-beside}
 use Rattle.idl_map.proofs.index.put_in.Goals as goal

@@ -22,7 +22,7 @@ loop-ahead-preserved c =
         | inr here ↦
             c.take.ensures.taken c.if-not-take.false d i of (
               at.0,
-              c.loop-ahead.invariant.kept (first + c.loop-ahead.ahead) at.0 (tag_of d) i (tag_of_some d)
+              c.loop-ahead.invariant.kept.stands (first + c.loop-ahead.ahead) at.0 (tag_of d) i (tag_of_some d)
                   (subst (λ (m : ℕ). StandsAt old (first + m) at.0 (tag_of d) i) here at.1),
             )
       ];
