@@ -145,23 +145,11 @@ impl<K: Digest + Ord, V: Datum> Arena<K, V> {
     {
         match self.place_in(spot.number, spot.tag, key) {
             Some(place) => Some(place),
-            None if self.index.is_full(spot.number) => self.place_beside(spot, key),
+            None if self.index.is_full(spot.number) => {
+                self.place_apart(self.index.beside(spot), spot.tag, key)
+            }
             None => None,
         }
-    }
-
-    // The same in the bucket beside the one of the spot. It stands apart, since few buckets are full.
-    #[inline(never)]
-    fn place_beside<L: Lent<K>>(&self, spot: Spot, key: &L) -> Option<usize>
-        requires sound { IsSound K.digest_of self.now }
-        requires spot { IsSpot self.now.index.parts.items spot }
-        requires digest { spot.digest ≡ K.digest_of (L.key key.now) }
-        requires absent { (i : ℕ) → HasAt self.now.index.buckets spot.number spot.tag i
-            → slice_get (keys_of self.now.entries.items) i ≢ Some (L.key key.now) }
-        ensures { (i : ℕ)
-            → (result ≡ Some i) ↔ (slice_get (keys_of self.now.entries.items) i ≡ Some (L.key key.now)) }
-    {
-        self.place_in(self.index.beside(spot), spot.tag, key)
     }
 
     // The place of the entry at a key, where a bucket has it with a tag.
@@ -185,8 +173,20 @@ impl<K: Digest + Ord, V: Datum> Arena<K, V> {
         None
     }
 
+    // The same, but it stands apart, since few buckets are full and the one beside is seldom searched.
+    #[inline(never)]
+    fn place_apart<L: Lent<K>>(&self, number: usize, tag: u8, key: &L) -> Option<usize>
+        requires { 0 < tag }
+        ensures found { IfSome result (λ i.
+            slice_get (keys_of self.now.entries.items) i ≡ Some (L.key key.now)) }
+        ensures none { IfNone result ((i : ℕ) → HasAt self.now.index.buckets number tag i
+            → slice_get (keys_of self.now.entries.items) i ≢ Some (L.key key.now)) }
+    {
+        self.place_in(number, tag, key)
+    }
+
     // Whether there is an entry at a place, and at a key.
-    #[inline]
+    #[inline(always)]
     fn is_at<L: Lent<K>>(&self, place: usize, key: &L) -> bool
         ensures { IsTrue result
             ↔ (slice_get (keys_of self.now.entries.items) place ≡ Some (L.key key.now)) }

@@ -102,6 +102,7 @@ impl Index {
     }
 
     /// The bucket beside the one of a spot, in which its digest has places where that is full.
+    #[inline]
     pub fn beside(&self, spot: Spot) -> usize
         requires sound { IsIndexed self.now }
         requires spot { IsSpot self.now.parts.items spot }
