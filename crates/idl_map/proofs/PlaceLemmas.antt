@@ -1,11 +1,10 @@
 -- Places of keys, as a map has them.
-use Rattle.std.proofs.Common.{◌≡◌, ◌≢◌, ◌↔◌, ℕ, Bool, true, List, [], ◌∷◌, Option, None, Some, is_some, map, slice_get, refl, sym, ap, ◌∙◌}
+use Rattle.std.proofs.Common.{◌≡◌, ◌↔◌, ℕ, Bool, true, List, [], ◌∷◌, Option, None, Some, is_some, map, slice_get, refl, sym, ap, ◌∙◌}
 use Rattle.std.specs.Bool.{Decides}
 use Rattle.std.specs.Cmp.{IsEquivalence}
 use Rattle.std.specs.Map.{keys_of, lookup}
-use Rattle.std.specs.Option.{IfNone, IfSome, option_map}
+use Rattle.std.specs.Option.{option_map}
 use Rattle.std.proofs.lemmas.Option.{none-some, same_Some, slice_get-map}
-use Rattle.idl_base.specs.Table.{AreDistinct}
 use Rattle.idl_base.proofs.Exactness.{Decides-eq}
 use Rattle.idl_base.proofs.TableLemmas.{lookup-at, lookup-nowhere}
 
@@ -13,14 +12,6 @@ use Rattle.idl_base.proofs.TableLemmas.{lookup-at, lookup-nowhere}
 pub digest-at : {K : Type 0} (digest_of : K → ℕ) (digests : List ℕ) (keys : List K) (i : ℕ) (key : K) → digests ≡ map digest_of keys → slice_get keys i ≡ Some key
     → slice_get digests i ≡ Some (digest_of key)
 digest-at digest_of digests keys i key are at = ap (λ ds. slice_get ds i) are ∙ slice_get-map digest_of keys i ∙ ap (option_map digest_of) at
-
--- where a search that sees each place of a key finds one, it is the one place of the key
-pub place-found : {K : Type 0} (keys : List K) (key : K) (place : Option ℕ) (Sees : ℕ → Type 0) → AreDistinct keys
-    → IfSome place (λ i. slice_get keys i ≡ Some key) → IfNone place ((i : ℕ) → Sees i → slice_get keys i ≢ Some key)
-    → ((i : ℕ) → slice_get keys i ≡ Some key → Sees i)
-    → (i : ℕ) → (place ≡ Some i) ↔ (slice_get keys i ≡ Some key)
-place-found keys key None Sees distinct found none sees i = (λ h. absurd (none-some i h), λ h. absurd (none i (sees i h) h))
-place-found keys key (Some place) Sees distinct found none sees i = (λ h. ap (slice_get keys) (sym (same_Some place i h)) ∙ found, λ h. ap Some (distinct key place i found h))
 
 module _ {K : Type 0} (eq : K → K → Bool) (laws : IsEquivalence eq) (same : (x y : K) → eq x y ≡ true → x ≡ y) where
   -- a test of any key against one finds that one alone

@@ -1,9 +1,9 @@
 //! The parts of a map: entries, and the index in which digests find their places.
 
-ghost use Rattle.std.specs.Prelude.{◌≡◌, ◌≢◌, ◌↔◌, ◌<◌, [], ℕ, None, Some, IfNone, IfOk, IfSome, IsTrue, OnOk, OnErr, slice_get, if◌then◌else◌};
+ghost use Rattle.std.specs.Prelude.{◌≡◌, ◌↔◌, [], ℕ, None, Some, IfOk, IsTrue, OnOk, OnErr, slice_get, if◌then◌else◌};
 ghost use Rattle.std.specs.Map.{keys_of, lookup};
 ghost use Rattle.std.specs.Option.{option_copied};
-ghost use Rattle.idl_map.specs.Buckets.{HasAt, IsSpot};
+ghost use Rattle.idl_map.specs.Buckets.{IsSpot};
 ghost use Rattle.idl_map.specs.Entries.{IsSound, entries_of};
 
 use crate::bits::{lowest, without};
@@ -143,28 +143,10 @@ impl<K: Digest + Ord, V: Datum> Arena<K, V> {
         ensures { (i : ℕ)
             → (result ≡ Some i) ↔ (slice_get (keys_of self.now.entries.items) i ≡ Some (L.key key.now)) }
     {
-        match self.place_in(spot.number, spot.tag, key) {
-            Some(place) => Some(place),
-            None if self.index.is_full(spot.number) => {
-                self.place_apart(self.index.beside(spot), spot.tag, key)
-            }
-            None => None,
-        }
-    }
-
-    // The place of the entry at a key, where a bucket has it with a tag.
-    #[inline(always)]
-    fn place_in<L: Lent<K>>(&self, number: usize, tag: u8, key: &L) -> Option<usize>
-        requires { 0 < tag }
-        ensures found { IfSome result (λ i.
-            slice_get (keys_of self.now.entries.items) i ≡ Some (L.key key.now)) }
-        ensures none { IfNone result ((i : ℕ) → HasAt self.now.index.buckets number tag i
-            → slice_get (keys_of self.now.entries.items) i ≢ Some (L.key key.now)) }
-    {
-        let mut marks = self.index.marked(number, tag);
+        let mut marks = self.index.marked(spot);
         while marks != 0 {
             let slot = lowest(marks);
-            let place = self.index.place(number, slot);
+            let place = self.index.place(spot, slot);
             if self.is_at(place, key) {
                 return Some(place);
             }
@@ -173,20 +155,8 @@ impl<K: Digest + Ord, V: Datum> Arena<K, V> {
         None
     }
 
-    // The same, but it stands apart, since few buckets are full and the one beside is seldom searched.
-    #[inline(never)]
-    fn place_apart<L: Lent<K>>(&self, number: usize, tag: u8, key: &L) -> Option<usize>
-        requires { 0 < tag }
-        ensures found { IfSome result (λ i.
-            slice_get (keys_of self.now.entries.items) i ≡ Some (L.key key.now)) }
-        ensures none { IfNone result ((i : ℕ) → HasAt self.now.index.buckets number tag i
-            → slice_get (keys_of self.now.entries.items) i ≢ Some (L.key key.now)) }
-    {
-        self.place_in(number, tag, key)
-    }
-
     // Whether there is an entry at a place, and at a key.
-    #[inline(always)]
+    #[inline]
     fn is_at<L: Lent<K>>(&self, place: usize, key: &L) -> bool
         ensures { IsTrue result
             ↔ (slice_get (keys_of self.now.entries.items) place ≡ Some (L.key key.now)) }
@@ -209,7 +179,7 @@ impl<K: Digest + Ord, V: Datum> Arena<K, V> {
             ((k : K) → lookup (K.eq k) (entries_of self.new) ≡ lookup (K.eq k) (entries_of self.old)) }
     {
         let spot = self.index.spot_of(key.digest());
-        if self.index.is_new(spot) {
+        if self.index.marked(spot) == 0 {
             return self.push(spot, key, value);
         }
         self.put(key, value)

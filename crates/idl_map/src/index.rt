@@ -1,8 +1,8 @@
 //! Digests, and the buckets in which they find their places.
 
-ghost use Rattle.std.specs.Prelude.{◌≡◌, ◌≢◌, ◌↔◌, ◌⊎◌, ◌++◌, ◌∷◌, [], ℕ, ◌%◌, ◌<◌, ◌^◌, Some, IfOk, IsTrue, IsFalse, OnErr, length, slice_get, vec_len};
+ghost use Rattle.std.specs.Prelude.{◌≡◌, ◌++◌, ◌∷◌, [], ℕ, ◌%◌, ◌<◌, ◌^◌, Some, IfOk, IsTrue, IsFalse, OnErr, length, slice_get, vec_len};
 ghost use Rattle.std.specs.Int.{bit_at};
-ghost use Rattle.idl_map.specs.Buckets.{AreKept, Finds, FindsIn, HasAt, IsFull, IsIndexed, IsOf, IsSpot, StandsAt, number_beside, number_in, tag_of};
+ghost use Rattle.idl_map.specs.Buckets.{AreKept, AreThere, Finds, FindsIn, HasAt, IsIndexed, IsOf, IsSpot, IsThere, Stands, StandsAt, number_beside, number_in, tag_of};
 
 use crate::bits::{lowest, without};
 use crate::buckets::{Buckets, tag_of};
@@ -73,52 +73,55 @@ impl Index {
         }
     }
 
-    /// Whether no digest is that of a spot. Where it is false, there may be none either.
+    /// The slots of a spot that have its tag: sixteen of its bucket, and where that is full, those of the one beside it.
     #[inline]
-    pub fn is_new(&self, spot: Spot) -> bool
+    pub fn marked(&self, spot: Spot) -> u64
         requires sound { IsIndexed self.now }
         requires spot { IsSpot self.now.parts.items spot }
-        ensures { IsTrue result
-            → (i : ℕ) → slice_get self.now.digests.items i ≢ Some spot.digest }
+        ensures { (slot i : ℕ) → Stands self.now spot.digest slot i → bit_at result slot ≡ 1 }
     {
-        self.buckets.marked(spot.number, spot.tag) == 0 && !self.buckets.is_full(spot.number)
+        let marks = self.buckets.marked(spot.number, spot.tag);
+        if self.buckets.is_full(spot.number) {
+            return marks | self.marked_beside(spot.digest) << 16;
+        }
+        marks
     }
 
-    /// The slots of a bucket that have a tag.
-    #[inline]
-    pub fn marked(&self, number: usize, tag: u8) -> u64
-        requires { 0 < tag }
-        ensures { (slot i : ℕ) → StandsAt self.now.buckets number slot tag i → bit_at result slot ≡ 1 }
+    // The slots that have the tag of a digest in the bucket beside its own. It stands apart, since few buckets are full.
+    #[inline(never)]
+    fn marked_beside(&self, digest: u64) -> u64
+        requires { IsIndexed self.now }
+        ensures small { result < 2 ^ 16 }
+        ensures marked { (part : Part) → slice_get self.now.parts.items (digest % 64) ≡ Some part
+            → (slot i : ℕ) → StandsAt self.now.buckets (number_beside part digest) slot (tag_of digest) i
+            → bit_at result slot ≡ 1 }
     {
-        self.buckets.marked(number, tag)
+        let part = self.parts[(digest % 64) as usize];
+        self.buckets.marked(number_beside(part, digest), tag_of(digest))
     }
 
-    /// Whether a bucket is full.
+    /// The place in a slot of a spot.
     #[inline]
-    pub fn is_full(&self, number: usize) -> bool
-        ensures { IsTrue result ↔ IsFull self.now.buckets number }
-    {
-        self.buckets.is_full(number)
-    }
-
-    /// The bucket beside the one of a spot, in which its digest has places where that is full.
-    #[inline]
-    pub fn beside(&self, spot: Spot) -> usize
+    pub fn place(&self, spot: Spot, slot: usize) -> usize
         requires sound { IsIndexed self.now }
         requires spot { IsSpot self.now.parts.items spot }
-        ensures { (i : ℕ) → slice_get self.now.digests.items i ≡ Some spot.digest
-            → HasAt self.now.buckets spot.number spot.tag i
-            ⊎ (IsFull self.now.buckets spot.number × HasAt self.now.buckets result spot.tag i) }
+        ensures { (i : ℕ) → Stands self.now spot.digest slot i → result ≡ i }
     {
-        number_beside(self.parts[(spot.digest % 64) as usize], spot.digest)
+        if slot < 16 {
+            return self.buckets.place(spot.number, slot) as usize;
+        }
+        self.place_beside(spot.digest, slot - 16)
     }
 
-    /// The place in a slot of a bucket.
-    #[inline]
-    pub fn place(&self, number: usize, slot: usize) -> usize
-        ensures { (t i : ℕ) → StandsAt self.now.buckets number slot t i → result ≡ i }
+    // The place in a slot of the bucket beside the one of a digest.
+    #[inline(never)]
+    fn place_beside(&self, digest: u64, slot: usize) -> usize
+        requires { IsIndexed self.now }
+        ensures { (part : Part) → slice_get self.now.parts.items (digest % 64) ≡ Some part
+            → (t i : ℕ) → StandsAt self.now.buckets (number_beside part digest) slot t i → result ≡ i }
     {
-        self.buckets.place(number, slot) as usize
+        let part = self.parts[(digest % 64) as usize];
+        self.buckets.place(number_beside(part, digest), slot) as usize
     }
 
     /// Puts the digest of a spot last, unless there is no room for its place.
@@ -223,7 +226,8 @@ impl Index {
 
 // A part of four times as many buckets as another has, the first of which has this number.
 fn wider(part: Part, first: u32) -> Part
-    ensures { result.mask < 2 ^ 31 }
+    ensures first { result.first ≡ first }
+    ensures mask { result.mask < 2 ^ 31 }
 {
     let mask = if part.first == 0 {
         0
@@ -252,19 +256,15 @@ fn number_beside(part: Part, digest: u64) -> usize
 }
 
 // Puts a place in at a digest, unless its bucket is full, and the one beside it.
+#[inline(always)]
 fn put_in(buckets: &mut Buckets, part: Part, digest: u64, place: u32) -> bool
+    requires { AreThere buckets.old part }
     ensures kept { AreKept buckets.old buckets.new }
     ensures put { IsTrue result → FindsIn part buckets.new digest place }
 {
-    let number = number_in(part, digest);
     let tag = tag_of(digest);
-    if buckets.put(number, tag, place) {
-        return true;
-    }
-    if !buckets.is_full(number) {
-        return false;
-    }
-    buckets.put(number_beside(part, digest), tag, place)
+    buckets.put(number_in(part, digest), tag, place)
+        || buckets.put(number_beside(part, digest), tag, place)
 }
 
 // A part that is to have the places of those digests that its number chooses.
@@ -278,6 +278,8 @@ struct Target<'a> {
 impl<'a> Target<'a> {
     // Puts the places of its digests in that another part has.
     fn take_all(&self, buckets: &mut Buckets, old: Part) -> bool
+        requires own { AreThere buckets.old self.now.part }
+        requires old { AreThere buckets.old old }
         ensures kept { AreKept buckets.old buckets.new }
         ensures taken { IsTrue result
             → (d i : ℕ) → IsOf self.now.digests.now self.now.number d i
@@ -294,6 +296,8 @@ impl<'a> Target<'a> {
     // The same of those that a bucket has.
     #[inline]
     fn take(&self, buckets: &mut Buckets, number: usize) -> bool
+        requires own { AreThere buckets.old self.now.part }
+        requires there { IsThere buckets.old number }
         ensures kept { AreKept buckets.old buckets.new }
         ensures taken { IsTrue result
             → (d i : ℕ) → IsOf self.now.digests.now self.now.number d i
@@ -312,7 +316,9 @@ impl<'a> Target<'a> {
     }
 
     // Puts a place in at its digest, if that is one of those.
+    #[inline(always)]
     fn put(&self, buckets: &mut Buckets, place: u32) -> bool
+        requires { AreThere buckets.old self.now.part }
         ensures kept { AreKept buckets.old buckets.new }
         ensures put { IsTrue result
             → (d : ℕ) → IsOf self.now.digests.now self.now.number d place

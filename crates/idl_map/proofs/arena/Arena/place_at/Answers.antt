@@ -1,43 +1,57 @@
-use Rattle.std.proofs.Common.{◌≡◌, ◌<◌, ℕ, true≢false, Some, inl, inr, slice_get, sym, ap, subst, ◌∙◌}
+use Rattle.std.proofs.Common.{◌≡◌, ◌<◌, ℕ, true≢false, Some, inl, inr, slice_get, sym, ap, subst, ◌∙◌, arith}
 use Rattle.std.specs.Map.{keys_of}
-use Rattle.std.proofs.lemmas.Option.{none-some}
-use Rattle.idl_map.specs.Buckets.{HasAt}
-use Rattle.idl_map.proofs.BucketLemmas.{spot-finds, tag_of_some}
-use Rattle.idl_map.proofs.PlaceLemmas.{digest-at, place-found}
+use Rattle.std.specs.Int.{bit_at}
+use Rattle.std.proofs.lemmas.Nat.Bits.{bit_at-zero}
+use Rattle.std.proofs.lemmas.Bool.Decides.{eqb_tells}
+use Rattle.std.proofs.lemmas.Option.{none-some, same_Some}
+use Rattle.idl_map.specs.Buckets.{Stands}
+use Rattle.idl_map.proofs.BucketLemmas.{Stands-below, spot-stands}
+use Rattle.idl_map.proofs.PlaceLemmas.{digest-at}
 use Rattle.idl_map.proofs.arena.Arena.place_at.Goals as goal
 
-pub place_in-requires : goal.place_in-requires
-place_in-requires g c = subst (λ (t : ℕ). 0 < t) (sym c.requires.spot.tag) (tag_of_some c.args.spot.digest)
-
-pub place_apart-requires : goal.place_apart-requires
-place_apart-requires g c = subst (λ (t : ℕ). 0 < t) (sym c.requires.spot.tag) (tag_of_some c.args.spot.digest)
-
-pub returns-in-None : goal.returns-in-None
-returns-in-None g c =
+pub returns-then-is_at : goal.returns-then-is_at
+returns-then-is_at g c i =
     let arena = c.args.self.now in
-    let spot = c.args.spot in
-    let keys = keys_of arena.entries.items in
     let key = g.L.Lent.key c.args.key.now in
-    place-found keys key c.place_apart.result (HasAt arena.index.buckets c.beside.result spot.tag) c.requires.sound.distinct c.place_apart.ensures.found c.place_apart.ensures.none
-    (λ i at.
-    let digest : slice_get arena.index.digests.items i ≡ Some spot.digest =
-    digest-at g.K.Digest.digest_of arena.index.digests.items keys i key c.requires.sound.digests at ∙ ap Some (sym c.requires.digest) in
-    elim (c.beside.ensures i digest) [
-      | inl own ↦ absurd (c.in-None.ensures.none i own at)
-      | inr beside ↦ beside.1
-    ])
+    let place = c.place-place.result in
+    let at : slice_get (keys_of arena.entries.items) place ≡ Some key = c.is_at.ensures.0 c.if-is_at.true in (
+      λ h. ap (slice_get (keys_of arena.entries.items)) (sym (same_Some place i h)) ∙ at,
+      λ h. ap Some (c.requires.sound.distinct key place i at h),
+    )
 
-pub returns-in-None-2 : goal.returns-in-None-2
-returns-in-None-2 g c i =
+pub loop-marks-init : goal.loop-marks-init
+loop-marks-init g c slot i at = inr (c.marked-marks.ensures slot i at)
+
+pub loop-marks-preserved : goal.loop-marks-preserved
+loop-marks-preserved g c slot i at =
     let arena = c.args.self.now in
+    let key = g.L.Lent.key c.args.key.now in
     let spot = c.args.spot in
+    let low = c.lowest-slot.result in
+    elim (c.loop-marks.invariant slot i at) [
+      | inl other ↦ inl other
+      | inr marked ↦ elim (eqb_tells slot low) [
+        | inl t ↦
+            let is : c.place-place.result ≡ i = c.place-place.ensures i (subst (λ (s : ℕ). Stands arena.index spot.digest s i) t.1 at) in
+            inl (λ here. absurd (true≢false (sym (c.is_at.ensures.1 (ap (slice_get (keys_of arena.entries.items)) is ∙ here)) ∙ c.if-is_at.false)))
+        | inr f ↦
+            let within : slot < 64 = Stands-below arena.index spot.digest slot i at in
+            inr (c.without-marks.ensures.kept slot within f.1 ∙ marked)
+      ]
+    ]
+
+pub returns : goal.returns
+returns g c i =
+    let arena = c.args.self.now in
+    let keys = keys_of arena.entries.items in
     let key = g.L.Lent.key c.args.key.now in (
       λ h. absurd (none-some i h),
       λ h.
-          let digest : slice_get arena.index.digests.items i ≡ Some spot.digest =
-          digest-at g.K.Digest.digest_of arena.index.digests.items (keys_of arena.entries.items) i key c.requires.sound.digests h ∙ ap Some (sym c.requires.digest) in
-          elim (spot-finds arena.index spot c.requires.spot c.requires.sound.indexed i digest) [
-            | inl own ↦ absurd (c.in-None.ensures.none i own h)
-            | inr beside ↦ absurd (true≢false (sym (c.is_full.ensures.1 beside.0) ∙ c.if-is_full.false))
+          let digest : slice_get arena.index.digests.items i ≡ Some c.args.spot.digest =
+          digest-at g.K.Digest.digest_of arena.index.digests.items keys i key c.requires.sound.digests h ∙ ap Some (sym c.requires.digest) in
+          let found = spot-stands arena.index c.args.spot c.requires.spot c.requires.sound.indexed i digest in
+          elim (c.loop-marks.invariant found.0 i found.1) [
+            | inl other ↦ absurd (other h)
+            | inr marked ↦ (let none : bit_at c.loop-marks.marks found.0 ≡ 0 = ap (λ m. bit_at m found.0) c.loop-marks-test.false ∙ bit_at-zero found.0 in absurd (omega (arith, none, marked)))
           ],
     )

@@ -5,8 +5,8 @@ within_both : (b : Bool) (n m count number : ℕ) → count ≡ cond b n m → n
 within_both true n m count number is low high = omega arith
 within_both false n m count number is low high = omega arith
 
-pub returns : goal.returns
-returns c =
+pub returns-clause-kept : goal.returns-clause-kept
+returns-clause-kept c =
     let old = c.args.self.now in
     let tags = c.resize.new.self in
     let places = c.resize-2.new.self in
@@ -31,4 +31,11 @@ returns c =
             omega (arith, tags_len, tags.ok.0),
             subst (λ (t : ℕ). 0 < t) (sym (ap (λ ts. slice_index ts 15) (c.resize.ensures.by_index.0 number [] all low))) full.1,
           );
+      there = λ number there.
+          let low : number < vec_len old.tags = omega (arith, there.0, old.tags.ok.0) in
+          let high : number < vec_len old.places = omega (arith, there.1, old.places.ok.0) in
+          let all : number < c.len.result + c.args.count = omega (arith, c.len.ensures, there.0) in
+          let tags_len : number < vec_len tags = within_both (is_ok c.resize.result) (c.len.result + c.args.count) (vec_len old.tags) (vec_len tags) number c.resize.ensures.len all low in
+          let places_len : number < vec_len places = within_both (is_ok c.resize-2.result) (c.len.result + c.args.count) (vec_len old.places) (vec_len places) number c.resize-2.ensures.len all high in
+          (omega (arith, tags_len, tags.ok.0), omega (arith, places_len, places.ok.0));
     }

@@ -1,4 +1,4 @@
-use Rattle.std.proofs.Common.{◌<◌, ◌+◌, ℕ, inl, inr, subst, arith}
+use Rattle.std.proofs.Common.{◌<◌, ◌+◌, ◌-◌, ℕ, inl, inr, subst, arith}
 use Rattle.idl_map.specs.Buckets.{HasAt, StandsAt, tag_of}
 use Rattle.idl_map.proofs.BitLemmas.{below_next}
 use Rattle.idl_map.proofs.BucketLemmas.{AreKept-twice, FindsIn-kept, beside_ahead, number_ahead, tag_of_some}
@@ -29,13 +29,13 @@ loop-ahead-preserved c =
     }
 
 pub returns-clause-taken : goal.returns-clause-taken
-returns-clause-taken c done d i of found = elim found [
+returns-clause-taken c done d i of found = elim found.1 [
   | inl here ↦
       let on = number_ahead c.args.old d in
       let all : on.ahead < c.loop-ahead.ahead = omega (arith, on.below, c.loop-ahead-test.false) in
-      c.loop-ahead.invariant.taken d i on.ahead all of (subst (λ (n : ℕ). HasAt c.args.buckets.now n (tag_of d) i) on.is here)
+      c.loop-ahead.invariant.taken d i on.ahead all of (found.0, subst (λ (n : ℕ). StandsAt c.args.buckets.now n found.0 (tag_of d) i) on.is here)
   | inr beside ↦
       let on = beside_ahead c.args.old d in
       let all : on.ahead < c.loop-ahead.ahead = omega (arith, on.below, c.loop-ahead-test.false) in
-      c.loop-ahead.invariant.taken d i on.ahead all of (subst (λ (n : ℕ). HasAt c.args.buckets.now n (tag_of d) i) on.is beside.1)
+      c.loop-ahead.invariant.taken d i on.ahead all of (found.0 - 16, subst (λ (n : ℕ). StandsAt c.args.buckets.now n (found.0 - 16) (tag_of d) i) on.is beside.1)
 ]
