@@ -43,12 +43,12 @@ AreThere-kept part old new kept there ahead within = kept.there (part.first + ah
 -- what a digest finds it finds later too
 pub FindsIn-kept : (part : Part) (old new : Buckets) (digest place : ℕ) → AreKept old new → FindsIn part old digest place → FindsIn part new digest place
 FindsIn-kept part old new digest place kept found = (
-    found.0,
-    elim found.1 [
-      | inl here ↦ inl (kept.stands (number_in part digest) found.0 (tag_of digest) place (tag_of_some digest) here)
-      | inr beside ↦ inr ((kept.full (number_in part digest) beside.0.0, beside.0.1), kept.stands (number_beside part digest) (found.0 - 16) (tag_of digest) place (tag_of_some digest) beside.1)
-    ],
-  )
+  found.0,
+  elim found.1 [
+    | inl here ↦ inl (kept.stands (number_in part digest) found.0 (tag_of digest) place (tag_of_some digest) here)
+    | inr beside ↦ inr ((kept.full (number_in part digest) beside.0.0, beside.0.1), kept.stands (number_beside part digest) (found.0 - 16) (tag_of digest) place (tag_of_some digest) beside.1)
+  ],
+)
 
 -- what has been put in beside a full bucket is found
 pub FindsIn-beside : (part : Part) (buckets : Buckets) (digest place : ℕ) → IsFull buckets (number_in part digest)

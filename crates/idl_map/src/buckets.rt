@@ -75,7 +75,11 @@ impl Buckets {
         requires { IsThere self.now number }
         ensures { (t i : ℕ) → StandsAt self.now number slot t i → result ≡ i }
     {
-        if slot < 16 { self.places[number][slot] } else { 0 }
+        if slot < 16 {
+            self.places[number][slot]
+        } else {
+            0
+        }
     }
 
     /// Whether a bucket is full: its last slot is the last to be taken.

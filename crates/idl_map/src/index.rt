@@ -97,7 +97,8 @@ impl Index {
             → bit_at result slot ≡ 1 }
     {
         let part = self.parts[(digest % 64) as usize];
-        self.buckets.marked(number_beside(part, digest), tag_of(digest))
+        self.buckets
+            .marked(number_beside(part, digest), tag_of(digest))
     }
 
     /// The place in a slot of a spot.

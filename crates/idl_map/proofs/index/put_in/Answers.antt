@@ -1,4 +1,4 @@
-use Rattle.std.proofs.Common.{ℕ, inl, sym, subst}
+use Rattle.std.proofs.Common.{ℕ, sym, subst}
 use Rattle.idl_map.specs.Buckets.{HasAt, IsFull, IsThere, tag_of}
 use Rattle.idl_map.proofs.BucketLemmas.{AreKept-twice, FindsIn-beside, beside-there, number-there}
 use Rattle.idl_map.proofs.index.put_in.Goals as goal

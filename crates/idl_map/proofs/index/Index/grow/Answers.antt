@@ -40,8 +40,8 @@ returns-then-take_all-clause-sound c =
     let was : slice_get parts number ≡ Some old = slice_get_read parts 64 number old (sym c.requires.parts) within c.index-old.ensures in
     let first : wide.first ≡ c.len-first.result = omega (arith, c.wider-part.ensures.first, c.if-first-gt-MANY.false) in
     let own : AreThere between wide = λ ahead below.
-        let all : wide.first + ahead < length before.tags.items + (wide.mask + 1) = omega (arith, first, c.len-first.ensures, below) in
-        c.in_ok-extend.ensures.there (wide.first + ahead) all in
+    let all : wide.first + ahead < length before.tags.items + (wide.mask + 1) = omega (arith, first, c.len-first.ensures, below) in
+    c.in_ok-extend.ensures.there (wide.first + ahead) all in
     record {
       parts = length-set parts number wide ∙ c.requires.parts;
       there = λ n part is. elim (eqb_tells n number) [

@@ -1,6 +1,4 @@
-use Rattle.std.proofs.Common.{◌≡◌, ◌<◌, ◌%◌, ◌^◌, ◌*◌, ◌-◌, ℕ, Some, inl, inr, true≢false, sym, subst, ◌∙◌, arith}
-use Rattle.std.specs.Int.{bit_at}
-use Rattle.idl_map.specs.Buckets.{IsFull, StandsAt, Stands}
+use Rattle.std.proofs.Common.{◌<◌, ◌%◌, ◌^◌, ◌*◌, ◌-◌, ℕ, inl, inr, sym, subst}
 use Rattle.idl_map.proofs.BitLemmas.{set_behind, set_first}
 use Rattle.idl_map.proofs.BucketLemmas.{spot-at, spot-there, tag_of_some}
 use Rattle.idl_map.proofs.index.Index.marked.Goals as goal

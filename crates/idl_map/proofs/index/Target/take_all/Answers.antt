@@ -1,5 +1,5 @@
 use Rattle.std.proofs.Common.{◌<◌, ◌+◌, ◌-◌, ℕ, inl, inr, subst, arith}
-use Rattle.idl_map.specs.Buckets.{HasAt, StandsAt, tag_of}
+use Rattle.idl_map.specs.Buckets.{StandsAt, tag_of}
 use Rattle.idl_map.proofs.BitLemmas.{below_next}
 use Rattle.idl_map.proofs.BucketLemmas.{AreKept-twice, FindsIn-kept, beside_ahead, number_ahead, tag_of_some}
 use Rattle.idl_map.proofs.index.Target.take_all.Goals as goal
