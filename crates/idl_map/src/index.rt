@@ -32,8 +32,8 @@ const MANY: usize = 1 << 30;
 /// Digests in order, and the places of each in the buckets of 64 parts. The last six bits of a digest choose the part, others the
 /// bucket in it, and its first eight are its tag there.
 ///
-/// At first all parts have one bucket. A part of which a bucket is full has others made behind all that there are, four times as
-/// many as before; those that it had stay unused.
+/// At first all parts have one bucket. Where the bucket of a digest is full, its place goes into the one beside it. Where that is
+/// full too, the part has others made behind all that there are, four times as many as before; those that it had stay unused.
 #[derive(Drop)]
 pub struct Index {
     digests: Vec<u64>,
@@ -93,12 +93,13 @@ impl Index {
         requires { IsIndexed self.now }
         ensures small { result < 2 ^ 16 }
         ensures marked { (part : Part) → slice_get self.now.parts.items (digest % 64) ≡ Some part
-            → (slot i : ℕ) → StandsAt self.now.buckets (number_beside part digest) slot (tag_of digest) i
+            → (slot i : ℕ)
+            → StandsAt self.now.buckets (number_beside part digest) slot (tag_of digest) i
             → bit_at result slot ≡ 1 }
     {
         let part = self.parts[(digest % 64) as usize];
-        self.buckets
-            .marked(number_beside(part, digest), tag_of(digest))
+        let number = number_beside(part, digest);
+        self.buckets.marked(number, tag_of(digest))
     }
 
     /// The place in a slot of a spot.
@@ -119,7 +120,8 @@ impl Index {
     fn place_beside(&self, digest: u64, slot: usize) -> usize
         requires { IsIndexed self.now }
         ensures { (part : Part) → slice_get self.now.parts.items (digest % 64) ≡ Some part
-            → (t i : ℕ) → StandsAt self.now.buckets (number_beside part digest) slot t i → result ≡ i }
+            → (t i : ℕ) → StandsAt self.now.buckets (number_beside part digest) slot t i
+            → result ≡ i }
     {
         let part = self.parts[(digest % 64) as usize];
         self.buckets.place(number_beside(part, digest), slot) as usize

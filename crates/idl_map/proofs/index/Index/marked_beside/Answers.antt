@@ -12,7 +12,7 @@ marked-requires-clause-there c =
     let own = c.index-part.result.now in
     let chosen : slice_get c.args.self.now.parts.items (digest % 64) ≡ Some own =
     slice_get_read c.args.self.now.parts.items 64 (digest % 64) own (sym c.requires.parts) within c.index-part.ensures in
-    subst (IsThere c.args.self.now.buckets) (sym c.number_beside.ensures) (beside-there own c.args.self.now.buckets digest (c.requires.there (digest % 64) own chosen))
+    subst (IsThere c.args.self.now.buckets) (sym c.number_beside-number.ensures) (beside-there own c.args.self.now.buckets digest (c.requires.there (digest % 64) own chosen))
 
 pub returns-clause-marked : goal.returns-clause-marked
 returns-clause-marked c part is slot i at =
@@ -24,5 +24,5 @@ returns-clause-marked c part is slot i at =
     slice_get_read c.args.self.now.parts.items 64 (digest % 64) own (sym c.requires.parts) within c.index-part.ensures in
     let same : part ≡ own = same_Some part own (sym is ∙ chosen) in
     let there = subst (λ (p : Part). StandsAt buckets (number_beside p digest) slot (tag_of digest) i) same at in
-    let numbered = subst (λ (n : ℕ). StandsAt buckets n slot (tag_of digest) i) (sym c.number_beside.ensures) there in
-    c.marked.ensures.marked slot i (subst (λ (t : ℕ). StandsAt buckets c.number_beside.result slot t i) (sym c.tag_of.ensures.value) numbered)
+    let numbered = subst (λ (n : ℕ). StandsAt buckets n slot (tag_of digest) i) (sym c.number_beside-number.ensures) there in
+    c.marked.ensures.marked slot i (subst (λ (t : ℕ). StandsAt buckets c.number_beside-number.result slot t i) (sym c.tag_of.ensures.value) numbered)
