@@ -196,7 +196,7 @@ impl Short {
     }
 
     /// The bytes with each capital letter made small.
-    #[inline(never)]
+    #[inline(always)]
     pub fn folded(mut self) -> Short
         ensures { result ≡ folded self }
     {

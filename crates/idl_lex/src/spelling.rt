@@ -100,6 +100,17 @@ impl Spelling {
         }
     }
 
+    /// The same with each capital letter made small: few bytes are copied whole.
+    #[inline(always)]
+    pub fn to_folded(&self, alloc: Global) -> Result<Spelling, AllocError>
+        ensures { IfOk result (λ spelling. spelling ≡ folded self.now) }
+    {
+        match &self.form {
+            Form::Short(short) => Ok(Spelling::short(short.copied().folded())),
+            form => Spelling::folded_apart(alloc, form.as_bytes()),
+        }
+    }
+
     /// The bytes in order.
     #[inline(always)]
     pub fn as_bytes(&self) -> &[u8]
