@@ -123,6 +123,7 @@ impl Spelling {
     }
 
     /// What stands after its first byte, if it has one.
+    #[inline(never)]
     pub(crate) fn unescaped(&self) -> Result<Option<Spelling>, AllocError>
         ensures { IfOk result (λ name. name ≡ unescaped self.now) }
     {
@@ -187,7 +188,7 @@ impl Spelling {
 impl Clone for Spelling {
     ghost is_clone = { λ spelling copy. copy ≡ spelling };
 
-    #[inline]
+    #[inline(always)]
     fn clone(&self) -> Result<Spelling, AllocError> {
         match &self.form {
             Form::Short(short) => Ok(Spelling::short(short.copied())),
