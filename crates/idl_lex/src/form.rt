@@ -1,6 +1,6 @@
 //! The forms in which the bytes of a spelling are held: few in place, and more in shared bytes.
 
-ghost use Rattle.std.specs.Prelude.{◌≡◌, ◌≤◌, ◌<◌, ◌∷◌, ◌↔◌, ◌*◌, [], IfNone, IfOk, IfSome, IsTrue, drop, length, slice_range, take};
+ghost use Rattle.std.specs.Prelude.{◌≡◌, ◌≤◌, ◌<◌, ◌∷◌, ◌↔◌, ◌*◌, ◌++◌, ◌+◌, ◌-◌, [], IfNone, IfOk, IfSome, IsTrue, drop, length, replicate, slice_range, take};
 ghost use Rattle.std.specs.Int.{to_le_bytes, w64};
 ghost use Rattle.std.specs.Rc.{rc_slice_items};
 ghost use Rattle.idl_lex.specs.Form.{IsWithin, form_bytes};
@@ -129,6 +129,44 @@ impl Short {
         Some(Short::of(bytes))
     }
 
+    /// The bytes from one place up to another, if they are few.
+    #[inline(always)]
+    pub fn cut(bytes: &[u8], from: usize, to: usize) -> Option<Short>
+        requires order { from ≤ to }
+        requires within { to ≤ length bytes.now }
+        ensures same { IfSome result (λ short. short ≡ slice_range bytes.now from to) }
+        ensures few { IfNone result (14 < to - from) }
+    {
+        let count = to - from;
+        if count > MOST {
+            return None;
+        }
+        if count == 0 || bytes.len() < 8 {
+            return Some(Short::of(&bytes[from..to]));
+        }
+        let last = eight_up_to(bytes, to);
+        if count <= 8 {
+            return Some(Short::joined(count, last_of(last, count), 0));
+        }
+        let front = eight_from(bytes, from);
+        Some(Short::joined(count, front, last_of(last, count - 8)))
+    }
+
+    // So many bytes: those of one number, and then those of another.
+    #[inline(always)]
+    fn joined(count: usize, front: u64, back: u64) -> Short
+        requires { count ≤ 14 }
+        ensures { result ≡ take count (to_le_bytes w64 front ++ to_le_bytes w64 back) }
+    {
+        let mut bytes = [0; MOST];
+        *bytes.first_chunk_mut::<8>().unwrap() = front.to_le_bytes();
+        *bytes.last_chunk_mut::<6>().unwrap() = *back.to_le_bytes().first_chunk::<6>().unwrap();
+        Short {
+            count: count as u8,
+            bytes,
+        }
+    }
+
     /// This byte.
     pub fn of_byte(b: u8) -> Short
         ensures { result ≡ b ∷ [] }
@@ -215,6 +253,40 @@ fn put_ends(array: &mut [u8; MOST], bytes: &[u8], count: usize)
     let len = bytes.len();
     array[..count].copy_from_slice(&bytes[..count]);
     array[len - count..len].copy_from_slice(&bytes[len - count..]);
+}
+
+// The eight bytes from a place on, as a number.
+#[inline(always)]
+fn eight_from(bytes: &[u8], from: usize) -> u64
+    requires { from + 8 ≤ length bytes.now }
+    ensures { to_le_bytes w64 result ≡ slice_range bytes.now from (from + 8) }
+{
+    word(bytes[from..].first_chunk::<8>().unwrap())
+}
+
+// The eight bytes up to a place, as a number: zeros stand before the first byte.
+#[inline(always)]
+fn eight_up_to(bytes: &[u8], to: usize) -> u64
+    requires some { 0 < to }
+    requires within { to ≤ length bytes.now }
+    requires eight { 8 ≤ length bytes.now }
+    ensures { to_le_bytes w64 result ≡ drop to (replicate 8 0 ++ take to bytes.now) }
+{
+    if 8 <= to {
+        eight_from(bytes, to - 8)
+    } else {
+        eight_from(bytes, 0) << (8 * (8 - to))
+    }
+}
+
+// The last so many of a number's bytes, and zeros behind them.
+#[inline(always)]
+fn last_of(number: u64, count: usize) -> u64
+    requires some { 0 < count }
+    requires most { count ≤ 8 }
+    ensures { take count (to_le_bytes w64 result) ≡ drop (8 - count) (to_le_bytes w64 number) }
+{
+    number >> (8 * (8 - count))
 }
 
 // Whether these are the same bytes: the first eight are, and the last eight.

@@ -47,6 +47,7 @@ impl Drop for Spelling {
 
 impl Spelling {
     /// The bytes from one place up to another: a copy of few, and more are shared.
+    #[inline(always)]
     pub fn new(
         alloc: Global,
         bytes: &Excerpt,
@@ -57,10 +58,11 @@ impl Spelling {
         requires within { to ≤ length bytes.now }
         ensures { IfOk result (λ spelling. spelling ≡ slice_range bytes.now from to) }
     {
-        match Short::new(&bytes.as_bytes()[from..to]) {
-            Some(short) => Ok(Spelling::short(short)),
-            None => Spelling::part(alloc, bytes, from, to),
+        if let Some(short) = Short::cut(bytes.as_bytes(), from, to) {
+            return Ok(Spelling::short(short));
         }
+        let spelling = Spelling::part(alloc, bytes, from, to)?;
+        Ok(spelling)
     }
 
     /// This byte.
@@ -107,7 +109,10 @@ impl Spelling {
     {
         match &self.form {
             Form::Short(short) => Ok(Spelling::short(short.copied().folded())),
-            form => Spelling::folded_apart(alloc, form.as_bytes()),
+            form => {
+                let spelling = Spelling::folded_apart(alloc, form.as_bytes())?;
+                Ok(spelling)
+            }
         }
     }
 
