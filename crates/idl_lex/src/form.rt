@@ -158,12 +158,14 @@ impl Short {
         requires { count ≤ 14 }
         ensures { result ≡ take count (to_le_bytes w64 front ++ to_le_bytes w64 back) }
     {
-        let mut bytes = [0; MOST];
-        *bytes.first_chunk_mut::<8>().unwrap() = front.to_le_bytes();
-        *bytes.last_chunk_mut::<6>().unwrap() = *back.to_le_bytes().first_chunk::<6>().unwrap();
+        let back = back.to_le_bytes();
         Short {
             count: count as u8,
-            bytes,
+            bytes: by_pieces(
+                &front.to_le_bytes(),
+                back.first_chunk::<4>().unwrap(),
+                back[4..].first_chunk::<2>().unwrap(),
+            ),
         }
     }
 
@@ -207,12 +209,17 @@ impl Short {
     }
 
     /// The same bytes again.
+    #[inline(always)]
     pub fn copied(&self) -> Short
         ensures { result ≡ self.now }
     {
         Short {
             count: self.count,
-            bytes: self.bytes,
+            bytes: by_pieces(
+                self.bytes.first_chunk::<8>().unwrap(),
+                self.bytes[8..].first_chunk::<4>().unwrap(),
+                self.bytes.last_chunk::<2>().unwrap(),
+            ),
         }
     }
 
@@ -241,6 +248,18 @@ impl Short {
         self.bytes.make_ascii_lowercase();
         self
     }
+}
+
+// An array by pieces that are numbers to the machine: it is moved without being written to memory and read again.
+#[inline(always)]
+fn by_pieces(front: &[u8; 8], middle: &[u8; 4], back: &[u8; 2]) -> [u8; MOST]
+    ensures { result ≡ front.now ++ middle.now ++ back.now }
+{
+    let mut bytes = [0; MOST];
+    bytes[..8].copy_from_slice(front);
+    bytes[8..12].copy_from_slice(middle);
+    bytes[12..].copy_from_slice(back);
+    bytes
 }
 
 // Puts in few bytes: so many of the first ones, and so many of the last ones, which are all of them.
