@@ -209,17 +209,12 @@ impl Short {
     }
 
     /// The same bytes again.
-    #[inline(always)]
     pub fn copied(&self) -> Short
         ensures { result ≡ self.now }
     {
         Short {
             count: self.count,
-            bytes: by_pieces(
-                self.bytes.first_chunk::<8>().unwrap(),
-                self.bytes[8..].first_chunk::<4>().unwrap(),
-                self.bytes.last_chunk::<2>().unwrap(),
-            ),
+            bytes: self.bytes,
         }
     }
 

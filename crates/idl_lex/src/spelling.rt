@@ -128,7 +128,6 @@ impl Spelling {
     }
 
     /// What stands after its first byte, if it has one.
-    #[inline(never)]
     pub(crate) fn unescaped(&self) -> Result<Option<Spelling>, AllocError>
         ensures { IfOk result (λ name. name ≡ unescaped self.now) }
     {
@@ -193,7 +192,7 @@ impl Spelling {
 impl Clone for Spelling {
     ghost is_clone = { λ spelling copy. copy ≡ spelling };
 
-    #[inline(always)]
+    #[inline]
     fn clone(&self) -> Result<Spelling, AllocError> {
         match &self.form {
             Form::Short(short) => Ok(Spelling::short(short.copied())),

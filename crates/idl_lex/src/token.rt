@@ -110,7 +110,6 @@ impl Token {
     }
 
     /// Its name, as `name` gives it, shared.
-    #[inline(always)]
     pub fn shared_name(&self) -> Result<Option<Spelling>, AllocError>
         ensures { IfOk result (λ name. name ≡ name_of self.now) }
     {
