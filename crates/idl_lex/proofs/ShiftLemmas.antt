@@ -54,6 +54,7 @@ drop-bytes : (i j k m all n : ℕ) → j ≡ i + k → all ≡ k + m → drop k 
 drop-bytes i j zero m all n at whole = λ t. bytes_low_first (i≡j t) (all≡m t) n where
   i≡j : i ≡ j
   i≡j = omega (arith, at)
+
   all≡m : all ≡ m
   all≡m = omega (arith, whole)
 drop-bytes i j (suc k) m zero n at whole = absurd (omega (arith, whole))

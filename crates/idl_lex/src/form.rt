@@ -1,6 +1,6 @@
 //! The forms in which the bytes of a spelling are held: few in place, and more in shared bytes.
 
-ghost use Rattle.std.specs.Prelude.{◌≡◌, ◌≤◌, ◌<◌, ◌∷◌, ◌↔◌, ◌*◌, ◌++◌, ◌+◌, ◌-◌, [], IfNone, IfOk, IfSome, IsTrue, drop, length, replicate, slice_range, take};
+ghost use Rattle.std.specs.Prelude.{◌≡◌, ◌≤◌, ◌<◌, ◌∷◌, ◌↔◌, ◌*◌, ◌++◌, ◌+◌, ◌-◌, [], IfNone, IfOk, IfSome, IsTrue, drop, length, slice_range, take, ℕ};
 ghost use Rattle.std.specs.Int.{to_le_bytes, w64};
 ghost use Rattle.std.specs.Rc.{rc_slice_items};
 ghost use Rattle.idl_lex.specs.Form.{IsWithin, form_bytes};
@@ -273,18 +273,19 @@ fn put_ends(array: &mut [u8; MOST], bytes: &[u8], count: usize)
 #[inline(always)]
 fn eight_from(bytes: &[u8], from: usize) -> u64
     requires { from + 8 ≤ length bytes.now }
-    ensures { to_le_bytes w64 result ≡ slice_range bytes.now from (from + 8) }
+    ensures { to_le_bytes w64 result ≡ take 8 (drop from bytes.now) }
 {
     word(bytes[from..].first_chunk::<8>().unwrap())
 }
 
-// The eight bytes up to a place, as a number: zeros stand before the first byte.
+// Eight bytes as a number, of which the last ones are those up to a place: eight of them, or all from the first byte on.
 #[inline(always)]
 fn eight_up_to(bytes: &[u8], to: usize) -> u64
     requires some { 0 < to }
     requires within { to ≤ length bytes.now }
     requires eight { 8 ≤ length bytes.now }
-    ensures { to_le_bytes w64 result ≡ drop to (replicate 8 0 ++ take to bytes.now) }
+    ensures { (count : ℕ) → count ≤ to → count ≤ 8 →
+        drop (8 - count) (to_le_bytes w64 result) ≡ take count (drop (to - count) bytes.now) }
 {
     if 8 <= to {
         eight_from(bytes, to - 8)
@@ -293,7 +294,7 @@ fn eight_up_to(bytes: &[u8], to: usize) -> u64
     }
 }
 
-// The last so many of a number's bytes, and zeros behind them.
+// The last so many bytes of a number, and zeros behind them.
 #[inline(always)]
 fn last_of(number: u64, count: usize) -> u64
     requires some { 0 < count }
