@@ -129,22 +129,18 @@ impl Short {
         Some(Short::of(bytes))
     }
 
-    /// The bytes from one place up to another, if they are few.
+    /// The bytes from one place up to another, if they are few and some, and eight bytes or more stand before the end.
     #[inline(always)]
     pub fn cut(bytes: &[u8], from: usize, to: usize) -> Option<Short>
         requires order { from ≤ to }
         requires within { to ≤ length bytes.now }
-        ensures same { IfSome result (λ short. short ≡ slice_range bytes.now from to) }
-        ensures few { IfNone result (14 < to - from) }
+        ensures { IfSome result (λ short. short ≡ slice_range bytes.now from to) }
     {
         let count = to - from;
-        if count > MOST {
+        if count == 0 || count > MOST || to < 8 {
             return None;
         }
-        if count == 0 || bytes.len() < 8 {
-            return Some(Short::of(&bytes[from..to]));
-        }
-        let last = eight_up_to(bytes, to);
+        let last = eight_from(bytes, to - 8);
         if count <= 8 {
             return Some(Short::joined(count, last_of(last, count), 0));
         }
@@ -276,22 +272,6 @@ fn eight_from(bytes: &[u8], from: usize) -> u64
     ensures { to_le_bytes w64 result ≡ take 8 (drop from bytes.now) }
 {
     word(bytes[from..].first_chunk::<8>().unwrap())
-}
-
-// Eight bytes as a number, of which the last ones are those up to a place: eight of them, or all from the first byte on.
-#[inline(always)]
-fn eight_up_to(bytes: &[u8], to: usize) -> u64
-    requires some { 0 < to }
-    requires within { to ≤ length bytes.now }
-    requires eight { 8 ≤ length bytes.now }
-    ensures { (count : ℕ) → count ≤ to → count ≤ 8 →
-        drop (8 - count) (to_le_bytes w64 result) ≡ take count (drop (to - count) bytes.now) }
-{
-    if 8 <= to {
-        eight_from(bytes, to - 8)
-    } else {
-        eight_from(bytes, 0) << (8 * (8 - to))
-    }
 }
 
 // The last so many bytes of a number, and zeros behind them.
