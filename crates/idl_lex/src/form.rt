@@ -247,10 +247,19 @@ fn by_pieces(front: &[u8; 8], middle: &[u8; 4], back: &[u8; 2]) -> [u8; MOST]
     ensures { result ≡ front.now ++ middle.now ++ back.now }
 {
     let mut bytes = [0; MOST];
-    bytes[..8].copy_from_slice(front);
-    bytes[8..12].copy_from_slice(middle);
-    bytes[12..].copy_from_slice(back);
+    put_piece(&mut bytes, 0, front);
+    put_piece(&mut bytes, 8, middle);
+    put_piece(&mut bytes, 12, back);
     bytes
+}
+
+// Puts in a piece at a place, behind those before it.
+#[inline(always)]
+fn put_piece(array: &mut [u8; MOST], at: usize, piece: &[u8])
+    requires { at + length piece.now ≤ 14 }
+    ensures { take (at + length piece.now) array.new ≡ take at array.old ++ piece.now }
+{
+    array[at..at + piece.len()].copy_from_slice(piece);
 }
 
 // Puts in few bytes: so many of the first ones, and so many of the last ones, which are all of them.

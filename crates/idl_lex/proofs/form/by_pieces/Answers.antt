@@ -1,0 +1,18 @@
+use Rattle.std.proofs.Common.{◌≡◌, ◌∙◌, ◌+◌, ◌++◌, ap, arith, length, sym, take}
+use Rattle.std.proofs.lemmas.List.{take_all}
+use Rattle.idl_lex.proofs.form.by_pieces.Goals as goal
+
+pub returns : goal.returns
+returns c =
+    let front = c.args.front.now in
+    let middle = c.args.middle.now in
+    let back = c.args.back.now in
+    let one = c.put_piece.new.array in
+    let two = c.put_piece-2.new.array in
+    let three = c.put_piece-3.new.array in
+    let first : take 8 one ≡ front = ap (λ n. take n one) (omega (arith, c.fits-front.0)) ∙ c.put_piece.ensures in
+    let second : take 12 two ≡ take 8 one ++ middle = ap (λ n. take n two) (omega (arith, c.fits-middle.0)) ∙ c.put_piece-2.ensures in
+    let third : take 14 three ≡ take 12 two ++ back = ap (λ n. take n three) (omega (arith, c.fits-back.0)) ∙ c.put_piece-3.ensures in
+    sym (take_all 14 three (omega arith))
+    ∙ third
+    ∙ ap (λ bs. bs ++ back) (second ∙ ap (λ bs. bs ++ middle) first)
