@@ -2,6 +2,7 @@ use Rattle.std.proofs.Common.{◌≡◌, ◌∙◌, ◌+◌, ◌++◌, ap, arith
 use Rattle.std.proofs.lemmas.List.{take_all}
 use Rattle.idl_lex.proofs.form.by_pieces.Goals as goal
 
+-- each piece stands behind those before it, and the last one ends where the array does
 pub returns : goal.returns
 returns c =
     let front = c.args.front.now in
@@ -10,9 +11,12 @@ returns c =
     let one = c.put_piece.new.array in
     let two = c.put_piece-2.new.array in
     let three = c.put_piece-3.new.array in
-    let first : take 8 one ≡ front = ap (λ n. take n one) (omega (arith, c.fits-front.0)) ∙ c.put_piece.ensures in
-    let second : take 12 two ≡ take 8 one ++ middle = ap (λ n. take n two) (omega (arith, c.fits-middle.0)) ∙ c.put_piece-2.ensures in
-    let third : take 14 three ≡ take 12 two ++ back = ap (λ n. take n three) (omega (arith, c.fits-back.0)) ∙ c.put_piece-3.ensures in
+    let to_middle : 8 ≡ 0 + length front = omega (arith, c.fits-front.0) in
+    let to_back : 12 ≡ 8 + length middle = omega (arith, c.fits-middle.0) in
+    let to_end : 14 ≡ 12 + length back = omega (arith, c.fits-back.0) in
+    let first : take 8 one ≡ front = ap (λ n. take n one) to_middle ∙ c.put_piece.ensures in
+    let second : take 12 two ≡ take 8 one ++ middle = ap (λ n. take n two) to_back ∙ c.put_piece-2.ensures in
+    let third : take 14 three ≡ take 12 two ++ back = ap (λ n. take n three) to_end ∙ c.put_piece-3.ensures in
     sym (take_all 14 three (omega arith))
     ∙ third
     ∙ ap (λ bs. bs ++ back) (second ∙ ap (λ bs. bs ++ middle) first)
