@@ -141,26 +141,26 @@ impl Short {
             return None;
         }
         let last = eight_from(bytes, to - 8);
-        if count <= 8 {
-            return Some(Short::joined(count, last_of(last, count), 0));
+        if count <= 6 {
+            let front = last_of(last, count).to_le_bytes();
+            return Some(Short::joined(count, front.first_chunk::<6>().unwrap(), 0));
         }
-        let front = eight_from(bytes, from);
-        Some(Short::joined(count, front, last_of(last, count - 8)))
+        let front = bytes[from..].first_chunk::<6>().unwrap();
+        Some(Short::joined(count, front, last_of(last, count - 6)))
     }
 
-    // So many bytes: those of one number, and then those of another.
+    // So many bytes: six of them, and then those of a number.
     #[inline(always)]
-    fn joined(count: usize, front: u64, back: u64) -> Short
+    fn joined(count: usize, front: &[u8; 6], back: u64) -> Short
         requires { count ≤ 14 }
-        ensures { result ≡ take count (to_le_bytes w64 front ++ to_le_bytes w64 back) }
+        ensures { result ≡ take count (front.now ++ to_le_bytes w64 back) }
     {
-        let back = back.to_le_bytes();
         Short {
             count: count as u8,
             bytes: by_pieces(
-                &front.to_le_bytes(),
-                back.first_chunk::<4>().unwrap(),
-                back[4..].first_chunk::<2>().unwrap(),
+                front.first_chunk::<2>().unwrap(),
+                front.last_chunk::<4>().unwrap(),
+                &back.to_le_bytes(),
             ),
         }
     }
@@ -241,15 +241,16 @@ impl Short {
     }
 }
 
-// An array by pieces that are numbers to the machine: it is moved without being written to memory and read again.
+// An array by pieces that are numbers to the machine, each at a place that is a multiple of its size where a form has it: so
+// it is moved without being written to memory and read again.
 #[inline(always)]
-fn by_pieces(front: &[u8; 8], middle: &[u8; 4], back: &[u8; 2]) -> [u8; MOST]
+fn by_pieces(front: &[u8; 2], middle: &[u8; 4], back: &[u8; 8]) -> [u8; MOST]
     ensures { result ≡ front.now ++ middle.now ++ back.now }
 {
     let mut bytes = [0; MOST];
     put_piece(&mut bytes, 0, front);
-    put_piece(&mut bytes, 8, middle);
-    put_piece(&mut bytes, 12, back);
+    put_piece(&mut bytes, 2, middle);
+    put_piece(&mut bytes, 6, back);
     bytes
 }
 
