@@ -1,5 +1,5 @@
 -- The bytes of a number that is shifted by whole bytes.
-use Rattle.std.proofs.Common.{◌≡◌, ◌∙◌, ◌≤◌, ◌<◌, ◌+◌, ◌-◌, ◌*◌, ◌/◌, ◌%◌, ◌^◌, ℕ, zero, suc, List, [], ◌∷◌, drop, take, refl, sym, ap, arith}
+use Rattle.std.proofs.Common.{◌≡◌, ◌∙◌, ◌≤◌, ◌+◌, ◌-◌, ◌*◌, ◌/◌, ◌%◌, ◌^◌, ℕ, zero, suc, ◌∷◌, drop, take, refl, sym, ap, arith}
 use Rattle.std.proofs.Math.Nat.{div-one, div-div-eq-div-mul, pow-suc}
 use Rattle.std.proofs.lemmas.Nat.{pow-add}
 use Rattle.std.specs.Int.{byte_at, bytes_low_first, to_le_bytes, w64}

@@ -1,4 +1,4 @@
-use Rattle.std.proofs.Common.{◌≡◌, ◌∙◌, ◌+◌, ◌-◌, ◌++◌, ap, arith, length, take}
+use Rattle.std.proofs.Common.{◌∙◌, ◌+◌, ◌-◌, ◌++◌, ap, arith, length, take}
 use Rattle.std.proofs.lemmas.Slice.{take-put_mid}
 use Rattle.idl_lex.proofs.form.put_piece.Goals as goal
 

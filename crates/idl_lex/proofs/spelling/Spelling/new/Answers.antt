@@ -1,4 +1,4 @@
-use Rattle.std.proofs.Common.{◌≡◌, ◌∙◌, ◌≤◌, ◌+◌, ap, length, slice_range, subst, sym}
+use Rattle.std.proofs.Common.{◌∙◌, ◌≤◌, ◌+◌, ap, length, slice_range, subst, sym}
 use Rattle.std.specs.Rc.{rc_slice_items}
 use Rattle.idl_lex.proofs.FormLemmas.{part-of_part}
 use Rattle.idl_lex.proofs.spelling.Spelling.new.Goals as goal
