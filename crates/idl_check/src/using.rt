@@ -14,7 +14,7 @@ use crate::codes::first_code;
 use crate::types::{is_incomplete, may_switch};
 use idl_event::Code;
 use idl_lex::Spelling;
-use idl_scope::{Addition, Entity, Facts, Kind, NameCode, Path, Scope, folded_name};
+use idl_scope::{Addition, Entity, Facts, Kind, NameCode, Path, Scope};
 use idl_site::Use;
 use idl_tree::ScopedName;
 use idl_value::Target;
@@ -168,9 +168,9 @@ pub fn introduce(
 fn folded_first(alloc: Global, used: Denoting<'_>) -> Result<Spelling, AllocError>
     ensures { IfOk result (λ first. first ≡ folded used.entry.name.now.first) }
 {
-    let first = used.name.first.as_bytes();
-    if used.path.name() == first {
+    let first = &used.name.first;
+    if used.path.name() == first.as_bytes() {
         return used.path.folded(alloc);
     }
-    folded_name(alloc, first)
+    first.to_folded(alloc)
 }

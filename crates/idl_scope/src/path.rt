@@ -12,7 +12,7 @@ ghost use Rattle.idl_scope.specs.Digest.{path_digest, under};
 ghost use Rattle.idl_scope.specs.Path.{name_of, path_eq, path_of, same_path, scope_of};
 
 use crate::digest::under;
-use crate::name::{folded_name, shared_name};
+use crate::name::shared_name;
 use idl_base::Datum;
 use idl_lex::Spelling;
 use std::alloc::{AllocError, Global};
@@ -110,7 +110,7 @@ impl Path {
     pub fn child(&self, alloc: Global, name: &Spelling) -> Result<Path, AllocError>
         ensures { IfOk result (λ path. path ≡ name.now ∷ self.now) }
     {
-        let folded_name = folded_name(alloc, name.as_bytes())?;
+        let folded_name = name.to_folded(alloc)?;
         let digest = under(self.digest(), folded_name.as_bytes());
         let name = name.clone()?;
         let around = self.innermost.clone()?;
