@@ -8,6 +8,7 @@ use crate::answer::Answer;
 use crate::digest::{identified, introduced};
 use crate::digested::DigestedKey;
 use crate::entity::Entity;
+use crate::held_key::HeldKey;
 use crate::identity::{Identity, Prefix};
 use crate::key::Key;
 use crate::kind::Kind;
@@ -76,34 +77,36 @@ impl Addition {
         ensures { IfOk result (λ key. key ≡ key_of self.now) }
     {
         let key = match self {
-            Addition::Declares(entity) => {
-                let path = entity.get().path();
-                Key::Declared(path.folded(alloc)?, path.scope()?)
-            }
+            Addition::Declares(entity) => HeldKey::of_entity(alloc, entity.get().path())?,
             Addition::Uses(name, path, body) => {
-                Key::Introduced(name.clone()?, path.clone()?, *body)
+                HeldKey::whole(alloc, Key::Introduced(name.clone()?, path.clone()?, *body))?
             }
             Addition::Appears(path, _) | Addition::Identifies(path, _) => {
-                Key::IdOf(path.clone()?)
+                HeldKey::id_of(alloc, path.clone()?)?
             }
         };
         Ok(DigestedKey::known(digest, key))
     }
 
     /// The key whose answer it changes, and the answer that it leaves there.
-    pub(crate) fn into_entry(self, alloc: Global) -> Result<(Key, Answer), AllocError>
+    pub(crate) fn into_entry(self, alloc: Global) -> Result<(HeldKey, Answer), AllocError>
         ensures key { IfOk result (λ entry. entry.0 ≡ key_of self) }
         ensures answer { IfOk result (λ entry. entry.1 ≡ answer_of self) }
     {
         Ok(match self {
             Addition::Declares(entity) => {
-                let path = entity.get().path();
-                let key = Key::Declared(path.folded(alloc)?, path.scope()?);
+                let key = HeldKey::of_entity(alloc, entity.get().path())?;
                 (key, Answer::Known(entity))
             }
-            Addition::Uses(name, path, body) => (Key::Introduced(name, path, body), Answer::Used),
-            Addition::Appears(path, prefix) => (Key::IdOf(path), Answer::Appeared(prefix)),
-            Addition::Identifies(path, identity) => (Key::IdOf(path), Answer::Identified(identity)),
+            Addition::Uses(name, path, body) => {
+                (HeldKey::whole(alloc, Key::Introduced(name, path, body))?, Answer::Used)
+            }
+            Addition::Appears(path, prefix) => {
+                (HeldKey::id_of(alloc, path)?, Answer::Appeared(prefix))
+            }
+            Addition::Identifies(path, identity) => {
+                (HeldKey::id_of(alloc, path)?, Answer::Identified(identity))
+            }
         })
     }
 

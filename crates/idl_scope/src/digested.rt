@@ -7,12 +7,13 @@ ghost use Rattle.idl_scope.specs.Key.{key_digest, key_eq, same_key};
 ghost use Rattle.idl_scope.specs.contracts.key.KeyOrd.TheImpl.{ghosts as own_order};
 ghost use Rattle.idl_scope.specs.declared.key.Key.TheVariants.{Declared};
 
+use crate::held_key::HeldKey;
 use crate::key::Key;
 use crate::path::Path;
+use crate::digest::opened;
 use idl_base::Datum;
-use idl_lex::Spelling;
 use idl_map::Digest;
-use std::alloc::AllocError;
+use std::alloc::{AllocError, Global};
 use std::cmp::Ordering;
 use std::marker::Model;
 
@@ -22,7 +23,7 @@ use std::marker::Model;
 #[derive(Drop)]
 pub struct DigestedKey {
     digest: u64,
-    key: Key,
+    key: HeldKey,
 }
 
 impl Model for DigestedKey {
@@ -38,37 +39,48 @@ impl Model for DigestedKey {
 }
 
 impl DigestedKey {
-    /// The key, with its digest.
-    pub fn of(key: Key) -> DigestedKey
-        ensures { result ≡ key }
+    /// The open scopes.
+    pub fn cursor() -> DigestedKey
     {
-        let digest = key.digest();
-        DigestedKey { digest, key }
+        DigestedKey { digest: Key::Cursor.digest(), key: HeldKey::Cursor }
     }
 
-    /// What a folded name is declared as in the scope at a path, with the digest of the name there.
-    #[tactic(auto, unfolding(crate::specs::Key::key_digest))]
-    pub(crate) fn declared(digest: u64, name: Spelling, scope: Path) -> DigestedKey
-        requires { digest ≡ under (path_digest scope) name }
-        ensures { result ≡ Declared name scope }
+    /// How many nameless scopes were opened.
+    pub fn nameless() -> DigestedKey
     {
-        let key = Key::Declared(name, scope);
-        DigestedKey { digest, key }
+        DigestedKey { digest: Key::Nameless.digest(), key: HeldKey::Nameless }
     }
-}
 
-impl DigestedKey {
+    /// The prefix in force.
+    pub fn prefix() -> DigestedKey
+    {
+        DigestedKey { digest: Key::Prefix.digest(), key: HeldKey::Prefix }
+    }
+
+    /// How many bodies of the scope at a path were opened.
+    pub fn opened(alloc: Global, path: &Path) -> Result<DigestedKey, AllocError>
+    {
+        let digest = opened(path.digest());
+        let key = HeldKey::opened(alloc, path.clone()?)?;
+        Ok(DigestedKey { digest, key })
+    }
+
+    /// What is asked of the entity at a path: its own name, folded, in the scope around.
+    pub fn of_entity(alloc: Global, path: &Path) -> Result<DigestedKey, AllocError>
+    {
+        let digest = path.entity_digest();
+        let key = HeldKey::of_entity(alloc, path)?;
+        Ok(DigestedKey { digest, key })
+    }
+
     /// The key, where its digest is known.
-    pub(crate) fn known(digest: u64, key: Key) -> DigestedKey
-        requires { digest ≡ key_digest key }
-        ensures { result ≡ key }
+    pub(crate) fn known(digest: u64, key: HeldKey) -> DigestedKey
     {
         DigestedKey { digest, key }
     }
 
     /// The key alone.
-    pub(crate) fn key(&self) -> &Key
-        ensures { result.now ≡ self.now }
+    pub(crate) fn held(&self) -> &HeldKey
     {
         &self.key
     }
@@ -95,7 +107,7 @@ impl PartialEq for DigestedKey {
     fn eq(&self, other: &DigestedKey) -> bool
         ensures { result ≡ key_eq self.now other.now }
     {
-        self.digest == other.digest && are_one(&self.key, &other.key)
+        self.digest == other.digest && self.key.is_one_with(&other.key)
     }
 }
 
@@ -126,7 +138,7 @@ impl Ord for DigestedKey {
         ensures { result ≡ key_cmp self.now other.now }
     {
         match self.digest.cmp(&other.digest) {
-            Ordering::Equal => order_of(&self.key, &other.key),
+            Ordering::Equal => self.key.order(&other.key),
             order => order,
         }
     }
@@ -146,21 +158,3 @@ impl Digest for DigestedKey {
     }
 }
 
-// Whether keys of one digest are one. It stands apart, since most keys that are compared differ in their digests.
-#[inline(never)]
-fn are_one(key: &Key, other: &Key) -> bool
-    ensures { result ≡ key_eq key.now other.now }
-{
-    key == other
-}
-
-// Which of two keys of one digest comes first. Most of them are one, which is told sooner than an order.
-#[inline(never)]
-fn order_of(key: &Key, other: &Key) -> Ordering
-    ensures { result ≡ own_order.cmp key.now other.now }
-{
-    if key == other {
-        return Ordering::Equal;
-    }
-    key.cmp(other)
-}

@@ -10,6 +10,7 @@ ghost use Rattle.idl_scope.specs.declared.key.Key.TheVariants as keys;
 use crate::addition::Addition;
 use crate::digest::{identified, introduced, under};
 use crate::digested::DigestedKey;
+use crate::held_key::HeldKey;
 use crate::key::Key;
 use crate::path::Path;
 use idl_lex::Spelling;
@@ -176,18 +177,31 @@ impl<'a> LentKey<'a> {
         }
     }
 
-    // The key, made.
-    fn key(&self) -> Result<Key, AllocError>
-        ensures { IfOk result (λ key. key ≡ self.now) }
+    // Whether it is this key, as it is held.
+    fn is_held(&self, key: &HeldKey) -> bool
     {
-        Ok(match &self.parts {
-            Parts::Declared(name, scope) => Key::Declared((**name).clone()?, (**scope).clone()?),
-            Parts::Entity(path) => Key::Declared(path.folded(self.alloc)?, path.scope()?),
-            Parts::Introduced(path, scope, body) => {
-                Key::Introduced(path.folded(self.alloc)?, (**scope).clone()?, *body)
+        match (&self.parts, key) {
+            (Parts::Declared(name, scope), HeldKey::Entity(named)) => named.is_found_at(name, scope),
+            (Parts::Entity(path), HeldKey::Entity(named)) => path.is_found_with_named(named),
+            (Parts::IdOf(path), HeldKey::IdOf(named)) => named.is_of(path),
+            (_, HeldKey::Whole(key)) => self.is_key(key),
+            _ => false,
+        }
+    }
+
+    // The key, made.
+    fn key(&self) -> Result<HeldKey, AllocError>
+    {
+        match &self.parts {
+            Parts::Declared(name, scope) => {
+                HeldKey::whole(self.alloc, Key::Declared((**name).clone()?, (**scope).clone()?))
             }
-            Parts::IdOf(path) => Key::IdOf((**path).clone()?),
-        })
+            Parts::Entity(path) => HeldKey::of_entity(self.alloc, path),
+            Parts::Introduced(path, scope, body) => {
+                HeldKey::whole(self.alloc, Key::Introduced(path.folded(self.alloc)?, (**scope).clone()?, *body))
+            }
+            Parts::IdOf(path) => HeldKey::id_of(self.alloc, (**path).clone()?),
+        }
     }
 }
 
@@ -199,7 +213,7 @@ impl<'a> Lent<DigestedKey> for LentKey<'a> {
     }
 
     fn is(&self, other: &DigestedKey) -> bool {
-        self.digest == other.digest() && self.is_key(other.key())
+        self.digest == other.digest() && self.is_held(other.held())
     }
 
     fn owned(&self) -> Result<DigestedKey, AllocError> {

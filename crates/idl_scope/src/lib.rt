@@ -20,6 +20,7 @@ mod facts;
 mod fault;
 mod finds;
 mod found;
+mod held_key;
 mod identity;
 mod key;
 mod kind;

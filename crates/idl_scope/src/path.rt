@@ -286,6 +286,87 @@ impl Path {
     }
 }
 
+/// A path with a name: any but that of the global scope. It takes the memory of a pointer.
+#[derive(Drop)]
+pub(crate) struct NamedPath {
+    part: Rc<Part>,
+}
+
+impl Path {
+    /// The same path, if it has a name.
+    pub(crate) fn named(&self) -> Result<Option<NamedPath>, AllocError>
+    {
+        match &self.innermost {
+            None => Ok(None),
+            Some(part) => {
+                let part = part.clone()?;
+                Ok(Some(NamedPath { part }))
+            }
+        }
+    }
+
+    /// The same path, if it has a name.
+    pub(crate) fn into_named(self) -> Option<NamedPath>
+    {
+        match self.innermost {
+            None => None,
+            Some(part) => Some(NamedPath { part }),
+        }
+    }
+
+    /// Whether what stands at another path is found under the same folded name in the same scope.
+    pub(crate) fn is_found_with_named(&self, other: &NamedPath) -> bool
+    {
+        let part: &Part = &other.part;
+        self.has_folded(&part.folded_name) && self.is_below(&part.around)
+    }
+}
+
+impl NamedPath {
+    /// Whether what stands there is found under this folded name in the scope with that path.
+    pub(crate) fn is_found_at(&self, name: &Spelling, scope: &Path) -> bool
+    {
+        let part: &Part = &self.part;
+        *name == part.folded_name && are_one(&scope.innermost, &part.around)
+    }
+
+    /// Whether what stands at another path is found under the same folded name in the same scope.
+    pub(crate) fn is_found_with(&self, other: &NamedPath) -> bool
+    {
+        let mine: &Part = &self.part;
+        let theirs: &Part = &other.part;
+        mine.folded_name == theirs.folded_name && are_one(&mine.around, &theirs.around)
+    }
+
+    /// Whether another is the same.
+    pub(crate) fn is(&self, other: &NamedPath) -> bool
+    {
+        let mine: &Part = &self.part;
+        let theirs: &Part = &other.part;
+        begin_alike(mine, theirs) && are_one(&mine.around, &theirs.around)
+    }
+
+    /// Whether it is that path.
+    pub(crate) fn is_of(&self, path: &Path) -> bool
+    {
+        let mine: &Part = &self.part;
+        match &path.innermost {
+            None => false,
+            Some(shared) => {
+                let theirs: &Part = shared;
+                begin_alike(mine, theirs) && are_one(&mine.around, &theirs.around)
+            }
+        }
+    }
+
+    /// A copy.
+    pub(crate) fn clone(&self) -> Result<NamedPath, AllocError>
+    {
+        let part = self.part.clone()?;
+        Ok(NamedPath { part })
+    }
+}
+
 /// Names of a path that are lent: to every contract the list of them, from one of them on, the innermost first.
 #[derive(Drop)]
 pub struct Names<'a> {
