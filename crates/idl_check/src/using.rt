@@ -13,8 +13,7 @@ use crate::bases::Bases;
 use crate::codes::first_code;
 use crate::types::{is_incomplete, may_switch};
 use idl_event::Code;
-use idl_lex::Spelling;
-use idl_scope::{Addition, Entity, Facts, Kind, NameCode, Path, Scope, folded_name};
+use idl_scope::{Addition, Entity, Facts, Kind, NameCode, OwnName, Path, Scope};
 use idl_site::Use;
 use idl_tree::ScopedName;
 use idl_value::Target;
@@ -165,12 +164,11 @@ pub fn introduce(
 }
 
 // The first part of a name, folded. What stands under that very name has it folded already.
-fn folded_first(alloc: Global, used: Denoting<'_>) -> Result<Spelling, AllocError>
+fn folded_first(alloc: Global, used: Denoting<'_>) -> Result<OwnName, AllocError>
     ensures { IfOk result (λ first. first ≡ folded used.entry.name.now.first) }
 {
-    let first = used.name.first.as_bytes();
-    if used.path.name() == first {
-        return used.path.folded(alloc);
+    if used.path.name() == used.name.first.as_bytes() {
+        return OwnName::of(alloc, used.path);
     }
-    folded_name(alloc, first)
+    OwnName::new(alloc, &used.name.first)
 }

@@ -75,7 +75,7 @@ impl Env {
         if !innermost.kind.inherits() {
             return Ok(());
         }
-        let key = DigestedKey::of_entity(self.alloc(), &innermost.path)?;
+        let key = Key::of_entity(self.alloc(), &innermost.path)?;
         digests.push(key.digest())?;
         let Some(entity) = entity_in(self.answer(&key)) else {
             return Ok(());

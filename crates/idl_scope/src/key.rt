@@ -1,10 +1,16 @@
 //! What is asked about names.
 
+ghost use Rattle.std.specs.Prelude.{◌≡◌, IfOk};
+ghost use Rattle.idl_scope.specs.Facts.{entity_key};
+
 use crate::digest::{identified, introduced, opened, under};
+use crate::digested::DigestedKey;
+use crate::held_key::HeldKey;
 use crate::path::Path;
 use idl_base::Datum;
 use idl_lex::Spelling;
 use idl_map::Digest;
+use std::alloc::{AllocError, Global};
 
 /// What is asked of an environment.
 #[derive(Clone, PartialEq, Eq, PartialOrd, Ord)]
@@ -43,6 +49,17 @@ impl Datum for Key {
     ghost same = { same_key };
 
     ghost copy = { copied_key };
+}
+
+impl Key {
+    /// What is asked of the entity at a path: its own name, folded, in the scope around.
+    #[tactic(auto, unfolding(crate::specs::Key::key_digest))]
+    pub fn of_entity(alloc: Global, path: &Path) -> Result<DigestedKey, AllocError>
+        ensures { IfOk result (λ key. key ≡ entity_key path.now) }
+    {
+        let key = HeldKey::of_entity(alloc, path)?;
+        Ok(DigestedKey::known(path.entity_digest(), key))
+    }
 }
 
 impl Digest for Key {

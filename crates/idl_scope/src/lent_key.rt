@@ -3,6 +3,7 @@
 ghost use Rattle.std.specs.Prelude.{◌≡◌, IfOk};
 ghost use Rattle.idl_lex.specs.Keywords.{folded};
 ghost use Rattle.idl_scope.specs.Facts.{entity_key, key_of};
+ghost use Rattle.idl_scope.specs.HeldKey.{key_in};
 ghost use Rattle.idl_scope.specs.Key.{key_digest, key_eq};
 ghost use Rattle.idl_scope.specs.Path.{name_of};
 ghost use Rattle.idl_scope.specs.declared.key.Key.TheVariants as keys;
@@ -12,6 +13,7 @@ use crate::digest::{identified, introduced, under};
 use crate::digested::DigestedKey;
 use crate::held_key::HeldKey;
 use crate::key::Key;
+use crate::own_name::OwnName;
 use crate::path::Path;
 use idl_lex::Spelling;
 use idl_map::{Digest, Lent};
@@ -149,7 +151,7 @@ impl<'a> LentKey<'a> {
                 path.is_found_with(entity.get().path())
             }
             (Parts::Introduced(path, scope, body), Addition::Uses(name, other, number)) => {
-                path.has_folded(name) && **scope == *other && *body == *number
+                path.has_folded(name.spelling()) && **scope == *other && *body == *number
             }
             (Parts::IdOf(path), Addition::Appears(other, _) | Addition::Identifies(other, _)) => {
                 **path == *other
@@ -179,11 +181,19 @@ impl<'a> LentKey<'a> {
 
     // Whether it is this key, as it is held.
     fn is_held(&self, key: &HeldKey) -> bool
+        ensures { result ≡ key_eq self.now (key_in key.now) }
     {
         match (&self.parts, key) {
-            (Parts::Declared(name, scope), HeldKey::Entity(named)) => named.is_found_at(name, scope),
-            (Parts::Entity(path), HeldKey::Entity(named)) => path.is_found_with_named(named),
+            (Parts::Declared(name, scope), HeldKey::Entity(named)) => {
+                named.is_found_at(name, scope)
+            }
+            (Parts::Entity(path), HeldKey::Entity(named)) => named.is_found_as(path),
             (Parts::IdOf(path), HeldKey::IdOf(named)) => named.is_of(path),
+            (Parts::Introduced(path, scope, body), HeldKey::Introduced(number, name, named)) => {
+                path.has_folded(name.spelling())
+                    && named.is_of(scope)
+                    && *body == *number as usize
+            }
             (_, HeldKey::Whole(key)) => self.is_key(key),
             _ => false,
         }
@@ -191,16 +201,19 @@ impl<'a> LentKey<'a> {
 
     // The key, made.
     fn key(&self) -> Result<HeldKey, AllocError>
+        ensures { IfOk result (λ key. key_in key ≡ self.now) }
     {
+        let alloc = self.alloc;
         match &self.parts {
             Parts::Declared(name, scope) => {
-                HeldKey::whole(self.alloc, Key::Declared((**name).clone()?, (**scope).clone()?))
+                let key = Key::Declared((**name).clone()?, (**scope).clone()?);
+                HeldKey::whole(alloc, key)
             }
-            Parts::Entity(path) => HeldKey::of_entity(self.alloc, path),
+            Parts::Entity(path) => HeldKey::of_entity(alloc, path),
             Parts::Introduced(path, scope, body) => {
-                HeldKey::whole(self.alloc, Key::Introduced(path.folded(self.alloc)?, (**scope).clone()?, *body))
+                HeldKey::introduced(alloc, OwnName::of(alloc, path)?, (**scope).clone()?, *body)
             }
-            Parts::IdOf(path) => HeldKey::id_of(self.alloc, (**path).clone()?),
+            Parts::IdOf(path) => HeldKey::id_of(alloc, (**path).clone()?),
         }
     }
 }

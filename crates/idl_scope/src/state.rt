@@ -20,6 +20,7 @@ use crate::digested_addition::DigestedAddition;
 use crate::entity::Entity;
 use crate::facts::Facts;
 use crate::identity::Prefix;
+use crate::key::Key;
 use crate::kind::{Kind, Stage};
 use crate::lent_key::LentKey;
 use crate::name::shared_name;
@@ -297,7 +298,7 @@ fn put_closing(
     let Some(entity) = closing else {
         return Ok(());
     };
-    let key = DigestedKey::of_entity(alloc, entity.get().path())?;
+    let key = Key::of_entity(alloc, entity.get().path())?;
     let entity = entity.clone()?;
     answers.insert(alloc, key, Answer::Known(entity))?;
     Ok(())
