@@ -156,19 +156,9 @@ pub fn introduce(
     if scopes.is_empty() {
         return Ok(());
     }
-    let folded = folded_first(alloc, used)?;
+    let folded = OwnName::within(alloc, used.path, &used.name.first)?;
     for scope in scopes {
         own.add(Addition::Uses(folded.clone()?, scope.path.clone()?, scope.body))?;
     }
     Ok(())
-}
-
-// The first part of a name, folded. What stands under that very name has it folded already.
-fn folded_first(alloc: Global, used: Denoting<'_>) -> Result<OwnName, AllocError>
-    ensures { IfOk result (λ first. first ≡ folded used.entry.name.now.first) }
-{
-    if used.path.name() == used.name.first.as_bytes() {
-        return OwnName::of(alloc, used.path);
-    }
-    OwnName::new(alloc, &used.name.first)
 }

@@ -9,7 +9,7 @@ use Rattle.idl_scope.specs.declared.key.Key.TheVariants as key
 abbrev pub key_in : HeldKey → Key
 key_in Cursor = key.Cursor
 key_in (Entity path) = entity_key path
-key_in (Introduced body name path) = key.Introduced name path body
+key_in (Introduced name path) = key.Introduced name path 1
 key_in (Opened path) = key.Opened path
 key_in Nameless = key.Nameless
 key_in Prefix = key.Prefix

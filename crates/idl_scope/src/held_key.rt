@@ -22,8 +22,8 @@ pub(crate) enum HeldKey {
     Cursor,
     /// What the own name of what stands at a path, folded, is declared as in the scope around.
     Entity(NamedPath),
-    /// Whether a folded name was introduced into the body with this number of the scope at a path.
-    Introduced(u32, OwnName, NamedPath),
+    /// Whether a folded name was introduced into the first body of the scope at a path: most scopes have no other.
+    Introduced(OwnName, NamedPath),
     /// How many bodies of the scope at a path were opened.
     Opened(NamedPath),
     /// How many nameless scopes were opened.
@@ -41,7 +41,7 @@ impl Drop for HeldKey {
         match self {
             HeldKey::Cursor | HeldKey::Nameless | HeldKey::Prefix => {}
             HeldKey::Entity(_path) | HeldKey::Opened(_path) | HeldKey::IdOf(_path) => {}
-            HeldKey::Introduced(_body, _name, _path) => {}
+            HeldKey::Introduced(_name, _path) => {}
             HeldKey::Whole(_key) => {}
         }
     }
@@ -87,12 +87,12 @@ impl HeldKey {
     ) -> Result<HeldKey, AllocError>
         ensures { IfOk result (λ held. key_in held ≡ keys.Introduced name scope body) }
     {
-        let Ok(number) = u32::try_from(body) else {
+        if body != 1 {
             let key = Key::Introduced(name.spelling().clone()?, scope, body);
             return HeldKey::whole(alloc, key);
-        };
+        }
         match scope.into_named() {
-            Some(named) => Ok(HeldKey::Introduced(number, name, named)),
+            Some(named) => Ok(HeldKey::Introduced(name, named)),
             None => {
                 let key = Key::Introduced(name.spelling().clone()?, Path::global(), body);
                 HeldKey::whole(alloc, key)
@@ -116,8 +116,8 @@ impl HeldKey {
             | (Key::Nameless, HeldKey::Nameless)
             | (Key::Prefix, HeldKey::Prefix) => true,
             (Key::Declared(name, scope), HeldKey::Entity(path)) => path.is_found_at(name, scope),
-            (Key::Introduced(word, path, number), HeldKey::Introduced(body, name, named)) => {
-                *word == *name.spelling() && named.is_of(path) && *number == *body as usize
+            (Key::Introduced(word, path, body), HeldKey::Introduced(name, named)) => {
+                *word == *name.spelling() && named.is_of(path) && *body == 1
             }
             (Key::Opened(path), HeldKey::Opened(named)) => named.is_of(path),
             (Key::IdOf(path), HeldKey::IdOf(named)) => named.is_of(path),
@@ -135,12 +135,13 @@ impl HeldKey {
             | (HeldKey::Nameless, HeldKey::Nameless)
             | (HeldKey::Prefix, HeldKey::Prefix) => true,
             (HeldKey::Entity(path), HeldKey::Entity(same)) => path.is_found_with(same),
-            (HeldKey::Introduced(body, name, path), HeldKey::Introduced(number, word, same)) => {
-                name.is(word) && path.is(same) && *body == *number
+            (HeldKey::Introduced(name, path), HeldKey::Introduced(word, same)) => {
+                name.is(word) && path.is(same)
             }
             (HeldKey::Opened(path), HeldKey::Opened(same)) => path.is(same),
             (HeldKey::IdOf(path), HeldKey::IdOf(same)) => path.is(same),
-            (HeldKey::Whole(key), held) | (held, HeldKey::Whole(key)) => held.is(key),
+            (HeldKey::Whole(key), held) => held.is(key),
+            (held, HeldKey::Whole(key)) => held.is(key),
             _ => false,
         }
     }
@@ -159,8 +160,8 @@ impl HeldKey {
         match self {
             HeldKey::Cursor => Outline::bare(0),
             HeldKey::Entity(path) => Outline::named(1, path.folded_name().as_bytes(), path.around()),
-            HeldKey::Introduced(body, name, path) => {
-                Outline::numbered(2, name.spelling().as_bytes(), path.lent(), *body as usize)
+            HeldKey::Introduced(name, path) => {
+                Outline::numbered(2, name.spelling().as_bytes(), path.lent(), 1)
             }
             HeldKey::Opened(path) => Outline::at(3, path.lent()),
             HeldKey::Nameless => Outline::bare(4),
@@ -181,8 +182,8 @@ impl Clone for HeldKey {
         Ok(match self {
             HeldKey::Cursor => HeldKey::Cursor,
             HeldKey::Entity(path) => HeldKey::Entity(path.clone()?),
-            HeldKey::Introduced(body, name, path) => {
-                HeldKey::Introduced(*body, name.clone()?, path.clone()?)
+            HeldKey::Introduced(name, path) => {
+                HeldKey::Introduced(name.clone()?, path.clone()?)
             }
             HeldKey::Opened(path) => HeldKey::Opened(path.clone()?),
             HeldKey::Nameless => HeldKey::Nameless,

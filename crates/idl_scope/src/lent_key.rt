@@ -189,10 +189,8 @@ impl<'a> LentKey<'a> {
             }
             (Parts::Entity(path), HeldKey::Entity(named)) => named.is_found_as(path),
             (Parts::IdOf(path), HeldKey::IdOf(named)) => named.is_of(path),
-            (Parts::Introduced(path, scope, body), HeldKey::Introduced(number, name, named)) => {
-                path.has_folded(name.spelling())
-                    && named.is_of(scope)
-                    && *body == *number as usize
+            (Parts::Introduced(path, scope, body), HeldKey::Introduced(name, named)) => {
+                path.has_folded(name.spelling()) && named.is_of(scope) && *body == 1
             }
             (_, HeldKey::Whole(key)) => self.is_key(key),
             _ => false,

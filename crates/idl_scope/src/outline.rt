@@ -1,9 +1,11 @@
 //! What keys are made of, lent: by it keys of one digest come in order.
 
-ghost use Rattle.std.specs.Prelude.{◌≡◌, ◌∷◌, [], IfSome, None};
+ghost use Rattle.std.specs.Prelude.{◌≡◌, ◌∷◌, []};
 ghost use Rattle.std.specs.Cmp.Lexicographic.{slice_cmp};
+ghost use Rattle.std.specs.Option.{option_map};
 ghost use Rattle.std.specs.Ordering.{nat_cmp};
 ghost use Rattle.idl_scope.specs.Outline.{outline, outline_cmp};
+ghost use Rattle.idl_scope.specs.Path.{names_of};
 
 use crate::key::Key;
 use crate::names::Names;
@@ -78,7 +80,7 @@ impl<'a> Outline<'a> {
 
     /// A rank, and a name in front of others.
     pub(crate) fn named(rank: u8, name: &'a [u8], around: Names<'a>) -> Outline<'a>
-        ensures { result ≡ record { rank = rank; names = name.now ∷ around; body = 0 } }
+        ensures { result ≡ record { rank = rank; names = name.now ∷ around.entry; body = 0 } }
     {
         Outline::numbered(rank, name, around, 0)
     }
@@ -90,7 +92,7 @@ impl<'a> Outline<'a> {
         around: Names<'a>,
         body: usize,
     ) -> Outline<'a>
-        ensures { result ≡ record { rank = rank; names = name.now ∷ around; body = body } }
+        ensures { result ≡ record { rank = rank; names = name.now ∷ around.entry; body = body } }
     {
         let names = KeyNames {
             first: Some(name),
@@ -101,7 +103,7 @@ impl<'a> Outline<'a> {
 
     /// A rank, and the names of a path.
     pub(crate) fn at(rank: u8, path: Names<'a>) -> Outline<'a>
-        ensures { result ≡ record { rank = rank; names = path; body = 0 } }
+        ensures { result ≡ record { rank = rank; names = path.entry; body = 0 } }
     {
         let names = KeyNames {
             first: None,
@@ -132,8 +134,7 @@ impl<'a> Outline<'a> {
 impl<'a> KeyNames<'a> {
     // The first name, and those behind it; nothing where there is none.
     fn split_first(self) -> Option<(&'a [u8], KeyNames<'a>)>
-        ensures some { IfSome result (λ p. self.entry ≡ p.0.now ∷ p.1) }
-        ensures none { result ≡ None → self.entry ≡ [] }
+        ensures { names_of (option_map (λ p. (p.0.now, p.1)) result) ≡ self.entry }
     {
         let KeyNames { first, behind } = self;
         if let Some(name) = first {
@@ -153,6 +154,7 @@ impl<'a> KeyNames<'a> {
 }
 
 // Which of two lists of names comes first.
+#[tactic(auto, using(crate::proofs::PathLemmas::equal_first, crate::proofs::PathLemmas::unequal_first))]
 fn order_of(first: KeyNames<'_>, second: KeyNames<'_>) -> Ordering
     ensures { result ≡ slice_cmp (slice_cmp nat_cmp) first.entry second.entry }
 {

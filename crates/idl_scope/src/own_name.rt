@@ -28,8 +28,18 @@ impl Model for OwnName {
 }
 
 impl OwnName {
-    /// This name, folded.
-    pub fn new(alloc: Global, name: &Spelling) -> Result<OwnName, AllocError>
+    /// This name, folded. It is shared with a path, if one of the names of the path is spelled so.
+    pub fn within(alloc: Global, path: &Path, name: &Spelling) -> Result<OwnName, AllocError>
+        ensures { IfOk result (λ own. own ≡ folded name.now) }
+    {
+        match path.ending_in(name)? {
+            Some(path) => Ok(OwnName { path }),
+            None => OwnName::new(alloc, name),
+        }
+    }
+
+    // This name, folded.
+    fn new(alloc: Global, name: &Spelling) -> Result<OwnName, AllocError>
         ensures { IfOk result (λ own. own ≡ folded name.now) }
     {
         let path = NamedPath::child(alloc, &Path::global(), name)?;
@@ -37,7 +47,7 @@ impl OwnName {
     }
 
     /// The name of what stands at a path, folded.
-    pub fn of(alloc: Global, path: &Path) -> Result<OwnName, AllocError>
+    pub(crate) fn of(alloc: Global, path: &Path) -> Result<OwnName, AllocError>
         ensures { IfOk result (λ own. own ≡ folded (name_of path.now)) }
     {
         match path.named()? {

@@ -194,6 +194,21 @@ impl Path {
         }
     }
 
+    /// The path to the innermost of its names that is spelled so, if one is.
+    pub(crate) fn ending_in(&self, name: &Spelling) -> Result<Option<NamedPath>, AllocError>
+        ensures { IfOk result (λ named. IfSome named (λ path. name_of path ≡ name.now)) }
+    {
+        let mut link = &self.innermost;
+        'names: while let Some(shared) = link {
+            let part: &Part = shared;
+            if part.name == *name {
+                return Ok(Some(NamedPath::of(shared.clone()?)));
+            }
+            link = &part.around;
+        }
+        Ok(None)
+    }
+
     /// The same path, if it has a name.
     pub(crate) fn into_named(self) -> Option<NamedPath>
         ensures some { IfSome result (λ path. path ≡ self) }
