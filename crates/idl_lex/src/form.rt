@@ -129,7 +129,8 @@ impl Short {
         Some(Short::of(bytes))
     }
 
-    /// The bytes from one place up to another, if they are few and some, and eight bytes or more stand before the end.
+    /// The bytes from one place up to another, if they are few, but some, and end at the eighth byte or behind it: they are read
+    /// as numbers of eight bytes.
     #[inline(always)]
     pub fn cut(bytes: &[u8], from: usize, to: usize) -> Option<Short>
         requires order { from ≤ to }
@@ -241,8 +242,8 @@ impl Short {
     }
 }
 
-// An array by pieces that are numbers to the machine, each at a place that is a multiple of its size where a form has it: so
-// it is moved without being written to memory and read again.
+// An array by its pieces, each as large as a register can be, and at a multiple of its size in a form. So it is moved from
+// register to register, where an array that is copied whole goes through memory.
 #[inline(always)]
 fn by_pieces(front: &[u8; 2], middle: &[u8; 4], back: &[u8; 8]) -> [u8; MOST]
     ensures { result ≡ front.now ++ middle.now ++ back.now }

@@ -62,6 +62,7 @@ impl Spelling {
         if let Some(short) = Short::cut(block.as_slice(), begin + from, begin + to) {
             return Ok(Spelling::short(short));
         }
+        // Handed on as a local: as the last expression it would have few bytes go through memory too.
         let spelling = Spelling::apart(alloc, bytes, from, to)?;
         Ok(spelling)
     }
