@@ -65,7 +65,11 @@ impl Addition {
     {
         match self {
             Addition::Declares(entity) => entity.get().path().entity_digest(),
-            Addition::Uses(name, path, body) => introduced(path.digest(), name.spelling().as_bytes(), *body),
+            Addition::Uses(name, path, body) => introduced(
+                path.digest(),
+                name.spelling().as_bytes(),
+                *body,
+            ),
             Addition::Appears(path, _) | Addition::Identifies(path, _) => {
                 identified(path.digest())
             }

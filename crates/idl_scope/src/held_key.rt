@@ -52,7 +52,7 @@ impl HeldKey {
     pub(crate) fn of_entity(alloc: Global, path: &Path) -> Result<HeldKey, AllocError>
         ensures { IfOk result (λ held. key_in held ≡ entity_key path.now) }
     {
-        match path.named()? {
+        match path.clone()?.into_named() {
             Some(named) => Ok(HeldKey::Entity(named)),
             None => HeldKey::whole(alloc, Key::Declared(path.folded(alloc)?, Path::global())),
         }
@@ -126,6 +126,13 @@ impl HeldKey {
         }
     }
 
+    // The same, the other way round.
+    fn is_that(&self, key: &Key) -> bool
+        ensures { result ≡ key_eq (key_in self.now) key.now }
+    {
+        self.is(key)
+    }
+
     /// Whether another is the same key.
     pub(crate) fn is_one_with(&self, other: &HeldKey) -> bool
         ensures { result ≡ key_eq (key_in self.now) (key_in other.now) }
@@ -141,7 +148,7 @@ impl HeldKey {
             (HeldKey::Opened(path), HeldKey::Opened(same)) => path.is(same),
             (HeldKey::IdOf(path), HeldKey::IdOf(same)) => path.is(same),
             (HeldKey::Whole(key), held) => held.is(key),
-            (held, HeldKey::Whole(key)) => held.is(key),
+            (held, HeldKey::Whole(key)) => held.is_that(key),
             _ => false,
         }
     }
@@ -159,7 +166,11 @@ impl HeldKey {
     {
         match self {
             HeldKey::Cursor => Outline::bare(0),
-            HeldKey::Entity(path) => Outline::named(1, path.folded_name().as_bytes(), path.around()),
+            HeldKey::Entity(path) => Outline::named(
+                1,
+                path.folded_name().as_bytes(),
+                path.around(),
+            ),
             HeldKey::Introduced(name, path) => {
                 Outline::numbered(2, name.spelling().as_bytes(), path.lent(), 1)
             }
@@ -182,9 +193,7 @@ impl Clone for HeldKey {
         Ok(match self {
             HeldKey::Cursor => HeldKey::Cursor,
             HeldKey::Entity(path) => HeldKey::Entity(path.clone()?),
-            HeldKey::Introduced(name, path) => {
-                HeldKey::Introduced(name.clone()?, path.clone()?)
-            }
+            HeldKey::Introduced(name, path) => { HeldKey::Introduced(name.clone()?, path.clone()?) }
             HeldKey::Opened(path) => HeldKey::Opened(path.clone()?),
             HeldKey::Nameless => HeldKey::Nameless,
             HeldKey::Prefix => HeldKey::Prefix,

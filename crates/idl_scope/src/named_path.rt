@@ -35,7 +35,11 @@ impl NamedPath {
     }
 
     /// The path of a name in the scope with this path.
-    pub(crate) fn child(alloc: Global, scope: &Path, name: &Spelling) -> Result<NamedPath, AllocError>
+    pub(crate) fn child(
+        alloc: Global,
+        scope: &Path,
+        name: &Spelling,
+    ) -> Result<NamedPath, AllocError>
         ensures { IfOk result (λ path. path ≡ name.now ∷ scope.now) }
     {
         let part = Rc::new(alloc, scope.part_for(alloc, name)?)?;

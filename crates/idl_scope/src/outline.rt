@@ -86,12 +86,7 @@ impl<'a> Outline<'a> {
     }
 
     /// The same, and the number of a body.
-    pub(crate) fn numbered(
-        rank: u8,
-        name: &'a [u8],
-        around: Names<'a>,
-        body: usize,
-    ) -> Outline<'a>
+    pub(crate) fn numbered(rank: u8, name: &'a [u8], around: Names<'a>, body: usize) -> Outline<'a>
         ensures { result ≡ record { rank = rank; names = name.now ∷ around.entry; body = body } }
     {
         let names = KeyNames {

@@ -50,7 +50,7 @@ impl OwnName {
     pub(crate) fn of(alloc: Global, path: &Path) -> Result<OwnName, AllocError>
         ensures { IfOk result (λ own. own ≡ folded (name_of path.now)) }
     {
-        match path.named()? {
+        match path.clone()?.into_named() {
             Some(path) => Ok(OwnName { path }),
             None => OwnName::new(alloc, &path.spelling(alloc)?),
         }

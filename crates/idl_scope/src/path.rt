@@ -183,17 +183,6 @@ impl Path {
         &self.innermost
     }
 
-    /// The same path, if it has a name.
-    pub(crate) fn named(&self) -> Result<Option<NamedPath>, AllocError>
-        ensures some { IfOk result (λ named. IfSome named (λ path. path ≡ self.now)) }
-        ensures none { IfOk result (λ named. named ≡ None → self.now ≡ []) }
-    {
-        match &self.innermost {
-            None => Ok(None),
-            Some(part) => Ok(Some(NamedPath::of(part.clone()?))),
-        }
-    }
-
     /// The path to the innermost of its names that is spelled so, if one is.
     pub(crate) fn ending_in(&self, name: &Spelling) -> Result<Option<NamedPath>, AllocError>
         ensures { IfOk result (λ named. IfSome named (λ path. name_of path ≡ name.now)) }

@@ -142,8 +142,7 @@ impl State {
         let scopes = opened(alloc, scope, self.cursor())?;
         let prefix = self.prefix(alloc)?;
         self.answers.insert(alloc, key, Answer::Count(body))?;
-        self.answers
-            .insert(alloc, DigestedKey::cursor(), scopes)?;
+        self.answers.insert(alloc, DigestedKey::cursor(), scopes)?;
         self.inside.push(Seq::new(alloc))?;
         self.opened.push(alloc, prefix)?;
         Ok(())
@@ -191,11 +190,11 @@ impl State {
         let scopes = open_scopes(alloc, outer)?;
         let closing = self.closing(alloc, scope)?;
         put_closing(alloc, &mut self.answers, &closing)?;
-        self.answers
-            .insert(alloc, DigestedKey::cursor(), scopes)?;
+        self.answers.insert(alloc, DigestedKey::cursor(), scopes)?;
         leave(&mut self.inside);
         let prefix = taken_last(alloc, &mut self.opened)?;
-        self.answers.insert(alloc, DigestedKey::prefix(), Answer::InForce(prefix))?;
+        self.answers
+            .insert(alloc, DigestedKey::prefix(), Answer::InForce(prefix))?;
         Ok(())
     }
 
@@ -217,7 +216,8 @@ impl State {
         let text = text.clone()?;
         let scope = path_of_first(self.cursor())?;
         let prefix = Shared::new(alloc, Prefix { text, scope })?;
-        self.answers.insert(alloc, DigestedKey::prefix(), Answer::InForce(prefix))?;
+        self.answers
+            .insert(alloc, DigestedKey::prefix(), Answer::InForce(prefix))?;
         Ok(())
     }
 
@@ -238,7 +238,8 @@ impl State {
         ensures { OnOk result (held self.new ≡ after_step (held self.old) Leaves) }
     {
         let prefix = taken_last(alloc, &mut self.entered)?;
-        self.answers.insert(alloc, DigestedKey::prefix(), Answer::InForce(prefix))?;
+        self.answers
+            .insert(alloc, DigestedKey::prefix(), Answer::InForce(prefix))?;
         Ok(())
     }
 

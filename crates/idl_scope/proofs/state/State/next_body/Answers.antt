@@ -2,7 +2,6 @@ use Rattle.std.proofs.Common.{ap, ◌∙◌, ◌+◌}
 use Rattle.std.specs.Map.{lookup}
 use Rattle.idl_scope.specs.Facts.{count_in}
 use Rattle.idl_scope.specs.Key.{key_eq}
-use Rattle.idl_scope.specs.declared.key.Key.TheVariants.{Opened}
 use Rattle.idl_scope.proofs.state.State.next_body.Goals as goal
 
 pub returns : goal.returns
