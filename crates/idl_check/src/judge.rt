@@ -35,7 +35,7 @@ use idl_base::SharedText;
 use idl_event::Code;
 use idl_lex::Token;
 use idl_memo::Journal;
-use idl_scope::{DigestedKey, Env, Facts, Key, Path, Scope, Step, View, folded_name};
+use idl_scope::{DigestedKey, Env, Facts, Path, Scope, Step, View, folded_name};
 use idl_site::{Site, sites};
 use idl_syntax::{SyntaxFault, UnitTree, parse};
 use idl_tree::Tree;
@@ -138,7 +138,7 @@ impl<'a> Judge<'a> {
             (answers self.entry.env.now) log.old) }
     {
         if opened_kind(self.tokens).is_some() {
-            log.ask(&DigestedKey::of(Key::Nameless), self.env)?;
+            log.ask(&DigestedKey::nameless(), self.env)?;
             return adding(self.env.alloc(), Some(fault), faulty_step(self.tokens));
         }
         adding(self.env.alloc(), Some(fault), faulty_step(self.tokens))
@@ -209,7 +209,7 @@ impl<'a> Judge<'a> {
     {
         match step {
             Step::Opens(path, _kind) => {
-                let key = DigestedKey::of(Key::Opened(path.clone()?));
+                let key = DigestedKey::opened(self.env.alloc(), path)?;
                 log.ask(&key, self.env)?;
                 Ok(())
             }

@@ -13,8 +13,7 @@ use crate::bases::Bases;
 use crate::codes::first_code;
 use crate::types::{is_incomplete, may_switch};
 use idl_event::Code;
-use idl_lex::Spelling;
-use idl_scope::{Addition, Entity, Facts, Kind, NameCode, Path, Scope, folded_name};
+use idl_scope::{Addition, Entity, Facts, Kind, NameCode, OwnName, Path, Scope};
 use idl_site::Use;
 use idl_tree::ScopedName;
 use idl_value::Target;
@@ -157,20 +156,9 @@ pub fn introduce(
     if scopes.is_empty() {
         return Ok(());
     }
-    let folded = folded_first(alloc, used)?;
+    let folded = OwnName::within(alloc, used.path, &used.name.first)?;
     for scope in scopes {
         own.add(Addition::Uses(folded.clone()?, scope.path.clone()?, scope.body))?;
     }
     Ok(())
-}
-
-// The first part of a name, folded. What stands under that very name has it folded already.
-fn folded_first(alloc: Global, used: Denoting<'_>) -> Result<Spelling, AllocError>
-    ensures { IfOk result (λ first. first ≡ folded used.entry.name.now.first) }
-{
-    let first = used.name.first.as_bytes();
-    if used.path.name() == first {
-        return used.path.folded(alloc);
-    }
-    folded_name(alloc, first)
 }

@@ -16,6 +16,7 @@ pub mod MovedLemmas
 pub mod NumberLemmas
 pub mod PartLemmas
 pub mod PieceLemmas
+pub mod ShiftLemmas
 pub mod TableLemmas
 pub mod TextLemmas
 pub mod TokensLemmas

@@ -168,6 +168,7 @@ fn begins_quote(bytes: &[u8]) -> bool
 }
 
 // Puts in the token that a piece of a line is, if it is one.
+#[inline(never)]
 fn push_piece(
     tokens: &mut TokenBuffer,
     context: Context,

@@ -69,7 +69,7 @@ impl Logical {
     }
 
     /// The bytes from one place up to another, shared.
-    #[inline]
+    #[inline(always)]
     pub fn spelling(&self, from: usize, to: usize) -> Result<Spelling, AllocError>
         requires order { from ≤ to }
         requires within { to ≤ length self.now }

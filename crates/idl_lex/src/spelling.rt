@@ -47,6 +47,7 @@ impl Drop for Spelling {
 
 impl Spelling {
     /// The bytes from one place up to another: a copy of few, and more are shared.
+    #[inline(always)]
     pub fn new(
         alloc: Global,
         bytes: &Excerpt,
@@ -57,10 +58,13 @@ impl Spelling {
         requires within { to ≤ length bytes.now }
         ensures { IfOk result (λ spelling. spelling ≡ slice_range bytes.now from to) }
     {
-        match Short::new(&bytes.as_bytes()[from..to]) {
-            Some(short) => Ok(Spelling::short(short)),
-            None => Spelling::part(alloc, bytes, from, to),
+        let (block, begin, _end) = bytes.parts();
+        if let Some(short) = Short::cut(block.as_slice(), begin + from, begin + to) {
+            return Ok(Spelling::short(short));
         }
+        // Handed on as a local: as the last expression it would have few bytes go through memory too.
+        let spelling = Spelling::apart(alloc, bytes, from, to)?;
+        Ok(spelling)
     }
 
     /// This byte.
@@ -97,6 +101,20 @@ impl Spelling {
         match Short::new(bytes) {
             Some(short) => Ok(Spelling::short(short.folded())),
             None => Spelling::folded_apart(alloc, bytes),
+        }
+    }
+
+    /// The same with each capital letter made small: few bytes are copied whole.
+    #[inline(always)]
+    pub fn to_folded(&self, alloc: Global) -> Result<Spelling, AllocError>
+        ensures { IfOk result (λ spelling. spelling ≡ folded self.now) }
+    {
+        match &self.form {
+            Form::Short(short) => Ok(Spelling::short(short.copied().folded())),
+            form => {
+                let spelling = Spelling::folded_apart(alloc, form.as_bytes())?;
+                Ok(spelling)
+            }
         }
     }
 
@@ -138,8 +156,20 @@ impl Spelling {
         Spelling::from_vec(bytes.to_ascii_lowercase(alloc)?)
     }
 
-    // Shared bytes of an excerpt, from one place up to another.
+    // The bytes from one place up to another, however many they are.
     #[inline(never)]
+    fn apart(alloc: Global, bytes: &Excerpt, from: usize, to: usize) -> Result<Spelling, AllocError>
+        requires order { from ≤ to }
+        requires within { to ≤ length bytes.now }
+        ensures { IfOk result (λ spelling. spelling ≡ slice_range bytes.now from to) }
+    {
+        match Short::new(&bytes.as_bytes()[from..to]) {
+            Some(short) => Ok(Spelling::short(short)),
+            None => Spelling::part(alloc, bytes, from, to),
+        }
+    }
+
+    // Shared bytes of an excerpt, from one place up to another.
     fn part(alloc: Global, bytes: &Excerpt, from: usize, to: usize) -> Result<Spelling, AllocError>
         requires order { from ≤ to }
         requires within { to ≤ length bytes.now }

@@ -146,7 +146,7 @@ impl<K: Digest + Ord, V: Datum> Arena<K, V> {
         let mut marks = self.index.marked(spot);
         while marks != 0 {
             let slot = lowest(marks);
-            let place = self.index.place(spot.number, slot);
+            let place = self.index.place(spot, slot);
             if self.is_at(place, key) {
                 return Some(place);
             }

@@ -1,8 +1,8 @@
 //! Buckets of places, each of which has a tag.
 
-ghost use Rattle.std.specs.Prelude.{◌≡◌, ◌<◌, ◌+◌, ◌^◌, ℕ, IfSome, IsTrue, Some, length, slice_index};
+ghost use Rattle.std.specs.Prelude.{◌≡◌, ◌↔◌, ◌<◌, ◌+◌, ◌^◌, ℕ, IfNone, IfSome, IsFalse, IsTrue, OnOk, Some, length, slice_index};
 ghost use Rattle.std.specs.Int.{bit_at};
-ghost use Rattle.idl_map.specs.Buckets.{AreKept, HasAt, StandsAt, tag_of};
+ghost use Rattle.idl_map.specs.Buckets.{AreKept, HasAt, IsFull, IsThere, StandsAt, tag_of};
 
 use crate::bits::lowest;
 use std::alloc::{AllocError, Global};
@@ -39,7 +39,9 @@ impl Buckets {
     /// Puts so many empty ones behind them.
     pub fn extend(&mut self, count: usize) -> Result<(), AllocError>
         requires { length self.old.tags.items + count < 2 ^ 32 }
-        ensures { AreKept self.old self.new }
+        ensures kept { AreKept self.old self.new }
+        ensures there { OnOk result
+            ((number : ℕ) → number < length self.old.tags.items + count → IsThere self.new number) }
     {
         let all = self.tags.len() + count;
         self.tags.resize(all, [0; 16])?;
@@ -49,47 +51,54 @@ impl Buckets {
     /// The slots of a bucket that have a tag.
     #[inline]
     pub fn marked(&self, number: usize, tag: u8) -> u64
-        requires { 0 < tag }
-        ensures { (slot i : ℕ) → StandsAt self.now number slot tag i → bit_at result slot ≡ 1 }
+        requires there { IsThere self.now number }
+        requires tag { 0 < tag }
+        ensures small { result < 2 ^ 16 }
+        ensures marked { (slot i : ℕ) → StandsAt self.now number slot tag i → bit_at result slot ≡ 1 }
     {
-        match self.tags.get(number) {
-            Some(tags) => lanes_with(u8x16::from_array(*tags), tag),
-            None => 0,
-        }
+        lanes_with(u8x16::from_array(self.tags[number]), tag)
     }
 
     /// The slots of a bucket that aren't empty.
     #[inline]
     pub fn taken(&self, number: usize) -> u64
+        requires { IsThere self.now number }
         ensures { (slot tag i : ℕ) → 0 < tag
             → StandsAt self.now number slot tag i → bit_at result slot ≡ 1 }
     {
-        match self.tags.get(number) {
-            Some(tags) => lanes_above(u8x16::from_array(*tags)),
-            None => 0,
-        }
+        lanes_above(u8x16::from_array(self.tags[number]))
     }
 
     /// The place in a slot of a bucket.
     #[inline]
     pub fn place(&self, number: usize, slot: usize) -> u32
+        requires { IsThere self.now number }
         ensures { (t i : ℕ) → StandsAt self.now number slot t i → result ≡ i }
     {
-        match self.places.get(number) {
-            Some(places) if slot < 16 => places[slot],
-            _ => 0,
+        if slot < 16 {
+            self.places[number][slot]
+        } else {
+            0
         }
     }
 
-    /// Puts a place in a bucket with its tag, unless each slot has one.
+    /// Whether a bucket is full: its last slot is the last to be taken.
+    #[inline]
+    pub fn is_full(&self, number: usize) -> bool
+        requires { IsThere self.now number }
+        ensures { IsTrue result ↔ IsFull self.now number }
+    {
+        self.tags[number][15] != 0
+    }
+
+    /// Puts a place in a bucket with its tag, unless the bucket is full.
     #[inline]
     pub fn put(&mut self, number: usize, tag: u8, place: u32) -> bool
+        requires { IsThere self.old number }
         ensures kept { AreKept self.old self.new }
         ensures put { IsTrue result → HasAt self.new number tag place }
+        ensures full { IsFalse result → IsFull self.new number }
     {
-        if number >= self.tags.len() || number >= self.places.len() {
-            return false;
-        }
         let Some(slot) = empty_slot(&self.tags[number]) else {
             return false;
         };
@@ -106,6 +115,7 @@ impl Buckets {
 fn empty_slot(tags: &[u8; 16]) -> Option<usize>
     ensures below { IfSome result (λ slot. slot < 16) }
     ensures empty { IfSome result (λ slot. slice_index tags.now slot ≡ 0) }
+    ensures full { IfNone result (0 < slice_index tags.now 15) }
 {
     let empty = lanes_with(u8x16::from_array(*tags), 0);
     if empty == 0 {
@@ -128,6 +138,7 @@ pub fn tag_of(digest: u64) -> u8
 // The lanes that have a tag.
 #[inline]
 fn lanes_with(tags: u8x16, tag: u8) -> u64
+    ensures small { result < 2 ^ 16 }
     ensures set { (slot : ℕ) → slot < 16 → slice_index tags slot ≡ tag → bit_at result slot ≡ 1 }
     ensures below { (slot : ℕ) → bit_at result slot ≡ 1 → slot < 16 }
     ensures tagged { (slot : ℕ) → bit_at result slot ≡ 1 → slice_index tags slot ≡ tag }

@@ -2,7 +2,7 @@
 
 ghost use Rattle.std.specs.Prelude.{◌≡◌, ◌++◌, ◌∷◌, [], ℕ, ◌%◌, ◌<◌, ◌^◌, Some, IfOk, IsTrue, IsFalse, OnErr, length, slice_get, vec_len};
 ghost use Rattle.std.specs.Int.{bit_at};
-ghost use Rattle.idl_map.specs.Buckets.{AreKept, Finds, FindsIn, HasAt, IsIndexed, IsOf, IsSpot, StandsAt, number_in, tag_of};
+ghost use Rattle.idl_map.specs.Buckets.{AreKept, AreThere, Finds, FindsIn, HasAt, IsIndexed, IsOf, IsSpot, IsThere, Stands, StandsAt, number_beside, number_in, tag_of};
 
 use crate::bits::{lowest, without};
 use crate::buckets::{Buckets, tag_of};
@@ -32,8 +32,8 @@ const MANY: usize = 1 << 30;
 /// Digests in order, and the places of each in the buckets of 64 parts. The last six bits of a digest choose the part, others the
 /// bucket in it, and its first eight are its tag there.
 ///
-/// At first all parts have one bucket. A part of which a bucket is full has others made behind all that there are, four times as
-/// many as before; those that it had stay unused.
+/// At first all parts have one bucket. Where the bucket of a digest is full, its place goes into the one beside it. Where that is
+/// full too, the part has others made behind all that there are, four times as many as before; those that it had stay unused.
 #[derive(Drop)]
 pub struct Index {
     digests: Vec<u64>,
@@ -73,25 +73,58 @@ impl Index {
         }
     }
 
-    /// The slots of a spot's bucket that have its tag. Each place of its digest is in one of them.
+    /// The slots of a spot that have its tag: sixteen of its bucket, and where that is full, those of the one beside it.
     #[inline]
     pub fn marked(&self, spot: Spot) -> u64
         requires sound { IsIndexed self.now }
         requires spot { IsSpot self.now.parts.items spot }
-        ensures marked { (slot i : ℕ)
-            → StandsAt self.now.buckets spot.number slot spot.tag i → bit_at result slot ≡ 1 }
-        ensures found { (i : ℕ) → slice_get self.now.digests.items i ≡ Some spot.digest
-            → HasAt self.now.buckets spot.number spot.tag i }
+        ensures { (slot i : ℕ) → Stands self.now spot.digest slot i → bit_at result slot ≡ 1 }
     {
-        self.buckets.marked(spot.number, spot.tag)
+        let marks = self.buckets.marked(spot.number, spot.tag);
+        if self.buckets.is_full(spot.number) {
+            return marks | self.marked_beside(spot.digest) << 16;
+        }
+        marks
     }
 
-    /// The place in a slot of a bucket.
-    #[inline]
-    pub fn place(&self, number: usize, slot: usize) -> usize
-        ensures { (t i : ℕ) → StandsAt self.now.buckets number slot t i → result ≡ i }
+    // The slots that have the tag of a digest in the bucket beside its own. It stands apart, since few buckets are full.
+    #[inline(never)]
+    fn marked_beside(&self, digest: u64) -> u64
+        requires { IsIndexed self.now }
+        ensures small { result < 2 ^ 16 }
+        ensures marked { (part : Part) → slice_get self.now.parts.items (digest % 64) ≡ Some part
+            → (slot i : ℕ)
+            → StandsAt self.now.buckets (number_beside part digest) slot (tag_of digest) i
+            → bit_at result slot ≡ 1 }
     {
-        self.buckets.place(number, slot) as usize
+        let part = self.parts[(digest % 64) as usize];
+        let number = number_beside(part, digest);
+        self.buckets.marked(number, tag_of(digest))
+    }
+
+    /// The place in a slot of a spot.
+    #[inline]
+    pub fn place(&self, spot: Spot, slot: usize) -> usize
+        requires sound { IsIndexed self.now }
+        requires spot { IsSpot self.now.parts.items spot }
+        ensures { (i : ℕ) → Stands self.now spot.digest slot i → result ≡ i }
+    {
+        if slot < 16 {
+            return self.buckets.place(spot.number, slot) as usize;
+        }
+        self.place_beside(spot.digest, slot - 16)
+    }
+
+    // The place in a slot of the bucket beside the one of a digest.
+    #[inline(never)]
+    fn place_beside(&self, digest: u64, slot: usize) -> usize
+        requires { IsIndexed self.now }
+        ensures { (part : Part) → slice_get self.now.parts.items (digest % 64) ≡ Some part
+            → (t i : ℕ) → StandsAt self.now.buckets (number_beside part digest) slot t i
+            → result ≡ i }
+    {
+        let part = self.parts[(digest % 64) as usize];
+        self.buckets.place(number_beside(part, digest), slot) as usize
     }
 
     /// Puts the digest of a spot last, unless there is no room for its place.
@@ -114,7 +147,7 @@ impl Index {
         Ok(true)
     }
 
-    // Puts a place in at a spot, or at the one that its digest has once the part has more buckets.
+    // Puts a place in at a spot, or where its bucket is full, at its digest.
     #[inline]
     fn find_room(&mut self, spot: Spot, place: u32) -> Result<bool, AllocError>
         requires sound { IsIndexed self.old }
@@ -130,7 +163,7 @@ impl Index {
         self.make_room(spot.digest, place)
     }
 
-    // Gives the part of a digest more buckets, and puts a place in at the digest.
+    // Puts a place in at a digest, at once or when its part has more buckets.
     #[inline(never)]
     fn make_room(&mut self, digest: u64, place: u32) -> Result<bool, AllocError>
         requires { IsIndexed self.old }
@@ -138,9 +171,11 @@ impl Index {
         ensures digests { self.new.digests.items ≡ self.old.digests.items }
         ensures found { IfOk result (λ there. IsTrue there → Finds self.new digest place) }
     {
+        if self.put_beside(digest, place) {
+            return Ok(true);
+        }
         self.grow(digest)?;
-        let spot = self.spot_of(digest);
-        Ok(self.put(spot, place))
+        Ok(self.put_beside(digest, place))
     }
 
     // Puts a place in at a spot, unless its bucket is full.
@@ -153,6 +188,17 @@ impl Index {
         ensures found { IsTrue result → Finds self.new spot.digest place }
     {
         self.buckets.put(spot.number, spot.tag, place)
+    }
+
+    // Puts a place in at a digest, unless its bucket is full and the one beside it too.
+    fn put_beside(&mut self, digest: u64, place: u32) -> bool
+        requires { IsIndexed self.old }
+        ensures sound { IsIndexed self.new }
+        ensures digests { self.new.digests.items ≡ self.old.digests.items }
+        ensures found { IsTrue result → Finds self.new digest place }
+    {
+        let part = self.parts[(digest % 64) as usize];
+        put_in(&mut self.buckets, part, digest, place)
     }
 
     // Gives the part of a digest four times as many buckets, unless there are many for so few digests.
@@ -183,7 +229,8 @@ impl Index {
 
 // A part of four times as many buckets as another has, the first of which has this number.
 fn wider(part: Part, first: u32) -> Part
-    ensures { result.mask < 2 ^ 31 }
+    ensures first { result.first ≡ first }
+    ensures mask { result.mask < 2 ^ 31 }
 {
     let mask = if part.first == 0 {
         0
@@ -202,12 +249,25 @@ fn number_in(part: Part, digest: u64) -> usize
     part.first as usize + ((digest >> 32) as u32 & part.mask) as usize
 }
 
-// Puts a place in at a digest, unless its bucket is full.
+// The number of the bucket beside it.
+#[inline]
+#[tactic(auto, unfolding(crate::specs::Buckets::number_beside))]
+fn number_beside(part: Part, digest: u64) -> usize
+    ensures { result ≡ number_beside part digest }
+{
+    part.first as usize + (((digest >> 32) as u32 ^ 1) & part.mask) as usize
+}
+
+// Puts a place in at a digest, unless its bucket is full, and the one beside it.
+#[inline(always)]
 fn put_in(buckets: &mut Buckets, part: Part, digest: u64, place: u32) -> bool
+    requires { AreThere buckets.old part }
     ensures kept { AreKept buckets.old buckets.new }
     ensures put { IsTrue result → FindsIn part buckets.new digest place }
 {
-    buckets.put(number_in(part, digest), tag_of(digest), place)
+    let tag = tag_of(digest);
+    buckets.put(number_in(part, digest), tag, place)
+        || buckets.put(number_beside(part, digest), tag, place)
 }
 
 // A part that is to have the places of those digests that its number chooses.
@@ -221,6 +281,8 @@ struct Target<'a> {
 impl<'a> Target<'a> {
     // Puts the places of its digests in that another part has.
     fn take_all(&self, buckets: &mut Buckets, old: Part) -> bool
+        requires own { AreThere buckets.old self.now.part }
+        requires old { AreThere buckets.old old }
         ensures kept { AreKept buckets.old buckets.new }
         ensures taken { IsTrue result
             → (d i : ℕ) → IsOf self.now.digests.now self.now.number d i
@@ -237,6 +299,8 @@ impl<'a> Target<'a> {
     // The same of those that a bucket has.
     #[inline]
     fn take(&self, buckets: &mut Buckets, number: usize) -> bool
+        requires own { AreThere buckets.old self.now.part }
+        requires there { IsThere buckets.old number }
         ensures kept { AreKept buckets.old buckets.new }
         ensures taken { IsTrue result
             → (d i : ℕ) → IsOf self.now.digests.now self.now.number d i
@@ -255,7 +319,9 @@ impl<'a> Target<'a> {
     }
 
     // Puts a place in at its digest, if that is one of those.
+    #[inline(always)]
     fn put(&self, buckets: &mut Buckets, place: u32) -> bool
+        requires { AreThere buckets.old self.now.part }
         ensures kept { AreKept buckets.old buckets.new }
         ensures put { IsTrue result
             → (d : ℕ) → IsOf self.now.digests.now self.now.number d place

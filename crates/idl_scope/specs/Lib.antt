@@ -8,12 +8,14 @@ pub mod Entity
 pub mod Facts
 pub mod Finds
 pub mod Held
+pub mod HeldKey
 pub mod Identity
 pub mod Key
 pub mod Kind
 pub mod LentKey
 pub mod Lookup
 pub mod Meaning
+pub mod Outline
 pub mod Outside
 pub mod Past
 pub mod Path

@@ -23,6 +23,11 @@ path_eq = pointwise bytes_eq
 pub same_path : (p q : List (List ℕ)) → path_eq p q ≡ true → p ≡ q
 same_path p q = (pointwise_decides bytes_decides p q).0
 
+-- the names from this one on, with those of the scope around
+abbrev pub names_of : Option (List ℕ × List (List ℕ)) → List (List ℕ)
+names_of None = []
+names_of (Some part) = part.0 ∷ part.1
+
 -- the path of a name and of the scope around it, behind a pointer; without one, that of the global scope
 abbrev pub path_of : Option (Rc (List ℕ × List (List ℕ)) Global) → List (List ℕ)
 path_of None = []

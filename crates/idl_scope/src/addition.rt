@@ -2,15 +2,17 @@
 
 ghost use Rattle.std.specs.Prelude.{◌≡◌, ◌∷◌, [], IfOk, IfSome, IsTrue, None};
 ghost use Rattle.idl_scope.specs.Facts.{answer_of, key_of, operations_among};
+ghost use Rattle.idl_scope.specs.HeldKey.{key_in};
 ghost use Rattle.idl_scope.specs.Key.{key_digest, key_eq};
 
 use crate::answer::Answer;
 use crate::digest::{identified, introduced};
 use crate::digested::DigestedKey;
 use crate::entity::Entity;
+use crate::held_key::HeldKey;
 use crate::identity::{Identity, Prefix};
-use crate::key::Key;
 use crate::kind::Kind;
+use crate::own_name::OwnName;
 use crate::path::Path;
 use crate::shared::Shared;
 use idl_lex::Spelling;
@@ -22,7 +24,7 @@ pub enum Addition {
     /// A name is declared as this entity, or is this from now on.
     Declares(Shared<Entity>),
     /// A folded name is introduced into the body with this number of the scope at a path.
-    Uses(Spelling, Path, usize),
+    Uses(OwnName, Path, usize),
     /// What has an id is declared first, at a path and under this prefix: the two tell its id.
     Appears(Path, Shared<Prefix>),
     /// What is declared at a path has this id from now on.
@@ -63,7 +65,11 @@ impl Addition {
     {
         match self {
             Addition::Declares(entity) => entity.get().path().entity_digest(),
-            Addition::Uses(name, path, body) => introduced(path.digest(), name.as_bytes(), *body),
+            Addition::Uses(name, path, body) => introduced(
+                path.digest(),
+                name.spelling().as_bytes(),
+                *body,
+            ),
             Addition::Appears(path, _) | Addition::Identifies(path, _) => {
                 identified(path.digest())
             }
@@ -76,34 +82,36 @@ impl Addition {
         ensures { IfOk result (λ key. key ≡ key_of self.now) }
     {
         let key = match self {
-            Addition::Declares(entity) => {
-                let path = entity.get().path();
-                Key::Declared(path.folded(alloc)?, path.scope()?)
-            }
+            Addition::Declares(entity) => HeldKey::of_entity(alloc, entity.get().path())?,
             Addition::Uses(name, path, body) => {
-                Key::Introduced(name.clone()?, path.clone()?, *body)
+                HeldKey::introduced(alloc, name.clone()?, path.clone()?, *body)?
             }
             Addition::Appears(path, _) | Addition::Identifies(path, _) => {
-                Key::IdOf(path.clone()?)
+                HeldKey::id_of(alloc, path.clone()?)?
             }
         };
         Ok(DigestedKey::known(digest, key))
     }
 
     /// The key whose answer it changes, and the answer that it leaves there.
-    pub(crate) fn into_entry(self, alloc: Global) -> Result<(Key, Answer), AllocError>
-        ensures key { IfOk result (λ entry. entry.0 ≡ key_of self) }
+    pub(crate) fn into_entry(self, alloc: Global) -> Result<(HeldKey, Answer), AllocError>
+        ensures key { IfOk result (λ entry. key_in entry.0 ≡ key_of self) }
         ensures answer { IfOk result (λ entry. entry.1 ≡ answer_of self) }
     {
         Ok(match self {
             Addition::Declares(entity) => {
-                let path = entity.get().path();
-                let key = Key::Declared(path.folded(alloc)?, path.scope()?);
+                let key = HeldKey::of_entity(alloc, entity.get().path())?;
                 (key, Answer::Known(entity))
             }
-            Addition::Uses(name, path, body) => (Key::Introduced(name, path, body), Answer::Used),
-            Addition::Appears(path, prefix) => (Key::IdOf(path), Answer::Appeared(prefix)),
-            Addition::Identifies(path, identity) => (Key::IdOf(path), Answer::Identified(identity)),
+            Addition::Uses(name, path, body) => {
+                (HeldKey::introduced(alloc, name, path, body)?, Answer::Used)
+            }
+            Addition::Appears(path, prefix) => {
+                (HeldKey::id_of(alloc, path)?, Answer::Appeared(prefix))
+            }
+            Addition::Identifies(path, identity) => {
+                (HeldKey::id_of(alloc, path)?, Answer::Identified(identity))
+            }
         })
     }
 
@@ -116,7 +124,7 @@ impl Addition {
                 entity.get().path().is_found_with(same.get().path())
             }
             (Addition::Uses(name, path, body), Addition::Uses(word, scope, number)) => {
-                *name == *word && *path == *scope && *body == *number
+                name.is(word) && *path == *scope && *body == *number
             }
             (
                 Addition::Appears(path, _) | Addition::Identifies(path, _),

@@ -46,7 +46,7 @@ impl Env {
             × (digests.1 ≡ key_digest (entity_key s.path))) }
         ensures none { result ≡ None → (s : Scope) → IsInnermost (answers self.now) s → ⊥ }
     {
-        let scopes = scopes_in(self.answer(&DigestedKey::of(Key::Cursor)));
+        let scopes = scopes_in(self.answer(&DigestedKey::cursor()));
         let (innermost, _outer) = closable(scopes)?;
         Some((Key::Cursor.digest(), innermost.path.entity_digest()))
     }
@@ -58,7 +58,7 @@ impl Env {
             digests.items ≡ map key_digest (key.Cursor ∷ gathered_at w scopes)) }
     {
         let mut digests = digest_alone(self.alloc(), &Key::Cursor)?;
-        let scopes = scopes_in(self.answer(&DigestedKey::of(Key::Cursor)));
+        let scopes = scopes_in(self.answer(&DigestedKey::cursor()));
         self.gather(&mut digests, scopes)?;
         Ok(digests)
     }

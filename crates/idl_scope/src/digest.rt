@@ -34,6 +34,13 @@ pub fn identified(path: u64) -> u64
     behind(path, mixed(path, 263))
 }
 
+/// The digest of how many bodies of the scope at a path with this digest were opened.
+pub fn opened(path: u64) -> u64
+    ensures { result ≡ behind path (mixed path 260) }
+{
+    behind(path, mixed(path, 260))
+}
+
 /// A digest with the last 6 bits of another in place of its own, by which it is found first.
 #[tactic(auto, unfolding(crate::specs::Digest::behind))]
 pub fn behind(first: u64, digest: u64) -> u64

@@ -1,18 +1,19 @@
 //! Keys with their digests beside them.
 
-ghost use Rattle.std.specs.Prelude.{◌≡◌, Some, refl};
-ghost use Rattle.idl_scope.specs.Digest.{path_digest, under};
+ghost use Rattle.std.specs.Prelude.{◌≡◌, IfOk, Some, refl};
 ghost use Rattle.idl_scope.specs.Digested.{key_cmp, key_cmp_po, key_cmp_ties, key_cmp_total, key_equiv, key_per};
+ghost use Rattle.idl_scope.specs.HeldKey.{key_in};
 ghost use Rattle.idl_scope.specs.Key.{key_digest, key_eq, same_key};
 ghost use Rattle.idl_scope.specs.contracts.key.KeyOrd.TheImpl.{ghosts as own_order};
-ghost use Rattle.idl_scope.specs.declared.key.Key.TheVariants.{Declared};
+ghost use Rattle.idl_scope.specs.declared.key.Key.TheVariants as keys;
 
+use crate::digest::opened;
+use crate::held_key::HeldKey;
 use crate::key::Key;
 use crate::path::Path;
 use idl_base::Datum;
-use idl_lex::Spelling;
 use idl_map::Digest;
-use std::alloc::AllocError;
+use std::alloc::{AllocError, Global};
 use std::cmp::Ordering;
 use std::marker::Model;
 
@@ -22,53 +23,80 @@ use std::marker::Model;
 #[derive(Drop)]
 pub struct DigestedKey {
     digest: u64,
-    key: Key,
+    key: HeldKey,
 }
+
+// An environment has tens of thousands of them.
+const _: () = prove!(size_of::<DigestedKey>() <= 32);
 
 impl Model for DigestedKey {
     ghost use Rattle.std.specs.Prelude.{◌≡◌};
+    ghost use Rattle.idl_scope.specs.HeldKey.{key_in};
     ghost use Rattle.idl_scope.specs.Key.{key_digest};
     ghost use Rattle.idl_scope.specs.declared.key.Key.{Key};
 
     ghost Value = { Key };
 
-    ghost view = { λ digested. digested.key };
+    ghost view = { λ digested. key_in digested.key };
 
-    ghost invariant = { λ digested. digested.digest ≡ key_digest digested.key };
+    ghost invariant = { λ digested. digested.digest ≡ key_digest (key_in digested.key) };
 }
 
 impl DigestedKey {
-    /// The key, with its digest.
-    pub fn of(key: Key) -> DigestedKey
-        ensures { result ≡ key }
-    {
-        let digest = key.digest();
-        DigestedKey { digest, key }
-    }
-
-    /// What a folded name is declared as in the scope at a path, with the digest of the name there.
+    /// The open scopes.
     #[tactic(auto, unfolding(crate::specs::Key::key_digest))]
-    pub(crate) fn declared(digest: u64, name: Spelling, scope: Path) -> DigestedKey
-        requires { digest ≡ under (path_digest scope) name }
-        ensures { result ≡ Declared name scope }
+    pub fn cursor() -> DigestedKey
+        ensures { result ≡ keys.Cursor }
     {
-        let key = Key::Declared(name, scope);
-        DigestedKey { digest, key }
+        DigestedKey {
+            digest: Key::Cursor.digest(),
+            key: HeldKey::Cursor,
+        }
     }
-}
 
-impl DigestedKey {
+    /// How many nameless scopes were opened.
+    #[tactic(auto, unfolding(crate::specs::Key::key_digest))]
+    pub fn nameless() -> DigestedKey
+        ensures { result ≡ keys.Nameless }
+    {
+        DigestedKey {
+            digest: Key::Nameless.digest(),
+            key: HeldKey::Nameless,
+        }
+    }
+
+    /// The prefix in force.
+    #[tactic(auto, unfolding(crate::specs::Key::key_digest))]
+    pub fn prefix() -> DigestedKey
+        ensures { result ≡ keys.Prefix }
+    {
+        DigestedKey {
+            digest: Key::Prefix.digest(),
+            key: HeldKey::Prefix,
+        }
+    }
+
+    /// How many bodies of the scope at a path were opened.
+    #[tactic(auto, unfolding(crate::specs::Key::key_digest))]
+    pub fn opened(alloc: Global, path: &Path) -> Result<DigestedKey, AllocError>
+        ensures { IfOk result (λ key. key ≡ keys.Opened path.now) }
+    {
+        let digest = opened(path.digest());
+        let key = HeldKey::opened(alloc, path.clone()?)?;
+        Ok(DigestedKey { digest, key })
+    }
+
     /// The key, where its digest is known.
-    pub(crate) fn known(digest: u64, key: Key) -> DigestedKey
-        requires { digest ≡ key_digest key }
-        ensures { result ≡ key }
+    pub(crate) fn known(digest: u64, key: HeldKey) -> DigestedKey
+        requires { digest ≡ key_digest (key_in key) }
+        ensures { result ≡ key_in key }
     {
         DigestedKey { digest, key }
     }
 
     /// The key alone.
-    pub(crate) fn key(&self) -> &Key
-        ensures { result.now ≡ self.now }
+    pub(crate) fn held(&self) -> &HeldKey
+        ensures { key_in result.now ≡ self.now }
     {
         &self.key
     }
@@ -148,19 +176,19 @@ impl Digest for DigestedKey {
 
 // Whether keys of one digest are one. It stands apart, since most keys that are compared differ in their digests.
 #[inline(never)]
-fn are_one(key: &Key, other: &Key) -> bool
-    ensures { result ≡ key_eq key.now other.now }
+fn are_one(key: &HeldKey, other: &HeldKey) -> bool
+    ensures { result ≡ key_eq (key_in key.now) (key_in other.now) }
 {
-    key == other
+    key.is_one_with(other)
 }
 
 // Which of two keys of one digest comes first. Most of them are one, which is told sooner than an order.
 #[inline(never)]
-fn order_of(key: &Key, other: &Key) -> Ordering
-    ensures { result ≡ own_order.cmp key.now other.now }
+fn order_of(key: &HeldKey, other: &HeldKey) -> Ordering
+    ensures { result ≡ own_order.cmp (key_in key.now) (key_in other.now) }
 {
-    if key == other {
+    if key.is_one_with(other) {
         return Ordering::Equal;
     }
-    key.cmp(other)
+    key.order(other)
 }

@@ -6,7 +6,8 @@ ghost use Rattle.idl_scope.specs.Facts.{no_prefix};
 ghost use Rattle.idl_scope.specs.Identity.{first_identity, fixed_number, fixed_eq, prefixed, relative, same_fixed, slashed};
 
 use crate::name::shared_name;
-use crate::path::{Names, Path};
+use crate::names::Names;
+use crate::path::Path;
 use crate::shared::Shared;
 use idl_base::{Datum, InlineText};
 use idl_lex::Spelling;

@@ -3,10 +3,11 @@
 ghost use Rattle.std.specs.Prelude.{◌≡◌, IfOk};
 ghost use Rattle.idl_scope.specs.Facts.{entity_key};
 
-use crate::digest::{behind, identified, introduced, under};
+use crate::digest::{identified, introduced, opened, under};
 use crate::digested::DigestedKey;
+use crate::held_key::HeldKey;
 use crate::path::Path;
-use idl_base::{Datum, mixed};
+use idl_base::Datum;
 use idl_lex::Spelling;
 use idl_map::Digest;
 use std::alloc::{AllocError, Global};
@@ -52,12 +53,12 @@ impl Datum for Key {
 
 impl Key {
     /// What is asked of the entity at a path: its own name, folded, in the scope around.
+    #[tactic(auto, unfolding(crate::specs::Key::key_digest))]
     pub fn of_entity(alloc: Global, path: &Path) -> Result<DigestedKey, AllocError>
         ensures { IfOk result (λ key. key ≡ entity_key path.now) }
     {
-        let name = path.folded(alloc)?;
-        let scope = path.scope()?;
-        Ok(DigestedKey::declared(path.entity_digest(), name, scope))
+        let key = HeldKey::of_entity(alloc, path)?;
+        Ok(DigestedKey::known(path.entity_digest(), key))
     }
 }
 
@@ -72,7 +73,7 @@ impl Digest for Key {
             Key::Cursor => 257,
             Key::Declared(name, path) => under(path.digest(), name.as_bytes()),
             Key::Introduced(name, path, body) => introduced(path.digest(), name.as_bytes(), *body),
-            Key::Opened(path) => behind(path.digest(), mixed(path.digest(), 260)),
+            Key::Opened(path) => opened(path.digest()),
             Key::Nameless => 261,
             Key::Prefix => 262,
             Key::IdOf(path) => identified(path.digest()),

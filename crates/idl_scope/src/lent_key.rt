@@ -3,6 +3,7 @@
 ghost use Rattle.std.specs.Prelude.{◌≡◌, IfOk};
 ghost use Rattle.idl_lex.specs.Keywords.{folded};
 ghost use Rattle.idl_scope.specs.Facts.{entity_key, key_of};
+ghost use Rattle.idl_scope.specs.HeldKey.{key_in};
 ghost use Rattle.idl_scope.specs.Key.{key_digest, key_eq};
 ghost use Rattle.idl_scope.specs.Path.{name_of};
 ghost use Rattle.idl_scope.specs.declared.key.Key.TheVariants as keys;
@@ -10,7 +11,9 @@ ghost use Rattle.idl_scope.specs.declared.key.Key.TheVariants as keys;
 use crate::addition::Addition;
 use crate::digest::{identified, introduced, under};
 use crate::digested::DigestedKey;
+use crate::held_key::HeldKey;
 use crate::key::Key;
+use crate::own_name::OwnName;
 use crate::path::Path;
 use idl_lex::Spelling;
 use idl_map::{Digest, Lent};
@@ -148,7 +151,7 @@ impl<'a> LentKey<'a> {
                 path.is_found_with(entity.get().path())
             }
             (Parts::Introduced(path, scope, body), Addition::Uses(name, other, number)) => {
-                path.has_folded(name) && **scope == *other && *body == *number
+                path.has_folded(name.spelling()) && **scope == *other && *body == *number
             }
             (Parts::IdOf(path), Addition::Appears(other, _) | Addition::Identifies(other, _)) => {
                 **path == *other
@@ -176,18 +179,40 @@ impl<'a> LentKey<'a> {
         }
     }
 
-    // The key, made.
-    fn key(&self) -> Result<Key, AllocError>
-        ensures { IfOk result (λ key. key ≡ self.now) }
+    // Whether it is this key, as it is held.
+    fn is_held(&self, key: &HeldKey) -> bool
+        ensures { result ≡ key_eq self.now (key_in key.now) }
     {
-        Ok(match &self.parts {
-            Parts::Declared(name, scope) => Key::Declared((**name).clone()?, (**scope).clone()?),
-            Parts::Entity(path) => Key::Declared(path.folded(self.alloc)?, path.scope()?),
-            Parts::Introduced(path, scope, body) => {
-                Key::Introduced(path.folded(self.alloc)?, (**scope).clone()?, *body)
+        match (&self.parts, key) {
+            (Parts::Declared(name, scope), HeldKey::Entity(named)) => {
+                named.is_found_at(name, scope)
             }
-            Parts::IdOf(path) => Key::IdOf((**path).clone()?),
-        })
+            (Parts::Entity(path), HeldKey::Entity(named)) => named.is_found_as(path),
+            (Parts::IdOf(path), HeldKey::IdOf(named)) => named.is_of(path),
+            (Parts::Introduced(path, scope, body), HeldKey::Introduced(name, named)) => {
+                path.has_folded(name.spelling()) && named.is_of(scope) && *body == 1
+            }
+            (_, HeldKey::Whole(key)) => self.is_key(key),
+            _ => false,
+        }
+    }
+
+    // The key, made.
+    fn key(&self) -> Result<HeldKey, AllocError>
+        ensures { IfOk result (λ key. key_in key ≡ self.now) }
+    {
+        let alloc = self.alloc;
+        match &self.parts {
+            Parts::Declared(name, scope) => {
+                let key = Key::Declared((**name).clone()?, (**scope).clone()?);
+                HeldKey::whole(alloc, key)
+            }
+            Parts::Entity(path) => HeldKey::of_entity(alloc, path),
+            Parts::Introduced(path, scope, body) => {
+                HeldKey::introduced(alloc, OwnName::of(alloc, path)?, (**scope).clone()?, *body)
+            }
+            Parts::IdOf(path) => HeldKey::id_of(alloc, (**path).clone()?),
+        }
     }
 }
 
@@ -199,7 +224,7 @@ impl<'a> Lent<DigestedKey> for LentKey<'a> {
     }
 
     fn is(&self, other: &DigestedKey) -> bool {
-        self.digest == other.digest() && self.is_key(other.key())
+        self.digest == other.digest() && self.is_held(other.held())
     }
 
     fn owned(&self) -> Result<DigestedKey, AllocError> {

@@ -19,7 +19,6 @@ use crate::env::Env;
 use crate::facts::Facts;
 use crate::finds::Finds;
 use crate::identity::{Identity, Prefix};
-use crate::key::Key;
 use crate::kind::Kind;
 use crate::lent_key::LentKey;
 use crate::path::Path;
@@ -76,7 +75,7 @@ impl<'a> View<'a> {
         ensures logged { OnOk result
             (log.new ≡ noted key_eq (answers self.entry.env.now) log.old PrefixKey) }
     {
-        match prefix_in(log.ask(&DigestedKey::of(Key::Prefix), self.env)?) {
+        match prefix_in(log.ask(&DigestedKey::prefix(), self.env)?) {
             Some(prefix) => prefix.clone(),
             None => Prefix::none(self.env.alloc()),
         }

@@ -19,7 +19,6 @@ use crate::finds::Finds;
 use crate::found::Found;
 use crate::kind::Kind;
 use crate::lookup::{Place, View};
-use crate::name::folded_name;
 use crate::shared::Shared;
 use idl_lex::Spelling;
 use idl_memo::Journal;
@@ -128,7 +127,7 @@ impl<'a> View<'a> {
             (outward turns (searched name.now.is_global cursor.now) (folded name.now.first)))
             (answers self.entry.env.now) log.old) }
     {
-        let folded = folded_name(self.env.alloc(), name.first.as_bytes())?;
+        let folded = name.first.to_folded(self.env.alloc())?;
         if name.is_global {
             let global = Scope::global();
             return self.found_outward(log, &[global], &folded);
@@ -151,7 +150,7 @@ impl<'a> View<'a> {
             (part_of part name.now (has turns before.now.kind before.now.path (folded name.now))))
             (answers self.entry.env.now) log.old) }
     {
-        let folded = folded_name(self.env.alloc(), name.as_bytes())?;
+        let folded = name.to_folded(self.env.alloc())?;
         let place = Place {
             kind: before.kind(),
             path: before.path(),

@@ -12,7 +12,9 @@ ghost use Rattle.idl_scope.specs.Digest.{path_digest, under};
 ghost use Rattle.idl_scope.specs.Path.{name_of, path_eq, path_of, same_path, scope_of};
 
 use crate::digest::under;
-use crate::name::{folded_name, shared_name};
+use crate::name::shared_name;
+use crate::named_path::NamedPath;
+use crate::names::Names;
 use idl_base::Datum;
 use idl_lex::Spelling;
 use std::alloc::{AllocError, Global};
@@ -40,8 +42,8 @@ impl Model for Path {
     ghost view = { λ path. path_of path.innermost };
 }
 
-// A name of a path with the path around, and beside it its folded form and the digest of the path from there on.
-struct Part {
+/// A name of a path with the path around, and beside it its folded form and the digest of the path from there on.
+pub(crate) struct Part {
     name: Spelling,
     folded_name: Spelling,
     digest: u64,
@@ -83,6 +85,27 @@ impl Drop for Part {
 }
 
 impl Part {
+    /// The name.
+    pub(crate) fn name(&self) -> &Spelling
+        ensures { result.now ≡ self.now.0 }
+    {
+        &self.name
+    }
+
+    /// The name, folded.
+    pub(crate) fn folded_name(&self) -> &Spelling
+        ensures { result.now ≡ folded self.now.0 }
+    {
+        &self.folded_name
+    }
+
+    /// The names of the path around.
+    pub(crate) fn around(&self) -> Names<'_>
+        ensures { result ≡ self.now.1 }
+    {
+        Names::of(&self.around)
+    }
+
     // The path around, without its name, which is dropped.
     fn into_around(self) -> Option<Rc<Part>>
         ensures { path_of result ≡ self.1 }
@@ -106,22 +129,30 @@ impl Path {
     }
 
     /// The path of a name in the scope with this path.
-    #[tactic(auto, unfolding(crate::specs::Digest::path_digest))]
     pub fn child(&self, alloc: Global, name: &Spelling) -> Result<Path, AllocError>
         ensures { IfOk result (λ path. path ≡ name.now ∷ self.now) }
     {
-        let folded_name = folded_name(alloc, name.as_bytes())?;
+        let part = self.part_for(alloc, name)?;
+        let innermost = Some(Rc::new(alloc, part)?);
+        Ok(Path { innermost })
+    }
+
+    /// The part of a name in the scope with this path.
+    #[inline(always)]
+    #[tactic(auto, unfolding(crate::specs::Digest::path_digest))]
+    pub(crate) fn part_for(&self, alloc: Global, name: &Spelling) -> Result<Part, AllocError>
+        ensures { IfOk result (λ part. part ≡ (name.now, self.now)) }
+    {
+        let folded_name = name.to_folded(alloc)?;
         let digest = under(self.digest(), folded_name.as_bytes());
         let name = name.clone()?;
         let around = self.innermost.clone()?;
-        let part = Part {
+        Ok(Part {
             name,
             folded_name,
             digest,
             around,
-        };
-        let innermost = Some(Rc::new(alloc, part)?);
-        Ok(Path { innermost })
+        })
     }
 
     /// The names, the innermost first.
@@ -142,8 +173,39 @@ impl Path {
     pub fn lent(&self) -> Names<'_>
         ensures { result ≡ self.now }
     {
-        Names {
-            innermost: &self.innermost,
+        Names::of(&self.innermost)
+    }
+
+    /// The part that it ends in, unless it is that of the global scope.
+    pub(crate) fn innermost(&self) -> &Option<Rc<Part>>
+        ensures { path_of result.now ≡ self.now }
+    {
+        &self.innermost
+    }
+
+    /// The path to the innermost of its names that is spelled so, if one is.
+    pub(crate) fn ending_in(&self, name: &Spelling) -> Result<Option<NamedPath>, AllocError>
+        ensures { IfOk result (λ named. IfSome named (λ path. name_of path ≡ name.now)) }
+    {
+        let mut link = &self.innermost;
+        'names: while let Some(shared) = link {
+            let part: &Part = shared;
+            if part.name == *name {
+                return Ok(Some(NamedPath::of(shared.clone()?)));
+            }
+            link = &part.around;
+        }
+        Ok(None)
+    }
+
+    /// The same path, if it has a name.
+    pub(crate) fn into_named(self) -> Option<NamedPath>
+        ensures some { IfSome result (λ path. path ≡ self) }
+        ensures none { result ≡ None → self ≡ [] }
+    {
+        match self.innermost {
+            None => None,
+            Some(part) => Some(NamedPath::of(part)),
         }
     }
 
@@ -239,6 +301,13 @@ impl Path {
         }
     }
 
+    /// Whether it is the path around a part.
+    pub(crate) fn is_around(&self, part: &Part) -> bool
+        ensures { result ≡ path_eq self.now part.now.1 }
+    {
+        are_one(&self.innermost, &part.around)
+    }
+
     /// Whether it is the path of this name in the scope with that path.
     pub fn is_child(&self, name: &[u8], scope: &Path) -> bool
         ensures { result ≡ path_eq self.now (name.now ∷ scope.now) }
@@ -281,54 +350,17 @@ impl Path {
     {
         match &other.innermost {
             None => self.folded_bytes() == other.name() && self.is_below(&other.innermost),
-            Some(part) => self.has_folded(&part.folded_name) && self.is_below(&part.around),
+            Some(part) => self.is_found_as(part),
         }
     }
-}
 
-/// Names of a path that are lent: to every contract the list of them, from one of them on, the innermost first.
-#[derive(Drop)]
-pub struct Names<'a> {
-    innermost: &'a Option<Rc<Part>>,
-}
-
-impl<'a> Model for Names<'a> {
-    ghost use Rattle.std.specs.Prelude.{List, ℕ};
-    ghost use Rattle.idl_scope.specs.Path.{path_of};
-
-    ghost Value = { List (List ℕ) };
-
-    ghost view = { λ names. path_of names.innermost.now };
-}
-
-impl<'a> Names<'a> {
-    /// The first name, and those behind it; nothing where there is none.
-    pub fn split_first(self) -> Option<(&'a [u8], Names<'a>)>
-        ensures some { IfSome result (λ p. self.entry ≡ p.0.now ∷ p.1) }
-        ensures none { result ≡ None → self.entry ≡ [] }
+    /// Whether what stands at the path that ends in a part is found under the same folded name in the same scope.
+    pub(crate) fn is_found_as(&self, part: &Part) -> bool
+        ensures { result
+            ≡ bytes_eq (folded (name_of self.now)) (folded part.now.0)
+            && path_eq (scope_of self.now) part.now.1 }
     {
-        let Some(shared) = self.innermost else {
-            return None;
-        };
-        let part: &Part = shared;
-        let behind = Names {
-            innermost: &part.around,
-        };
-        Some((part.name.as_bytes(), behind))
-    }
-
-    /// Whether there is no name.
-    pub fn is_empty(&self) -> bool
-        ensures { IsTrue result ↔ (self.now ≡ []) }
-    {
-        self.innermost.is_none()
-    }
-
-    /// Whether they are the names of a path.
-    pub fn are_of(&self, path: &Path) -> bool
-        ensures { result ≡ path_eq self.now path.now }
-    {
-        are_one(self.innermost, &path.innermost)
+        self.has_folded(&part.folded_name) && self.is_below(&part.around)
     }
 }
 
@@ -352,6 +384,13 @@ fn are_one(first: &Option<Rc<Part>>, second: &Option<Rc<Part>>) -> bool
         other = &theirs.around;
     }
     other.is_none()
+}
+
+/// Whether the paths that end in two parts are one.
+pub(crate) fn are_alike(mine: &Part, theirs: &Part) -> bool
+    ensures { result ≡ path_eq (mine.now.0 ∷ mine.now.1) (theirs.now.0 ∷ theirs.now.1) }
+{
+    begin_alike(mine, theirs) && are_one(&mine.around, &theirs.around)
 }
 
 // Whether the innermost names are one, unless the digests tell already that the paths are not.

@@ -60,10 +60,10 @@ impl State {
     {
         let scopes = opened(alloc, Scope::global(), &[])?;
         let mut answers = Map::new();
-        answers.insert(alloc, DigestedKey::of(Key::Cursor), scopes)?;
+        answers.insert(alloc, DigestedKey::cursor(), scopes)?;
         answers.insert(
             alloc,
-            DigestedKey::of(Key::Prefix),
+            DigestedKey::prefix(),
             Answer::InForce(Prefix::none(alloc)?),
         )?;
         let mut inside = Vec::new(alloc);
@@ -126,7 +126,7 @@ impl State {
     fn cursor(&self) -> &[Scope]
         ensures { result.now ≡ scopes_in (lookup (key_eq Cursor) self.now.answers) }
     {
-        let key = DigestedKey::of(Key::Cursor);
+        let key = DigestedKey::cursor();
         scopes_in(self.answers.get(&key))
     }
 
@@ -136,21 +136,20 @@ impl State {
         ensures { OnOk result
             (held self.new ≡ after_step (held self.old) (Opens path.now kind)) }
     {
-        let scope = self.next_body(path, kind)?;
+        let scope = self.next_body(alloc, path, kind)?;
         let body = scope.body;
-        let key = DigestedKey::of(Key::Opened(scope.path.clone()?));
+        let key = DigestedKey::opened(alloc, &scope.path)?;
         let scopes = opened(alloc, scope, self.cursor())?;
         let prefix = self.prefix(alloc)?;
         self.answers.insert(alloc, key, Answer::Count(body))?;
-        self.answers
-            .insert(alloc, DigestedKey::of(Key::Cursor), scopes)?;
+        self.answers.insert(alloc, DigestedKey::cursor(), scopes)?;
         self.inside.push(Seq::new(alloc))?;
         self.opened.push(alloc, prefix)?;
         Ok(())
     }
 
     // The next body of a scope.
-    fn next_body(&self, path: &Path, kind: Kind) -> Result<Scope, AllocError>
+    fn next_body(&self, alloc: Global, path: &Path, kind: Kind) -> Result<Scope, AllocError>
         requires { count_in (lookup (key_eq (Opened path.now)) self.now.answers) < 18446744073709551615 }
         ensures { IfOk result (λ scope.
             scope
@@ -160,7 +159,7 @@ impl State {
               body = next_body (held self.now) path.now;
             }) }
     {
-        let key = DigestedKey::of(Key::Opened(path.clone()?));
+        let key = DigestedKey::opened(alloc, path)?;
         let body = count_in(self.answers.get(&key)) + 1;
         let path = path.clone()?;
         Ok(Scope { path, kind, body })
@@ -172,7 +171,7 @@ impl State {
         ensures { OnOk result
             (held self.new ≡ after_step (held self.old) (OpensNameless kind)) }
     {
-        let key = DigestedKey::of(Key::Nameless);
+        let key = DigestedKey::nameless();
         let number = count_in(self.answers.get(&key));
         let name = nameless_name(alloc, number)?;
         let path = child_of_first(alloc, self.cursor(), &name)?;
@@ -191,11 +190,11 @@ impl State {
         let scopes = open_scopes(alloc, outer)?;
         let closing = self.closing(alloc, scope)?;
         put_closing(alloc, &mut self.answers, &closing)?;
-        self.answers
-            .insert(alloc, DigestedKey::of(Key::Cursor), scopes)?;
+        self.answers.insert(alloc, DigestedKey::cursor(), scopes)?;
         leave(&mut self.inside);
         let prefix = taken_last(alloc, &mut self.opened)?;
-        self.answers.insert(alloc, DigestedKey::of(Key::Prefix), Answer::InForce(prefix))?;
+        self.answers
+            .insert(alloc, DigestedKey::prefix(), Answer::InForce(prefix))?;
         Ok(())
     }
 
@@ -204,7 +203,7 @@ impl State {
         ensures { IfOk result (λ prefix.
             prefix ≡ prefix_in (lookup (key_eq PrefixKey) self.now.answers)) }
     {
-        match prefix_in(self.answers.get(&DigestedKey::of(Key::Prefix))) {
+        match prefix_in(self.answers.get(&DigestedKey::prefix())) {
             Some(prefix) => prefix.clone(),
             None => Prefix::none(alloc),
         }
@@ -217,7 +216,8 @@ impl State {
         let text = text.clone()?;
         let scope = path_of_first(self.cursor())?;
         let prefix = Shared::new(alloc, Prefix { text, scope })?;
-        self.answers.insert(alloc, DigestedKey::of(Key::Prefix), Answer::InForce(prefix))?;
+        self.answers
+            .insert(alloc, DigestedKey::prefix(), Answer::InForce(prefix))?;
         Ok(())
     }
 
@@ -228,7 +228,7 @@ impl State {
         let prefix = self.prefix(alloc)?;
         let none = Prefix::none(alloc)?;
         self.answers
-            .insert(alloc, DigestedKey::of(Key::Prefix), Answer::InForce(none))?;
+            .insert(alloc, DigestedKey::prefix(), Answer::InForce(none))?;
         self.entered.push(alloc, prefix)?;
         Ok(())
     }
@@ -238,7 +238,8 @@ impl State {
         ensures { OnOk result (held self.new ≡ after_step (held self.old) Leaves) }
     {
         let prefix = taken_last(alloc, &mut self.entered)?;
-        self.answers.insert(alloc, DigestedKey::of(Key::Prefix), Answer::InForce(prefix))?;
+        self.answers
+            .insert(alloc, DigestedKey::prefix(), Answer::InForce(prefix))?;
         Ok(())
     }
 

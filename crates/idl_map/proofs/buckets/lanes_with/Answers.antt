@@ -6,7 +6,7 @@ use Rattle.std.proofs.lemmas.Bool.Decides.{leb_tells}
 use Rattle.std.proofs.lemmas.List.{get_or_past}
 use Rattle.std.proofs.lemmas.Simd.{tops_compared}
 use Rattle.idl_map.proofs.BitLemmas.{eqb_same}
-use Rattle.idl_map.proofs.LaneLemmas.{bit_is, lane_is, set_in, tested, tested_many}
+use Rattle.idl_map.proofs.LaneLemmas.{bit_is, lane_is, set_in, small_in, tested, tested_many}
 use Rattle.idl_map.proofs.buckets.lanes_with.Goals as goal
 
 module _ (tags : List ℕ) (tag : ℕ) (long : length tags ≡ 16) where
@@ -35,6 +35,7 @@ returns c =
     let long : length tags ≡ 16 = c.fits-tags.0 in
     let seen = tops_compared w8 eqb tags (replicate 16 tag) in
     record {
+      small = subst (λ bs. mask_l bs % 2 ^ 64 < 2 ^ 16) (sym seen) (small_in eqb tags tag long);
       set = λ slot within tagged. subst (λ bs. bit_at (mask_l bs % 2 ^ 64) slot ≡ 1) (sym seen) (set_in eqb tags tag long slot within (eqb_same (get_or tags slot 0) tag tagged));
       below = λ slot h. below_many tags tag long slot (subst (λ bs. bit_at (mask_l bs % 2 ^ 64) slot ≡ 1) seen h);
       tagged = λ slot h. tagged_in tags tag long slot (subst (λ bs. bit_at (mask_l bs % 2 ^ 64) slot ≡ 1) seen h);

@@ -4,7 +4,8 @@ use Rattle.std.specs.Int.{bit_at}
 use Rattle.std.proofs.lemmas.Nat.Bits.{bit_at-zero}
 use Rattle.std.proofs.lemmas.Bool.Decides.{eqb_tells}
 use Rattle.std.proofs.lemmas.Option.{none-some, same_Some}
-use Rattle.idl_map.specs.Buckets.{StandsAt}
+use Rattle.idl_map.specs.Buckets.{Stands}
+use Rattle.idl_map.proofs.BucketLemmas.{Stands-below, spot-stands}
 use Rattle.idl_map.proofs.PlaceLemmas.{digest-at}
 use Rattle.idl_map.proofs.arena.Arena.place_at.Goals as goal
 
@@ -18,6 +19,9 @@ returns-then-is_at g c i =
       λ h. ap Some (c.requires.sound.distinct key place i at h),
     )
 
+pub loop-marks-init : goal.loop-marks-init
+loop-marks-init g c slot i at = inr (c.marked-marks.ensures slot i at)
+
 pub loop-marks-preserved : goal.loop-marks-preserved
 loop-marks-preserved g c slot i at =
     let arena = c.args.self.now in
@@ -28,10 +32,10 @@ loop-marks-preserved g c slot i at =
       | inl other ↦ inl other
       | inr marked ↦ elim (eqb_tells slot low) [
         | inl t ↦
-            let is : c.place-place.result ≡ i = c.place-place.ensures spot.tag i (subst (λ (s : ℕ). StandsAt arena.index.buckets spot.number s spot.tag i) t.1 at) in
+            let is : c.place-place.result ≡ i = c.place-place.ensures i (subst (λ (s : ℕ). Stands arena.index spot.digest s i) t.1 at) in
             inl (λ here. absurd (true≢false (sym (c.is_at.ensures.1 (ap (slice_get (keys_of arena.entries.items)) is ∙ here)) ∙ c.if-is_at.false)))
         | inr f ↦
-            let within : slot < 64 = omega (arith, at.below) in
+            let within : slot < 64 = Stands-below arena.index spot.digest slot i at in
             inr (c.without-marks.ensures.kept slot within f.1 ∙ marked)
       ]
     ]
@@ -45,7 +49,7 @@ returns g c i =
       λ h.
           let digest : slice_get arena.index.digests.items i ≡ Some c.args.spot.digest =
           digest-at g.K.Digest.digest_of arena.index.digests.items keys i key c.requires.sound.digests h ∙ ap Some (sym c.requires.digest) in
-          let found = c.marked-marks.ensures.found i digest in
+          let found = spot-stands arena.index c.args.spot c.requires.spot c.requires.sound.indexed i digest in
           elim (c.loop-marks.invariant found.0 i found.1) [
             | inl other ↦ absurd (other h)
             | inr marked ↦ (let none : bit_at c.loop-marks.marks found.0 ≡ 0 = ap (λ m. bit_at m found.0) c.loop-marks-test.false ∙ bit_at-zero found.0 in absurd (omega (arith, none, marked)))

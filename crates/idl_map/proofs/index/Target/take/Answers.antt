@@ -3,13 +3,13 @@ use Rattle.std.specs.Int.{bit_at}
 use Rattle.std.proofs.lemmas.Bool.Decides.{eqb_tells}
 use Rattle.std.proofs.lemmas.Nat.Bits.{bit_at-zero}
 use Rattle.idl_map.specs.Buckets.{FindsIn, IsOf, StandsAt, tag_of}
-use Rattle.idl_map.proofs.BucketLemmas.{AreKept-twice, FindsIn-kept, tag_of_some}
+use Rattle.idl_map.proofs.BucketLemmas.{AreKept-same, AreKept-twice, FindsIn-kept, tag_of_some}
 use Rattle.idl_map.proofs.index.Target.take.Goals as goal
 
 pub loop-marks-init : goal.loop-marks-init
 loop-marks-init c =
     record {
-      kept = λ number slot tag place some at. at;
+      kept = AreKept-same c.args.buckets.now;
       taken = λ slot d i of at. inr (c.taken-marks.ensures slot (tag_of d) i (tag_of_some d) at);
     }
 
@@ -28,7 +28,7 @@ loop-marks-preserved c =
         | inr marked ↦ elim (eqb_tells slot low) [
           | inl t ↦
               let there : StandsAt old number low (tag_of d) i = subst (λ (s : ℕ). StandsAt old number s (tag_of d) i) t.1 at in
-              let is : c.place-place.result ≡ i = c.place-place.ensures (tag_of d) i (c.loop-marks.invariant.kept number low (tag_of d) i (tag_of_some d) there) in
+              let is : c.place-place.result ≡ i = c.place-place.ensures (tag_of d) i (c.loop-marks.invariant.kept.stands number low (tag_of d) i (tag_of_some d) there) in
               let own : IsOf target.digests.now target.number d c.place-place.result = subst (λ (p : ℕ). IsOf target.digests.now target.number d p) (sym is) of in
               inl (subst (λ (p : ℕ). FindsIn target.part after d p) is (c.put.ensures.put c.if-not-put.false d own))
           | inr f ↦

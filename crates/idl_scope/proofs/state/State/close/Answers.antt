@@ -17,10 +17,10 @@ returns c =
     let able = ap closable (sym scopes) ∙ sym c.in-Some.ensures in
     let closed : kept c.insert.new.self ≡ with_answer Cursor (Open outer) (λ k. over (closing w scope) k (kept entries k)) =
     (λ i k. c.in_ok-insert.ensures.each_key k i)
-    ∙ (λ i. with_answer (c.of.ensures i) (c.in_ok-scopes.ensures i) (λ k. c.in_ok-put_closing.ensures k i))
+    ∙ (λ i. with_answer (c.cursor-2.ensures i) (c.in_ok-scopes.ensures i) (λ k. c.in_ok-put_closing.ensures k i))
     ∙ (λ i. with_answer Cursor (Open outer) (λ k. over (sym c.in_ok-closing.ensures i) k (kept entries k))) in
     let answers : kept c.insert-2.new.self ≡ with_prefix (given_back w.before.opened) (with_answer Cursor (Open outer) (λ k. over (closing w scope) k (kept entries k))) =
     (λ i k. c.in_ok-insert-2.ensures.each_key k i)
-    ∙ (λ i. with_answer (c.of-2.ensures i) (InForce (c.in_ok-prefix.ensures.prefix i)) (closed i)) in
+    ∙ (λ i. with_answer (c.prefix.ensures i) (InForce (c.in_ok-prefix.ensures.prefix i)) (closed i)) in
     (λ i. record { answers = answers i; inside = c.leave.ensures i; before = record w.before { opened = c.in_ok-prefix.ensures.others i } })
     ∙ sym (after_closing-some w (scopes_in (kept entries Cursor)) scope outer able)

@@ -11,7 +11,7 @@ returns c =
     let state = c.args.self.now in
     let put : kept c.insert.new.self ≡ (after_entering (held state)).answers =
     (λ i k. c.in_ok-insert.ensures.each_key k i)
-    ∙ (λ i. with_answer (c.of.ensures i) (InForce (c.in_ok-none.ensures i)) (kept state.answers)) in
+    ∙ (λ i. with_answer (c.prefix-3.ensures i) (InForce (c.in_ok-none.ensures i)) (kept state.answers)) in
     let pushed = c.in_ok-push.ensures.items ∙ ap (λ p. state.entered ++ p ∷ []) c.in_ok-prefix.ensures in
     let entered = ap reverse pushed ∙ reverse-push state.entered (prefix_in (kept state.answers PrefixKey)) in
     λ i. record (held state) { answers = put i; before = record (held state).before { entered = entered i } }

@@ -10,5 +10,5 @@ returns c =
     let state = c.args.self.now in
     let put : kept c.insert.new.self ≡ (after_leaving (held state)).answers =
     (λ i k. c.in_ok-insert.ensures.each_key k i)
-    ∙ (λ i. with_answer (c.of.ensures i) (InForce (c.in_ok-prefix.ensures.prefix i)) (kept state.answers)) in
+    ∙ (λ i. with_answer (c.prefix.ensures i) (InForce (c.in_ok-prefix.ensures.prefix i)) (kept state.answers)) in
     λ i. record (held state) { answers = put i; before = record (held state).before { entered = c.in_ok-prefix.ensures.others i } }

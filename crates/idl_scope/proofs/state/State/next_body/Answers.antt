@@ -2,11 +2,10 @@ use Rattle.std.proofs.Common.{ap, ◌∙◌, ◌+◌}
 use Rattle.std.specs.Map.{lookup}
 use Rattle.idl_scope.specs.Facts.{count_in}
 use Rattle.idl_scope.specs.Key.{key_eq}
-use Rattle.idl_scope.specs.declared.key.Key.TheVariants.{Opened}
 use Rattle.idl_scope.proofs.state.State.next_body.Goals as goal
 
 pub returns : goal.returns
 returns c =
     let entries = c.args.self.now.answers in
-    let body = ap (λ n. n + 1) (c.count_in-body.ensures ∙ ap count_in c.get.ensures ∙ ap (λ q. count_in (lookup (key_eq q) entries)) (c.of-key.ensures ∙ ap Opened c.in_ok-clone.ensures.cases)) in
+    let body = ap (λ n. n + 1) (c.count_in-body.ensures ∙ ap count_in c.get.ensures ∙ ap (λ q. count_in (lookup (key_eq q) entries)) c.in_ok-key.ensures) in
     λ i. record { path = c.in_ok-path.ensures.cases i; kind = c.args.kind; body = body i }

@@ -14,9 +14,9 @@ returns c =
     let scope = c.in_ok-scope.scope in
     let put : kept c.insert.new.self ≡ with_answer (Opened scope.path) (Count scope.body) (kept entries) =
     (λ i k. c.in_ok-insert.ensures.each_key k i)
-    ∙ ap (λ q. with_answer q (Count scope.body) (kept entries)) (c.of-key.ensures ∙ ap Opened c.in_ok-clone.ensures.cases) in
+    ∙ ap (λ q. with_answer q (Count scope.body) (kept entries)) c.in_ok-key.ensures in
     let both : kept c.insert-2.new.self ≡ with_answer Cursor c.in_ok-scopes.scopes (with_answer (Opened scope.path) (Count scope.body) (kept entries)) =
-    (λ i k. c.in_ok-insert-2.ensures.each_key k i) ∙ (λ i. with_answer (c.of.ensures i) c.in_ok-scopes.scopes (put i)) in
+    (λ i k. c.in_ok-insert-2.ensures.each_key k i) ∙ (λ i. with_answer (c.cursor-2.ensures i) c.in_ok-scopes.scopes (put i)) in
     let outer = c.cursor.ensures in
     let opened = c.in_ok-scopes.ensures ∙ ap (λ scopes. Open (scope ∷ scopes)) outer in
     let within = c.in_ok-push.ensures.items ∙ ap (λ own. state.inside.items ++ own ∷ []) c.new.ensures in

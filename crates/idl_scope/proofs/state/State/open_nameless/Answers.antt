@@ -13,9 +13,9 @@ use Rattle.idl_scope.proofs.state.State.open_nameless.Goals as goal
 pub open-requires : goal.open-requires
 open-requires c =
     let state = c.args.self.now in
-    let number = c.count_in-number.ensures ∙ ap count_in c.get.ensures ∙ ap (λ q. count_in (kept state.answers q)) c.of-key.ensures in
+    let number = c.count_in-number.ensures ∙ ap count_in c.get.ensures ∙ ap (λ q. count_in (kept state.answers q)) c.nameless-key.ensures in
     let put : kept c.insert.new.self ≡ (after_nameless (held state)).answers =
-    (λ i k. c.in_ok-insert.ensures.each_key k i) ∙ (λ i. with_answer (c.of-key.ensures i) (Count (number i + 1)) (kept state.answers)) in
+    (λ i k. c.in_ok-insert.ensures.each_key k i) ∙ (λ i. with_answer (c.nameless-key.ensures i) (Count (number i + 1)) (kept state.answers)) in
     let key = Opened c.in_ok-path.path in
     let same = ap (λ (answers : Key → Option Answer). count_in (answers key)) put in
     rw same (c.requires key)
@@ -23,9 +23,9 @@ open-requires c =
 pub returns : goal.returns
 returns c =
     let state = c.args.self.now in
-    let number = c.count_in-number.ensures ∙ ap count_in c.get.ensures ∙ ap (λ q. count_in (kept state.answers q)) c.of-key.ensures in
+    let number = c.count_in-number.ensures ∙ ap count_in c.get.ensures ∙ ap (λ q. count_in (kept state.answers q)) c.nameless-key.ensures in
     let put : kept c.insert.new.self ≡ (after_nameless (held state)).answers =
-    (λ i k. c.in_ok-insert.ensures.each_key k i) ∙ (λ i. with_answer (c.of-key.ensures i) (Count (number i + 1)) (kept state.answers)) in
+    (λ i k. c.in_ok-insert.ensures.each_key k i) ∙ (λ i. with_answer (c.nameless-key.ensures i) (Count (number i + 1)) (kept state.answers)) in
     let counted : held (record state { answers = c.insert.new.self }) ≡ after_nameless (held state) = λ i. record (held state) { answers = put i } in
     let name = c.in_ok-name.ensures ∙ ap nameless number in
     let outer = c.cursor.ensures in

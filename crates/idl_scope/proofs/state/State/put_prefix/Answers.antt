@@ -13,5 +13,5 @@ returns c =
     let prefix = c.in_ok-prefix.ensures ∙ (λ i. record { text = c.in_ok-text.ensures.cases i; scope = scope i }) in
     let put : kept c.insert.new.self ≡ (after_prefix (held state) c.args.text.now).answers =
     (λ i k. c.in_ok-insert.ensures.each_key k i)
-    ∙ (λ i. with_answer (c.of.ensures i) (InForce (prefix i)) (kept state.answers)) in
+    ∙ (λ i. with_answer (c.prefix.ensures i) (InForce (prefix i)) (kept state.answers)) in
     λ i. record (held state) { answers = put i }
