@@ -1,6 +1,5 @@
 -- What directives of one line come to.
-use Rattle.std.proofs.Common.{◌≡◌, ℕ, Bool, true, false, List, ◌∷◌, Option, None, Some, codes, drop, flat_map, if◌then◌else◌, ap, sym, ◌∙◌}
-use Rattle.std.proofs.lemmas.List.Folds.{flat_map-map}
+use Rattle.std.proofs.Common.{◌≡◌, ℕ, Bool, true, false, List, ◌∷◌, Option, None, Some, codes, if◌then◌else◌, ap, sym, ◌∙◌}
 use Rattle.std.specs.List.{list_any}
 use Rattle.std.specs.Str.{bytes_eq}
 use Rattle.indexmap.specs.IndexSet.{insert_key}
@@ -11,8 +10,7 @@ use Rattle.idl_event.specs.declared.event.Event.TheVariants.{Pragma}
 use Rattle.idl_event.specs.declared.event.Item.TheVariants as item
 use Rattle.idl_event.specs.declared.key.Answer.{Answer}
 use Rattle.idl_event.specs.declared.key.Key.{Key}
-use Rattle.idl_lex.specs.Tokens.{Token, tokens_in}
-use Rattle.idl_lex.specs.declared.token.PlacedToken.{PlacedToken}
+use Rattle.idl_lex.specs.Tokens.{tokens_in}
 use Rattle.idl_macro.specs.Replace.{place_at}
 use Rattle.idl_groups.specs.Line.{Directive, Directed}
 use Rattle.idl_groups.specs.declared.kind.DirectiveKind.{DirectiveKind}

@@ -10,6 +10,7 @@ use crate::finding::{Finding, event_findings, has_error, push_rows, rows_in_orde
 use crate::judging::{Ended, Judging};
 use crate::keeping::Keeping;
 use crate::kept::KeptUnits;
+use crate::memory::Memory;
 use crate::printing::Printed;
 use idl_base::{Seq, SharedText};
 use idl_event::{Code, Expansion, Place, diagnostic_row};
@@ -52,27 +53,31 @@ pub struct Recompiled {
 /// The diagnostics stand in the order of the events that they name: a fault of the preprocessor has one, and so has a unit
 /// with a fault, at the token where it is decided. Behind them stands E23 where a scope is open at the end, and then what is
 /// declared ahead and never defined, in the order of the listing.
-pub fn compile(alloc: Global, end: &Place, expansion: &Expansion) -> Result<Compiled, AllocError>
+pub fn compile(
+    memory: &mut Memory,
+    end: &Place,
+    expansion: &Expansion,
+) -> Result<Compiled, AllocError>
     ensures { IfOk result (λ compiled. compiled ≡ compile end.now expansion.now) }
 {
-    let (compiled, _kept) = compile_with(alloc, end, expansion, None)?;
+    let (compiled, _kept) = compile_with(memory, end, expansion, None)?;
     Ok(compiled)
 }
 
 /// The same, and what is kept of the root's units, for the next time. Of what was kept the last time that is taken over whose
 /// keys are answered as they were.
 pub fn compile_after(
-    alloc: Global,
+    memory: &mut Memory,
     end: &Place,
     expansion: &Expansion,
     earlier: &KeptUnits,
 ) -> Result<Recompiled, AllocError>
     ensures { IfOk result (λ root. root.compiled ≡ compile end.now expansion.now) }
 {
-    let (compiled, kept) = compile_with(alloc, end, expansion, Some(earlier))?;
+    let (compiled, kept) = compile_with(memory, end, expansion, Some(earlier))?;
     let units = match kept {
         Some(units) => units,
-        None => KeptUnits::none(alloc),
+        None => KeptUnits::none(memory.alloc()),
     };
     Ok(Recompiled { compiled, units })
 }
@@ -80,20 +85,22 @@ pub fn compile_after(
 // The same, where something is kept if something was.
 #[tactic(auto, unfolding(crate::specs::Compile::compile))]
 fn compile_with(
-    alloc: Global,
+    memory: &mut Memory,
     end: &Place,
     expansion: &Expansion,
     earlier: Option<&KeptUnits>,
 ) -> Result<(Compiled, Option<KeptUnits>), AllocError>
     ensures { IfOk result (λ root. root.0 ≡ compile end.now expansion.now) }
 {
+    memory.clear();
+    let alloc = memory.alloc();
     let units = split(alloc, expansion)?;
     let findings = event_findings(alloc, expansion)?;
     let count = units.as_slice().len();
     let keeping = keeping(alloc, earlier, count.saturating_sub(1))?;
     let first = Judging::new(alloc, findings, count, keeping)?;
     let judging = first.with_all(alloc, units.as_slice())?;
-    Ok(told(alloc, end, judging)?)
+    Ok(told(memory, end, judging)?)
 }
 
 // Before the first of so many units, where this was kept, if anything is kept.
@@ -112,13 +119,14 @@ fn keeping<'k>(
 
 // The rows of a root whose units are all judged, and what is kept of it.
 fn told(
-    alloc: Global,
+    memory: &mut Memory,
     end: &Place,
     judging: Judging,
 ) -> Result<(Compiled, Option<KeptUnits>), AllocError>
     requires { IfSome judging.gathered.keeping (λ k. IsKeeping k judging.env) }
     ensures { IfOk result (λ root. root.0 ≡ told end.now (held judging.entry)) }
 {
+    let alloc = memory.alloc();
     let is_open = judging.is_open();
     let Printed {
         findings: closing,
@@ -129,7 +137,7 @@ fn told(
         findings,
         rows,
         kept,
-    } = judging.ended(entries);
+    } = judging.ended(memory, entries);
     let is_faulty = is_open || has_error(&findings) || has_error(&closing);
     let open = open_rows(alloc, end, is_open)?;
     let diagnostics = diagnostics(alloc, findings, open, closing)?;

@@ -15,6 +15,7 @@ use crate::compiled::Row;
 use crate::finding::{Finding, Spelled, push_fault};
 use crate::keeping::Keeping;
 use crate::kept::{KeptEntry, KeptUnit, KeptUnits};
+use crate::memory::Memory;
 use crate::printing::{Listed, Printed, print_all, print_kept, push_listed};
 use idl_check::{Scratch, Verdict, verdict_of};
 use idl_memo::{Bank, Journal};
@@ -143,17 +144,15 @@ impl<'a> Judging<'a> {
         }
     }
 
-    /// What was found, the rows of the dump, and what is kept, with these entries.
-    pub fn ended(self, entries: Vec<Shared<KeptEntry>>) -> Ended
+    /// What was found, the rows of the dump, and what is kept, with these entries. Its environment is held for now.
+    pub fn ended(self, memory: &mut Memory, entries: Vec<Shared<KeptEntry>>) -> Ended
         requires keeping { IfSome self.gathered.keeping (λ k. IsKeeping k self.env) }
         requires entries { All (IsPrinted self.env) entries.items }
         ensures found { result.findings ≡ self.entry.gathered.findings }
         ensures rows { result.rows ≡ self.entry.gathered.rows }
     {
-        let Judging {
-            env: _env,
-            gathered,
-        } = self;
+        let Judging { env, gathered } = self;
+        memory.hold(env);
         gathered.ended(entries)
     }
 }

@@ -13,9 +13,11 @@ mod judging;
 mod keeping;
 mod kept;
 mod laws;
+mod memory;
 mod printing;
 mod reprinting;
 
 pub use compiled::{Compiled, Recompiled, Row, compile, compile_after};
 pub use kept::KeptUnits;
 pub use laws::{ordering, telling};
+pub use memory::Memory;

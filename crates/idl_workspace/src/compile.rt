@@ -12,7 +12,7 @@ use idl_base::Seq;
 use idl_event::{Answer, Expansion, FileName, Key, Place, RootBank};
 use idl_memo::Kept;
 use idl_prep::absent;
-use idl_root::{Compiled, KeptUnits, Recompiled};
+use idl_root::{Compiled, KeptUnits, Memory, Recompiled};
 use idl_source::Name;
 use std::alloc::{AllocError, Global};
 
@@ -43,15 +43,16 @@ pub struct CompiledAgain {
 
 /// Compiles a root over a bank, in which its own file may be absent, from the result of its task.
 pub fn compile<B: RootBank>(
-    alloc: Global,
+    memory: &mut Memory,
     bank: &B,
     kept: &KeptExpansion,
 ) -> Result<CompiledRoot, AllocError>
     requires { HoldsOver key_eq expansion (B.at bank.now) kept.now }
     ensures { IfOk result (λ compiled. compiled ≡ compile_over (B.at bank.now) kept.now.text) }
 {
+    let alloc = memory.alloc();
     let end = end_of(alloc, bank, kept.text())?;
-    let rows = idl_root::compile(alloc, &end, kept.out())?;
+    let rows = idl_root::compile(memory, &end, kept.out())?;
     let names = absent(alloc, kept.log())?;
     Ok(CompiledRoot {
         rows,
@@ -61,7 +62,7 @@ pub fn compile<B: RootBank>(
 
 /// The same, and what is kept of the root's units for the next time, where this was kept of them the last time.
 pub fn compile_after<B: RootBank>(
-    alloc: Global,
+    memory: &mut Memory,
     bank: &B,
     kept: &KeptExpansion,
     earlier: &KeptUnits,
@@ -69,11 +70,12 @@ pub fn compile_after<B: RootBank>(
     requires { HoldsOver key_eq expansion (B.at bank.now) kept.now }
     ensures { IfOk result (λ root. root.compiled ≡ compile_over (B.at bank.now) kept.now.text) }
 {
+    let alloc = memory.alloc();
     let end = end_of(alloc, bank, kept.text())?;
     let Recompiled {
         compiled: rows,
         units,
-    } = idl_root::compile_after(alloc, &end, kept.out(), earlier)?;
+    } = idl_root::compile_after(memory, &end, kept.out(), earlier)?;
     let names = absent(alloc, kept.log())?;
     let compiled = CompiledRoot {
         rows,

@@ -19,7 +19,7 @@ use crate::compile::{CompiledAgain, CompiledRoot, KeptExpansion, compile, compil
 use idl_event::{Key, RootBank};
 use idl_memo::{Edited, Meter, run_anew};
 use idl_prep::RootTask;
-use idl_root::KeptUnits;
+use idl_root::{KeptUnits, Memory};
 use idl_source::Name;
 use std::alloc::{AllocError, Global};
 use std::rc::Rc;
@@ -47,7 +47,7 @@ impl KeptRoot {
     ///
     /// After want of memory nothing is said of the meter.
     pub fn anew<B: RootBank>(
-        alloc: Global,
+        memory: &mut Memory,
         root: Name,
         bank: &B,
         meter: &mut Meter,
@@ -57,9 +57,10 @@ impl KeptRoot {
         ensures count { let expanded = meter.old.expanded + 1 in
             OnOk result (meter.new ≡ record meter.old { expanded = expanded }) }
     {
+        let alloc = memory.alloc();
         let task = RootTask::new(root);
         let result = run_anew(alloc, &task, bank, meter)?;
-        let compiled = compile(alloc, bank, &result)?;
+        let compiled = compile(memory, bank, &result)?;
         Ok(KeptRoot {
             result,
             compiled: Rc::new(alloc, compiled)?,
@@ -73,7 +74,7 @@ impl KeptRoot {
     /// After want of memory nothing is said of the meter.
     pub fn renewed<'a>(
         &self,
-        alloc: Global,
+        memory: &mut Memory,
         edited: &Edited<'a, SessionBank>,
         cause: Option<&Key>,
         meter: &mut Meter,
@@ -104,7 +105,7 @@ impl KeptRoot {
                 units: self.units.clone()?,
             });
         }
-        Ok(self.again(alloc, edited, meter)?)
+        Ok(self.again(memory, edited, meter)?)
     }
 
     // What comes of the root over another bank: it is expanded anew, and what is kept of its units goes into its compilation.
@@ -112,7 +113,7 @@ impl KeptRoot {
     // After want of memory nothing is said of the meter.
     fn again<B: RootBank>(
         &self,
-        alloc: Global,
+        memory: &mut Memory,
         bank: &B,
         meter: &mut Meter,
     ) -> Result<KeptRoot, AllocError>
@@ -122,9 +123,10 @@ impl KeptRoot {
         ensures count { let expanded = meter.old.expanded + 1 in
             OnOk result (meter.new ≡ record meter.old { expanded = expanded }) }
     {
+        let alloc = memory.alloc();
         let task = RootTask::new(self.result.text().copied());
         let result = run_anew(alloc, &task, bank, meter)?;
-        let root = compile_after(alloc, bank, &result, &self.units)?;
+        let root = compile_after(memory, bank, &result, &self.units)?;
         let CompiledAgain { compiled, units } = root;
         Ok(KeptRoot {
             result,

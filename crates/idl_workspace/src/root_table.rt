@@ -20,6 +20,7 @@ use crate::kept_root::KeptRoot;
 use crate::work::Work;
 use idl_memo::{Edited, Meter, freshness};
 use idl_prep::RootTask;
+use idl_root::Memory;
 use idl_source::Name;
 use indexmap::IndexMap;
 use std::alloc::{AllocError, Global};
@@ -119,7 +120,7 @@ impl RootTable {
     /// those that asked for what has changed are expanded and compiled anew.
     pub fn renewed<'a>(
         &self,
-        alloc: Global,
+        memory: &mut Memory,
         edited: &Edited<'a, SessionBank>,
     ) -> Result<(RootTable, Work), AllocError>
         requires { IsUpToDate (bank_of edited.now.base.now) self.now }
@@ -136,9 +137,9 @@ impl RootTable {
         let _room = self.roots.len();
         let mut meter = Meter::new();
         let cause = edited.cause();
-        let mut table = RootTable::new(alloc);
+        let mut table = RootTable::new(memory.alloc());
         for (root, kept) in self.roots.iter() {
-            let next = kept.renewed(alloc, edited, cause, &mut meter)?;
+            let next = kept.renewed(memory, edited, cause, &mut meter)?;
             table.add(root.copied(), next)?;
         }
         Ok((table, Work::counted(&meter)))

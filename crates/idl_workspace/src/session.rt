@@ -29,6 +29,7 @@ use idl_lex::Spelling;
 use idl_macro::is_macro_word;
 use idl_memo::{Edited, Meter, freshness};
 use idl_prep::RootTask;
+use idl_root::Memory;
 use idl_source::{Files, Line, Name, Refusal, Span};
 use std::alloc::{AllocError, Global};
 use std::marker::Model;
@@ -39,7 +40,7 @@ use std::marker::Model;
 /// changed. Queries take no memory, but that `asked` makes a list.
 #[derive(Drop)]
 pub struct Session {
-    alloc: Global,
+    memory: Memory,
     bank: SessionBank,
     roots: RootTable,
     work: Work,
@@ -68,7 +69,7 @@ impl Session {
         ensures { result ≡ record { project = no_project; work = no_work } }
     {
         Session {
-            alloc,
+            memory: Memory::new(alloc),
             bank: SessionBank::new(alloc),
             roots: RootTable::new(alloc),
             work: Work::none(),
@@ -116,11 +117,11 @@ impl Session {
     pub fn define(&mut self, word: &[u8], body: Line) -> Result<Work, Refusal>
         ensures { IsEdited (Define word.now body) self.old self.new result }
     {
-        let word = spelled(self.alloc, word)?;
+        let word = spelled(self.memory.alloc(), word)?;
         if let Some(refusal) = self.refusal_of_define(&word, &body) {
             return Err(refusal);
         }
-        let body = MacroBody::new(self.alloc, body)?;
+        let body = MacroBody::new(self.memory.alloc(), body)?;
         let renewed = self.renewed_with_macro(&word, Some(body.answer()))?;
         self.bank.define(word, body)?;
         self.roots = renewed.0;
@@ -137,7 +138,7 @@ impl Session {
         if !is_macro_word(word) {
             return Err(Refusal::BadMacro);
         }
-        let word = spelled(self.alloc, word)?;
+        let word = spelled(self.memory.alloc(), word)?;
         let renewed = self.renewed_with_macro(&word, None)?;
         self.bank.undef(&word);
         self.roots = renewed.0;
@@ -152,7 +153,7 @@ impl Session {
     pub fn search(&mut self, list: &[&[u8]]) -> Result<Work, Refusal>
         ensures { IsEdited (Search (map (λ bytes. bytes.now) list.now)) self.old self.new result }
     {
-        let list = directories(self.alloc, list)?;
+        let list = directories(self.memory.alloc(), list)?;
         let search = Answer::Search(Seq::from_vec(list));
         let renewed = self.renewed_with(&Key::Search, Some(&search))?;
         self.bank.set_search(search);
@@ -186,7 +187,7 @@ impl Session {
         };
         // First, so that no root is compiled where there is no room for it.
         self.roots.reserve_one()?;
-        let kept = KeptRoot::anew(self.alloc, root.copied(), &self.bank, &mut meter)?;
+        let kept = KeptRoot::anew(&mut self.memory, root.copied(), &self.bank, &mut meter)?;
         self.roots.add(root, kept)?;
         self.work = Work::counted(&meter);
         Ok(self.work)
@@ -271,8 +272,8 @@ impl Session {
         ensures { IfOk result (λ names. names.items ≡ asked_of self.now.project root.now) }
     {
         match self.kept(root) {
-            Some(kept) => Ok(kept.asked(self.alloc)?),
-            None => Ok(Vec::new(self.alloc)),
+            Some(kept) => Ok(kept.asked(self.memory.alloc())?),
+            None => Ok(Vec::new(self.memory.alloc())),
         }
     }
 
@@ -285,7 +286,7 @@ impl Session {
 
     /// Where the session's memory comes from, for what a caller has to hand in.
     pub fn allocator(&self) -> Global {
-        self.alloc
+        self.memory.alloc()
     }
 
     /// Why lines that are too many or too long for any file aren't put under this name: the least refusal. It takes no memory.
@@ -358,8 +359,8 @@ impl Session {
             → after self.old.project edit ≡ Ok (with_files self.old.project files)
             → IsEdited edit self.old self.new result }
     {
-        let name = FileName::new(self.alloc, &Name::new(name).unwrap())?;
-        let answer = self.bank.file_answer(self.alloc, &files, &name)?;
+        let name = FileName::new(self.memory.alloc(), &Name::new(name).unwrap())?;
+        let answer = self.bank.file_answer(self.memory.alloc(), &files, &name)?;
         let renewed = self.renewed_with(&Key::File(name.clone()?), answer.as_ref())?;
         self.bank.set_files(name, files, answer)?;
         self.roots = renewed.0;
@@ -369,11 +370,13 @@ impl Session {
 
     // All roots as they are once the macro of this word has another answer, and the work of that.
     fn renewed_with_macro(
-        &self,
+        &mut self,
         word: &Spelling,
         answer: Option<&Answer>,
     ) -> Result<(RootTable, Work), AllocError>
-        ensures { IfOk result (IsRenewed self.now.project (keys.Macro word.now) (option_copied answer.entry)) }
+        ensures renewed { IfOk result
+            (IsRenewed self.old.project (keys.Macro word.now) (option_copied answer.entry)) }
+        ensures same { self.new ≡ self.old }
     {
         let key = Key::Macro(word.clone()?);
         Ok(self.renewed_with(&key, answer)?)
@@ -381,17 +384,19 @@ impl Session {
 
     // All roots as they are once this key has another answer, and the work of that.
     fn renewed_with(
-        &self,
+        &mut self,
         key: &Key,
         answer: Option<&Answer>,
     ) -> Result<(RootTable, Work), AllocError>
-        ensures { IfOk result (IsRenewed self.now.project key.now (option_copied answer.entry)) }
+        ensures renewed { IfOk result
+            (IsRenewed self.old.project key.now (option_copied answer.entry)) }
+        ensures same { self.new ≡ self.old }
     {
         let edited = Edited {
             base: &self.bank,
             key,
             answer,
         };
-        Ok(self.roots.renewed(self.alloc, &edited)?)
+        Ok(self.roots.renewed(&mut self.memory, &edited)?)
     }
 }

@@ -1,5 +1,5 @@
 use Rattle.idl_memo.specs.Query.{and_then}
-use Rattle.std.proofs.Common.{◌≡◌, ◌-◌, [], suc, length, ◌+◌, map, refl, ap, sym, ◌∙◌, arith}
+use Rattle.std.proofs.Common.{◌≡◌, ◌<◌, ◌-◌, [], suc, length, ◌+◌, map, refl, ap, sym, ◌∙◌, arith}
 use Rattle.std.proofs.lemmas.List.{length-append}
 use Rattle.idl_lex.specs.Tokens.{lines_of}
 use Rattle.idl_event.specs.declared.event.Event.TheVariants.{Entered, Left}
@@ -9,7 +9,7 @@ use Rattle.idl_groups.specs.Tree.{part}
 use Rattle.idl_prep.specs.Pass.{coming, entered, to_come}
 use Rattle.idl_prep.specs.Root.{enter}
 use Rattle.idl_prep.specs.State.{onward, telling}
-use Rattle.idl_prep.proofs.FileLemmas.{ended-over, onward-enter, onward-too_deep, to_come-file, to_come-no_line}
+use Rattle.idl_prep.proofs.FileLemmas.{ended-over, not_none-some, onward-enter, onward-too_deep, to_come-file, to_come-no_line}
 use Rattle.idl_prep.proofs.WalkLemmas.{onward-then}
 use Rattle.idl_prep.proofs.file.+files.Goals as goal
 
@@ -58,7 +58,15 @@ walk_file-lines-smaller g t c =
     let line = c.first_line-line.result.0 in
     let rest = c.first_line-line.result.1 in
     let all : length c.lines.left ≡ length line + length rest = ap length c.first_line-line.ensures.all ∙ length-append line rest in
-    omega (arith, c.first_line-line.ensures.some, all, c.in_ok-left.ensures.shorter)
+    omega (arith, c.first_line-line.ensures.some, all, c.in_ok-left-2.ensures.shorter)
+
+pub walk_file-lines-smaller-then-not-is_empty : goal.walk_file-lines-smaller-then-not-is_empty
+walk_file-lines-smaller-then-not-is_empty g t c =
+    let text = c.first_text-text.result.0 in
+    let behind = c.first_text-text.result.1 in
+    let all : length c.lines.left ≡ length text + length behind = ap length c.first_text-text.ensures.all ∙ length-append text behind in
+    let some : 0 < length text = not_none-some text c.is_empty-in-lines.result c.is_empty-in-lines.ensures c.if-not-is_empty.true in
+    omega (arith, some, all, c.in_ok-left.ensures.shorter)
 
 pub walk_file-lines-preserved : goal.walk_file-lines-preserved
 walk_file-lines-preserved g t c =
@@ -68,7 +76,7 @@ walk_file-lines-preserved g t c =
     let lines = map read (lines_of c.first_line-line.result.1) in
     let found = c.in_ok-inclusion.inclusion in
     let after = coming next file c.walk_line.new.groups (part lines) in
-    c.in_ok-left.ensures.to_come bank next
+    c.in_ok-left-2.ensures.to_come bank next
     ∙ onward-then bank (entered next found) after (λ s. and_then (entered next found s) after) c.walk_line.new.root c.enter_file.new.root c.in_ok-enter_file.ensures refl
     ∙ c.in_ok-inclusion.ensures next lines
     ∙ ap (λ ls. to_come bank next file c.lines.groups (map read ls) c.lines.root) (sym c.first_line-line.ensures.lines)
@@ -80,7 +88,7 @@ walk_file-lines-preserved-then-not-is_empty g t c =
     let next = enter c.args.room in
     let file = c.args.site.now.file.now in
     let rest = map read (lines_of c.first_text-text.result.1) in
-    c.in_ok-left-then-not-is_empty.ensures.to_come bank next
+    c.in_ok-left.ensures.to_come bank next
     ∙ c.in_ok-walk_texts.ensures next rest
     ∙ ap (λ ls. to_come bank next file c.lines.groups ls c.lines.root) (sym c.first_text-text.ensures.lines)
     ∙ c.lines.invariant

@@ -1,5 +1,4 @@
-use Rattle.std.proofs.Common.{◌≡◌, ◌∙◌, List, ap, sym}
-use Rattle.idl_groups.specs.Line.{Text}
+use Rattle.std.proofs.Common.{◌∙◌, List, ap, sym}
 use Rattle.idl_lex.proofs.TextLemmas.{lines_of-joined}
 use Rattle.idl_lex.specs.Tokens.{lines_of}
 use Rattle.idl_lex.specs.declared.token.PlacedToken.{PlacedToken}
