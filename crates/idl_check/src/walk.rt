@@ -1,6 +1,6 @@
 //! The walk over the sites of a unit.
 
-ghost use Rattle.std.specs.Prelude.{◌≡◌, ◌≤◌, ◌+◌, ◌∷◌, ◌++◌, [], ℕ, IfOk, OnOk, Some, drop, map, option_to_list, take, true};
+ghost use Rattle.std.specs.Prelude.{◌≡◌, ◌≤◌, ◌+◌, ◌∷◌, ◌++◌, [], ℕ, OnOk, Some, drop, map, option_to_list, take, true};
 ghost use Rattle.idl_check.specs.Bodies.{begun_body, raising, with_context};
 ghost use Rattle.idl_check.specs.Declaring.{finished, with_finished};
 ghost use Rattle.idl_check.specs.Held.{HasRoomFor, held, visited};
