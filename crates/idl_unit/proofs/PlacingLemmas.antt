@@ -1,8 +1,8 @@
 -- The cut of events, event by event.
-use Rattle.std.proofs.Common.{◌≡◌, ◌≢◌, ◌∙◌, ℕ, suc, ◌+◌, ◌-◌, ◌<◌, ◌≤◌, Bool, true, false, cond, not, ◌||◌, List, [], ◌∷◌, ◌++◌, length, take, drop, refl, sym, ap, arith, append_assoc}
-use Rattle.std.specs.Prelude.{flat_map, nat_lt}
+use Rattle.std.proofs.Common.{◌≡◌, ◌≢◌, ◌∙◌, ℕ, suc, ◌+◌, ◌-◌, ◌<◌, ◌≤◌, Bool, true, false, cond, not, ◌||◌, List, [], ◌∷◌, ◌++◌, length, take, drop, refl, sym, ap, subst, arith, append_assoc, length-drop}
+use Rattle.std.specs.Prelude.{IfSome, None, flat_map, nat_lt}
 use Rattle.std.proofs.lemmas.Bool.{ne_eqb, lt-ltb}
-use Rattle.std.proofs.lemmas.List.{append-nil, drop-drop, drop_all, drop_at, length_push, length-take-le, take_at}
+use Rattle.std.proofs.lemmas.List.{append-nil, drop-append-le, drop-drop, drop_all, drop_at, length_push, take_at}
 use Rattle.idl_event.proofs.ApartLemmas.{length-sites_in}
 use Rattle.idl_event.specs.Apart.{Numbered, others_in, site_at, site_in, sites_in, token_in, tokens_in}
 use Rattle.idl_event.specs.declared.event.Event.TheVariants as event
@@ -11,7 +11,7 @@ use Rattle.idl_event.specs.declared.site.Site.{Site}
 use Rattle.idl_lex.specs.Tokens.{Token}
 use Rattle.idl_unit.specs.Cut.{parts_after}
 use Rattle.idl_unit.specs.Ending.{ends, is_empty, token_units}
-use Rattle.idl_unit.specs.Placing.{Ahead, IsWithin, after_begun, after_token, ahead, begun, begun_of, placed, to_come}
+use Rattle.idl_unit.specs.Placing.{Ahead, IsFront, IsWithin, after_begun, after_token, ahead, begun, begun_of, placed, to_come}
 use Rattle.idl_unit.specs.declared.cut.Cut.{Cut}
 use Rattle.idl_unit.specs.Units.{spelled, stretch_ends, stretch_units, unit_in, units_in}
 use Rattle.idl_unit.specs.declared.unit.Unit.{Unit as RootUnit}
@@ -307,24 +307,6 @@ all-placed ((n, event.Fault place code text) ∷ events) = placed-other (n, even
 pub placed-units : (events : List Numbered) → placed (ahead_of (token_units (tokens_in events)) (sites_in events) 0) events ≡ units_in events
 placed-units events = (all-placed events).is
 
--- a unit begins
-pub begin-some : (text : List Token) (sites : List Site) (from len inside : ℕ) → inside ≡ 0 → len ≤ length (drop from text)
-    → token_units (drop from text) ≡ take len (drop from text) ∷ token_units (drop len (drop from text))
-    → (begun (ahead_of (token_units (drop from text)) (drop from sites) inside) ≡ Spelled (Tokens (take len (drop from text))) (take len (drop from sites)) ∷ [])
-    × (ahead_of (token_units (drop (from + len) text)) (drop (from + len) sites) (len - 1) ≡ after_token (ahead_of (token_units (drop from text)) (drop from sites) inside))
-begin-some text sites from len inside outside le cut =
-    let unit = take len (drop from text) in
-    let long : length unit ≡ len = length-take-le len (drop from text) le in
-    let units = token_units (drop from text) in (
-      ap (λ n. begun (ahead_of units (drop from sites) n)) outside
-          ∙ ap (λ us. begun_of us (drop from sites)) cut ∙ ap (λ n. Spelled (Tokens unit) (take n (drop from sites)) ∷ []) long,
-      sym (ap (λ n. after_token (ahead_of units (drop from sites) n)) outside
-          ∙ ap (λ us. after_begun us (drop from sites)) cut
-          ∙ ap (λ n. ahead_of (token_units (drop len (drop from text))) (drop n (drop from sites)) (n - 1)) long
-          ∙ ap (λ l. ahead_of (token_units l) (drop len (drop from sites)) (len - 1)) (drop-drop len from text)
-          ∙ ap (λ l. ahead_of (token_units (drop (from + len) text)) l (len - 1)) (drop-drop len from sites)),
-    )
-
 none-begins : (sites : List Site) → (begun (ahead_of (token_units []) sites 0) ≡ []) × (ahead_of (token_units []) sites 0 ≡ after_token (ahead_of (token_units []) sites 0))
 unfolding parts_after
 none-begins sites = (refl, refl)
@@ -347,10 +329,24 @@ begin-none text sites from inside outside le =
 
 -- where the cut begins, it is within the text
 pub start-within : (cut : Cut) (events : List Numbered) → cut.text.now ≡ tokens_in events → cut.sites.now.value ≡ sites_in events
-    → cut.taken ≡ 0 → IsWithin cut
-start-within cut events text sites taken = record {
+    → cut.taken ≡ 0 → cut.run ≡ None → IsWithin cut
+start-within cut events text sites taken none = record {
   length_same = ap length sites ∙ length-sites_in events ∙ sym (ap length text);
   taken_at_most = omega arith;
+  run = subst (λ r. IfSome r (λ run. cut.place < length run.now → IsFront run.now cut.place (drop cut.taken cut.text.now))) (sym none) tt;
+}
+
+-- what comes first behind tokens of a run
+pub front-behind : (text run : List Token) (taken place len : ℕ) → IsFront run place (drop taken text) → place + len < length run
+    → IsFront run (place + len) (drop (taken + len) text)
+front-behind text run taken place len front lt = record {
+  some = lt;
+  rest = front.rest;
+  all =
+      sym (drop-drop len taken text)
+      ∙ ap (drop len) front.all
+      ∙ drop-append-le len (drop place run) front.rest (omega (arith, length-drop place run))
+      ∙ ap (λ l. l ++ front.rest) (drop-drop len place run);
 }
 
 -- and all units are to come

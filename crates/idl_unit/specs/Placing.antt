@@ -1,5 +1,5 @@
 -- Words for the steps of the cut of events.
-use Rattle.std.specs.Prelude.{◌≡◌, ℕ, ◌-◌, ◌<◌, ◌≤◌, List, [], ◌∷◌, ◌++◌, drop, length, nat_eq, nat_lt, take, if◌then◌else◌}
+use Rattle.std.specs.Prelude.{◌≡◌, ℕ, ◌-◌, ◌<◌, ◌≤◌, IfSome, List, [], ◌∷◌, ◌++◌, drop, length, nat_eq, nat_lt, take, if◌then◌else◌}
 use Rattle.idl_event.specs.Apart.{Numbered}
 use Rattle.idl_event.specs.declared.event.Event.TheVariants as event
 use Rattle.idl_event.specs.declared.site.Site.{Site}
@@ -56,11 +56,20 @@ ahead cut = record {
 abbrev pub to_come : Cut → List Numbered → List RootUnit
 to_come cut events = cut.units.items ++ placed (ahead cut) events
 
--- a token has one site, and the cut is within the text
+-- the tokens of a run from this place on, where it has some, are what these begin with
+pub record IsFront (run : List Token) (place : ℕ) (left : List Token) : Type 0 where
+  pub some : place < length run
+  pub rest : List Token
+  pub all : left ≡ drop place run ++ rest
+
+-- a token has one site, the cut is within the text, and the run that it stands in is known if it
+-- has more
 pub record IsWithin (cut : Cut) : Type 0 where
   pub length_same : length cut.sites.now.value
       ≡ length cut.text.now
   pub taken_at_most : cut.taken ≤ length cut.text.now
+  pub run : IfSome cut.run (λ run. cut.place < length run.now
+      → IsFront run.now cut.place (drop cut.taken cut.text.now))
 
 -- the first unit of these tokens
 pub record IsFirstUnit (unit left : List Token) : Type 0 where

@@ -1,12 +1,12 @@
 //! The cut of an expansion into units.
 
-ghost use Rattle.std.specs.Prelude.{◌≡◌, ◌∷◌, ◌++◌, ◌≤◌, ◌<◌, [], List, IfNone, IfOk, IfSome, IsFalse, IsTrue, OnOk, drop, length, take};
+ghost use Rattle.std.specs.Prelude.{◌≡◌, ◌∷◌, ◌++◌, ◌≤◌, ◌<◌, [], List, IfNone, IfOk, IfSome, IsFalse, IsTrue, None, OnOk, drop, length, take};
 ghost use Rattle.std.specs.List.{enumerate_from};
 ghost use Rattle.idl_event.specs.Apart.{Numbered, site_at, sites_in, tokens_in};
 ghost use Rattle.idl_event.specs.Told.{event_told};
 ghost use Rattle.idl_lex.specs.Tokens.{Token as Bytes};
 ghost use Rattle.idl_unit.specs.Ending.{token_units};
-ghost use Rattle.idl_unit.specs.Placing.{ahead, after_token, begun, IsFirstUnit, IsWithin, to_come};
+ghost use Rattle.idl_unit.specs.Placing.{ahead, after_token, begun, IsFirstUnit, IsFront, IsWithin, to_come};
 ghost use Rattle.idl_unit.specs.Units.{units_of};
 
 use crate::ending::first_unit;
@@ -22,14 +22,16 @@ use std::rc::Rc;
 pub fn split(alloc: Global, expansion: &Expansion) -> Result<Units, AllocError>
     ensures { IfOk result (λ units. units ≡ units_of expansion.now) }
 {
-    let mut cut = Cut::new(alloc, expansion);
+    let mut cut = Cut::new(alloc, expansion)?;
     let mut events = expansion.events();
     'events: while cut.put_next(alloc, &mut events)? {}
     let mut units = cut.units;
     units.push(Unit::End)?;
-    units.shrink_to_fit();
     Ok(Units::from_vec(units))
 }
+
+// So many tokens most units have, or more.
+const TOKENS_A_UNIT: usize = 8;
 
 // How far the cut has come.
 #[derive(Drop)]
@@ -41,23 +43,33 @@ struct Cut<'a> {
     taken: usize,
     // How many of these are still to come among the events.
     inside: usize,
+    // The run that the last unit began in, and how many tokens of it are before what is behind that unit: more than it has where
+    // the unit goes on behind it.
+    run: Option<&'a TokenRange>,
+    place: usize,
 }
 
 impl<'a> Cut<'a> {
-    fn new(alloc: Global, expansion: &'a Expansion) -> Cut<'a>
-        ensures text { result.text.now ≡ tokens_in (enumerate_from 0 expansion.now) }
-        ensures sites { result.sites.now.value ≡ sites_in (enumerate_from 0 expansion.now) }
-        ensures units { result.units.items ≡ [] }
-        ensures taken { result.taken ≡ 0 }
-        ensures inside { result.inside ≡ 0 }
+    fn new(alloc: Global, expansion: &'a Expansion) -> Result<Cut<'a>, AllocError>
+        ensures text { IfOk result (λ cut.
+            cut.text.now ≡ tokens_in (enumerate_from 0 expansion.now)) }
+        ensures sites { IfOk result (λ cut.
+            cut.sites.now.value ≡ sites_in (enumerate_from 0 expansion.now)) }
+        ensures units { IfOk result (λ cut. cut.units.items ≡ []) }
+        ensures taken { IfOk result (λ cut. cut.taken ≡ 0) }
+        ensures inside { IfOk result (λ cut. cut.inside ≡ 0) }
+        ensures run { IfOk result (λ cut. cut.run ≡ None) }
     {
-        Cut {
-            text: expansion.text(),
+        let text = expansion.text();
+        Ok(Cut {
+            text,
             sites: expansion.sites(),
-            units: Vec::new(alloc),
+            units: Vec::with_capacity(alloc, text.len() / TOKENS_A_UNIT)?,
             taken: 0,
             inside: 0,
-        }
+            run: None,
+            place: 0,
+        })
     }
 
     // Puts in what the next event gives, if one is left; of a token that is told, neither file nor line is wanted.
@@ -150,9 +162,11 @@ impl<'a> Cut<'a> {
         ensures ahead { OnOk result (ahead self.new ≡ after_token (ahead self.old)) }
     {
         // Where no token is left, none begins.
-        let Some(text) = self.next_unit(alloc)? else {
+        let Some((run, place)) = self.run_ahead() else {
             return Ok(());
         };
+        prove!(place < run.len());
+        let text = self.unit_at(alloc, run, place)?;
         let len = text.len();
         let from = self.taken;
         prove!(len <= self.text.len() - from);
@@ -163,27 +177,44 @@ impl<'a> Cut<'a> {
         self.units.push_reserved(unit);
         self.taken = to;
         self.inside = len - 1;
+        self.run = Some(run);
+        self.place = place.saturating_add(len);
         Ok(())
     }
 
-    // The unit of the tokens that are left, if there are some: shared with its run, unless it goes on behind that.
-    fn next_unit(&self, alloc: Global) -> Result<Option<TokenRange>, AllocError>
-        requires { self.now.taken ≤ length self.now.text.now }
-        ensures none { IfOk result (λ unit. IfNone unit
-            (length self.now.text.now ≤ self.now.taken)) }
+    // The run that the next token is in, and how many tokens of the run are before it.
+    fn run_ahead(&self) -> Option<(&'a TokenRange, usize)>
+        requires { IsWithin self.now }
         ensures some { let left = drop self.now.taken self.now.text.now in
-            IfOk result (λ unit. IfSome unit (λ text. IsFirstUnit text left)) }
+            IfSome result (λ at. IsFront at.0.now at.1 left) }
+        ensures none { IfNone result (length self.now.text.now ≤ self.now.taken) }
     {
-        let Some((run, place)) = self.text.run_from(self.taken) else {
-            return Ok(None);
-        };
+        match self.run {
+            Some(run) if self.place < run.len() => Some((run, self.place)),
+            _ => self.text.run_from(self.taken),
+        }
+    }
+
+    // The unit of the tokens that are left, the first of which is at this place of a run: shared with the run, unless it goes on
+    // behind that.
+    fn unit_at(
+        &self,
+        alloc: Global,
+        run: &TokenRange,
+        place: usize,
+    ) -> Result<TokenRange, AllocError>
+        requires within { self.now.taken ≤ length self.now.text.now }
+        requires front { IsFront run.now place (drop self.now.taken self.now.text.now) }
+        ensures { let left = drop self.now.taken self.now.text.now in
+            IfOk result (λ text. IsFirstUnit text left) }
+    {
         let (_before, front) = run.as_slice().split_at(place);
         let len = self.first_len(alloc, front)?;
         if len <= front.len() {
-            return Ok(Some(run.part(place, place + len)?));
+            return run.part(place, place + len);
         }
         let mut copies = self.text.gathered(alloc, self.taken, len)?;
-        Ok(Some(TokenRange::take(&mut copies)?))
+        TokenRange::take(&mut copies)
     }
 
     // How many tokens the unit has that begins with these, which are in one run. Where they are not the last of the text and no

@@ -9,12 +9,12 @@ use Rattle.idl_unit.proofs.cut.split.Goals as goal
 
 pub events-init : goal.events-init
 events-init c =
-    let cut = c.new-cut.result in
+    let cut = c.in_ok-cut.cut in
     let events = enumerate_from 0 c.args.expansion.now in
     let walk : c.events-events.result ≡ events = search rules in
     record {
-      within = start-within cut events c.new-cut.ensures.text c.new-cut.ensures.sites c.new-cut.ensures.taken;
-      units = ap (to_come cut) walk ∙ start-to_come cut events c.new-cut.ensures.text c.new-cut.ensures.sites c.new-cut.ensures.units c.new-cut.ensures.taken c.new-cut.ensures.inside;
+      within = start-within cut events c.in_ok-cut.ensures.text c.in_ok-cut.ensures.sites c.in_ok-cut.ensures.taken c.in_ok-cut.ensures.run;
+      units = ap (to_come cut) walk ∙ start-to_come cut events c.in_ok-cut.ensures.text c.in_ok-cut.ensures.sites c.in_ok-cut.ensures.units c.in_ok-cut.ensures.taken c.in_ok-cut.ensures.inside;
     }
 
 pub returns : goal.returns

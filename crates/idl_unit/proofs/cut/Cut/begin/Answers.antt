@@ -1,6 +1,7 @@
-use Rattle.std.proofs.Common.{◌∙◌, ◌++◌, ◌≤◌, length, sym, ap, rules}
+use Rattle.std.proofs.Common.{◌≡◌, ◌∙◌, ◌+◌, ◌++◌, ◌≤◌, drop, length, sym, ap, subst, arith, rules}
 use Rattle.std.proofs.lemmas.List.{append-nil}
-use Rattle.idl_unit.proofs.PlacingLemmas.{begin-none}
+use Rattle.idl_unit.specs.Placing.{IsFirstUnit, IsFront}
+use Rattle.idl_unit.proofs.PlacingLemmas.{begin-none, front-behind}
 use Rattle.idl_unit.proofs.cut.Cut.begin.Goals as goal
 
 pub returns-in_default-clause-units : goal.returns-in_default-clause-units
@@ -15,3 +16,19 @@ returns-in_default-clause-ahead c =
     let s = c.args.self.now in
     let le : length s.text.now ≤ s.taken = search rules in
     (begin-none s.text.now s.sites.now.value s.taken s.inside c.requires.outside le).1
+
+pub returns-clause-within : goal.returns-clause-within
+returns-clause-within c =
+    let s = c.args.self.now in
+    let run = c.in-Some.run'.now in
+    let place = c.in-Some.place in
+    let len = c.len.result in
+    let front : IsFront run place (drop s.taken s.text.now) = search rules in
+    record {
+      length_same = c.requires.within.length_same;
+      taken_at_most = omega arith;
+      run = λ lt.
+          let same : c.saturating_add.result ≡ place + len = omega (arith, lt) in
+          subst (λ n. IsFront run n (drop (s.taken + len) s.text.now)) (sym same)
+          (front-behind s.text.now run s.taken place len front (omega (arith, lt, same)));
+    }
