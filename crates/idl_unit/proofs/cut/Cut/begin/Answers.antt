@@ -22,13 +22,13 @@ returns-clause-within c =
     let s = c.args.self.now in
     let run = c.in-Some.run'.now in
     let place = c.in-Some.place in
-    let len = c.len.result in
+    let len = c.len-len.result in
     let front : IsFront run place (drop s.taken s.text.now) = search rules in
     record {
       length_same = c.requires.within.length_same;
       taken_at_most = omega arith;
       run = λ lt.
-          let same : c.saturating_add.result ≡ place + len = omega (arith, lt) in
+          let same : c.saturating_add-self.result ≡ place + len = omega (arith, lt) in
           subst (λ n. IsFront run n (drop (s.taken + len) s.text.now)) (sym same)
           (front-behind s.text.now run s.taken place len front (omega (arith, lt, same)));
     }
