@@ -2,7 +2,7 @@
 use Rattle.std.proofs.Common.{◌≡◌, ◌≢◌, ◌∙◌, ℕ, suc, ◌+◌, ◌-◌, ◌<◌, ◌≤◌, Bool, true, false, cond, not, ◌||◌, List, [], ◌∷◌, ◌++◌, length, take, drop, refl, sym, ap, arith, append_assoc}
 use Rattle.std.specs.Prelude.{flat_map, nat_lt}
 use Rattle.std.proofs.lemmas.Bool.{ne_eqb, lt-ltb}
-use Rattle.std.proofs.lemmas.List.{append-nil, drop-drop, drop_all, drop_at, length_push, length-take-le, take_at}
+use Rattle.std.proofs.lemmas.List.{append-nil, drop_all, drop_at, length_push, take_at}
 use Rattle.idl_event.proofs.ApartLemmas.{length-sites_in}
 use Rattle.idl_event.specs.Apart.{Numbered, others_in, site_at, site_in, sites_in, token_in, tokens_in}
 use Rattle.idl_event.specs.declared.event.Event.TheVariants as event
@@ -306,24 +306,6 @@ all-placed ((n, event.Fault place code text) ∷ events) = placed-other (n, even
 -- the units of events, placed event by event
 pub placed-units : (events : List Numbered) → placed (ahead_of (token_units (tokens_in events)) (sites_in events) 0) events ≡ units_in events
 placed-units events = (all-placed events).is
-
--- a unit begins
-pub begin-some : (text : List Token) (sites : List Site) (from len inside : ℕ) → inside ≡ 0 → len ≤ length (drop from text)
-    → token_units (drop from text) ≡ take len (drop from text) ∷ token_units (drop len (drop from text))
-    → (begun (ahead_of (token_units (drop from text)) (drop from sites) inside) ≡ Spelled (Tokens (take len (drop from text))) (take len (drop from sites)) ∷ [])
-    × (ahead_of (token_units (drop (from + len) text)) (drop (from + len) sites) (len - 1) ≡ after_token (ahead_of (token_units (drop from text)) (drop from sites) inside))
-begin-some text sites from len inside outside le cut =
-    let unit = take len (drop from text) in
-    let long : length unit ≡ len = length-take-le len (drop from text) le in
-    let units = token_units (drop from text) in (
-      ap (λ n. begun (ahead_of units (drop from sites) n)) outside
-          ∙ ap (λ us. begun_of us (drop from sites)) cut ∙ ap (λ n. Spelled (Tokens unit) (take n (drop from sites)) ∷ []) long,
-      sym (ap (λ n. after_token (ahead_of units (drop from sites) n)) outside
-          ∙ ap (λ us. after_begun us (drop from sites)) cut
-          ∙ ap (λ n. ahead_of (token_units (drop len (drop from text))) (drop n (drop from sites)) (n - 1)) long
-          ∙ ap (λ l. ahead_of (token_units l) (drop len (drop from sites)) (len - 1)) (drop-drop len from text)
-          ∙ ap (λ l. ahead_of (token_units (drop (from + len) text)) l (len - 1)) (drop-drop len from sites)),
-    )
 
 none-begins : (sites : List Site) → (begun (ahead_of (token_units []) sites 0) ≡ []) × (ahead_of (token_units []) sites 0 ≡ after_token (ahead_of (token_units []) sites 0))
 unfolding parts_after
