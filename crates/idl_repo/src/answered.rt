@@ -9,7 +9,7 @@ use crate::entry::{Entry, entry_with};
 use crate::row::kind_head;
 use crate::type_code::members_of;
 use idl_memo::{Bank, Journal};
-use idl_scope::{Answer, DataType, Entity, Env, LentKey, Path, Shared, entity_in};
+use idl_scope::{Answer, DataType, Element, Entity, Env, LentKey, Path, Shared, entity_in};
 use std::alloc::AllocError;
 use std::marker::Model;
 
@@ -83,20 +83,22 @@ impl<'e> Answered<'e> {
 // How much room the name of what is declared so takes, with one for each type that its row tells.
 fn parts_room(entity: &Entity) -> usize {
     let name = entity.path().name().len();
-    let own = layer_count(entity.data_type());
+    let own = type_room(entity.data_type());
     let mut room = name
         .saturating_add(own)
         .saturating_add(entity.bases().len());
     for member in members_of(entity) {
-        room = room.saturating_add(layer_count(&member.data_type));
+        room = room.saturating_add(type_room(&member.data_type));
     }
     room
 }
 
-// How many sequences and arrays stand around a type.
-fn layer_count(data_type: &Option<Shared<DataType>>) -> usize {
-    match data_type {
-        Some(data_type) => data_type.get().layers.len(),
-        None => 0,
-    }
+// One for a named type, and one for each sequence and array around a type.
+fn type_room(data_type: &Option<Shared<DataType>>) -> usize {
+    let Some(data_type) = data_type else {
+        return 0;
+    };
+    let DataType { element, layers } = data_type.get();
+    let named = matches!(element, Element::Named(_path));
+    layers.len().saturating_add(named as usize)
 }

@@ -255,14 +255,32 @@ impl Printed {
             (self.new.rows.items ≡ self.old.rows.items ++ option_to_list row) }
         ensures entries { self.new.entries ≡ self.old.entries }
     {
-        let index = name_index(unit.text);
-        let fault = fault.map(|code| Fault { index, code });
-        push_fault(alloc, &mut self.findings, unit, fault)?;
+        push_closing(alloc, &mut self.findings, unit, fault)?;
         if let Some(row) = row {
             self.rows.push(row)?;
         }
         Ok(())
     }
+}
+
+// Puts in what is wrong at the end with a name that a unit declares first, if anything is.
+fn push_closing(
+    alloc: Global,
+    findings: &mut Vec<Finding>,
+    unit: Spelled<'_>,
+    fault: Option<Code>,
+) -> Result<(), AllocError>
+    ensures { OnOk result
+        (findings.new.items
+        ≡ findings.old.items
+        ++ fault_finding unit.entry.text.now unit.entry.sites.now
+        (option_map (fault_at (name_index unit.entry.text.now)) fault)) }
+{
+    let Some(code) = fault else {
+        return Ok(());
+    };
+    let index = name_index(unit.text);
+    push_fault(alloc, findings, unit, Some(Fault { index, code }))
 }
 
 // How much room rows of these names take, roughly. What is known of the names is touched by it, first each by itself and then
