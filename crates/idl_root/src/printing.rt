@@ -152,8 +152,9 @@ pub fn print_kept(
     let mut buffer = Vec::new(alloc);
     for name in listed {
         let kept = kept_entry(&mut earlier, &mut buffer, env, &name.path)?;
-        let Entry { row, fault } = &kept.get().entry;
-        printed.add(alloc, name.unit, *fault, row.clone()?)?;
+        let entry = &kept.get().entry;
+        let row = shared_row(entry)?;
+        printed.add(alloc, name.unit, entry.fault, row)?;
         printed.entries.push(kept)?;
     }
     Ok(printed)
@@ -177,6 +178,16 @@ fn kept_entry(
         }
     }
     Ok(KeptEntry::new(buffer, env, path)?)
+}
+
+// The row of an entry, shared with it.
+fn shared_row(entry: &Entry) -> Result<Option<Row>, AllocError>
+    ensures { IfOk result (λ row. row ≡ entry.now.row) }
+{
+    match &entry.row {
+        Some(row) => Ok(Some(row.clone()?)),
+        None => Ok(None),
+    }
 }
 
 impl Printed {
