@@ -1,4 +1,4 @@
-use Rattle.std.proofs.Common.{◌≡◌, ◌∙◌, Some, ap, sym}
+use Rattle.std.proofs.Common.{◌∙◌, ap, sym}
 use Rattle.std.specs.Option.{option_copied}
 use Rattle.idl_repo.proofs.EntryLaws.{entry-run}
 use Rattle.idl_repo.specs.Entry.{closing_fault}
