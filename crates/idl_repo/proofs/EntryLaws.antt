@@ -1,7 +1,7 @@
 -- What an entry comes to, and what it asks.
 use Rattle.std.proofs.Common.{◌≡◌, ◌∙◌, ℕ, List, [], ◌∷◌, ◌++◌, Option, None, Some, sym, ap, map}
 use Rattle.std.proofs.lemmas.List.{append-nil}
-use Rattle.idl_memo.specs.Query.{Done, asked, noted, noted_all, outcome, run}
+use Rattle.idl_memo.specs.Query.{Done, asked, noted_all, outcome, run}
 use Rattle.idl_memo.proofs.QueryLaws.{asked-and_then, outcome-and_then}
 use Rattle.idl_event.specs.declared.code.Code.{Code}
 use Rattle.idl_repo.proofs.ReferredLemmas.{ids-row}
@@ -38,16 +38,15 @@ pub entry-asked : (path : List (List ℕ)) (bank : Key → Option Answer) (e : S
 unfolding entry
 entry-asked path bank e is = ap (λ keys. entity_key path ∷ keys) (ap (λ there. asked (entry_in there) bank) is ∙ declared-asked e bank ∙ ids-row e)
 
-abbrev pub entry_with : List ℕ → Option Code → Entry
-entry_with row fault = record { row = Some row; fault = fault }
+abbrev pub row_entry : List ℕ → Option Code → Entry
+row_entry row fault = record { row = Some row; fault = fault }
 
--- an entry's query runs as its row is written, once it is asked what is declared there
-pub entry-run : {start text : List ℕ} {before after : List (Key × Option Answer)} (path : List (List ℕ)) (bank : Key → Option Answer) (log : List (Key × Option Answer)) (e there : ScopeEntity) (row : List ℕ) (fault : Option Code) → entity_in (bank (entity_key path)) ≡ Some e → there ≡ e → start ≡ [] → before ≡ noted key_eq bank log (entity_key path) → Writes bank (row_pieces there) (start, before) (text, after) → row ≡ text → fault ≡ closing_fault e → (entry_with row fault, after) ≡ run key_eq (entry path) bank log
-unfolding entry
-entry-run {start} {text} {before} {after} path bank log e there row fault is same empty noted_before h row_is fault_is =
+-- an entry's query runs as its row is written, once it is answered what is declared there
+pub entry-run : {start text : List ℕ} {before after : List (Key × Option Answer)} (answered : Option ScopeEntity) (bank : Key → Option Answer) (e there : ScopeEntity) (row : List ℕ) (fault : Option Code) → answered ≡ Some e → there ≡ e → start ≡ [] → Writes bank (row_pieces there) (start, before) (text, after) → row ≡ text → fault ≡ closing_fault e → (row_entry row fault, after) ≡ run key_eq (entry_in answered) bank before
+entry-run {start} {text} {before} {after} answered bank e there row fault is same empty h row_is fault_is =
     let whole : text ≡ text_over bank (row_pieces e) = h.text ∙ ap (λ s. s ++ text_over bank (row_pieces there)) empty ∙ ap (λ (x : ScopeEntity). text_over bank (row_pieces x)) same in
-    let told : entry_with row fault ≡ outcome (entry path) bank = ap (λ r. entry_with r fault) (row_is ∙ whole) ∙ ap (entry_with (text_over bank (row_pieces e))) fault_is ∙ sym (entry-declared path bank e is) in
-    let keys : asked (entry path) bank ≡ entity_key path ∷ ids_in (row_pieces e) = ap (λ ks. entity_key path ∷ ks) (ap (λ there. asked (entry_in there) bank) is ∙ declared-asked e bank) in
-    let ids : after ≡ noted_all key_eq bank (noted key_eq bank log (entity_key path)) (ids_in (row_pieces e)) = h.log ∙ ap (λ l. noted_all key_eq bank l (ids_in (row_pieces there))) noted_before ∙ ap (λ (x : ScopeEntity). noted_all key_eq bank (noted key_eq bank log (entity_key path)) (ids_in (row_pieces x))) same in
-    let logged : after ≡ noted_all key_eq bank log (asked (entry path) bank) = ids ∙ ap (noted_all key_eq bank log) (sym keys) in
-    cc
+    let told : row_entry row fault ≡ outcome (declared_entry e) bank = ap (λ r. row_entry r fault) (row_is ∙ whole) ∙ ap (row_entry (text_over bank (row_pieces e))) fault_is ∙ sym (declared-outcome e bank) in
+    let ids : after ≡ noted_all key_eq bank before (ids_in (row_pieces e)) = h.log ∙ ap (λ (x : ScopeEntity). noted_all key_eq bank before (ids_in (row_pieces x))) same in
+    let logged : after ≡ noted_all key_eq bank before (asked (declared_entry e) bank) = ids ∙ ap (noted_all key_eq bank before) (sym (declared-asked e bank)) in
+    let run_is : (row_entry row fault, after) ≡ run key_eq (declared_entry e) bank before = cc in
+    run_is ∙ sym (ap (λ a. run key_eq (entry_in a) bank before) is)

@@ -1,16 +1,17 @@
 //! The task: the entry of a name.
 
+ghost use Rattle.std.specs.Option.{option_copied};
 ghost use Rattle.std.specs.Prelude.{◌≡◌, IfOk};
 ghost use Rattle.idl_memo.specs.Query.{run};
-ghost use Rattle.idl_repo.specs.Entry.{closing_fault, entry};
-ghost use Rattle.idl_scope.specs.Facts.{answers};
+ghost use Rattle.idl_repo.specs.Entry.{closing_fault, entry, entry_in};
+ghost use Rattle.idl_scope.specs.Facts.{answers, entity_in};
 ghost use Rattle.idl_scope.specs.Key.{key_eq};
 
 use crate::row::push_row;
 use idl_base::SharedText;
 use idl_event::Code;
 use idl_memo::{Journal, Log, Task, TaskKind};
-use idl_scope::{Entity, Env, Kind, LentKey, Path, Stage, entity_in};
+use idl_scope::{Answer, Entity, Env, Kind, LentKey, Path, Stage, entity_in};
 use std::alloc::{AllocError, Global};
 
 // Most rows have no more bytes than these.
@@ -36,6 +37,17 @@ impl Drop for Entry {
             row: _row,
             fault: _fault,
         } = self;
+    }
+}
+
+impl Entry {
+    /// The row, and what is wrong with the name.
+    pub fn into_parts(self) -> (Option<SharedText>, Option<Code>)
+        ensures row { result.0 ≡ self.row }
+        ensures fault { result.1 ≡ self.fault }
+    {
+        let Entry { row, fault } = self;
+        (row, fault)
     }
 }
 
@@ -95,9 +107,23 @@ pub fn entry_by(
     ensures { IfOk result (λ e.
         (e, log.new) ≡ run key_eq (entry path.now) (answers env.now) log.old) }
 {
-    let alloc = env.alloc();
-    let key = LentKey::of_entity(alloc, path);
-    let Some(entity) = entity_in(log.ask_lent(&key, env)?) else {
+    let key = LentKey::of_entity(env.alloc(), path);
+    let answer = log.ask_lent(&key, env)?;
+    entry_with(buffer, env, log, answer)
+}
+
+/// The same, where this is answered of what is declared there.
+pub fn entry_with(
+    buffer: &mut Vec<u8>,
+    env: &Env,
+    log: &mut Journal<Env>,
+    answer: Option<&Answer>,
+) -> Result<Entry, AllocError>
+    ensures { IfOk result (λ e.
+        (e, log.new)
+        ≡ run key_eq (entry_in (entity_in (option_copied answer.entry))) (answers env.now) log.old) }
+{
+    let Some(entity) = entity_in(answer) else {
         return Ok(Entry {
             row: None,
             fault: None,
@@ -105,7 +131,7 @@ pub fn entry_by(
     };
     buffer.clear();
     push_row(buffer, env, log, entity.get())?;
-    let row = SharedText::from_slice(alloc, buffer.as_slice())?;
+    let row = SharedText::from_slice(env.alloc(), buffer.as_slice())?;
     Ok(Entry {
         row: Some(row),
         fault: closing_fault(entity.get()),

@@ -5,12 +5,14 @@
 //! places, or how the facts came about.
 #![tactic(auto)]
 
+mod answered;
 mod entry;
 mod laws;
 mod piece;
 mod row;
 mod type_code;
 
+pub use answered::Answered;
 pub use entry::{Entry, EntryTask, entry_by, entry_of};
 pub use laws::{asked_ids, listed_row, references};
 pub use type_code::{TypeCode, TypeCodeKind};

@@ -41,8 +41,8 @@ pub fn push_row(
     Ok(())
 }
 
-// The word of a row, with a blank behind it.
-fn kind_head(kind: Kind) -> &'static [u8]
+/// The word of a row, with a blank behind it.
+pub fn kind_head(kind: Kind) -> &'static [u8]
     ensures { result.now ≡ kind_word kind ++ codes " " }
 {
     match kind {

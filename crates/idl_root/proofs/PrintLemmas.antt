@@ -1,11 +1,13 @@
 -- The names that a unit declares first, addition by addition.
 use Rattle.std.proofs.Common.{◌≡◌, ◌+◌, ◌<◌, ℕ, List, [], ◌∷◌, ◌++◌, Some, drop, flat_map, get_or, length, map, refl, ap, sym, ◌∙◌, append_assoc}
 use Rattle.std.specs.Prelude.{slice_get}
-use Rattle.std.proofs.lemmas.List.{at_drop_more, map-append}
+use Rattle.std.proofs.lemmas.Grind.{flat_map-append}
+use Rattle.std.proofs.lemmas.List.{append-nil, at_drop_more, map-append}
 use Rattle.idl_event.specs.declared.site.Site.{Site}
 use Rattle.idl_root.specs.Held.{listed_at}
 use Rattle.idl_root.specs.Printed.{Listed, first_paths, listed_with}
 use Rattle.idl_root.specs.declared.printing.Listed.{Listed as HeldListed}
+use Rattle.idl_root.specs.declared.printing.Sought.{Sought}
 use Rattle.idl_scope.proofs.PlaceLemmas.{drop-at1}
 use Rattle.idl_scope.specs.declared.addition.Addition.{Addition}
 use Rattle.idl_scope.specs.declared.addition.Addition.TheVariants.{Declares, Uses, Appears, Identifies}
@@ -40,3 +42,9 @@ printed-more f there next names i name lt is own =
     ∙ append_assoc there (f (listed_at name)) (flat_map f (map listed_at rest))
     ∙ ap (λ n. there ++ flat_map f (map listed_at (n ∷ rest))) is
     ∙ sym (at_drop_more (λ l. there ++ flat_map f (map listed_at l)) names i name lt)
+
+-- what comes of names that are looked up, with one of them more
+pub sought-more : {X : Type 0} (f : Sought → List X) (there : List X) (names : List Sought) (name : Sought) → there ++ flat_map f (names ++ name ∷ []) ≡ (there ++ flat_map f names) ++ f name
+sought-more f there names name =
+    ap (λ l. there ++ l) (flat_map-append f names (name ∷ []) ∙ ap (λ l. flat_map f names ++ l) (append-nil (f name)))
+    ∙ sym (append_assoc there (flat_map f names) (f name))

@@ -8,6 +8,7 @@ use Rattle.idl_repo.specs.declared.entry.Entry.{Entry}
 use Rattle.idl_root.specs.Findings.{fault_finding, tokens_of}
 use Rattle.idl_root.specs.Judged.{Judged}
 use Rattle.idl_root.specs.declared.finding.Finding.{Finding}
+use Rattle.idl_root.specs.declared.printing.Sought.{Sought}
 use Rattle.idl_scope.specs.Facts.{UnitFacts, answers}
 use Rattle.idl_scope.specs.declared.addition.Addition.{Addition}
 use Rattle.idl_scope.specs.declared.addition.Addition.TheVariants.{Declares, Uses, Appears, Identifies}
@@ -55,3 +56,13 @@ abbrev pub closing_finding : List UnitFacts → Listed → List Finding
 closing_finding facts l =
     fault_finding l.text l.sites
     (option_map (fault_at (name_index l.text)) (entry_over facts l.path).fault)
+
+-- a name that is looked up over facts, and its row and what is wrong with it over these
+abbrev pub sought_at : Sought → Listed
+sought_at s = record { path = s.answered.1; text = s.unit.text.now; sites = s.unit.sites.now }
+
+abbrev pub sought_row : Sought → List (List ℕ)
+sought_row s = entry_row s.answered.0 (sought_at s)
+
+abbrev pub sought_finding : Sought → List Finding
+sought_finding s = closing_finding s.answered.0 (sought_at s)

@@ -6,15 +6,15 @@ ghost use Rattle.idl_root.specs.Findings.{fault_finding};
 ghost use Rattle.idl_root.specs.Followed.{AreBeside};
 ghost use Rattle.idl_root.specs.Held.{listed_at};
 ghost use Rattle.idl_root.specs.Kept.{IsPrinted};
-ghost use Rattle.idl_root.specs.Printed.{closing_finding, entry_over, entry_row, first_paths, listed_with, name_index};
+ghost use Rattle.idl_root.specs.Printed.{closing_finding, entry_over, entry_row, first_paths, listed_with, name_index, sought_finding, sought_row};
 ghost use Rattle.idl_unit.specs.TokenRules.{fault_at};
 
 use crate::compiled::Row;
 use crate::finding::{Finding, Spelled, push_fault};
 use crate::kept::KeptEntry;
 use crate::reprinting::Reprinting;
-use idl_memo::Journal;
-use idl_repo::{Entry, entry_by};
+use idl_event::Code;
+use idl_repo::{Answered, Entry};
 use idl_scope::{Addition, Env, Facts, Path, Shared};
 use idl_unit::{Fault, UnitText};
 use std::alloc::{AllocError, Global};
@@ -93,6 +93,24 @@ fn first_path(addition: &Addition) -> Option<&Path>
     }
 }
 
+// So many names are looked up before the first of their rows is written.
+const AHEAD: usize = 16;
+
+// A name that is looked up, and the unit that declares it first.
+struct Sought<'e> {
+    answered: Answered<'e>,
+    unit: Spelled<'e>,
+}
+
+impl<'e> Drop for Sought<'e> {
+    fn drop(self) {
+        let Sought {
+            answered: _answered,
+            unit: _unit,
+        } = self;
+    }
+}
+
 /// What comes of each of these names over an environment. Nothing is kept of them.
 pub fn print_all(alloc: Global, env: &Env, listed: &[Listed<'_>]) -> Result<Printed, AllocError>
     ensures findings { IfOk result (λ printed. printed.findings.items
@@ -101,12 +119,16 @@ pub fn print_all(alloc: Global, env: &Env, listed: &[Listed<'_>]) -> Result<Prin
         ≡ flat_map (entry_row env.now) (map listed_at listed.now)) }
     ensures entries { IfOk result (λ printed. printed.entries.items ≡ []) }
 {
-    let mut printed = Printed::new(alloc);
+    let mut printed = Printed::new(alloc, listed.len())?;
     let mut buffer = Vec::new(alloc);
+    let mut sought = Vec::with_capacity(alloc, AHEAD)?;
     for name in listed {
-        let entry = entry_over(&mut buffer, env, &name.path)?;
-        printed.add(alloc, name.unit, &entry)?;
+        let answered = Answered::of(env, &name.path)?;
+        let unit = name.unit;
+        sought.push(Sought { answered, unit })?;
+        printed.add_full(alloc, &mut buffer, &mut sought)?;
     }
+    printed.add_all(alloc, &mut buffer, &sought)?;
     Ok(printed)
 }
 
@@ -126,11 +148,13 @@ pub fn print_kept(
         All (IsPrinted env.now) printed.entries.items) }
 {
     let mut earlier = earlier;
-    let mut printed = Printed::new(alloc);
+    let mut printed = Printed::new(alloc, listed.len())?;
     let mut buffer = Vec::new(alloc);
     for name in listed {
         let kept = kept_entry(&mut earlier, &mut buffer, env, &name.path)?;
-        printed.add(alloc, name.unit, &kept.get().entry)?;
+        let entry = &kept.get().entry;
+        let row = shared_row(entry)?;
+        printed.add(alloc, name.unit, entry.fault, row)?;
         printed.entries.push(kept)?;
     }
     Ok(printed)
@@ -156,44 +180,131 @@ fn kept_entry(
     Ok(KeptEntry::new(buffer, env, path)?)
 }
 
+// The row of an entry, shared with it.
+fn shared_row(entry: &Entry) -> Result<Option<Row>, AllocError>
+    ensures { IfOk result (λ row. row ≡ entry.now.row) }
+{
+    match &entry.row {
+        Some(row) => Ok(Some(row.clone()?)),
+        None => Ok(None),
+    }
+}
+
 impl Printed {
-    // Before the first name.
-    fn new(alloc: Global) -> Printed
-        ensures findings { result.findings.items ≡ [] }
-        ensures rows { result.rows.items ≡ [] }
-        ensures entries { result.entries.items ≡ [] }
+    // Before the first of so many names.
+    fn new(alloc: Global, count: usize) -> Result<Printed, AllocError>
+        ensures findings { IfOk result (λ printed. printed.findings.items ≡ []) }
+        ensures rows { IfOk result (λ printed. printed.rows.items ≡ []) }
+        ensures entries { IfOk result (λ printed. printed.entries.items ≡ []) }
     {
-        Printed {
+        Ok(Printed {
             findings: Vec::new(alloc),
-            rows: Vec::new(alloc),
+            rows: Vec::with_capacity(alloc, count)?,
             entries: Vec::new(alloc),
-        }
+        })
     }
 
-    // What comes of one name more, which that unit declares first.
-    fn add(&mut self, alloc: Global, unit: Spelled<'_>, entry: &Entry) -> Result<(), AllocError>
+    // What comes of these names more, if they are as many as are looked up together: then none is left.
+    fn add_full(
+        &mut self,
+        alloc: Global,
+        buffer: &mut Vec<u8>,
+        sought: &mut Vec<Sought<'_>>,
+    ) -> Result<(), AllocError>
+        ensures findings { OnOk result
+            (self.new.findings.items ++ flat_map sought_finding sought.new.items
+            ≡ self.old.findings.items ++ flat_map sought_finding sought.old.items) }
+        ensures rows { OnOk result
+            (self.new.rows.items ++ flat_map sought_row sought.new.items
+            ≡ self.old.rows.items ++ flat_map sought_row sought.old.items) }
+        ensures entries { OnOk result (self.new.entries ≡ self.old.entries) }
+    {
+        if sought.len() >= AHEAD {
+            self.add_all(alloc, buffer, sought)?;
+            sought.clear();
+        }
+        Ok(())
+    }
+
+    // What comes of these names more. The rows are written in a buffer.
+    fn add_all(
+        &mut self,
+        alloc: Global,
+        buffer: &mut Vec<u8>,
+        sought: &[Sought<'_>],
+    ) -> Result<(), AllocError>
+        ensures findings { OnOk result
+            (self.new.findings.items
+            ≡ self.old.findings.items ++ flat_map sought_finding sought.now) }
+        ensures rows { OnOk result
+            (self.new.rows.items ≡ self.old.rows.items ++ flat_map sought_row sought.now) }
+        ensures entries { OnOk result (self.new.entries ≡ self.old.entries) }
+    {
+        buffer.clear();
+        buffer.reserve(room_of(sought))?;
+        for name in sought {
+            let (row, fault) = name.answered.entry(buffer)?.into_parts();
+            self.add(alloc, name.unit, fault, row)?;
+        }
+        Ok(())
+    }
+
+    // What comes of one name more, which that unit declares first: this row, and this is wrong with it.
+    fn add(
+        &mut self,
+        alloc: Global,
+        unit: Spelled<'_>,
+        fault: Option<Code>,
+        row: Option<Row>,
+    ) -> Result<(), AllocError>
         ensures findings { OnOk result
             (self.new.findings.items
             ≡ self.old.findings.items
             ++ fault_finding unit.entry.text.now unit.entry.sites.now
-            (option_map (fault_at (name_index unit.entry.text.now)) entry.now.fault)) }
+            (option_map (fault_at (name_index unit.entry.text.now)) fault)) }
         ensures rows { OnOk result
-            (self.new.rows.items ≡ self.old.rows.items ++ option_to_list entry.now.row) }
+            (self.new.rows.items ≡ self.old.rows.items ++ option_to_list row) }
         ensures entries { self.new.entries ≡ self.old.entries }
     {
-        let fault = match entry.fault {
-            Some(code) => Some(Fault {
-                index: name_index(unit.text),
-                code,
-            }),
-            None => None,
-        };
-        push_fault(alloc, &mut self.findings, unit, fault)?;
-        if let Some(row) = &entry.row {
-            self.rows.push(row.clone()?)?;
+        push_closing(alloc, &mut self.findings, unit, fault)?;
+        if let Some(row) = row {
+            self.rows.push(row)?;
         }
         Ok(())
     }
+}
+
+// Puts in what is wrong at the end with a name that a unit declares first, if anything is.
+fn push_closing(
+    alloc: Global,
+    findings: &mut Vec<Finding>,
+    unit: Spelled<'_>,
+    fault: Option<Code>,
+) -> Result<(), AllocError>
+    ensures { OnOk result
+        (findings.new.items
+        ≡ findings.old.items
+        ++ fault_finding unit.entry.text.now unit.entry.sites.now
+        (option_map (fault_at (name_index unit.entry.text.now)) fault)) }
+{
+    let Some(code) = fault else {
+        return Ok(());
+    };
+    let index = name_index(unit.text);
+    push_fault(alloc, findings, unit, Some(Fault { index, code }))
+}
+
+// How much room rows of these names take, roughly. What is known of the names is touched by it, first each by itself and then
+// what stands behind it, so that all of it comes from memory together.
+fn room_of(sought: &[Sought<'_>]) -> usize {
+    let mut room: usize = 0;
+    for name in sought {
+        room = room.saturating_add(name.answered.word_room());
+    }
+    for name in sought {
+        room = room.saturating_add(name.answered.parts_room());
+    }
+    room
 }
 
 // The number of the token before the last: of what is declared ahead, its name.
@@ -205,11 +316,4 @@ fn name_index(text: &UnitText) -> usize
         UnitText::Pragma(tokens, _inside) => tokens.as_slice().len(),
     };
     count.saturating_sub(2)
-}
-
-// The entry of the name at a path over facts, written in a buffer. What it asks is not kept.
-fn entry_over(buffer: &mut Vec<u8>, env: &Env, path: &Path) -> Result<Entry, AllocError>
-    ensures { IfOk result (λ entry. entry ≡ entry_over env.now path.now) }
-{
-    entry_by(buffer, env, &mut Journal::told(), path)
 }

@@ -19,7 +19,7 @@ loop-name-preserved c =
     let printed = c.loop-name.printed in
     let entry : c.get.result.now.entry ≡ entry_over env name.path = ap (λ (k : KeptEntry). k.entry) c.get.ensures ∙ c.in_ok-kept.ensures.entry in
     let findings = c.in_ok-add.ensures.findings ∙ ap (λ (e : Entry). printed.findings.items ++ fault_finding name.unit.text.now name.unit.sites.now (option_map (fault_at (name_index name.unit.text.now)) e.fault)) entry in
-    let rows = c.in_ok-add.ensures.rows ∙ ap (λ (e : Entry). printed.rows.items ++ option_to_list e.row) entry in
+    let rows = c.in_ok-add.ensures.rows ∙ ap (λ r. printed.rows.items ++ option_to_list r) c.in_ok-row.ensures ∙ ap (λ (e : Entry). printed.rows.items ++ option_to_list e.row) entry in
     let more : c.push.new.self.items ≡ printed.entries.items ++ kept ∷ [] = search rules in (
       printed-more (closing_finding env) printed.findings.items c.add.new.self.findings.items c.args.listed.now c.loop-name.name-index name c.loop-name-test.true c.name-item.is findings ∙ c.loop-name.invariant.0,
       printed-more (entry_row env) printed.rows.items c.add.new.self.rows.items c.args.listed.now c.loop-name.name-index name c.loop-name-test.true c.name-item.is rows ∙ c.loop-name.invariant.1,
