@@ -2,7 +2,8 @@
 use Rattle.std.specs.Prelude.{ℕ, ◌+◌, ◌≤◌, List, [], ◌∷◌, Option, None, Some, Result, Ok, Err, if◌then◌else◌}
 use Rattle.idl_check.specs.Declaring.{Written}
 use Rattle.idl_check.specs.Pragmas.{Said, refused_for, said}
-use Rattle.idl_check.specs.Values.{Values}
+use Rattle.idl_check.specs.Few.{boxed_or}
+use Rattle.idl_check.specs.Values.{Values, nothing_kept}
 use Rattle.idl_check.specs.Walk.{Walk, past_name, head_of, head_visit, noted_in, used, visit}
 use Rattle.idl_check.specs.declared.declaring.Written.{Written as LastWritten}
 use Rattle.idl_check.specs.Verdict.{pragma_verdict}
@@ -25,10 +26,10 @@ use Rattle.idl_unit.specs.declared.fault.Fault.{Fault}
 abbrev pub held_values : ToldValues → Values
 held_values values = record {
   begin = values.begin;
-  operands = values.operands.items;
-  told = values.told.items;
+  operands = (boxed_or nothing_kept values.kept).operands;
+  told = (boxed_or nothing_kept values.kept).told;
   bound = values.bound;
-  lengths = values.lengths.items;
+  lengths = (boxed_or nothing_kept values.kept).lengths;
   constant = values.constant;
 }
 

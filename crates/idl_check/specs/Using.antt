@@ -73,6 +73,9 @@ pub record Bases : Type 0 where
   pub paths : List (List (List ℕ))
   pub operations : List (List ℕ × List (List ℕ))
 
+abbrev pub no_bases : Bases
+no_bases = record { paths = []; operations = [] }
+
 -- an operation or attribute stands beside another one that was brought under its name
 abbrev pub is_another : List (List ℕ × List (List ℕ)) → List (List ℕ) → Bool
 is_another operations p =

@@ -38,6 +38,15 @@ no_values = record {
   constant = None;
 }
 
+-- what is kept of the expressions of a unit that has some
+pub record Kept : Type 0 where
+  pub operands : Operands
+  pub told : List Value
+  pub lengths : List ℕ
+
+abbrev pub nothing_kept : Kept
+nothing_kept = record { operands = []; told = []; lengths = [] }
+
 -- where an expression begins, and behind its end
 abbrev pub begun_at : ℕ → Values → Values
 begun_at at values = record values { begin = Some at; operands = [] }

@@ -4,7 +4,7 @@ ghost use Rattle.std.specs.Prelude.{◌≡◌, ◌&&◌, ◌∷◌, [], IfOk, On
 ghost use Rattle.std.specs.List.{list_any};
 ghost use Rattle.std.specs.Map.{keys_of};
 ghost use Rattle.idl_check.specs.Codes.{codes_in};
-ghost use Rattle.idl_check.specs.Using.{base_table, is_another, with_base, with_operation};
+ghost use Rattle.idl_check.specs.Using.{base_table, is_another, no_bases, with_base, with_operation};
 ghost use Rattle.idl_scope.specs.Facts.{joined};
 ghost use Rattle.idl_scope.specs.Path.{path_eq};
 ghost use Rattle.idl_unit.specs.TokenRules.{first};
@@ -18,51 +18,113 @@ use idl_scope::{Entity, Path, Stage};
 use std::alloc::{AllocError, Global};
 use std::marker::Model;
 
-/// The paths of the bases that were named so far, and those of the operations and attributes that
-/// they bring, by the folded names: those of the last base wait, as the list that the base has, until another is named.
+/// The bases that were named so far. Most units name none, which takes no memory.
+#[derive(Drop)]
 pub struct Bases {
+    named: Option<Box<Named>>,
+}
+
+// The paths of the bases, and those of the operations and attributes that they bring, by the folded
+// names: those of the last base wait, as the list that the base has, until another is named.
+#[derive(Drop)]
+struct Named {
     paths: Table<Path, ()>,
     operations: Table<Spelling, Path>,
     waiting: SharedList<Path>,
 }
 
 impl Model for Bases {
+    ghost use Rattle.idl_check.specs.Few.{boxed_or};
+    ghost use Rattle.idl_check.specs.Using.{Bases as NamedBases, no_bases};
+
+    ghost Value = { NamedBases };
+
+    ghost view = { λ bases. boxed_or no_bases bases.named };
+}
+
+impl Model for Named {
     ghost use Rattle.std.specs.Map.{keys_of};
     ghost use Rattle.std.specs.Prelude.{fold};
     ghost use Rattle.idl_check.specs.Using.{Bases as NamedBases, with_operation};
 
     ghost Value = { NamedBases };
 
-    ghost view = { λ bases. record {
-      paths = keys_of bases.paths;
-      operations = fold with_operation bases.operations bases.waiting;
+    ghost view = { λ named. record {
+      paths = keys_of named.paths;
+      operations = fold with_operation named.operations named.waiting;
     } };
-}
-
-impl Drop for Bases {
-    fn drop(self) {
-        let Bases {
-            paths: _paths,
-            operations: _operations,
-            waiting: _waiting,
-        } = self;
-    }
 }
 
 impl Bases {
     /// None. It takes no memory.
-    pub fn new(alloc: Global) -> Bases
-        ensures { result ≡ record { paths = []; operations = [] } }
+    pub fn new() -> Bases
+        ensures { result ≡ no_bases }
     {
-        Bases {
+        Bases { named: None }
+    }
+
+    /// The code of the least fault of a base of an interface, which is local or not.
+    pub fn code(
+        &mut self,
+        alloc: Global,
+        is_local: bool,
+        base: &Entity,
+    ) -> Result<Option<Code>, AllocError>
+        ensures code { IfOk result (λ code.
+            code ≡ first (codes_in (base_table is_local self.old base.now))) }
+        ensures same { OnOk result (self.new ≡ self.old) }
+    {
+        let mut named = self.take(alloc)?;
+        let code = named.code(alloc, is_local, base)?;
+        self.named = Some(named);
+        Ok(code)
+    }
+
+    /// One base more.
+    pub fn add(&mut self, alloc: Global, base: &Entity) -> Result<(), AllocError>
+        ensures { OnOk result (self.new ≡ with_base base.now self.old) }
+    {
+        let mut named = self.take(alloc)?;
+        named.add(alloc, base)?;
+        self.named = Some(named);
+        Ok(())
+    }
+
+    /// Their paths, in order.
+    pub fn paths(&self, alloc: Global) -> Result<Seq<Path>, AllocError>
+        ensures { IfOk result (λ paths. paths ≡ self.now.paths) }
+    {
+        match &self.named {
+            Some(named) => named.paths(alloc),
+            None => Ok(Seq::new(alloc)),
+        }
+    }
+
+    // Those so far.
+    fn take(&mut self, alloc: Global) -> Result<Box<Named>, AllocError>
+        ensures { IfOk result (λ named. named.value ≡ self.old) }
+    {
+        match self.named.take() {
+            Some(named) => Ok(named),
+            None => Ok(Box::new(alloc, Named::new(alloc))?),
+        }
+    }
+}
+
+impl Named {
+    // None. It takes no memory.
+    fn new(alloc: Global) -> Named
+        ensures { result ≡ no_bases }
+    {
+        Named {
             paths: Table::new(alloc),
             operations: Table::new(alloc),
             waiting: SharedList::new(),
         }
     }
 
-    /// The code of the least fault of a base of an interface, which is local or not.
-    pub fn code(
+    // The code of the least fault of a base of an interface, which is local or not.
+    fn code(
         &mut self,
         alloc: Global,
         is_local: bool,
@@ -82,8 +144,8 @@ impl Bases {
         ]))
     }
 
-    /// One base more.
-    pub fn add(&mut self, alloc: Global, base: &Entity) -> Result<(), AllocError>
+    // One base more.
+    fn add(&mut self, alloc: Global, base: &Entity) -> Result<(), AllocError>
         ensures { OnOk result (self.new ≡ with_base base.now self.old) }
     {
         bring(alloc, &mut self.operations, &mut self.waiting)?;
@@ -91,8 +153,8 @@ impl Bases {
         add_path(&mut self.paths, base.path())
     }
 
-    /// Their paths, in order.
-    pub fn paths(&self, alloc: Global) -> Result<Seq<Path>, AllocError>
+    // Their paths, in order.
+    fn paths(&self, alloc: Global) -> Result<Seq<Path>, AllocError>
         ensures { IfOk result (λ paths. paths ≡ self.now.paths) }
     {
         let paths = listed(alloc, &self.paths)?;

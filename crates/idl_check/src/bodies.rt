@@ -16,8 +16,17 @@ use std::alloc::{AllocError, Global};
 use std::marker::Model;
 use std::mem::replace;
 
-/// What the clauses behind an operation or an attribute say.
+/// What the clauses behind an operation or an attribute say. Most units have none, which takes no
+/// memory.
+#[derive(Drop)]
 pub struct Clauses {
+    alloc: Global,
+    told: Option<Box<Told>>,
+}
+
+// The same of a unit that has some.
+#[derive(Drop)]
+struct Told {
     /// The paths of the exceptions that are raised.
     raised: Vec<Path>,
     /// The paths of those that the writing of an attribute raises.
@@ -27,6 +36,7 @@ pub struct Clauses {
 }
 
 /// A scope that begins and ends in a unit.
+#[derive(Drop)]
 pub struct Body {
     /// What it is of.
     entity: Option<Shared<Entity>>,
@@ -40,6 +50,7 @@ pub struct Body {
 
 /// The scopes of a unit around the walk, the innermost first. That one stands in place: most units
 /// begin one at a time, which then takes no memory.
+#[derive(Drop)]
 pub struct Nest {
     innermost: Option<Body>,
     /// Those around the innermost, if there is one.
@@ -55,24 +66,24 @@ impl Model for Nest {
     ghost view = { λ nest. nested nest.innermost nest.around.items };
 }
 
-impl Drop for Nest {
-    fn drop(self) {
-        let Nest {
-            innermost: _innermost,
-            around: _around,
-        } = self;
-    }
+impl Model for Clauses {
+    ghost use Rattle.idl_check.specs.Bodies.{Clauses as ToldClauses, no_clauses};
+    ghost use Rattle.idl_check.specs.Few.{boxed_or};
+
+    ghost Value = { ToldClauses };
+
+    ghost view = { λ clauses. boxed_or no_clauses clauses.told };
 }
 
-impl Model for Clauses {
+impl Model for Told {
     ghost use Rattle.idl_check.specs.Bodies.{Clauses as ToldClauses};
 
     ghost Value = { ToldClauses };
 
-    ghost view = { λ clauses. record {
-      raised = clauses.raised.items;
-      raised_by_set = clauses.raised_by_set.items;
-      contexts = clauses.contexts.items;
+    ghost view = { λ told. record {
+      raised = told.raised.items;
+      raised_by_set = told.raised_by_set.items;
+      contexts = told.contexts.items;
     } };
 }
 
@@ -89,37 +100,12 @@ impl Model for Body {
     } };
 }
 
-impl Drop for Clauses {
-    fn drop(self) {
-        let Clauses {
-            raised: _raised,
-            raised_by_set: _raised_by_set,
-            contexts: _contexts,
-        } = self;
-    }
-}
-
-impl Drop for Body {
-    fn drop(self) {
-        let Body {
-            entity: _entity,
-            data_type: _data_type,
-            members: _members,
-            labels: _labels,
-        } = self;
-    }
-}
-
 impl Clauses {
     /// Before the first. It takes no memory.
     pub fn new(alloc: Global) -> Clauses
         ensures { result ≡ no_clauses }
     {
-        Clauses {
-            raised: Vec::new(alloc),
-            raised_by_set: Vec::new(alloc),
-            contexts: Vec::new(alloc),
-        }
+        Clauses { alloc, told: None }
     }
 
     /// The path of what a name denotes that is used so.
@@ -127,27 +113,52 @@ impl Clauses {
         ensures { OnOk result (self.new ≡ with_raised way path.now self.old) }
     {
         match way {
-            Use::Raised => self.raised.push(path.clone()?)?,
-            Use::RaisedBySet => self.raised_by_set.push(path.clone()?)?,
-            _ => {}
+            Use::Raised | Use::RaisedBySet => {
+                let mut told = self.take()?;
+                told.add_raised(way, path)?;
+                self.told = Some(told);
+                Ok(())
+            }
+            _ => Ok(()),
         }
-        Ok(())
     }
 
     /// A text of a context: string literals, which are joined.
     pub fn add_context(&mut self, alloc: Global, text: &Several<Seq<u16>>) -> Result<(), AllocError>
         ensures { OnOk result (self.new ≡ with_context text.now self.old) }
     {
-        self.contexts.push(joined_text(alloc, text)?)?;
+        let mut told = self.take()?;
+        told.contexts.push(joined_text(alloc, text)?)?;
+        self.told = Some(told);
         Ok(())
+    }
+
+    // Those so far.
+    #[inline(never)]
+    fn take(&mut self) -> Result<Box<Told>, AllocError>
+        ensures { IfOk result (λ told. told.value ≡ self.old) }
+    {
+        match self.told.take() {
+            Some(told) => Ok(told),
+            None => Ok(Box::new(self.alloc, Told::new(self.alloc))?),
+        }
+    }
+
+    // Whether reading or writing raises something.
+    fn raises(&self) -> bool
+        ensures { result ≡ raises self.now }
+    {
+        match &self.told {
+            Some(told) => told.raises(),
+            None => false,
+        }
     }
 
     // Whether it is an attribute that raises something.
     fn is_raising(&self, entity: &Entity) -> bool
         ensures { result ≡ (kind_eq entity.now.kind Attribute && raises self.now) }
     {
-        entity.kind() == Kind::Attribute
-            && !(is_nothing(self.raised.as_slice()) && is_nothing(self.raised_by_set.as_slice()))
+        entity.kind() == Kind::Attribute && self.raises()
     }
 
     /// Puts in the attribute that was declared last, if it raises something.
@@ -170,6 +181,61 @@ impl Clauses {
 
     /// What a name shows that has these members and clauses.
     pub fn signature(
+        &self,
+        alloc: Global,
+        members: Vec<Member>,
+    ) -> Result<Shared<Signature>, AllocError>
+        ensures { IfOk result (λ s. s ≡ signature_of members.items self.now) }
+    {
+        match &self.told {
+            Some(told) => told.signature(alloc, members),
+            None => Shared::new(
+                alloc,
+                Signature {
+                    members: Seq::from_vec(members),
+                    raised: Seq::new(alloc),
+                    raised_by_set: Seq::new(alloc),
+                    contexts: Seq::new(alloc),
+                },
+            ),
+        }
+    }
+}
+
+impl Told {
+    // Before the first. It takes no memory.
+    fn new(alloc: Global) -> Told
+        ensures { result ≡ no_clauses }
+    {
+        Told {
+            raised: Vec::new(alloc),
+            raised_by_set: Vec::new(alloc),
+            contexts: Vec::new(alloc),
+        }
+    }
+
+    // The path of what a name denotes that is used so.
+    fn add_raised(&mut self, way: Use, path: &Path) -> Result<(), AllocError>
+        ensures { OnOk result (self.new ≡ with_raised way path.now self.old) }
+    {
+        match way {
+            Use::Raised => self.raised.push(path.clone()?)?,
+            Use::RaisedBySet => self.raised_by_set.push(path.clone()?)?,
+            _ => {}
+        }
+        Ok(())
+    }
+
+    // Whether reading or writing raises something.
+    fn raises(&self) -> bool
+        ensures { result ≡ raises self.now }
+    {
+        !(is_nothing(self.raised.as_slice()) && is_nothing(self.raised_by_set.as_slice()))
+    }
+
+    // What a name shows that has these members and clauses.
+    #[inline(never)]
+    fn signature(
         &self,
         alloc: Global,
         members: Vec<Member>,

@@ -11,6 +11,7 @@ use std::marker::Model;
 
 /// The open scopes around a token, the innermost first: those around the unit, which are lent, and
 /// copies of them from the first scope on that the unit begins.
+#[derive(Drop)]
 pub struct Cursor<'a> {
     around: &'a [Scope],
     kept: Vec<Scope>,
@@ -24,15 +25,6 @@ impl<'a> Model for Cursor<'a> {
     ghost Value = { List Scope };
 
     ghost view = { λ cursor. kept_or_around cursor.kept.items cursor.around.now };
-}
-
-impl<'a> Drop for Cursor<'a> {
-    fn drop(self) {
-        let Cursor {
-            around: _around,
-            kept: _kept,
-        } = self;
-    }
 }
 
 impl<'a> Cursor<'a> {

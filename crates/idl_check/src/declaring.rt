@@ -124,6 +124,7 @@ pub struct Ending<'a> {
 }
 
 /// What the names that are declared next are declared with.
+#[derive(Drop)]
 pub struct Written {
     /// The type that was written last.
     pub data_type: LastType,
@@ -133,17 +134,6 @@ pub struct Written {
     pub enumeration: Seq<Spelling>,
     /// The enumerators of the next enum.
     pub enumerators: Seq<Spelling>,
-}
-
-impl Drop for Written {
-    fn drop(self) {
-        let Written {
-            data_type: _data_type,
-            constants: _constants,
-            enumeration: _enumeration,
-            enumerators: _enumerators,
-        } = self;
-    }
 }
 
 impl Written {
@@ -240,8 +230,8 @@ impl Written {
         Ok(())
     }
 
-    /// What is declared at a path is the type that was written last.
-    pub fn name_type(&mut self, alloc: Global, path: &Path) -> Result<(), AllocError>
+    // What is declared at a path is the type that was written last.
+    fn name_type(&mut self, alloc: Global, path: &Path) -> Result<(), AllocError>
         ensures { OnOk result
             (held_written self.new
             ≡ record (held_written self.old) {

@@ -10,6 +10,7 @@ use std::slice::from_ref;
 
 /// Values in order, of which most units have one at most: one alone stands in place and takes no
 /// memory, and more stand in a list.
+#[derive(Drop)]
 pub struct Few<T> {
     one: Option<T>,
     more: Vec<T>,
@@ -22,15 +23,6 @@ impl<T> Model for Few<T> {
     ghost Value = { List T };
 
     ghost view = { λ few. kept_or_around few.more.items (option_to_list few.one) };
-}
-
-impl<T: Drop> Drop for Few<T> {
-    fn drop(self) {
-        let Few {
-            one: _one,
-            more: _more,
-        } = self;
-    }
 }
 
 impl<T: Drop> Few<T> {

@@ -166,7 +166,7 @@ impl<'a> Judge<'a> {
             tree,
             sites: sites.as_slice(),
         };
-        let mut walker = Walker::new(self.env, self.scopes, &mut scratch.room);
+        let mut walker = Walker::new(self.env, self.scopes, scratch);
         unit.walked(scratch, log, &mut walker)
     }
 
@@ -269,7 +269,7 @@ impl<'t> Sited<'t> {
         let rest = Rest {
             tokens: self.judge.tokens,
             found: walker.found.as_slice(),
-            values: walker.values.told.as_slice(),
+            values: walker.values.told(),
             in_value: false,
         };
         write_row(
@@ -284,6 +284,7 @@ impl<'t> Sited<'t> {
         self.judge.ask_step(log, &step)?;
         walker.finish_facts(step)?;
         let writes = scratch.room.hold(&mut walker.own)?;
+        scratch.types = walker.types.take();
         Ok(Verdict {
             fault: None,
             writes,

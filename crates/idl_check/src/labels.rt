@@ -11,6 +11,7 @@ use std::alloc::{AllocError, Global};
 use std::marker::Model;
 
 /// The labels of a union so far.
+#[derive(Drop)]
 pub struct Labels {
     /// The type of the discriminator, if it may be one.
     target: Option<Target>,
@@ -32,17 +33,6 @@ impl Model for Labels {
       values = keys_of labels.values;
       has_default = labels.has_default;
     } };
-}
-
-impl Drop for Labels {
-    fn drop(self) {
-        let Labels {
-            target: _target,
-            enumerators: _enumerators,
-            values: _values,
-            has_default: _has_default,
-        } = self;
-    }
 }
 
 impl Labels {

@@ -17,6 +17,7 @@ mod judge;
 mod labels;
 mod last_type;
 mod laws;
+mod named_types;
 mod naming;
 mod part;
 mod placing;

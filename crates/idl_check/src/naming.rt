@@ -13,6 +13,8 @@ ghost use Rattle.idl_check.specs.Walk.{declared_visit, is_begun, noted, noted_in
 ghost use Rattle.idl_memo.specs.Query.{run};
 ghost use Rattle.idl_scope.specs.Facts.{answers, with_addition};
 ghost use Rattle.idl_scope.specs.Key.{key_eq};
+ghost use Rattle.idl_scope.specs.DataType.{plain_type};
+ghost use Rattle.idl_scope.specs.declared.data_type.Element.TheVariants.{Named};
 ghost use Rattle.idl_scope.specs.declared.lookup.TheConstants.{TURNS};
 ghost use Rattle.idl_site.specs.Item.{item_length};
 ghost use Rattle.idl_site.specs.Item.{Item as item};
@@ -23,6 +25,8 @@ use crate::bodies::declare_member;
 use crate::declaring::{declared_code, stays};
 use crate::few::Few;
 use crate::labels::Labels;
+use crate::last_type::LastType;
+use crate::named_types::NamedTypes;
 use crate::part::front;
 use crate::standing::{Standing, standing_of};
 use crate::types::{constants_of, looked_through};
@@ -33,8 +37,8 @@ use idl_event::Code;
 use idl_lex::Spelling;
 use idl_memo::Journal;
 use idl_scope::{
-    Addition, Entity, Env, Facts, Found, Kind, NameCode, NameFault, Shared, Stage, Standpoint,
-    View, resolve,
+    Addition, Entity, Env, Facts, Found, Kind, NameCode, NameFault, Path, Shared, Stage,
+    Standpoint, View, resolve,
 };
 use idl_site::{Declaration, Use};
 use idl_tree::ScopedName;
@@ -307,6 +311,28 @@ impl<'a> Walker<'a> {
         Ok(())
     }
 
+    // What is declared at a path is the type that was written last.
+    fn name_type(&mut self, path: &Path) -> Result<(), AllocError>
+        ensures walk { OnOk result
+            (held self.new
+            ≡ record (held self.old) {
+              written = record (held_written self.old.written) {
+                data_type = Some (plain_type (Named path.now));
+              };
+            }) }
+        ensures env { OnOk result (self.new.env.now ≡ self.old.env.now) }
+    {
+        let alloc = self.env.alloc();
+        let mut types = match self.types.take() {
+            Some(types) => types,
+            None => Box::new(alloc, NamedTypes::new(alloc))?,
+        };
+        let named = types.get(alloc, path)?;
+        self.types = Some(types);
+        self.written.data_type = LastType::told(Some(named));
+        Ok(())
+    }
+
     // What a used name leaves to what follows, where constants are of this type.
     fn follow(
         &mut self,
@@ -331,15 +357,13 @@ impl<'a> Walker<'a> {
     {
         match way {
             Use::AsBase(_) => self.bases.add(self.env.alloc(), entity),
-            Use::AsType | Use::AsElement => {
-                self.written.name_type(self.env.alloc(), entity.path())
-            }
+            Use::AsType | Use::AsElement => { self.name_type(entity.path()) }
             Use::AsConstantType => {
                 self.written.constants = constants;
-                self.written.name_type(self.env.alloc(), entity.path())
+                self.name_type(entity.path())
             }
             Use::AsDiscriminator => {
-                self.written.name_type(self.env.alloc(), entity.path())?;
+                self.name_type(entity.path())?;
                 let count = behind.enumerators().len() as u64;
                 let labels = Labels::new(self.env.alloc(), constants, count);
                 self.unions.insert(0, labels)?;

@@ -1,23 +1,18 @@
 //! What verdicts are made in.
 
+use crate::named_types::NamedTypes;
 use idl_scope::Room;
 use std::alloc::Global;
 
 /// What the verdicts of many units are made in, one after another. A verdict is the same whatever stands there.
+#[derive(Drop)]
 pub struct Scratch {
     /// In which a row is written before it is copied.
     pub row: Vec<u8>,
     /// Where what a unit adds is gathered.
     pub room: Room,
-}
-
-impl Drop for Scratch {
-    fn drop(self) {
-        let Scratch {
-            row: _row,
-            room: _room,
-        } = self;
-    }
+    /// The types by name that were told last.
+    pub types: Option<Box<NamedTypes>>,
 }
 
 impl Scratch {
@@ -26,6 +21,7 @@ impl Scratch {
         Scratch {
             row: Vec::new(alloc),
             room: Room::new(alloc),
+            types: None,
         }
     }
 }

@@ -1,9 +1,10 @@
 //! The expressions of a unit.
 
-ghost use Rattle.std.specs.Prelude.{◌≡◌, IfOk, OnOk};
+ghost use Rattle.std.specs.Prelude.{◌≡◌, ◌∷◌, ◌++◌, [], IfOk, None, OnOk};
 ghost use Rattle.std.specs.Option.{option_copied};
 ghost use Rattle.idl_check.specs.Held.{held_values};
-ghost use Rattle.idl_check.specs.Values.{begun_at, code_of, no_values, number_of, outcome_for, value_for, with_operand, with_value};
+ghost use Rattle.idl_check.specs.Few.{boxed_or};
+ghost use Rattle.idl_check.specs.Values.{begun_at, code_of, no_values, nothing_kept, number_of, outcome_for, value_for, with_operand, with_value};
 
 use idl_event::Code;
 use idl_scope::Shared;
@@ -11,34 +12,44 @@ use idl_site::Target as Purpose;
 use idl_tree::Expression;
 use idl_value::{Code as ValueCode, Outcome, Target, Value, evaluate, evaluate_bound};
 use std::alloc::{AllocError, Global};
+use std::marker::Model;
+use std::mem::replace;
 
-/// How far the expressions of a unit have come.
+/// How far the expressions of a unit have come. Most units have none, which takes no memory.
+#[derive(Drop)]
 pub struct Values {
+    alloc: Global,
     /// Inside one, the number of its first token.
     pub begin: Option<usize>,
-    /// The values of its names so far.
-    pub operands: Vec<Option<Value>>,
-    /// Those of the expressions before, in order.
-    pub told: Vec<Value>,
     /// The last bound.
     pub bound: Option<u32>,
-    /// The lengths of an array so far.
-    pub lengths: Vec<u32>,
     /// The value of a constant.
     pub constant: Option<Value>,
+    /// What is kept of them, if there are any.
+    pub kept: Option<Box<Kept>>,
 }
 
-impl Drop for Values {
-    fn drop(self) {
-        let Values {
-            begin: _begin,
-            operands: _operands,
-            told: _told,
-            bound: _bound,
-            lengths: _lengths,
-            constant: _constant,
-        } = self;
-    }
+/// What is kept of the expressions of a unit that has some.
+#[derive(Drop)]
+pub struct Kept {
+    /// The values of the names of the last so far.
+    operands: Vec<Option<Value>>,
+    /// Those of the expressions before, in order.
+    told: Vec<Value>,
+    /// The lengths of an array so far.
+    lengths: Vec<u32>,
+}
+
+impl Model for Kept {
+    ghost use Rattle.idl_check.specs.Values.{Kept as KeptValues};
+
+    ghost Value = { KeptValues };
+
+    ghost view = { λ kept. record {
+      operands = kept.operands.items;
+      told = kept.told.items;
+      lengths = kept.lengths.items;
+    } };
 }
 
 /// The types that constants and labels are to be of, where they are known.
@@ -54,12 +65,11 @@ impl Values {
         ensures { held_values result ≡ no_values }
     {
         Values {
+            alloc,
             begin: None,
-            operands: Vec::new(alloc),
-            told: Vec::new(alloc),
             bound: None,
-            lengths: Vec::new(alloc),
             constant: None,
+            kept: None,
         }
     }
 
@@ -68,7 +78,41 @@ impl Values {
         ensures { held_values self.new ≡ begun_at at (held_values self.old) }
     {
         self.begin = Some(at);
-        self.operands.clear();
+        if let Some(kept) = &mut self.kept {
+            kept.operands.clear();
+        }
+    }
+
+    // What is kept of them so far.
+    fn take(&mut self) -> Result<Box<Kept>, AllocError>
+        ensures kept { IfOk result (λ kept. kept.value ≡ boxed_or nothing_kept self.old.kept) }
+        ensures rest { self.new ≡ record self.old { kept = None } }
+    {
+        match self.kept.take() {
+            Some(kept) => Ok(kept),
+            None => Ok(Box::new(self.alloc, Kept::new(self.alloc))?),
+        }
+    }
+
+    /// The values of the expressions before, in order.
+    pub fn told(&self) -> &[Value]
+        ensures { result.now ≡ (held_values self.now).told }
+    {
+        match &self.kept {
+            Some(kept) => kept.told.as_slice(),
+            None => &[],
+        }
+    }
+
+    /// The lengths of an array so far, which are taken out.
+    pub fn take_lengths(&mut self) -> Vec<u32>
+        ensures lengths { result.items ≡ (held_values self.old).lengths }
+        ensures rest { held_values self.new ≡ record (held_values self.old) { lengths = [] } }
+    {
+        match &mut self.kept {
+            Some(kept) => replace(&mut kept.lengths, Vec::new(self.alloc)),
+            None => Vec::new(self.alloc),
+        }
     }
 
     /// The value of its next name, if it has one.
@@ -81,7 +125,9 @@ impl Values {
             Some(value) => Some(value.get().clone()?),
             None => None,
         };
-        self.operands.push(operand)?;
+        let mut kept = self.take()?;
+        kept.operands.push(operand)?;
+        self.kept = Some(kept);
         Ok(())
     }
 
@@ -96,9 +142,12 @@ impl Values {
         ensures { IfOk result (λ outcome.
             outcome
             ≡ outcome_for way (option_copied types.entry.constant)
-            (option_copied types.entry.label) self.now.operands.items expression.now) }
+            (option_copied types.entry.label) (held_values self.now).operands expression.now) }
     {
-        let operands = self.operands.as_slice();
+        let operands = match &self.kept {
+            Some(kept) => kept.operands.as_slice(),
+            None => &[],
+        };
         match way {
             Purpose::Bound | Purpose::Length => evaluate_bound(alloc, operands, expression),
             Purpose::Constant => value_for(alloc, types.constant, operands, expression),
@@ -119,7 +168,7 @@ impl Values {
         ensures { OnOk result (held_values self.new ≡ with_value way value.now (held_values self.old)) }
     {
         self.begin = None;
-        self.told.push(value.clone()?)?;
+        self.add_told(value.clone()?)?;
         match way {
             Purpose::Bound => {
                 self.bound = number_of(value);
@@ -131,11 +180,52 @@ impl Values {
             }
             Purpose::Length => {
                 if let Some(length) = number_of(value) {
-                    self.lengths.push(length)?;
+                    self.add_length(length)?;
                 }
                 Ok(())
             }
             Purpose::Label => Ok(()),
+        }
+    }
+
+    // The value of one more.
+    fn add_told(&mut self, value: Value) -> Result<(), AllocError>
+        ensures { OnOk result
+            (held_values self.new
+            ≡ record (held_values self.old) {
+              told = (held_values self.old).told ++ value ∷ [];
+            }) }
+    {
+        let mut kept = self.take()?;
+        kept.told.push(value)?;
+        self.kept = Some(kept);
+        Ok(())
+    }
+
+    // One more length of an array.
+    fn add_length(&mut self, length: u32) -> Result<(), AllocError>
+        ensures { OnOk result
+            (held_values self.new
+            ≡ record (held_values self.old) {
+              lengths = (held_values self.old).lengths ++ length ∷ [];
+            }) }
+    {
+        let mut kept = self.take()?;
+        kept.lengths.push(length)?;
+        self.kept = Some(kept);
+        Ok(())
+    }
+}
+
+impl Kept {
+    // Nothing. It takes no memory.
+    fn new(alloc: Global) -> Kept
+        ensures { result ≡ nothing_kept }
+    {
+        Kept {
+            operands: Vec::new(alloc),
+            told: Vec::new(alloc),
+            lengths: Vec::new(alloc),
         }
     }
 }

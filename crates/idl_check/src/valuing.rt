@@ -31,7 +31,6 @@ use idl_site::{Shape, Target as Purpose};
 use idl_tree::{DiscreteType, Expression, Several};
 use idl_value::{Fault, Outcome, Target, Value};
 use std::alloc::{AllocError, Global};
-use std::mem::replace;
 
 impl<'a> Walker<'a> {
     /// An expression begins.
@@ -165,7 +164,7 @@ impl<'a> Walker<'a> {
         ensures env { OnOk result (self.new.env.now ≡ self.old.env.now) }
     {
         let alloc = self.env.alloc();
-        let lengths = replace(&mut self.values.lengths, Vec::new(alloc));
+        let lengths = self.values.take_lengths();
         let Some(entity) = &self.last else {
             return Ok(());
         };

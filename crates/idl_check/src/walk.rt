@@ -22,12 +22,14 @@ use crate::cursor::Cursor;
 use crate::declaring::{Ending, Written, finished, kind_of, path_in};
 use crate::few::Few;
 use crate::labels::Labels;
+use crate::named_types::NamedTypes;
+use crate::scratch::Scratch;
 use crate::values::Values;
 use idl_base::Seq;
 use idl_event::Code;
 use idl_lex::Spelling;
 use idl_memo::Journal;
-use idl_scope::{Addition, Entity, Env, Facts, Kind, Path, Room, Scope, Shared, Step, View};
+use idl_scope::{Addition, Entity, Env, Facts, Kind, Path, Scope, Shared, Step, View};
 use idl_site::{Declaration, Site};
 use idl_tree::Several;
 use idl_unit::Fault;
@@ -60,13 +62,15 @@ pub struct Walker<'a> {
     /// The paths of what the used names denote, in order.
     pub found: Few<Path>,
     pub values: Values,
+    /// The types by name that were told last, if there are any.
+    pub types: Option<Box<NamedTypes>>,
     /// The least fault so far.
     pub fault: Option<Fault>,
 }
 
 impl<'a> Walker<'a> {
     /// Before the first site of a unit, in these scopes. What is added takes the room that there is.
-    pub fn new(env: &'a Env, scopes: &'a [Scope], room: &mut Room) -> Walker<'a>
+    pub fn new(env: &'a Env, scopes: &'a [Scope], scratch: &mut Scratch) -> Walker<'a>
         ensures walk { held result ≡ first_walk scopes.now }
         ensures env { result.env.now ≡ env.now }
     {
@@ -75,9 +79,9 @@ impl<'a> Walker<'a> {
             env,
             at: 0,
             cursor: Cursor::new(alloc, scopes),
-            own: Facts::within(alloc, room),
+            own: Facts::within(alloc, &mut scratch.room),
             begun: Few::new(alloc),
-            bases: Bases::new(alloc),
+            bases: Bases::new(),
             written: Written::new(alloc),
             last: None,
             bodies: Nest::new(alloc),
@@ -86,6 +90,7 @@ impl<'a> Walker<'a> {
             gives_back: false,
             found: Few::new(alloc),
             values: Values::new(alloc),
+            types: scratch.types.take(),
             fault: None,
         }
     }
