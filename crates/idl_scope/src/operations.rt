@@ -129,6 +129,9 @@ pub fn add_inside(inside: &mut Vec<Seq<Path>>, facts: &Facts) -> Result<(), Allo
         (reverse inside.new.items
         ≡ more_inside (reverse inside.old.items) (operations_among facts.now.additions)) }
 {
+    if !facts.has_operations() {
+        return Ok(());
+    }
     let Some(own) = inside.pop() else {
         return Ok(());
     };
