@@ -1,5 +1,5 @@
 -- How facts are kept, and what they come to: each addition at its key, and each answer at its key.
-use Rattle.std.specs.Prelude.{◌≡◌, ⊥, List, [], ◌∷◌, Option, None, Some, reverse}
+use Rattle.std.specs.Prelude.{◌≡◌, List, [], ◌∷◌, Option, None, Some, reverse}
 use Rattle.std.specs.Map.{lookup}
 use Rattle.idl_scope.specs.Facts.{key_of, World}
 use Rattle.idl_scope.specs.Key.{key_eq}

@@ -50,16 +50,19 @@ impl Drop for Answers {
 }
 
 impl Answers {
-    /// These scopes are open and this prefix is in force, and there are no other answers. It takes no memory.
-    pub fn new(cursor: Answer, prefix: Answer) -> Answers
-        ensures { result ≡ (Cursor, cursor) ∷ (Prefix, prefix) ∷ [] }
+    /// These scopes are open and this prefix is in force, and there are no other answers.
+    pub fn new(alloc: Global, cursor: Answer, prefix: Answer) -> Result<Answers, AllocError>
+        ensures { IfOk result (λ answers. (k : Key)
+            → lookup (key_eq k) answers ≡ lookup (key_eq k) ((Cursor, cursor) ∷ (Prefix, prefix) ∷ [])) }
     {
-        let others = Map::new();
-        Answers {
+        let mut others = Map::new();
+        // Nobody asks for it here. In the bucket that all parts of the map have at first, it leaves no part the whole of that.
+        others.insert(alloc, DigestedKey::cursor(), Answer::Used)?;
+        Ok(Answers {
             cursor,
             prefix,
             others,
-        }
+        })
     }
 
     /// The open scopes.

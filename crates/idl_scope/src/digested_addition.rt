@@ -107,7 +107,7 @@ pub fn is_operation_among(additions: &[DigestedAddition]) -> bool
     ensures { IsFalse result → operations_among additions.now ≡ [] }
 {
     for addition in additions {
-        if addition.addition().operation().is_some() {
+        if let Some(_path) = addition.addition().operation() {
             return true;
         }
     }

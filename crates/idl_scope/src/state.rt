@@ -64,7 +64,7 @@ impl State {
         let mut inside = Vec::new(alloc);
         inside.push(Seq::new(alloc))?;
         Ok(State {
-            answers: Answers::new(scopes, prefix),
+            answers: Answers::new(alloc, scopes, prefix)?,
             inside,
             opened: SharedList::new(),
             entered: SharedList::new(),
@@ -327,11 +327,7 @@ fn closed(
 }
 
 // The answers with those of the additions.
-fn put_all(
-    alloc: Global,
-    answers: &mut Answers,
-    facts: &Facts,
-) -> Result<(), AllocError>
+fn put_all(alloc: Global, answers: &mut Answers, facts: &Facts) -> Result<(), AllocError>
     ensures { OnOk result
         ((k : Key)
         → lookup (key_eq k) answers.new ≡ over facts.now.additions k (lookup (key_eq k) answers.old)) }
@@ -349,11 +345,7 @@ fn put_all(
 }
 
 // The same with additions that are taken out of the facts, unless they are many.
-fn put_own(
-    alloc: Global,
-    answers: &mut Answers,
-    facts: &mut Facts,
-) -> Result<(), AllocError>
+fn put_own(alloc: Global, answers: &mut Answers, facts: &mut Facts) -> Result<(), AllocError>
     ensures answers { OnOk result
         ((k : Key)
         → lookup (key_eq k) answers.new ≡ over facts.old.additions k (lookup (key_eq k) answers.old)) }
