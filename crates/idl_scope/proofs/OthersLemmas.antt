@@ -20,8 +20,8 @@ lookup-others Nameless cursor prefix others h = refl
 lookup-others Prefix cursor prefix others h = absurd h
 lookup-others (IdOf path) cursor prefix others h = refl
 
--- those of the two are found, whatever the others have at the first of their keys
-pub lookup-first : (k : Key) (cursor prefix unasked : Answer) (others : List (Key × Answer)) → lookup (key_eq k) others ≡ cond (key_eq k Cursor) (Some unasked) None
+-- those of the two are found, whatever the others have at their keys
+pub lookup-first : (k : Key) (cursor prefix unasked : Answer) (others : List (Key × Answer)) → lookup (key_eq k) others ≡ cond (key_eq k Prefix) (Some unasked) (cond (key_eq k Cursor) (Some unasked) None)
     → lookup (key_eq k) ((Cursor, cursor) ∷ (Prefix, prefix) ∷ others) ≡ lookup (key_eq k) ((Cursor, cursor) ∷ (Prefix, prefix) ∷ [])
 lookup-first Cursor cursor prefix unasked others h = refl
 lookup-first (Declared n path) cursor prefix unasked others h = h

@@ -14,7 +14,7 @@ abbrev pub HaveOwnKeys : List (Key × Addition) → Type 0
 HaveOwnKeys [] = Unit {0}
 HaveOwnKeys (e ∷ entries) = (e.0 ≡ key_of e.1) × HaveOwnKeys entries
 
--- the answer at a key is one of those beside which the open scopes and the prefix in force stand apart
+-- the answer at a key is one of those from which the open scopes and the prefix in force stand apart
 abbrev pub IsAmongOthers : Key → Type 0
 IsAmongOthers Cursor = ⊥
 IsAmongOthers Prefix = ⊥

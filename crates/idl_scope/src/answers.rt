@@ -53,11 +53,14 @@ impl Answers {
     /// These scopes are open and this prefix is in force, and there are no other answers.
     pub fn new(alloc: Global, cursor: Answer, prefix: Answer) -> Result<Answers, AllocError>
         ensures { IfOk result (λ answers. (k : Key)
-            → lookup (key_eq k) answers ≡ lookup (key_eq k) ((Cursor, cursor) ∷ (Prefix, prefix) ∷ [])) }
+            → lookup (key_eq k) answers
+            ≡ lookup (key_eq k) ((Cursor, cursor) ∷ (Prefix, prefix) ∷ [])) }
     {
         let mut others = Map::new();
-        // Nobody asks for it here. In the bucket that all parts of the map have at first, it leaves no part the whole of that.
+        // Nobody asks for these. All parts of the map have one bucket at first, and these are of two parts: so none has the
+        // whole of it, which would be full again when the part gets its own.
         others.insert(alloc, DigestedKey::cursor(), Answer::Used)?;
+        others.insert(alloc, DigestedKey::prefix(), Answer::Used)?;
         Ok(Answers {
             cursor,
             prefix,
@@ -99,7 +102,8 @@ impl Answers {
     /// a digest like those of the keys whose answers stand apart, to make the key.
     #[inline]
     pub fn get_lent<L: Lent<DigestedKey>>(&self, key: &L) -> Result<Option<&Answer>, AllocError>
-        ensures { IfOk result (λ answer. option_copied answer ≡ lookup (key_eq (L.key key.now)) self.now) }
+        ensures { IfOk result (λ answer.
+            option_copied answer ≡ lookup (key_eq (L.key key.now)) self.now) }
     {
         if key.key_digest() <= LAST_APART {
             return self.get_made(key);
@@ -110,7 +114,8 @@ impl Answers {
     // The same with the key made. It stands apart, since few keys have such digests.
     #[inline(never)]
     fn get_made<L: Lent<DigestedKey>>(&self, key: &L) -> Result<Option<&Answer>, AllocError>
-        ensures { IfOk result (λ answer. option_copied answer ≡ lookup (key_eq (L.key key.now)) self.now) }
+        ensures { IfOk result (λ answer.
+            option_copied answer ≡ lookup (key_eq (L.key key.now)) self.now) }
     {
         let key = key.owned()?;
         Ok(self.get(&key))
