@@ -85,7 +85,7 @@ impl Answers {
     }
 
     /// The answer at a key, or nothing.
-    #[inline]
+    #[inline(always)]
     pub fn get(&self, key: &DigestedKey) -> Option<&Answer>
         ensures { option_copied result ≡ lookup (key_eq key.now) self.now }
     {
@@ -100,7 +100,7 @@ impl Answers {
 
     /// The answer at a key that is lent, or nothing. It takes memory only where many keys choose one bucket, or where one has
     /// a digest like those of the keys whose answers stand apart, to make the key.
-    #[inline]
+    #[inline(always)]
     pub fn get_lent<L: Lent<DigestedKey>>(&self, key: &L) -> Result<Option<&Answer>, AllocError>
         ensures { IfOk result (λ answer.
             option_copied answer ≡ lookup (key_eq (L.key key.now)) self.now) }
