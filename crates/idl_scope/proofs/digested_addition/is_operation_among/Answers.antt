@@ -11,7 +11,7 @@ loop-addition-preserved c =
     let one = c.addition-item.result in
     let rest = operations_among (drop (at + 1) additions) in
     let here = from_here additions at one c.loop-addition-test.true c.addition-item.is in
-    let none : operations_among (one ∷ []) ≡ [] = ap (λ a. operations_among (a ∷ [])) (sym c.addition.ensures) ∙ c.in_default-operation.ensures.none refl in
+    let none : operations_among (one ∷ []) ≡ [] = ap (λ a. operations_among (a ∷ [])) (sym c.addition.ensures) ∙ c.in_default.ensures.none refl in
     sym (ap (λ l. l ++ rest) none)
     ∙ sym (operations_among-cons one (drop (at + 1) additions))
     ∙ sym (ap operations_among here)
