@@ -1,4 +1,4 @@
-use Rattle.std.proofs.Common.{◌≡◌, ◌∙◌, [], None, Some, cond}
+use Rattle.std.proofs.Common.{◌≡◌, ◌∙◌, None, Some, cond}
 use Rattle.std.specs.Map.{lookup}
 use Rattle.idl_scope.specs.Key.{key_eq}
 use Rattle.idl_scope.specs.declared.answer.Answer.TheVariants.{Used}
