@@ -14,6 +14,7 @@ pub mod MarkLemmas
 pub mod Meant
 pub mod Membership
 pub mod OperationLemmas
+pub mod OthersLemmas
 pub mod OutlineLemmas
 pub mod PathLemmas
 pub mod PlaceLemmas

@@ -11,7 +11,7 @@ use Rattle.idl_scope.specs.Lookup.{inherits}
 use Rattle.idl_scope.specs.declared.addition.Addition.{Addition}
 use Rattle.idl_scope.specs.declared.addition.Addition.TheVariants.{Declares, Uses, Appears, Identifies}
 use Rattle.idl_scope.specs.declared.answer.Answer.{Answer}
-use Rattle.idl_scope.specs.declared.answer.Answer.TheVariants.{Open, Count}
+use Rattle.idl_scope.specs.declared.answer.Answer.TheVariants.{Open, Count, InForce}
 use Rattle.idl_scope.specs.declared.answer.Scope.{Scope}
 use Rattle.idl_scope.specs.declared.entity.Entity.{Entity}
 use Rattle.idl_scope.specs.declared.key.Key.{Key}
@@ -89,7 +89,7 @@ count-over additions k before n h = by (addition_at additions k)
     by (Some (Identifies path identity)) = none
 
 -- at first
-pub first-answers : (k : Key) → with_prefix no_prefix (with_answer Cursor (Open (global_scope ∷ [])) (λ q. None)) k ≡ first_answer k
+pub first-answers : (k : Key) → kept ((Cursor, Open (global_scope ∷ [])) ∷ (PrefixKey, InForce no_prefix) ∷ []) k ≡ first_answer k
 first-answers Cursor = refl
 first-answers (Declared n path) = refl
 first-answers (Introduced n path body) = refl

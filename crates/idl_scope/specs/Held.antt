@@ -6,12 +6,19 @@ use Rattle.idl_scope.specs.Key.{key_eq}
 use Rattle.idl_scope.specs.declared.addition.Addition.{Addition}
 use Rattle.idl_scope.specs.declared.answer.Scope.{Scope}
 use Rattle.idl_scope.specs.declared.key.Key.{Key}
+use Rattle.idl_scope.specs.declared.key.Key.TheVariants.{Cursor, Prefix}
 use Rattle.idl_scope.specs.declared.state.State.{State}
 
 -- each entry has the key of its addition
 abbrev pub HaveOwnKeys : List (Key × Addition) → Type 0
 HaveOwnKeys [] = Unit {0}
 HaveOwnKeys (e ∷ entries) = (e.0 ≡ key_of e.1) × HaveOwnKeys entries
+
+-- the answer at a key is one of those from which the open scopes and the prefix in force stand apart
+abbrev pub IsAmongOthers : Key → Type 0
+IsAmongOthers Cursor = ⊥
+IsAmongOthers Prefix = ⊥
+IsAmongOthers key = Unit {0}
 
 -- what is kept comes to: the lists have the innermost scope, and the file that was entered last, last
 abbrev pub held : State → World

@@ -1,8 +1,8 @@
 //! Additions with the digests of their keys.
 
-ghost use Rattle.std.specs.Prelude.{◌≡◌, IfOk, nat_eq};
+ghost use Rattle.std.specs.Prelude.{◌≡◌, [], IfOk, IsFalse, nat_eq};
 ghost use Rattle.std.specs.List.{list_any, position};
-ghost use Rattle.idl_scope.specs.Facts.{answer_of, key_of};
+ghost use Rattle.idl_scope.specs.Facts.{answer_of, key_of, operations_among};
 ghost use Rattle.idl_scope.specs.Key.{key_digest, key_eq};
 
 use crate::addition::Addition;
@@ -99,6 +99,19 @@ pub fn is_digest_among(additions: &[DigestedAddition], other: &DigestedAddition)
 {
     let digest = other.digest();
     additions.iter().any(|addition| addition.digest() == digest)
+}
+
+/// Whether one of the additions declares an operation or attribute.
+#[inline]
+pub fn is_operation_among(additions: &[DigestedAddition]) -> bool
+    ensures { IsFalse result → operations_among additions.now ≡ [] }
+{
+    for addition in additions {
+        if let Some(_path) = addition.addition().operation() {
+            return true;
+        }
+    }
+    false
 }
 
 /// The place among additions of the first that is at the key of another.

@@ -4,14 +4,16 @@ ghost use Rattle.std.specs.Prelude.{◌≡◌, ◌<◌, ◌++◌, ◌∷◌, [],
 ghost use Rattle.std.specs.Map.{lookup};
 ghost use Rattle.std.specs.Option.{option_copied};
 ghost use Rattle.idl_base.specs.Marks.{AreMarked};
-ghost use Rattle.idl_scope.specs.Facts.{addition_at, key_of, with_addition};
+ghost use Rattle.idl_scope.specs.Facts.{addition_at, key_of, operations_among, with_addition};
 ghost use Rattle.idl_scope.specs.Key.{key_digest, key_eq};
 ghost use Rattle.idl_scope.specs.declared.addition.Step.TheVariants.{Stays};
 ghost use Rattle.idl_scope.specs.declared.facts.TheConstants.{FEW};
 
 use crate::addition::{Addition, Step};
 use crate::digested::DigestedKey;
-use crate::digested_addition::{DigestedAddition, asked_among, is_digest_among, place_among};
+use crate::digested_addition::{
+    DigestedAddition, asked_among, is_digest_among, is_operation_among, place_among,
+};
 use crate::lent_key::LentKey;
 use crate::room::Room;
 use idl_base::{Marks, Table};
@@ -205,6 +207,13 @@ impl Facts {
         }
         let (_key, addition) = self.others.get_index(index - self.first.len())?;
         Some(addition)
+    }
+
+    /// Whether an operation or attribute may be declared among them.
+    pub(crate) fn has_operations(&self) -> bool
+        ensures { IsFalse result → operations_among self.now.additions ≡ [] }
+    {
+        !self.others.is_empty() || is_operation_among(self.first.as_slice())
     }
 
     /// The additions in order, taken out, unless they are many.

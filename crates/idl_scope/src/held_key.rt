@@ -107,6 +107,30 @@ impl HeldKey {
         Ok(HeldKey::Whole(Box::new(alloc, key)?))
     }
 
+    /// Whether it is the key of the open scopes.
+    #[inline]
+    pub(crate) fn is_cursor(&self) -> bool
+        ensures { result ≡ key_eq (key_in self.now) keys.Cursor }
+    {
+        match self {
+            HeldKey::Cursor => true,
+            HeldKey::Whole(key) => matches!(**key, Key::Cursor),
+            _ => false,
+        }
+    }
+
+    /// Whether it is the key of the prefix in force.
+    #[inline]
+    pub(crate) fn is_prefix(&self) -> bool
+        ensures { result ≡ key_eq (key_in self.now) keys.Prefix }
+    {
+        match self {
+            HeldKey::Prefix => true,
+            HeldKey::Whole(key) => matches!(**key, Key::Prefix),
+            _ => false,
+        }
+    }
+
     /// Whether a key is this one.
     pub(crate) fn is(&self, key: &Key) -> bool
         ensures { result ≡ key_eq key.now (key_in self.now) }

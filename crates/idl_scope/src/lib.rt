@@ -6,6 +6,7 @@
 
 mod addition;
 mod answer;
+mod answers;
 mod apart;
 mod base_queue;
 mod data_type;

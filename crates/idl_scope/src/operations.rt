@@ -9,21 +9,21 @@ ghost use Rattle.std.specs.List.{list_any};
 ghost use Rattle.std.specs.Map.{keys_of, lookup};
 
 use crate::addition::Addition;
-use crate::answer::{Answer, entity_in};
-use crate::digested::DigestedKey;
+use crate::answer::entity_in;
+use crate::answers::Answers;
 use crate::facts::Facts;
 use crate::lent_key::LentKey;
 use crate::path::Path;
 use crate::queue::join;
 use idl_base::{Seq, Table};
-use idl_map::{Map, SharedList};
+use idl_map::SharedList;
 use std::alloc::{AllocError, Global};
 
 /// What an interface with these bases inherits: the list of the first base, shared with it, and behind it those of the
 /// others that are not yet there.
 pub fn inherited(
     alloc: Global,
-    answers: &Map<DigestedKey, Answer>,
+    answers: &Answers,
     bases: &[Path],
 ) -> Result<SharedList<Path>, AllocError>
     ensures { IfOk result (λ paths.
@@ -42,7 +42,7 @@ pub fn inherited(
 // These operations and attributes, and those of bases that are not yet there.
 fn gathered(
     alloc: Global,
-    answers: &Map<DigestedKey, Answer>,
+    answers: &Answers,
     found: SharedList<Path>,
     bases: &[Path],
 ) -> Result<SharedList<Path>, AllocError>
@@ -62,7 +62,7 @@ fn gathered(
 // The operations and attributes of the closed interface at a path.
 fn operations_at(
     alloc: Global,
-    answers: &Map<DigestedKey, Answer>,
+    answers: &Answers,
     path: &Path,
 ) -> Result<SharedList<Path>, AllocError>
     ensures { IfOk result (λ paths.
@@ -129,6 +129,9 @@ pub fn add_inside(inside: &mut Vec<Seq<Path>>, facts: &Facts) -> Result<(), Allo
         (reverse inside.new.items
         ≡ more_inside (reverse inside.old.items) (operations_among facts.now.additions)) }
 {
+    if !facts.has_operations() {
+        return Ok(());
+    }
     let Some(own) = inside.pop() else {
         return Ok(());
     };

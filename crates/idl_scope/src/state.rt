@@ -15,6 +15,7 @@ ghost use Rattle.std.specs.Map.{lookup};
 
 use crate::addition::{Addition, Step};
 use crate::answer::{Answer, Scope, count_in, entity_in, prefix_in, scopes_in};
+use crate::answers::Answers;
 use crate::digested::DigestedKey;
 use crate::digested_addition::DigestedAddition;
 use crate::entity::Entity;
@@ -29,14 +30,14 @@ use crate::path::Path;
 use crate::shared::{Shared, copied};
 use idl_base::Seq;
 use idl_lex::Spelling;
-use idl_map::{Map, SharedList};
+use idl_map::SharedList;
 use itoa::Buffer;
 use std::alloc::{AllocError, Global};
 
 /// The answers at their keys, and beside them the paths of the operations and attributes so far of each open scope, and the
 /// prefixes that were in force before the open scopes were opened and before files were entered, the innermost last.
 pub struct State {
-    pub answers: Map<DigestedKey, Answer>,
+    pub answers: Answers,
     pub inside: Vec<Seq<Path>>,
     pub opened: SharedList<Shared<Prefix>>,
     pub entered: SharedList<Shared<Prefix>>,
@@ -59,17 +60,11 @@ impl State {
         ensures { IfOk result (λ state. held state ≡ first_world) }
     {
         let scopes = opened(alloc, Scope::global(), &[])?;
-        let mut answers = Map::new();
-        answers.insert(alloc, DigestedKey::cursor(), scopes)?;
-        answers.insert(
-            alloc,
-            DigestedKey::prefix(),
-            Answer::InForce(Prefix::none(alloc)?),
-        )?;
+        let prefix = Answer::InForce(Prefix::none(alloc)?);
         let mut inside = Vec::new(alloc);
         inside.push(Seq::new(alloc))?;
         Ok(State {
-            answers,
+            answers: Answers::new(alloc, scopes, prefix)?,
             inside,
             opened: SharedList::new(),
             entered: SharedList::new(),
@@ -126,8 +121,7 @@ impl State {
     fn cursor(&self) -> &[Scope]
         ensures { result.now ≡ scopes_in (lookup (key_eq Cursor) self.now.answers) }
     {
-        let key = DigestedKey::cursor();
-        scopes_in(self.answers.get(&key))
+        scopes_in(Some(self.answers.cursor()))
     }
 
     // What it comes to with one more body of a scope.
@@ -142,7 +136,7 @@ impl State {
         let scopes = opened(alloc, scope, self.cursor())?;
         let prefix = self.prefix(alloc)?;
         self.answers.insert(alloc, key, Answer::Count(body))?;
-        self.answers.insert(alloc, DigestedKey::cursor(), scopes)?;
+        self.answers.put_cursor(scopes);
         self.inside.push(Seq::new(alloc))?;
         self.opened.push(alloc, prefix)?;
         Ok(())
@@ -190,11 +184,10 @@ impl State {
         let scopes = open_scopes(alloc, outer)?;
         let closing = self.closing(alloc, scope)?;
         put_closing(alloc, &mut self.answers, &closing)?;
-        self.answers.insert(alloc, DigestedKey::cursor(), scopes)?;
+        self.answers.put_cursor(scopes);
         leave(&mut self.inside);
         let prefix = taken_last(alloc, &mut self.opened)?;
-        self.answers
-            .insert(alloc, DigestedKey::prefix(), Answer::InForce(prefix))?;
+        self.answers.put_prefix(Answer::InForce(prefix));
         Ok(())
     }
 
@@ -203,7 +196,7 @@ impl State {
         ensures { IfOk result (λ prefix.
             prefix ≡ prefix_in (lookup (key_eq PrefixKey) self.now.answers)) }
     {
-        match prefix_in(self.answers.get(&DigestedKey::prefix())) {
+        match prefix_in(Some(self.answers.prefix())) {
             Some(prefix) => prefix.clone(),
             None => Prefix::none(alloc),
         }
@@ -216,8 +209,7 @@ impl State {
         let text = text.clone()?;
         let scope = path_of_first(self.cursor())?;
         let prefix = Shared::new(alloc, Prefix { text, scope })?;
-        self.answers
-            .insert(alloc, DigestedKey::prefix(), Answer::InForce(prefix))?;
+        self.answers.put_prefix(Answer::InForce(prefix));
         Ok(())
     }
 
@@ -227,8 +219,7 @@ impl State {
     {
         let prefix = self.prefix(alloc)?;
         let none = Prefix::none(alloc)?;
-        self.answers
-            .insert(alloc, DigestedKey::prefix(), Answer::InForce(none))?;
+        self.answers.put_prefix(Answer::InForce(none));
         self.entered.push(alloc, prefix)?;
         Ok(())
     }
@@ -238,8 +229,7 @@ impl State {
         ensures { OnOk result (held self.new ≡ after_step (held self.old) Leaves) }
     {
         let prefix = taken_last(alloc, &mut self.entered)?;
-        self.answers
-            .insert(alloc, DigestedKey::prefix(), Answer::InForce(prefix))?;
+        self.answers.put_prefix(Answer::InForce(prefix));
         Ok(())
     }
 
@@ -288,7 +278,7 @@ pub fn closable(scopes: &[Scope]) -> Option<(&Scope, &[Scope])>
 // The answers with that of an interface that closes, if one does.
 fn put_closing(
     alloc: Global,
-    answers: &mut Map<DigestedKey, Answer>,
+    answers: &mut Answers,
     closing: &Option<Shared<Entity>>,
 ) -> Result<(), AllocError>
     ensures { OnOk result
@@ -337,11 +327,7 @@ fn closed(
 }
 
 // The answers with those of the additions.
-fn put_all(
-    alloc: Global,
-    answers: &mut Map<DigestedKey, Answer>,
-    facts: &Facts,
-) -> Result<(), AllocError>
+fn put_all(alloc: Global, answers: &mut Answers, facts: &Facts) -> Result<(), AllocError>
     ensures { OnOk result
         ((k : Key)
         → lookup (key_eq k) answers.new ≡ over facts.now.additions k (lookup (key_eq k) answers.old)) }
@@ -359,11 +345,7 @@ fn put_all(
 }
 
 // The same with additions that are taken out of the facts, unless they are many.
-fn put_own(
-    alloc: Global,
-    answers: &mut Map<DigestedKey, Answer>,
-    facts: &mut Facts,
-) -> Result<(), AllocError>
+fn put_own(alloc: Global, answers: &mut Answers, facts: &mut Facts) -> Result<(), AllocError>
     ensures answers { OnOk result
         ((k : Key)
         → lookup (key_eq k) answers.new ≡ over facts.old.additions k (lookup (key_eq k) answers.old)) }
@@ -380,7 +362,7 @@ fn put_own(
 // The same with these additions; their list, in which none is left.
 fn put_few(
     alloc: Global,
-    answers: &mut Map<DigestedKey, Answer>,
+    answers: &mut Answers,
     additions: Vec<DigestedAddition>,
 ) -> Result<Vec<DigestedAddition>, AllocError>
     ensures answers { OnOk result

@@ -1,8 +1,13 @@
-use Rattle.std.proofs.Common.{◌∙◌, ◌++◌, ◌∷◌, [], ap, reverse}
+use Rattle.std.proofs.Common.{◌∙◌, ◌++◌, ◌∷◌, [], ap, reverse, sym}
 use Rattle.std.specs.Option.{option_to_list}
-use Rattle.idl_scope.specs.Facts.{operations_among}
-use Rattle.idl_scope.proofs.StateLemmas.{reverse-more}
+use Rattle.idl_scope.specs.Facts.{more_inside, operations_among}
+use Rattle.idl_scope.proofs.StateLemmas.{more_inside-nothing, reverse-more}
 use Rattle.idl_scope.proofs.operations.add_inside.Goals as goal
+
+pub returns-then-not-has_operations : goal.returns-then-not-has_operations
+returns-then-not-has_operations c =
+    let inside = reverse c.args.inside.now.items in
+    sym (ap (more_inside inside) (c.has_operations.ensures c.if-not-has_operations.true) ∙ more_inside-nothing inside)
 
 pub returns : goal.returns
 returns c =

@@ -1,10 +1,15 @@
-use Rattle.std.proofs.Common.{◌≡◌, sym, ap, ◌∙◌, suc, ◌+◌, ◌-◌, ◌∷◌, Some, cond, drop, arith}
+use Rattle.std.proofs.Common.{◌≡◌, sym, ap, ◌∙◌, suc, ◌+◌, ◌-◌, ◌∷◌, Some, cond, drop, arith, subst}
 use Rattle.std.specs.Map.{lookup}
 use Rattle.idl_scope.specs.Facts.{answer_of, key_of, over}
+use Rattle.idl_scope.specs.Held.{IsAmongOthers}
 use Rattle.idl_scope.specs.Key.{key_eq}
 use Rattle.idl_scope.proofs.AnswerLemmas.{over-cons}
+use Rattle.idl_scope.proofs.OthersLemmas.{key_of-others}
 use Rattle.idl_scope.proofs.PlaceLemmas.{drop-at}
 use Rattle.idl_scope.proofs.state.put_all.Goals as goal
+
+pub insert-requires : goal.insert-requires
+insert-requires c = subst IsAmongOthers (sym c.in_ok-key.ensures) (key_of-others c.in-Some.addition.now)
 
 pub loop-back-preserved : goal.loop-back-preserved
 loop-back-preserved c =
@@ -23,7 +28,7 @@ loop-back-preserved c =
       count = c.loop-back.invariant.count;
       within = omega arith;
       answers = λ k.
-          c.in_ok-insert.ensures.each_key k
+          c.in_ok-insert.ensures k
           ∙ (λ i. cond (key_eq k (key i)) (Some (answer i)) (lookup (key_eq k) old))
           ∙ ap (λ o. cond (key_eq k (key_of one)) (Some (answer_of one)) o) (c.loop-back.invariant.answers k)
           ∙ sym (over-cons one (drop (count - back) additions) k (lookup (key_eq k) first))

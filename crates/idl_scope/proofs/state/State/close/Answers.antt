@@ -1,7 +1,7 @@
 use Rattle.std.proofs.Common.{◌≡◌, sym, ap, ◌∙◌}
 use Rattle.idl_scope.specs.Facts.{closing, given_back, over, scopes_in, with_answer, with_prefix}
 use Rattle.idl_scope.specs.Held.{closable, held}
-use Rattle.idl_scope.specs.declared.answer.Answer.TheVariants.{Open, InForce}
+use Rattle.idl_scope.specs.declared.answer.Answer.TheVariants.{Open}
 use Rattle.idl_scope.specs.declared.key.Key.TheVariants.{Cursor}
 use Rattle.idl_scope.proofs.StateLemmas.{after_closing-some, kept}
 use Rattle.idl_scope.proofs.state.State.close.Goals as goal
@@ -15,12 +15,11 @@ returns c =
     let outer = c.in-Some.outer.now in
     let scopes = c.cursor.ensures in
     let able = ap closable (sym scopes) ∙ sym c.in-Some.ensures in
-    let closed : kept c.insert.new.self ≡ with_answer Cursor (Open outer) (λ k. over (closing w scope) k (kept entries k)) =
-    (λ i k. c.in_ok-insert.ensures.each_key k i)
-    ∙ (λ i. with_answer (c.cursor-2.ensures i) (c.in_ok-scopes.ensures i) (λ k. c.in_ok-put_closing.ensures k i))
+    let closed : kept c.put_cursor.new.self ≡ with_answer Cursor (Open outer) (λ k. over (closing w scope) k (kept entries k)) =
+    (λ i k. c.put_cursor.ensures k i)
+    ∙ (λ i. with_answer Cursor (c.in_ok-scopes.ensures i) (λ k. c.in_ok-put_closing.ensures k i))
     ∙ (λ i. with_answer Cursor (Open outer) (λ k. over (sym c.in_ok-closing.ensures i) k (kept entries k))) in
-    let answers : kept c.insert-2.new.self ≡ with_prefix (given_back w.before.opened) (with_answer Cursor (Open outer) (λ k. over (closing w scope) k (kept entries k))) =
-    (λ i k. c.in_ok-insert-2.ensures.each_key k i)
-    ∙ (λ i. with_answer (c.prefix.ensures i) (InForce (c.in_ok-prefix.ensures.prefix i)) (closed i)) in
+    let answers : kept c.put_prefix.new.self ≡ with_prefix (given_back w.before.opened) (with_answer Cursor (Open outer) (λ k. over (closing w scope) k (kept entries k))) =
+    (λ i k. c.put_prefix.ensures k i) ∙ (λ i. with_prefix (c.in_ok-prefix.ensures.prefix i) (closed i)) in
     (λ i. record { answers = answers i; inside = c.leave.ensures i; before = record w.before { opened = c.in_ok-prefix.ensures.others i } })
     ∙ sym (after_closing-some w (scopes_in (kept entries Cursor)) scope outer able)

@@ -1,7 +1,6 @@
 use Rattle.std.proofs.Common.{◌≡◌, ap, ◌∙◌, ◌++◌, ◌∷◌, [], reverse}
-use Rattle.idl_scope.specs.Facts.{after_entering, prefix_in, with_answer}
+use Rattle.idl_scope.specs.Facts.{after_entering, prefix_in, with_prefix}
 use Rattle.idl_scope.specs.Held.{held}
-use Rattle.idl_scope.specs.declared.answer.Answer.TheVariants.{InForce}
 use Rattle.idl_scope.specs.declared.key.Key.TheVariants.{Prefix as PrefixKey}
 use Rattle.idl_scope.proofs.StateLemmas.{kept, reverse-push}
 use Rattle.idl_scope.proofs.state.State.enter.Goals as goal
@@ -9,9 +8,8 @@ use Rattle.idl_scope.proofs.state.State.enter.Goals as goal
 pub returns : goal.returns
 returns c =
     let state = c.args.self.now in
-    let put : kept c.insert.new.self ≡ (after_entering (held state)).answers =
-    (λ i k. c.in_ok-insert.ensures.each_key k i)
-    ∙ (λ i. with_answer (c.prefix-3.ensures i) (InForce (c.in_ok-none.ensures i)) (kept state.answers)) in
+    let put : kept c.put_prefix.new.self ≡ (after_entering (held state)).answers =
+    (λ i k. c.put_prefix.ensures k i) ∙ (λ i. with_prefix (c.in_ok-none.ensures i) (kept state.answers)) in
     let pushed = c.in_ok-push.ensures.items ∙ ap (λ p. state.entered ++ p ∷ []) c.in_ok-prefix.ensures in
     let entered = ap reverse pushed ∙ reverse-push state.entered (prefix_in (kept state.answers PrefixKey)) in
     λ i. record (held state) { answers = put i; before = record (held state).before { entered = entered i } }

@@ -1,7 +1,6 @@
 use Rattle.std.proofs.Common.{◌≡◌, ap, ◌∙◌}
-use Rattle.idl_scope.specs.Facts.{after_prefix, path_around, with_answer}
+use Rattle.idl_scope.specs.Facts.{after_prefix, path_around, with_prefix}
 use Rattle.idl_scope.specs.Held.{held}
-use Rattle.idl_scope.specs.declared.answer.Answer.TheVariants.{InForce}
 use Rattle.idl_scope.proofs.StateLemmas.{kept}
 use Rattle.idl_scope.proofs.state.State.put_prefix.Goals as goal
 
@@ -11,7 +10,6 @@ returns c =
     let outer = c.cursor.ensures in
     let scope = c.in_ok-scope.ensures ∙ ap path_around outer in
     let prefix = c.in_ok-prefix.ensures ∙ (λ i. record { text = c.in_ok-text.ensures.cases i; scope = scope i }) in
-    let put : kept c.insert.new.self ≡ (after_prefix (held state) c.args.text.now).answers =
-    (λ i k. c.in_ok-insert.ensures.each_key k i)
-    ∙ (λ i. with_answer (c.prefix.ensures i) (InForce (prefix i)) (kept state.answers)) in
+    let put : kept c.put_prefix.new.self ≡ (after_prefix (held state) c.args.text.now).answers =
+    (λ i k. c.put_prefix.ensures k i) ∙ (λ i. with_prefix (prefix i) (kept state.answers)) in
     λ i. record (held state) { answers = put i }

@@ -1,0 +1,50 @@
+-- Answers beside which those of two keys stand apart.
+use Rattle.std.proofs.Common.{◌≡◌, ◌<◌, cond, List, [], ◌∷◌, None, Some, refl, arith}
+use Rattle.std.specs.Map.{lookup}
+use Rattle.idl_scope.specs.Facts.{key_of}
+use Rattle.idl_scope.specs.Held.{IsAmongOthers}
+use Rattle.idl_scope.specs.Key.{key_digest, key_eq}
+use Rattle.idl_scope.specs.declared.addition.Addition.{Addition}
+use Rattle.idl_scope.specs.declared.addition.Addition.TheVariants.{Declares, Uses, Appears, Identifies}
+use Rattle.idl_scope.specs.declared.answer.Answer.{Answer}
+use Rattle.idl_scope.specs.declared.key.Key.{Key}
+use Rattle.idl_scope.specs.declared.key.Key.TheVariants.{Cursor, Declared, Introduced, Opened, Nameless, Prefix, IdOf}
+
+-- those of the two are asked at no other key
+pub lookup-others : (k : Key) (cursor prefix : Answer) (others : List (Key × Answer)) → IsAmongOthers k → lookup (key_eq k) ((Cursor, cursor) ∷ (Prefix, prefix) ∷ others) ≡ lookup (key_eq k) others
+lookup-others Cursor cursor prefix others h = absurd h
+lookup-others (Declared n path) cursor prefix others h = refl
+lookup-others (Introduced n path body) cursor prefix others h = refl
+lookup-others (Opened path) cursor prefix others h = refl
+lookup-others Nameless cursor prefix others h = refl
+lookup-others Prefix cursor prefix others h = absurd h
+lookup-others (IdOf path) cursor prefix others h = refl
+
+-- those of the two are found, whatever the others have at their keys
+pub lookup-first : (k : Key) (cursor prefix unasked : Answer) (others : List (Key × Answer)) → lookup (key_eq k) others ≡ cond (key_eq k Prefix) (Some unasked) (cond (key_eq k Cursor) (Some unasked) None)
+    → lookup (key_eq k) ((Cursor, cursor) ∷ (Prefix, prefix) ∷ others) ≡ lookup (key_eq k) ((Cursor, cursor) ∷ (Prefix, prefix) ∷ [])
+lookup-first Cursor cursor prefix unasked others h = refl
+lookup-first (Declared n path) cursor prefix unasked others h = h
+lookup-first (Introduced n path body) cursor prefix unasked others h = h
+lookup-first (Opened path) cursor prefix unasked others h = h
+lookup-first Nameless cursor prefix unasked others h = h
+lookup-first Prefix cursor prefix unasked others h = refl
+lookup-first (IdOf path) cursor prefix unasked others h = h
+
+-- nothing that is added changes those of the two
+pub key_of-others : (a : Addition) → IsAmongOthers (key_of a)
+key_of-others (Declares e) = tt
+key_of-others (Uses n path body) = tt
+key_of-others (Appears path prefix) = tt
+key_of-others (Identifies path identity) = tt
+
+-- their keys have no larger digests
+pub among_others-digest : (k : Key) → 262 < key_digest k → IsAmongOthers k
+unfolding key_digest
+among_others-digest Cursor h = omega (h, arith)
+among_others-digest (Declared n path) h = tt
+among_others-digest (Introduced n path body) h = tt
+among_others-digest (Opened path) h = tt
+among_others-digest Nameless h = tt
+among_others-digest Prefix h = omega (h, arith)
+among_others-digest (IdOf path) h = tt
