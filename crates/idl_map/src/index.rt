@@ -163,7 +163,7 @@ impl Index {
         self.make_room(spot.digest, place)
     }
 
-    // Puts a place in at a digest, at once or when its part has more buckets.
+    // Puts a place in at a digest, at once or when its part has more buckets. It may get more of them twice.
     #[inline(never)]
     fn make_room(&mut self, digest: u64, place: u32) -> Result<bool, AllocError>
         requires { IsIndexed self.old }
@@ -174,6 +174,11 @@ impl Index {
         if self.put_beside(digest, place) {
             return Ok(true);
         }
+        self.grow(digest)?;
+        if self.put_beside(digest, place) {
+            return Ok(true);
+        }
+        // Where the first bucket of all parts has one part's alone, the one that the part gets is full at once.
         self.grow(digest)?;
         Ok(self.put_beside(digest, place))
     }
