@@ -1,10 +1,11 @@
 //! Bytes that clones share.
 
-ghost use Rattle.std.specs.Prelude.{◌≡◌, ◌↔◌, [], IfOk, IsTrue, length};
+ghost use Rattle.std.specs.Prelude.{◌≡◌, ◌≤◌, ◌↔◌, [], IfOk, IsTrue, length, slice_range};
 ghost use Rattle.std.specs.Cmp.{partial_equiv_from_equiv};
 ghost use Rattle.std.specs.Cmp.Lexicographic.{bytes_decides, nat_list_eq_equiv};
+ghost use Rattle.std.specs.Rc.{rc_slice_items};
 ghost use Rattle.std.specs.Str.{bytes_eq};
-ghost use Rattle.idl_base.specs.SharedText.{room_bytes};
+ghost use Rattle.idl_base.specs.SharedText.{IsWithin, room_bytes};
 
 use crate::Datum;
 use crate::short::Short;
@@ -14,8 +15,9 @@ use std::rc::{Rc, RcSlice};
 
 /// Bytes, which clones share. To every contract they are the plain list.
 ///
-/// Up to 135 of them stand in one block of memory with the count of who shares them, and more in a block beside it.
-/// Comparisons go byte by byte, and find equal what is one list. Only `from_slice` takes memory.
+/// Up to 135 of them stand in one block of memory with the count of who shares them, and more in a block beside it. Texts that
+/// are cut out of one row of bytes (`push_texts`) share a block. Comparisons go byte by byte, and find equal what is one list.
+/// A clone takes no memory.
 #[derive(Drop)]
 pub struct SharedText {
     room: Room,
@@ -23,11 +25,13 @@ pub struct SharedText {
 
 impl Model for SharedText {
     ghost use Rattle.std.specs.Prelude.{List, ℕ};
-    ghost use Rattle.idl_base.specs.SharedText.{room_bytes};
+    ghost use Rattle.idl_base.specs.SharedText.{IsWithin, room_bytes};
 
     ghost Value = { List ℕ };
 
     ghost view = { λ text. room_bytes text.room };
+
+    ghost invariant = { λ text. IsWithin text.room };
 }
 
 impl SharedText {
@@ -37,6 +41,26 @@ impl SharedText {
     {
         let room = Room::of(alloc, bytes)?;
         Ok(SharedText { room })
+    }
+
+    /// The bytes of a block from one place up to another. Where these are too large numbers, they are copied.
+    pub(crate) fn part(
+        alloc: Global,
+        block: &RcSlice<u8>,
+        from: usize,
+        to: usize,
+    ) -> Result<SharedText, AllocError>
+        requires order { from ≤ to }
+        requires within { to ≤ length (rc_slice_items block.now) }
+        ensures { IfOk result (λ text. text ≡ slice_range (rc_slice_items block.now) from to) }
+    {
+        match (u16::try_from(from), u16::try_from(to)) {
+            (Ok(from), Ok(to)) => {
+                let room = Room::Part(from, to, block.clone()?);
+                Ok(SharedText { room })
+            }
+            _ => SharedText::from_slice(alloc, &block.as_slice()[from..to]),
+        }
     }
 
     /// The bytes in order.
@@ -69,12 +93,17 @@ enum Room {
     Large(Rc<Short<103>>),
     Largest(Rc<Short<135>>),
     Apart(RcSlice<u8>),
+    // From one place of a block up to another. The places stand before the pointer, where an enum has room beside its tag.
+    Part(u16, u16, RcSlice<u8>),
 }
+
+const _: () = prove!(size_of::<SharedText>() <= 16);
 
 impl Room {
     // A copy of these bytes.
     fn of(alloc: Global, bytes: &[u8]) -> Result<Room, AllocError>
-        ensures { IfOk result (λ room. room_bytes room ≡ bytes.now) }
+        ensures same { IfOk result (λ room. room_bytes room ≡ bytes.now) }
+        ensures within { IfOk result IsWithin }
     {
         match bytes.len() {
             0..=39 => Ok(Room::Small(Rc::new(alloc, Short::of(bytes))?)),
@@ -87,6 +116,7 @@ impl Room {
 
     // The bytes in order.
     fn as_bytes(&self) -> &[u8]
+        requires { IsWithin self.now }
         ensures { result.now ≡ room_bytes self.now }
     {
         match self {
@@ -95,12 +125,15 @@ impl Room {
             Room::Large(short) => short.as_bytes(),
             Room::Largest(short) => short.as_bytes(),
             Room::Apart(bytes) => bytes.as_slice(),
+            Room::Part(from, to, block) => &block.as_slice()[*from as usize..*to as usize],
         }
     }
 
     // The same bytes, shared.
     fn shared(&self) -> Result<Room, AllocError>
-        ensures { IfOk result (λ room. room_bytes room ≡ room_bytes self.now) }
+        requires { IsWithin self.now }
+        ensures same { IfOk result (λ room. room_bytes room ≡ room_bytes self.now) }
+        ensures within { IfOk result IsWithin }
     {
         match self {
             Room::Small(short) => Ok(Room::Small(short.clone()?)),
@@ -108,6 +141,7 @@ impl Room {
             Room::Large(short) => Ok(Room::Large(short.clone()?)),
             Room::Largest(short) => Ok(Room::Largest(short.clone()?)),
             Room::Apart(bytes) => Ok(Room::Apart(bytes.clone()?)),
+            Room::Part(from, to, block) => Ok(Room::Part(*from, *to, block.clone()?)),
         }
     }
 }

@@ -5,7 +5,7 @@ ghost use Rattle.idl_memo.specs.Query.{outcome};
 ghost use Rattle.idl_repo.specs.Entry.{entry};
 ghost use Rattle.idl_scope.specs.Facts.{answers};
 
-use crate::entry::{Entry, entry_with};
+use crate::entry::{Pushed, push_entry};
 use crate::row::kind_head;
 use crate::type_code::members_of;
 use idl_memo::{Bank, Journal};
@@ -71,12 +71,14 @@ impl<'e> Answered<'e> {
         }
     }
 
-    /// Its entry, written in a buffer. What it asks is not kept.
+    /// Writes its row behind what stands in a buffer. What it asks is not kept.
     #[tactic(auto, unfolding(crate::specs::Entry::entry))]
-    pub fn entry(&self, buffer: &mut Vec<u8>) -> Result<Entry, AllocError>
-        ensures { IfOk result (λ e. e ≡ outcome (entry self.now.1) (answers self.now.0)) }
+    pub fn push_entry(&self, buffer: &mut Vec<u8>) -> Result<Pushed, AllocError>
+        ensures { IfOk result (λ pushed.
+            IsTold (outcome (entry self.now.1) (answers self.now.0))
+            pushed buffer.old.items buffer.new.items) }
     {
-        entry_with(buffer, self.env, &mut Journal::told(), self.answer)
+        push_entry(buffer, self.env, &mut Journal::told(), self.answer)
     }
 }
 

@@ -40,14 +40,28 @@ impl Drop for Entry {
     }
 }
 
-impl Entry {
-    /// The row, and what is wrong with the name.
-    pub fn into_parts(self) -> (Option<SharedText>, Option<Code>)
-        ensures row { result.0 ≡ self.row }
-        ensures fault { result.1 ≡ self.fault }
+/// What is told of an entry whose row is written behind other bytes.
+#[derive(Clone, Copy)]
+pub struct Pushed {
+    /// Whether it has a row.
+    pub has_row: bool,
+    /// What is wrong with the name.
+    pub fault: Option<Code>,
+}
+
+impl Pushed {
+    // The entry whose row is all of these bytes.
+    fn entry(&self, alloc: Global, row: &[u8]) -> Result<Entry, AllocError>
+        ensures { IfOk result (λ e. e ≡ entry_of_row self.now row.now) }
     {
-        let Entry { row, fault } = self;
-        (row, fault)
+        let mut entry = Entry {
+            row: None,
+            fault: self.fault,
+        };
+        if self.has_row {
+            entry.row = Some(SharedText::from_slice(alloc, row)?);
+        }
+        Ok(entry)
     }
 }
 
@@ -123,17 +137,31 @@ pub fn entry_with(
         (e, log.new)
         ≡ run key_eq (entry_in (entity_in (option_copied answer.entry))) (answers env.now) log.old) }
 {
+    buffer.clear();
+    let pushed = push_entry(buffer, env, log, answer)?;
+    pushed.entry(env.alloc(), buffer.as_slice())
+}
+
+/// The same, where the row is written behind what stands in a buffer, and is not copied.
+pub fn push_entry(
+    buffer: &mut Vec<u8>,
+    env: &Env,
+    log: &mut Journal<Env>,
+    answer: Option<&Answer>,
+) -> Result<Pushed, AllocError>
+    ensures { IfOk result (λ pushed.
+        Pushes (run key_eq (entry_in (entity_in (option_copied answer.entry))) (answers env.now) log.old)
+        pushed (buffer.old.items, buffer.new.items) log.new) }
+{
     let Some(entity) = entity_in(answer) else {
-        return Ok(Entry {
-            row: None,
+        return Ok(Pushed {
+            has_row: false,
             fault: None,
         });
     };
-    buffer.clear();
     push_row(buffer, env, log, entity.get())?;
-    let row = SharedText::from_slice(env.alloc(), buffer.as_slice())?;
-    Ok(Entry {
-        row: Some(row),
+    Ok(Pushed {
+        has_row: true,
         fault: closing_fault(entity.get()),
     })
 }

@@ -13,6 +13,6 @@ mod row;
 mod type_code;
 
 pub use answered::Answered;
-pub use entry::{Entry, EntryTask, entry_by, entry_of};
+pub use entry::{Entry, EntryTask, Pushed, entry_by, entry_of};
 pub use laws::{asked_ids, listed_row, references};
 pub use type_code::{TypeCode, TypeCodeKind};

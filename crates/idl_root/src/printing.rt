@@ -2,6 +2,7 @@
 
 ghost use Rattle.std.specs.Prelude.{◌≡◌, ◌∷◌, ◌++◌, [], All, IfOk, IfSome, OnOk, flat_map, map, option_to_list};
 ghost use Rattle.std.specs.Option.{option_copied, option_map};
+ghost use Rattle.idl_base.specs.Spans.{AreWithin, pieces};
 ghost use Rattle.idl_root.specs.Findings.{fault_finding};
 ghost use Rattle.idl_root.specs.Followed.{AreBeside};
 ghost use Rattle.idl_root.specs.Held.{listed_at};
@@ -13,8 +14,9 @@ use crate::compiled::Row;
 use crate::finding::{Finding, Spelled, push_fault};
 use crate::kept::KeptEntry;
 use crate::reprinting::Reprinting;
+use idl_base::{Span, push_texts};
 use idl_event::Code;
-use idl_repo::{Answered, Entry};
+use idl_repo::{Answered, Entry, Pushed};
 use idl_scope::{Addition, Env, Facts, Path, Shared};
 use idl_unit::{Fault, UnitText};
 use std::alloc::{AllocError, Global};
@@ -93,7 +95,7 @@ fn first_path(addition: &Addition) -> Option<&Path>
     }
 }
 
-// So many names are looked up before the first of their rows is written.
+// So many names are looked up before the first of their rows is written. Their rows share one block of memory.
 const AHEAD: usize = 16;
 
 // A name that is looked up, and the unit that declares it first.
@@ -111,6 +113,13 @@ impl<'e> Drop for Sought<'e> {
     }
 }
 
+// Rows that are written one behind another, and where each of them stands.
+#[derive(Drop)]
+struct Written {
+    bytes: Vec<u8>,
+    spans: Vec<Span>,
+}
+
 /// What comes of each of these names over an environment. Nothing is kept of them.
 pub fn print_all(alloc: Global, env: &Env, listed: &[Listed<'_>]) -> Result<Printed, AllocError>
     ensures findings { IfOk result (λ printed. printed.findings.items
@@ -120,15 +129,15 @@ pub fn print_all(alloc: Global, env: &Env, listed: &[Listed<'_>]) -> Result<Prin
     ensures entries { IfOk result (λ printed. printed.entries.items ≡ []) }
 {
     let mut printed = Printed::new(alloc, listed.len())?;
-    let mut buffer = Vec::new(alloc);
+    let mut written = Written::new(alloc)?;
     let mut sought = Vec::with_capacity(alloc, AHEAD)?;
     for name in listed {
         let answered = Answered::of(env, &name.path)?;
         let unit = name.unit;
         sought.push(Sought { answered, unit })?;
-        printed.add_full(alloc, &mut buffer, &mut sought)?;
+        printed.add_full(alloc, &mut written, &mut sought)?;
     }
-    printed.add_all(alloc, &mut buffer, &sought)?;
+    printed.add_all(alloc, &mut written, &sought)?;
     Ok(printed)
 }
 
@@ -208,7 +217,7 @@ impl Printed {
     fn add_full(
         &mut self,
         alloc: Global,
-        buffer: &mut Vec<u8>,
+        written: &mut Written,
         sought: &mut Vec<Sought<'_>>,
     ) -> Result<(), AllocError>
         ensures findings { OnOk result
@@ -220,17 +229,17 @@ impl Printed {
         ensures entries { OnOk result (self.new.entries ≡ self.old.entries) }
     {
         if sought.len() >= AHEAD {
-            self.add_all(alloc, buffer, sought)?;
+            self.add_all(alloc, written, sought)?;
             sought.clear();
         }
         Ok(())
     }
 
-    // What comes of these names more. The rows are written in a buffer.
+    // What comes of these names more. Their rows share one block of memory.
     fn add_all(
         &mut self,
         alloc: Global,
-        buffer: &mut Vec<u8>,
+        written: &mut Written,
         sought: &[Sought<'_>],
     ) -> Result<(), AllocError>
         ensures findings { OnOk result
@@ -240,13 +249,12 @@ impl Printed {
             (self.new.rows.items ≡ self.old.rows.items ++ flat_map sought_row sought.now) }
         ensures entries { OnOk result (self.new.entries ≡ self.old.entries) }
     {
-        buffer.clear();
-        buffer.reserve(room_of(sought))?;
+        written.clear(room_of(sought))?;
         for name in sought {
-            let (row, fault) = name.answered.entry(buffer)?.into_parts();
-            self.add(alloc, name.unit, fault, row)?;
+            let fault = written.push(&name.answered)?;
+            push_closing(alloc, &mut self.findings, name.unit, fault)?;
         }
-        Ok(())
+        push_texts(&mut self.rows, &written.bytes, &written.spans)
     }
 
     // What comes of one name more, which that unit declares first: this row, and this is wrong with it.
@@ -271,6 +279,46 @@ impl Printed {
             self.rows.push(row)?;
         }
         Ok(())
+    }
+}
+
+impl Written {
+    // No rows.
+    fn new(alloc: Global) -> Result<Written, AllocError>
+        ensures { IfOk result (λ written. written.spans.items ≡ []) }
+    {
+        Ok(Written {
+            bytes: Vec::new(alloc),
+            spans: Vec::with_capacity(alloc, AHEAD)?,
+        })
+    }
+
+    // No rows any more, but so much room for others.
+    fn clear(&mut self, room: usize) -> Result<(), AllocError>
+        ensures { OnOk result (self.new.spans.items ≡ []) }
+    {
+        self.bytes.clear();
+        self.spans.clear();
+        self.bytes.reserve(room)
+    }
+
+    // Writes the row of a name more, if it has one. It gives what is wrong with the name.
+    fn push(&mut self, name: &Answered<'_>) -> Result<Option<Code>, AllocError>
+        requires { AreWithin self.old.bytes.items self.old.spans.items }
+        ensures within { OnOk result (AreWithin self.new.bytes.items self.new.spans.items) }
+        ensures rows { OnOk result
+            (pieces self.new.bytes.items self.new.spans.items
+            ≡ pieces self.old.bytes.items self.old.spans.items
+            ++ option_to_list (entry_over name.now.0 name.now.1).row) }
+        ensures fault { IfOk result (λ fault. fault ≡ (entry_over name.now.0 name.now.1).fault) }
+    {
+        let from = self.bytes.len();
+        let Pushed { has_row, fault } = name.push_entry(&mut self.bytes)?;
+        if has_row {
+            let to = self.bytes.len();
+            self.spans.push(Span { from, to })?;
+        }
+        Ok(fault)
     }
 }
 
