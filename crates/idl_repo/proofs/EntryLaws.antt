@@ -1,16 +1,18 @@
 -- What an entry comes to, and what it asks.
-use Rattle.std.proofs.Common.{◌≡◌, ◌∙◌, ℕ, List, [], ◌∷◌, ◌++◌, Option, None, Some, sym, ap, map}
+use Rattle.std.proofs.Common.{◌≡◌, ◌∙◌, ℕ, Bool, false, true, List, [], ◌∷◌, ◌++◌, Option, None, Some, if◌then◌else◌, refl, subst, sym, ap, map}
+use Rattle.std.specs.Option.{is_some, unwrap_or}
 use Rattle.std.proofs.lemmas.List.{append-nil}
 use Rattle.idl_memo.specs.Query.{Done, asked, noted_all, outcome, run}
 use Rattle.idl_memo.proofs.QueryLaws.{asked-and_then, outcome-and_then}
 use Rattle.idl_event.specs.declared.code.Code.{Code}
 use Rattle.idl_repo.proofs.ReferredLemmas.{ids-row}
 use Rattle.idl_repo.proofs.WriteLemmas.{asked-by-written, written-over}
-use Rattle.idl_repo.specs.Entry.{closing_fault, declared_entry, entry, entry_in, no_entry, told_entry}
+use Rattle.idl_repo.specs.Entry.{IsPushed, closing_fault, declared_entry, entry, entry_in, no_entry, pushed_entry, told_entry}
 use Rattle.idl_repo.specs.Pieces.{Writes, ids_in, text_over, written}
 use Rattle.idl_repo.specs.Referred.{referred}
 use Rattle.idl_repo.specs.Row.{row_pieces}
 use Rattle.idl_repo.specs.declared.entry.Entry.{Entry}
+use Rattle.idl_repo.specs.declared.entry.Pushed.{Pushed}
 use Rattle.idl_scope.specs.Facts.{entity_in, entity_key}
 use Rattle.idl_scope.specs.Key.{key_eq}
 use Rattle.idl_scope.specs.declared.answer.Answer.{Answer}
@@ -38,15 +40,32 @@ pub entry-asked : (path : List (List ℕ)) (bank : Key → Option Answer) (e : S
 unfolding entry
 entry-asked path bank e is = ap (λ keys. entity_key path ∷ keys) (ap (λ there. asked (entry_in there) bank) is ∙ declared-asked e bank ∙ ids-row e)
 
-abbrev pub row_entry : List ℕ → Option Code → Entry
-row_entry row fault = record { row = Some row; fault = fault }
+abbrev pub told_row : Option Code → Pushed
+told_row fault = record { has_row = true; fault = fault }
 
--- an entry's query runs as its row is written, once it is answered what is declared there
-pub entry-run : {start text : List ℕ} {before after : List (Key × Option Answer)} (answered : Option ScopeEntity) (bank : Key → Option Answer) (e there : ScopeEntity) (row : List ℕ) (fault : Option Code) → answered ≡ Some e → there ≡ e → start ≡ [] → Writes bank (row_pieces there) (start, before) (text, after) → row ≡ text → fault ≡ closing_fault e → (row_entry row fault, after) ≡ run key_eq (entry_in answered) bank before
-entry-run {start} {text} {before} {after} answered bank e there row fault is same empty h row_is fault_is =
-    let whole : text ≡ text_over bank (row_pieces e) = h.text ∙ ap (λ s. s ++ text_over bank (row_pieces there)) empty ∙ ap (λ (x : ScopeEntity). text_over bank (row_pieces x)) same in
-    let told : row_entry row fault ≡ outcome (declared_entry e) bank = ap (λ r. row_entry r fault) (row_is ∙ whole) ∙ ap (row_entry (text_over bank (row_pieces e))) fault_is ∙ sym (declared-outcome e bank) in
-    let ids : after ≡ noted_all key_eq bank before (ids_in (row_pieces e)) = h.log ∙ ap (λ (x : ScopeEntity). noted_all key_eq bank before (ids_in (row_pieces x))) same in
-    let logged : after ≡ noted_all key_eq bank before (asked (declared_entry e) bank) = ids ∙ ap (noted_all key_eq bank before) (sym (declared-asked e bank)) in
-    let run_is : (row_entry row fault, after) ≡ run key_eq (declared_entry e) bank before = cc in
-    run_is ∙ sym (ap (λ a. run key_eq (entry_in a) bank before) is)
+-- a row is written as its entry's query runs, once it is answered what is declared there
+pub entry-pushed : {start text : List ℕ} {before after : List (Key × Option Answer)} (answered : Option ScopeEntity) (bank : Key → Option Answer) (e there : ScopeEntity) (fault : Option Code) → answered ≡ Some e → there ≡ e → Writes bank (row_pieces there) (start, before) (text, after) → fault ≡ closing_fault e → IsPushed (outcome (entry_in answered) bank) (told_row fault) start text
+entry-pushed {start} {text} {before} {after} answered bank e there fault is same h fault_is =
+    let told : told_entry e (text_over bank (row_pieces e)) ≡ outcome (entry_in answered) bank = sym (ap (λ a. outcome (entry_in a) bank) is ∙ declared-outcome e bank) in
+    let row : text ≡ start ++ text_over bank (row_pieces e) = h.text ∙ ap (λ (x : ScopeEntity). start ++ text_over bank (row_pieces x)) same in
+    subst (λ x. IsPushed x (told_row fault) start text) told (record { row = row; has_row = refl; fault = fault_is })
+
+pub entry-noted : {start text : List ℕ} {before after : List (Key × Option Answer)} (answered : Option ScopeEntity) (bank : Key → Option Answer) (e there : ScopeEntity) → answered ≡ Some e → there ≡ e → Writes bank (row_pieces there) (start, before) (text, after) → after ≡ (run key_eq (entry_in answered) bank before).1
+entry-noted {start} {text} {before} {after} answered bank e there is same h =
+    h.log
+    ∙ ap (λ (x : ScopeEntity). noted_all key_eq bank before (ids_in (row_pieces x))) same
+    ∙ ap (noted_all key_eq bank before) (sym (declared-asked e bank))
+    ∙ sym (ap (λ a. noted_all key_eq bank before (asked (entry_in a) bank)) is)
+
+-- what is told of a row that alone was written
+row-pushed : (row : Option (List ℕ)) (has : Bool) (text : List ℕ) → has ≡ is_some row → text ≡ unwrap_or row [] → (if has then Some text else None) ≡ row
+row-pushed None has text told is = ap (λ b. if b then Some text else None) told
+row-pushed (Some own) has text told is = ap (λ b. if b then Some text else None) told ∙ ap Some is
+
+abbrev row_entry : Option Code → Option (List ℕ) → Entry
+row_entry fault row = record { row = row; fault = fault }
+
+pub entry-told : (e : Entry) (pushed : Pushed) (old new : List ℕ) → old ≡ [] → IsPushed e pushed old new → pushed_entry pushed new ≡ e
+entry-told e pushed old new empty is =
+    ap (row_entry pushed.fault) (row-pushed e.row pushed.has_row new is.has_row (is.row ∙ ap (λ o. o ++ unwrap_or e.row []) empty))
+    ∙ ap (λ fault. row_entry fault e.row) is.fault

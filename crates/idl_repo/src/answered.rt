@@ -1,8 +1,8 @@
 //! Names that are looked up before their rows are written.
 
-ghost use Rattle.std.specs.Prelude.{◌≡◌, IfOk};
+ghost use Rattle.std.specs.Prelude.{IfOk};
 ghost use Rattle.idl_memo.specs.Query.{outcome};
-ghost use Rattle.idl_repo.specs.Entry.{entry};
+ghost use Rattle.idl_repo.specs.Entry.{IsPushed, entry};
 ghost use Rattle.idl_scope.specs.Facts.{answers};
 
 use crate::entry::{Pushed, push_entry};
@@ -75,7 +75,7 @@ impl<'e> Answered<'e> {
     #[tactic(auto, unfolding(crate::specs::Entry::entry))]
     pub fn push_entry(&self, buffer: &mut Vec<u8>) -> Result<Pushed, AllocError>
         ensures { IfOk result (λ pushed.
-            IsTold (outcome (entry self.now.1) (answers self.now.0))
+            IsPushed (outcome (entry self.now.1) (answers self.now.0))
             pushed buffer.old.items buffer.new.items) }
     {
         push_entry(buffer, self.env, &mut Journal::told(), self.answer)

@@ -1,9 +1,9 @@
 //! The task: the entry of a name.
 
 ghost use Rattle.std.specs.Option.{option_copied};
-ghost use Rattle.std.specs.Prelude.{◌≡◌, IfOk};
-ghost use Rattle.idl_memo.specs.Query.{run};
-ghost use Rattle.idl_repo.specs.Entry.{closing_fault, entry, entry_in};
+ghost use Rattle.std.specs.Prelude.{◌≡◌, IfOk, OnOk};
+ghost use Rattle.idl_memo.specs.Query.{outcome, run};
+ghost use Rattle.idl_repo.specs.Entry.{IsPushed, closing_fault, entry, entry_in, pushed_entry};
 ghost use Rattle.idl_scope.specs.Facts.{answers, entity_in};
 ghost use Rattle.idl_scope.specs.Key.{key_eq};
 
@@ -52,7 +52,7 @@ pub struct Pushed {
 impl Pushed {
     // The entry whose row is all of these bytes.
     fn entry(&self, alloc: Global, row: &[u8]) -> Result<Entry, AllocError>
-        ensures { IfOk result (λ e. e ≡ entry_of_row self.now row.now) }
+        ensures { IfOk result (λ e. e ≡ pushed_entry self.now row.now) }
     {
         let mut entry = Entry {
             row: None,
@@ -149,9 +149,13 @@ pub fn push_entry(
     log: &mut Journal<Env>,
     answer: Option<&Answer>,
 ) -> Result<Pushed, AllocError>
-    ensures { IfOk result (λ pushed.
-        Pushes (run key_eq (entry_in (entity_in (option_copied answer.entry))) (answers env.now) log.old)
-        pushed (buffer.old.items, buffer.new.items) log.new) }
+    ensures entry { IfOk result (λ pushed.
+        IsPushed (outcome (entry_in (entity_in (option_copied answer.entry))) (answers env.now))
+        pushed buffer.old.items buffer.new.items) }
+    ensures log { OnOk result
+        (log.new
+        ≡ (run key_eq (entry_in (entity_in (option_copied answer.entry)))
+        (answers env.now) log.old).1) }
 {
     let Some(entity) = entity_in(answer) else {
         return Ok(Pushed {

@@ -1,9 +1,16 @@
 -- The names that a unit declares first, addition by addition.
-use Rattle.std.proofs.Common.{◌≡◌, ◌+◌, ◌<◌, ℕ, List, [], ◌∷◌, ◌++◌, Some, drop, flat_map, get_or, length, map, refl, ap, sym, ◌∙◌, append_assoc}
-use Rattle.std.specs.Prelude.{slice_get}
+use Rattle.std.proofs.Common.{◌≡◌, ◌+◌, ◌<◌, ℕ, Bool, false, true, List, [], ◌∷◌, ◌++◌, Option, None, Some, drop, flat_map, get_or, length, map, refl, subst, ap, sym, ◌∙◌, append_assoc}
+use Rattle.std.specs.Option.{is_some, unwrap_or}
+use Rattle.std.specs.Prelude.{option_to_list, slice_get}
 use Rattle.std.proofs.lemmas.Grind.{flat_map-append}
 use Rattle.std.proofs.lemmas.List.{append-nil, at_drop_more, map-append}
+use Rattle.idl_base.proofs.SpanLemmas.{pieces-one, within-one}
+use Rattle.idl_base.specs.Spans.{AreWithin, pieces}
+use Rattle.idl_base.specs.declared.texts.Span.{Span}
 use Rattle.idl_event.specs.declared.site.Site.{Site}
+use Rattle.idl_repo.specs.Entry.{IsPushed}
+use Rattle.idl_repo.specs.declared.entry.Entry.{Entry}
+use Rattle.idl_repo.specs.declared.entry.Pushed.{Pushed}
 use Rattle.idl_root.specs.Held.{listed_at}
 use Rattle.idl_root.specs.Printed.{Listed, first_paths, listed_with}
 use Rattle.idl_root.specs.declared.printing.Listed.{Listed as HeldListed}
@@ -18,6 +25,15 @@ first_paths-cons (Declares e) additions = refl
 first_paths-cons (Uses n path body) additions = refl
 first_paths-cons (Appears path prefix) additions = refl
 first_paths-cons (Identifies path identity) additions = refl
+
+-- bytes with no row behind them, and with one
+row-none : (row : Option (List ℕ)) (old new : List ℕ) → is_some row ≡ false → new ≡ old ++ unwrap_or row [] → (new ≡ old) × (option_to_list row ≡ [])
+row-none None old new none is = (is ∙ append-nil old, refl)
+row-none (Some row) old new none is = absurd (cc)
+
+row-some : (row : Option (List ℕ)) → is_some row ≡ true → option_to_list row ≡ unwrap_or row [] ∷ []
+row-some None some = absurd (cc)
+row-some (Some row) some = refl
 
 module _ (text : UnitText) (sites : List Site) where
   -- names, with those of additions from one of these on
@@ -48,3 +64,23 @@ pub sought-more : {X : Type 0} (f : Sought → List X) (there : List X) (names :
 sought-more f there names name =
     ap (λ l. there ++ l) (flat_map-append f names (name ∷ []) ∙ ap (λ l. flat_map f names ++ l) (append-nil (f name)))
     ∙ sym (append_assoc there (flat_map f names) (f name))
+
+-- rows that stand among bytes, and that of an entry more, if it has one
+pub rows-same : (e : Entry) (pushed : Pushed) (old new : List ℕ) (spans : List Span) → IsPushed e pushed old new → pushed.has_row ≡ false → AreWithin old spans
+    → AreWithin new spans × (pieces new spans ≡ pieces old spans ++ option_to_list e.row)
+rows-same e pushed old new spans is none within =
+    let same = row-none e.row old new (sym is.has_row ∙ none) is.row in (
+      subst (λ bytes. AreWithin bytes spans) (sym same.0) within,
+      ap (λ bytes. pieces bytes spans) same.0 ∙ sym (append-nil (pieces old spans)) ∙ ap (λ rows. pieces old spans ++ rows) (sym same.1),
+    )
+
+pub rows-one : (e : Entry) (pushed : Pushed) (old new : List ℕ) (spans : List Span) (span : Span) → IsPushed e pushed old new → pushed.has_row ≡ true → AreWithin old spans
+    → span.from ≡ length old → span.to ≡ length new
+    → AreWithin new (spans ++ span ∷ []) × (pieces new (spans ++ span ∷ []) ≡ pieces old spans ++ option_to_list e.row)
+rows-one e pushed old new spans span is has within from to =
+    let row = unwrap_or e.row [] in
+    let one : option_to_list e.row ≡ row ∷ [] = row-some e.row (sym is.has_row ∙ has) in
+    let end : span.to ≡ length (old ++ row) = to ∙ ap length is.row in (
+      subst (λ bytes. AreWithin bytes (spans ++ span ∷ [])) (sym is.row) (within-one old row spans span from end within),
+      ap (λ bytes. pieces bytes (spans ++ span ∷ [])) is.row ∙ pieces-one old row spans span from end within ∙ ap (λ rows. pieces old spans ++ rows) (sym one),
+    )
