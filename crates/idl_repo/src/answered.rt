@@ -1,6 +1,6 @@
 //! Names that are looked up before their rows are written.
 
-ghost use Rattle.std.specs.Prelude.{IfOk};
+ghost use Rattle.std.specs.Prelude.{◌≡◌, IfOk};
 ghost use Rattle.idl_memo.specs.Query.{outcome};
 ghost use Rattle.idl_repo.specs.Entry.{IsPushed, entry};
 ghost use Rattle.idl_scope.specs.Facts.{answers};

@@ -139,7 +139,8 @@ pub fn entry_with(
 {
     buffer.clear();
     let pushed = push_entry(buffer, env, log, answer)?;
-    pushed.entry(env.alloc(), buffer.as_slice())
+    let entry = pushed.entry(env.alloc(), buffer.as_slice())?;
+    Ok(entry)
 }
 
 /// The same, where the row is written behind what stands in a buffer, and is not copied.
