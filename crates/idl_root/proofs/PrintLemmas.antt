@@ -1,5 +1,5 @@
 -- The names that a unit declares first, addition by addition.
-use Rattle.std.proofs.Common.{◌≡◌, ◌+◌, ◌<◌, ℕ, Bool, false, true, List, [], ◌∷◌, ◌++◌, Option, None, Some, drop, flat_map, get_or, length, map, refl, subst, ap, sym, ◌∙◌, append_assoc}
+use Rattle.std.proofs.Common.{◌≡◌, ◌+◌, ◌<◌, ℕ, false, true, List, [], ◌∷◌, ◌++◌, Option, None, Some, drop, flat_map, get_or, length, map, refl, subst, ap, sym, ◌∙◌, append_assoc}
 use Rattle.std.specs.Option.{is_some, unwrap_or}
 use Rattle.std.specs.Prelude.{option_to_list, slice_get}
 use Rattle.std.proofs.lemmas.Grind.{flat_map-append}
