@@ -1,6 +1,6 @@
 //! Bytes that clones share.
 
-ghost use Rattle.std.specs.Prelude.{◌≡◌, ◌≤◌, ◌↔◌, [], IfOk, IsTrue, length, slice_range};
+ghost use Rattle.std.specs.Prelude.{◌≡◌, ◌≤◌, ◌<◌, ◌↔◌, [], IfOk, IsTrue, length, slice_range};
 ghost use Rattle.std.specs.Cmp.{partial_equiv_from_equiv};
 ghost use Rattle.std.specs.Cmp.Lexicographic.{bytes_decides, nat_list_eq_equiv};
 ghost use Rattle.std.specs.Rc.{rc_slice_items};
@@ -106,10 +106,10 @@ impl Room {
         ensures within { IfOk result IsWithin }
     {
         match bytes.len() {
-            0..=39 => Ok(Room::Small(Rc::new(alloc, Short::of(bytes))?)),
-            40..=71 => Ok(Room::Middle(Rc::new(alloc, Short::of(bytes))?)),
-            72..=103 => Ok(Room::Large(Rc::new(alloc, Short::of(bytes))?)),
-            104..=135 => Ok(Room::Largest(Rc::new(alloc, Short::of(bytes))?)),
+            0..=39 => Ok(Room::Small(filled(alloc, bytes)?)),
+            40..=71 => Ok(Room::Middle(filled(alloc, bytes)?)),
+            72..=103 => Ok(Room::Large(filled(alloc, bytes)?)),
+            104..=135 => Ok(Room::Largest(filled(alloc, bytes)?)),
             _ => Ok(Room::Apart(RcSlice::from_slice(alloc, bytes)?)),
         }
     }
@@ -144,6 +144,19 @@ impl Room {
             Room::Part(from, to, block) => Ok(Room::Part(*from, *to, block.clone()?)),
         }
     }
+}
+
+// Few bytes in a block of their own. They are written where they stay: bytes that were written piece by piece, and are moved at
+// once, are waited for.
+#[inline(always)]
+fn filled<const N: usize>(alloc: Global, bytes: &[u8]) -> Result<Rc<Short<N>>, AllocError>
+    requires few { length bytes.now ≤ N }
+    requires counted { N < 256 }
+    ensures { IfOk result (λ short. short.value ≡ bytes.now) }
+{
+    let mut short = Rc::new(alloc, Short::blank())?;
+    Rc::make_mut(&mut short)?.fill(bytes);
+    Ok(short)
 }
 
 impl Clone for SharedText {

@@ -1,7 +1,8 @@
 //! Few bytes, in place.
 
-ghost use Rattle.std.specs.Prelude.{◌≡◌, ◌≤◌, ◌<◌, length};
+ghost use Rattle.std.specs.Prelude.{◌≡◌, ◌≤◌, ◌<◌, [], length};
 
+use std::alloc::AllocError;
 use std::marker::Model;
 
 /// Few bytes, in place.
@@ -36,6 +37,26 @@ impl<const N: usize> Short<N> {
         }
     }
 
+    /// No bytes.
+    pub fn blank() -> Short<N>
+        ensures { result ≡ [] }
+    {
+        Short {
+            count: 0,
+            bytes: [0; N],
+        }
+    }
+
+    /// Takes these few bytes in place of its own.
+    pub fn fill(&mut self, bytes: &[u8])
+        requires few { length bytes.now ≤ N }
+        requires counted { N < 256 }
+        ensures { self.new ≡ bytes.now }
+    {
+        self.bytes[..bytes.len()].copy_from_slice(bytes);
+        self.count = bytes.len() as u8;
+    }
+
     /// The bytes in order.
     pub fn as_bytes(&self) -> &[u8]
         ensures { result.now ≡ self.now }
@@ -51,5 +72,13 @@ impl<const N: usize> Short<N> {
             count: self.count,
             bytes: self.bytes,
         }
+    }
+}
+
+impl<const N: usize> Clone for Short<N> {
+    ghost is_clone = { λ short copy. copy ≡ short };
+
+    fn clone(&self) -> Result<Short<N>, AllocError> {
+        Ok(self.copied())
     }
 }
