@@ -1,5 +1,5 @@
 -- Answers beside which those of two keys stand apart.
-use Rattle.std.proofs.Common.{◌≡◌, ◌<◌, cond, List, [], ◌∷◌, None, Some, refl, arith}
+use Rattle.std.proofs.Common.{◌≡◌, ◌<◌, List, [], ◌∷◌, refl, arith}
 use Rattle.std.specs.Map.{lookup}
 use Rattle.idl_scope.specs.Facts.{key_of}
 use Rattle.idl_scope.specs.Held.{IsAmongOthers}
@@ -19,17 +19,6 @@ lookup-others (Opened path) cursor prefix others h = refl
 lookup-others Nameless cursor prefix others h = refl
 lookup-others Prefix cursor prefix others h = absurd h
 lookup-others (IdOf path) cursor prefix others h = refl
-
--- those of the two are found, whatever the others have at their keys
-pub lookup-first : (k : Key) (cursor prefix unasked : Answer) (others : List (Key × Answer)) → lookup (key_eq k) others ≡ cond (key_eq k Prefix) (Some unasked) (cond (key_eq k Cursor) (Some unasked) None)
-    → lookup (key_eq k) ((Cursor, cursor) ∷ (Prefix, prefix) ∷ others) ≡ lookup (key_eq k) ((Cursor, cursor) ∷ (Prefix, prefix) ∷ [])
-lookup-first Cursor cursor prefix unasked others h = refl
-lookup-first (Declared n path) cursor prefix unasked others h = h
-lookup-first (Introduced n path body) cursor prefix unasked others h = h
-lookup-first (Opened path) cursor prefix unasked others h = h
-lookup-first Nameless cursor prefix unasked others h = h
-lookup-first Prefix cursor prefix unasked others h = refl
-lookup-first (IdOf path) cursor prefix unasked others h = h
 
 -- nothing that is added changes those of the two
 pub key_of-others : (a : Addition) → IsAmongOthers (key_of a)

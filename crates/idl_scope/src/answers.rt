@@ -51,21 +51,14 @@ impl Drop for Answers {
 
 impl Answers {
     /// These scopes are open and this prefix is in force, and there are no other answers.
-    pub fn new(alloc: Global, cursor: Answer, prefix: Answer) -> Result<Answers, AllocError>
-        ensures { IfOk result (λ answers. (k : Key)
-            → lookup (key_eq k) answers
-            ≡ lookup (key_eq k) ((Cursor, cursor) ∷ (Prefix, prefix) ∷ [])) }
+    pub fn new(cursor: Answer, prefix: Answer) -> Answers
+        ensures { result ≡ (Cursor, cursor) ∷ (Prefix, prefix) ∷ [] }
     {
-        let mut others = Map::new();
-        // Nobody asks for these. All parts of the map have one bucket at first, and these are of two parts: so none has the
-        // whole of it, which would be full again when the part gets its own.
-        others.insert(alloc, DigestedKey::cursor(), Answer::Used)?;
-        others.insert(alloc, DigestedKey::prefix(), Answer::Used)?;
-        Ok(Answers {
+        Answers {
             cursor,
             prefix,
-            others,
-        })
+            others: Map::new(),
+        }
     }
 
     /// The open scopes.

@@ -64,7 +64,7 @@ impl State {
         let mut inside = Vec::new(alloc);
         inside.push(Seq::new(alloc))?;
         Ok(State {
-            answers: Answers::new(alloc, scopes, prefix)?,
+            answers: Answers::new(scopes, prefix),
             inside,
             opened: SharedList::new(),
             entered: SharedList::new(),

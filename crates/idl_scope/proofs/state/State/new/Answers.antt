@@ -9,7 +9,7 @@ pub returns : goal.returns
 returns c =
     let scopes = c.in_ok-scopes.ensures ∙ ap (λ s. Open (s ∷ [])) c.global.ensures in
     let answers : kept c.in_ok-new.field-0 ≡ first_answer =
-    (λ i k. c.in_ok-new.ensures k i)
+    ap kept c.new-2.ensures
     ∙ (λ i. kept ((Cursor, scopes i) ∷ (PrefixKey, InForce (c.in_ok-none.ensures i)) ∷ []))
     ∙ (λ i k. first-answers k i) in
     let inside = c.in_ok-push.ensures.items ∙ (λ i. c.new-inside.ensures.items i ++ c.new.ensures i ∷ []) in
