@@ -1,6 +1,6 @@
 use Rattle.std.proofs.Common.{◌≡◌, ◌∙◌, ◌+◌, ◌++◌, ◌≤◌, drop, length, sym, ap, subst, arith, rules}
 use Rattle.std.proofs.lemmas.List.{append-nil}
-use Rattle.idl_unit.specs.Placing.{IsFirstUnit, IsFront}
+use Rattle.idl_unit.specs.Placing.{IsFront}
 use Rattle.idl_unit.proofs.PlacingLemmas.{begin-none, front-behind}
 use Rattle.idl_unit.proofs.cut.Cut.begin.Goals as goal
 
