@@ -1,5 +1,5 @@
 -- What an escaped name is of shared bytes, and what few bytes are by their ends.
-use Rattle.std.proofs.Common.{◌≡◌, ◌≤◌, ◌<◌, ◌+◌, ◌-◌, ◌*◌, ◌++◌, ℕ, suc, List, ◌∷◌, Some, length, ap, ◌∙◌, drop, take, get_or, slice_range, add-one, arith}
+use Rattle.std.proofs.Common.{◌≡◌, ◌≤◌, ◌<◌, ◌+◌, ◌-◌, ◌*◌, ◌++◌, ℕ, suc, List, ◌∷◌, Some, length, ap, ◌∙◌, drop, take, get_or, slice_range, subst, sym, add-one, arith}
 use Rattle.std.proofs.Math.Seq.{drop-cons}
 use Rattle.std.proofs.lemmas.List.{drop-drop, drop-take, length-append, length-drop, length-take-le, take-append-drop, take-append-le, take-take}
 use Rattle.std.proofs.lemmas.Slice.{take-put_mid}
@@ -22,7 +22,7 @@ pub part-within : (block : List ℕ) (begin end to : ℕ) → begin ≤ end → 
 part-within block begin end to order within fits = omega (arith, order, fits, length-slice_range block begin end order within)
 
 -- a part of an excerpt is one of the block, too
-pub part-of_part : (block : List ℕ) (begin end from to : ℕ) → begin ≤ end → end ≤ length block → from ≤ to → to ≤ length (slice_range block begin end)
+part-of_part : (block : List ℕ) (begin end from to : ℕ) → begin ≤ end → end ≤ length block → from ≤ to → to ≤ length (slice_range block begin end)
     → slice_range (slice_range block begin end) from to ≡ slice_range block (begin + from) (begin + to)
 part-of_part block begin end from to order within inner fits =
     let size = length-slice_range block begin end order within in
@@ -33,6 +33,13 @@ part-of_part block begin end from to order within inner fits =
     ∙ take-take (to - from) (end - begin - from) (drop from (drop begin block)) (omega (arith, inner, fits, size))
     ∙ ap (take (to - from)) (drop-drop from begin block)
     ∙ ap (λ n. take n (drop (begin + from) block)) count
+
+-- so the part of what an excerpt holds is one of its block
+pub part-of_excerpt : (block bytes : List ℕ) (begin end from to : ℕ) → begin ≤ end → end ≤ length block → slice_range block begin end ≡ bytes
+    → from ≤ to → to ≤ length bytes → slice_range block (begin + from) (begin + to) ≡ slice_range bytes from to
+part-of_excerpt block bytes begin end from to order within same inner fits =
+    let held : to ≤ length (slice_range block begin end) = subst (λ (all : List ℕ). to ≤ length all) (sym same) fits in
+    sym (part-of_part block begin end from to order within inner held) ∙ ap (λ all. slice_range all from to) same
 
 -- the first bytes and the last ones, which are all of them, one upon the other
 pub all-by_ends : (bytes front rest back : List ℕ) (count : ℕ) → count ≤ length bytes → length bytes ≤ 2 * count

@@ -1,9 +1,9 @@
 -- Digests in buckets.
-use Rattle.std.proofs.Common.{◌≡◌, ◌≢◌, ◌<◌, ◌≤◌, ◌+◌, ◌-◌, ◌/◌, ◌%◌, ◌^◌, ℕ, Bool, true, false, cond, inl, inr, ◌⊎◌, Some, bit_and, bit_xor, slice_get, refl, sym, subst, ◌∙◌, arith}
+use Rattle.std.proofs.Common.{◌≡◌, ◌≢◌, ◌<◌, ◌≤◌, ◌+◌, ◌-◌, ◌/◌, ◌%◌, ◌^◌, ℕ, Bool, true, false, cond, inl, inr, ◌⊎◌, Some, bit_and, bit_xor, get_or, slice_get, refl, sym, subst, ◌∙◌, arith}
 use Rattle.std.proofs.Math.Dec.{eqb}
 use Rattle.std.proofs.lemmas.Bool.Decides.{eqb_tells}
 use Rattle.std.proofs.lemmas.Nat.{and_le_r}
-use Rattle.std.proofs.lemmas.Option.{same_Some}
+use Rattle.std.proofs.lemmas.Option.{same_Some, slice_get_read}
 use Rattle.idl_map.specs.declared.buckets.Buckets.{Buckets}
 use Rattle.idl_map.specs.declared.index.Index.{Index}
 use Rattle.idl_map.specs.declared.index.Part.{Part}
@@ -18,6 +18,13 @@ tag_of_some digest = by (eqb (digest / 2 ^ 56) 0) (eqb_tells (digest / 2 ^ 56) 0
     by : (b : Bool) → ((eqb (digest / 2 ^ 56) 0 ≡ true) × (digest / 2 ^ 56 ≡ 0)) ⊎ ((eqb (digest / 2 ^ 56) 0 ≡ false) × (digest / 2 ^ 56 ≢ 0)) → 0 < cond (eqb (digest / 2 ^ 56) 0) 1 (digest / 2 ^ 56)
     by b (inl t) = subst (λ c. 0 < cond c 1 (digest / 2 ^ 56)) (sym t.0) (omega arith)
     by b (inr f) = let some : 0 < digest / 2 ^ 56 = omega (arith, f.1) in subst (λ c. 0 < cond c 1 (digest / 2 ^ 56)) (sym f.0) some
+
+-- the part read at a digest is its own
+pub own-chosen : (index : Index) (digest : ℕ) (own : Part) → IsIndexed index → own ≡ get_or index.parts.items (digest % 64) own
+    → slice_get index.parts.items (digest % 64) ≡ Some own
+own-chosen index digest own sound read =
+    let within : digest % 64 < 64 = omega arith in
+    slice_get_read index.parts.items 64 (digest % 64) own (sym sound.parts) within read
 
 -- each bucket keeps what it has, and what is kept twice is kept
 pub AreKept-same : (a : Buckets) → AreKept a a

@@ -1,6 +1,6 @@
-use Rattle.std.proofs.Common.{◌≡◌, ◌∙◌, ◌≤◌, ◌+◌, IfOk, ap, length, slice_range, subst, sym}
+use Rattle.std.proofs.Common.{◌∙◌, ◌+◌, IfOk, ap, slice_range, subst}
 use Rattle.std.specs.Rc.{rc_slice_items}
-use Rattle.idl_lex.proofs.FormLemmas.{part-of_part}
+use Rattle.idl_lex.proofs.FormLemmas.{part-of_excerpt}
 use Rattle.idl_lex.proofs.spelling.Spelling.part.Goals as goal
 
 pub returns : goal.returns
@@ -9,7 +9,6 @@ returns c =
     let begin = c.parts-begin.result.1 in
     let end = c.parts-begin.result.2 in
     let parts = c.parts-begin.ensures in
-    let fits : c.args.to ≤ length (slice_range block begin end) = subst (λ bytes. c.args.to ≤ length bytes) (sym parts.same) c.requires.within in
-    let same = sym (part-of_part block begin end c.args.from c.args.to parts.order parts.within c.requires.order fits) ∙ ap (λ bytes. slice_range bytes c.args.from c.args.to) parts.same in
+    let same = part-of_excerpt block c.args.bytes.now begin end c.args.from c.args.to parts.order parts.within parts.same c.requires.order c.requires.within in
     let shared = ap (λ bytes. slice_range bytes (begin + c.args.from) (begin + c.args.to)) c.in_ok-clone.ensures.cases in
     subst (λ bytes. IfOk c.shared.result (λ spelling. spelling ≡ bytes)) (shared ∙ same) c.shared.ensures

@@ -1,27 +1,23 @@
-use Rattle.std.proofs.Common.{◌≡◌, ◌<◌, ◌%◌, ℕ, Some, slice_get, sym, subst, ◌∙◌, arith}
-use Rattle.std.proofs.lemmas.Option.{same_Some, slice_get_read}
+use Rattle.std.proofs.Common.{◌≡◌, ◌%◌, ℕ, sym, subst, ◌∙◌}
+use Rattle.std.proofs.lemmas.Option.{same_Some}
 use Rattle.idl_map.specs.declared.index.Part.{Part}
 use Rattle.idl_map.specs.Buckets.{IsThere, StandsAt, number_beside, tag_of}
-use Rattle.idl_map.proofs.BucketLemmas.{beside-there}
+use Rattle.idl_map.proofs.BucketLemmas.{beside-there, own-chosen}
 use Rattle.idl_map.proofs.index.Index.marked_beside.Goals as goal
 
 pub marked-requires-clause-there : goal.marked-requires-clause-there
 marked-requires-clause-there c =
     let digest = c.args.digest in
-    let within : digest % 64 < 64 = omega arith in
     let own = c.index-part.result.now in
-    let chosen : slice_get c.args.self.now.parts.items (digest % 64) ≡ Some own =
-    slice_get_read c.args.self.now.parts.items 64 (digest % 64) own (sym c.requires.parts) within c.index-part.ensures in
+    let chosen = own-chosen c.args.self.now digest own c.requires c.index-part.ensures in
     subst (IsThere c.args.self.now.buckets) (sym c.number_beside-number.ensures) (beside-there own c.args.self.now.buckets digest (c.requires.there (digest % 64) own chosen))
 
 pub returns-clause-marked : goal.returns-clause-marked
 returns-clause-marked c part is slot i at =
     let digest = c.args.digest in
     let buckets = c.args.self.now.buckets in
-    let within : digest % 64 < 64 = omega arith in
     let own = c.index-part.result.now in
-    let chosen : slice_get c.args.self.now.parts.items (digest % 64) ≡ Some own =
-    slice_get_read c.args.self.now.parts.items 64 (digest % 64) own (sym c.requires.parts) within c.index-part.ensures in
+    let chosen = own-chosen c.args.self.now digest own c.requires c.index-part.ensures in
     let same : part ≡ own = same_Some part own (sym is ∙ chosen) in
     let there = subst (λ (p : Part). StandsAt buckets (number_beside p digest) slot (tag_of digest) i) same at in
     let numbered = subst (λ (n : ℕ). StandsAt buckets n slot (tag_of digest) i) (sym c.number_beside-number.ensures) there in

@@ -1,27 +1,23 @@
-use Rattle.std.proofs.Common.{◌≡◌, ◌<◌, ◌%◌, ℕ, Some, slice_get, sym, subst, ◌∙◌, arith}
-use Rattle.std.proofs.lemmas.Option.{same_Some, slice_get_read}
+use Rattle.std.proofs.Common.{◌≡◌, ◌%◌, ℕ, sym, subst, ◌∙◌}
+use Rattle.std.proofs.lemmas.Option.{same_Some}
 use Rattle.idl_map.specs.declared.index.Part.{Part}
 use Rattle.idl_map.specs.Buckets.{IsThere, StandsAt, number_beside}
-use Rattle.idl_map.proofs.BucketLemmas.{beside-there}
+use Rattle.idl_map.proofs.BucketLemmas.{beside-there, own-chosen}
 use Rattle.idl_map.proofs.index.Index.place_beside.Goals as goal
 
 pub place-requires : goal.place-requires
 place-requires c =
     let digest = c.args.digest in
-    let within : digest % 64 < 64 = omega arith in
     let own = c.index-part.result.now in
-    let chosen : slice_get c.args.self.now.parts.items (digest % 64) ≡ Some own =
-    slice_get_read c.args.self.now.parts.items 64 (digest % 64) own (sym c.requires.parts) within c.index-part.ensures in
+    let chosen = own-chosen c.args.self.now digest own c.requires c.index-part.ensures in
     subst (IsThere c.args.self.now.buckets) (sym c.number_beside.ensures) (beside-there own c.args.self.now.buckets digest (c.requires.there (digest % 64) own chosen))
 
 pub returns : goal.returns
 returns c part is t i at =
     let digest = c.args.digest in
     let buckets = c.args.self.now.buckets in
-    let within : digest % 64 < 64 = omega arith in
     let own = c.index-part.result.now in
-    let chosen : slice_get c.args.self.now.parts.items (digest % 64) ≡ Some own =
-    slice_get_read c.args.self.now.parts.items 64 (digest % 64) own (sym c.requires.parts) within c.index-part.ensures in
+    let chosen = own-chosen c.args.self.now digest own c.requires c.index-part.ensures in
     let same : part ≡ own = same_Some part own (sym is ∙ chosen) in
     let there = subst (λ (p : Part). StandsAt buckets (number_beside p digest) c.args.slot t i) same at in
     c.place.ensures t i (subst (λ (n : ℕ). StandsAt buckets n c.args.slot t i) (sym c.number_beside.ensures) there)
