@@ -1,4 +1,4 @@
-use Rattle.std.proofs.Common.{◌∙◌, ◌+◌, IfOk, ap, slice_range, subst}
+use Rattle.std.proofs.Common.{◌≡◌, ◌∙◌, ◌+◌, IfOk, ap, slice_range, subst}
 use Rattle.std.specs.Rc.{rc_slice_items}
 use Rattle.idl_lex.proofs.FormLemmas.{part-of_excerpt}
 use Rattle.idl_lex.proofs.spelling.Spelling.part.Goals as goal
