@@ -257,6 +257,7 @@ fn push_declared(text: &mut Vec<u8>, name: &[u8]) -> Result<(), AllocError>
 }
 
 // A name, escaped where it is like a keyword.
+#[inline(always)]
 fn push_name(text: &mut Vec<u8>, name: &[u8]) -> Result<(), AllocError>
     ensures { OnOk result (text.new.items ≡ text.old.items ++ escaped name.now) }
 {

@@ -67,6 +67,7 @@ impl BaseQueue {
     }
 
     /// Puts those of the paths last that are not yet there.
+    #[inline(always)]
     pub fn join(&mut self, paths: &[Path]) -> Result<(), AllocError>
         ensures { OnOk result (self.new ≡ joined self.old paths.now) }
     {

@@ -108,6 +108,7 @@ impl Facts {
     }
 
     /// One addition more, which takes the place of one at its key.
+    #[inline(always)]
     pub fn add(&mut self, addition: Addition) -> Result<(), AllocError>
         ensures { OnOk result
             (self.new

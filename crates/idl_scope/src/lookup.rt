@@ -46,6 +46,7 @@ pub struct Place<'a> {
 
 impl<'a> View<'a> {
     // What is declared at a key.
+    #[inline(always)]
     fn entity(
         self,
         log: &mut Journal<Env>,

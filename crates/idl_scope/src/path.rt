@@ -129,6 +129,7 @@ impl Path {
     }
 
     /// The path of a name in the scope with this path.
+    #[inline(always)]
     pub fn child(&self, alloc: Global, name: &Spelling) -> Result<Path, AllocError>
         ensures { IfOk result (λ path. path ≡ name.now ∷ self.now) }
     {
@@ -333,6 +334,7 @@ impl Path {
     }
 
     /// Whether this is its own name, folded.
+    #[inline(always)]
     pub(crate) fn has_folded(&self, name: &Spelling) -> bool
         ensures { result ≡ bytes_eq (folded (name_of self.now)) name.now }
     {
@@ -365,6 +367,7 @@ impl Path {
 }
 
 // Whether two paths are one.
+#[inline(always)]
 #[tactic(auto, using(crate::proofs::PathLemmas::same_first))]
 fn are_one(first: &Option<Rc<Part>>, second: &Option<Rc<Part>>) -> bool
     ensures { result ≡ path_eq (path_of first.now) (path_of second.now) }
