@@ -126,8 +126,8 @@ impl<'a> View<'a> {
         self.entity(log, &key)
     }
 
-    /// The entity at a path. It stands apart, since most scopes are modules, of which no entity is asked.
-    #[inline(never)]
+    /// The entity at a path.
+    #[inline(always)]
     pub fn standing_at(
         self,
         log: &mut Journal<Env>,
