@@ -78,6 +78,7 @@ impl BaseQueue {
     }
 
     // Puts the path last, unless it is there.
+    #[inline(always)]
     fn join_one(&mut self, path: &Path) -> Result<(), AllocError>
         ensures { OnOk result (self.new ≡ joined self.old (path.now ∷ [])) }
     {

@@ -261,6 +261,7 @@ impl Facts {
 }
 
 // Puts an addition last. There is room for the usual number of them from the first one on.
+#[inline(always)]
 fn push(first: &mut Vec<DigestedAddition>, addition: DigestedAddition) -> Result<(), AllocError>
     ensures items { OnOk result (first.new.items ≡ first.old.items ++ addition ∷ []) }
     ensures err { OnErr result (first.new.items ≡ first.old.items) }

@@ -109,6 +109,7 @@ impl<'a> View<'a> {
     }
 
     // What a scope itself declares a name as.
+    #[inline(always)]
     fn own(
         self,
         log: &mut Journal<Env>,

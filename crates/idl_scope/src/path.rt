@@ -293,6 +293,7 @@ impl Path {
     }
 
     // The same, by the parts of that path.
+    #[inline(always)]
     fn is_below(&self, scope: &Option<Rc<Part>>) -> bool
         ensures { result ≡ path_eq (scope_of self.now) (path_of scope.now) }
     {
@@ -357,6 +358,7 @@ impl Path {
     }
 
     /// Whether what stands at the path that ends in a part is found under the same folded name in the same scope.
+    #[inline(always)]
     pub(crate) fn is_found_as(&self, part: &Part) -> bool
         ensures { result
             ≡ bytes_eq (folded (name_of self.now)) (folded part.now.0)
