@@ -34,6 +34,7 @@ pub fn push_listed(text: &mut Vec<u8>, value: &Value) -> Result<(), AllocError>
 }
 
 /// What is answered of the id of what is declared at a path, which is asked for.
+#[inline(always)]
 pub fn id_of<'e>(
     env: &'e Env,
     log: &mut Journal<Env>,

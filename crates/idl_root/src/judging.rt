@@ -250,6 +250,7 @@ impl<'a> Gathered<'a> {
     }
 
     // Puts in what comes of a unit with this verdict.
+    #[inline(always)]
     fn add_verdict(
         &mut self,
         alloc: Global,
