@@ -165,6 +165,16 @@ reading-newline n old mid new held held' any more r taken one_line is =
     line_taken n old (onto (10 ∷ []) new) new held' some
     (reading-part n old mid (onto (10 ∷ []) new) held held' any some more r (taken ∙ sym (onto-onto new more (10 ∷ []))) one_line is refl) refl
 
+-- a whole line stood there
+pub whole_line-taken : (n : ℕ) (old new : Stream) (line : List ℕ) → old ≡ onto (line ++ 10 ∷ []) new → list_all (λ b. not (eqb b 10)) line ≡ true → TakesLine n old new (line_within n line)
+whole_line-taken n old new line taken one_line = line_taken n old (onto (10 ∷ []) new) new (line_within n line) (ltb 0 (length line)) (record {
+  part = line;
+  one_line = one_line;
+  taken = taken ∙ sym (onto-onto new line (10 ∷ []));
+  keeps = refl;
+  has_byte = refl;
+}) refl
+
 last_taken : (part : List ℕ) (mid : Option (List ℕ)) → list_all (λ b. not (eqb b 10)) part ≡ true → IsOver mid → ltb 0 (length part) ≡ true
     → option_map lines_of (prepend part mid) ≡ prepend (part ∷ []) (option_map lines_of mid)
 last_taken part None e over some = refl

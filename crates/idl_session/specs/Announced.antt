@@ -1,5 +1,5 @@
 -- The lines that a command announces, as they are gathered.
-use Rattle.std.specs.Prelude.{◌≡◌, ℕ, ◌<◌, Bool, true, ◌||◌, List, nat_lt, length}
+use Rattle.std.specs.Prelude.{◌≡◌, ℕ, ◌<◌, Bool, true, ◌||◌, List, [], ◌∷◌, ◌++◌, nat_lt, length}
 use Rattle.std.specs.List.{list_any}
 use Rattle.idl_source.specs.Limits.{longest_line, most_lines}
 use Rattle.idl_session.specs.declared.announced.Announced.{Announced}
@@ -17,6 +17,13 @@ IsGathered count lines (announced.Whole whole) = whole ≡ lines
 IsGathered count lines announced.Unfinished = ⊥
 IsGathered count lines announced.OverLimit = are_over count lines ≡ true
 IsGathered count lines announced.NoMemory = Unit {0}
+
+-- one line more was taken, and is gathered
+pub record Gathers (old new : Stream) (before after : Announced) : Type 0 where
+  pub line : List ℕ
+  pub taken : TakesLines old new (line ∷ [])
+  pub gathered : (count : ℕ) (lines : List (List ℕ))
+      → IsGathered count lines before → IsGathered count (lines ++ line ∷ []) after
 
 -- so many of the announced lines were taken
 pub record IsGathering (count taken_count : ℕ) (old new : Stream) (announced : Announced)

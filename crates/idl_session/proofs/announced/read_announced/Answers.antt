@@ -13,15 +13,14 @@ loop-i-init g c = record {
 
 pub loop-i-preserved : goal.loop-i-preserved
 loop-i-preserved g c =
-    let took = rw c.if-not-branch.false at c.in_ok-read_line.ensures.line in
-    let nearer = rw c.if-not-branch.false at c.in_ok-read_line.ensures.nearer in
+    let took = rw c.if-not-branch.false at c.in_ok-take_next.ensures.taken in
     record {
-      gathering = gathering-more c.args.count c.loop-i.i _ _ _ c.read_line.new.line _ c.loop-i.announced c.take_line.new.announced c.loop-i.invariant.gathering took c.get.ensures.same c.take_line.ensures;
-      nearer = omega (arith, nearer);
-      failures = c.in_ok-read_line.ensures.ok ∙ c.loop-i.invariant.failures;
+      gathering = gathering-more c.args.count c.loop-i.i _ _ _ c.loop-i.announced c.take_next.new.announced c.loop-i.invariant.gathering took;
+      nearer = omega (arith, c.in_ok-take_next.ensures.nearer);
+      failures = c.in_ok-take_next.ensures.ok ∙ c.loop-i.invariant.failures;
     }
 
-pub returns-in_err-read_line-clause-fails : goal.returns-in_err-read_line-clause-fails
-returns-in_err-read_line-clause-fails g c =
+pub returns-in_err-take_next-clause-fails : goal.returns-in_err-take_next-clause-fails
+returns-in_err-take_next-clause-fails g c =
     let gathering = c.loop-i.invariant.gathering in
-    on_err c.from_residual.result (fails-later _ _ _ gathering.lines 1 c.args.count gathering.taken c.in_err-read_line.ensures.fails (omega (arith, gathering.many)))
+    on_err c.from_residual.result (fails-later _ _ _ gathering.lines 1 c.args.count gathering.taken c.in_err-take_next.ensures.fails (omega (arith, gathering.many)))
