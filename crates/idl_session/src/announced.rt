@@ -126,6 +126,7 @@ fn within_limit(line: &[u8]) -> Option<&[u8]>
 }
 
 // Takes one line more, of which nothing was kept if it is too long.
+#[inline(always)]
 fn take_line(announced: &mut Announced, line: Option<&[u8]>)
     requires one_line { IfSome line (λ l. IsLine l.now) }
     ensures { (count : ℕ) (lines : List (List ℕ)) (next : List ℕ)
