@@ -62,7 +62,7 @@ pub use key::Key;
 pub use kind::{Kind, Stage};
 pub use laws::{
     adding, agreeing_around, denotation, exchanging, found_in_a_scope, introduction, own_facts,
-    own_path, reliance,
+    own_path, prefixes, reliance,
 };
 pub use lent_key::LentKey;
 pub use lookup::{Place, TURNS, View};
