@@ -26,6 +26,7 @@ use idl_workspace::Session;
 /// | `root NAME`, `unroot NAME`: makes a file a root, or none any more | `ok` |
 /// | `diagnostics NAME`, `listing NAME`, `dump NAME`: asks for the rows of a root | `rows N` and N lines |
 /// | `absent NAME`: asks for the files that a root asked for and that aren't there | `rows N` and N lines |
+/// | `work`: asks what the last accepted edit came to | `work E C P`: roots expanded, declarations checked, entries printed |
 ///
 /// What is refused has the reply `refused N`, N being the number of the [`Refusal`](crate::Refusal), and changes nothing.
 /// All else is a malformed command, and so is a line of more than [`MAX_COMMAND`](crate::MAX_COMMAND) bytes. The lines that a `put` or a `splice`
