@@ -1,6 +1,7 @@
 //! All commands of a source.
 
-ghost use Rattle.std.specs.Prelude.{◌≡◌, ◌<◌, ◌-◌, ◌^◌, ◌++◌, ℕ, List, Some, IfErr, IfSome, OnOk};
+ghost use Rattle.std.specs.Prelude.{◌≡◌, ◌<◌, ◌-◌, ◌^◌, ℕ, List, IfErr, IfSome, OnOk};
+ghost use Rattle.idl_source.specs.Device.{append};
 ghost use Rattle.idl_session.specs.Answers.{IsReply};
 ghost use Rattle.idl_session.specs.Stopping.{IsCounted, IsLeft};
 
@@ -46,9 +47,8 @@ pub fn run<S: Source, K: Sink>(
 
     // What went out is a reply to all that came in, and the session is in the state that it tells of.
     ensures replied { OnOk result (IfSome (S.remaining source.old) (λ input.
-        IfSome (K.written sink.old) (λ before.
-        (output : List ℕ) × (K.written sink.new ≡ Some (before ++ output))
-        × IsReply session.old input output session.new))) }
+        (output : List ℕ) × (K.written sink.new ≡ append (K.written sink.old) output)
+        × IsReply session.old input output session.new)) }
 
     ensures ok { OnOk result
         ((S.failures source.new ≡ S.failures source.old)
