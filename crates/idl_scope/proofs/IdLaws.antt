@@ -1,10 +1,9 @@
 -- Answers about an id: where what identifies the name is the same, so are they.
-use Rattle.std.proofs.Common.{◌≡◌, ◌∙◌, ℕ, zero, suc, ◌+◌, ◌-◌, Bool, true, false, cond, List, [], ◌∷◌, ◌++◌, Option, Some, None, length, take, refl, sym, ap, subst, arith}
-use Rattle.std.proofs.Math.Seq.{drop-length}
+use Rattle.std.proofs.Common.{◌≡◌, ◌∙◌, ℕ, ◌+◌, ◌-◌, Bool, true, false, cond, List, [], ◌∷◌, ◌++◌, Option, Some, None, length, take, refl, sym, ap, subst, arith}
 use Rattle.std.proofs.lemmas.List.{length-append}
 use Rattle.std.specs.Prelude.{codes}
 use Rattle.idl_scope.proofs.AnswerLemmas.{over-cons}
-use Rattle.idl_scope.proofs.IdLemmas.{relative-inside, relative-name}
+use Rattle.idl_scope.proofs.IdLemmas.{relative-inside, relative-name, within_global}
 use Rattle.idl_scope.specs.Facts.{UnitFacts, World, after, after_all, after_closing, after_step, answer_of, answers, closed, closing, entity_in, entity_key, first_world, identity_at, key_of, over, scopes_in, with_additions, world}
 use Rattle.idl_scope.specs.Identity.{first_identity, identity_of, is_within, prefix_for, prefixed, relative, slashed}
 use Rattle.idl_scope.specs.Key.{key_eq}
@@ -21,7 +20,7 @@ use Rattle.idl_scope.specs.declared.entity.Entity.{Entity}
 use Rattle.idl_scope.specs.declared.identity.FixedIdentity.{FixedIdentity}
 use Rattle.idl_scope.specs.declared.identity.Identity.{Identity}
 use Rattle.idl_scope.specs.declared.identity.Prefix.{Prefix}
-use Rattle.idl_scope.specs.declared.key.Key.TheVariants.{Cursor, Declared, IdOf}
+use Rattle.idl_scope.specs.declared.key.Key.TheVariants.{Cursor, IdOf}
 use Rattle.idl_scope.specs.declared.kind.Kind.TheVariants.{Interface}
 
 some_same : {A : Type 0} {x y : A} → Some x ≡ Some y → x ≡ y
@@ -35,17 +34,12 @@ some_none h = cc
 
 -- ---- a prefix in a scope around the name, and no other
 
-within-global : (path : List (List ℕ)) → is_within path [] ≡ true
-within-global path =
-    let all : length path - 0 ≡ length path = omega arith in
-    ap (λ i. path_eq (drop i path) []) all ∙ ap (λ l. path_eq l []) (drop-length path)
-
 pub prefix-around : (path : List (List ℕ)) (p : Prefix) → is_within (scope_of path) (prefix_for path p).scope ≡ true
 prefix-around path p = by (is_within (scope_of path) p.scope) refl
   where
     by : (b : Bool) → is_within (scope_of path) p.scope ≡ b → is_within (scope_of path) (cond b p (record p { scope = [] })).scope ≡ true
     by true w = w
-    by false w = within-global (scope_of path)
+    by false w = within_global (scope_of path) [] refl
 
 -- what may be answered of the id of the name at a path
 abbrev pub IsOfId : List (List ℕ) → Option Answer → Type 0
@@ -136,7 +130,13 @@ nothing-behind (n ∷ x) p h = cc
 
 id-length : (text : List ℕ) (names : List (List ℕ)) → length (codes "IDL:" ++ prefixed text ++ slashed names ++ codes ":1.0") ≡ length (prefixed text) + length (slashed names) + 8
 id-length text names =
-    omega (arith, length-append (codes "IDL:") (prefixed text ++ slashed names ++ codes ":1.0"), length-append (prefixed text) (slashed names ++ codes ":1.0"), length-append (slashed names) (codes ":1.0"))
+    let four : length (codes "IDL:") ≡ 4 = refl in
+    let last : length (codes ":1.0") ≡ 4 = refl in
+    omega
+    (arith, four, last,
+    length-append (codes "IDL:" ++ prefixed text ++ slashed names) (codes ":1.0"),
+    length-append (codes "IDL:" ++ prefixed text) (slashed names),
+    length-append (codes "IDL:") (prefixed text))
 
 scopes-same : (path p q : List (List ℕ)) → is_within (scope_of path) p ≡ true → is_within (scope_of path) q ≡ true
     → length (slashed (relative path p)) ≡ length (slashed (relative path q)) → p ≡ q

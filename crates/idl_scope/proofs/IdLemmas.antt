@@ -1,5 +1,6 @@
 -- Paths as they are told in a scope, from the innermost name on.
 use Rattle.std.proofs.Common.{◌≡◌, ℕ, zero, suc, ◌-◌, Bool, true, false, List, [], ◌∷◌, ◌++◌, length, take, drop, cond, refl, sym, ap, ◌∙◌, arith}
+use Rattle.std.proofs.Math.Seq.{drop-length}
 use Rattle.std.proofs.lemmas.Bool.{cond-true, cond-false}
 use Rattle.std.proofs.lemmas.List.{length-drop, take-append-drop}
 use Rattle.idl_scope.specs.Identity.{is_within, relative, slashed}
@@ -9,6 +10,12 @@ none-case : (none : List (List ℕ)) (b : Bool) (i : ℕ) → none ≡ [] → co
 none-case none true zero h = sym h
 none-case none true (suc i) h = ap (λ l. take (suc i) l) h ∙ sym h
 none-case none false i h = refl
+
+-- all names are within the global scope
+pub within_global : (a p : List (List ℕ)) → p ≡ [] → is_within a p ≡ true
+within_global a p h =
+    let all : length a - length p ≡ length a = omega (arith, ap length h) in
+    (λ i. path_eq (drop (all i) a) (h i)) ∙ ap (λ l. path_eq l []) (drop-length a)
 
 -- names are within a scope that they are of, and else where those around are, if there are any
 pub within_here : (a p : List (List ℕ)) → path_eq a p ≡ true → is_within a p ≡ true

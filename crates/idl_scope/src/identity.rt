@@ -87,10 +87,11 @@ impl Prefix {
     }
 
     // Whether the name at a path stands in the scope in which it was met.
+    #[tactic(auto, using(crate::proofs::IdLemmas::within_global))]
     fn is_around(&self, path: &Path) -> bool
         ensures { result ≡ is_within (scope_of path.now) self.now.scope }
     {
-        path.around().are_within(&self.scope)
+        self.scope.lent().is_empty() || path.around().are_within(&self.scope)
     }
 
     /// Writes the id of the name at a path, as it is where the name is declared first under this prefix.
