@@ -33,7 +33,7 @@ mod valuing;
 mod verdict;
 mod walk;
 
-pub use laws::{acceptance, identifying, least, numbering, questions, refusal, wording};
+pub use laws::{acceptance, identification, least, numbering, questions, refusal, wording};
 pub use scratch::Scratch;
 pub use task::{DeclarationTask, verdict_of};
 pub use verdict::Verdict;

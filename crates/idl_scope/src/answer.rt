@@ -6,7 +6,7 @@ ghost use Rattle.idl_scope.specs.Facts.{count_in, entity_in, global_scope, id_at
 ghost use Rattle.idl_scope.specs.declared.answer.Answer.TheVariants as answers;
 
 use crate::entity::Entity;
-use crate::identity::{Identity, Prefix};
+use crate::identity::{FixedIdentity, Identity, Prefix};
 use crate::kind::Kind;
 use crate::path::Path;
 use crate::shared::Shared;
@@ -35,10 +35,10 @@ pub enum Answer {
     Count(usize),
     /// This prefix is in force.
     InForce(Shared<Prefix>),
-    /// The name was declared first under this prefix, which tells its id with the path.
+    /// The name was declared first under this prefix, which tells its id with the path; it was met in a scope around the name.
     Appeared(Shared<Prefix>),
-    /// The name has this id.
-    Identified(Shared<Identity>),
+    /// A pragma fixed this id of the name.
+    Identified(Shared<FixedIdentity>),
 }
 
 impl Scope {
@@ -62,7 +62,7 @@ impl Drop for Answer {
             Answer::Used | Answer::Count(_) => {}
             Answer::InForce(_prefix) => {}
             Answer::Appeared(_prefix) => {}
-            Answer::Identified(_identity) => {}
+            Answer::Identified(_fixed) => {}
         }
     }
 }
@@ -134,7 +134,7 @@ pub fn identity_at(
 {
     match answer {
         Some(Answer::Appeared(prefix)) => { Ok(Some(Identity::first(alloc, prefix.get(), path)?)) }
-        Some(Answer::Identified(identity)) => Ok(Some(identity.clone()?)),
+        Some(Answer::Identified(fixed)) => Ok(Some(fixed.get().identity(alloc)?)),
         _ => Ok(None),
     }
 }
@@ -150,7 +150,7 @@ pub fn push_id_at(
 {
     match answer {
         Some(Answer::Appeared(prefix)) => prefix.get().push_id(text, path),
-        Some(Answer::Identified(identity)) => text.extend_from_slice(identity.get().id.as_bytes()),
+        Some(Answer::Identified(fixed)) => text.extend_from_slice(fixed.get().id.as_bytes()),
         _ => Ok(()),
     }
 }

@@ -57,12 +57,12 @@ pub use env::Env;
 pub use facts::Facts;
 pub use fault::{NameCode, NameFault};
 pub use found::Found;
-pub use identity::{Fixed, Identity, Prefix};
+pub use identity::{Fixed, FixedIdentity, Identity, Prefix};
 pub use key::Key;
 pub use kind::{Kind, Stage};
 pub use laws::{
-    adding, agreeing_around, denotation, exchanging, found_in_a_scope, introduction, own_facts,
-    own_path, prefixes, reliance,
+    adding, agreeing_around, denotation, exchanging, found_in_a_scope, identities, introduction,
+    own_facts, own_path, prefixes, reliance,
 };
 pub use lent_key::LentKey;
 pub use lookup::{Place, TURNS, View};

@@ -101,7 +101,7 @@ impl<'a> View<'a> {
         let before = log.ask_lent(&key, self.env)?;
         match self.own.get(&key)? {
             Some(addition) => {
-                let answer = addition.answer()?;
+                let answer = addition.answer(alloc)?;
                 identity_at(alloc, path, Some(&answer))
             }
             None => identity_at(alloc, path, before),

@@ -177,6 +177,16 @@ impl Path {
         Names::of(&self.innermost)
     }
 
+    /// The names of the path of the scope around, lent; of the global scope's, none.
+    pub(crate) fn around(&self) -> Names<'_>
+        ensures { result ≡ scope_of self.now }
+    {
+        match &self.innermost {
+            None => Names::none(),
+            Some(part) => part.around(),
+        }
+    }
+
     /// The part that it ends in, unless it is that of the global scope.
     pub(crate) fn innermost(&self) -> &Option<Rc<Part>>
         ensures { path_of result.now ≡ self.now }

@@ -338,7 +338,7 @@ fn put_all(alloc: Global, answers: &mut Answers, facts: &Facts) -> Result<(), Al
             continue;
         };
         let key = addition.key(alloc)?;
-        let answer = addition.addition().answer()?;
+        let answer = addition.addition().answer(alloc)?;
         answers.insert(alloc, key, answer)?;
     }
     Ok(())

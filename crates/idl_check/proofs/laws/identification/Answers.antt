@@ -1,6 +1,6 @@
 use Rattle.idl_check.proofs.IdLemmas.{version-told}
 use Rattle.idl_scope.proofs.IdLemmas.{relative-elsewhere, relative-inside}
-use Rattle.idl_check.proofs.laws.identifying.Goals as goal
+use Rattle.idl_check.proofs.laws.identification.Goals as goal
 
 pub returns-clause-version : goal.returns-clause-version
 returns-clause-version c = version-told
