@@ -15,6 +15,7 @@ pub mod Kind
 pub mod LentKey
 pub mod Lookup
 pub mod Meaning
+pub mod OpenScopes
 pub mod Outline
 pub mod Outside
 pub mod Past
