@@ -6,8 +6,8 @@ ghost use Rattle.std.specs.Cmp.Lexicographic.{lists_equiv, lists_per, pointwise}
 ghost use Rattle.idl_base.specs.Exact.{same_list};
 ghost use Rattle.idl_scope.specs.Answer.{same_scope, scope_eq};
 ghost use Rattle.idl_scope.specs.OpenScopes.{scopes_of};
-ghost use Rattle.idl_scope.specs.contracts.answer.ScopeEq.TheImpl as scope_equiv;
-ghost use Rattle.idl_scope.specs.contracts.answer.ScopePartialEq.TheImpl as scope_per;
+ghost use Rattle.idl_scope.specs.contracts.answer.ScopeEq.TheImpl.Laws.{laws-law as scope_equiv};
+ghost use Rattle.idl_scope.specs.contracts.answer.ScopePartialEq.TheImpl.Laws.{laws-law as scope_per};
 
 use crate::answer::Scope;
 use crate::count::one_more;
@@ -49,7 +49,7 @@ struct Opened {
 }
 
 impl Model for Opened {
-    ghost use Rattle.std.specs.Prelude.{List, ◌≡◌, ◌+◌, ◌*◌, length};
+    ghost use Rattle.std.specs.Prelude.{List, ◌≡◌, ◌<◌, ◌+◌, ◌*◌, length};
     ghost use Rattle.std.proofs.Common.{arith};
     ghost use Rattle.idl_scope.specs.declared.answer.Scope.{Scope};
 
@@ -57,7 +57,8 @@ impl Model for Opened {
 
     ghost view = { λ opened. (opened.scope, opened.outer) };
 
-    ghost invariant = { λ opened. opened.count ≡ length opened.outer + 1 };
+    ghost invariant = { λ opened.
+        (opened.count ≡ length opened.outer + 1) × (length opened.outer < 18446744073709551615) };
 
     ghost size = { λ seen. 2 * length seen.1 + 1 };
 
@@ -165,7 +166,7 @@ impl Clone for OpenScopes {
 impl PartialEq for OpenScopes {
     ghost eq = { pointwise scope_eq };
 
-    ghost laws = { lists_per scope_per.ghosts.laws };
+    ghost laws = { lists_per scope_per };
 
     fn eq(&self, other: &OpenScopes) -> bool
         ensures { result ≡ pointwise scope_eq self.now other.now }
@@ -187,7 +188,7 @@ impl PartialEq for OpenScopes {
 }
 
 impl Eq for OpenScopes {
-    ghost laws = { lists_equiv scope_equiv.ghosts.laws };
+    ghost laws = { lists_equiv scope_equiv };
 }
 
 impl Datum for OpenScopes {

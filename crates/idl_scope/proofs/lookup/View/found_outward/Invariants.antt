@@ -9,8 +9,8 @@ use Rattle.idl_scope.proofs.lookup.View.found_outward.Given as goal
 abbrev pub invariant-scopes : goal.invariant-scopes
 invariant-scopes l =
     (turns : ℕ) → TURNS ≤ turns →
-    runs l.self.own.now.additions (answers l.self.env.now) (outward turns l.rest.now l.name) l.log
+    runs l.self.own.now.additions (answers l.self.env.now) (outward turns l.rest l.name) l.log
     ≡ runs l.self.own.now.additions (answers l.self.env.now) (outward turns l.scopes l.name) l.fn.log
 
 abbrev pub decreases-scopes : goal.decreases-scopes
-decreases-scopes l = length l.rest.now
+decreases-scopes l = length l.rest
