@@ -69,7 +69,7 @@ impl Drop for Answer {
 }
 
 impl Datum for Scope {
-    ghost use Rattle.idl_scope.specs.Answer.{same_scope, copied_scope};
+    ghost use Rattle.idl_scope.specs.Scope.{same_scope, copied_scope};
 
     ghost same = { same_scope };
 

@@ -4,7 +4,7 @@ ghost use Rattle.std.specs.Prelude.{◌≡◌, ◌<◌, ◌∷◌, [], IfOk, IfS
 ghost use Rattle.std.specs.Option.{option_copied};
 ghost use Rattle.std.specs.Cmp.Lexicographic.{lists_equiv, lists_per, pointwise};
 ghost use Rattle.idl_base.specs.Exact.{same_list};
-ghost use Rattle.idl_scope.specs.Answer.{same_scope, scope_eq};
+ghost use Rattle.idl_scope.specs.Scope.{same_scope, scope_eq};
 ghost use Rattle.idl_scope.specs.OpenScopes.{scopes_of};
 ghost use Rattle.idl_scope.specs.contracts.answer.ScopeEq.TheImpl.Laws.{laws-law as scope_equiv};
 ghost use Rattle.idl_scope.specs.contracts.answer.ScopePartialEq.TheImpl.Laws.{laws-law as scope_per};

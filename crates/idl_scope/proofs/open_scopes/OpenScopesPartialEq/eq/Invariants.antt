@@ -1,6 +1,6 @@
 use Rattle.std.proofs.Common.{◌≡◌, length}
 use Rattle.std.specs.Cmp.Lexicographic.{pointwise}
-use Rattle.idl_scope.specs.Answer.{scope_eq}
+use Rattle.idl_scope.specs.Scope.{scope_eq}
 use Rattle.idl_scope.proofs.open_scopes.OpenScopesPartialEq.eq.Given as goal
 
 -- what is left of the two is one where they are
