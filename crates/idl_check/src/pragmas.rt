@@ -30,7 +30,7 @@ use idl_event::Code;
 use idl_lex::TokenRange;
 use idl_memo::Journal;
 use idl_scope::{
-    Addition, Env, Facts, FixedIdentity, Identity, NameFault, Path, Scope, Shared, Standpoint,
+    Addition, Env, Facts, FixedIdentity, Identity, NameFault, OpenScopes, Path, Shared, Standpoint,
     Step, View, Writes, resolve,
 };
 use idl_syntax::{SyntaxFault, UnitTree, parse};
@@ -44,7 +44,7 @@ pub struct Speaker<'a> {
     pub env: &'a Env,
     pub tokens: &'a TokenRange,
     pub inside: bool,
-    pub scopes: &'a [Scope],
+    pub scopes: &'a OpenScopes,
 }
 
 // What a pragma speaks of: a path, and what identifies the name there.

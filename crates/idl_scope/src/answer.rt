@@ -1,6 +1,6 @@
 //! What is answered about names.
 
-ghost use Rattle.std.specs.Prelude.{◌≡◌, ◌++◌, IfOk, IfSome, None, OnOk};
+ghost use Rattle.std.specs.Prelude.{◌≡◌, ◌++◌, [], IfOk, IfSome, None, OnOk};
 ghost use Rattle.std.specs.Option.{option_copied};
 ghost use Rattle.idl_scope.specs.Facts.{count_in, entity_in, global_scope, id_at, identity_at, no_prefix, prefix_in, scopes_in};
 ghost use Rattle.idl_scope.specs.declared.answer.Answer.TheVariants as answers;
@@ -8,9 +8,10 @@ ghost use Rattle.idl_scope.specs.declared.answer.Answer.TheVariants as answers;
 use crate::entity::Entity;
 use crate::identity::{FixedIdentity, Identity, Prefix};
 use crate::kind::Kind;
+use crate::open_scopes::OpenScopes;
 use crate::path::Path;
 use crate::shared::Shared;
-use idl_base::{Datum, Seq};
+use idl_base::Datum;
 use std::alloc::{AllocError, Global};
 
 /// An open scope: its path, what it is of, and which of its bodies this is. The one body of the global scope has the number 0,
@@ -26,7 +27,7 @@ pub struct Scope {
 #[derive(Clone, PartialEq, Eq)]
 pub enum Answer {
     /// These scopes are open, the innermost first and the global one last.
-    Open(Shared<Seq<Scope>>),
+    Open(OpenScopes),
     /// The name is declared as this.
     Known(Shared<Entity>),
     /// The name was introduced.
@@ -68,7 +69,7 @@ impl Drop for Answer {
 }
 
 impl Datum for Scope {
-    ghost use Rattle.idl_scope.specs.Answer.{same_scope, copied_scope};
+    ghost use Rattle.idl_scope.specs.Scope.{same_scope, copied_scope};
 
     ghost same = { same_scope };
 
@@ -83,13 +84,13 @@ impl Datum for Answer {
     ghost copy = { copied_answer };
 }
 
-/// The open scopes that an answer tells, if it does.
-pub fn scopes_in<'a>(answer: Option<&'a Answer>) -> &'a [Scope]
-    ensures { result.now ≡ scopes_in (option_copied answer.entry) }
+/// The open scopes that an answer tells, if it does, and else those that are lent, of which none is open.
+pub fn scopes_in<'a>(answer: Option<&'a Answer>, none: &'a OpenScopes) -> &'a OpenScopes
+    ensures { none.now ≡ [] → result.now ≡ scopes_in (option_copied answer.entry) }
 {
     match answer {
-        Some(Answer::Open(scopes)) => scopes.get().as_slice(),
-        _ => &[],
+        Some(Answer::Open(scopes)) => scopes,
+        _ => none,
     }
 }
 

@@ -6,6 +6,7 @@ ghost use Rattle.idl_scope.specs.DataType.{plain_type};
 ghost use Rattle.idl_scope.specs.Facts.{answers};
 
 use crate::answer::Answer;
+use crate::count::one_more;
 use crate::data_type::{DataType, Element};
 use crate::digested::DigestedKey;
 use crate::facts::Facts;
@@ -89,9 +90,7 @@ impl Env {
             mut state,
             plain,
         } = self;
-        let Some(count) = count.checked_add(1) else {
-            return Err(AllocError);
-        };
+        let count = one_more(count)?;
         state.add(alloc, facts)?;
         Ok(Env {
             alloc,
@@ -113,9 +112,7 @@ impl Env {
             mut state,
             plain,
         } = self;
-        let Some(count) = count.checked_add(1) else {
-            return Err(AllocError);
-        };
+        let count = one_more(count)?;
         let after = before.and(facts.get());
         let mut facts = facts;
         state.add_own(alloc, &mut facts.inner)?;

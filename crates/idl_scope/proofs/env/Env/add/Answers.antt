@@ -9,14 +9,14 @@ add-requires c = λ key.
     let before = c.self.inside.facts in
     let counts = count-world before key in
     let same = ap (λ (w : World). count_in (w.answers key)) (ap held c.deref_mut.ensures.value ∙ c.self.invariant.1) in
-    let bound : count_in ((world before).answers key) < 18446744073709551615 = grind (arith, c.self.invariant.0, c.in-Some.ensures) in
+    let bound : count_in ((world before).answers key) < 18446744073709551615 = grind (arith, c.self.invariant.0, c.in_ok-count.ensures.room) in
     rw same bound
 
 pub invariant_of-result : goal.invariant_of-result
 invariant_of-result c =
     let before = c.self.inside.facts in
     let f = c.args.facts.now in (
-      grind (arith, c.self.invariant.0, c.in-Some.ensures, ap length c.and.ensures, length-append before (f ∷ [])),
+      grind (arith, c.self.invariant.0, c.in_ok-count.ensures.more, ap length c.and.ensures, length-append before (f ∷ [])),
       c.in_ok-add.ensures
           ∙ ap (λ (w : World). after w f) (ap held c.deref_mut.ensures.value ∙ c.self.invariant.1)
           ∙ sym (world-push before f)
