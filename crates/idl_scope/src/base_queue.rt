@@ -7,7 +7,7 @@ ghost use Rattle.idl_scope.specs.Facts.{joined};
 ghost use Rattle.idl_scope.specs.Path.{path_eq};
 
 use crate::path::Path;
-use idl_base::Table;
+use idl_map::DigestTable;
 use std::alloc::{AllocError, Global};
 use std::marker::Model;
 
@@ -23,7 +23,7 @@ pub struct BaseQueue {
     few: [Path; FEW],
     // How many of them are put in.
     count: usize,
-    others: Table<Path, ()>,
+    others: DigestTable<Path, ()>,
 }
 
 impl Model for BaseQueue {
@@ -50,7 +50,7 @@ impl BaseQueue {
                 Path::global(),
             ],
             count: 0,
-            others: Table::new(alloc),
+            others: DigestTable::new(alloc),
         }
     }
 

@@ -15,8 +15,8 @@ use crate::facts::Facts;
 use crate::lent_key::LentKey;
 use crate::path::Path;
 use crate::queue::join;
-use idl_base::{Seq, Table};
-use idl_map::SharedList;
+use idl_base::Seq;
+use idl_map::{DigestTable, SharedList};
 use std::alloc::{AllocError, Global};
 
 /// What an interface with these bases inherits: the list of the first base, shared with it, and behind it those of the
@@ -50,7 +50,7 @@ fn gathered(
         paths ≡ gathered (λ k. lookup (key_eq k) answers.now) found bases.now) }
 {
     let mut found = found;
-    let mut there = Table::new(alloc);
+    let mut there = DigestTable::new(alloc);
     join(&mut there, found.to_vec(alloc)?.as_slice())?;
     for base in bases {
         let paths = operations_at(alloc, answers, base)?.to_vec(alloc)?;
@@ -79,7 +79,7 @@ fn operations_at(
 fn join_new(
     alloc: Global,
     found: &mut SharedList<Path>,
-    there: &mut Table<Path, ()>,
+    there: &mut DigestTable<Path, ()>,
     paths: &[Path],
 ) -> Result<(), AllocError>
     requires { (p : List (List ℕ)) → list_any (path_eq p) (keys_of there.old) ≡ list_any (path_eq p) found.old }
@@ -97,7 +97,7 @@ fn join_new(
 fn join_one_new(
     alloc: Global,
     found: &mut SharedList<Path>,
-    there: &mut Table<Path, ()>,
+    there: &mut DigestTable<Path, ()>,
     path: &Path,
 ) -> Result<(), AllocError>
     requires { (p : List (List ℕ)) → list_any (path_eq p) (keys_of there.old) ≡ list_any (path_eq p) found.old }
