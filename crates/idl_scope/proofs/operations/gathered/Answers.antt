@@ -27,3 +27,6 @@ loop-base-preserved c =
           ∙ c.loop-base.invariant.0,
       λ p. c.in_ok-join_new.ensures.there p (c.loop-base.invariant.1 p),
     )
+
+pub join_new-requires : goal.join_new-requires
+join_new-requires c = λ p among. c.loop-base.invariant.1 p
