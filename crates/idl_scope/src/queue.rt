@@ -18,8 +18,8 @@ pub fn join(queue: &mut DigestTable<Path, ()>, paths: &[Path]) -> Result<(), All
     Ok(())
 }
 
-// Puts the path last, unless it is there.
-fn join_one(queue: &mut DigestTable<Path, ()>, path: &Path) -> Result<(), AllocError>
+/// Puts the path last, unless it is there.
+pub fn join_one(queue: &mut DigestTable<Path, ()>, path: &Path) -> Result<(), AllocError>
     ensures { OnOk result (keys_of queue.new ≡ joined (keys_of queue.old) (path.now ∷ [])) }
 {
     if queue.contains(path) {
