@@ -14,7 +14,7 @@ use crate::codes::first_code;
 use idl_base::{Seq, Table};
 use idl_event::Code;
 use idl_lex::Spelling;
-use idl_map::{DigestTable, SharedList};
+use idl_map::SharedList;
 use idl_scope::{Entity, Path, Stage};
 use std::alloc::{AllocError, Global};
 use std::marker::Model;
@@ -29,7 +29,7 @@ pub struct Bases {
 // names: those of the last two bases wait, as the lists that the bases have, until a third is named.
 #[derive(Drop)]
 struct Named {
-    paths: DigestTable<Path, ()>,
+    paths: Table<Path, ()>,
     operations: Table<Spelling, Path>,
     before_last: SharedList<Path>,
     last: SharedList<Path>,
@@ -120,7 +120,7 @@ impl Named {
         ensures { result ≡ no_bases }
     {
         Named {
-            paths: DigestTable::new(alloc),
+            paths: Table::new(alloc),
             operations: Table::new(alloc),
             before_last: SharedList::new(),
             last: SharedList::new(),
@@ -292,7 +292,7 @@ fn is_another(
 }
 
 // Whether a path is in a table.
-fn contains(paths: &DigestTable<Path, ()>, path: &Path) -> bool
+fn contains(paths: &Table<Path, ()>, path: &Path) -> bool
     ensures { result ≡ list_any (path_eq path.now) (keys_of paths.now) }
 {
     paths.contains(path)
@@ -306,7 +306,7 @@ fn is_local_for(is_local: bool, base: &Entity) -> bool
 }
 
 // The paths of a table in order.
-fn listed(alloc: Global, table: &DigestTable<Path, ()>) -> Result<Vec<Path>, AllocError>
+fn listed(alloc: Global, table: &Table<Path, ()>) -> Result<Vec<Path>, AllocError>
     ensures { IfOk result (λ paths. paths.items ≡ keys_of table.now) }
 {
     let mut paths = Vec::new(alloc);
@@ -335,7 +335,7 @@ fn add_operations(
 }
 
 // A path more, unless it is there.
-fn add_path(paths: &mut DigestTable<Path, ()>, path: &Path) -> Result<(), AllocError>
+fn add_path(paths: &mut Table<Path, ()>, path: &Path) -> Result<(), AllocError>
     ensures { OnOk result (keys_of paths.new ≡ joined (keys_of paths.old) (path.now ∷ [])) }
 {
     if paths.contains(path) {

@@ -1,5 +1,5 @@
 -- Queues of paths.
-use Rattle.std.proofs.Common.{◌≡◌, ◌<◌, ℕ, zero, suc, Bool, true, false, cond, List, [], ◌∷◌, ◌++◌, get_or, is_some, length, refl, sym, ap, ◌∙◌}
+use Rattle.std.proofs.Common.{◌≡◌, ◌<◌, ℕ, zero, suc, Bool, true, false, append_assoc, cond, List, [], ◌∷◌, ◌++◌, get_or, is_some, length, refl, sym, ap, ◌∙◌}
 use Rattle.std.specs.Prelude.{slice_get, ◌||◌}
 use Rattle.std.specs.List.{list_any}
 use Rattle.std.specs.Cmp.Lexicographic.{bytes_decides, pointwise_decides}
@@ -42,6 +42,14 @@ module _ (p : List (List ℕ)) (first others : List (List (List ℕ))) where
   -- and one that is in neither is put last
   pub joined-in_neither : list_any (path_eq p) first ≡ false → list_any (path_eq p) others ≡ false → joined (first ++ others) (p ∷ []) ≡ (first ++ others) ++ p ∷ []
   joined-in_neither h g = joined-new (first ++ others) p [] (list_any-append (path_eq p) first others ∙ ap (λ a. a || list_any (path_eq p) others) h ∙ g)
+
+  -- behind the first ones it is put among the others
+  pub joined-behind : list_any (path_eq p) first ≡ false → joined (first ++ others) (p ∷ []) ≡ first ++ joined others (p ∷ [])
+  joined-behind h = by_test (list_any (path_eq p) others) refl
+    where
+      by_test : (b : Bool) → list_any (path_eq p) others ≡ b → joined (first ++ others) (p ∷ []) ≡ first ++ joined others (p ∷ [])
+      by_test true there = joined-among_others there ∙ ap (λ l. first ++ l) (sym (joined-there others p [] there))
+      by_test false new = joined-in_neither h new ∙ append_assoc first others (p ∷ []) ∙ ap (λ l. first ++ l) (sym (joined-new others p [] new))
 
 -- the path at a place of a queue
 pub slice_get-keys_of : (queue : List (List (List ℕ) × Unit {0})) (i : ℕ) → slice_get (keys_of queue) i ≡ option_map (λ e. e.0) (slice_get queue i)
