@@ -1,5 +1,5 @@
 -- Queues of paths.
-use Rattle.std.proofs.Common.{◌≡◌, ◌<◌, ℕ, zero, suc, Bool, true, false, append_assoc, cond, List, [], ◌∷◌, ◌++◌, get_or, is_some, length, refl, sym, ap, ◌∙◌}
+use Rattle.std.proofs.Common.{◌≡◌, ◌<◌, ℕ, zero, suc, Bool, true, false, append_assoc, cond, List, [], ◌∷◌, ◌++◌, get_or, is_some, length, refl, sym, ap, ◌∙◌, arith}
 use Rattle.std.specs.Prelude.{slice_get, ◌||◌}
 use Rattle.std.specs.List.{list_any}
 use Rattle.std.specs.Cmp.Lexicographic.{bytes_decides, pointwise_decides}
@@ -96,9 +96,11 @@ same_one_more p x xs ys h =
 
 -- a path at a place of a list is among its paths
 pub item_among : (paths : List (List (List ℕ))) (i : ℕ) (x : List (List ℕ)) → i < length paths → x ≡ get_or paths i x → list_any (path_eq x) paths ≡ true
-item_among [] i x h e = cc
+item_among [] i x h e = absurd (let none : ⊥ = omega (h, arith) in none)
 item_among (y ∷ paths) zero x h e = ap (λ b. b || list_any (path_eq x) paths) ((pointwise_decides bytes_decides x y).1 e)
-item_among (y ∷ paths) (suc i) x h e = ap (λ b. path_eq x y || b) (item_among paths i x h e) ∙ or_true (path_eq x y)
+item_among (y ∷ paths) (suc i) x h e =
+    let less : i < length paths = omega (h, arith) in
+    ap (λ b. path_eq x y || b) (item_among paths i x less e) ∙ or_true (path_eq x y)
 
 -- a path that is asked for is none that isn't
 pub asked_differs : (asked : List (List (List ℕ))) (p x : List (List ℕ)) → list_any (path_eq p) asked ≡ true → list_any (path_eq x) asked ≡ false → path_eq p x ≡ false
