@@ -206,10 +206,10 @@ fn brings_beside(
     ensures { IfOk result (λ b.
         b ≡ list_any (is_another (fold with_operation [] others.now)) base.now.operations) }
 {
-    let others = others.to_vec(alloc)?;
-    if others.is_empty() {
+    if *others == SharedList::new() {
         return Ok(false);
     }
+    let others = others.to_vec(alloc)?;
     let paths = base.operations()?.to_vec(alloc)?;
     let mut near = Table::new(alloc);
     add_near(alloc, &mut near, others.as_slice(), paths.as_slice())?;

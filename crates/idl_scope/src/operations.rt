@@ -34,7 +34,11 @@ pub fn inherited(
         [base] => operations_at(alloc, answers, base),
         [base, other] => {
             let others = operations_at(alloc, answers, other)?.to_vec(alloc)?;
-            joined(alloc, operations_at(alloc, answers, base)?, others.as_slice())
+            joined(
+                alloc,
+                operations_at(alloc, answers, base)?,
+                others.as_slice(),
+            )
         }
         [base, others @ ..] => {
             let found = operations_at(alloc, answers, base)?;

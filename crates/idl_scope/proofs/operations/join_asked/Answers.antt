@@ -19,15 +19,15 @@ loop-path-preserved c = λ p asked.
     elim c.if-contains.branch [
       | then-contains+in_ok-join_one w ↦
           ap (λ q. list_any (path_eq p) (keys_of q) || rest) w.there-is
-              ∙ ap (λ l. list_any (path_eq p) l || rest) w.in_ok-join_one.ensures
-              ∙ ap (λ b. b || rest) (list_any-joined p old (x ∷ []))
-              ∙ or_one (list_any (path_eq p) old) (path_eq p x) rest
-              ∙ sym here
-              ∙ c.loop-path.invariant p asked
+          ∙ ap (λ l. list_any (path_eq p) l || rest) w.in_ok-join_one.ensures
+          ∙ ap (λ b. b || rest) (list_any-joined p old (x ∷ []))
+          ∙ or_one (list_any (path_eq p) old) (path_eq p x) rest
+          ∙ sym here
+          ∙ c.loop-path.invariant p asked
       | else-contains w ↦
           let unasked = sym (contains-list_any c.args.asked.now x) ∙ sym c.contains.ensures ∙ w.if-contains.false in
           ap (λ q. list_any (path_eq p) (keys_of q) || rest) w.there-is
-              ∙ ap (λ b. list_any (path_eq p) old || (b || rest)) (sym (asked_differs (keys_of c.args.asked.now) p x asked unasked))
-              ∙ sym here
-              ∙ c.loop-path.invariant p asked
+          ∙ ap (λ b. list_any (path_eq p) old || (b || rest)) (sym (asked_differs (keys_of c.args.asked.now) p x asked unasked))
+          ∙ sym here
+          ∙ c.loop-path.invariant p asked
     ]
