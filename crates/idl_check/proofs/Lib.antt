@@ -1,3 +1,4 @@
+mod BaseLemmas
 mod IdLemmas
 mod JudgeLemmas
 mod NameLemmas

@@ -20,6 +20,7 @@ pub mod Outline
 pub mod Outside
 pub mod Past
 pub mod Path
+pub mod Queue
 pub mod Scope
 pub mod Signature
 pub mod Stretch

@@ -16,6 +16,7 @@ use crate::own_name::OwnName;
 use crate::path::Path;
 use crate::shared::Shared;
 use idl_lex::Spelling;
+use idl_map::Digest;
 use std::alloc::{AllocError, Global};
 
 /// What a declared name adds, the use of one, or a pragma about one.

@@ -1,13 +1,15 @@
 //! Queues of the bases that a walk enters.
 
-ghost use Rattle.std.specs.Prelude.{◌≡◌, ◌∷◌, [], OnOk, slice_get};
+ghost use Rattle.std.specs.Prelude.{◌≡◌, ◌∷◌, [], IfOk, OnOk, slice_get};
+ghost use Rattle.std.specs.Map.{keys_of};
 ghost use Rattle.std.specs.List.{list_any};
 ghost use Rattle.std.specs.Option.{option_copied};
 ghost use Rattle.idl_scope.specs.Facts.{joined};
 ghost use Rattle.idl_scope.specs.Path.{path_eq};
 
 use crate::path::Path;
-use idl_base::Table;
+use crate::queue::join_one;
+use idl_map::DigestTable;
 use std::alloc::{AllocError, Global};
 use std::marker::Model;
 
@@ -17,22 +19,24 @@ const FEW: usize = 4;
 /// Paths in the order in which they were put in, each once. To every contract it is the list of them.
 ///
 /// Most interfaces have few bases, and few of these have bases: so the first paths stand in place. Those behind them are found
-/// in a table.
+/// in a table by their digests.
 #[derive(Drop)]
 pub struct BaseQueue {
+    alloc: Global,
     few: [Path; FEW],
     // How many of them are put in.
     count: usize,
-    others: Table<Path, ()>,
+    // Most queues have none, and are made often.
+    others: Option<Box<DigestTable<Path, ()>>>,
 }
 
 impl Model for BaseQueue {
     ghost use Rattle.std.specs.Prelude.{List, ℕ, ◌≤◌, ◌++◌, take};
-    ghost use Rattle.std.specs.Map.{keys_of};
+    ghost use Rattle.idl_scope.specs.Queue.{paths_in};
 
     ghost Value = { List (List (List ℕ)) };
 
-    ghost view = { λ queue. take queue.count queue.few ++ keys_of queue.others };
+    ghost view = { λ queue. take queue.count queue.few ++ paths_in queue.others };
 
     ghost invariant = { λ queue. queue.count ≤ 4 };
 }
@@ -43,6 +47,7 @@ impl BaseQueue {
         ensures { result ≡ [] }
     {
         BaseQueue {
+            alloc,
             few: [
                 Path::global(),
                 Path::global(),
@@ -50,7 +55,7 @@ impl BaseQueue {
                 Path::global(),
             ],
             count: 0,
-            others: Table::new(alloc),
+            others: None,
         }
     }
 
@@ -62,8 +67,10 @@ impl BaseQueue {
         if place < few.len() {
             return Some(&few[place]);
         }
-        let (path, ()) = self.others.get_index(place - few.len())?;
-        Some(path)
+        match &self.others {
+            Some(others) => path_at(others, place - few.len()),
+            None => None,
+        }
     }
 
     /// Puts those of the paths last that are not yet there.
@@ -85,18 +92,20 @@ impl BaseQueue {
         if is_among(&self.few[..self.count], path) {
             return Ok(());
         }
-        if self.others.contains(path) {
+        if let Some(others) = &mut self.others {
+            join_one(others, path)?;
             return Ok(());
         }
         let copy = path.clone()?;
         let count = self.count;
-        if count < FEW && self.others.is_empty() {
+        if count < FEW {
             let few = &mut self.few[..];
             few[count] = copy;
             self.count = count + 1;
             return Ok(());
         }
-        self.others.push(copy, ())?;
+        let others = table_of(self.alloc, copy)?;
+        self.others = Some(others);
         Ok(())
     }
 }
@@ -106,4 +115,22 @@ fn is_among(paths: &[Path], path: &Path) -> bool
     ensures { result ≡ list_any (path_eq path.now) paths.now }
 {
     paths.iter().any(|other| path == other)
+}
+
+// The path at a place of a table, or nothing past the last.
+fn path_at(paths: &DigestTable<Path, ()>, place: usize) -> Option<&Path>
+    ensures { option_copied result ≡ slice_get (keys_of paths.now) place }
+{
+    let (path, ()) = paths.get_index(place)?;
+    Some(path)
+}
+
+// The table of one path.
+#[inline(never)]
+fn table_of(alloc: Global, path: Path) -> Result<Box<DigestTable<Path, ()>>, AllocError>
+    ensures { IfOk result (λ paths. keys_of paths.value ≡ path ∷ []) }
+{
+    let mut paths = DigestTable::new(alloc);
+    paths.push(path, ())?;
+    Ok(Box::new(alloc, paths)?)
 }

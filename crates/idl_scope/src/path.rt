@@ -17,6 +17,7 @@ use crate::named_path::NamedPath;
 use crate::names::Names;
 use idl_base::Datum;
 use idl_lex::Spelling;
+use idl_map::Digest;
 use std::alloc::{AllocError, Global};
 use std::cmp::Ordering;
 use std::hash::{Hash, Hasher};
@@ -217,17 +218,6 @@ impl Path {
         match self.innermost {
             None => None,
             Some(part) => Some(NamedPath::of(part)),
-        }
-    }
-
-    /// A number that paths are found by: those that are alike have one.
-    #[tactic(auto, unfolding(crate::specs::Digest::path_digest))]
-    pub fn digest(&self) -> u64
-        ensures { result ≡ path_digest self.now }
-    {
-        match &self.innermost {
-            None => 0,
-            Some(part) => part.digest,
         }
     }
 
@@ -511,4 +501,16 @@ impl Datum for Path {
     ghost same = { λ x y. (pointwise_decides bytes_decides x y).0 };
 
     ghost copy = { λ x y h. h };
+}
+
+impl Digest for Path {
+    ghost digest_of = { path_digest };
+
+    #[tactic(auto, unfolding(crate::specs::Digest::path_digest))]
+    fn digest(&self) -> u64 {
+        match &self.innermost {
+            None => 0,
+            Some(part) => part.digest,
+        }
+    }
 }
