@@ -4,6 +4,7 @@ mod conditions;
 mod data;
 mod devices;
 mod expansions;
+mod explored;
 mod files;
 mod journals;
 mod kinds;

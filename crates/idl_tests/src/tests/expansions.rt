@@ -13,7 +13,7 @@ use std::test::Fail;
 /// Files and macros.
 #[derive(Drop)]
 pub struct Answers {
-    entries: Table<Key, Answer>,
+    pub entries: Table<Key, Answer>,
 }
 
 impl Bank for Answers {
