@@ -113,7 +113,7 @@ impl<'f> FileWalk<'f> {
         let file = self.name;
         let site = Site { file, bank };
         if let Some(operand) = self.waiting.take() {
-            if let Some(open) = entered(root, asked(root, &site, &operand)?.found)? {
+            if let Some(open) = entered(root, ask(root, &site, &operand)?.found)? {
                 return Ok(Next::Entered(open));
             }
         }
@@ -124,7 +124,7 @@ impl<'f> FileWalk<'f> {
             let Some(operand) = self.walk_on(root, &site)? else {
                 continue;
             };
-            let asked = asked(root, &site, &operand)?;
+            let asked = ask(root, &site, &operand)?;
             if !asked.absent.is_empty() {
                 self.waiting = Some(operand);
                 return Ok(Next::Absent(asked.absent));
@@ -194,7 +194,7 @@ struct Asked<'b> {
 }
 
 // What an include of this operand asks for.
-fn asked<'b, B: RootBank>(
+fn ask<'b, B: RootBank>(
     root: &Root<B>,
     site: &Site<'b, B>,
     operand: &Operand,
