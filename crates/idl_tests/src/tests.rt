@@ -4,7 +4,6 @@ mod conditions;
 mod data;
 mod devices;
 mod expansions;
-mod explored;
 mod files;
 mod journals;
 mod kinds;

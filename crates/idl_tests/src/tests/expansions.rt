@@ -13,7 +13,7 @@ use std::test::Fail;
 /// Files and macros.
 #[derive(Drop)]
 pub struct Answers {
-    pub entries: Table<Key, Answer>,
+    entries: Table<Key, Answer>,
 }
 
 impl Bank for Answers {
