@@ -13,7 +13,7 @@ AreAllowed lines = (length lines ≤ most_lines) × All (λ line. length line �
 abbrev pub ArePastLimits : List ℕ → Type 0
 ArePastLimits bytes = (rest : List ℕ) → AreAllowed (cut_lines (bytes ++ rest)) → ⊥
 
--- these bytes, up to the first place where they are past the limits; all of them where there is none
+-- the bytes up to the first place where they are past the limits; all of them where there is none
 pub record AreUpToLimits (all bytes : List ℕ) : Type 0 where
   pub begin : StartsWith all bytes
   pub end : (bytes ≡ all) ⊎ ArePastLimits bytes

@@ -76,7 +76,8 @@ impl Extent {
 
     // Whether they are past the limits of a file, whatever comes behind.
     fn is_over(self) -> bool
-        ensures over { (bytes : List ℕ) → Measures bytes self → (IsTrue result ↔ ArePastLimits bytes) }
+        ensures over { (bytes : List ℕ) → Measures bytes self
+            → (IsTrue result ↔ ArePastLimits bytes) }
         ensures room { result ≡ false → (self.bytes ≤ 4096) × (self.lines ≤ 200000) }
     {
         if self.bytes > MAX_LINE {
