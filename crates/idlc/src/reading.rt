@@ -1,6 +1,6 @@
 //! The bytes of a file, which are read no further than its limits allow.
 
-ghost use Rattle.std.specs.Prelude.{◌≡◌, ◌↔◌, ◌≤◌, ◌<◌, ◌++◌, ◌∷◌, ◌⊎◌, ◌-◌, ◌^◌, [], ℕ, List, IfOk, IfSome, IsTrue, OnOk, length, take, false, true};
+ghost use Rattle.std.specs.Prelude.{◌≡◌, ◌↔◌, ◌≤◌, ◌<◌, ◌++◌, ◌∷◌, ◌⊎◌, [], ℕ, List, IfOk, IfSome, IsTrue, length, take, false};
 ghost use Rattle.std.specs.Io.KnownBytes.{Consumes, IsAtEnd};
 ghost use Rattle.idlc.specs.Extent.{Measures, has_begun};
 ghost use Rattle.idlc.specs.Reading.{ArePastLimits, AreUpToLimits};
