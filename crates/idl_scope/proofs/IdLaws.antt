@@ -132,11 +132,14 @@ id-length : (text : List ℕ) (names : List (List ℕ)) → length (codes "IDL:"
 id-length text names =
     let four : length (codes "IDL:") ≡ 4 = refl in
     let last : length (codes ":1.0") ≡ 4 = refl in
-    omega
-    (arith, four, last,
-    length-append (codes "IDL:" ++ prefixed text ++ slashed names) (codes ":1.0"),
-    length-append (codes "IDL:" ++ prefixed text) (slashed names),
-    length-append (codes "IDL:") (prefixed text))
+    omega (
+      arith,
+      four,
+      last,
+      length-append (codes "IDL:" ++ prefixed text ++ slashed names) (codes ":1.0"),
+      length-append (codes "IDL:" ++ prefixed text) (slashed names),
+      length-append (codes "IDL:") (prefixed text),
+    )
 
 scopes-same : (path p q : List (List ℕ)) → is_within (scope_of path) p ≡ true → is_within (scope_of path) q ≡ true
     → length (slashed (relative path p)) ≡ length (slashed (relative path q)) → p ≡ q

@@ -1,7 +1,6 @@
-use Rattle.std.proofs.Common.{◌≡◌, ◌∷◌, ◌+◌, ◌||◌, [], ap, drop, false, sym, ◌∙◌}
+use Rattle.std.proofs.Common.{◌∷◌, ◌+◌, ◌||◌, [], ap, drop, sym, ◌∙◌}
 use Rattle.std.specs.List.{list_any}
 use Rattle.std.specs.Map.{keys_of}
-use Rattle.idl_scope.specs.Facts.{joined}
 use Rattle.idl_scope.specs.Path.{path_eq}
 use Rattle.idl_scope.proofs.PlaceLemmas.{from_here}
 use Rattle.idl_scope.proofs.QueueLemmas.{asked_differs, contains-list_any, list_any-joined, or_one}

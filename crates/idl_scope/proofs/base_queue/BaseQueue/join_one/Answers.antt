@@ -1,8 +1,7 @@
-use Rattle.std.proofs.Common.{◌∙◌, ◌++◌, ◌∷◌, [], ap, append-nil, append_assoc, arith, sym, take}
+use Rattle.std.proofs.Common.{◌∙◌, ◌∷◌, [], ap, sym, take}
 use Rattle.idl_scope.specs.Facts.{joined}
 use Rattle.idl_scope.specs.Queue.{paths_in}
-use Rattle.idl_scope.proofs.FewLemmas.{one_more}
-use Rattle.idl_scope.proofs.QueueLemmas.{joined-among_first, joined-behind}
+use Rattle.idl_scope.proofs.QueueLemmas.{joined-among_first}
 use Rattle.idl_scope.proofs.base_queue.BaseQueue.join_one.Goals as goal
 
 pub returns-then-is_among : goal.returns-then-is_among

@@ -16,8 +16,8 @@ returns-then-not-is_nothing c turns more =
     sym (outward_found own bank turns scope outer c.args.name.now c.scopes.log _ _ (c.in_ok-found.ensures turns more) some)
     ∙ ap (λ rest. runs own bank (outward turns rest c.args.name.now) c.scopes.log) (sym here) ∙ c.scopes.invariant turns more
 
-pub scopes-preserved : goal.scopes-preserved
-scopes-preserved c turns more =
+pub scopes-preserved-else-not-is_nothing : goal.scopes-preserved-else-not-is_nothing
+scopes-preserved-else-not-is_nothing c turns more =
     let own = c.args.self.own.now.additions in
     let bank = answers c.args.self.env.now in
     let scope = c.in-Some.scope.now in
