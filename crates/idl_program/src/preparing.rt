@@ -1,143 +1,55 @@
-//! What options ask a session for, and what goes out of it.
+//! What options ask for: macros, directories and roots.
 
-ghost use Rattle.std.specs.Prelude.{◌≡◌, ◌≤◌, ◌<◌, ◌+◌, ◌-◌, ◌^◌, ◌∷◌, [], Some, true, map, IfOk, OnOk};
+ghost use Rattle.std.specs.Prelude.{◌≡◌, ◌∷◌, [], Some, map, IfOk, OnOk};
 ghost use Rattle.std.specs.FinMap as finite;
-ghost use Rattle.std.specs.List.{flat_map};
-ghost use Rattle.idl_source.specs.Device.{append};
-ghost use Rattle.idl_session.specs.Replies.{whole_line};
-ghost use Rattle.idl_workspace.specs.Project.{is_root, with_macros, with_roots, with_search};
-ghost use Rattle.idl_program.specs.Compiled.{dump_in, errors_in, has_errors, listing_in, output_in};
-ghost use Rattle.idl_program.specs.Loading.{AreRoots};
 ghost use Rattle.idl_program.specs.Options.{AreAsked, before_equals, defined_by, macro_body, named_by, searched_by, undefined_by};
 
 use crate::failure::{Failure, Subject};
 use crate::request::Options;
-use idl_session::{Session, Sink, WriteFailed, write_lines};
 use idl_source::{Directory, Line, Name, Refusal, directory_at, first_part, join};
+use idl_workspace::{MAX_ROOTS, Sources};
+use indexmap::IndexSet;
 use std::alloc::{AllocError, Global};
 
-/// A session with the macros, directories and roots of the options, and those roots.
+/// Sources with the macros and directories of the options, and the roots of these.
 pub fn prepared<'a>(
     alloc: Global,
     options: &Options<'a>,
-) -> Result<(Session, Vec<Name>), Failure<'a>>
-    ensures asked { IfOk result (λ p. AreAsked options.now p.0.project.inputs p.1.items) }
-    ensures files { IfOk result (λ p. p.0.project.inputs.files ≡ finite.empty) }
-    ensures roots { IfOk result (λ p. AreRoots p.0.project p.1.items) }
+) -> Result<(Sources, IndexSet<Name>), Failure<'a>>
+    ensures asked { IfOk result (λ p. AreAsked options.now p.0 p.1.keys) }
+    ensures files { IfOk result (λ p. p.0.files ≡ finite.empty) }
 {
-    let mut session = Session::new(alloc);
-    define_all(&mut session, &options.defines)?;
-    undefine_all(&mut session, &options.undefines)?;
-    search_all(&mut session, &options.directories)?;
-    let roots = add_all(&mut session, &options.files)?;
-    Ok((session, roots))
-}
-
-/// Writes what a root is told of.
-pub fn show_errors<K: Sink>(
-    session: &Session,
-    root: &Name,
-    errors: &mut K,
-) -> Result<(), WriteFailed>
-    requires counts { K.failures errors.old < 2 ^ 64 - 1 }
-    requires root { is_root session.now.project root.now ≡ true }
-
-    ensures written { OnOk result (K.written errors.new ≡ append (K.written errors.old)
-        (flat_map whole_line (errors_in session.now.project.inputs root.now))) }
-    ensures ok { OnOk result (K.failures errors.new ≡ K.failures errors.old) }
-    ensures most { K.failures errors.new ≤ K.failures errors.old + 1 }
-{
-    match session.diagnostics(root.as_bytes()) {
-        Some(rows) => write_lines(errors, rows),
-        None => Ok(()),
-    }
-}
-
-/// Whether one of what a root is told of is an error.
-pub fn has_errors(session: &Session, root: &Name) -> bool
-    requires { is_root session.now.project root.now ≡ true }
-    ensures { result ≡ has_errors session.now.project.inputs root.now }
-{
-    session.is_faulty(root.as_bytes()).unwrap_or(false)
-}
-
-/// Writes the dump and the listing of a root, as far as they are asked for.
-pub fn show_output<K: Sink>(
-    session: &Session,
-    root: &Name,
-    options: &Options<'_>,
-    output: &mut K,
-) -> Result<(), WriteFailed>
-    requires counts { K.failures output.old < 2 ^ 64 - 1 }
-    requires root { is_root session.now.project root.now ≡ true }
-
-    ensures written { OnOk result (K.written output.new ≡ append (K.written output.old)
-        (flat_map whole_line (output_in options.now session.now.project.inputs root.now))) }
-    ensures ok { OnOk result (K.failures output.new ≡ K.failures output.old) }
-{
-    if options.shows_dump {
-        show_dump(session, root, output)?;
-    }
-    if options.shows_listing {
-        show_listing(session, root, output)?;
-    }
-    Ok(())
-}
-
-// Writes what a root declares.
-fn show_dump<K: Sink>(session: &Session, root: &Name, output: &mut K) -> Result<(), WriteFailed>
-    requires counts { K.failures output.old < 2 ^ 64 - 1 }
-    requires root { is_root session.now.project root.now ≡ true }
-
-    ensures written { OnOk result (K.written output.new ≡ append (K.written output.old)
-        (flat_map whole_line (dump_in session.now.project.inputs root.now))) }
-    ensures ok { OnOk result (K.failures output.new ≡ K.failures output.old) }
-{
-    match session.dump(root.as_bytes()) {
-        Some(rows) => write_lines(output, rows),
-        None => Ok(()),
-    }
-}
-
-// Writes what is listed of a root.
-fn show_listing<K: Sink>(session: &Session, root: &Name, output: &mut K) -> Result<(), WriteFailed>
-    requires counts { K.failures output.old < 2 ^ 64 - 1 }
-    requires root { is_root session.now.project root.now ≡ true }
-
-    ensures written { OnOk result (K.written output.new ≡ append (K.written output.old)
-        (flat_map whole_line (listing_in session.now.project.inputs root.now))) }
-    ensures ok { OnOk result (K.failures output.new ≡ K.failures output.old) }
-{
-    match session.listing(root.as_bytes()) {
-        Some(rows) => write_lines(output, rows),
-        None => Ok(()),
-    }
+    let mut sources = Sources::new(alloc);
+    define_all(&mut sources, &options.defines)?;
+    undefine_all(&mut sources, &options.undefines)?;
+    search_all(&mut sources, &options.directories)?;
+    let roots = roots_of(alloc, &options.files)?;
+    Ok((sources, roots))
 }
 
 // Defines each macro, the last of one name in place of those before it.
-fn define_all<'a>(session: &mut Session, words: &[&'a str]) -> Result<(), Failure<'a>>
+fn define_all<'a>(sources: &mut Sources, words: &[&'a str]) -> Result<(), Failure<'a>>
     ensures { let texts = map (λ w. w.now) words.entry.now in OnOk result
-        (session.new.project ≡ with_macros session.old.project
-        (defined_by session.old.project.inputs.macros texts)) }
+        (sources.new ≡ record sources.old { macros = defined_by sources.old.macros texts }) }
 {
     'words: for word in words {
-        define(session, word)?;
+        define(sources, word)?;
     }
     Ok(())
 }
 
 // Defines `NAME`, whose body is `1`, or `NAME=BODY`.
-fn define<'a>(session: &mut Session, word: &'a str) -> Result<(), Failure<'a>>
-    ensures { OnOk result (session.new.project ≡ with_macros session.old.project
-        (defined_by session.old.project.inputs.macros (word.entry.now ∷ []))) }
+fn define<'a>(sources: &mut Sources, word: &'a str) -> Result<(), Failure<'a>>
+    ensures { let macros = defined_by sources.old.macros (word.entry.now ∷ []) in
+        OnOk result (sources.new ≡ record sources.old { macros = macros }) }
 {
     let (name, body) = macro_of(word.as_bytes());
-    let line = match Line::new(session.allocator(), body) {
+    let line = match Line::new(sources.allocator(), body) {
         Ok(Some(line)) => line,
         Ok(None) => return Err(Failure::BadArguments),
         Err(_) => return Err(refused(word, Refusal::NoMemory)),
     };
-    match session.define(name, line) {
+    match sources.define(name, line) {
         Ok(_) => Ok(()),
         Err(refusal) => Err(refused(word, refusal)),
     }
@@ -156,39 +68,38 @@ fn macro_of(word: &[u8]) -> (&[u8], &[u8])
 }
 
 // Takes the macro of each name out.
-fn undefine_all<'a>(session: &mut Session, words: &[&'a str]) -> Result<(), Failure<'a>>
+fn undefine_all<'a>(sources: &mut Sources, words: &[&'a str]) -> Result<(), Failure<'a>>
     ensures { let texts = map (λ w. w.now) words.entry.now in OnOk result
-        (session.new.project ≡ with_macros session.old.project
-        (undefined_by session.old.project.inputs.macros texts)) }
+        (sources.new ≡ record sources.old { macros = undefined_by sources.old.macros texts }) }
 {
     'words: for word in words {
-        undefine(session, word)?;
+        undefine(sources, word)?;
     }
     Ok(())
 }
 
 // Takes the macro of a name out, if there is one.
-fn undefine<'a>(session: &mut Session, word: &'a str) -> Result<(), Failure<'a>>
-    ensures { OnOk result (session.new.project ≡ with_macros session.old.project
-        (undefined_by session.old.project.inputs.macros (word.entry.now ∷ []))) }
+fn undefine<'a>(sources: &mut Sources, word: &'a str) -> Result<(), Failure<'a>>
+    ensures { let macros = undefined_by sources.old.macros (word.entry.now ∷ []) in
+        OnOk result (sources.new ≡ record sources.old { macros = macros }) }
 {
-    match session.undef(word.as_bytes()) {
+    match sources.undef(word.as_bytes()) {
         Ok(_) => Ok(()),
         Err(refusal) => Err(refused(word, refusal)),
     }
 }
 
 // Has included files searched in each of these directories, too.
-fn search_all<'a>(session: &mut Session, words: &[&'a str]) -> Result<(), Failure<'a>>
-    requires { session.old.project.inputs.search ≡ [] }
-    ensures searched { OnOk result (searched_by [] (map (λ w. w.now) words.entry.now)
-        ≡ Some session.new.project.inputs.search) }
-    ensures others { OnOk result (session.new.project
-        ≡ with_search session.old.project session.new.project.inputs.search) }
+fn search_all<'a>(sources: &mut Sources, words: &[&'a str]) -> Result<(), Failure<'a>>
+    requires { sources.old.search ≡ [] }
+    ensures searched { OnOk result
+        (searched_by [] (map (λ w. w.now) words.entry.now) ≡ Some sources.new.search) }
+    ensures others { OnOk result
+        (sources.new ≡ record sources.old { search = sources.new.search }) }
 {
-    let mut directories: Vec<Directory> = Vec::new(session.allocator());
+    let mut directories: Vec<Directory> = Vec::new(sources.allocator());
     'words: for word in words {
-        search_in(session, &mut directories, word.as_bytes()).map_err(|refusal| refused(
+        search_in(sources, &mut directories, word.as_bytes()).map_err(|refusal| refused(
             word, refusal,
         ))?;
     }
@@ -196,19 +107,19 @@ fn search_all<'a>(session: &mut Session, words: &[&'a str]) -> Result<(), Failur
 }
 
 fn search_in(
-    session: &mut Session,
+    sources: &mut Sources,
     directories: &mut Vec<Directory>,
     word: &[u8],
 ) -> Result<(), Refusal>
     ensures more { OnOk result
         (searched_by directories.old.items (word.now ∷ []) ≡ Some directories.new.items) }
-    ensures searched { OnOk result (session.new.project
-        ≡ with_search session.old.project directories.new.items) }
+    ensures searched { OnOk result
+        (sources.new ≡ record sources.old { search = directories.new.items }) }
 {
     let directory = directory_at(word).ok_or(Refusal::BadName)?;
     directories.push(directory).map_err(|_| Refusal::NoMemory)?;
-    let list = texts(session.allocator(), directories)?;
-    session.search(&list)?;
+    let list = texts(sources.allocator(), directories)?;
+    sources.search(&list)?;
     Ok(())
 }
 
@@ -222,35 +133,28 @@ fn texts<'d>(alloc: Global, directories: &'d [Directory]) -> Result<Vec<&'d [u8]
     Ok(list)
 }
 
-// Makes what each of these words leads to a root, once.
-fn add_all<'a>(session: &mut Session, words: &[&'a str]) -> Result<Vec<Name>, Failure<'a>>
-    requires { session.old.project.roots ≡ [] }
-    ensures named { IfOk result (λ roots.
-        named_by [] (map (λ w. w.now) words.entry.now) ≡ Some roots.items) }
-    ensures added { IfOk result (λ roots.
-        session.new.project ≡ with_roots session.old.project roots.items) }
+// The names that these words lead to, each once.
+fn roots_of<'a>(alloc: Global, words: &[&'a str]) -> Result<IndexSet<Name>, Failure<'a>>
+    ensures { IfOk result (λ roots.
+        named_by [] (map (λ w. w.now) words.entry.now) ≡ Some roots.keys) }
 {
-    let mut roots = Vec::new(session.allocator());
+    let mut roots = IndexSet::new(alloc);
     'words: for word in words {
-        add(session, &mut roots, word.as_bytes()).map_err(|refusal| refused(word, refusal))?;
+        add(&mut roots, word.as_bytes()).map_err(|refusal| refused(word, refusal))?;
     }
     Ok(roots)
 }
 
-fn add(session: &mut Session, roots: &mut Vec<Name>, word: &[u8]) -> Result<(), Refusal>
-    requires { session.old.project.roots ≡ roots.old.items }
-    ensures more { OnOk result
-        (named_by roots.old.items (word.now ∷ []) ≡ Some roots.new.items) }
-    ensures added { OnOk result
-        (session.new.project ≡ with_roots session.old.project roots.new.items) }
+fn add(roots: &mut IndexSet<Name>, word: &[u8]) -> Result<(), Refusal>
+    ensures { OnOk result (named_by roots.old.keys (word.now ∷ []) ≡ Some roots.new.keys) }
 {
     let here = Directory::new(b".").ok_or(Refusal::BadName)?;
     let name = join(&here, word).ok_or(Refusal::BadName)?;
-    if session.diagnostics(name.as_bytes()).is_some() {
-        return Ok(());
+    roots.insert(name)?;
+    if roots.len() > MAX_ROOTS {
+        return Err(Refusal::OverLimit);
     }
-    session.add_root(name.as_bytes())?;
-    roots.push(name).map_err(|_| Refusal::NoMemory)
+    Ok(())
 }
 
 fn refused<'a>(word: &'a str, refusal: Refusal) -> Failure<'a> {

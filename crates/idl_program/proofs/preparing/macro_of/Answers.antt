@@ -1,7 +1,7 @@
 use Rattle.std.proofs.Common.{◌≡◌, ◌∷◌, [], ℕ, List, Option, Bor, MatchOption, nat_eq, subst}
 use Rattle.std.specs.List.{slice_split}
 use Rattle.idl_program.proofs.WordLemmas.{part-more, part-one}
-use Rattle.idl_program.proofs.compiling.macro_of.Goals as goal
+use Rattle.idl_program.proofs.preparing.macro_of.Goals as goal
 
 pub returns-in-Some : goal.returns-in-Some
 returns-in-Some c =
