@@ -5,7 +5,9 @@
 //! each file that is entered is explored by who explores, inside the one that includes it. Nothing rests on what is found so:
 //! the expansion asks by itself.
 
-ghost use Rattle.std.specs.Prelude.{◌≡◌, ◌<◌, OnOk, length};
+ghost use Rattle.std.specs.Prelude.{◌≡◌, ◌<◌, All, None, IfOk, OnOk, length};
+ghost use Rattle.idl_event.specs.declared.key.Key.TheVariants.{File};
+ghost use Rattle.idl_prep.specs.Explore.{StopsAt};
 
 use crate::find::{Found, file_named, find};
 use crate::groups::Groups;
@@ -108,7 +110,9 @@ impl<'f> FileWalk<'f> {
         &mut self,
         explorer: &mut Explorer<B>,
         bank: &B,
-    ) -> Result<Next, AllocError> {
+    ) -> Result<Next, AllocError>
+        ensures { IfOk result (λ next. StopsAt (B.at bank.now) next) }
+    {
         let root = &mut explorer.root;
         let file = self.name;
         let site = Site { file, bank };
@@ -198,7 +202,10 @@ fn ask<'b, B: RootBank>(
     root: &Root<B>,
     site: &Site<'b, B>,
     operand: &Operand,
-) -> Result<Asked<'b>, AllocError> {
+) -> Result<Asked<'b>, AllocError>
+    ensures { let bank = B.at site.now.bank.now in
+        IfOk result (λ asked. All (λ name. bank (File name) ≡ None) asked.absent.items) }
+{
     let alloc = root.allocator();
     let mut progress = Progress::new(alloc, Log::new(alloc));
     let found = find(site.file, operand, site.bank, &mut progress)?;
