@@ -14,7 +14,7 @@ use crate::groups::Groups;
 use crate::jump::jump;
 use crate::line::{Directive, Line, read};
 use crate::operand::Operand;
-use crate::pass::{walk_line, walk_texts};
+use crate::pass::walk_line;
 use crate::root::Root;
 use crate::root_task::absent;
 use crate::site::Site;
@@ -121,11 +121,12 @@ impl<'f> FileWalk<'f> {
                 return Ok(Next::Entered(open));
             }
         }
+        let mut asking = past_limits(root.allocator(), file)?;
         'lines: while !self.left.is_empty() {
             if root.is_over() {
                 return Ok(Next::End);
             }
-            let Some(operand) = self.walk_on(root, &site)? else {
+            let Some(operand) = self.walk_on(root, &site, &mut asking)? else {
                 continue;
             };
             let asked = ask(root, &site, &operand)?;
@@ -145,13 +146,16 @@ impl<'f> FileWalk<'f> {
         &mut self,
         root: &mut Root<B>,
         site: &Site<'_, B>,
+        asking: &mut Progress<B>,
     ) -> Result<Option<Operand>, AllocError>
         requires { 0 < length self.old.left }
         ensures { OnOk result (length self.new.left < length self.old.left) }
     {
         let (text, behind) = self.left.first_text();
         if !text.is_empty() {
-            walk_texts(root, &self.groups, site, &text)?;
+            if self.groups.is_walked() {
+                root.emit_unlogged(site, &text, asking)?;
+            }
             self.left = jump(root, &self.groups, site.file, behind)?;
             return Ok(None);
         }
@@ -160,6 +164,17 @@ impl<'f> FileWalk<'f> {
         self.left = jump(root, &self.groups, site.file, rest)?;
         Ok(operand)
     }
+}
+
+// A progress that is past its limits, so that it logs nothing of what is asked.
+fn past_limits<B: RootBank>(alloc: Global, file: &FileName) -> Result<Progress<B>, AllocError> {
+    let mut progress = Progress::new(alloc, Log::new(alloc));
+    let place = Place {
+        file: file.clone()?,
+        line: 0,
+    };
+    progress.tell(Item::TooDeep(place))?;
+    Ok(progress)
 }
 
 // A line that is no text: gives the operand of the include that it is, if it is one that isn't skipped.

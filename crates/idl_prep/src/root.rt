@@ -169,6 +169,41 @@ impl<B: RootBank> Root<B> {
         replace_text(&macros, site.file, tokens, &mut self.progress)
     }
 
+    /// The same, where nothing is logged of tokens that stand for themselves: their macros are asked for with a progress that is
+    /// past its limits.
+    pub fn emit_unlogged(
+        &mut self,
+        site: &Site<'_, B>,
+        tokens: &FileTokens<'_>,
+        asking: &mut Progress<B>,
+    ) -> Result<(), AllocError> {
+        let has_room = tokens.len() <= self.progress.tokens_left();
+        if has_room && !tokens.is_empty() && self.is_plain(site, tokens, asking)? {
+            return self.progress.emit_text(site.file, tokens);
+        }
+        self.emit(site, tokens)
+    }
+
+    // Whether these tokens stand for themselves.
+    fn is_plain(
+        &self,
+        site: &Site<'_, B>,
+        tokens: &FileTokens<'_>,
+        asking: &mut Progress<B>,
+    ) -> Result<bool, AllocError> {
+        'tokens: for token in tokens.as_slice() {
+            if token.is_word() {
+                let body = self
+                    .definitions
+                    .macro_of(token.spelling(), site.bank, asking)?;
+                if body.is_some() {
+                    return Ok(false);
+                }
+            }
+        }
+        Ok(true)
+    }
+
     /// Whether the first lines of a group are taken that a directive opens.
     pub fn test(
         &mut self,
