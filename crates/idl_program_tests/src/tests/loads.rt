@@ -46,13 +46,13 @@ static ROWS: [(&str, &str, &str); 6] = [
     (
         "-Iinc a.idl b.idl",
         "a.idl: #include \"h.idl\" | #include \"x.idl\" ¶ b.idl: #include <h.idl> | #include \"x.idl\" ¶ inc/h.idl: typedef long T;",
-        "1 err a.idl:2: E10 \"x.idl\" / b.idl:2: E10 \"x.idl\" /",
+        "1 err a.idl:2: E10 \"x.idl\" /b.idl:2: E10 \"x.idl\" /",
     ),
     // A root that is missing, as it was when it was included.
     (
         "a.idl x.idl",
         "a.idl: #include \"x.idl\"",
-        "1 err a.idl:1: E10 \"x.idl\" / x.idl:0: E10 x.idl /",
+        "1 err a.idl:1: E10 \"x.idl\" /x.idl:0: E10 x.idl /",
     ),
     // A file that defines the name of the next one.
     (
