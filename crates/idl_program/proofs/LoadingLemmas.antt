@@ -1,5 +1,5 @@
 -- Names that are tried, and roots that are compiled over what came of them.
-use Rattle.std.proofs.Common.{◌≡◌, ◌∙◌, ◌+◌, ◌<◌, ◌++◌, ◌∷◌, [], ℕ, Bool, true, false, cond, All, Contains, List, None, Some, get_or, length, map, refl, sym, subst, take, ap, if◌then◌else◌}
+use Rattle.std.proofs.Common.{◌≡◌, ◌∙◌, ◌+◌, ◌<◌, ◌∷◌, [], ℕ, Bool, true, false, cond, All, Contains, List, None, Some, get_or, length, map, refl, sym, subst, take, ap, if◌then◌else◌}
 use Rattle.std.proofs.lemmas.List.{take_more}
 use Rattle.std.proofs.lemmas.List.Elements.{All-cons, All-contains, All-head, All-nil, All-push, All-tail, All-weaker}
 use Rattle.std.proofs.lemmas.List.Folds.{flat_map-map}
@@ -20,7 +20,7 @@ use Rattle.idl_program.specs.Compiled.{IsShown, Written}
 use Rattle.idl_program.specs.Holding.{Allows, Holding, NoFile}
 use Rattle.idl_program.specs.Loading.{AreComplete, AreLoaded, IsFileOf}
 use Rattle.idl_program.specs.Rows.{AreShown, output_of}
-use Rattle.idl_program.specs.Tried.{AreMissing, IsTrue}
+use Rattle.idl_program.specs.Tried.{AreMissing, AreTried, IsTrue}
 use Rattle.idl_program.specs.declared.failure.Status.{Status}
 use Rattle.idl_program.specs.declared.failure.Status.TheVariants.{Sound, Faulty}
 use Rattle.idl_program.specs.declared.request.Options.{Options}
@@ -44,6 +44,20 @@ AreLoaded-empty told files none name lines there =
     let lost : finite.get files name ≡ None = ap (λ fs. finite.get fs name) none ∙ get-empty (slice_cmp nat_cmp) name in
     let both : None ≡ Some lines = sym lost ∙ there in
     absurd (cc)
+
+-- names were tried, nothing was changed, and more were tried
+pub tried-more : (told mid still : List ℕ → Holding) (old between same new : Inputs) (before here there after : List (List ℕ)) → AreTried told mid old between before here
+    → same ≡ between → there ≡ here → AreTried mid still same new there after → AreTried told still old new before after
+tried-more told mid still old between same new before here there after first sources missing next =
+    let inputs : AreTried told mid old same before here = subst (λ (i : Inputs). AreTried told mid old i before here) (sym sources) first in
+    let now : AreTried told mid old same before there = subst (λ (names : List (List ℕ)). AreTried told mid old same before names) (sym missing) inputs in
+    record {
+      stays_told = next.stays_told ∙ now.stays_told;
+      stays_true = λ is.
+          subst (λ (f : List ℕ → Holding). IsTrue f new after) now.stays_told
+          (next.stays_true (subst (λ (f : List ℕ → Holding). IsTrue f same there) (sym now.stays_told) (now.stays_true is)));
+      stays = record { macros = next.stays.macros ∙ now.stays.macros; search = next.stays.search ∙ now.stays.search };
+    }
 
 -- what is missing, the loader hasn't
 pub complete : (told : List ℕ → Holding) (inputs : Inputs) (missing roots : List (List ℕ)) (compiled : List CompiledRoot) → IsTrue told inputs missing

@@ -128,7 +128,7 @@ impl Loading {
     // How the exploration of a file goes on.
     fn advance<'a>(&mut self, walk: &mut FileWalk<'_>, file: &OpenFile) -> Result<Next, Failure<'a>>
         ensures sources { OnOk result (self.new.sources ≡ self.old.sources) }
-        ensures missing { OnOk result (self.new.missing ≡ self.old.missing) }
+        ensures missing { OnOk result (self.new.missing.keys ≡ self.old.missing.keys) }
     {
         walk.advance(&mut self.explorer, &self.sources)
             .map_err(|_| no_memory(&file.name.name()))
