@@ -4,7 +4,7 @@ use Rattle.idl_memo.specs.Query.{Done, Ask}
 use Rattle.idl_scope.specs.DataType.{constants_in, named_in, plain_type, with_layer}
 use Rattle.idl_scope.specs.Facts.{entity_in, entity_key}
 use Rattle.idl_scope.specs.Kind.{kind_eq, stage_eq}
-use Rattle.idl_scope.specs.Lookup.{Lookup}
+use Rattle.idl_scope.specs.Lookup.{Lookup, enough_turns}
 use Rattle.idl_scope.specs.declared.data_type.DataType.{DataType}
 use Rattle.idl_scope.specs.declared.data_type.Element.{Element}
 use Rattle.idl_scope.specs.declared.data_type.Element.TheVariants.{Constants, Named, Unvalued}
@@ -13,7 +13,6 @@ use Rattle.idl_scope.specs.declared.unvalued.Unvalued.TheVariants.{Float, Double
 use Rattle.idl_scope.specs.declared.entity.Entity.{Entity}
 use Rattle.idl_scope.specs.declared.kind.Kind.TheVariants.{Structure, Union, Enumeration, Alias}
 use Rattle.idl_scope.specs.declared.kind.Stage.TheVariants.{Complete}
-use Rattle.idl_scope.specs.declared.lookup.TheConstants.{TURNS}
 use Rattle.idl_site.specs.declared.site.Shape.{Shape}
 use Rattle.idl_site.specs.declared.site.Shape.TheVariants as shape
 use Rattle.idl_site.specs.declared.site.Use.{Use}
@@ -63,7 +62,7 @@ is_looked_through AsDiscriminator = true
 is_looked_through other = false
 
 unfoldable pub looked_through : Use → Entity → Lookup Entity
-looked_through way e = if is_looked_through way then behind_typedefs TURNS e else Done e
+looked_through way e = if is_looked_through way then behind_typedefs enough_turns e else Done e
 
 -- the type that constants of it have
 abbrev pub target_in : Option DataType → Option Target

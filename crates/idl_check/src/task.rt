@@ -25,7 +25,7 @@ pub struct DeclarationTask {
 impl Task<Env> for DeclarationTask {
     ghost use Rattle.idl_check.specs.Verdict.{verdict};
     ghost use Rattle.idl_memo.specs.declared.task.TaskKind.TheVariants.{Check};
-    ghost use Rattle.idl_scope.specs.declared.lookup.TheConstants.{TURNS};
+    ghost use Rattle.idl_scope.specs.Lookup.{enough_turns};
 
     type Text = UnitText;
 
@@ -37,7 +37,7 @@ impl Task<Env> for DeclarationTask {
 
     ghost text_of = { λ task. task.text };
 
-    ghost query = { verdict TURNS };
+    ghost query = { verdict enough_turns };
 
     fn text(&self) -> &UnitText {
         &self.text

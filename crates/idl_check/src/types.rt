@@ -7,9 +7,8 @@ ghost use Rattle.idl_memo.specs.Query.{run};
 ghost use Rattle.idl_scope.specs.DataType.{constants_in, with_layer};
 ghost use Rattle.idl_scope.specs.Facts.{answers};
 ghost use Rattle.idl_scope.specs.Key.{key_eq};
-ghost use Rattle.idl_scope.specs.Lookup.{under};
+ghost use Rattle.idl_scope.specs.Lookup.{enough_turns, under};
 ghost use Rattle.idl_scope.specs.declared.data_type.Layer.TheVariants.{Sequence};
-ghost use Rattle.idl_scope.specs.declared.lookup.TheConstants.{TURNS};
 
 use crate::last_type::LastType;
 use idl_base::Seq;
@@ -59,7 +58,7 @@ fn behind_typedefs(
 ) -> Result<Shared<Entity>, AllocError>
     ensures { IfOk result (λ behind.
         (behind, log.new)
-        ≡ run key_eq (under view.entry.own.now.additions (behind_typedefs TURNS entity.now))
+        ≡ run key_eq (under view.entry.own.now.additions (behind_typedefs enough_turns entity.now))
         (answers view.entry.env.now) log.old) }
 {
     let mut behind = entity.clone()?;

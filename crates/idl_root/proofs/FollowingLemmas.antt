@@ -27,7 +27,7 @@ use Rattle.idl_scope.specs.declared.answer.Answer.{Answer}
 use Rattle.idl_scope.specs.declared.answer.Scope.{Scope}
 use Rattle.idl_scope.specs.declared.key.Key.{Key}
 use Rattle.idl_scope.specs.declared.key.Key.TheVariants.{Cursor}
-use Rattle.idl_scope.specs.declared.lookup.TheConstants.{TURNS}
+use Rattle.idl_scope.specs.Lookup.{enough_turns}
 use Rattle.idl_unit.specs.declared.unit.UnitText.{UnitText}
 
 -- ---- digests
@@ -295,12 +295,12 @@ module _ {Out : Type 0} (query : Lookup Out) (outside : (keys asks : List Key) (
 
 -- what was judged of a text is so here
 pub judged-again : ((keys asks : List Key) (bank other : Key → Option Answer) → AgreeOutside keys bank other → AreApart asks keys → Agree asks bank other)
-    → ((text : UnitText) (bank other : Key → Option Answer) → Agree (asked (verdict TURNS text) bank) bank other → outcome (verdict TURNS text) other ≡ outcome (verdict TURNS text) bank)
-    → ((text : UnitText) (bank other : Key → Option Answer) → Agree (asked (verdict TURNS text) bank) bank other → asked (verdict TURNS text) other ≡ asked (verdict TURNS text) bank)
+    → ((text : UnitText) (bank other : Key → Option Answer) → Agree (asked (verdict enough_turns text) bank) bank other → outcome (verdict enough_turns text) other ≡ outcome (verdict enough_turns text) bank)
+    → ((text : UnitText) (bank other : Key → Option Answer) → Agree (asked (verdict enough_turns text) bank) bank other → asked (verdict enough_turns text) other ≡ asked (verdict enough_turns text) bank)
     → (around : Bool) (changed : List ℕ) (before facts : List UnitFacts) (text : UnitText) (judgement : Judgement)
     → IsJudged before text judgement → AgreeBut around changed before facts → ShareNone judgement.asked.items changed → IsJudged facts text judgement
 judged-again outside same asks around changed before facts text judgement own but none =
-    let both = again (verdict TURNS text) outside (same text) (asks text) around judgement.asked.items changed before facts own.noted but none in
+    let both = again (verdict enough_turns text) outside (same text) (asks text) around judgement.asked.items changed before facts own.noted but none in
     record { said = own.said ∙ both.0; noted = both.1 }
 
 -- and so is what was printed of a name

@@ -8,7 +8,7 @@ ghost use Rattle.idl_root.specs.Judged.{verdict_over};
 ghost use Rattle.idl_root.specs.Kept.{AreKept, AreNoted, IsJudged, IsPrinted, added_by};
 ghost use Rattle.idl_root.specs.Printed.{entry_over};
 ghost use Rattle.idl_scope.specs.Facts.{answers};
-ghost use Rattle.idl_scope.specs.declared.lookup.TheConstants.{TURNS};
+ghost use Rattle.idl_scope.specs.Lookup.{enough_turns};
 
 use idl_check::{DeclarationTask, Scratch, Verdict, verdict_of};
 use idl_memo::{Journal, reliance};
@@ -153,7 +153,7 @@ fn noted_verdict(
 ) -> Result<(Verdict, Vec<u64>), AllocError>
     ensures said { IfOk result (λ r. r.0 ≡ verdict_over env.now text.now) }
     ensures noted { IfOk result (λ r.
-        AreNoted r.1.items (asked (verdict TURNS text.now) (answers env.now))) }
+        AreNoted r.1.items (asked (verdict enough_turns text.now) (answers env.now))) }
 {
     reliance::<Env, DeclarationTask>();
     let mut journal = Journal::noting(alloc);

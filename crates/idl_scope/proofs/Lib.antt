@@ -23,5 +23,6 @@ pub mod QueueLemmas
 pub mod Reaching
 pub mod RunLemmas
 pub mod StateLemmas
+pub mod TurnsLaws
 pub mod Walked
 pub mod Worlds

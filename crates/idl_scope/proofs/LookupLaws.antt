@@ -23,6 +23,8 @@ use Rattle.idl_scope.proofs.Membership.{IsIn-left, IsIn-right, Contains-IsIn, Is
 use Rattle.idl_scope.proofs.FactsLaws.{outcome-under}
 use Rattle.idl_scope.proofs.Introduced.{first-home, Introduces_in, in_Introduces}
 use Rattle.idl_scope.proofs.Meant.{has-Has, denoted-Denotes, denoted-Ok}
+use Rattle.idl_scope.proofs.RunLemmas.{runs}
+use Rattle.idl_scope.proofs.TurnsLaws.{denoted-same, has-same}
 use Rattle.idl_scope.proofs.Worlds.{AreGrounded, answers-grounded, over-grounded, addition-grounded, wider-grounded, flat_map-in, own_at-home, own_at-name}
 
 -- a fact about a result, whatever it is
@@ -70,6 +72,13 @@ module _ (facts : List UnitFacts) (own : List Addition) where
 
     pub has-once : (kind : Kind) (path : List (List ℕ)) (n : List ℕ) → AllPairs (λ e f. e ≢ f) (outcome (has turns kind path n) (seen own facts))
     has-once kind path n = AllPairs-Distinct (outcome (has turns kind path n) (seen own facts)) (has-Has places (seen own facts) seen-grounded turns enough kind path n).1
+
+    -- more turns give the same and log the same, and so they come to the same
+    pub has-more : (more : ℕ) (kind : Kind) (path : List (List ℕ)) (n : List ℕ) (log : List (Key × Option Answer)) → runs own (answers facts) (has (turns + more) kind path n) log ≡ runs own (answers facts) (has turns kind path n) log
+    has-more more kind path n log = has-same own (answers facts) places seen-grounded turns enough more kind path n log
+
+    pub denoted-more : (more : ℕ) (cursor : List Scope) (name : ScopedName) (log : List (Key × Option Answer)) → runs own (answers facts) (denoted (turns + more) cursor name) log ≡ runs own (answers facts) (denoted turns cursor name) log
+    denoted-more more cursor name log = denoted-same own (answers facts) places seen-grounded turns enough more cursor name log
 
     pub denotes : (cursor : List Scope) (name : ScopedName) → Denotes (seen own facts) cursor name (entity_found (outcome (denoted turns cursor name) (seen own facts)))
     denotes cursor name = denoted-Denotes places (seen own facts) seen-grounded turns enough cursor name

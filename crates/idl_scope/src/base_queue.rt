@@ -1,12 +1,13 @@
 //! Queues of the bases that a walk enters.
 
-ghost use Rattle.std.specs.Prelude.{◌≡◌, ◌∷◌, [], OnOk, slice_get};
+ghost use Rattle.std.specs.Prelude.{◌≡◌, ◌<◌, ◌∷◌, [], IsSome, OnOk, slice_get};
 ghost use Rattle.std.specs.List.{list_any};
 ghost use Rattle.std.specs.Option.{option_copied};
 ghost use Rattle.idl_scope.specs.Facts.{joined};
 ghost use Rattle.idl_scope.specs.Path.{path_eq};
 
 use crate::path::Path;
+use crate::queue::join;
 use idl_base::Table;
 use std::alloc::{AllocError, Global};
 use std::marker::Model;
@@ -16,25 +17,29 @@ const FEW: usize = 4;
 
 /// Paths in the order in which they were put in, each once. To every contract it is the list of them.
 ///
-/// Most interfaces have few bases, and few of these have bases: so the first paths stand in place. Those behind them are found
+/// Most interfaces have few bases, and few of these have bases: so few paths stand in place. Where there are more, all are found
 /// in a table.
 #[derive(Drop)]
 pub struct BaseQueue {
     few: [Path; FEW],
-    // How many of them are put in.
+    // How many paths stand in place: none, where there are others.
     count: usize,
     others: Table<Path, ()>,
 }
 
 impl Model for BaseQueue {
-    ghost use Rattle.std.specs.Prelude.{List, ℕ, ◌≤◌, ◌++◌, take};
+    ghost use Rattle.std.specs.Prelude.{◌≡◌, ◌⊎◌, [], List, ℕ, ◌≤◌, ◌++◌, take};
     ghost use Rattle.std.specs.Map.{keys_of};
+    ghost use Rattle.idl_scope.specs.Facts.{joined};
 
     ghost Value = { List (List (List ℕ)) };
 
     ghost view = { λ queue. take queue.count queue.few ++ keys_of queue.others };
 
-    ghost invariant = { λ queue. queue.count ≤ 4 };
+    ghost invariant = { λ queue.
+        (queue.count ≤ 4)
+        × ((joined [] (take queue.count queue.few) ≡ take queue.count queue.few)
+        × ((queue.count ≡ 0) ⊎ (queue.others ≡ []))) };
 }
 
 impl BaseQueue {
@@ -54,15 +59,18 @@ impl BaseQueue {
         }
     }
 
-    /// The path at a place, or nothing past the last.
+    /// The path at a place, or nothing past the last. There is none at the last place that an index counts.
     pub fn get(&self, place: usize) -> Option<&Path>
-        ensures { option_copied result ≡ slice_get self.now place }
+        ensures path { option_copied result ≡ slice_get self.now place }
+        ensures counted { IsSome result → place < usize.MAX }
     {
-        let few = &self.few[..self.count];
-        if place < few.len() {
-            return Some(&few[place]);
+        if place < self.count {
+            return Some(&self.few[place]);
         }
-        let (path, ()) = self.others.get_index(place - few.len())?;
+        if place >= self.others.len() {
+            return None;
+        }
+        let (path, ()) = self.others.get_index(place)?;
         Some(path)
     }
 
@@ -96,6 +104,8 @@ impl BaseQueue {
             self.count = count + 1;
             return Ok(());
         }
+        self.count = 0;
+        join(&mut self.others, &self.few[..count])?;
         self.others.push(copy, ())?;
         Ok(())
     }

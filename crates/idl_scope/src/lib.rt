@@ -61,8 +61,8 @@ pub use identity::{Fixed, Identity, Prefix};
 pub use key::Key;
 pub use kind::{Kind, Stage};
 pub use laws::{
-    adding, agreeing_around, denotation, exchanging, found_in_a_scope, introduction, own_facts,
-    own_path, reliance,
+    adding, agreeing_around, denotation, exchanging, found_in_a_scope, introduction, more_turns,
+    own_facts, own_path, reliance,
 };
 pub use lent_key::LentKey;
 pub use lookup::{Place, TURNS, View};

@@ -184,15 +184,14 @@ impl<'a> View<'a> {
         let mut queue = BaseQueue::new(self.env.alloc());
         queue.join(bases)?;
         let mut found = Vec::new(self.env.alloc());
-        'bases: for turn in 0..TURNS {
-            let Some(base) = queue.get(turn) else {
-                return Ok(found);
-            };
+        let mut turn = 0;
+        'bases: while let Some(base) = queue.get(turn) {
             let (declared, more) = self.enter(log, name, base)?;
             keep(&mut found, declared)?;
             queue.join(more)?;
+            turn += 1;
         }
-        Err(AllocError)
+        Ok(found)
     }
 
     /// What a scope has under a name.

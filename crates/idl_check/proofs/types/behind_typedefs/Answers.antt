@@ -4,14 +4,14 @@ use Rattle.idl_check.specs.Types.{aliased, behind_typedefs, path_in}
 use Rattle.idl_check.proofs.TypeLemmas.{behind_nothing, behind_on, fewer_turns, next_turn}
 use Rattle.idl_scope.proofs.RunLemmas.{runs, seen_at}
 use Rattle.idl_scope.specs.Facts.{answers, entity_in, entity_key}
+use Rattle.idl_scope.specs.Lookup.{enough_turns}
 use Rattle.idl_scope.specs.declared.entity.Entity.{Entity}
-use Rattle.idl_scope.specs.declared.lookup.TheConstants.{TURNS}
 use Rattle.idl_check.proofs.types.behind_typedefs.Goals as goal
 
 pub loop-turn-init : goal.loop-turn-init
 loop-turn-init c = record {
   within = omega arith;
-  run = ap (λ e. runs c.args.view.own.now.additions (answers c.args.view.env.now) (behind_typedefs TURNS e) c.args.log.now) c.in_ok-behind.ensures.cases;
+  run = ap (λ e. runs c.args.view.own.now.additions (answers c.args.view.env.now) (behind_typedefs enough_turns e) c.args.log.now) c.in_ok-behind.ensures.cases;
 }
 
 pub returns-in_default-2 : goal.returns-in_default-2
@@ -27,8 +27,8 @@ returns-in_default-2 c =
     sym c.in_ok-next.ensures.entity ∙ ap option_copied c.in_default-2.is
     in
     (λ i. (e, c.in_ok-next.ensures.logged i))
-    ∙ sym (behind_nothing own bank (TURNS - (at + 1)) e path log some none)
-    ∙ ap (λ turns. runs own bank (behind_typedefs turns e) log) (sym (fewer_turns TURNS at c.loop-turn-test.true))
+    ∙ sym (behind_nothing own bank (enough_turns - (at + 1)) e path log some none)
+    ∙ ap (λ turns. runs own bank (behind_typedefs turns e) log) (sym (fewer_turns enough_turns at c.loop-turn-test.true))
     ∙ c.loop-turn.invariant.run
 
 pub loop-turn-preserved : goal.loop-turn-preserved
@@ -45,10 +45,10 @@ loop-turn-preserved c =
     sym c.in_ok-next.ensures.entity ∙ ap option_copied c.in-Some-2.is
     in
     record {
-      within = next_turn TURNS at c.loop-turn-test.true;
+      within = next_turn enough_turns at c.loop-turn-test.true;
       run =
-          (λ i. runs own bank (behind_typedefs (TURNS - (at + 1)) (c.in_ok-behind-2.ensures.cases i)) (c.in_ok-next.ensures.logged i))
-          ∙ sym (behind_on own bank (TURNS - (at + 1)) e path next log some there)
-          ∙ ap (λ turns. runs own bank (behind_typedefs turns e) log) (sym (fewer_turns TURNS at c.loop-turn-test.true))
+          (λ i. runs own bank (behind_typedefs (enough_turns - (at + 1)) (c.in_ok-behind-2.ensures.cases i)) (c.in_ok-next.ensures.logged i))
+          ∙ sym (behind_on own bank (enough_turns - (at + 1)) e path next log some there)
+          ∙ ap (λ turns. runs own bank (behind_typedefs turns e) log) (sym (fewer_turns enough_turns at c.loop-turn-test.true))
           ∙ c.loop-turn.invariant.run;
     }

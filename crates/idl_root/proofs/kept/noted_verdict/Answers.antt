@@ -6,18 +6,19 @@ use Rattle.idl_scope.specs.Facts.{answers}
 use Rattle.idl_scope.specs.Key.{key_digest, key_eq}
 use Rattle.idl_scope.specs.declared.answer.Answer.{Answer}
 use Rattle.idl_scope.specs.declared.key.Key.{Key}
+use Rattle.idl_scope.specs.Lookup.{enough_turns}
 use Rattle.idl_scope.specs.declared.lookup.TheConstants.{TURNS}
 use Rattle.idl_root.proofs.FollowingLemmas.{keys-noted}
 use Rattle.idl_root.proofs.kept.noted_verdict.Goals as goal
 
 pub returns-clause-noted : goal.returns-clause-noted
 returns-clause-noted c =
-    let query = verdict TURNS c.args.text.now in
+    let query = verdict enough_turns c.args.text.now in
     let bank = answers c.args.env.now in
     let log : List (Key × Option Answer) = (run key_eq query bank []).1 in
-    let enough : TURNS ≤ TURNS = omega arith in
+    let enough : TURNS ≤ enough_turns = omega arith in
     let told : c.verdict_of.new.log ≡ log =
-    ap (λ p. p.1) (c.in_ok-verdict.ensures TURNS enough) ∙ ap (λ (l : List (Key × Option Answer)). (run key_eq query bank l).1) c.noting-journal.ensures in
+    ap (λ p. p.1) (c.in_ok-verdict.ensures enough_turns enough) ∙ ap (λ (l : List (Key × Option Answer)). (run key_eq query bank l).1) c.noting-journal.ensures in
     let digests = c.in-Some.digests.items in
     let noted : All (λ e. Contains digests (key_digest e.0)) c.verdict_of.new.log = c.in-Some.ensures in
     keys-noted digests log (asked query bank) (subst (All (λ e. Contains digests (key_digest e.0))) told noted) (c.reliance.ensures.log c.args.text.now bank).whole

@@ -11,3 +11,7 @@ invariant-bases l =
     (turns : ℕ) → TURNS ≤ turns →
     runs l.self.own.now.additions (answers l.self.env.now) (walk (turns - l.turn) l.name l.turn l.queue (map (λ e. e.now) l.found.items)) l.log
     ≡ runs l.self.own.now.additions (answers l.self.env.now) (reached turns l.name l.bases) l.fn.log
+
+-- an index counts no more turns
+abbrev pub decreases-bases : goal.decreases-bases
+decreases-bases l = TURNS - l.turn
