@@ -2,6 +2,7 @@ pub mod AnswerLemmas
 pub mod ApartLemmas
 pub mod AroundLaws
 pub mod CountLemmas
+pub mod DeclaredLemmas
 pub mod DenotesOnce
 pub mod ExchangeLaws
 pub mod FactsLaws

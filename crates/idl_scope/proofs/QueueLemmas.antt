@@ -1,5 +1,5 @@
 -- Queues of paths.
-use Rattle.std.proofs.Common.{◌≡◌, ℕ, zero, suc, Bool, true, false, cond, List, [], ◌∷◌, ◌++◌, is_some, refl, sym, ap, ◌∙◌}
+use Rattle.std.proofs.Common.{◌≡◌, ◌⊎◌, append-nil, inl, inr, take, ℕ, zero, suc, Bool, true, false, cond, List, [], ◌∷◌, ◌++◌, is_some, refl, sym, ap, ◌∙◌}
 use Rattle.std.specs.Prelude.{slice_get, ◌||◌}
 use Rattle.std.specs.List.{list_any}
 use Rattle.std.specs.Map.{keys_of, lookup}
@@ -41,6 +41,14 @@ module _ (p : List (List ℕ)) (first others : List (List (List ℕ))) where
   -- and one that is in neither is put last
   pub joined-in_neither : list_any (path_eq p) first ≡ false → list_any (path_eq p) others ≡ false → joined (first ++ others) (p ∷ []) ≡ (first ++ others) ++ p ∷ []
   joined-in_neither h g = joined-new (first ++ others) p [] (list_any-append (path_eq p) first others ∙ ap (λ a. a || list_any (path_eq p) others) h ∙ g)
+
+-- the first paths that a queue has go behind the others of it, where it has no more than these or than the others
+pub joined-spilled : (count : ℕ) (row : List (List (List ℕ))) (others : List (List (List ℕ) × Unit {0})) → joined [] (take count row) ≡ take count row → ((count ≡ 0) ⊎ (others ≡ []))
+    → joined (keys_of others) (take count row) ≡ take count row ++ keys_of others
+joined-spilled count row others once (inl none) =
+    ap (λ n. joined (keys_of others) (take n row)) none ∙ sym (ap (λ n. take n row ++ keys_of others) none)
+joined-spilled count row others once (inr none) =
+    ap (λ os. joined (keys_of os) (take count row)) none ∙ once ∙ sym (append-nil (take count row)) ∙ sym (ap (λ os. take count row ++ keys_of os) none)
 
 -- the path at a place of a queue
 pub slice_get-keys_of : (queue : List (List (List ℕ) × Unit {0})) (i : ℕ) → slice_get (keys_of queue) i ≡ option_map (λ e. e.0) (slice_get queue i)

@@ -88,9 +88,9 @@ module _ (own : List Addition) (bank : Key → Option Answer) where
           let es = found ++ option_to_list (turn_of b).0 in
           walk_on own bank (t + extra) n (length before) (before ++ b ∷ left) found log b (turn_of b) after there (enters b log)
           ∙ from es (walk-same t (before ++ b ∷ []) (left_behind b before left) es
-              (waiting-Distinct among among-IsIn (own_at seen_by n) (bases_at seen_by) b before left d)
-              (waiting-within among among-IsIn (own_at seen_by n) (bases_at seen_by) b before left places inside known)
-              (let l = length-append before (b ∷ []) in omega (arith, l, h))) after
+          (waiting-Distinct among among-IsIn (own_at seen_by n) (bases_at seen_by) b before left d)
+          (waiting-within among among-IsIn (own_at seen_by n) (bases_at seen_by) b before left places inside known)
+          (let l = length-append before (b ∷ []) in omega (arith, l, h))) after
           ∙ sym (walk_on own bank t n (length before) (before ++ b ∷ left) found log b (turn_of b) after there (enters b log))
         where
           from : (es : List Entity) → Same t (length (before ++ b ∷ [])) ((before ++ b ∷ []) ++ left_behind b before left) es → Same t (length before + 1) (joined (before ++ b ∷ left) (turn_of b).1) es
@@ -99,7 +99,7 @@ module _ (own : List Addition) (bank : Key → Option Answer) where
               let Q : List (List (List ℕ)) → Type 0 = λ queue. Same t (length (before ++ b ∷ [])) queue es in
               subst P (length-append before (b ∷ [])) (subst Q (requeued b before left) same)
 
-      reached-same : (path : List (List ℕ)) → AreSame (reached (turns + extra) n (bases_at seen_by path)) (reached turns n (bases_at seen_by path))
+      pub reached-same : (path : List (List ℕ)) → AreSame (reached (turns + extra) n (bases_at seen_by path)) (reached turns n (bases_at seen_by path))
       reached-same path =
           let starts = bases_at seen_by path in
           let P : List (List (List ℕ)) → Type 0 = λ queue. Same turns 0 queue [] in
@@ -112,7 +112,7 @@ module _ (own : List Addition) (bank : Key → Option Answer) where
     has-same kind path n log = by_kind (inherits kind) (by_own (own_at seen_by n path) (noted key_eq bank (noted key_eq bank log (Declared n path)) (entity_key path)))
       where
         -- an own declaration, or what else there is
-        abbrev by : ℕ → Option Entity → Lookup (List Entity)
+        by : ℕ → Option Entity → Lookup (List Entity)
         by t own = choose own (reached t n (bases_at seen_by path)) (λ x. Done (x ∷ []))
 
         by_own : (o : Option Entity) → AreSame (by (turns + extra) o) (by turns o)
@@ -120,7 +120,7 @@ module _ (own : List Addition) (bank : Key → Option Answer) where
         by_own (Some e) after = refl
 
         -- behind the question of its own declaration
-        abbrev kinds : ℕ → Bool → Lookup (List Entity)
+        kinds : ℕ → Bool → Lookup (List Entity)
         kinds t b = cond b (Ask (entity_key path) (λ scope. choose (own_at seen_by n path) (reached t n (bases_of (entity_in scope))) (λ x. Done (x ∷ [])))) (Done (option_to_list (own_at seen_by n path)))
 
         by_kind : (b : Bool) → runs own bank (by (turns + extra) (own_at seen_by n path)) (noted key_eq bank (noted key_eq bank log (Declared n path)) (entity_key path)) ≡ runs own bank (by turns (own_at seen_by n path)) (noted key_eq bank (noted key_eq bank log (Declared n path)) (entity_key path))
@@ -149,10 +149,10 @@ module _ (own : List Addition) (bank : Key → Option Answer) where
     further-same part e (name ∷ names) log = by_kind (is_scope e.kind) (λ f. further-same (part + 1) f names)
       where
         -- how the name goes on behind a part, and a part with that
-        abbrev going_on : ℕ → Result Entity NameFault → Lookup (Result Entity NameFault)
+        going_on : ℕ → Result Entity NameFault → Lookup (Result Entity NameFault)
         going_on t r = by_result r (λ f. further t (part + 1) f names) (λ fault. Done (Err fault))
 
-        abbrev there : ℕ → Lookup (Result Entity NameFault)
+        there : ℕ → Lookup (Result Entity NameFault)
         there t = part_of (part + 1) name (has t e.kind e.path (folded name))
 
         goes : ((f : Entity) → AreSame (further (turns + extra) (part + 1) f names) (further turns (part + 1) f names)) → (r : Result Entity NameFault) → AreSame (going_on (turns + extra) r) (going_on turns r)
@@ -174,14 +174,14 @@ module _ (own : List Addition) (bank : Key → Option Answer) where
         (outward-same (searched name.is_global cursor) (folded name.first)))
         goes
       where
-        abbrev first : ℕ → Lookup (Result Entity NameFault)
+        first : ℕ → Lookup (Result Entity NameFault)
         first t = part_of 0 name.first (outward t (searched name.is_global cursor) (folded name.first))
 
         -- what a name comes to from its first part
-        abbrev from : ℕ → Entity → Lookup (Result Found NameFault)
+        from : ℕ → Entity → Lookup (Result Found NameFault)
         from t first = and_then (further t 0 first name.rest) (λ last. Done (found_as name cursor first last))
 
-        abbrev on : ℕ → Result Entity NameFault → Lookup (Result Found NameFault)
+        on : ℕ → Result Entity NameFault → Lookup (Result Found NameFault)
         on t r = by_result r (from t) (λ fault. Done (Err fault))
 
         goes : (r : Result Entity NameFault) → AreSame (on (turns + extra) r) (on turns r)

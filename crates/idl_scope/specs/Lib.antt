@@ -1,5 +1,4 @@
 pub mod Answer
-pub mod Bases
 pub mod DataType
 pub mod Details
 pub mod Digest
@@ -21,4 +20,5 @@ pub mod Past
 pub mod Path
 pub mod Signature
 pub mod Stretch
+pub mod Turns
 pub mod Unvalued

@@ -1,9 +1,10 @@
 //! The environment: what the facts so far answer.
 
-ghost use Rattle.std.specs.Prelude.{◌≡◌, ◌∷◌, ◌++◌, [], IfOk};
+ghost use Rattle.std.specs.Prelude.{◌≡◌, ◌≤◌, ◌+◌, ◌∷◌, ◌++◌, [], IfOk, IfSome, length};
 ghost use Rattle.std.specs.Option.{option_copied};
 ghost use Rattle.idl_scope.specs.DataType.{plain_type};
 ghost use Rattle.idl_scope.specs.Facts.{answers};
+ghost use Rattle.idl_scope.specs.Turns.{declared_named};
 
 use crate::answer::Answer;
 use crate::data_type::{DataType, Element};
@@ -25,7 +26,7 @@ use std::marker::Model;
 pub struct Env {
     alloc: Global,
     facts: Past<Facts>,
-    // How many facts there are, since no count among the answers is larger.
+    // No fewer than the facts and what they declare, since no count among the answers is larger, and no chain of typedefs longer.
     count: usize,
     // It stands apart, since an environment is handed on with each unit.
     state: Box<State>,
@@ -33,16 +34,18 @@ pub struct Env {
 }
 
 impl Model for Env {
-    ghost use Rattle.std.specs.Prelude.{◌≡◌, List, length};
+    ghost use Rattle.std.specs.Prelude.{◌≡◌, ◌+◌, ◌≤◌, List, length};
     ghost use Rattle.idl_scope.specs.Facts.{UnitFacts, world};
     ghost use Rattle.idl_scope.specs.Held.{held};
+    ghost use Rattle.idl_scope.specs.Turns.{declared_named};
 
     ghost Value = { List UnitFacts };
 
     ghost view = { λ env. env.facts };
 
     ghost invariant = { λ env.
-        (env.count ≡ length env.facts) × (held env.state.value ≡ world env.facts) };
+        (length env.facts + length (declared_named env.facts) ≤ env.count)
+        × (held env.state.value ≡ world env.facts) };
 }
 
 impl Drop for Env {
@@ -73,6 +76,13 @@ impl Env {
         })
     }
 
+    /// No fewer than the entities that are declared, each as often as it is.
+    pub(crate) fn most_declared(&self) -> usize
+        ensures { length (declared_named self.now) ≤ result }
+    {
+        self.count
+    }
+
     /// Where it takes memory.
     pub fn alloc(&self) -> Global {
         self.alloc
@@ -89,7 +99,7 @@ impl Env {
             mut state,
             plain,
         } = self;
-        let Some(count) = count.checked_add(1) else {
+        let Some(count) = counted(count, facts) else {
             return Err(AllocError);
         };
         state.add(alloc, facts)?;
@@ -113,7 +123,7 @@ impl Env {
             mut state,
             plain,
         } = self;
-        let Some(count) = count.checked_add(1) else {
+        let Some(count) = counted(count, facts.get()) else {
             return Err(AllocError);
         };
         let after = before.and(facts.get());
@@ -138,6 +148,13 @@ impl Env {
             None => DataType::plain(self.alloc, element),
         }
     }
+}
+
+// The count with these facts and what they add, if it is one.
+fn counted(count: usize, facts: &Facts) -> Option<usize>
+    ensures { IfSome result (λ more. more ≡ count + length facts.now.additions + 1) }
+{
+    count.checked_add(facts.len())?.checked_add(1)
 }
 
 impl Bank for Env {

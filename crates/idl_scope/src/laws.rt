@@ -7,7 +7,7 @@ ghost use Rattle.std.specs.Prelude.{◌≡◌, ◌≢◌, ◌↔◌, ◌∷◌, 
 ghost use Rattle.idl_lex.specs.Keywords.{folded};
 ghost use Rattle.idl_memo.specs.Query.{Agree, asked, outcome, run};
 ghost use Rattle.idl_tree.specs.declared.name.ScopedName.{ScopedName};
-ghost use Rattle.idl_scope.specs.Bases.{HasTurnsFor};
+ghost use Rattle.idl_scope.specs.Turns.{HasTurnsFor};
 ghost use Rattle.idl_scope.specs.Facts.{UnitFacts, World, after, after_all, answers, entity_key, key_of, no_prefix, operations_among, over, path_around, prefix_in, scopes_in, world};
 ghost use Rattle.idl_scope.specs.Key.{key_eq};
 ghost use Rattle.idl_scope.specs.Lookup.{Lookup, denoted, has, under};

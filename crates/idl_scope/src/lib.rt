@@ -65,7 +65,7 @@ pub use laws::{
     own_facts, own_path, reliance,
 };
 pub use lent_key::LentKey;
-pub use lookup::{Place, TURNS, View};
+pub use lookup::{Place, View};
 pub use name::{folded_name, shared_name};
 pub use names::Names;
 pub use naming::{Standpoint, resolve};

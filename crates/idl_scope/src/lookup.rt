@@ -1,14 +1,14 @@
 //! What a scope has under a name, over an environment and what a unit's earlier tokens add.
 
-ghost use Rattle.std.specs.Prelude.{◌≡◌, ◌≤◌, ◌++◌, ℕ, IfOk, OnOk, Some, map, option_to_list};
+ghost use Rattle.std.specs.Prelude.{◌≡◌, ◌<◌, ◌≤◌, ◌+◌, ◌++◌, ℕ, IfOk, OnOk, Some, length, map, option_to_list};
 ghost use Rattle.std.specs.Option.{option_copied};
 ghost use Rattle.idl_memo.specs.Query.{noted, run};
 ghost use Rattle.idl_scope.specs.Facts.{answer_of, answers, entity_in, entity_key, identity_at, over, prefix_in};
 ghost use Rattle.idl_scope.specs.Finds.{those};
 ghost use Rattle.idl_scope.specs.Key.{key_eq};
 ghost use Rattle.idl_scope.specs.Lookup.{bases_of, entered, has, outward, reached, under};
+ghost use Rattle.idl_scope.specs.Turns.{HasTurnsFor, declared_among, declared_named};
 ghost use Rattle.idl_scope.specs.declared.key.Key.TheVariants.{Declared, IdOf, Prefix as PrefixKey};
-ghost use Rattle.idl_scope.specs.declared.lookup.TheConstants.{TURNS};
 
 use crate::addition::Addition;
 use crate::answer::{Answer, Scope, entity_in, identity_at, prefix_in};
@@ -26,9 +26,6 @@ use crate::shared::Shared;
 use idl_lex::Spelling;
 use idl_memo::Journal;
 use std::alloc::AllocError;
-
-/// A walk over bases makes no more turns than these: memory holds no longer queue.
-pub const TURNS: usize = usize::MAX;
 
 /// An environment, and over it what a unit's earlier tokens add.
 #[derive(Clone, Copy)]
@@ -108,6 +105,15 @@ impl<'a> View<'a> {
         }
     }
 
+    /// No fewer than the entities that are declared in the environment and by the unit's earlier tokens.
+    pub fn most_declared(self) -> u128
+        ensures most { length (declared_named self.entry.env.now)
+            + length (declared_among self.entry.own.now.additions) ≤ result }
+        ensures bound { result < 36893488147419103232 }
+    {
+        self.env.most_declared() as u128 + self.own.len() as u128
+    }
+
     // What a scope itself declares a name as.
     #[inline(always)]
     fn own(
@@ -172,7 +178,7 @@ impl<'a> View<'a> {
         bases: &[Path],
     ) -> Result<Vec<&'a Shared<Entity>>, AllocError>
         ensures { IfOk result (λ es.
-            (turns : ℕ) → TURNS ≤ turns →
+            (turns : ℕ) → usize.MAX ≤ turns →
             (map (λ e. e.now) es.items, log.new)
             ≡ run key_eq
             (under self.entry.own.now.additions (reached turns name.now bases.now))
@@ -202,7 +208,7 @@ impl<'a> View<'a> {
         name: &Spelling,
     ) -> Result<Vec<&'a Shared<Entity>>, AllocError>
         ensures { IfOk result (λ es.
-            (turns : ℕ) → TURNS ≤ turns →
+            (turns : ℕ) → HasTurnsFor self.entry.env.now self.entry.own.now.additions turns →
             (map (λ e. e.now) es.items, log.new)
             ≡ run key_eq
             (under self.entry.own.now.additions
@@ -221,7 +227,7 @@ impl<'a> View<'a> {
         name: &Spelling,
     ) -> Result<Vec<&'a Shared<Entity>>, AllocError>
         ensures { IfOk result (λ es.
-            (turns : ℕ) → TURNS ≤ turns →
+            (turns : ℕ) → HasTurnsFor self.entry.env.now self.entry.own.now.additions turns →
             (map (λ e. e.now) es.items, log.new)
             ≡ run key_eq
             (under self.entry.own.now.additions (outward turns scopes.now name.now))
@@ -239,7 +245,7 @@ impl<'a> View<'a> {
         name: &Spelling,
     ) -> Result<Finds<'a>, AllocError>
         ensures { IfOk result (λ found.
-            (turns : ℕ) → TURNS ≤ turns →
+            (turns : ℕ) → usize.MAX ≤ turns →
             (those found, log.new)
             ≡ run key_eq
             (under self.entry.own.now.additions
@@ -265,7 +271,7 @@ impl<'a> View<'a> {
         name: &Spelling,
     ) -> Result<Finds<'a>, AllocError>
         ensures { IfOk result (λ found.
-            (turns : ℕ) → TURNS ≤ turns →
+            (turns : ℕ) → usize.MAX ≤ turns →
             (those found, log.new)
             ≡ run key_eq
             (under self.entry.own.now.additions (outward turns scopes.now name.now))
