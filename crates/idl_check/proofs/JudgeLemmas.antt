@@ -34,6 +34,10 @@ use Rattle.idl_unit.specs.Faults.{least_fault, lesser_fault}
 use Rattle.idl_unit.specs.TokenRules.{fault_at, token_faults}
 use Rattle.idl_unit.specs.declared.fault.Fault.{Fault}
 
+-- turns for the facts are turns for them and nothing more
+pub turns-none : (facts : List UnitFacts) (own : UnitFacts) (turns : ℕ) → own ≡ record { additions = []; step = Stays } → turns_for facts ≤ turns → HasTurnsFor facts own.additions turns
+turns-none facts own turns none h = rw none (omega (arith, h))
+
 -- a lookup under no additions
 pub under-none : {A : Type 0} (q : Lookup A) → under [] q ≡ q
 under-none (Done a) = refl

@@ -33,7 +33,7 @@ mod valuing;
 mod verdict;
 mod walk;
 
-pub use laws::{acceptance, least, numbering, questions, refusal, wording};
+pub use laws::{acceptance, denoting, least, more_turns, numbering, questions, refusal, wording};
 pub use scratch::Scratch;
-pub use task::{DeclarationTask, verdict_of};
+pub use task::verdict_of;
 pub use verdict::Verdict;

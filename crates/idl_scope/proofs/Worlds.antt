@@ -34,7 +34,7 @@ none_some h = cc
 known_same : (e f : Entity) → Known e ≡ Known f → e ≡ f
 known_same e f h = cc
 
-entity_in-Some : (v : Option Answer) (e : Entity) → entity_in v ≡ Some e → v ≡ Some (Known e)
+pub entity_in-Some : (v : Option Answer) (e : Entity) → entity_in v ≡ Some e → v ≡ Some (Known e)
 entity_in-Some None e h = absurd (none_some h)
 entity_in-Some (Some (Known x)) e h = ap (λ y. Some (Known y)) (some_same h)
 entity_in-Some (Some (Open s)) e h = absurd (none_some h)
