@@ -155,6 +155,22 @@ module _ (turns : ℕ) (answers : Key → Option Answer) where
   named-found way name w true = given-found way name w name.is_global name.rest
   named-found way name w false = plain-found way name w
 
+  -- the path that is found at a used name that isn't given back, where that denotes something
+  plain-path : (way : Use) (name : ScopedName) (w : Walk) (found : Found) → outcome (under w.own (denoted (turns_at turns w) w.cursor name)) answers ≡ Ok found
+      → (outcome (used turns way name w) answers).after.found ≡ w.found ++ found.entity.path ∷ []
+  unfolding used
+  plain-path way name w found is =
+      ap (λ (v : Visit). v.after.found) (outcome-and_then (under w.own (denoted (turns_at turns w) w.cursor name)) (used_by turns answers way name w) answers)
+      ∙ ap (λ r. (outcome (used_by turns answers way name w r) answers).after.found) is
+      ∙ ap (λ (v : Visit). v.after.found) (outcome-and_then (under w.own (looked_through (turns_at turns w) way found.entity)) (λ behind. Done (used_visit w way name found behind)) answers)
+
+  pub used-path : (way : Use) (name : ScopedName) (w : Walk) (found : Found) → w.gives_back ≡ false → outcome (under w.own (denoted (turns_at turns w) w.cursor name)) answers ≡ Ok found
+      → (visited turns answers (item.Used way name) w).after.found ≡ w.found ++ found.entity.path ∷ []
+  unfolding visit
+  used-path way name w found given is =
+      ap (λ b. (outcome (named_by turns answers way name w b) answers).after.found) given
+      ∙ plain-path way name w found is
+
   visit-found : (site : Item) (w : Walk) → (visited turns answers site w).faults ≡ []
       → length (visited turns answers site w).after.found ≡ length w.found + length (used_name site)
   unfolding visit
