@@ -25,10 +25,6 @@ use Rattle.idl_scope.specs.declared.kind.Kind.TheVariants.{Module, Interface, St
 use Rattle.idl_scope.specs.declared.kind.Stage.{Stage}
 use Rattle.idl_scope.specs.declared.kind.Stage.TheVariants.{Ahead, Begun, Open, Complete}
 
--- So many turns are enough: an index counts no further, and memory holds no walk that is longer.
-abbrev pub enough_turns : ℕ
-enough_turns = 18446744073709551615
-
 -- questions about names
 abbrev pub Lookup : Type 0 → Type 0
 Lookup A = Query Key (Option Answer) (Unit {0}) A
