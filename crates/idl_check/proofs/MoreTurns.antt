@@ -137,7 +137,7 @@ module _ (facts : List UnitFacts) (turns : ℕ) (enough : turns_for facts ≤ tu
             and_then-same (under w.own (looked_through (turns_at (turns + extra) w) way found.entity)) (under w.own (looked_through (turns_at turns w) way found.entity))
             (λ behind. Done (used_visit w way name found behind)) (λ behind. Done (used_visit w way name found behind))
             (looked_at way found.entity) (λ behind log. refl)
-        goes (Err fault) log = refl
+        goes (Err fault) = λ log. refl
 
     given_at : (way : Use) (name : ScopedName) → Same (given_back (turns + extra) way name w) (given_back turns way name w)
     unfolding given_back
@@ -194,18 +194,18 @@ module _ (facts : List UnitFacts) (turns : ℕ) (enough : turns_for facts ≤ tu
     unfolding visit
     visit-same (item.Declared way name) = declared_at way name
     visit-same (item.Used way name) = used_name_at way name
-    visit-same (item.ScopeBegins way name) log = refl
-    visit-same item.ScopeEnds log = refl
-    visit-same item.ValueBegins log = refl
-    visit-same (item.ValueEnds way expression) log = refl
-    visit-same (item.TypeEnds shape) log = refl
-    visit-same item.ArrayEnds log = refl
-    visit-same (item.Enumerates names) log = refl
-    visit-same (item.Switches discrete) log = refl
-    visit-same item.Default log = refl
-    visit-same item.GivesBack log = refl
-    visit-same (item.Tokens n) log = refl
-    visit-same (item.Joined text) log = refl
+    visit-same (item.ScopeBegins way name) = λ log. refl
+    visit-same item.ScopeEnds = λ log. refl
+    visit-same item.ValueBegins = λ log. refl
+    visit-same (item.ValueEnds way expression) = λ log. refl
+    visit-same (item.TypeEnds shape) = λ log. refl
+    visit-same item.ArrayEnds = λ log. refl
+    visit-same (item.Enumerates names) = λ log. refl
+    visit-same (item.Switches discrete) = λ log. refl
+    visit-same item.Default = λ log. refl
+    visit-same item.GivesBack = λ log. refl
+    visit-same (item.Tokens n) = λ log. refl
+    visit-same (item.Joined text) = λ log. refl
 
   -- ---- a unit
 
@@ -247,7 +247,7 @@ module _ (facts : List UnitFacts) (turns : ℕ) (enough : turns_for facts ≤ tu
       there t o = elim o as (λ _. Lookup (List Entity)) [ None ↦ Done [] | Some name ↦ outward t scopes (folded name) ]
 
       by_part : (o : Option (List ℕ)) → Same (there (turns + extra) o) (there turns o)
-      by_part None log = refl
+      by_part None = λ log. refl
       by_part (Some name) = outward-plain scopes (folded name)
 
   by_names-same : (tokens : List Token) (scopes : List Scope) (tree : Tree) → Same (by_names (turns + extra) tokens scopes tree) (by_names turns tokens scopes tree)
@@ -284,8 +284,8 @@ module _ (facts : List UnitFacts) (turns : ℕ) (enough : turns_for facts ≤ tu
       by_fault None = by_tree-same tokens scopes log
 
   said_by-same : (scopes : List Scope) (o : Option Pragma) → Same (said_by (turns + extra) scopes o) (said_by turns scopes o)
-  said_by-same scopes None log = refl
-  said_by-same scopes (Some (pragma.Prefix text)) log = refl
+  said_by-same scopes None = λ log. refl
+  said_by-same scopes (Some (pragma.Prefix text)) = λ log. refl
   said_by-same scopes (Some (pragma.Id name text)) =
       and_then-same (denoted (turns + extra) scopes name) (denoted turns scopes name) _ _ (denoted-plain scopes name) (λ r log. refl)
   said_by-same scopes (Some (pragma.Version name major minor)) =

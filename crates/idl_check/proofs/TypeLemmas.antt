@@ -180,7 +180,9 @@ module _ (own : List Addition) (bank : Key → Option Answer) (name : Entity) wh
     more-same extra zero met e log way few =
         let k = length-Distinct met places way.once way.known in
         absurd (omega (arith, k, few))
-    more-same extra (suc turns) met e log way few = by_next (path_in (aliased e)) refl
+    more-same extra (suc turns) met e log way few =
+        let more : suc turns + extra ≡ suc (turns + extra) = omega arith in
+        ap (λ m. runs own bank (behind_typedefs m name e) log) more ∙ by_next (path_in (aliased e)) refl
       where
         rest : List (Key × Option Answer) → List (List ℕ) → List (Key × Option Answer)
         rest l q = noted key_eq bank l (entity_key q)

@@ -86,7 +86,9 @@ module _ (own : List Addition) (bank : Key → Option Answer) where
           let there = slice_get-seam before b left in
           let after = (runs own bank (entered n b) log).1 in
           let es = found ++ option_to_list (turn_of b).0 in
-          walk_on own bank (t + extra) n (length before) (before ++ b ∷ left) found log b (turn_of b) after there (enters b log)
+          let more : suc t + extra ≡ suc (t + extra) = omega arith in
+          ap (λ m. runs own bank (walk m n (length before) (before ++ b ∷ left) found) log) more
+          ∙ walk_on own bank (t + extra) n (length before) (before ++ b ∷ left) found log b (turn_of b) after there (enters b log)
           ∙ from es (walk-same t (before ++ b ∷ []) (left_behind b before left) es
           (waiting-Distinct among among-IsIn (own_at seen_by n) (bases_at seen_by) b before left d)
           (waiting-within among among-IsIn (own_at seen_by n) (bases_at seen_by) b before left places inside known)
@@ -117,7 +119,7 @@ module _ (own : List Addition) (bank : Key → Option Answer) where
 
         by_own : (o : Option Entity) → AreSame (by (turns + extra) o) (by turns o)
         by_own None = reached-same n path
-        by_own (Some e) after = refl
+        by_own (Some e) = λ after. refl
 
         -- behind the question of its own declaration
         kinds : ℕ → Bool → Lookup (List Entity)
@@ -129,7 +131,7 @@ module _ (own : List Addition) (bank : Key → Option Answer) where
         by_kind false h = refl
 
     pub outward-same : (scopes : List Scope) (n : List ℕ) → AreSame (outward (turns + extra) scopes n) (outward turns scopes n)
-    outward-same [] n log = refl
+    outward-same [] n = λ log. refl
     outward-same (s ∷ scopes) n =
         and_then-same (has (turns + extra) s.kind s.path n) (has turns s.kind s.path n)
         (λ found. cond (is_nothing found) (outward (turns + extra) scopes n) (Done found)) (λ found. cond (is_nothing found) (outward turns scopes n) (Done found))
@@ -137,8 +139,8 @@ module _ (own : List Addition) (bank : Key → Option Answer) where
       where
         by_list : AreSame (outward (turns + extra) scopes n) (outward turns scopes n) → (es : List Entity)
             → AreSame (cond (is_nothing es) (outward (turns + extra) scopes n) (Done es)) (cond (is_nothing es) (outward turns scopes n) (Done es))
-        by_list h [] log = h log
-        by_list h (x ∷ es) log = refl
+        by_list h [] = h
+        by_list h (x ∷ es) = λ log. refl
 
     part_of-same : (part : ℕ) (name : List ℕ) (there other : Lookup (List Entity)) → AreSame there other → AreSame (part_of part name there) (part_of part name other)
     part_of-same part name there other h =
@@ -157,7 +159,7 @@ module _ (own : List Addition) (bank : Key → Option Answer) where
 
         goes : ((f : Entity) → AreSame (further (turns + extra) (part + 1) f names) (further turns (part + 1) f names)) → (r : Result Entity NameFault) → AreSame (going_on (turns + extra) r) (going_on turns r)
         goes on (Ok f) = on f
-        goes on (Err fault) after = refl
+        goes on (Err fault) = λ after. refl
 
         by_kind : (b : Bool) → ((f : Entity) → AreSame (further (turns + extra) (part + 1) f names) (further turns (part + 1) f names))
             → runs own bank (cond b (and_then (there (turns + extra)) (going_on (turns + extra))) (Done (Err (At NoScope part)))) log ≡ runs own bank (cond b (and_then (there turns) (going_on turns)) (Done (Err (At NoScope part)))) log
@@ -169,13 +171,13 @@ module _ (own : List Addition) (bank : Key → Option Answer) where
 
     pub denoted-same : (cursor : List Scope) (name : ScopedName) → AreSame (denoted (turns + extra) cursor name) (denoted turns cursor name)
     denoted-same cursor name =
-        and_then-same (first (turns + extra)) (first turns) (on (turns + extra)) (on turns)
+        and_then-same (begun (turns + extra)) (begun turns) (on (turns + extra)) (on turns)
         (part_of-same 0 name.first (outward (turns + extra) (searched name.is_global cursor) (folded name.first)) (outward turns (searched name.is_global cursor) (folded name.first))
         (outward-same (searched name.is_global cursor) (folded name.first)))
         goes
       where
-        first : ℕ → Lookup (Result Entity NameFault)
-        first t = part_of 0 name.first (outward t (searched name.is_global cursor) (folded name.first))
+        begun : ℕ → Lookup (Result Entity NameFault)
+        begun t = part_of 0 name.first (outward t (searched name.is_global cursor) (folded name.first))
 
         -- what a name comes to from its first part
         from : ℕ → Entity → Lookup (Result Found NameFault)
@@ -188,4 +190,4 @@ module _ (own : List Addition) (bank : Key → Option Answer) where
         goes (Ok first) =
             and_then-same (further (turns + extra) 0 first name.rest) (further turns 0 first name.rest) (λ last. Done (found_as name cursor first last)) (λ last. Done (found_as name cursor first last))
             (further-same 0 first name.rest) (λ last log. refl)
-        goes (Err fault) log = refl
+        goes (Err fault) = λ log. refl

@@ -58,6 +58,7 @@ returns c =
     let not_first = sym c.is_among.ensures ∙ c.if-is_among.false in
     let not_behind = sym (contains-list_any c.self.inside.others p) ∙ sym c.contains.ensures ∙ c.if-contains.false in
     let keys = c.in_ok-join.ensures ∙ joined-spilled c.self.inside.count c.self.inside.few c.self.inside.others c.self.invariant.1.0 c.self.invariant.1.1 in
-    keys_of-push c.join.new.queue c.in_ok-copy.copy tt
+    ap keys_of c.in_ok-push.ensures.entries
+    ∙ keys_of-push c.join.new.queue c.in_ok-copy.copy tt
     ∙ (λ i. keys i ++ c.in_ok-copy.ensures.cases i ∷ [])
     ∙ sym (ap (λ q. joined q (p ∷ [])) (sym c.self.view_is) ∙ joined-in_neither p few others not_first not_behind)

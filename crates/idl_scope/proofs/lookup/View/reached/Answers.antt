@@ -1,4 +1,4 @@
-use Rattle.std.proofs.Common.{◌≡◌, ◌+◌, ◌-◌, ℕ, List, [], None, Option, suc, subst, sym, ap, ◌∙◌, map, arith}
+use Rattle.std.proofs.Common.{◌≡◌, ◌+◌, ◌-◌, ℕ, List, [], None, Option, refl, suc, subst, sym, ap, ◌∙◌, map, arith}
 use denote.Ref.{Bor}
 use Rattle.std.specs.Option.{IsSome}
 use Rattle.std.proofs.lemmas.Bool.{eqb-true}
@@ -34,7 +34,7 @@ bases-preserved c turns more =
     let found = map (λ e. e.now) c.bases.found.items in
     let queue = c.bases.queue in
     let here = sym c.get.ensures.path ∙ ap option_copied c.in-Some.is in
-    let counted = c.get.ensures.counted (let Q : Option (Bor (List (List ℕ))) → Type 0 = IsSome in subst Q (sym c.in-Some.is) tt) in
+    let counted = c.get.ensures.counted (let Q : Option (Bor (List (List ℕ))) → Type 0 = IsSome in subst Q (sym c.in-Some.is) refl) in
     let fewer : turns - turn ≡ suc (turns - (turn + 1)) = omega (arith, more, counted) in
     let step = walk_on own bank (turns - (turn + 1)) c.args.name.now turn queue found c.bases.log c.in-Some.base.now _ _ here c.in_ok-declared.ensures in
     (λ i. runs own bank (walk (turns - (turn + 1)) c.args.name.now (turn + 1) (c.in_ok-join-2.ensures i) (c.in_ok-keep.ensures i)) c.enter.new.log)
