@@ -1,4 +1,5 @@
 pub mod ApartLaws
+mod BaseLemmas
 pub mod FaultOrder
 mod IdLemmas
 mod JudgeLemmas

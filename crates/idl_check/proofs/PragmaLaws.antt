@@ -25,6 +25,7 @@ use Rattle.idl_scope.specs.declared.entity.Entity.{Entity}
 use Rattle.idl_scope.specs.declared.fault.NameFault.{NameFault}
 use Rattle.idl_scope.specs.declared.fault.NameFault.TheVariants.{At, Memory}
 use Rattle.idl_scope.specs.declared.found.Found.{Found}
+use Rattle.idl_scope.specs.declared.identity.FixedIdentity.{FixedIdentity}
 use Rattle.idl_scope.specs.declared.identity.Identity.{Identity}
 use Rattle.idl_scope.specs.declared.key.Key.{Key}
 use Rattle.idl_scope.specs.declared.key.Key.TheVariants.{Cursor, IdOf}
@@ -166,28 +167,28 @@ test-before n at true c lt = one-before n at c lt
 test-before n at false c lt = All-nil (Before n)
 
 module _ (turns : ℕ) (answers : Key → Option Answer) (scopes : List Scope) (n : ℕ) where
-  abbrev said_at : (Identity → List Fault) → (Identity → Identity) → List (List ℕ) → Option Identity → Said
+  abbrev said_at : (Identity → List Fault) → (Identity → FixedIdentity) → List (List ℕ) → Option Identity → Said
   said_at faults change path o =
       elim o [
         | None ↦ refused_for []
         | Some d ↦ record { faults = faults d; additions = Identifies path (change d) ∷ []; step = Stays }
       ]
 
-  said-at-before : (faults : Identity → List Fault) (change : Identity → Identity) (path : List (List ℕ)) (o : Option Identity) → ((d : Identity) → All (Before n) (faults d))
+  said-at-before : (faults : Identity → List Fault) (change : Identity → FixedIdentity) (path : List (List ℕ)) (o : Option Identity) → ((d : Identity) → All (Before n) (faults d))
       → All (Before n) (said_at faults change path o).faults
   said-at-before faults change path None each = All-nil (Before n)
   said-at-before faults change path (Some d) each = each d
 
-  abbrev about_by : ℕ → (Identity → List Fault) → (Identity → Identity) → Entity → Bool → Lookup Said
+  abbrev about_by : ℕ → (Identity → List Fault) → (Identity → FixedIdentity) → Entity → Bool → Lookup Said
   about_by at faults change e b =
       cond b (Ask (IdOf e.path) (λ answer. Done (said_at faults change e.path (identity_at e.path answer)))) (Done (refused_for (fault_at at NoRepositoryId ∷ [])))
 
-  about-if : (at : ℕ) (faults : Identity → List Fault) (change : Identity → Identity) (e : Entity) (b : Bool) → at < n → ((d : Identity) → All (Before n) (faults d))
+  about-if : (at : ℕ) (faults : Identity → List Fault) (change : Identity → FixedIdentity) (e : Entity) (b : Bool) → at < n → ((d : Identity) → All (Before n) (faults d))
       → All (Before n) (outcome (about_by at faults change e b) answers).faults
   about-if at faults change e true lt each = said-at-before faults change e.path (identity_at e.path (answers (IdOf e.path))) each
   about-if at faults change e false lt each = one-before n at NoRepositoryId lt
 
-  module _ (name : ScopedName) (faults : Identity → List Fault) (change : Identity → Identity) (within : last_at 2 name < n) (each : (d : Identity) → All (Before n) (faults d)) where
+  module _ (name : ScopedName) (faults : Identity → List Fault) (change : Identity → FixedIdentity) (within : last_at 2 name < n) (each : (d : Identity) → All (Before n) (faults d)) where
     abbrev by_found : Result Found NameFault → Lookup Said
     by_found r = by_result r (λ found. about (last_at 2 name) faults change found.entity) (λ fault. Done (refused_for (unnamed_faults name fault)))
 

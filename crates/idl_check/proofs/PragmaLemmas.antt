@@ -25,6 +25,7 @@ use Rattle.idl_scope.specs.declared.answer.Scope.{Scope}
 use Rattle.idl_scope.specs.declared.entity.Entity.{Entity}
 use Rattle.idl_scope.specs.declared.fault.NameFault.{NameFault}
 use Rattle.idl_scope.specs.declared.found.Found.{Found}
+use Rattle.idl_scope.specs.declared.identity.FixedIdentity.{FixedIdentity}
 use Rattle.idl_scope.specs.declared.identity.Identity.{Identity}
 use Rattle.idl_scope.specs.declared.key.Key.{Key}
 use Rattle.idl_scope.specs.declared.key.Key.TheVariants.{IdOf}
@@ -89,7 +90,7 @@ verdict-sound s h = ap (verdict_by s) h
 
 -- ---- runs
 
-module _ (bank : Key → Option Answer) (faults : Identity → List Fault) (change : Identity → Identity) where
+module _ (bank : Key → Option Answer) (faults : Identity → List Fault) (change : Identity → FixedIdentity) where
   -- what identifies the name at a path, or nothing
   abbrev pub named_at : List (List ℕ) → Option Identity → Option Named
   named_at path o = option_map (λ d. record { path = path; identity = d }) o

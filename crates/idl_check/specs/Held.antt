@@ -16,6 +16,7 @@ use Rattle.idl_scope.specs.Lookup.{Lookup, denoted, under}
 use Rattle.idl_scope.specs.declared.addition.Addition.TheVariants.{Identifies}
 use Rattle.idl_scope.specs.declared.addition.Step.TheVariants.{Stays}
 use Rattle.idl_scope.specs.declared.answer.Scope.{Scope}
+use Rattle.idl_scope.specs.declared.identity.FixedIdentity.{FixedIdentity}
 use Rattle.idl_scope.specs.declared.identity.Identity.{Identity}
 use Rattle.idl_site.specs.Item.{Item, items_length}
 use Rattle.idl_site.specs.declared.site.Use.{Use}
@@ -88,7 +89,7 @@ abbrev pub spoken : ℕ → List Scope → Pragma → Lookup Verdict
 spoken turns scopes p = and_then (said turns scopes p) (λ s. Done (pragma_verdict s))
 
 -- what a pragma says of what its name denotes, or of the name's fault
-abbrev pub said_of : (Identity → List Fault) → (Identity → Identity)
+abbrev pub said_of : (Identity → List Fault) → (Identity → FixedIdentity)
     → Result (Option Named) Fault → Said
 said_of faults change (Ok None) = refused_for []
 said_of faults change (Ok (Some n)) = record {

@@ -11,7 +11,8 @@ use Rattle.idl_scope.specs.Lookup.{Lookup}
 use Rattle.idl_scope.specs.declared.addition.Addition.{Addition}
 use Rattle.idl_scope.specs.declared.addition.Addition.TheVariants.{Appears}
 use Rattle.idl_scope.specs.declared.entity.Entity.{Entity}
-use Rattle.idl_scope.specs.declared.identity.Fixed.TheVariants.{Nothing, Version, Id}
+use Rattle.idl_scope.specs.declared.identity.Fixed.TheVariants.{Version, Id}
+use Rattle.idl_scope.specs.declared.identity.FixedIdentity.{FixedIdentity}
 use Rattle.idl_scope.specs.declared.identity.Identity.{Identity}
 use Rattle.idl_scope.specs.declared.key.Key.TheVariants.{Prefix as PrefixKey, IdOf}
 use Rattle.idl_scope.specs.declared.kind.Kind.{Kind}
@@ -25,23 +26,25 @@ has_id Member = false
 has_id other = true
 
 -- with another version in place of `1.0`
-abbrev pub versioned : ℕ → ℕ → Identity → Identity
-versioned major minor d = record d {
+abbrev pub versioned : ℕ → ℕ → Identity → FixedIdentity
+versioned major minor d = record {
   id = take (length d.id - 3) d.id ++ decimal major ++ 46 ∷ decimal minor;
-  fixed = Version;
+  prefix = d.prefix;
+  by = Version;
 }
 
 -- with this id
-abbrev pub given : List ℕ → Identity → Identity
-given text d = record d { id = text; fixed = Id }
+abbrev pub given : List ℕ → Identity → FixedIdentity
+given text d = record { id = text; prefix = d.prefix; by = Id }
 
 -- an id was given, or another one than this told with its version
 abbrev pub is_given : List ℕ → Identity → Bool
-is_given text d = fixed_eq d.fixed Id || (fixed_eq d.fixed Version && not (bytes_eq text d.id))
+is_given text d =
+    elim d.fixed [ None ↦ false | Some by ↦ fixed_eq by Id || not (bytes_eq text d.id) ]
 
 -- an id was given, or told with its version
 abbrev pub is_fixed : Identity → Bool
-is_fixed d = not (fixed_eq d.fixed Nothing)
+is_fixed d = elim d.fixed [ None ↦ false | Some by ↦ true ]
 
 -- a text of visible characters, and one of them with a `:`
 abbrev pub is_visible : List ℕ → Bool

@@ -16,6 +16,7 @@ use Rattle.idl_scope.specs.declared.answer.Scope.{Scope}
 use Rattle.idl_scope.specs.declared.entity.Entity.{Entity}
 use Rattle.idl_scope.specs.declared.fault.NameFault.{NameFault}
 use Rattle.idl_scope.specs.declared.fault.NameFault.TheVariants.{At, Memory}
+use Rattle.idl_scope.specs.declared.identity.FixedIdentity.{FixedIdentity}
 use Rattle.idl_scope.specs.declared.identity.Identity.{Identity}
 use Rattle.idl_scope.specs.declared.key.Key.TheVariants.{IdOf}
 use Rattle.idl_tree.specs.declared.name.ScopedName.{ScopedName}
@@ -53,7 +54,7 @@ unnamed_faults name Memory = []
 
 -- a pragma about what identifies this entity, whose name ends at this token: these are its faults,
 -- and it is identified by that from then on
-abbrev pub about : ℕ → (Identity → List Fault) → (Identity → Identity) → Entity → Lookup Said
+abbrev pub about : ℕ → (Identity → List Fault) → (Identity → FixedIdentity) → Entity → Lookup Said
 about at faults change e =
     if has_id e.kind
     then Ask (IdOf e.path) (λ answer. Done (elim (identity_at e.path answer) [
@@ -68,7 +69,7 @@ about at faults change e =
 
 -- a pragma about what a name denotes in these scopes, into which that introduces nothing
 abbrev pub about_name : ℕ → List Scope → ScopedName → (Identity → List Fault)
-    → (Identity → Identity) → Lookup Said
+    → (Identity → FixedIdentity) → Lookup Said
 about_name turns scopes name faults change =
     and_then (denoted turns scopes name)
     (λ r. by_result r (λ found. about (last_at 2 name) faults change found.entity)

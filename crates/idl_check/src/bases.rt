@@ -1,8 +1,9 @@
 //! The bases of an interface that were named so far.
 
-ghost use Rattle.std.specs.Prelude.{◌≡◌, ◌&&◌, ◌∷◌, [], IfOk, OnOk, fold, not};
+ghost use Rattle.std.specs.Prelude.{◌≡◌, ◌&&◌, ◌∷◌, [], ℕ, List, IfOk, OnOk, fold, is_some, not, true};
 ghost use Rattle.std.specs.List.{list_any};
-ghost use Rattle.std.specs.Map.{keys_of};
+ghost use Rattle.std.specs.Map.{keys_of, lookup};
+ghost use Rattle.std.specs.Str.{bytes_eq};
 ghost use Rattle.idl_check.specs.Codes.{codes_in};
 ghost use Rattle.idl_check.specs.Using.{base_table, is_another, no_bases, with_base, with_operation};
 ghost use Rattle.idl_scope.specs.Facts.{joined};
@@ -25,12 +26,13 @@ pub struct Bases {
 }
 
 // The paths of the bases, and those of the operations and attributes that they bring, by the folded
-// names: those of the last base wait, as the list that the base has, until another is named.
+// names: those of the last two bases wait, as the lists that the bases have, until a third is named.
 #[derive(Drop)]
 struct Named {
     paths: Table<Path, ()>,
     operations: Table<Spelling, Path>,
-    waiting: SharedList<Path>,
+    before_last: SharedList<Path>,
+    last: SharedList<Path>,
 }
 
 impl Model for Bases {
@@ -51,7 +53,8 @@ impl Model for Named {
 
     ghost view = { λ named. record {
       paths = keys_of named.paths;
-      operations = fold with_operation named.operations named.waiting;
+      operations =
+          fold with_operation (fold with_operation named.operations named.before_last) named.last;
     } };
 }
 
@@ -119,7 +122,8 @@ impl Named {
         Named {
             paths: Table::new(alloc),
             operations: Table::new(alloc),
-            waiting: SharedList::new(),
+            before_last: SharedList::new(),
+            last: SharedList::new(),
         }
     }
 
@@ -134,8 +138,7 @@ impl Named {
             code ≡ first (codes_in (base_table is_local self.old base.now))) }
         ensures same { OnOk result (self.new ≡ self.old) }
     {
-        bring(alloc, &mut self.operations, &mut self.waiting)?;
-        let brings_another = brings_another(alloc, &self.operations, base)?;
+        let brings_another = self.brings_another(alloc, base)?;
         Ok(first_code(&[
             (base.stage() != Stage::Complete, Code::IncompleteBase),
             (contains(&self.paths, base.path()), Code::RepeatedBase),
@@ -148,9 +151,25 @@ impl Named {
     fn add(&mut self, alloc: Global, base: &Entity) -> Result<(), AllocError>
         ensures { OnOk result (self.new ≡ with_base base.now self.old) }
     {
-        bring(alloc, &mut self.operations, &mut self.waiting)?;
-        self.waiting = base.operations()?;
+        bring(alloc, &mut self.operations, &mut self.before_last)?;
+        self.before_last = self.last.clone()?;
+        self.last = base.operations()?;
         add_path(&mut self.paths, base.path())
+    }
+
+    // Whether a base brings an operation or attribute that stands beside another one.
+    fn brings_another(&mut self, alloc: Global, base: &Entity) -> Result<bool, AllocError>
+        ensures brings { IfOk result (λ b.
+            b ≡ list_any (is_another self.old.operations) base.now.operations) }
+        ensures same { OnOk result (self.new ≡ self.old) }
+    {
+        bring(alloc, &mut self.operations, &mut self.before_last)?;
+        if self.operations.is_empty() {
+            return brings_beside(alloc, &self.last, base);
+        }
+        bring(alloc, &mut self.operations, &mut self.last)?;
+        let paths = base.operations()?.to_vec(alloc)?;
+        any_another(alloc, &self.operations, paths.as_slice())
     }
 
     // Their paths, in order.
@@ -178,20 +197,67 @@ fn bring(
     Ok(())
 }
 
-// Whether a base brings an operation or attribute that stands beside another one.
-fn brings_another(
+// Whether a base brings an operation or attribute that stands beside another one of these.
+fn brings_beside(
     alloc: Global,
-    operations: &Table<Spelling, Path>,
+    others: &SharedList<Path>,
     base: &Entity,
 ) -> Result<bool, AllocError>
     ensures { IfOk result (λ b.
-        b ≡ list_any (is_another operations.now) base.now.operations) }
+        b ≡ list_any (is_another (fold with_operation [] others.now)) base.now.operations) }
 {
-    if operations.is_empty() {
+    if *others == SharedList::new() {
         return Ok(false);
     }
+    let others = others.to_vec(alloc)?;
     let paths = base.operations()?.to_vec(alloc)?;
-    any_another(alloc, operations, paths.as_slice())
+    let mut near = Table::new(alloc);
+    add_near(alloc, &mut near, others.as_slice(), paths.as_slice())?;
+    any_another(alloc, &near, paths.as_slice())
+}
+
+// These operations and attributes are brought that have the names of others, or all of them where they are no more than the
+// others: so the fewer ones are held in a table, and the more are looked up in it.
+fn add_near(
+    alloc: Global,
+    operations: &mut Table<Spelling, Path>,
+    paths: &[Path],
+    others: &[Path],
+) -> Result<(), AllocError>
+    ensures { OnOk result
+        ((n : List ℕ) → is_some (lookup (bytes_eq n) (fold with_operation [] others.now)) ≡ true
+        → lookup (bytes_eq n) operations.new
+        ≡ lookup (bytes_eq n) (fold with_operation operations.old paths.now)) }
+{
+    if paths.len() <= others.len() {
+        add_operations(alloc, operations, paths)?;
+        return Ok(());
+    }
+    let mut asked = Table::new(alloc);
+    add_operations(alloc, &mut asked, others)?;
+    add_asked(alloc, operations, &asked, paths)?;
+    Ok(())
+}
+
+// Those of the operations and attributes at these paths are brought too whose names are asked for.
+fn add_asked(
+    alloc: Global,
+    operations: &mut Table<Spelling, Path>,
+    asked: &Table<Spelling, Path>,
+    paths: &[Path],
+) -> Result<(), AllocError>
+    ensures { OnOk result
+        ((n : List ℕ) → is_some (lookup (bytes_eq n) asked.now) ≡ true
+        → lookup (bytes_eq n) operations.new
+        ≡ lookup (bytes_eq n) (fold with_operation operations.old paths.now)) }
+{
+    for path in paths {
+        let name = path.folded(alloc)?;
+        if asked.contains(&name) {
+            operations.insert(name, path.clone()?)?;
+        }
+    }
+    Ok(())
 }
 
 // Whether one of these stands beside another operation or attribute.

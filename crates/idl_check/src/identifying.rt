@@ -11,7 +11,9 @@ ghost use Rattle.idl_scope.specs.Lookup.{under};
 use idl_base::InlineText;
 use idl_lex::Spelling;
 use idl_memo::Journal;
-use idl_scope::{Entity, Env, Fixed, Identity, Kind, Prefix, Shared, View, shared_name};
+use idl_scope::{
+    Entity, Env, Fixed, FixedIdentity, Identity, Kind, Prefix, Shared, View, shared_name,
+};
 use itoa::Buffer;
 use std::alloc::{AllocError, Global};
 
@@ -105,7 +107,7 @@ pub fn versioned(
     alloc: Global,
     before: &Identity,
     version: (u16, u16),
-) -> Result<Shared<Identity>, AllocError>
+) -> Result<Shared<FixedIdentity>, AllocError>
     ensures { IfOk result (λ d. d ≡ versioned version.0 version.1 before.now) }
 {
     let stem = before.id.as_bytes();
@@ -115,10 +117,10 @@ pub fn versioned(
     push_number(&mut id, version.1)?;
     Shared::new(
         alloc,
-        Identity {
+        FixedIdentity {
             id: InlineText::from_slice(alloc, id.as_slice())?,
             prefix: before.prefix.clone()?,
-            fixed: Fixed::Version,
+            by: Fixed::Version,
         },
     )
 }
@@ -133,16 +135,20 @@ fn push_number(id: &mut Vec<u8>, number: u16) -> Result<(), AllocError>
 }
 
 /// It with this id.
-pub fn given(alloc: Global, before: &Identity, id: Spelling) -> Result<Shared<Identity>, AllocError>
+pub fn given(
+    alloc: Global,
+    before: &Identity,
+    id: Spelling,
+) -> Result<Shared<FixedIdentity>, AllocError>
     ensures { IfOk result (λ d. d ≡ given id before.now) }
 {
     let prefix = before.prefix.clone()?;
     Shared::new(
         alloc,
-        Identity {
+        FixedIdentity {
             id: InlineText::from_slice(alloc, id.as_bytes())?,
             prefix,
-            fixed: Fixed::Id,
+            by: Fixed::Id,
         },
     )
 }
@@ -152,9 +158,9 @@ pub fn is_given(text: &[u16], before: &Identity) -> bool
     ensures { result ≡ is_given text.now before.now }
 {
     match before.fixed {
-        Fixed::Nothing => false,
-        Fixed::Version => !is_spelled(text, before.id.as_bytes()),
-        Fixed::Id => true,
+        None => false,
+        Some(Fixed::Version) => !is_spelled(text, before.id.as_bytes()),
+        Some(Fixed::Id) => true,
     }
 }
 
@@ -179,7 +185,7 @@ fn is_spelled(text: &[u16], id: &[u8]) -> bool
 pub fn is_fixed(before: &Identity) -> bool
     ensures { result ≡ is_fixed before.now }
 {
-    before.fixed != Fixed::Nothing
+    before.fixed.is_some()
 }
 
 /// The bytes of a text of visible characters.

@@ -35,7 +35,7 @@ use idl_base::SharedText;
 use idl_event::Code;
 use idl_lex::Token;
 use idl_memo::Journal;
-use idl_scope::{DigestedKey, Env, Facts, Path, Scope, Step, View, folded_name};
+use idl_scope::{DigestedKey, Env, Facts, OpenScopes, Path, Step, View, folded_name};
 use idl_site::{Site, sites};
 use idl_syntax::{SyntaxFault, UnitTree, parse};
 use idl_tree::Tree;
@@ -47,7 +47,7 @@ use std::alloc::AllocError;
 pub struct Judge<'a> {
     pub env: &'a Env,
     pub tokens: &'a [Token],
-    pub scopes: &'a [Scope],
+    pub scopes: &'a OpenScopes,
 }
 
 // A unit that has a tree, and the sites of that tree.
@@ -294,17 +294,17 @@ impl<'t> Sited<'t> {
 }
 
 // The path of the innermost of these scopes.
-fn path_around(scopes: &[Scope]) -> Result<Path, AllocError>
+fn path_around(scopes: &OpenScopes) -> Result<Path, AllocError>
     ensures { IfOk result (λ path. path ≡ path_around scopes.now) }
 {
-    match scopes {
-        [innermost, ..] => innermost.path.clone(),
-        [] => Ok(Path::global()),
+    match scopes.innermost() {
+        Some(innermost) => innermost.path.clone(),
+        None => Ok(Path::global()),
     }
 }
 
 // How many scopes are open around a unit.
-fn row_depth(tree: &Tree, scopes: &[Scope]) -> usize
+fn row_depth(tree: &Tree, scopes: &OpenScopes) -> usize
     ensures { result ≡ row_depth tree.now scopes.now }
 {
     match tree {

@@ -153,7 +153,7 @@ pub fn questions()
 /// A version that is told stands in the place of `1.0`, and nothing else of the id changes. A path in
 /// the scope of a prefix is told up to that scope, which is what is left out of it, and any other is
 /// told whole.
-pub fn identifying()
+pub fn identification()
     ensures version { (p : Prefix) (path : List (List ℕ)) (major : ℕ) (minor : ℕ)
         → (versioned major minor (first_identity p path)).id
         ≡ codes "IDL:" ++ prefixed p.text ++ slashed (relative path p.scope)

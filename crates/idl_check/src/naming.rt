@@ -27,7 +27,6 @@ use crate::few::Few;
 use crate::labels::Labels;
 use crate::last_type::LastType;
 use crate::named_types::NamedTypes;
-use crate::part::front;
 use crate::standing::{Standing, standing_of};
 use crate::types::{constants_of, looked_through};
 use crate::using::{Denoted, Denoting, introduce, last_at, name_code, part_at, used_code};
@@ -183,7 +182,7 @@ impl<'a> Walker<'a> {
         };
         let place = Standpoint {
             own: &self.own,
-            cursor: self.cursor.as_slice(),
+            cursor: self.cursor.scopes(),
         };
         match resolve(self.env, log, place, &head) {
             Ok(found) => {
@@ -218,7 +217,7 @@ impl<'a> Walker<'a> {
     {
         let place = Standpoint {
             own: &self.own,
-            cursor: self.cursor.as_slice(),
+            cursor: self.cursor.scopes(),
         };
         match resolve(self.env, log, place, name) {
             Ok(found) => {
@@ -301,10 +300,13 @@ impl<'a> Walker<'a> {
         self.note(last, code);
         self.at = last + 1;
         self.gives_back = false;
-        let scopes = front(self.cursor.as_slice(), found.reach);
         let path = entity.path();
-        let used = Denoting { name, path };
-        introduce(alloc, &mut self.own, used, scopes)?;
+        let used = Denoting {
+            name,
+            path,
+            reach: found.reach,
+        };
+        introduce(alloc, &mut self.own, used, self.cursor.scopes())?;
         self.found.push(path.clone()?)?;
         self.clauses.add_raised(way, path)?;
         self.follow(way, entity, behind, constants)?;

@@ -8,7 +8,7 @@ ghost use Rattle.idl_unit.specs.Ending.{begins, opens};
 use crate::declaring::path_in;
 use idl_event::Code;
 use idl_lex::Token;
-use idl_scope::{Facts, Kind, Path, Scope, Step};
+use idl_scope::{Facts, Kind, OpenScopes, Path, Step};
 use idl_tree::{Forward, Tree};
 use idl_unit::{Fault, Role, Rule, role_of, rule_of};
 use std::alloc::{AllocError, Global};
@@ -127,14 +127,14 @@ pub fn step_of(alloc: Global, own: &Facts, tree: &Tree, scope: &Path) -> Result<
 }
 
 /// How many of these scopes are open beside the global one.
-pub fn depth(scopes: &[Scope]) -> usize
+pub fn depth(scopes: &OpenScopes) -> usize
     ensures { result ≡ depth scopes.now }
 {
     scopes.len().saturating_sub(1)
 }
 
 /// The fault of an opening where too many scopes are open.
-pub fn opening_fault(tokens: &[Token], scopes: &[Scope]) -> Option<Fault>
+pub fn opening_fault(tokens: &[Token], scopes: &OpenScopes) -> Option<Fault>
     ensures { option_to_list result ≡ opening_faults tokens.now scopes.now }
 {
     let index = opening_brace(tokens)?;
@@ -148,7 +148,7 @@ pub fn opening_fault(tokens: &[Token], scopes: &[Scope]) -> Option<Fault>
 }
 
 /// Whether the innermost of these scopes doesn't hold the unit.
-pub fn is_misplaced(tree: &Tree, scopes: &[Scope]) -> bool
+pub fn is_misplaced(tree: &Tree, scopes: &OpenScopes) -> bool
     ensures { result ≡ is_misplaced tree.now scopes.now }
 {
     match tree {
@@ -163,11 +163,11 @@ pub fn is_misplaced(tree: &Tree, scopes: &[Scope]) -> bool
 }
 
 // Whether the innermost scope is an interface.
-fn is_interface(scopes: &[Scope]) -> bool
+fn is_interface(scopes: &OpenScopes) -> bool
     ensures { result ≡ is_interface scopes.now }
 {
-    match scopes {
-        [innermost, ..] => innermost.kind == Kind::Interface,
-        [] => false,
+    match scopes.innermost() {
+        Some(innermost) => innermost.kind == Kind::Interface,
+        None => false,
     }
 }

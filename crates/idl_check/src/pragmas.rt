@@ -11,6 +11,7 @@ ghost use Rattle.idl_scope.specs.Facts.{answers, identity_at};
 ghost use Rattle.idl_scope.specs.Key.{key_eq};
 ghost use Rattle.idl_scope.specs.declared.addition.Addition.TheVariants.{Identifies};
 ghost use Rattle.idl_scope.specs.declared.addition.Step.TheVariants.{Prefixes, Stays};
+ghost use Rattle.idl_scope.specs.declared.identity.FixedIdentity.{FixedIdentity as UnitFixed};
 ghost use Rattle.idl_scope.specs.declared.identity.Identity.{Identity as UnitIdentity};
 ghost use Rattle.idl_scope.specs.declared.key.Key.TheVariants.{IdOf};
 ghost use Rattle.idl_scope.specs.Turns.{turns_for};
@@ -29,8 +30,8 @@ use idl_event::Code;
 use idl_lex::TokenRange;
 use idl_memo::Journal;
 use idl_scope::{
-    Addition, Env, Facts, Identity, NameFault, Path, Scope, Shared, Standpoint, Step, View, Writes,
-    resolve,
+    Addition, Env, Facts, FixedIdentity, Identity, NameFault, OpenScopes, Path, Shared, Standpoint,
+    Step, View, Writes, resolve,
 };
 use idl_syntax::{SyntaxFault, UnitTree, parse};
 use idl_tree::{Pragma, ScopedName};
@@ -43,7 +44,7 @@ pub struct Speaker<'a> {
     pub env: &'a Env,
     pub tokens: &'a TokenRange,
     pub inside: bool,
-    pub scopes: &'a [Scope],
+    pub scopes: &'a OpenScopes,
 }
 
 // What a pragma speaks of: a path, and what identifies the name there.
@@ -181,7 +182,7 @@ impl<'a> Speaker<'a> {
     ) -> Result<Result<Option<Named>, Fault>, AllocError>
         requires { last_at 2 name.now ≤ 18446744073709551615 }
         ensures { IfOk result (λ r. (turns : ℕ) → turns_for self.entry.env.now ≤ turns →
-            (faults : UnitIdentity → List UnitFault) → (change : UnitIdentity → UnitIdentity) →
+            (faults : UnitIdentity → List UnitFault) → (change : UnitIdentity → UnitFixed) →
             (said_of faults change r, log.new)
             ≡ run key_eq (about_name turns self.entry.scopes.now name.now faults change)
             (answers self.entry.env.now) log.old) }
@@ -261,7 +262,7 @@ fn refused(alloc: Global, index: usize, code: Code) -> Result<Verdict, AllocErro
 fn identifying(
     alloc: Global,
     path: &Path,
-    identity: Shared<Identity>,
+    identity: Shared<FixedIdentity>,
 ) -> Result<Verdict, AllocError>
     ensures { IfOk result (λ v.
         v

@@ -12,7 +12,7 @@ use crate::pragmas::Speaker;
 use crate::scratch::Scratch;
 use crate::verdict::Verdict;
 use idl_memo::Journal;
-use idl_scope::{DigestedKey, Env, scopes_in};
+use idl_scope::{DigestedKey, Env, OpenScopes, scopes_in};
 use idl_unit::UnitText;
 use std::alloc::AllocError;
 
@@ -30,7 +30,8 @@ pub fn verdict_of(
     ensures { IfOk result (λ v. (turns : ℕ) → turns_for env.now ≤ turns →
         (v, log.new) ≡ run key_eq (verdict turns text.now) (answers env.now) log.old) }
 {
-    let scopes = scopes_in(log.ask(&DigestedKey::cursor(), env)?);
+    let none = OpenScopes::none();
+    let scopes = scopes_in(log.ask(&DigestedKey::cursor(), env)?, &none);
     match text {
         UnitText::Tokens(run) => {
             let judge = Judge {

@@ -1,6 +1,6 @@
 //! Used names: what they may denote where they stand.
 
-ghost use Rattle.std.specs.Prelude.{◌≡◌, ◌≤◌, ◌+◌, ◌*◌, IfOk, OnOk, false, length};
+ghost use Rattle.std.specs.Prelude.{◌≡◌, ◌≤◌, ◌+◌, ◌*◌, IfOk, OnOk, false, length, take};
 ghost use Rattle.idl_check.specs.Using.{is_base, part_at, last_at, name_code, is_type, suited_table, suits, used_table, with_uses, Bases as NamedBases};
 ghost use Rattle.idl_check.specs.Codes.{codes_in};
 ghost use Rattle.idl_check.specs.Types.{constants_of};
@@ -13,17 +13,18 @@ use crate::bases::Bases;
 use crate::codes::first_code;
 use crate::types::{is_incomplete, may_switch};
 use idl_event::Code;
-use idl_scope::{Addition, Entity, Facts, Kind, NameCode, OwnName, Path, Scope};
+use idl_scope::{Addition, Entity, Facts, Kind, NameCode, OpenScopes, OwnName, Path};
 use idl_site::Use;
 use idl_tree::ScopedName;
 use idl_value::Target;
 use std::alloc::{AllocError, Global};
 
-/// A used name, and the path of what it denotes.
+/// A used name, the path of what it denotes, and into how many scopes its use introduces it.
 #[derive(Clone, Copy)]
 pub struct Denoting<'a> {
     pub name: &'a ScopedName,
     pub path: &'a Path,
+    pub reach: usize,
 }
 
 /// The number of the token that is a part of a name, where the name begins at this token.
@@ -140,25 +141,32 @@ fn type_code(way: Use, denoted: Denoted<'_>) -> Option<Code>
     }
 }
 
-/// Puts in that the use of a name introduces its first part into these scopes.
+/// Puts in that the use of a name introduces its first part into these scopes, as far as it reaches.
 pub fn introduce(
     alloc: Global,
     own: &mut Facts,
     used: Denoting<'_>,
-    scopes: &[Scope],
+    scopes: &OpenScopes,
 ) -> Result<(), AllocError>
     ensures { OnOk result
         (own.new
         ≡ record own.old {
-          additions = with_uses (folded used.entry.name.now.first) scopes.now own.old.additions;
+          additions =
+              with_uses (folded used.entry.name.now.first) (take used.entry.reach scopes.now)
+              own.old.additions;
         }) }
 {
-    if scopes.is_empty() {
+    if used.reach == 0 {
         return Ok(());
     }
     let folded = OwnName::within(alloc, used.path, &used.name.first)?;
-    for scope in scopes {
+    let mut rest = scopes;
+    for _reached in 0..used.reach {
+        let Some((scope, outer)) = rest.split_first() else {
+            return Ok(());
+        };
         own.add(Addition::Uses(folded.clone()?, scope.path.clone()?, scope.body))?;
+        rest = outer;
     }
     Ok(())
 }

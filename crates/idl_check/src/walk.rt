@@ -29,7 +29,7 @@ use idl_base::Seq;
 use idl_event::Code;
 use idl_lex::Spelling;
 use idl_memo::Journal;
-use idl_scope::{Addition, Entity, Env, Facts, Kind, Path, Scope, Shared, Step, View};
+use idl_scope::{Addition, Entity, Env, Facts, Kind, OpenScopes, Path, Scope, Shared, Step, View};
 use idl_site::{Declaration, Site};
 use idl_tree::Several;
 use idl_unit::Fault;
@@ -70,7 +70,7 @@ pub struct Walker<'a> {
 
 impl<'a> Walker<'a> {
     /// Before the first site of a unit, in these scopes. What is added takes the room that there is.
-    pub fn new(env: &'a Env, scopes: &'a [Scope], scratch: &mut Scratch) -> Walker<'a>
+    pub fn new(env: &'a Env, scopes: &'a OpenScopes, scratch: &mut Scratch) -> Walker<'a>
         ensures walk { held result ≡ first_walk scopes.now }
         ensures env { result.env.now ≡ env.now }
     {
@@ -78,7 +78,7 @@ impl<'a> Walker<'a> {
         Walker {
             env,
             at: 0,
-            cursor: Cursor::new(alloc, scopes),
+            cursor: Cursor::new(scopes),
             own: Facts::within(alloc, &mut scratch.room),
             begun: Few::new(alloc),
             bases: Bases::new(),
@@ -284,7 +284,7 @@ impl<'a> Walker<'a> {
         let alloc = self.env.alloc();
         self.written.name_scope(path);
         end_innermost(alloc, &mut self.bodies, &self.clauses, &mut self.begun)?;
-        self.cursor.end();
+        self.cursor.end()?;
         if is_union { self.end_union() } else { Ok(()) }
     }
 

@@ -1,5 +1,6 @@
 pub mod CandidateLemmas
 pub mod DirectiveLemmas
+pub mod ExploreLemmas
 pub mod FileLemmas
 pub mod IncludeLemmas
 pub mod JumpLemmas

@@ -1,5 +1,6 @@
 pub mod Candidate
 pub mod Directive
+pub mod Explore
 pub mod Include
 pub mod Limits
 pub mod Pass

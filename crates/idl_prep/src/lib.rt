@@ -6,6 +6,7 @@
 
 mod branch;
 mod candidate;
+mod explorer;
 mod file;
 mod find;
 mod groups;
@@ -25,6 +26,7 @@ mod stray;
 mod text;
 
 pub use candidate::first_candidate;
+pub use explorer::{Explorer, FileWalk, Next, OpenFile};
 pub use root_task::{RootTask, absent};
 
 /// Files that may be open inside one another, the root's among them.

@@ -7,8 +7,7 @@ use Rattle.std.specs.List.{list_any}
 use Rattle.std.specs.Option.{option_and_then}
 use Rattle.std.specs.Str.{bytes_eq}
 use Rattle.idl_source.specs.Path.{directory_path, joined_path}
-use Rattle.idl_workspace.specs.Project.{Macros, Project, is_root}
-use Rattle.idl_program.specs.Loading.{AreRoots}
+use Rattle.idl_workspace.specs.Project.{Macros}
 use Rattle.idl_program.specs.Options.{defined_by, named_by, searched_by, undefined_by, with_name}
 
 -- what is left of a list, at its next element
@@ -51,20 +50,3 @@ pub undefined-next : {A : Type 0} (text : A → List ℕ) (words : List A) (i : 
 undefined-next text words i d old new within made =
     ap (λ ms. undefined_by ms (drop (i + 1) (map text words))) made
     ∙ ap (undefined_by old) (sym (drop-map-next text words i d (text (get_or words i d)) within refl))
-
-or-last : (a b : Bool) → b ≡ true → (a || b) ≡ true
-or-last true b e = refl
-or-last false b e = e
-
--- each name is among all
-pub each-among : (names : List (List ℕ)) → All (λ name. list_any (bytes_eq name) names ≡ true) names
-each-among [] = All-nil (λ (name : List ℕ). list_any (bytes_eq name) [] ≡ true)
-each-among (first ∷ names) =
-    All-cons (λ (name : List ℕ). list_any (bytes_eq name) (first ∷ names) ≡ true) first names
-    (ap (λ b. b || list_any (bytes_eq first) names) ((bytes_decides first first).1 refl))
-    (All-weaker (λ (name : List ℕ). list_any (bytes_eq name) names ≡ true) (λ (name : List ℕ). list_any (bytes_eq name) (first ∷ names) ≡ true)
-    (λ name e. or-last (bytes_eq name first) (list_any (bytes_eq name) names) e) names (each-among names))
-
--- the roots of a project are roots
-pub roots-are : (project : Project) (names : List (List ℕ)) → project.roots ≡ names → AreRoots project names
-roots-are project names e = subst (λ (ns : List (List ℕ)). All (λ name. list_any (bytes_eq name) project.roots ≡ true) ns) e (each-among project.roots)

@@ -3,6 +3,7 @@ pub mod Holding
 pub mod Loading
 pub mod Messages
 pub mod Options
+pub mod Rows
 pub mod Served
 pub mod Tried
 pub mod Words

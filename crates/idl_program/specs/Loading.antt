@@ -1,10 +1,11 @@
 -- The files of a project, beside those of a loader.
-use Rattle.std.specs.Prelude.{◌≡◌, ℕ, List, All, Some, true}
-use Rattle.std.specs.FinMap as map
+use Rattle.std.specs.Prelude.{◌≡◌, ℕ, List, All, Some, map}
+use Rattle.std.specs.FinMap as finite
 use Rattle.idl_source.specs.Cut.{cut_lines}
 use Rattle.idl_source.specs.Texts.{Texts}
 use Rattle.idl_workspace.specs.Compile.{compiled_root}
-use Rattle.idl_workspace.specs.Project.{Inputs, Project, is_root}
+use Rattle.idl_workspace.specs.Project.{Inputs}
+use Rattle.idl_workspace.specs.declared.compile.CompiledRoot.{CompiledRoot}
 use Rattle.idl_program.specs.Holding.{Holding, File, NoFile, Allows}
 
 -- the lines are those of a file that the loader has under this name
@@ -15,7 +16,7 @@ IsFileOf told name lines =
 -- each file is one that the loader has
 abbrev pub AreLoaded : (List ℕ → Holding) → Texts → Type 0
 AreLoaded told files =
-    (name : List ℕ) (lines : List (List ℕ)) → map.get files name ≡ Some lines
+    (name : List ℕ) (lines : List (List ℕ)) → finite.get files name ≡ Some lines
     → IsFileOf told name lines
 
 -- what these roots ask for and isn't there, the loader hasn't, either
@@ -23,11 +24,15 @@ abbrev pub AreComplete : (List ℕ → Holding) → Inputs → List (List ℕ) �
 AreComplete told inputs roots =
     All (λ root. All (λ name. Allows (told name) NoFile) (compiled_root inputs root).absent) roots
 
--- each of these is a root
-abbrev pub AreRoots : Project → List (List ℕ) → Type 0
-AreRoots project names = All (λ name. is_root project name ≡ true) names
+-- but for the files the inputs are as before
+pub record StaysAsked (before after : Inputs) : Type 0 where
+  pub macros : after.macros ≡ before.macros
+  pub search : after.search ≡ before.search
 
--- but for the files and the order of the roots, the project is as before
-pub record StaysAsked (before after : Project) : Type 0 where
-  pub macros : after.inputs.macros ≡ before.inputs.macros
-  pub search : after.inputs.search ≡ before.inputs.search
+-- what these roots compile to over inputs that all their files were loaded into
+pub record AreCompiled (told : List ℕ → Holding) (before after : Inputs) (roots : List (List ℕ))
+    (compiled : List CompiledRoot) : Type 0 where
+  pub rows : compiled ≡ map (compiled_root after) roots
+  pub loaded : AreLoaded told after.files
+  pub complete : AreComplete told after roots
+  pub stays : StaysAsked before after

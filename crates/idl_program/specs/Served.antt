@@ -1,5 +1,5 @@
 -- What the program does with a request.
-use Rattle.std.specs.Prelude.{◌≡◌, ◌++◌, ℕ, List, Option, Some, IfSome}
+use Rattle.std.specs.Prelude.{◌≡◌, ℕ, List, Option, IfSome}
 use Rattle.std.specs.String.{string_bytes}
 use Rattle.idl_session.specs.Answers.{IsReply}
 use Rattle.idl_source.specs.Device.{append}
@@ -22,10 +22,10 @@ pub record IsShownText (text : List ℕ) (before after : Written) (status : Stat
 -- the commands of the input are answered, from a session without anything on
 pub record AreAnswered (input : Option (List ℕ)) (before after : Written) (status : Status)
     : Type 0 where
-  pub output : IfSome input (λ bytes. IfSome before.output (λ gone.
-      (replies : List ℕ) × (after.output ≡ Some (gone ++ replies))
+  pub output : IfSome input (λ bytes.
+      (replies : List ℕ) × (after.output ≡ append before.output replies)
       × (last : State)
-      × IsReply (record { project = no_project; work = no_work }) bytes replies last))
+      × IsReply (record { project = no_project; work = no_work }) bytes replies last)
   pub errors : after.errors ≡ before.errors
   pub sound : status ≡ Sound
 

@@ -1,31 +1,29 @@
--- Names that were tried, and files that were loaded.
-use Rattle.std.specs.Prelude.{◌≡◌, ℕ, List, All, Option, Some}
-use Rattle.std.specs.BTreeMap.{get}
-use Rattle.std.specs.Cmp.Lexicographic.{slice_cmp}
-use Rattle.std.specs.Ordering.{nat_cmp}
-use Rattle.idl_workspace.specs.Compile.{compiled_root}
+-- Names that were tried: files that were loaded, and names that are missing.
+use Rattle.std.specs.Prelude.{◌≡◌, ℕ, List, All, Contains}
 use Rattle.idl_workspace.specs.Project.{Inputs}
+use Rattle.idl_workspace.specs.declared.compile.CompiledRoot.{CompiledRoot}
 use Rattle.idl_program.specs.Holding.{Holding, NoFile, Allows}
-use Rattle.idl_program.specs.Loading.{IsFileOf}
-use Rattle.idl_program.specs.declared.loading.LoadedFile.{LoadedFile}
-use Rattle.idl_program.specs.declared.loading.Tried.{Tried}
-use Rattle.idl_program.specs.declared.loading.Trouble.{Trouble}
-use Rattle.idl_program.specs.declared.loading.Trouble.TheVariants.{Missing}
+use Rattle.idl_program.specs.Loading.{AreLoaded, StaysAsked}
+use Rattle.idl_program.specs.declared.loading.Loading.{Loading}
 
-abbrev pub trouble_of : Tried → List ℕ → Option Trouble
-trouble_of tried name = get (slice_cmp nat_cmp) tried.troubles name
+-- each file is one that the loader has, and what is noted as missing, it hasn't
+pub record IsTrue (told : List ℕ → Holding) (inputs : Inputs) (missing : List (List ℕ))
+    : Type 0 where
+  pub loaded : AreLoaded told inputs.files
+  pub absent : All (λ name. Allows (told name) NoFile) missing
 
--- what is noted as missing, the loader hasn't
-abbrev pub AreTrue : (List ℕ → Holding) → Tried → Type 0
-AreTrue told tried =
-    (name : List ℕ) → trouble_of tried name ≡ Some Missing → Allows (told name) NoFile
+-- names were tried, and the loader tells what it told before
+pub record AreTried (told still : List ℕ → Holding) (old new : Inputs)
+    (missing_before missing_after : List (List ℕ)) : Type 0 where
+  pub stays_told : still ≡ told
+  pub stays_true : IsTrue told old missing_before → IsTrue told new missing_after
+  pub stays : StaysAsked old new
 
--- what these roots ask for and isn't there was tried, and is missing
-abbrev pub AreMissing : Tried → Inputs → List (List ℕ) → Type 0
-AreMissing tried inputs roots =
-    All (λ root. All (λ name. trouble_of tried name ≡ Some Missing) (compiled_root inputs root).absent)
-    roots
+abbrev pub IsLoading : (List ℕ → Holding) → (List ℕ → Holding) → Loading → Loading → Type 0
+IsLoading told still old new =
+    AreTried told still old.sources new.sources old.missing.keys new.missing.keys
 
--- the file is one that the loader has
-abbrev pub IsLoadedFile : (List ℕ → Holding) → LoadedFile → Type 0
-IsLoadedFile told file = IsFileOf told file.name file.lines.items
+-- what these compiled roots ask for and isn't there was tried, and is missing
+abbrev pub AreMissing : List (List ℕ) → List CompiledRoot → Type 0
+AreMissing missing compiled =
+    All (λ root. All (λ name. Contains missing name) root.absent) compiled

@@ -3,11 +3,11 @@
 //! Nothing here opens a disk or a terminal: a caller hands in the words, where files and commands come from, and where the rows go.
 #![tactic(auto)]
 
-mod compiling;
 mod failure;
 mod laws;
 mod loader;
 mod loading;
+mod preparing;
 mod program;
 mod request;
 

@@ -1,18 +1,21 @@
 //! The program over its words and devices.
 
-ghost use Rattle.std.specs.Prelude.{◌≢◌, ◌≤◌, ◌<◌, ◌+◌, ◌-◌, ◌^◌, IfOk, map};
-ghost use Rattle.idl_program.specs.Compiled.{IsCompiled, IsShown};
-ghost use Rattle.idl_program.specs.Loading.{AreRoots};
+ghost use Rattle.std.specs.Prelude.{◌≡◌, ◌≢◌, ◌≤◌, ◌<◌, ◌+◌, ◌-◌, ◌^◌, IfOk, OnOk, map};
+ghost use Rattle.std.specs.List.{flat_map};
+ghost use Rattle.idl_session.specs.Replies.{whole_line};
+ghost use Rattle.idl_source.specs.Device.{append};
+ghost use Rattle.idl_program.specs.Compiled.{IsCompiled};
+ghost use Rattle.idl_program.specs.Rows.{AreShown, output_of};
 ghost use Rattle.idl_program.specs.Served.{IsDone};
 ghost use Rattle.idl_program.specs.Words.{IsRequestOf};
 
-use crate::compiling::{has_errors, prepared, show_errors, show_output};
 use crate::failure::{Failure, Status};
 use crate::loader::Loader;
-use crate::loading::load_all;
+use crate::loading::compile_all;
+use crate::preparing::prepared;
 use crate::request::{Options, Request, request_of};
-use idl_session::{Session, Sink, Source, WriteFailed, run, write_all};
-use idl_source::Name;
+use idl_session::{Session, Sink, Source, WriteFailed, run, write_all, write_lines};
+use idl_workspace::CompiledRoot;
 use std::alloc::Global;
 use std::mem::forget;
 
@@ -46,6 +49,11 @@ pub fn run_program<L: Loader, S: Source, O: Sink, E: Sink>(
         (record { errors = E.written devices.old.errors; output = O.written devices.old.output })
         (record { errors = E.written devices.new.errors; output = O.written devices.new.output })
         result request }
+    // Where the program doesn't fail, no device has failed.
+    ensures well { result ≢ Status.Failed →
+        ((S.failures devices.new.source ≡ S.failures devices.old.source)
+        × (O.failures devices.new.output ≡ O.failures devices.old.output)
+        × (E.failures devices.new.errors ≡ E.failures devices.old.errors)) }
 {
     match perform(alloc, words, devices) {
         Ok(status) => status,
@@ -72,6 +80,10 @@ fn perform<'a, L: Loader, S: Source, O: Sink, E: Sink>(
         (record { errors = E.written devices.old.errors; output = O.written devices.old.output })
         (record { errors = E.written devices.new.errors; output = O.written devices.new.output })
         status request) }
+    ensures well { OnOk result
+        ((S.failures devices.new.source ≡ S.failures devices.old.source)
+        × (O.failures devices.new.output ≡ O.failures devices.old.output)
+        × (E.failures devices.new.errors ≡ E.failures devices.old.errors)) }
     ensures most { E.failures devices.new.errors ≤ E.failures devices.old.errors + 1 }
 {
     let request = request_of(alloc, words)?;
@@ -93,6 +105,10 @@ fn fulfil<'a, L: Loader, S: Source, O: Sink, E: Sink>(
         (record { errors = E.written devices.old.errors; output = O.written devices.old.output })
         (record { errors = E.written devices.new.errors; output = O.written devices.new.output })
         status request.now) }
+    ensures well { OnOk result
+        ((S.failures devices.new.source ≡ S.failures devices.old.source)
+        × (O.failures devices.new.output ≡ O.failures devices.old.output)
+        × (E.failures devices.new.errors ≡ E.failures devices.old.errors)) }
     ensures most { E.failures devices.new.errors ≤ E.failures devices.old.errors + 1 }
 {
     match request {
@@ -123,42 +139,69 @@ fn compile<'a, L: Loader, S: Source, O: Sink, E: Sink>(
         (record { errors = E.written devices.old.errors; output = O.written devices.old.output })
         (record { errors = E.written devices.new.errors; output = O.written devices.new.output })
         status) }
+    ensures well { OnOk result
+        ((S.failures devices.new.source ≡ S.failures devices.old.source)
+        × (O.failures devices.new.output ≡ O.failures devices.old.output)
+        × (E.failures devices.new.errors ≡ E.failures devices.old.errors)) }
     ensures most { E.failures devices.new.errors ≤ E.failures devices.old.errors + 1 }
 {
-    let (mut session, roots) = prepared(alloc, options)?;
-    load_all(&mut session, &roots, &mut devices.loader)?;
-    let status = show_all(&session, &roots, options, devices)?;
+    let (sources, roots) = prepared(alloc, options)?;
+    let (sources, compiled) = compile_all(sources, roots.as_slice(), &mut devices.loader)?;
+    let status = show_all(&compiled, options, devices)?;
     // The program ends here, and all memory goes back at once.
-    forget(session);
+    forget((sources, compiled));
     Ok(status)
 }
 
 // Writes what goes out of these roots, each in turn.
 fn show_all<L: Loader, S: Source, O: Sink, E: Sink>(
-    session: &Session,
-    roots: &[Name],
+    compiled: &[CompiledRoot],
     options: &Options<'_>,
     devices: &mut Devices<L, S, O, E>,
 ) -> Result<Status, WriteFailed>
     requires writes { O.failures devices.old.output < 2 ^ 64 - 1 }
     requires tells { E.failures devices.old.errors < 2 ^ 64 - 2 }
-    requires roots { AreRoots session.now.project roots.now }
 
-    ensures shown { IfOk result (λ status. IsShown options.now session.now.project.inputs roots.now
+    ensures shown { IfOk result (λ status. AreShown options.now compiled.now
         (record { errors = E.written devices.old.errors; output = O.written devices.old.output })
         (record { errors = E.written devices.new.errors; output = O.written devices.new.output })
         status) }
+    ensures well { OnOk result
+        ((S.failures devices.new.source ≡ S.failures devices.old.source)
+        × (O.failures devices.new.output ≡ O.failures devices.old.output)
+        × (E.failures devices.new.errors ≡ E.failures devices.old.errors)) }
     ensures most { E.failures devices.new.errors ≤ E.failures devices.old.errors + 1 }
 {
     let mut is_faulty = false;
-    'roots: for root in roots {
-        show_errors(session, root, &mut devices.errors)?;
-        show_output(session, root, options, &mut devices.output)?;
-        is_faulty = is_faulty || has_errors(session, root);
+    'roots: for root in compiled {
+        write_lines(&mut devices.errors, root.rows.diagnostics.as_slice())?;
+        show_output(root, options, &mut devices.output)?;
+        is_faulty = is_faulty || root.rows.is_faulty;
     }
     if is_faulty {
         Ok(Status::Faulty)
     } else {
         Ok(Status::Sound)
     }
+}
+
+// Writes the dump and the listing of a root, as far as they are asked for.
+fn show_output<K: Sink>(
+    root: &CompiledRoot,
+    options: &Options<'_>,
+    output: &mut K,
+) -> Result<(), WriteFailed>
+    requires counts { K.failures output.old < 2 ^ 64 - 1 }
+
+    ensures written { OnOk result (K.written output.new
+        ≡ append (K.written output.old) (flat_map whole_line (output_of options.now root.now))) }
+    ensures ok { OnOk result (K.failures output.new ≡ K.failures output.old) }
+{
+    if options.shows_dump {
+        write_lines(output, root.rows.dump.as_slice())?;
+    }
+    if options.shows_listing {
+        write_lines(output, root.rows.listing.as_slice())?;
+    }
+    Ok(())
 }

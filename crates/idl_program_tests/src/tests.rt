@@ -3,6 +3,7 @@
 mod editor;
 mod failures;
 mod listings;
+mod loads;
 mod options;
 mod replies;
 mod room;

@@ -14,5 +14,5 @@ mod type_code;
 
 pub use answered::Answered;
 pub use entry::{Entry, EntryTask, Pushed, entry_by, entry_of};
-pub use laws::{asked_ids, listed_row, references};
+pub use laws::{asked_ids, listed_row, nesting, references};
 pub use type_code::{TypeCode, TypeCodeKind};

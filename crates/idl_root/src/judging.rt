@@ -19,7 +19,7 @@ use crate::memory::Memory;
 use crate::printing::{Listed, Printed, print_all, print_kept, push_listed};
 use idl_check::{Scratch, Verdict, verdict_of};
 use idl_memo::{Bank, Journal};
-use idl_scope::{DigestedKey, Env, Facts, Shared, Step, Writes, scopes_in};
+use idl_scope::{DigestedKey, Env, Facts, OpenScopes, Shared, Step, Writes, scopes_in};
 use idl_unit::{Unit, UnitText};
 use std::alloc::{AllocError, Global};
 
@@ -121,7 +121,8 @@ impl<'a> Judging<'a> {
     pub fn is_open(&self) -> bool
         ensures { result ≡ is_open self.now.env }
     {
-        scopes_in(self.env.answer(&DigestedKey::cursor())).len() > 1
+        let none = OpenScopes::none();
+        scopes_in(self.env.answer(&DigestedKey::cursor()), &none).len() > 1
     }
 
     /// What comes of the names that have an id, over all that was added.

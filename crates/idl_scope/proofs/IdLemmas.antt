@@ -1,5 +1,6 @@
 -- Paths as they are told in a scope, from the innermost name on.
 use Rattle.std.proofs.Common.{◌≡◌, ℕ, zero, suc, ◌-◌, Bool, true, false, List, [], ◌∷◌, ◌++◌, length, take, drop, cond, refl, sym, ap, ◌∙◌, arith}
+use Rattle.std.proofs.Math.Seq.{drop-length}
 use Rattle.std.proofs.lemmas.Bool.{cond-true, cond-false}
 use Rattle.std.proofs.lemmas.List.{length-drop, take-append-drop}
 use Rattle.idl_scope.specs.Identity.{is_within, relative, slashed}
@@ -9,6 +10,23 @@ none-case : (none : List (List ℕ)) (b : Bool) (i : ℕ) → none ≡ [] → co
 none-case none true zero h = sym h
 none-case none true (suc i) h = ap (λ l. take (suc i) l) h ∙ sym h
 none-case none false i h = refl
+
+-- all names are within the global scope
+pub within_global : (a p : List (List ℕ)) → p ≡ [] → is_within a p ≡ true
+within_global a p h =
+    let all : length a - length p ≡ length a = omega (arith, ap length h) in
+    (λ i. path_eq (drop (all i) a) (h i)) ∙ ap (λ l. path_eq l []) (drop-length a)
+
+-- names are within a scope that they are of, and else where those around are, if there are any
+pub within_here : (a p : List (List ℕ)) → path_eq a p ≡ true → is_within a p ≡ true
+within_here a p h =
+    let none : length a - length p ≡ 0 = omega (arith, ap length (same_path a p h)) in
+    ap (λ i. path_eq (drop i a) p) none ∙ h
+
+pub within_none : (p : List (List ℕ)) → is_within [] p ≡ path_eq [] p
+within_none p =
+    let none : 0 - length p ≡ 0 = omega arith in
+    ap (λ i. path_eq (drop i []) p) none
 
 -- of no names nothing is told
 pub slashed_none : (p : List (List ℕ)) → slashed (relative [] p) ≡ []
@@ -41,6 +59,16 @@ beyond m t p h w (suc i) e =
     let one : length t - length p ≡ i = omega (arith, e) in
     ap (λ i. path_eq (drop i (m ∷ t)) p) e ∙ sym (ap (λ i. path_eq (drop i t) p) one) ∙ w
 
+pub within_further : (n : List ℕ) (a p : List (List ℕ)) → path_eq (n ∷ a) p ≡ false → is_within (n ∷ a) p ≡ is_within a p
+within_further n a p h = by (is_within a p) refl
+  where
+    by : (b : Bool) → is_within a p ≡ b → is_within (n ∷ a) p ≡ b
+    by true w =
+        let len : length a - (length a - length p) ≡ length p = sym (length-drop (length a - length p) a) ∙ ap length (same_path (drop (length a - length p) a) p w) in
+        let one : suc (length a) - length p ≡ suc (length a - length p) = omega (arith, len) in
+        ap (λ i. path_eq (drop i (n ∷ a)) p) one ∙ w
+    by false w = beyond n a p h w (suc (length a) - length p) refl
+
 further : (n m : List ℕ) (t p : List (List ℕ)) → path_eq (m ∷ t) p ≡ false → (b : Bool) → is_within t p ≡ b → slashed (relative (n ∷ m ∷ t) p) ≡ slashed (relative (m ∷ t) p) ++ 47 ∷ n
 further n m t p h true w =
     let len : length t - (length t - length p) ≡ length p = sym (length-drop (length t - length p) t) ∙ ap length (same_path (drop (length t - length p) t) p w) in
@@ -61,6 +89,14 @@ pub slashed_further : (n : List ℕ) (a p : List (List ℕ)) → (a ≡ [] → �
 slashed_further n [] p some h = absurd (some refl)
 slashed_further n (m ∷ t) p some h = further n m t p h (is_within t p) refl
 
+-- what is told of a path in a scope begins with its name
+pub relative-name : (n : List ℕ) (t p : List (List ℕ)) → is_within t p ≡ true → relative (n ∷ t) p ≡ n ∷ take (length t - length p) t
+relative-name n t p h =
+    let tail : drop (length t - length p) t ≡ p = same_path (drop (length t - length p) t) p h in
+    let len : length t - (length t - length p) ≡ length p = sym (length-drop (length t - length p) t) ∙ ap length tail in
+    let one : suc (length t) - length p ≡ suc (length t - length p) = omega (arith, len) in
+    cond-true (is_within t p) (take (suc (length t) - length p) (n ∷ t)) (n ∷ t) h ∙ ap (λ i. take i (n ∷ t)) one
+
 -- a path in a scope is what is told of it there, and the path of the scope
 pub relative-inside : (path p : List (List ℕ)) → is_within (scope_of path) p ≡ true → relative path p ++ p ≡ path
 relative-inside [] p h =
@@ -69,10 +105,7 @@ relative-inside [] p h =
     ap (λ l. l ++ p) (none-case [] (is_within [] p) (0 - length p) refl) ∙ sym (same_path [] p same)
 relative-inside (n ∷ t) p h =
     let tail : drop (length t - length p) t ≡ p = same_path (drop (length t - length p) t) p h in
-    let len : length t - (length t - length p) ≡ length p = sym (length-drop (length t - length p) t) ∙ ap length tail in
-    let one : suc (length t) - length p ≡ suc (length t - length p) = omega (arith, len) in
-    let told : relative (n ∷ t) p ≡ n ∷ take (length t - length p) t = cond-true (is_within t p) (take (suc (length t) - length p) (n ∷ t)) (n ∷ t) h ∙ ap (λ i. take i (n ∷ t)) one in
-    ap (λ l. l ++ p) told ∙ sym (ap (λ l. n ∷ (take (length t - length p) t ++ l)) tail) ∙ ap (λ l. n ∷ l) (take-append-drop (length t - length p) t)
+    ap (λ l. l ++ p) (relative-name n t p h) ∙ sym (ap (λ l. n ∷ (take (length t - length p) t ++ l)) tail) ∙ ap (λ l. n ∷ l) (take-append-drop (length t - length p) t)
 
 -- and one elsewhere is told whole
 pub relative-elsewhere : (path p : List (List ℕ)) → is_within (scope_of path) p ≡ false → relative path p ≡ path

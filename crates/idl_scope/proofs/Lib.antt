@@ -8,6 +8,7 @@ pub mod ExchangeLaws
 pub mod FactsLaws
 mod FewLemmas
 pub mod FirstLemmas
+pub mod IdLaws
 pub mod IdLemmas
 pub mod Introduced
 pub mod LookupLaws

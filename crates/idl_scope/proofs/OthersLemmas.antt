@@ -1,5 +1,5 @@
 -- Answers beside which those of two keys stand apart.
-use Rattle.std.proofs.Common.{◌≡◌, ◌<◌, List, [], ◌∷◌, refl, arith}
+use Rattle.std.proofs.Common.{◌≡◌, ◌<◌, List, ◌∷◌, refl, arith}
 use Rattle.std.specs.Map.{lookup}
 use Rattle.idl_scope.specs.Facts.{key_of}
 use Rattle.idl_scope.specs.Held.{IsAmongOthers}

@@ -1,7 +1,8 @@
 -- Queues of paths.
-use Rattle.std.proofs.Common.{◌≡◌, ◌⊎◌, append-nil, inl, inr, take, ℕ, zero, suc, Bool, true, false, cond, List, [], ◌∷◌, ◌++◌, is_some, refl, sym, ap, ◌∙◌}
+use Rattle.std.proofs.Common.{◌≡◌, ◌<◌, ℕ, zero, suc, Bool, true, false, append_assoc, cond, List, [], ◌∷◌, ◌++◌, get_or, is_some, length, refl, sym, ap, ◌∙◌, arith}
 use Rattle.std.specs.Prelude.{slice_get, ◌||◌}
 use Rattle.std.specs.List.{list_any}
+use Rattle.std.specs.Cmp.Lexicographic.{bytes_decides, pointwise_decides}
 use Rattle.std.specs.Map.{keys_of, lookup}
 use Rattle.std.specs.Option.{option_map}
 use Rattle.std.proofs.lemmas.List.Folds.{list_any-append}
@@ -42,13 +43,13 @@ module _ (p : List (List ℕ)) (first others : List (List (List ℕ))) where
   pub joined-in_neither : list_any (path_eq p) first ≡ false → list_any (path_eq p) others ≡ false → joined (first ++ others) (p ∷ []) ≡ (first ++ others) ++ p ∷ []
   joined-in_neither h g = joined-new (first ++ others) p [] (list_any-append (path_eq p) first others ∙ ap (λ a. a || list_any (path_eq p) others) h ∙ g)
 
--- the first paths that a queue has go behind the others of it, where it has no more than these or than the others
-pub joined-spilled : (count : ℕ) (row : List (List (List ℕ))) (others : List (List (List ℕ) × Unit {0})) → joined [] (take count row) ≡ take count row → ((count ≡ 0) ⊎ (others ≡ []))
-    → joined (keys_of others) (take count row) ≡ take count row ++ keys_of others
-joined-spilled count row others once (inl none) =
-    ap (λ n. joined (keys_of others) (take n row)) none ∙ sym (ap (λ n. take n row ++ keys_of others) none)
-joined-spilled count row others once (inr none) =
-    ap (λ os. joined (keys_of os) (take count row)) none ∙ once ∙ sym (append-nil (take count row)) ∙ sym (ap (λ os. take count row ++ keys_of os) none)
+  -- behind the first ones it is put among the others
+  pub joined-behind : list_any (path_eq p) first ≡ false → joined (first ++ others) (p ∷ []) ≡ first ++ joined others (p ∷ [])
+  joined-behind h = by_test (list_any (path_eq p) others) refl
+    where
+      by_test : (b : Bool) → list_any (path_eq p) others ≡ b → joined (first ++ others) (p ∷ []) ≡ first ++ joined others (p ∷ [])
+      by_test true there = joined-among_others there ∙ ap (λ l. first ++ l) (sym (joined-there others p [] there))
+      by_test false new = joined-in_neither h new ∙ append_assoc first others (p ∷ []) ∙ ap (λ l. first ++ l) (sym (joined-new others p [] new))
 
 -- the path at a place of a queue
 pub slice_get-keys_of : (queue : List (List (List ℕ) × Unit {0})) (i : ℕ) → slice_get (keys_of queue) i ≡ option_map (λ e. e.0) (slice_get queue i)
@@ -60,7 +61,7 @@ or_none : (a : Bool) → (a || false) ≡ a
 or_none true = refl
 or_none false = refl
 
-or_one : (a b c : Bool) → ((a || (b || false)) || c) ≡ (a || (b || c))
+pub or_one : (a b c : Bool) → ((a || (b || false)) || c) ≡ (a || (b || c))
 or_one true b c = refl
 or_one false true c = refl
 or_one false false c = refl
@@ -92,3 +93,18 @@ list_any-joined p found (x ∷ paths) = joined-step p x found paths (λ most. li
 pub same_one_more : (p x : List (List ℕ)) (xs ys : List (List (List ℕ))) → list_any (path_eq p) xs ≡ list_any (path_eq p) ys → list_any (path_eq p) (xs ++ x ∷ []) ≡ list_any (path_eq p) (ys ++ x ∷ [])
 same_one_more p x xs ys h =
     list_any-append (path_eq p) xs (x ∷ []) ∙ ap (λ a. a || (path_eq p x || false)) h ∙ sym (list_any-append (path_eq p) ys (x ∷ []))
+
+-- a path at a place of a list is among its paths
+pub item_among : (paths : List (List (List ℕ))) (i : ℕ) (x : List (List ℕ)) → i < length paths → x ≡ get_or paths i x → list_any (path_eq x) paths ≡ true
+item_among [] i x h e = absurd (let none : ⊥ = omega (h, arith) in none)
+item_among (y ∷ paths) zero x h e = ap (λ b. b || list_any (path_eq x) paths) ((pointwise_decides bytes_decides x y).1 e)
+item_among (y ∷ paths) (suc i) x h e =
+    let less : i < length paths = omega (h, arith) in
+    ap (λ b. path_eq x y || b) (item_among paths i x less e) ∙ or_true (path_eq x y)
+
+-- a path that is asked for is none that isn't
+pub asked_differs : (asked : List (List (List ℕ))) (p x : List (List ℕ)) → list_any (path_eq p) asked ≡ true → list_any (path_eq x) asked ≡ false → path_eq p x ≡ false
+asked_differs asked p x h g = by_test (path_eq p x) refl where
+  by_test : (b : Bool) → path_eq p x ≡ b → b ≡ false
+  by_test true one = sym h ∙ ap (λ q. list_any (path_eq q) asked) (same_path p x one) ∙ g
+  by_test false other = refl

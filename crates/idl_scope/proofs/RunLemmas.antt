@@ -1,5 +1,5 @@
 -- Runs of lookups over a bank, under what a unit's earlier tokens add.
-use Rattle.std.proofs.Common.{◌≡◌, ℕ, zero, suc, ◌+◌, true, false, cond, List, [], ◌∷◌, ◌++◌, Option, Some, None, Result, Err, refl, ap, ◌∙◌}
+use Rattle.std.proofs.Common.{◌≡◌, ℕ, zero, suc, ◌+◌, true, false, cond, List, [], ◌∷◌, ◌++◌, Option, Some, None, Result, Err, refl, sym, ap, ◌∙◌}
 use Rattle.std.specs.Prelude.{option_to_list, slice_get}
 use Rattle.idl_memo.specs.Query.{Done, Ask, Tell, and_then, run, noted}
 use Rattle.idl_memo.proofs.QueryLaws.{run-and_then_at}
@@ -101,6 +101,12 @@ module _ (own : List Addition) (bank : Key → Option Answer) where
   outward_on turns s scopes n log found after h none =
       runs-and_then (has turns s.kind s.path n) (λ found. cond (is_nothing found) (outward turns scopes n) (Done found)) log found after h
       ∙ ap (λ b. runs (cond b (outward turns scopes n) (Done found)) after) none
+
+  -- of one scope alone, what is outward is what it has
+  pub outward_alone : (turns : ℕ) (s : Scope) (n : List ℕ) (log : List (Key × Option Answer)) (found : List Entity) (after : List (Key × Option Answer))
+      → (found, after) ≡ runs (has turns s.kind s.path n) log → (found, after) ≡ runs (outward turns (s ∷ []) n) log
+  outward_alone turns s n log [] after h = sym (outward_on turns s [] n log [] after h refl)
+  outward_alone turns s n log (e ∷ found) after h = sym (outward_found turns s [] n log (e ∷ found) after h refl)
 
   -- one part of a name
   pub part_on : (part : ℕ) (name : List ℕ) (there : Lookup (List Entity)) (log : List (Key × Option Answer)) (found : List Entity) (after : List (Key × Option Answer))

@@ -5,6 +5,7 @@ use Rattle.std.specs.Prelude.{flat_map}
 use Rattle.idl_lex.specs.Keywords.{folded}
 use Rattle.idl_scope.specs.Turns.{bases_in, bases_among, bases_named, declared_in, declared_among, declared_named}
 use Rattle.idl_scope.specs.Facts.{UnitFacts, World, entity_key, entity_in, scopes_in, key_of, answer_of, addition_at, over, with_answer, with_additions, first_answer, first_world, given_back, no_prefix, with_prefix, closed, closing, after_closing, after_opening, after_nameless, after_step, after, after_all, world, answers}
+use Rattle.idl_scope.specs.Identity.{prefix_for}
 use Rattle.idl_scope.specs.Key.{key_eq, same_key}
 use Rattle.idl_scope.specs.Kind.{kind_eq}
 use Rattle.idl_scope.specs.Lookup.{bases_of, has_bases}
@@ -18,7 +19,7 @@ use Rattle.idl_scope.specs.declared.answer.Answer.{Answer}
 use Rattle.idl_scope.specs.declared.answer.Answer.TheVariants.{Open, Known, Used, Count, InForce, Appeared, Identified}
 use Rattle.idl_scope.specs.declared.answer.Scope.{Scope}
 use Rattle.idl_scope.specs.declared.entity.Entity.{Entity}
-use Rattle.idl_scope.specs.declared.identity.Identity.{Identity}
+use Rattle.idl_scope.specs.declared.identity.FixedIdentity.{FixedIdentity}
 use Rattle.idl_scope.specs.declared.identity.Prefix.{Prefix}
 use Rattle.idl_scope.specs.declared.key.Key.{Key}
 use Rattle.idl_scope.specs.declared.key.Key.TheVariants.{Cursor, Declared, Introduced, Opened, Nameless, Prefix as PrefixKey, IdOf}
@@ -112,8 +113,8 @@ module _ (parts : Entity → List (List (List ℕ))) (places : List (List (List 
   no_entity_first : (k : Key) (prefix : Prefix) → IsGroundedBy parts places k (Appeared prefix)
   no_entity_first k prefix e h = absurd (let z : Appeared prefix ≡ Known e = h in cc)
 
-  no_entity_identity : (k : Key) (identity : Identity) → IsGroundedBy parts places k (Identified identity)
-  no_entity_identity k identity e h = absurd (let z : Identified identity ≡ Known e = h in cc)
+  no_entity_identity : (k : Key) (fixed : FixedIdentity) → IsGroundedBy parts places k (Identified fixed)
+  no_entity_identity k fixed e h = absurd (let z : Identified fixed ≡ Known e = h in cc)
 
   -- an addition whose parts are among these leaves such an answer
   pub addition-grounded : (a : Addition) → HasPartsIn parts places a → IsGroundedBy parts places (key_of a) (answer_of a)
@@ -121,7 +122,7 @@ module _ (parts : Entity → List (List (List ℕ))) (places : List (List (List 
       let same = known_same d e h in
       (ap (λ x. entity_key x.path) same, λ c i. within d refl c (let Q : Entity → Type 0 = λ x. IsIn c (parts x) in subst Q (sym same) i))
   addition-grounded (Uses n path body) within e h = no_entity_used (Introduced n path body) e h
-  addition-grounded (Appears path prefix) within e h = no_entity_first (IdOf path) prefix e h
+  addition-grounded (Appears path prefix) within e h = no_entity_first (IdOf path) (prefix_for path prefix) e h
   addition-grounded (Identifies path identity) within e h = no_entity_identity (IdOf path) identity e h
 
   pub over-grounded : (additions : List Addition) (answers : Key → Option Answer) → AreGroundedBy parts places answers → ((a : Addition) → IsIn a additions → IsGroundedBy parts places (key_of a) (answer_of a)) → AreGroundedBy parts places (λ k. over additions k (answers k))

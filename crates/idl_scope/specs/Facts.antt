@@ -2,7 +2,7 @@
 use Rattle.std.specs.Prelude.{ℕ, ◌+◌, Bool, true, List, [], ◌∷◌, ◌++◌, Option, Some, None, decimal, drop, if◌then◌else◌}
 use Rattle.std.specs.List.{list_any}
 use Rattle.idl_lex.specs.Keywords.{folded}
-use Rattle.idl_scope.specs.Identity.{first_identity}
+use Rattle.idl_scope.specs.Identity.{first_identity, identity_of, prefix_for}
 use Rattle.idl_scope.specs.Key.{key_eq}
 use Rattle.idl_scope.specs.Kind.{kind_eq}
 use Rattle.idl_scope.specs.Path.{name_of, path_eq, scope_of}
@@ -42,8 +42,8 @@ key_of (Identifies path identity) = IdOf path
 abbrev pub answer_of : Addition → Answer
 answer_of (Declares e) = Known e
 answer_of (Uses n path body) = Used
-answer_of (Appears path prefix) = Appeared prefix
-answer_of (Identifies path identity) = Identified identity
+answer_of (Appears path prefix) = Appeared (prefix_for path prefix)
+answer_of (Identifies path fixed) = Identified fixed
 
 -- the addition at a key, or nothing
 abbrev pub addition_at : List Addition → Key → Option Addition
@@ -120,7 +120,7 @@ prefix_in other = no_prefix
 -- what identifies the name at a path, by what is answered of its id
 abbrev pub identity_at : List (List ℕ) → Option Answer → Option Identity
 identity_at path (Some (Appeared prefix)) = Some (first_identity prefix path)
-identity_at path (Some (Identified identity)) = Some identity
+identity_at path (Some (Identified fixed)) = Some (identity_of fixed)
 identity_at path other = None
 
 -- its id, and nothing where none is told

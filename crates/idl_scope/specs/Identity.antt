@@ -1,12 +1,13 @@
 -- What identifies a name at first, and when two prefixes, or two ids, are one.
-use Rattle.std.specs.Prelude.{◌≡◌, ℕ, ◌-◌, Bool, true, ◌==◌, ◌&&◌, List, [], ◌∷◌, ◌++◌, codes, drop, if◌then◌else◌, length, nat_eq, refl, take}
+use Rattle.std.specs.Prelude.{◌≡◌, ℕ, ◌-◌, Bool, true, ◌==◌, ◌&&◌, List, [], ◌∷◌, ◌++◌, Some, None, codes, drop, if◌then◌else◌, length, nat_eq, refl, take}
 use Rattle.std.proofs.Common.{ap, sym, ◌∙◌}
 use Rattle.std.specs.Cmp.Lexicographic.{bytes_decides}
 use Rattle.std.specs.Str.{bytes_eq}
 use Rattle.idl_base.specs.Exact.{both, same_number}
 use Rattle.idl_scope.specs.Path.{path_eq, same_path, scope_of}
 use Rattle.idl_scope.specs.declared.identity.Fixed.{Fixed}
-use Rattle.idl_scope.specs.declared.identity.Fixed.TheVariants.{Nothing, Version, Id}
+use Rattle.idl_scope.specs.declared.identity.Fixed.TheVariants.{Version, Id}
+use Rattle.idl_scope.specs.declared.identity.FixedIdentity.{FixedIdentity}
 use Rattle.idl_scope.specs.declared.identity.Identity.{Identity}
 use Rattle.idl_scope.specs.declared.identity.Prefix.{Prefix}
 
@@ -35,21 +36,28 @@ abbrev pub first_identity : Prefix → List (List ℕ) → Identity
 first_identity p path = record {
   id = codes "IDL:" ++ prefixed p.text ++ slashed (relative path p.scope) ++ codes ":1.0";
   prefix = p.text;
-  fixed = Nothing;
+  fixed = None;
 }
+
+-- the prefix as it tells the id of the name at a path: of a name outside of the scope in which it was
+-- met, as if it was met in the global scope
+abbrev pub prefix_for : List (List ℕ) → Prefix → Prefix
+prefix_for path p = if is_within (scope_of path) p.scope then p else record p { scope = [] }
+
+-- what a name is identified by whose id a pragma fixed
+abbrev pub identity_of : FixedIdentity → Identity
+identity_of d = record { id = d.id; prefix = d.prefix; fixed = Some d.by }
 
 -- a number for each
 abbrev pub fixed_number : Fixed → ℕ
-fixed_number Nothing = 0
-fixed_number Version = 1
-fixed_number Id = 2
+fixed_number Version = 0
+fixed_number Id = 1
 
 -- the one with a number
 abbrev pub fixed_of : ℕ → Fixed
-fixed_of n = if n == 0 then Nothing else if n == 1 then Version else Id
+fixed_of n = if n == 0 then Version else Id
 
 fixed_of-number : (x : Fixed) → fixed_of (fixed_number x) ≡ x
-fixed_of-number Nothing = refl
 fixed_of-number Version = refl
 fixed_of-number Id = refl
 
@@ -75,18 +83,18 @@ pub copied_prefix : (p copy : Prefix) → (copy.text ≡ p.text) × (copy.scope 
 copied_prefix p copy h = λ i. record { text = h.0 i; scope = h.1 i }
 
 -- whether two ids are one, with the prefix and what fixed them
-abbrev pub identity_eq : Identity → Identity → Bool
-identity_eq d e = bytes_eq d.id e.id && (bytes_eq d.prefix e.prefix && fixed_eq d.fixed e.fixed)
+abbrev pub identity_eq : FixedIdentity → FixedIdentity → Bool
+identity_eq d e = bytes_eq d.id e.id && (bytes_eq d.prefix e.prefix && fixed_eq d.by e.by)
 
-pub same_identity : (d e : Identity) → identity_eq d e ≡ true → d ≡ e
+pub same_identity : (d e : FixedIdentity) → identity_eq d e ≡ true → d ≡ e
 same_identity d e h =
     let a = both _ _ h in
     let b = both _ _ a.1 in
     let id = (bytes_decides d.id e.id).0 a.0 in
     let prefix = (bytes_decides d.prefix e.prefix).0 b.0 in
-    let fixed = same_fixed d.fixed e.fixed b.1 in
-    λ i. record { id = id i; prefix = prefix i; fixed = fixed i }
+    let fixed = same_fixed d.by e.by b.1 in
+    λ i. record { id = id i; prefix = prefix i; by = fixed i }
 
-pub copied_identity : (d copy : Identity)
-    → (copy.id ≡ d.id) × ((copy.prefix ≡ d.prefix) × (copy.fixed ≡ d.fixed)) → copy ≡ d
-copied_identity d copy h = λ i. record { id = h.0 i; prefix = h.1.0 i; fixed = h.1.1 i }
+pub copied_identity : (d copy : FixedIdentity)
+    → (copy.id ≡ d.id) × ((copy.prefix ≡ d.prefix) × (copy.by ≡ d.by)) → copy ≡ d
+copied_identity d copy h = λ i. record { id = h.0 i; prefix = h.1.0 i; by = h.1.1 i }

@@ -14,10 +14,13 @@ pub mod Kind
 pub mod LentKey
 pub mod Lookup
 pub mod Meaning
+pub mod OpenScopes
 pub mod Outline
 pub mod Outside
 pub mod Past
 pub mod Path
+pub mod Queue
+pub mod Scope
 pub mod Signature
 pub mod Stretch
 pub mod Turns

@@ -10,12 +10,13 @@ use crate::digest::{identified, introduced};
 use crate::digested::DigestedKey;
 use crate::entity::Entity;
 use crate::held_key::HeldKey;
-use crate::identity::{Identity, Prefix};
+use crate::identity::{FixedIdentity, Prefix, prefix_for};
 use crate::kind::Kind;
 use crate::own_name::OwnName;
 use crate::path::Path;
 use crate::shared::Shared;
 use idl_lex::Spelling;
+use idl_map::Digest;
 use std::alloc::{AllocError, Global};
 
 /// What a declared name adds, the use of one, or a pragma about one.
@@ -28,7 +29,7 @@ pub enum Addition {
     /// What has an id is declared first, at a path and under this prefix: the two tell its id.
     Appears(Path, Shared<Prefix>),
     /// What is declared at a path has this id from now on.
-    Identifies(Path, Shared<Identity>),
+    Identifies(Path, Shared<FixedIdentity>),
 }
 
 /// How the open scopes, the files entered and the prefix of ids change.
@@ -107,6 +108,7 @@ impl Addition {
                 (HeldKey::introduced(alloc, name, path, body)?, Answer::Used)
             }
             Addition::Appears(path, prefix) => {
+                let prefix = prefix_for(alloc, &path, prefix)?;
                 (HeldKey::id_of(alloc, path)?, Answer::Appeared(prefix))
             }
             Addition::Identifies(path, identity) => {
@@ -149,13 +151,15 @@ impl Addition {
     }
 
     /// The answer that it leaves there.
-    pub fn answer(&self) -> Result<Answer, AllocError>
+    pub fn answer(&self, alloc: Global) -> Result<Answer, AllocError>
         ensures { IfOk result (λ answer. answer ≡ answer_of self.now) }
     {
         match self {
             Addition::Declares(entity) => Ok(Answer::Known(entity.clone()?)),
             Addition::Uses(_, _, _) => Ok(Answer::Used),
-            Addition::Appears(_, prefix) => Ok(Answer::Appeared(prefix.clone()?)),
+            Addition::Appears(path, prefix) => {
+                Ok(Answer::Appeared(prefix_for(alloc, path, prefix.clone()?)?))
+            }
             Addition::Identifies(_, identity) => Ok(Answer::Identified(identity.clone()?)),
         }
     }

@@ -1,16 +1,17 @@
 //! What is answered about names.
 
-ghost use Rattle.std.specs.Prelude.{◌≡◌, ◌++◌, IfOk, IfSome, None, OnOk};
+ghost use Rattle.std.specs.Prelude.{◌≡◌, ◌++◌, [], IfOk, IfSome, None, OnOk};
 ghost use Rattle.std.specs.Option.{option_copied};
 ghost use Rattle.idl_scope.specs.Facts.{count_in, entity_in, global_scope, id_at, identity_at, no_prefix, prefix_in, scopes_in};
 ghost use Rattle.idl_scope.specs.declared.answer.Answer.TheVariants as answers;
 
 use crate::entity::Entity;
-use crate::identity::{Identity, Prefix};
+use crate::identity::{FixedIdentity, Identity, Prefix};
 use crate::kind::Kind;
+use crate::open_scopes::OpenScopes;
 use crate::path::Path;
 use crate::shared::Shared;
-use idl_base::{Datum, Seq};
+use idl_base::Datum;
 use std::alloc::{AllocError, Global};
 
 /// An open scope: its path, what it is of, and which of its bodies this is. The one body of the global scope has the number 0,
@@ -26,7 +27,7 @@ pub struct Scope {
 #[derive(Clone, PartialEq, Eq)]
 pub enum Answer {
     /// These scopes are open, the innermost first and the global one last.
-    Open(Shared<Seq<Scope>>),
+    Open(OpenScopes),
     /// The name is declared as this.
     Known(Shared<Entity>),
     /// The name was introduced.
@@ -35,10 +36,10 @@ pub enum Answer {
     Count(usize),
     /// This prefix is in force.
     InForce(Shared<Prefix>),
-    /// The name was declared first under this prefix, which tells its id with the path.
+    /// The name was declared first under this prefix, which tells its id with the path; it was met in a scope around the name.
     Appeared(Shared<Prefix>),
-    /// The name has this id.
-    Identified(Shared<Identity>),
+    /// A pragma fixed this id of the name.
+    Identified(Shared<FixedIdentity>),
 }
 
 impl Scope {
@@ -62,13 +63,13 @@ impl Drop for Answer {
             Answer::Used | Answer::Count(_) => {}
             Answer::InForce(_prefix) => {}
             Answer::Appeared(_prefix) => {}
-            Answer::Identified(_identity) => {}
+            Answer::Identified(_fixed) => {}
         }
     }
 }
 
 impl Datum for Scope {
-    ghost use Rattle.idl_scope.specs.Answer.{same_scope, copied_scope};
+    ghost use Rattle.idl_scope.specs.Scope.{same_scope, copied_scope};
 
     ghost same = { same_scope };
 
@@ -83,13 +84,13 @@ impl Datum for Answer {
     ghost copy = { copied_answer };
 }
 
-/// The open scopes that an answer tells, if it does.
-pub fn scopes_in<'a>(answer: Option<&'a Answer>) -> &'a [Scope]
-    ensures { result.now ≡ scopes_in (option_copied answer.entry) }
+/// The open scopes that an answer tells, if it does, and else those that are lent, of which none is open.
+pub fn scopes_in<'a>(answer: Option<&'a Answer>, none: &'a OpenScopes) -> &'a OpenScopes
+    ensures { none.now ≡ [] → result.now ≡ scopes_in (option_copied answer.entry) }
 {
     match answer {
-        Some(Answer::Open(scopes)) => scopes.get().as_slice(),
-        _ => &[],
+        Some(Answer::Open(scopes)) => scopes,
+        _ => none,
     }
 }
 
@@ -134,7 +135,7 @@ pub fn identity_at(
 {
     match answer {
         Some(Answer::Appeared(prefix)) => { Ok(Some(Identity::first(alloc, prefix.get(), path)?)) }
-        Some(Answer::Identified(identity)) => Ok(Some(identity.clone()?)),
+        Some(Answer::Identified(fixed)) => Ok(Some(fixed.get().identity(alloc)?)),
         _ => Ok(None),
     }
 }
@@ -150,7 +151,7 @@ pub fn push_id_at(
 {
     match answer {
         Some(Answer::Appeared(prefix)) => prefix.get().push_id(text, path),
-        Some(Answer::Identified(identity)) => text.extend_from_slice(identity.get().id.as_bytes()),
+        Some(Answer::Identified(fixed)) => text.extend_from_slice(fixed.get().id.as_bytes()),
         _ => Ok(()),
     }
 }

@@ -8,11 +8,12 @@ ghost use Rattle.idl_scope.specs.declared.answer.Scope.{Scope};
 ghost use Rattle.idl_scope.specs.declared.key.Key.TheVariants as key;
 
 use crate::addition::Step;
-use crate::answer::{Scope, entity_in, scopes_in};
+use crate::answer::{entity_in, scopes_in};
 use crate::digested::DigestedKey;
 use crate::env::Env;
 use crate::facts::Facts;
 use crate::key::Key;
+use crate::open_scopes::OpenScopes;
 use crate::path::Path;
 use crate::state::closable;
 use idl_map::Digest;
@@ -46,7 +47,8 @@ impl Env {
             × (digests.1 ≡ key_digest (entity_key s.path))) }
         ensures none { result ≡ None → (s : Scope) → IsInnermost (answers self.now) s → ⊥ }
     {
-        let scopes = scopes_in(self.answer(&DigestedKey::cursor()));
+        let none = OpenScopes::none();
+        let scopes = scopes_in(self.answer(&DigestedKey::cursor()), &none);
         let (innermost, _outer) = closable(scopes)?;
         Some((Key::Cursor.digest(), innermost.path.entity_digest()))
     }
@@ -58,13 +60,14 @@ impl Env {
             digests.items ≡ map key_digest (key.Cursor ∷ gathered_at w scopes)) }
     {
         let mut digests = digest_alone(self.alloc(), &Key::Cursor)?;
-        let scopes = scopes_in(self.answer(&DigestedKey::cursor()));
+        let none = OpenScopes::none();
+        let scopes = scopes_in(self.answer(&DigestedKey::cursor()), &none);
         self.gather(&mut digests, scopes)?;
         Ok(digests)
     }
 
     // Puts those of the keys last at which the operations of an interface are gathered, if it is the innermost of the scopes.
-    fn gather(&self, digests: &mut Vec<u64>, scopes: &[Scope]) -> Result<(), AllocError>
+    fn gather(&self, digests: &mut Vec<u64>, scopes: &OpenScopes) -> Result<(), AllocError>
         ensures { OnOk result
             (digests.new.items
             ≡ digests.old.items ++ map key_digest (gathered_at (world self.now) scopes.now)) }

@@ -1,14 +1,15 @@
 //! Queues of the bases that a walk enters.
 
-ghost use Rattle.std.specs.Prelude.{◌≡◌, ◌<◌, ◌∷◌, [], IsSome, OnOk, slice_get};
+ghost use Rattle.std.specs.Prelude.{◌≡◌, ◌<◌, ◌∷◌, [], IfOk, IsSome, OnOk, slice_get};
+ghost use Rattle.std.specs.Map.{keys_of};
 ghost use Rattle.std.specs.List.{list_any};
 ghost use Rattle.std.specs.Option.{option_copied};
 ghost use Rattle.idl_scope.specs.Facts.{joined};
 ghost use Rattle.idl_scope.specs.Path.{path_eq};
 
 use crate::path::Path;
-use crate::queue::join;
-use idl_base::Table;
+use crate::queue::{join, join_one};
+use idl_map::DigestTable;
 use std::alloc::{AllocError, Global};
 use std::marker::Model;
 
@@ -18,28 +19,29 @@ const FEW: usize = 4;
 /// Paths in the order in which they were put in, each once. To every contract it is the list of them.
 ///
 /// Most interfaces have few bases, and few of these have bases: so few paths stand in place. Where there are more, all are found
-/// in a table.
+/// in a table by their digests.
 #[derive(Drop)]
 pub struct BaseQueue {
+    alloc: Global,
     few: [Path; FEW],
-    // How many paths stand in place: none, where there are others.
+    // How many stand in place.
     count: usize,
-    others: Table<Path, ()>,
+    // All of them, where they are more. Most queues have no such table, and are made often.
+    all: Option<Box<DigestTable<Path, ()>>>,
 }
 
 impl Model for BaseQueue {
-    ghost use Rattle.std.specs.Prelude.{◌≡◌, ◌⊎◌, [], List, ℕ, ◌≤◌, ◌++◌, take};
-    ghost use Rattle.std.specs.Map.{keys_of};
+    ghost use Rattle.std.specs.Prelude.{◌≡◌, [], List, ℕ, ◌≤◌, take};
     ghost use Rattle.idl_scope.specs.Facts.{joined};
+    ghost use Rattle.idl_scope.specs.Queue.{paths_of};
 
     ghost Value = { List (List (List ℕ)) };
 
-    ghost view = { λ queue. take queue.count queue.few ++ keys_of queue.others };
+    ghost view = { λ queue. paths_of (take queue.count queue.few) queue.all };
 
     ghost invariant = { λ queue.
         (queue.count ≤ 4)
-        × ((joined [] (take queue.count queue.few) ≡ take queue.count queue.few)
-        × ((queue.count ≡ 0) ⊎ (queue.others ≡ []))) };
+        × (joined [] (take queue.count queue.few) ≡ take queue.count queue.few) };
 }
 
 impl BaseQueue {
@@ -48,6 +50,7 @@ impl BaseQueue {
         ensures { result ≡ [] }
     {
         BaseQueue {
+            alloc,
             few: [
                 Path::global(),
                 Path::global(),
@@ -55,7 +58,7 @@ impl BaseQueue {
                 Path::global(),
             ],
             count: 0,
-            others: Table::new(alloc),
+            all: None,
         }
     }
 
@@ -64,14 +67,11 @@ impl BaseQueue {
         ensures path { option_copied result ≡ slice_get self.now place }
         ensures counted { IsSome result → place < usize.MAX }
     {
-        if place < self.count {
-            return Some(&self.few[place]);
+        match &self.all {
+            Some(all) => path_at(all, place),
+            None if place < self.count => Some(&self.few[place]),
+            None => None,
         }
-        if place >= self.others.len() {
-            return None;
-        }
-        let (path, ()) = self.others.get_index(place)?;
-        Some(path)
     }
 
     /// Puts those of the paths last that are not yet there.
@@ -90,23 +90,24 @@ impl BaseQueue {
     fn join_one(&mut self, path: &Path) -> Result<(), AllocError>
         ensures { OnOk result (self.new ≡ joined self.old (path.now ∷ [])) }
     {
+        if let Some(all) = &mut self.all {
+            join_one(all, path)?;
+            return Ok(());
+        }
         if is_among(&self.few[..self.count], path) {
             return Ok(());
         }
-        if self.others.contains(path) {
-            return Ok(());
-        }
-        let copy = path.clone()?;
         let count = self.count;
-        if count < FEW && self.others.is_empty() {
+        if count < FEW {
+            let copy = path.clone()?;
             let few = &mut self.few[..];
             few[count] = copy;
             self.count = count + 1;
             return Ok(());
         }
-        self.count = 0;
-        join(&mut self.others, &self.few[..count])?;
-        self.others.push(copy, ())?;
+        let mut all = table_of(self.alloc, &self.few[..count])?;
+        join_one(&mut all, path)?;
+        self.all = Some(all);
         Ok(())
     }
 }
@@ -116,4 +117,26 @@ fn is_among(paths: &[Path], path: &Path) -> bool
     ensures { result ≡ list_any (path_eq path.now) paths.now }
 {
     paths.iter().any(|other| path == other)
+}
+
+// The path at a place of a table, or nothing past the last.
+fn path_at(paths: &DigestTable<Path, ()>, place: usize) -> Option<&Path>
+    ensures path { option_copied result ≡ slice_get (keys_of paths.now) place }
+    ensures counted { IsSome result → place < usize.MAX }
+{
+    if place >= paths.len() {
+        return None;
+    }
+    let (path, ()) = paths.get_index(place)?;
+    Some(path)
+}
+
+// The table of these paths, each once.
+#[inline(never)]
+fn table_of(alloc: Global, paths: &[Path]) -> Result<Box<DigestTable<Path, ()>>, AllocError>
+    ensures { IfOk result (λ table. keys_of table.value ≡ joined [] paths.now) }
+{
+    let mut table = DigestTable::new(alloc);
+    join(&mut table, paths)?;
+    Ok(Box::new(alloc, table)?)
 }

@@ -1,6 +1,6 @@
 //! The environment: what the facts so far answer.
 
-ghost use Rattle.std.specs.Prelude.{◌≡◌, ◌≤◌, ◌+◌, ◌∷◌, ◌++◌, [], IfOk, IfSome, length};
+ghost use Rattle.std.specs.Prelude.{◌≡◌, ◌∷◌, ◌++◌, [], IfOk, ◌+◌, ◌<◌, ◌≤◌, length};
 ghost use Rattle.std.specs.Option.{option_copied};
 ghost use Rattle.idl_scope.specs.DataType.{plain_type};
 ghost use Rattle.idl_scope.specs.Facts.{answers};
@@ -99,9 +99,7 @@ impl Env {
             mut state,
             plain,
         } = self;
-        let Some(count) = counted(count, facts) else {
-            return Err(AllocError);
-        };
+        let count = counted(count, facts)?;
         state.add(alloc, facts)?;
         Ok(Env {
             alloc,
@@ -123,9 +121,7 @@ impl Env {
             mut state,
             plain,
         } = self;
-        let Some(count) = counted(count, facts.get()) else {
-            return Err(AllocError);
-        };
+        let count = counted(count, facts.get())?;
         let after = before.and(facts.get());
         let mut facts = facts;
         state.add_own(alloc, &mut facts.inner)?;
@@ -150,11 +146,15 @@ impl Env {
     }
 }
 
-// The count with these facts and what they add, if it is one.
-fn counted(count: usize, facts: &Facts) -> Option<usize>
-    ensures { IfSome result (λ more. more ≡ count + length facts.now.additions + 1) }
+// The count with these facts and what they add. One that is larger than memory can hold things is want of it.
+fn counted(count: usize, facts: &Facts) -> Result<usize, AllocError>
+    ensures more { IfOk result (λ n. n ≡ count + length facts.now.additions + 1) }
+    ensures room { IfOk result (λ n. count < 18446744073709551615) }
 {
-    count.checked_add(facts.len())?.checked_add(1)
+    match count.checked_add(facts.len()) {
+        Some(sum) if sum < usize::MAX => Ok(sum + 1),
+        _ => Err(AllocError),
+    }
 }
 
 impl Bank for Env {

@@ -3,7 +3,8 @@
 ghost use Rattle.std.specs.Cmp.{on_equiv, on_per, partial_equiv_from_equiv, nat_eq_equiv};
 ghost use Rattle.std.specs.Prelude.{◌≡◌, ◌++◌, IfOk, OnOk};
 ghost use Rattle.idl_scope.specs.Facts.{no_prefix};
-ghost use Rattle.idl_scope.specs.Identity.{first_identity, fixed_number, fixed_eq, prefixed, relative, same_fixed, slashed};
+ghost use Rattle.idl_scope.specs.Identity.{first_identity, fixed_eq, fixed_number, identity_of, is_within, prefix_for, prefixed, relative, same_fixed, slashed};
+ghost use Rattle.idl_scope.specs.Path.{scope_of};
 
 use crate::name::shared_name;
 use crate::names::Names;
@@ -20,25 +21,30 @@ pub struct Prefix {
     pub scope: Path,
 }
 
-/// What fixed an id.
+/// The pragma that fixed an id.
 #[derive(Clone, Copy)]
 pub enum Fixed {
-    /// No pragma so far.
-    Nothing,
-    /// A version pragma.
     Version,
-    /// An ID pragma.
     Id,
 }
 
 /// The repository id of a declared name.
-#[derive(Clone, PartialEq, Eq)]
 pub struct Identity {
     /// Most ids stand in place.
     pub id: InlineText<38>,
     /// The text of the prefix that was in force where the name was declared first.
     pub prefix: Spelling,
-    pub fixed: Fixed,
+    /// The pragma that fixed it, if one did so far.
+    pub fixed: Option<Fixed>,
+}
+
+/// A repository id that a pragma fixed.
+#[derive(Clone, PartialEq, Eq)]
+pub struct FixedIdentity {
+    pub id: InlineText<38>,
+    /// The text of the prefix that was in force where the name was declared first.
+    pub prefix: Spelling,
+    pub by: Fixed,
 }
 
 impl Drop for Prefix {
@@ -60,6 +66,16 @@ impl Drop for Identity {
     }
 }
 
+impl Drop for FixedIdentity {
+    fn drop(self) {
+        let FixedIdentity {
+            id: _id,
+            prefix: _prefix,
+            by: _by,
+        } = self;
+    }
+}
+
 impl Prefix {
     /// The empty prefix, met in the global scope.
     pub fn none(alloc: Global) -> Result<Shared<Prefix>, AllocError>
@@ -68,6 +84,14 @@ impl Prefix {
         let text = shared_name(alloc, b"")?;
         let scope = Path::global();
         Shared::new(alloc, Prefix { text, scope })
+    }
+
+    // Whether the name at a path stands in the scope in which it was met.
+    #[tactic(auto, using(crate::proofs::IdLemmas::within_global))]
+    fn is_around(&self, path: &Path) -> bool
+        ensures { result ≡ is_within (scope_of path.now) self.now.scope }
+    {
+        self.scope.lent().is_empty() || path.around().are_within(&self.scope)
     }
 
     /// Writes the id of the name at a path, as it is where the name is declared first under this prefix.
@@ -81,6 +105,23 @@ impl Prefix {
         text.extend_from_slice(b":1.0")?;
         Ok(())
     }
+}
+
+/// A prefix as it tells the id of the name at a path: where the name stands outside of the scope in which it was met, it is told as
+/// if that was the global scope.
+pub(crate) fn prefix_for(
+    alloc: Global,
+    path: &Path,
+    prefix: Shared<Prefix>,
+) -> Result<Shared<Prefix>, AllocError>
+    ensures { IfOk result (λ told. told ≡ prefix_for path.now prefix) }
+{
+    if prefix.get().is_around(path) {
+        return Ok(prefix);
+    }
+    let text = prefix.get().text.clone()?;
+    let scope = Path::global();
+    Shared::new(alloc, Prefix { text, scope })
 }
 
 // A prefix with the `/` behind it.
@@ -131,9 +172,21 @@ impl Identity {
             Identity {
                 id,
                 prefix,
-                fixed: Fixed::Nothing,
+                fixed: None,
             },
         )
+    }
+}
+
+impl FixedIdentity {
+    /// What a name is identified by that has it.
+    pub fn identity(&self, alloc: Global) -> Result<Shared<Identity>, AllocError>
+        ensures { IfOk result (λ d. d ≡ identity_of self.now) }
+    {
+        let id = self.id.clone()?;
+        let prefix = self.prefix.clone()?;
+        let fixed = Some(self.by);
+        Shared::new(alloc, Identity { id, prefix, fixed })
     }
 }
 
@@ -143,9 +196,8 @@ impl Fixed {
         ensures { result ≡ fixed_number self }
     {
         match self {
-            Fixed::Nothing => 0,
-            Fixed::Version => 1,
-            Fixed::Id => 2,
+            Fixed::Version => 0,
+            Fixed::Id => 1,
         }
     }
 }
@@ -180,7 +232,7 @@ impl Datum for Prefix {
     ghost copy = { copied_prefix };
 }
 
-impl Datum for Identity {
+impl Datum for FixedIdentity {
     ghost use Rattle.idl_scope.specs.Identity.{same_identity, copied_identity};
 
     ghost same = { same_identity };

@@ -8,7 +8,7 @@ ghost use Rattle.idl_lex.specs.Keywords.{folded};
 ghost use Rattle.idl_memo.specs.Query.{Agree, asked, outcome, run};
 ghost use Rattle.idl_tree.specs.declared.name.ScopedName.{ScopedName};
 ghost use Rattle.idl_scope.specs.Turns.{HasTurnsFor};
-ghost use Rattle.idl_scope.specs.Facts.{UnitFacts, World, after, after_all, answers, entity_key, key_of, no_prefix, operations_among, over, path_around, prefix_in, scopes_in, world};
+ghost use Rattle.idl_scope.specs.Facts.{UnitFacts, World, after, after_all, answers, entity_key, identity_at, key_of, no_prefix, operations_among, over, path_around, prefix_in, scopes_in, world};
 ghost use Rattle.idl_scope.specs.Key.{key_eq};
 ghost use Rattle.idl_scope.specs.Lookup.{Lookup, denoted, has, under};
 ghost use Rattle.idl_scope.specs.Meaning.{Denotes, Has, Reaches, entity_found, own_at, seen};
@@ -171,6 +171,15 @@ pub fn reliance()
         → asked (denoted turns cursor name) other ≡ asked (denoted turns cursor name) bank }
     ensures outside { (keys asks : List Key) (bank other : Key → Option Answer)
         → AgreeOutside keys bank other → AreApart asks keys → Agree asks bank other }
+{}
+
+/// Facts that come to the same id of a name, the same text of its prefix and the same pragma that fixed it answer the same where its
+/// id is asked: the scope in which the prefix was met shows in the id alone.
+pub fn identities()
+    ensures { (facts others : List UnitFacts) (path : List (List ℕ))
+        → identity_at path (answers facts (key.IdOf path))
+        ≡ identity_at path (answers others (key.IdOf path))
+        → answers facts (key.IdOf path) ≡ answers others (key.IdOf path) }
 {}
 
 /// A prefix lasts to the next one, and no longer than the scope or the file in which it is met: behind these the prefix of before

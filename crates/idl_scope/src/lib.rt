@@ -9,6 +9,7 @@ mod answer;
 mod answers;
 mod apart;
 mod base_queue;
+mod count;
 mod data_type;
 mod details;
 mod digest;
@@ -32,6 +33,7 @@ mod name;
 mod named_path;
 mod names;
 mod naming;
+mod open_scopes;
 mod operations;
 mod outline;
 mod own_name;
@@ -57,18 +59,19 @@ pub use env::Env;
 pub use facts::Facts;
 pub use fault::{NameCode, NameFault};
 pub use found::Found;
-pub use identity::{Fixed, Identity, Prefix};
+pub use identity::{Fixed, FixedIdentity, Identity, Prefix};
 pub use key::Key;
 pub use kind::{Kind, Stage};
 pub use laws::{
-    adding, agreeing_around, denotation, exchanging, found_in_a_scope, introduction, more_turns,
-    own_facts, own_path, reliance,
+    adding, agreeing_around, denotation, exchanging, found_in_a_scope, identities, introduction,
+    more_turns, own_facts, own_path, prefixes, reliance,
 };
 pub use lent_key::LentKey;
 pub use lookup::{Place, View};
 pub use name::{folded_name, shared_name};
 pub use names::Names;
 pub use naming::{Standpoint, resolve};
+pub use open_scopes::OpenScopes;
 pub use own_name::OwnName;
 pub use parts::EntityParts;
 pub use path::Path;

@@ -11,7 +11,7 @@ ghost use Rattle.idl_scope.specs.Turns.{HasTurnsFor, declared_among, declared_na
 ghost use Rattle.idl_scope.specs.declared.key.Key.TheVariants.{Declared, IdOf, Prefix as PrefixKey};
 
 use crate::addition::Addition;
-use crate::answer::{Answer, Scope, entity_in, identity_at, prefix_in};
+use crate::answer::{Answer, entity_in, identity_at, prefix_in};
 use crate::base_queue::BaseQueue;
 use crate::digested::DigestedKey;
 use crate::entity::Entity;
@@ -21,6 +21,7 @@ use crate::finds::Finds;
 use crate::identity::{Identity, Prefix};
 use crate::kind::Kind;
 use crate::lent_key::LentKey;
+use crate::open_scopes::OpenScopes;
 use crate::path::Path;
 use crate::shared::Shared;
 use idl_lex::Spelling;
@@ -98,7 +99,7 @@ impl<'a> View<'a> {
         let before = log.ask_lent(&key, self.env)?;
         match self.own.get(&key)? {
             Some(addition) => {
-                let answer = addition.answer()?;
+                let answer = addition.answer(alloc)?;
                 identity_at(alloc, path, Some(&answer))
             }
             None => identity_at(alloc, path, before),
@@ -223,7 +224,7 @@ impl<'a> View<'a> {
     pub fn outward(
         self,
         log: &mut Journal<Env>,
-        scopes: &[Scope],
+        scopes: &OpenScopes,
         name: &Spelling,
     ) -> Result<Vec<&'a Shared<Entity>>, AllocError>
         ensures { IfOk result (λ es.
@@ -267,7 +268,7 @@ impl<'a> View<'a> {
     pub(crate) fn found_outward(
         self,
         log: &mut Journal<Env>,
-        scopes: &[Scope],
+        scopes: &OpenScopes,
         name: &Spelling,
     ) -> Result<Finds<'a>, AllocError>
         ensures { IfOk result (λ found.
@@ -277,7 +278,8 @@ impl<'a> View<'a> {
             (under self.entry.own.now.additions (outward turns scopes.now name.now))
             (answers self.entry.env.now) log.old) }
     {
-        for scope in scopes {
+        let mut rest = scopes;
+        'scopes: while let Some((scope, outer)) = rest.split_first() {
             let place = Place {
                 kind: scope.kind,
                 path: &scope.path,
@@ -286,6 +288,7 @@ impl<'a> View<'a> {
             if !found.is_nothing() {
                 return Ok(found);
             }
+            rest = outer;
         }
         Ok(Finds::own(self.env.alloc(), None))
     }

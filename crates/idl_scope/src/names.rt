@@ -2,6 +2,7 @@
 
 ghost use Rattle.std.specs.Prelude.{◌≡◌, ◌↔◌, ◌∷◌, [], IfSome, IsTrue, None};
 ghost use Rattle.std.specs.Option.{option_copied};
+ghost use Rattle.idl_scope.specs.Identity.{is_within};
 ghost use Rattle.idl_scope.specs.Path.{names_of, path_eq, path_of};
 
 use crate::path::{Part, Path, are_alike};
@@ -83,5 +84,20 @@ impl<'a> Names<'a> {
         ensures { result ≡ path_eq self.now path.now }
     {
         self.are_those(&path.lent())
+    }
+
+    /// Whether they are those of a scope's path or of one in it.
+    #[tactic(auto, using(crate::proofs::IdLemmas::within_here, crate::proofs::IdLemmas::within_none, crate::proofs::IdLemmas::within_further))]
+    pub(crate) fn are_within(self, scope: &Path) -> bool
+        ensures { result ≡ is_within self.entry scope.now }
+    {
+        let mut names = self;
+        while !names.are_of(scope) {
+            let Some((_name, around)) = names.split_first() else {
+                return false;
+            };
+            names = around;
+        }
+        true
     }
 }

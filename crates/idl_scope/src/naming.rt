@@ -10,7 +10,6 @@ ghost use Rattle.idl_scope.specs.Meaning.{Denotes, Reaches, entity_found, seen};
 ghost use Rattle.idl_scope.specs.Turns.{HasTurnsFor};
 ghost use Rattle.idl_lex.specs.Keywords.{folded};
 
-use crate::answer::Scope;
 use crate::entity::Entity;
 use crate::env::Env;
 use crate::facts::Facts;
@@ -19,6 +18,8 @@ use crate::finds::Finds;
 use crate::found::Found;
 use crate::kind::Kind;
 use crate::lookup::{Place, View};
+use crate::open_scopes::OpenScopes;
+use crate::path::Path;
 use crate::shared::Shared;
 use idl_lex::Spelling;
 use idl_memo::Journal;
@@ -31,7 +32,7 @@ pub struct Standpoint<'a> {
     /// What the unit's earlier tokens add.
     pub own: &'a Facts,
     /// The scopes around the name, the innermost first and the global one last.
-    pub cursor: &'a [Scope],
+    pub cursor: &'a OpenScopes,
 }
 
 /// What a scoped name denotes, and into which scopes its use introduces it. The keys asked are logged; after want of memory
@@ -70,7 +71,7 @@ impl<'a> View<'a> {
     fn denoted(
         self,
         log: &mut Journal<Env>,
-        cursor: &[Scope],
+        cursor: &OpenScopes,
         name: &ScopedName,
     ) -> Result<Result<Found, NameFault>, AllocError>
         ensures { IfOk result (λ r.
@@ -98,7 +99,7 @@ impl<'a> View<'a> {
     fn first_part(
         self,
         log: &mut Journal<Env>,
-        cursor: &[Scope],
+        cursor: &OpenScopes,
         name: &ScopedName,
     ) -> Result<Result<&'a Shared<Entity>, NameFault>, AllocError>
         ensures { IfOk result (λ r.
@@ -117,7 +118,7 @@ impl<'a> View<'a> {
     fn first_found(
         self,
         log: &mut Journal<Env>,
-        cursor: &[Scope],
+        cursor: &OpenScopes,
         name: &ScopedName,
     ) -> Result<Finds<'a>, AllocError>
         ensures { IfOk result (λ found.
@@ -129,8 +130,12 @@ impl<'a> View<'a> {
     {
         let folded = name.first.to_folded(self.env.alloc())?;
         if name.is_global {
-            let global = Scope::global();
-            return self.found_outward(log, &[global], &folded);
+            let path = Path::global();
+            let place = Place {
+                kind: Kind::Module,
+                path: &path,
+            };
+            return self.found_in(log, place, &folded);
         }
         self.found_outward(log, cursor, &folded)
     }
@@ -217,35 +222,38 @@ fn spelled<'a>(
 }
 
 // Into how many of the scopes the use of a name introduces its first part, which denotes this.
-fn reach_of(name: &ScopedName, cursor: &[Scope], first: &Entity) -> usize
+fn reach_of(name: &ScopedName, cursor: &OpenScopes, first: &Entity) -> usize
     ensures { result ≡ (if name.now.is_global then 0 else reach cursor.now first.now) }
 {
     if name.is_global {
         return 0;
     }
-    match cursor {
-        [] => 0,
-        [innermost, outer @ ..] => {
-            if first.path().is_in(&innermost.path) {
-                0
-            } else if innermost.kind == Kind::Module {
-                1
-            } else {
-                1 + outer_reach(outer, first)
-            }
-        }
+    let Some((innermost, outer)) = cursor.split_first() else {
+        return 0;
+    };
+    if first.path().is_in(&innermost.path) {
+        0
+    } else if innermost.kind == Kind::Module {
+        1
+    } else {
+        1 + outer_reach(outer, first)
     }
 }
 
 // Into how many of the scopes outward from one that is no module.
-fn outer_reach(scopes: &[Scope], first: &Entity) -> usize
+fn outer_reach(scopes: &OpenScopes, first: &Entity) -> usize
     ensures reach { result ≡ outer_reach scopes.now first.now }
     ensures within { result ≤ length scopes.now }
 {
-    for (index, scope) in scopes.iter().enumerate() {
+    let mut rest = scopes;
+    for index in 0..scopes.len() {
+        let Some((scope, outer)) = rest.split_first() else {
+            return index;
+        };
         if scope.kind == Kind::Module || first.path().is_in(&scope.path) {
             return index;
         }
+        rest = outer;
     }
     scopes.len()
 }

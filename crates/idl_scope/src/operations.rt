@@ -1,7 +1,7 @@
 //! The operations and attributes of interfaces: those so far of the open scopes, and those that an interface has once it
 //! is closed.
 
-ghost use Rattle.std.specs.Prelude.{◌≡◌, ◌∷◌, ◌++◌, ℕ, List, [], IfOk, OnOk, drop, reverse};
+ghost use Rattle.std.specs.Prelude.{◌≡◌, ◌∷◌, ◌++◌, ◌||◌, ℕ, List, [], IfOk, OnOk, drop, reverse, true};
 ghost use Rattle.idl_scope.specs.Facts.{entity_in, entity_key, gathered, inherited, innermost, joined, more_inside, operations_among, operations_of};
 ghost use Rattle.idl_scope.specs.Key.{key_eq};
 ghost use Rattle.idl_scope.specs.Path.{path_eq};
@@ -14,9 +14,9 @@ use crate::answers::Answers;
 use crate::facts::Facts;
 use crate::lent_key::LentKey;
 use crate::path::Path;
-use crate::queue::join;
-use idl_base::{Seq, Table};
-use idl_map::SharedList;
+use crate::queue::{join, join_one};
+use idl_base::Seq;
+use idl_map::{DigestTable, SharedList};
 use std::alloc::{AllocError, Global};
 
 /// What an interface with these bases inherits: the list of the first base, shared with it, and behind it those of the
@@ -32,6 +32,14 @@ pub fn inherited(
     match bases {
         [] => Ok(SharedList::new()),
         [base] => operations_at(alloc, answers, base),
+        [base, other] => {
+            let others = operations_at(alloc, answers, other)?.to_vec(alloc)?;
+            joined(
+                alloc,
+                operations_at(alloc, answers, base)?,
+                others.as_slice(),
+            )
+        }
         [base, others @ ..] => {
             let found = operations_at(alloc, answers, base)?;
             gathered(alloc, answers, found, others)
@@ -50,13 +58,70 @@ fn gathered(
         paths ≡ gathered (λ k. lookup (key_eq k) answers.now) found bases.now) }
 {
     let mut found = found;
-    let mut there = Table::new(alloc);
+    let mut there = DigestTable::new(alloc);
     join(&mut there, found.to_vec(alloc)?.as_slice())?;
     for base in bases {
         let paths = operations_at(alloc, answers, base)?.to_vec(alloc)?;
         join_new(alloc, &mut found, &mut there, paths.as_slice())?;
     }
     Ok(found)
+}
+
+// These operations and attributes, and those of others that are not yet there.
+fn joined(
+    alloc: Global,
+    found: SharedList<Path>,
+    others: &[Path],
+) -> Result<SharedList<Path>, AllocError>
+    ensures { IfOk result (λ paths. paths ≡ joined found others.now) }
+{
+    let mut found = found;
+    let mut there = DigestTable::new(alloc);
+    put_there(alloc, &mut there, found.to_vec(alloc)?.as_slice(), others)?;
+    join_new(alloc, &mut found, &mut there, others)?;
+    Ok(found)
+}
+
+// Puts those of the paths in that are among others, or all of them where they are no more than the others: so the fewer ones
+// are held in a table, and the more are looked up in it.
+fn put_there(
+    alloc: Global,
+    there: &mut DigestTable<Path, ()>,
+    found: &[Path],
+    others: &[Path],
+) -> Result<(), AllocError>
+    requires { there.old ≡ [] }
+    ensures { OnOk result
+        ((p : List (List ℕ)) → list_any (path_eq p) others.now ≡ true
+        → list_any (path_eq p) (keys_of there.new) ≡ list_any (path_eq p) found.now) }
+{
+    if found.len() <= others.len() {
+        join(there, found)?;
+        return Ok(());
+    }
+    let mut asked = DigestTable::new(alloc);
+    join(&mut asked, others)?;
+    join_asked(there, &asked, found)?;
+    Ok(())
+}
+
+// Puts those of the paths last that are asked for and not yet there.
+fn join_asked(
+    there: &mut DigestTable<Path, ()>,
+    asked: &DigestTable<Path, ()>,
+    paths: &[Path],
+) -> Result<(), AllocError>
+    ensures { OnOk result
+        ((p : List (List ℕ)) → list_any (path_eq p) (keys_of asked.now) ≡ true
+        → list_any (path_eq p) (keys_of there.new)
+        ≡ (list_any (path_eq p) (keys_of there.old) || list_any (path_eq p) paths.now)) }
+{
+    for path in paths {
+        if asked.contains(path) {
+            join_one(there, path)?;
+        }
+    }
+    Ok(())
 }
 
 // The operations and attributes of the closed interface at a path.
@@ -75,17 +140,19 @@ fn operations_at(
     }
 }
 
-// Puts those of the paths last that are not yet there, where the paths that are there are these.
+// Puts those of the paths last that are not yet there, where a table tells of each whether it is there.
 fn join_new(
     alloc: Global,
     found: &mut SharedList<Path>,
-    there: &mut Table<Path, ()>,
+    there: &mut DigestTable<Path, ()>,
     paths: &[Path],
 ) -> Result<(), AllocError>
-    requires { (p : List (List ℕ)) → list_any (path_eq p) (keys_of there.old) ≡ list_any (path_eq p) found.old }
+    requires { (p : List (List ℕ)) → list_any (path_eq p) paths.now ≡ true
+        → list_any (path_eq p) (keys_of there.old) ≡ list_any (path_eq p) found.old }
     ensures joined { OnOk result (found.new ≡ joined found.old paths.now) }
     ensures there { OnOk result
-        ((p : List (List ℕ)) → list_any (path_eq p) (keys_of there.new) ≡ list_any (path_eq p) found.new) }
+        ((p : List (List ℕ)) → list_any (path_eq p) (keys_of there.old) ≡ list_any (path_eq p) found.old
+        → list_any (path_eq p) (keys_of there.new) ≡ list_any (path_eq p) found.new) }
 {
     for path in paths {
         join_one_new(alloc, found, there, path)?;
@@ -97,13 +164,14 @@ fn join_new(
 fn join_one_new(
     alloc: Global,
     found: &mut SharedList<Path>,
-    there: &mut Table<Path, ()>,
+    there: &mut DigestTable<Path, ()>,
     path: &Path,
 ) -> Result<(), AllocError>
-    requires { (p : List (List ℕ)) → list_any (path_eq p) (keys_of there.old) ≡ list_any (path_eq p) found.old }
+    requires { list_any (path_eq path.now) (keys_of there.old) ≡ list_any (path_eq path.now) found.old }
     ensures joined { OnOk result (found.new ≡ joined found.old (path.now ∷ [])) }
     ensures there { OnOk result
-        ((p : List (List ℕ)) → list_any (path_eq p) (keys_of there.new) ≡ list_any (path_eq p) found.new) }
+        ((p : List (List ℕ)) → list_any (path_eq p) (keys_of there.old) ≡ list_any (path_eq p) found.old
+        → list_any (path_eq p) (keys_of there.new) ≡ list_any (path_eq p) found.new) }
 {
     if there.contains(path) {
         return Ok(());

@@ -17,6 +17,7 @@ use crate::named_path::NamedPath;
 use crate::names::Names;
 use idl_base::Datum;
 use idl_lex::Spelling;
+use idl_map::Digest;
 use std::alloc::{AllocError, Global};
 use std::cmp::Ordering;
 use std::hash::{Hash, Hasher};
@@ -177,6 +178,16 @@ impl Path {
         Names::of(&self.innermost)
     }
 
+    /// The names of the path of the scope around, lent; of the global scope's, none.
+    pub(crate) fn around(&self) -> Names<'_>
+        ensures { result ≡ scope_of self.now }
+    {
+        match &self.innermost {
+            None => Names::none(),
+            Some(part) => part.around(),
+        }
+    }
+
     /// The part that it ends in, unless it is that of the global scope.
     pub(crate) fn innermost(&self) -> &Option<Rc<Part>>
         ensures { path_of result.now ≡ self.now }
@@ -207,17 +218,6 @@ impl Path {
         match self.innermost {
             None => None,
             Some(part) => Some(NamedPath::of(part)),
-        }
-    }
-
-    /// A number that paths are found by: those that are alike have one.
-    #[tactic(auto, unfolding(crate::specs::Digest::path_digest))]
-    pub fn digest(&self) -> u64
-        ensures { result ≡ path_digest self.now }
-    {
-        match &self.innermost {
-            None => 0,
-            Some(part) => part.digest,
         }
     }
 
@@ -501,4 +501,16 @@ impl Datum for Path {
     ghost same = { λ x y. (pointwise_decides bytes_decides x y).0 };
 
     ghost copy = { λ x y h. h };
+}
+
+impl Digest for Path {
+    ghost digest_of = { path_digest };
+
+    #[tactic(auto, unfolding(crate::specs::Digest::path_digest))]
+    fn digest(&self) -> u64 {
+        match &self.innermost {
+            None => 0,
+            Some(part) => part.digest,
+        }
+    }
 }

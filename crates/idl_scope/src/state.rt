@@ -25,6 +25,7 @@ use crate::key::Key;
 use crate::kind::{Kind, Stage};
 use crate::lent_key::LentKey;
 use crate::name::shared_name;
+use crate::open_scopes::OpenScopes;
 use crate::operations::{add_inside, inherited, innermost, leave, put_last};
 use crate::path::Path;
 use crate::shared::{Shared, copied};
@@ -59,12 +60,12 @@ impl State {
     pub fn new(alloc: Global) -> Result<State, AllocError>
         ensures { IfOk result (λ state. held state ≡ first_world) }
     {
-        let scopes = opened(alloc, Scope::global(), &[])?;
+        let scopes = OpenScopes::none().with(alloc, Scope::global())?;
         let prefix = Answer::InForce(Prefix::none(alloc)?);
         let mut inside = Vec::new(alloc);
         inside.push(Seq::new(alloc))?;
         Ok(State {
-            answers: Answers::new(scopes, prefix),
+            answers: Answers::new(Answer::Open(scopes), prefix),
             inside,
             opened: SharedList::new(),
             entered: SharedList::new(),
@@ -117,11 +118,12 @@ impl State {
         add_inside(&mut self.inside, facts)
     }
 
-    // The open scopes.
-    fn cursor(&self) -> &[Scope]
+    // The open scopes; those that are lent where none is told.
+    fn cursor<'a>(&'a self, none: &'a OpenScopes) -> &'a OpenScopes
+        requires { none.now ≡ [] }
         ensures { result.now ≡ scopes_in (lookup (key_eq Cursor) self.now.answers) }
     {
-        scopes_in(Some(self.answers.cursor()))
+        scopes_in(Some(self.answers.cursor()), none)
     }
 
     // What it comes to with one more body of a scope.
@@ -133,10 +135,11 @@ impl State {
         let scope = self.next_body(alloc, path, kind)?;
         let body = scope.body;
         let key = DigestedKey::opened(alloc, &scope.path)?;
-        let scopes = opened(alloc, scope, self.cursor())?;
+        let none = OpenScopes::none();
+        let scopes = self.cursor(&none).with(alloc, scope)?;
         let prefix = self.prefix(alloc)?;
         self.answers.insert(alloc, key, Answer::Count(body))?;
-        self.answers.put_cursor(scopes);
+        self.answers.put_cursor(Answer::Open(scopes));
         self.inside.push(Seq::new(alloc))?;
         self.opened.push(alloc, prefix)?;
         Ok(())
@@ -168,7 +171,8 @@ impl State {
         let key = DigestedKey::nameless();
         let number = count_in(self.answers.get(&key));
         let name = nameless_name(alloc, number)?;
-        let path = child_of_first(alloc, self.cursor(), &name)?;
+        let none = OpenScopes::none();
+        let path = path_of_first(self.cursor(&none))?.child(alloc, &name)?;
         self.answers.insert(alloc, key, Answer::Count(number + 1))?;
         self.open(alloc, &path, kind)
     }
@@ -178,13 +182,14 @@ impl State {
         ensures { OnOk result
             (held self.new ≡ after_step (held self.old) Closes) }
     {
-        let Some((scope, outer)) = closable(self.cursor()) else {
+        let none = OpenScopes::none();
+        let Some((scope, outer)) = closable(self.cursor(&none)) else {
             return Ok(());
         };
-        let scopes = open_scopes(alloc, outer)?;
+        let scopes = outer.clone()?;
         let closing = self.closing(alloc, scope)?;
         put_closing(alloc, &mut self.answers, &closing)?;
-        self.answers.put_cursor(scopes);
+        self.answers.put_cursor(Answer::Open(scopes));
         leave(&mut self.inside);
         let prefix = taken_last(alloc, &mut self.opened)?;
         self.answers.put_prefix(Answer::InForce(prefix));
@@ -207,7 +212,8 @@ impl State {
         ensures { OnOk result (held self.new ≡ after_step (held self.old) (Prefixes text.now)) }
     {
         let text = text.clone()?;
-        let scope = path_of_first(self.cursor())?;
+        let none = OpenScopes::none();
+        let scope = path_of_first(self.cursor(&none))?;
         let prefix = Shared::new(alloc, Prefix { text, scope })?;
         self.answers.put_prefix(Answer::InForce(prefix));
         Ok(())
@@ -266,13 +272,12 @@ impl State {
 }
 
 /// The innermost of the open scopes and those outward of it, if it isn't the global one.
-pub fn closable(scopes: &[Scope]) -> Option<(&Scope, &[Scope])>
+pub fn closable(scopes: &OpenScopes) -> Option<(&Scope, &OpenScopes)>
     ensures { option_map (λ p. (p.0.now, p.1.now)) result ≡ closable scopes.now }
 {
-    match scopes {
-        [scope, _, ..] => Some((scope, &scopes[1..])),
-        _ => None,
-    }
+    let (scope, outer) = scopes.split_first()?;
+    let (_around, _others) = outer.split_first()?;
+    Some((scope, outer))
 }
 
 // The answers with that of an interface that closes, if one does.
@@ -338,7 +343,7 @@ fn put_all(alloc: Global, answers: &mut Answers, facts: &Facts) -> Result<(), Al
             continue;
         };
         let key = addition.key(alloc)?;
-        let answer = addition.addition().answer()?;
+        let answer = addition.addition().answer(alloc)?;
         answers.insert(alloc, key, answer)?;
     }
     Ok(())
@@ -378,45 +383,13 @@ fn put_few(
     Ok(additions)
 }
 
-// These scopes are open.
-fn open_scopes(alloc: Global, scopes: &[Scope]) -> Result<Answer, AllocError>
-    ensures { IfOk result (λ answer. answer ≡ answers.Open scopes.now) }
-{
-    let scopes = Vec::from_clones(alloc, scopes)?;
-    let scopes = Shared::new(alloc, Seq::from_vec(scopes))?;
-    Ok(Answer::Open(scopes))
-}
-
-// This scope is open, and then the others.
-fn opened(alloc: Global, scope: Scope, outer: &[Scope]) -> Result<Answer, AllocError>
-    ensures { IfOk result (λ answer. answer ≡ answers.Open (scope ∷ outer.now)) }
-{
-    let mut scopes = Vec::new(alloc);
-    scopes.push(scope)?;
-    for other in outer {
-        scopes.push(other.clone()?)?;
-    }
-    let scopes = Shared::new(alloc, Seq::from_vec(scopes))?;
-    Ok(Answer::Open(scopes))
-}
-
-// The path of a name in the innermost of the scopes.
-fn child_of_first(alloc: Global, scopes: &[Scope], name: &Spelling) -> Result<Path, AllocError>
-    ensures { IfOk result (λ path. path ≡ name.now ∷ path_around scopes.now) }
-{
-    match scopes {
-        [] => Path::global().child(alloc, name),
-        [innermost, ..] => innermost.path.child(alloc, name),
-    }
-}
-
 // The path of the innermost of the scopes.
-fn path_of_first(scopes: &[Scope]) -> Result<Path, AllocError>
+fn path_of_first(scopes: &OpenScopes) -> Result<Path, AllocError>
     ensures { IfOk result (λ path. path ≡ path_around scopes.now) }
 {
-    match scopes {
-        [] => Ok(Path::global()),
-        [innermost, ..] => innermost.path.clone(),
+    match scopes.split_first() {
+        None => Ok(Path::global()),
+        Some((innermost, _outer)) => innermost.path.clone(),
     }
 }
 

@@ -215,10 +215,9 @@ all_taken commands taken (Some bytes) e over =
 
 -- all commands were served
 pub replied-all : (left before : Option (List ℕ)) (s : State) (mid : Standing) → Served (start left before s) mid → IsOver (to_come mid).bytes
-    → IfSome left (λ input. IfSome before (λ gone. (output : List ℕ) × (mid.written ≡ Some (gone ++ output)) × IsReply s input output mid.state))
+    → IfSome left (λ input. (output : List ℕ) × (mid.written ≡ append before output) × IsReply s input output mid.state)
 replied-all None before s mid done over = tt
-replied-all (Some input) None s mid done over = tt
-replied-all (Some input) (Some gone) s mid done over = (
+replied-all (Some input) before s mid done over = (
   done.output,
   done.written,
   subst (λ (cs : List Command). Replies s cs done.output mid.state) (all_taken (commands_of input) done.commands (to_come mid).bytes done.taken over) done.replies,

@@ -1,6 +1,7 @@
 //! All commands of a source.
 
-ghost use Rattle.std.specs.Prelude.{◌≡◌, ◌<◌, ◌-◌, ◌^◌, ◌++◌, ℕ, List, Some, IfErr, IfSome, OnOk};
+ghost use Rattle.std.specs.Prelude.{◌≡◌, ◌<◌, ◌-◌, ◌^◌, ℕ, List, IfErr, IfSome, OnOk};
+ghost use Rattle.idl_source.specs.Device.{append};
 ghost use Rattle.idl_session.specs.Answers.{IsReply};
 ghost use Rattle.idl_session.specs.Stopping.{IsCounted, IsLeft};
 
@@ -26,6 +27,7 @@ use idl_workspace::Session;
 /// | `root NAME`, `unroot NAME`: makes a file a root, or none any more | `ok` |
 /// | `diagnostics NAME`, `listing NAME`, `dump NAME`: asks for the rows of a root | `rows N` and N lines |
 /// | `absent NAME`: asks for the files that a root asked for and that aren't there | `rows N` and N lines |
+/// | `work`: asks what the last accepted edit came to | `work E C P`: roots expanded, declarations checked, entries printed |
 ///
 /// What is refused has the reply `refused N`, N being the number of the [`Refusal`](crate::Refusal), and changes nothing.
 /// All else is a malformed command, and so is a line of more than [`MAX_COMMAND`](crate::MAX_COMMAND) bytes. The lines that a `put` or a `splice`
@@ -45,9 +47,8 @@ pub fn run<S: Source, K: Sink>(
 
     // What went out is a reply to all that came in, and the session is in the state that it tells of.
     ensures replied { OnOk result (IfSome (S.remaining source.old) (λ input.
-        IfSome (K.written sink.old) (λ before.
-        (output : List ℕ) × (K.written sink.new ≡ Some (before ++ output))
-        × IsReply session.old input output session.new))) }
+        (output : List ℕ) × (K.written sink.new ≡ append (K.written sink.old) output)
+        × IsReply session.old input output session.new)) }
 
     ensures ok { OnOk result
         ((S.failures source.new ≡ S.failures source.old)

@@ -1,6 +1,6 @@
 -- The tree of a unit, and the fault of one that has none.
 use Rattle.std.specs.Prelude.{◌≡◌, ◌<◌, ◌-◌, ℕ, Bool, List, [], ◌∷◌, ◌++◌, length, is_some, Option, None, Some, if◌then◌else◌}
-use Rattle.idl_event.specs.declared.code.Code.TheVariants.{NoTree, PragmaInside, MalformedPragma}
+use Rattle.idl_event.specs.declared.code.Code.TheVariants.{PragmaInside, MalformedPragma}
 use Rattle.idl_lex.specs.Tokens.{Token}
 use Rattle.idl_syntax.specs.declared.unit_tree.SyntaxFault.{SyntaxFault}
 use Rattle.idl_syntax.specs.declared.unit_tree.SyntaxFault.TheVariants as fault
@@ -46,9 +46,3 @@ IsFaultOf text found fault.Memory = Unit {0}
 IsFaultOf text found (fault.Rule f) = found ≡ Some f
 IsFaultOf (unit.Tokens tokens) found (fault.NoTree place) = (found ≡ None) × StopsAt tokens place
 IsFaultOf text found other = ⊥
-
--- the fault that is told: where no tree has the spelling, that is told at the first token
-abbrev pub told_fault : SyntaxFault → Option Fault
-told_fault fault.Memory = None
-told_fault (fault.Rule f) = Some f
-told_fault (fault.NoTree place) = Some (fault_at 0 NoTree)

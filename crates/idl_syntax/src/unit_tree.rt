@@ -1,7 +1,7 @@
 //! The tree of a unit, or its fault.
 
 ghost use Rattle.std.specs.Prelude.{◌≡◌, None, Some, IfOk, IfErr};
-ghost use Rattle.idl_syntax.specs.Parse.{IsFaultOf, IsTreeOf, StopsAt, pragma_faults, rule_faults, told_fault};
+ghost use Rattle.idl_syntax.specs.Parse.{IsFaultOf, IsTreeOf, StopsAt, pragma_faults, rule_faults};
 ghost use Rattle.idl_syntax.specs.declared.unit_tree.SyntaxFault.TheVariants as fault;
 ghost use Rattle.idl_tree.specs.Fault.{IsFaultAt};
 ghost use Rattle.idl_tree.specs.Lexeme.{lexemes};
@@ -48,23 +48,6 @@ pub enum SyntaxFault {
     /// No tree has this spelling. It stops being the beginning of one at the token with this number,
     /// from 0, or nowhere.
     NoTree(Option<usize>),
-}
-
-impl SyntaxFault {
-    /// The fault that is told of the unit, if memory didn't run out: where no tree has the spelling,
-    /// that (E20) is told at the unit's first token.
-    pub fn told(self) -> Option<Fault>
-        ensures { result ≡ told_fault self }
-    {
-        match self {
-            SyntaxFault::Memory => None,
-            SyntaxFault::Rule(fault) => Some(fault),
-            SyntaxFault::NoTree(_place) => Some(Fault {
-                index: 0,
-                code: Code::NoTree,
-            }),
-        }
-    }
 }
 
 impl From<AllocError> for SyntaxFault {

@@ -1,5 +1,6 @@
 pub mod AskedLemmas
 pub mod BankLemmas
+pub mod EditLemmas
 pub mod FileLemmas
 pub mod FormLemmas
 pub mod KeptLemmas

@@ -3,6 +3,7 @@ pub mod Bank
 pub mod Compile
 pub mod Edited
 pub mod Edits
+pub mod Made
 pub mod Project
 pub mod Renewed
 pub mod UpToDate

@@ -3,6 +3,7 @@
 ghost use Rattle.std.specs.Prelude.{◌≡◌, ◌||◌, ◌&&◌, [], ◌∷◌, IfOk, OnOk, OnErr, Some, None, length, nat_le, not, map};
 ghost use Rattle.std.specs.Map.{remove_entry};
 ghost use Rattle.std.specs.Option.{option_copied, option_map};
+ghost use Rattle.std.specs.Result.{result_err};
 ghost use Rattle.std.specs.FinMap as finite;
 ghost use Rattle.std.specs.Str.{bytes_eq};
 ghost use Rattle.indexmap.specs.IndexMap.{insert_entry};
@@ -11,18 +12,20 @@ ghost use Rattle.idl_event.specs.declared.key.Answer.TheVariants as answers;
 ghost use Rattle.idl_event.specs.declared.key.Key.TheVariants as keys;
 ghost use Rattle.idl_memo.specs.Cause.{changed};
 ghost use Rattle.idl_workspace.specs.Bank.{IsSameBeside, bank_of};
+ghost use Rattle.idl_workspace.specs.Edits.{macros_with};
 ghost use Rattle.idl_prep.specs.Candidate.{AnswersFrom};
 ghost use Rattle.idl_prep.specs.Include.{directories_in};
 ghost use Rattle.idl_source.specs.Limits.{most_macros};
 ghost use Rattle.idl_workspace.specs.Project.{Inputs, is_defined, no_inputs};
 
-use crate::MAX_MACROS;
 use crate::macro_body::MacroBody;
+use crate::{MAX_BODY, MAX_MACROS};
 use idl_base::Seq;
 use idl_event::{Answer, FileName, Key, LexedFile};
 use idl_lex::Spelling;
+use idl_macro::is_macro_word;
 use idl_memo::Bank;
-use idl_source::{Directory, Files};
+use idl_source::{Files, Line, Refusal};
 use indexmap::IndexMap;
 use std::alloc::{AllocError, Global};
 use std::marker::Model;
@@ -92,12 +95,25 @@ impl SessionBank {
         &self.files
     }
 
-    /// Whether there are as many macros as there may be, and none with this word.
-    pub fn is_full_for(&self, word: &Spelling) -> bool
+    // Whether there are as many macros as there may be, and none with this word.
+    fn is_full_for(&self, word: &Spelling) -> bool
         ensures { let macros = self.now.macros in
             result ≡ (nat_le most_macros (length macros) && not (is_defined macros word.now)) }
     {
         self.macros.len() >= MAX_MACROS && !self.macros.contains_key(word)
+    }
+
+    /// Why a macro with this word and this body isn't defined.
+    pub fn refusal_of_define(&self, word: &Spelling, body: &Line) -> Option<Refusal>
+        ensures { result ≡ result_err (macros_with self.now.macros word.now body.now) }
+    {
+        if body.len() > MAX_BODY || self.is_full_for(word) {
+            return Some(Refusal::OverLimit);
+        }
+        if !is_macro_word(word.as_bytes()) {
+            return Some(Refusal::BadMacro);
+        }
+        None
     }
 
     /// What is answered of a file, by what these files say of it. The file is cut into tokens here, and what is the same as in

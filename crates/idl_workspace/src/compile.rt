@@ -5,13 +5,13 @@ ghost use Rattle.std.specs.Option.{option_copied};
 ghost use Rattle.idl_event.specs.Key.{key_eq};
 ghost use Rattle.idl_memo.specs.Kept.{HoldsOver};
 ghost use Rattle.idl_prep.specs.Root.{expansion};
-ghost use Rattle.idl_workspace.specs.Compile.{compile_over, end_of, line_count};
+ghost use Rattle.idl_workspace.specs.Compile.{compile_over, compiled_root, end_of, line_count};
 
 use crate::bank::SessionBank;
 use idl_base::Seq;
 use idl_event::{Answer, Expansion, FileName, Key, Place, RootBank};
-use idl_memo::Kept;
-use idl_prep::absent;
+use idl_memo::{Kept, Meter, run_anew};
+use idl_prep::{RootTask, absent};
 use idl_root::{Compiled, KeptUnits, Memory, Recompiled};
 use idl_source::Name;
 use std::alloc::{AllocError, Global};
@@ -39,6 +39,19 @@ impl Drop for CompiledRoot {
 pub struct CompiledAgain {
     pub compiled: CompiledRoot,
     pub units: KeptUnits,
+}
+
+/// Compiles a root over a bank, in which its own file may be absent. Nothing is kept of it.
+pub fn compile_alone(
+    memory: &mut Memory,
+    bank: &SessionBank,
+    root: &Name,
+) -> Result<CompiledRoot, AllocError>
+    ensures { IfOk result (λ compiled. compiled ≡ compiled_root bank.now root.now) }
+{
+    let task = RootTask::new(root.copied());
+    let kept = run_anew(memory.alloc(), &task, bank, &mut Meter::new())?;
+    compile(memory, bank, &kept)
 }
 
 /// Compiles a root over a bank, in which its own file may be absent, from the result of its task.

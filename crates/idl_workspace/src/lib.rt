@@ -13,14 +13,17 @@ mod limits;
 mod macro_body;
 mod root_table;
 mod session;
+mod sources;
 mod word;
 mod work;
 
 pub use bank::answers_come_from_inputs;
-pub use idl_root::Row;
+pub use compile::CompiledRoot;
+pub use idl_root::{Compiled, Row};
 pub use idl_source::Span;
 pub use limits::{
     MAX_BODY, MAX_DIRECTORIES, MAX_MACROS, MAX_ROOTS, edits_keep_form, edits_keep_limits,
 };
 pub use session::Session;
+pub use sources::Sources;
 pub use work::Work;

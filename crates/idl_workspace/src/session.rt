@@ -2,7 +2,6 @@
 
 ghost use Rattle.std.specs.Prelude.{◌≡◌, ℕ, List, [], true, Ok, Err, IfOk, IfNone, IfSome, IsTrue, map};
 ghost use Rattle.std.specs.Option.{option_copied};
-ghost use Rattle.std.specs.Result.{result_err};
 ghost use Rattle.idl_source.specs.Name.{is_name};
 ghost use Rattle.idl_event.specs.declared.key.Key.TheVariants as keys;
 ghost use Rattle.idl_workspace.specs.Asked.{asked_files, asked_of};
@@ -10,10 +9,11 @@ ghost use Rattle.idl_workspace.specs.Bank.{IsSameBeside};
 ghost use Rattle.idl_workspace.specs.Project.{no_project, with_files};
 ghost use Rattle.idl_workspace.specs.Work.{no_work};
 ghost use Rattle.idl_workspace.specs.Edited.{IsEdited, takes_memory};
-ghost use Rattle.idl_workspace.specs.Edits.{Edit, Put, Splice, Remove, Define, Undef, Search, AddRoot, DropRoot, after, are_too_long, macros_with};
+ghost use Rattle.idl_workspace.specs.Edits.{Edit, Put, Splice, Remove, Define, Undef, Search, AddRoot, DropRoot, after, are_too_long};
 ghost use Rattle.idl_workspace.specs.Renewed.{IsRenewed};
 ghost use Rattle.idl_workspace.specs.UpToDate.{compiled_of, diagnostics_of, listing_of, dump_of, is_faulty_of, absent_of};
 
+use crate::Row;
 use crate::bank::SessionBank;
 use crate::compile::CompiledRoot;
 use crate::directories::directories;
@@ -22,7 +22,6 @@ use crate::macro_body::MacroBody;
 use crate::root_table::RootTable;
 use crate::word::spelled;
 use crate::work::Work;
-use crate::{MAX_BODY, Row};
 use idl_base::Seq;
 use idl_event::{Answer, FileName, Key};
 use idl_lex::Spelling;
@@ -118,7 +117,7 @@ impl Session {
         ensures { IsEdited (Define word.now body) self.old self.new result }
     {
         let word = spelled(self.memory.alloc(), word)?;
-        if let Some(refusal) = self.refusal_of_define(&word, &body) {
+        if let Some(refusal) = self.bank.refusal_of_define(&word, &body) {
             return Err(refusal);
         }
         let body = MacroBody::new(self.memory.alloc(), body)?;
@@ -335,20 +334,6 @@ impl Session {
     {
         let roots = &self.roots;
         roots.kept(&Name::new(root)?)
-    }
-
-    // Why a macro with this word and this body isn't defined.
-    fn refusal_of_define(&self, word: &Spelling, body: &Line) -> Option<Refusal>
-        ensures { let macros = self.now.project.inputs.macros in
-            result ≡ result_err (macros_with macros word.now body.now) }
-    {
-        if body.len() > MAX_BODY || self.bank.is_full_for(word) {
-            return Some(Refusal::OverLimit);
-        }
-        if !is_macro_word(word.as_bytes()) {
-            return Some(Refusal::BadMacro);
-        }
-        None
     }
 
     // Puts other files in place, of which the one of this name alone is another: an edit after which these are the files.

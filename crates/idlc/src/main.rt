@@ -5,6 +5,7 @@
 #![tactic(auto)]
 
 mod disk;
+mod reading;
 mod standard;
 
 use crate::disk::Disk;

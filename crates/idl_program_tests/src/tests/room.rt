@@ -1,4 +1,4 @@
-//! A session that is full of files that were tried too early.
+//! Roots that ask for as many files as there may be.
 
 ghost use Rattle.idl_program.specs.Holding.{Untold};
 
@@ -62,9 +62,9 @@ fn told(loader: Headers<'_>, words: &[&str]) -> Result<(Status, Vec<u8>), AllocE
 
 // Words, the first line, how many headers, the last line, and what is told.
 static ROWS: [(&[&str], &str, usize, &str, &str); 3] = [
-    // Each header has a copy in the directory, which is tried with it and isn't asked for once it is there.
+    // Each header has a copy in the directory, which isn't asked for, since the header is there.
     (&["-Iinc", "r.idl"], "", 2_100, "", ""),
-    // With the root, `a.idl` and the headers the session is full, until `b.idl` turns the headers away.
+    // With the root and `a.idl` the headers would be too many, but `b.idl` turns them away.
     (
         &["r.idl"],
         "#include \"a.idl\"\n#ifndef A\n",
@@ -83,7 +83,7 @@ static ROWS: [(&[&str], &str, usize, &str, &str); 3] = [
 ];
 
 #[test]
-fn files_that_were_tried_too_early_make_room(rt: HostRuntime) -> Result<(), Fail> {
+fn files_that_are_not_asked_for_take_no_room(rt: HostRuntime) -> Result<(), Fail> {
     for (words, first, count, last, want) in ROWS.iter() {
         let headers = Headers {
             alloc: rt.alloc(),

@@ -79,6 +79,16 @@ fn file_bytes(alloc: Global, lines: &str) -> Result<Vec<u8>, AllocError> {
 
 /// What the program gives: its status, what it wrote to standard output, and what to standard error, with ` / ` for a newline.
 pub fn given(alloc: Global, words: &str, files: &str, input: &str) -> Result<String, AllocError> {
+    told(alloc, words, Files::new(alloc, files), input)
+}
+
+/// The same over the files of a loader.
+pub fn told<L: Loader + Drop>(
+    alloc: Global,
+    words: &str,
+    loader: L,
+    input: &str,
+) -> Result<String, AllocError> {
     let mut list: Vec<&str> = Vec::new(alloc);
     for word in words.split(' ') {
         if !word.is_empty() {
@@ -86,7 +96,7 @@ pub fn given(alloc: Global, words: &str, files: &str, input: &str) -> Result<Str
         }
     }
     let mut devices = Devices {
-        loader: Files::new(alloc, files),
+        loader,
         source: SliceSource::new(input.as_bytes()),
         output: BufferSink::new(alloc, ROOM)?,
         errors: BufferSink::new(alloc, ROOM)?,

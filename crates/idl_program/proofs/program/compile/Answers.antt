@@ -1,36 +1,31 @@
-use Rattle.std.proofs.Common.{◌≡◌, ◌∙◌, ℕ, List, Option, None, Some, ap, sym, subst}
-use Rattle.std.specs.Cmp.Lexicographic.{slice_cmp}
-use Rattle.std.specs.FinMap as finite
-use Rattle.std.specs.FinMap.{get-empty}
-use Rattle.std.specs.Ordering.{nat_cmp}
-use Rattle.idl_program.specs.Compiled.{IsShown, Written}
-use Rattle.idl_program.specs.Loading.{AreComplete}
+use Rattle.std.proofs.Common.{◌∙◌, ℕ, List, Some, ap, subst, sym}
+use Rattle.idl_workspace.specs.declared.compile.CompiledRoot.{CompiledRoot}
+use Rattle.idl_program.specs.Compiled.{Written}
+use Rattle.idl_program.specs.Loading.{AreCompiled}
 use Rattle.idl_program.specs.Options.{AreAsked}
+use Rattle.idl_program.specs.Rows.{AreShown}
+use Rattle.idl_program.proofs.LoadingLemmas.{shown}
 use Rattle.idl_program.proofs.program.compile.Goals as goal
-
-pub load_all-requires-clause-loaded : goal.load_all-requires-clause-loaded
-load_all-requires-clause-loaded g c name lines there =
-    let none : finite.get c.in_ok-session.session.project.inputs.files name ≡ None =
-    ap (λ files. finite.get files name) c.in_ok-session.ensures.files ∙ get-empty (slice_cmp nat_cmp) name in
-    let both : None ≡ Some lines = sym none ∙ there in
-    absurd (cc)
 
 pub returns-clause-compiled : goal.returns-clause-compiled
 returns-clause-compiled g c =
     let told = g.L.Loader.told c.args.devices.now.loader in
     let options = c.args.options.now in
-    let inputs = c.load_all.new.session.project.inputs in
-    let roots = c.in_ok-session.roots.items in
+    let inputs = c.in_ok-sources-2.sources in
+    let roots = c.in_ok-sources.roots.keys in
+    let compiled = c.in_ok-sources-2.compiled.items in
+    let status = c.in_ok-status.status in
     let before : Written = record { errors = g.E.Sink.written c.args.devices.now.errors; output = g.O.Sink.written c.args.devices.now.output } in
     let after : Written = record { errors = g.E.Sink.written c.show_all.new.devices.errors; output = g.O.Sink.written c.show_all.new.devices.output } in
-    let asked = c.in_ok-session.ensures.asked in
-    let stays = c.in_ok-load_all.ensures.stays in
-    let are : AreAsked options inputs roots = record { macros = stays.macros ∙ asked.macros; search = asked.search ∙ ap Some (sym stays.search); named = asked.named } in
+    let first = c.in_ok-sources.ensures.asked in
+    let are = subst (λ (rs : List (List ℕ)). AreCompiled told c.in_ok-sources.sources inputs rs compiled) c.as_slice.ensures.keys c.in_ok-sources-2.ensures in
+    let asked : AreAsked options inputs roots = record { macros = are.stays.macros ∙ first.macros; search = first.search ∙ ap Some (sym are.stays.search); named = first.named } in
     record {
       inputs = inputs;
       roots = roots;
-      asked = are;
-      loaded = c.in_ok-load_all.ensures.loaded;
-      complete = subst (λ (rs : List (List ℕ)). AreComplete told inputs rs) c.deref.ensures.value c.in_ok-load_all.ensures.complete;
-      shown = subst (λ (rs : List (List ℕ)). IsShown options inputs rs before after c.in_ok-status.status) c.deref-2.ensures.value c.in_ok-status.ensures.shown;
+      asked = asked;
+      loaded = are.loaded;
+      complete = are.complete;
+      shown = shown options inputs roots compiled before after status are.rows
+          (subst (λ (rs : List CompiledRoot). AreShown options rs before after status) c.deref.ensures.value c.in_ok-status.ensures.shown);
     }

@@ -25,5 +25,8 @@ loop-base-preserved c =
       ap (λ l. gathered (kept entries) l (drop (at + 1) bases)) (c.in_ok-join_new.ensures.joined ∙ ap (joined found) paths)
           ∙ ap (gathered (kept entries) found) (sym here)
           ∙ c.loop-base.invariant.0,
-      c.in_ok-join_new.ensures.there,
+      λ p. c.in_ok-join_new.ensures.there p (c.loop-base.invariant.1 p),
     )
+
+pub join_new-requires : goal.join_new-requires
+join_new-requires c = λ p among. c.loop-base.invariant.1 p

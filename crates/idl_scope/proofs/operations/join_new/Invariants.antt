@@ -5,8 +5,8 @@ use Rattle.idl_scope.specs.Facts.{joined}
 use Rattle.idl_scope.specs.Path.{path_eq}
 use Rattle.idl_scope.proofs.operations.join_new.Given as goal
 
--- the rest of the paths, put behind those so far, comes to all of them; and the paths that are there are those so far
+-- the rest of the paths, put behind those so far, comes to all of them; and the table still tells of what it told of
 abbrev pub invariant-loop-path : goal.invariant-loop-path
 invariant-loop-path l =
     (joined l.found (drop l.path-index l.paths) ≡ joined l.fn.found l.paths)
-    × ((p : List (List ℕ)) → list_any (path_eq p) (keys_of l.there) ≡ list_any (path_eq p) l.found)
+    × ((p : List (List ℕ)) → list_any (path_eq p) (keys_of l.fn.there) ≡ list_any (path_eq p) l.fn.found → list_any (path_eq p) (keys_of l.there) ≡ list_any (path_eq p) l.found)

@@ -17,7 +17,7 @@ use_nothing-requires-clause-part c =
     let asked = rw c.in-Err-At.field-0-is at c.in-Err-At.ensures.asked in
     let name = c.args.name.now in
     let within =
-    part-within c.args.self.now.own.additions (answers c.args.self.now.env.now) (turns_for c.args.self.now.env.now + turns_among c.args.self.now.own.additions) c.as_slice.result.now name c.args.log.now c.resolve.new.log
+    part-within c.args.self.now.own.additions (answers c.args.self.now.env.now) (turns_for c.args.self.now.env.now + turns_among c.args.self.now.own.additions) c.scopes.result.now name c.args.log.now c.resolve.new.log
     c.in-Err-At.code c.in-Err-At.part (asked (turns_for c.args.self.now.env.now + turns_among c.args.self.now.own.additions) (omega arith)) in
     subst (λ (part : ℕ). part ≤ length name.rest) (sym c.in-Err-At.part-is) within
 
@@ -31,7 +31,7 @@ returns-in_ok-use_as-in-Ok-clause-run c = λ turns more.
     let found = c.in-Ok.found in
     let middle = c.resolve.new.log in
     let after = c.looked_through.new.log in
-    let gives = c.in-Ok.ensures.asked (turns_at turns w) (turns-here c.args.self.now.env.now w.own turns more) ∙ ap (λ cursor. runs_over bank (under w.own (denoted (turns_at turns w) cursor name)) log) c.as_slice.ensures.value in
+    let gives = c.in-Ok.ensures.asked (turns_at turns w) (turns-here c.args.self.now.env.now w.own turns more) ∙ ap (λ cursor. runs_over bank (under w.own (denoted (turns_at turns w) cursor name)) log) c.scopes.ensures.value in
     let seen : HasTurnsFor c.view.result.env.now c.view.result.own.now.additions (turns_at turns w) = rw (c.view.ensures.env, c.view.ensures.own) (turns-here c.args.self.now.env.now w.own turns more) in
     let through = c.in_ok-behind-in-Ok.ensures (turns_at turns w) seen ∙ (λ i. runs_over (answers (c.view.ensures.env i)) (under (c.view.ensures.own i).additions (looked_through (turns_at turns w) way found.entity)) middle) in
     (λ i. (c.in_ok-use_as-in-Ok.ensures.visit i, after))
@@ -50,7 +50,7 @@ returns-in_ok-follow_nothing-in-Err-At-clause-run c = λ turns more.
     let log = c.args.log.now in
     let after = c.resolve.new.log in
     let asked = rw c.in-Err-At.field-0-is at c.in-Err-At.ensures.asked in
-    let gives = asked (turns_at turns w) (turns-here c.args.self.now.env.now w.own turns more) ∙ ap (λ cursor. runs_over bank (under w.own (denoted (turns_at turns w) cursor name)) log) c.as_slice.ensures.value in
+    let gives = asked (turns_at turns w) (turns-here c.args.self.now.env.now w.own turns more) ∙ ap (λ cursor. runs_over bank (under w.own (denoted (turns_at turns w) cursor name)) log) c.scopes.ensures.value in
     (λ i. (c.in_ok-follow_nothing-in-Err-At.ensures.walk i, after))
     ∙ (λ i. (
       record (held (c.use_nothing.ensures i)) {

@@ -41,7 +41,7 @@ returns-clause-visit c =
     } in
     let lent = c.path-path.ensures ∙ ap (λ (f : Entity). f.path) c.get-entity.ensures in
     let path = c.in_ok-clone.ensures.cases ∙ lent in
-    let scopes = c.front-scopes.ensures ∙ ap (take reach) c.as_slice.ensures.value in
+    let scopes = ap (take reach) c.scopes.ensures.value in
     c.in_ok-follow.ensures.walk
     ∙ (λ i. after before c.last_at-last.result (c.in_ok-introduce.ensures i).additions (c.in_ok-push.ensures.items i) (c.in_ok-add_raised.ensures i) (c.get-entity.ensures i))
     ∙ (λ i. after before (c.last_at-last.ensures i) (with_uses (folded name.first) (scopes i) before.own.additions) (before.found ++ path i ∷ [])

@@ -20,7 +20,7 @@ returns-then-is_scope-clause-run c = λ turns more.
     let found = c.in-Ok.found in
     let after = c.resolve.new.log in
     let gives = c.in-Ok.ensures.asked (turns_at turns w) (turns-here c.args.self.now.env.now w.own turns more)
-    ∙ (λ i. runs_over bank (under w.own (denoted (turns_at turns w) (c.as_slice.ensures.value i) (record {
+    ∙ (λ i. runs_over bank (under w.own (denoted (turns_at turns w) (c.scopes.ensures.value i) (record {
       is_global = sym c.requires.local i;
       first = c.in_ok-clone.ensures.cases i;
       rest = c.new.ensures i;
@@ -39,7 +39,7 @@ returns-in-Ok-clause-run c = λ turns more.
     let found = c.in-Ok.found in
     let after = c.resolve.new.log in
     let gives = c.in-Ok.ensures.asked (turns_at turns w) (turns-here c.args.self.now.env.now w.own turns more)
-    ∙ (λ i. runs_over bank (under w.own (denoted (turns_at turns w) (c.as_slice.ensures.value i) (record {
+    ∙ (λ i. runs_over bank (under w.own (denoted (turns_at turns w) (c.scopes.ensures.value i) (record {
       is_global = sym c.requires.local i;
       first = c.in_ok-clone.ensures.cases i;
       rest = c.new.ensures i;
@@ -59,7 +59,7 @@ returns-clause-run c = λ turns more.
     let after = c.resolve.new.log in
     let asked = rw c.in-Err-At.field-0-is at c.in-Err-At.ensures.asked in
     let gives = asked (turns_at turns w) (turns-here c.args.self.now.env.now w.own turns more)
-    ∙ (λ i. runs_over bank (under w.own (denoted (turns_at turns w) (c.as_slice.ensures.value i) (record {
+    ∙ (λ i. runs_over bank (under w.own (denoted (turns_at turns w) (c.scopes.ensures.value i) (record {
       is_global = sym c.requires.local i;
       first = c.in_ok-clone.ensures.cases i;
       rest = c.new.ensures i;

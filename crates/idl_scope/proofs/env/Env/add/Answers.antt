@@ -10,14 +10,14 @@ add-requires c = λ key.
     let before = c.self.inside.facts in
     let counts = count-world before key in
     let same = ap (λ (w : World). count_in (w.answers key)) (ap held c.deref_mut.ensures.value ∙ c.self.invariant.1) in
-    let bound : count_in ((world before).answers key) < 18446744073709551615 = grind (arith, counts, c.self.invariant.0, c.in-Some.ensures) in
+    let bound : count_in ((world before).answers key) < 18446744073709551615 = grind (arith, counts, c.self.invariant.0, c.in_ok-count.ensures.room) in
     rw same bound
 
 pub invariant_of-result : goal.invariant_of-result
 invariant_of-result c =
     let before = c.self.inside.facts in
     let f = c.args.facts.now in (
-      counted-after c.self.inside.count c.in-Some.count before f _ c.self.invariant.0 c.in-Some.ensures c.and.ensures,
+      counted-after c.self.inside.count c.in_ok-count.count before f _ c.self.invariant.0 c.in_ok-count.ensures.more c.and.ensures,
       c.in_ok-add.ensures
           ∙ ap (λ (w : World). after w f) (ap held c.deref_mut.ensures.value ∙ c.self.invariant.1)
           ∙ sym (world-push before f)

@@ -1,8 +1,10 @@
 use Rattle.std.proofs.Common.{◌≡◌, ◌∷◌, [], sym, ap, ◌∙◌}
 use Rattle.std.proofs.lemmas.Result.{IfOk-weaker}
-use Rattle.idl_scope.specs.Facts.{answers}
-use Rattle.idl_scope.specs.Lookup.{outward, searched}
-use Rattle.idl_scope.proofs.RunLemmas.{runs}
+use Rattle.idl_scope.specs.Facts.{answers, global_scope}
+use Rattle.idl_scope.specs.Finds.{those}
+use Rattle.idl_scope.specs.Lookup.{has, outward, searched}
+use Rattle.idl_scope.specs.declared.kind.Kind.TheVariants.{Module}
+use Rattle.idl_scope.proofs.RunLemmas.{outward_alone, runs}
 use Rattle.idl_scope.proofs.lookup.View.first_found.Goals as goal
 
 pub returns-then-name : goal.returns-then-name
@@ -10,6 +12,13 @@ returns-then-name c =
     let own = c.args.self.own.now.additions in
     let bank = answers c.args.self.env.now in
     let name = c.args.name.now in
+    let log = c.args.log.now in
+    let folded = c.in_ok-folded.folded in
     let same = c.in_ok-folded.ensures in
-    let scopes : c.global-global.result ∷ [] ≡ searched name.is_global c.args.cursor.now = ap (λ s. s ∷ []) c.global-global.ensures ∙ sym (ap (λ b. searched b c.args.cursor.now) c.if-name.true) in
-    IfOk-weaker c.found_outward.result _ _ (λ found given turns more. given turns more ∙ (λ i. runs own bank (outward turns (scopes i) (same i)) c.args.log.now)) c.found_outward.ensures
+    let scopes : global_scope ∷ [] ≡ searched name.is_global c.args.cursor.now = sym (ap (λ b. searched b c.args.cursor.now) c.if-name.true) in
+    IfOk-weaker c.found_in.result _ _
+    (λ found given turns more.
+    outward_alone own bank turns global_scope folded log (those found) _
+    (given turns more ∙ (λ i. runs own bank (has turns Module (c.global-path.ensures i) folded) log))
+    ∙ (λ i. runs own bank (outward turns (scopes i) (same i)) log))
+    c.found_in.ensures

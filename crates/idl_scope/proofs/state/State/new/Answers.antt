@@ -7,7 +7,7 @@ use Rattle.idl_scope.proofs.state.State.new.Goals as goal
 
 pub returns : goal.returns
 returns c =
-    let scopes = c.in_ok-scopes.ensures ∙ ap (λ s. Open (s ∷ [])) c.global.ensures in
+    let scopes = ap Open (c.in_ok-scopes.ensures ∙ (λ i. c.global.ensures i ∷ c.none.ensures i)) in
     let answers : kept c.new-2.result ≡ first_answer =
     ap kept c.new-2.ensures
     ∙ (λ i. kept ((Cursor, scopes i) ∷ (PrefixKey, InForce (c.in_ok-none.ensures i)) ∷ []))

@@ -32,5 +32,6 @@ returns c =
     let counted : held (record state { answers = c.insert.new.self }) ≡ after_nameless (held state) = λ i. record (held state) { answers = put i } in
     let name = c.in_ok-name.ensures ∙ ap nameless number in
     let outer = c.cursor.ensures in
-    let path = c.in_ok-path.ensures ∙ (λ i. name i ∷ path_around (outer i)) in
+    let around = c.in_ok-path_of_first.ensures ∙ ap path_around outer in
+    let path = c.in_ok-path.ensures ∙ (λ i. name i ∷ around i) in
     IfOk-weaker c.open.result _ _ (λ _ h. h ∙ (λ i. after_step (counted i) (Opens (path i) c.args.kind))) c.open.ensures

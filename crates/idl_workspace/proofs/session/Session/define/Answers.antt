@@ -10,6 +10,7 @@ use Rattle.idl_source.specs.declared.refusal.Refusal.TheVariants.{BadMacro, Over
 use Rattle.idl_workspace.specs.Edits.{Define, after, is_macro_over, macros_with, result_map}
 use Rattle.idl_workspace.specs.Project.{Inputs, Macros, Project, with_macros}
 use Rattle.idl_workspace.specs.UpToDate.{State}
+use Rattle.idl_workspace.proofs.EditLemmas.{define-refused}
 use Rattle.idl_workspace.proofs.RootLemmas.{IsUpToDate-edited, work-edited}
 use Rattle.idl_workspace.proofs.session.Session.define.Goals as goal
 
@@ -18,6 +19,19 @@ invariant_of-self-2 c =
     IsUpToDate-edited c.args.self.now c.self-2.inside.bank c.define.new.self c.self-2.inside.roots c.in_ok-renewed.renewed (keys.Macro c.in_ok-word.word) (keys.Macro c.in_ok-word.word)
     (Some c.answer.result.now) (Some (answers.Macro (c.in_ok-body.body ∷ []))) c.self-2.inside.work
     (c.self-2.view_is ∙ c.in_ok-renewed.ensures.same) c.self-2.invariant c.in_ok-renewed.ensures.renewed refl (ap Some c.answer.ensures) c.in_ok-define.ensures.bank
+
+pub returns-in-Some : goal.returns-in-Some
+returns-in-Some c =
+    let project : Project = record { inputs = c.self.inside.bank; roots = keys_of c.self.inside.roots } in
+    let word = c.in_ok-word.word in
+    record {
+      unchanged = refl;
+      least = λ other.
+          ap (λ (state : State). after state.project (Define c.args.word.now c.args.body)) (sym c.self.view_is)
+          ∙ ap (λ w. after project (Define w c.args.body)) (sym c.in_ok-word.ensures)
+          ∙ define-refused project word c.args.body c.in-Some.refusal c.in-Some.ensures;
+      memory = λ is. refl;
+    }
 
 -- a macro that isn't refused
 accepted : (over allowed : Bool) (macros : Macros) → None ≡ result_err (cond over (Err OverLimit) (cond allowed (Ok macros) (Err BadMacro)))
@@ -39,7 +53,8 @@ returns c =
     let project : Project = record { inputs = c.self-2.inside.bank; roots = keys_of c.self-2.inside.roots } in
     let word = c.in_ok-word.word in
     let none : None ≡ result_err (macros_with project.inputs.macros word c.args.body) =
-    subst (λ (state : State). None ≡ result_err (macros_with state.project.inputs.macros word c.args.body)) (sym (c.self-2.view_is ∙ c.in_ok-renewed.ensures.same)) c.in_default.ensures in
+    subst (λ (state : State). None ≡ result_err (macros_with state.project.inputs.macros word c.args.body)) (c.self.view_is ∙ sym (c.self-2.view_is ∙ c.in_ok-renewed.ensures.same))
+    c.in_default.ensures in
     record {
       project =
           ap (λ (state : State). after state.project (Define c.args.word.now c.args.body)) (sym (c.self-2.view_is ∙ c.in_ok-renewed.ensures.same))

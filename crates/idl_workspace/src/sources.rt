@@ -1,0 +1,137 @@
+//! Sources: what roots are made of, and what a root compiles to.
+
+ghost use Rattle.std.specs.Prelude.{◌≡◌, IfOk, map};
+ghost use Rattle.idl_workspace.specs.Compile.{compiled_root};
+ghost use Rattle.idl_workspace.specs.Edits.{Define, Put, Search, Undef};
+ghost use Rattle.idl_workspace.specs.Made.{IsMade};
+ghost use Rattle.idl_workspace.specs.Project.{no_inputs};
+
+use crate::bank::SessionBank;
+use crate::compile::{CompiledRoot, compile_alone};
+use crate::directories::directories;
+use crate::macro_body::MacroBody;
+use crate::word::spelled;
+use idl_base::Seq;
+use idl_event::{Answer, FileName, Key};
+use idl_macro::is_macro_word;
+use idl_memo::Bank;
+use idl_root::Memory;
+use idl_source::{Line, Name, Refusal};
+use std::alloc::{AllocError, Global};
+use std::marker::Model;
+
+/// Files, macros and a search list, over which roots are compiled, each by itself.
+///
+/// Who compiles a root once, after all edits, needs no session: of a root nothing is kept here. An edit is refused as that of a
+/// session is, and then nothing has changed.
+#[derive(Drop)]
+pub struct Sources {
+    memory: Memory,
+    bank: SessionBank,
+}
+
+impl Model for Sources {
+    ghost use Rattle.idl_workspace.specs.Project.{Inputs, inputs_code};
+
+    ghost Value = { Inputs };
+
+    ghost coded = { inputs_code };
+
+    ghost view = { λ sources. sources.bank };
+}
+
+impl Sources {
+    /// No files, no macros and no directories. It takes no memory.
+    pub fn new(alloc: Global) -> Sources
+        ensures { result ≡ no_inputs }
+    {
+        Sources {
+            memory: Memory::new(alloc),
+            bank: SessionBank::new(alloc),
+        }
+    }
+
+    /// Puts a file of these lines, in place of the one of that name if there is one.
+    ///
+    /// It is refused where a limit of files or lines is passed. Memory may be refused too. A refusal gives up the lines.
+    pub fn put(&mut self, name: &Name, lines: Vec<Line>) -> Result<(), Refusal>
+        ensures { IsMade (Put name.now lines.items) self.old self.new result }
+    {
+        let files = self.bank.files().put(name.as_bytes(), lines)?;
+        let name = FileName::new(self.memory.alloc(), name)?;
+        let answer = self.bank.file_answer(self.memory.alloc(), &files, &name)?;
+        self.bank.set_files(name, files, answer)?;
+        Ok(())
+    }
+
+    /// Defines a macro that stands before the first line of every root, in place of the one of that word if there is one.
+    ///
+    /// It is refused where the body has more than [`MAX_BODY`](crate::MAX_BODY) bytes, or the word is new and there are
+    /// [`MAX_MACROS`](crate::MAX_MACROS) macros, and then where the word isn't one, or is `defined`. Memory may be refused
+    /// too. A refusal gives up the body.
+    pub fn define(&mut self, word: &[u8], body: Line) -> Result<(), Refusal>
+        ensures { IsMade (Define word.now body) self.old self.new result }
+    {
+        let word = spelled(self.memory.alloc(), word)?;
+        if let Some(refusal) = self.bank.refusal_of_define(&word, &body) {
+            return Err(refusal);
+        }
+        let body = MacroBody::new(self.memory.alloc(), body)?;
+        self.bank.define(word, body)?;
+        Ok(())
+    }
+
+    /// Takes the macro with this word out, if there is one.
+    ///
+    /// It is refused where the word isn't one, or is `defined`. Memory may be refused too.
+    pub fn undef(&mut self, word: &[u8]) -> Result<(), Refusal>
+        ensures { IsMade (Undef word.now) self.old self.new result }
+    {
+        if !is_macro_word(word) {
+            return Err(Refusal::BadMacro);
+        }
+        let word = spelled(self.memory.alloc(), word)?;
+        self.bank.undef(&word);
+        Ok(())
+    }
+
+    /// Searches included files in these directories from now on, in this order.
+    ///
+    /// It is refused where one of them is no directory, and then where there are more than
+    /// [`MAX_DIRECTORIES`](crate::MAX_DIRECTORIES). Memory may be refused too.
+    pub fn search(&mut self, list: &[&[u8]]) -> Result<(), Refusal>
+        ensures { IsMade (Search (map (λ bytes. bytes.now) list.now)) self.old self.new result }
+    {
+        let list = directories(self.memory.alloc(), list)?;
+        self.bank.set_search(Answer::Search(Seq::from_vec(list)));
+        Ok(())
+    }
+
+    /// What the root of this name compiles to. Its file may be absent.
+    pub fn compile(&mut self, root: &Name) -> Result<CompiledRoot, AllocError>
+        ensures compiled { IfOk result (λ compiled. compiled ≡ compiled_root self.old root.now) }
+        ensures same { self.new ≡ self.old }
+    {
+        compile_alone(&mut self.memory, &self.bank, root)
+    }
+
+    /// Where memory comes from, for what a caller has to hand in.
+    pub fn allocator(&self) -> Global {
+        self.memory.alloc()
+    }
+}
+
+impl Bank for Sources {
+    ghost use Rattle.idl_workspace.specs.Bank.{bank_of};
+
+    type Key = Key;
+
+    type Answer = Answer;
+
+    ghost at = { bank_of };
+
+    #[inline]
+    fn answer(&self, key: &Key) -> Option<&Answer> {
+        self.bank.answer(key)
+    }
+}
