@@ -14,9 +14,12 @@ declared-few (Uses n path body ∷ additions) = let l = declared-few additions i
 declared-few (Appears path prefix ∷ additions) = let l = declared-few additions in omega (arith, l)
 declared-few (Identifies path identity ∷ additions) = let l = declared-few additions in omega (arith, l)
 
+plus_zero : (n : ℕ) → n ≡ 0 + n
+plus_zero n = omega arith
+
 -- what facts and more facts declare
 pub declared-more : (facts : List UnitFacts) (f : UnitFacts) → length (declared_named (facts ++ f ∷ [])) ≡ length (declared_named facts) + length (declared_among f.additions)
-declared-more [] f = ap length (append-nil (declared_among f.additions))
+declared-more [] f = ap length (append-nil (declared_among f.additions)) ∙ plus_zero (length (declared_among f.additions))
 declared-more (g ∷ facts) f =
     let l = length-append (declared_among g.additions) (declared_named (facts ++ f ∷ [])) in
     let r = length-append (declared_among g.additions) (declared_named facts) in

@@ -10,4 +10,4 @@ returns-then-is_among c =
     let p = c.args.path.now in
     let there = sym c.is_among.ensures ∙ c.if-is_among.true in
     let in_place : few ≡ c.args.self.now = sym (ap (paths_of few) c.in_default.is) ∙ c.self.view_is in
-    sym (ap (λ q. joined q (p ∷ [])) (sym in_place) ∙ joined-there few p [] there ∙ in_place)
+    c.self.view_is ∙ sym (ap (λ q. joined q (p ∷ [])) (sym in_place) ∙ joined-there few p [] there ∙ in_place)

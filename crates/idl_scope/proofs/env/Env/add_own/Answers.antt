@@ -1,4 +1,4 @@
-use Rattle.std.proofs.Common.{◌<◌, ◌∷◌, ◌++◌, [], length, sym, ap, ◌∙◌, arith, length-append}
+use Rattle.std.proofs.Common.{◌+◌, ◌<◌, ◌∷◌, ◌++◌, [], length, sym, ap, ◌∙◌, arith, length-append}
 use Rattle.idl_scope.specs.Facts.{World, after, count_in, world}
 use Rattle.idl_scope.specs.Held.{held}
 use Rattle.idl_scope.proofs.CountLemmas.{count-world, world-push}
@@ -17,7 +17,7 @@ pub invariant_of-result : goal.invariant_of-result
 invariant_of-result c =
     let before = c.self.inside.facts in
     let f = c.args.facts in
-    let past = c.and-after.ensures ∙ ap (λ g. before ++ g ∷ []) c.get.ensures in (
+    let past = c.and-after.ensures ∙ ap (λ g. before ++ g ∷ []) c.get-2.ensures in (
       counted-after c.self.inside.count c.in_ok-count.count before f _ c.self.invariant.0 (c.in_ok-count.ensures.more ∙ ap (λ g. c.self.inside.count + length g.additions + 1) c.get.ensures) past,
       c.in_ok-add_own.ensures
           ∙ (λ i. after (held (c.deref_mut.ensures.value i)) ((c.deref_mut-2.ensures.value ∙ c.facts-2.view_is) i))
