@@ -1,6 +1,5 @@
 -- How many entities are declared.
-use Rattle.std.proofs.Common.{◌≡◌, ℕ, ◌+◌, ◌≤◌, List, [], ◌∷◌, ◌++◌, length, arith, ap, sym, ◌∙◌, length-append, append-nil, append_assoc}
-use Rattle.std.specs.Prelude.{flat_map}
+use Rattle.std.proofs.Common.{◌≡◌, ℕ, ◌+◌, ◌≤◌, List, [], ◌∷◌, ◌++◌, length, arith, ap, ◌∙◌, length-append, append-nil}
 use Rattle.idl_scope.specs.Facts.{UnitFacts}
 use Rattle.idl_scope.specs.Turns.{declared_among, declared_named}
 use Rattle.idl_scope.specs.declared.addition.Addition.{Addition}

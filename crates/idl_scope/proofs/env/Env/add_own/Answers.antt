@@ -1,4 +1,4 @@
-use Rattle.std.proofs.Common.{◌+◌, ◌<◌, ◌∷◌, ◌++◌, [], length, sym, ap, ◌∙◌, arith, length-append}
+use Rattle.std.proofs.Common.{◌+◌, ◌<◌, ◌∷◌, ◌++◌, [], length, sym, ap, ◌∙◌, arith}
 use Rattle.idl_scope.specs.Facts.{World, after, count_in, world}
 use Rattle.idl_scope.specs.Held.{held}
 use Rattle.idl_scope.proofs.CountLemmas.{count-world, world-push}
