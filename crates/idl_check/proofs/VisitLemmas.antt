@@ -1,5 +1,5 @@
 -- Runs of a walk and of its sites.
-use Rattle.std.proofs.Common.{◌≡◌, ◌∙◌, ℕ, true, false, cond, List, [], ◌∷◌, Option, None, Some, Result, Ok, Err, refl, sym, ap}
+use Rattle.std.proofs.Common.{◌≡◌, ◌∙◌, ℕ, true, false, cond, List, [], ◌∷◌, Option, None, Some, Result, Ok, Err, refl, sym, ap, ◌+◌, ◌≤◌, arith}
 use Rattle.std.specs.Prelude.{Bool, OnOk, slice_get}
 use Rattle.idl_memo.specs.Query.{Done, and_then, run}
 use Rattle.idl_memo.proofs.QueryLaws.{run-and_then, run-and_then_at}
@@ -22,6 +22,9 @@ use Rattle.idl_site.specs.declared.site.Use.{Use}
 use Rattle.idl_tree.specs.declared.name.ScopedName.{ScopedName}
 use Rattle.idl_unit.specs.TokenRules.{first}
 use Rattle.idl_unit.specs.declared.fault.Fault.{Fault}
+use Rattle.idl_scope.specs.Facts.{UnitFacts}
+use Rattle.idl_scope.specs.Turns.{HasTurnsFor, turns_among, turns_for}
+use Rattle.idl_scope.specs.declared.addition.Addition.{Addition}
 use Rattle.idl_check.proofs.NotedLemmas.{noted_in-one_way, noted_in-quiet, one_way}
 
 -- turns for the facts before a unit are, with those for its tokens so far, turns for both
