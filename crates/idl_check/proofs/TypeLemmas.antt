@@ -21,6 +21,8 @@ use Rattle.idl_scope.specs.declared.answer.Answer.TheVariants.{Known}
 use Rattle.idl_scope.specs.declared.entity.Entity.{Entity}
 use Rattle.idl_scope.specs.declared.key.Key.{Key}
 use Rattle.idl_scope.specs.declared.key.Key.TheVariants.{Declared}
+use Rattle.idl_lex.specs.Keywords.{folded}
+use Rattle.idl_scope.specs.Path.{name_of, scope_of}
 
 -- one more typedef, where there is one
 abbrev next_typedef : ℕ → Entity → Entity → Option (List (List ℕ)) → Lookup Entity
@@ -50,6 +52,17 @@ or_true false = refl
 
 own_key : (n : List ℕ) (p : List (List ℕ)) → key_eq (Declared n p) (Declared n p) ≡ true
 own_key n p = λ i. (bytes_decides n n).1 refl i && (pointwise_decides bytes_decides p p).1 refl i
+
+own_key_at : (p : List (List ℕ)) → key_eq (entity_key p) (entity_key p) ≡ true
+own_key_at p = own_key (folded (name_of p)) (scope_of p)
+
+-- a path is among paths, or it isn't
+decided : (p : List (List ℕ)) (paths : List (List (List ℕ))) → (IsIn p paths) ⊎ (IsIn p paths → ⊥)
+decided p paths = by_test (either (among p paths))
+  where
+    by_test : (among p paths ≡ true) ⊎ (among p paths ≡ false) → (IsIn p paths) ⊎ (IsIn p paths → ⊥)
+    by_test (inl yes) = inl ((among-IsIn p paths).0 yes)
+    by_test (inr no) = inr (λ i. absurd (let both : true ≡ false = sym ((among-IsIn p paths).1 i) ∙ no in cc))
 
 module _ (bank : Key → Option Answer) (log : List (Key × Option Answer)) where
   -- a key that is there is not logged again
@@ -155,7 +168,7 @@ module _ (own : List Addition) (bank : Key → Option Answer) (name : Entity) wh
       ];
       asked = λ p i. elim (IsIn-split p met (h.path ∷ []) i) [
         | inl j ↦ noted-kept bank log (entity_key q) (entity_key p) (way.asked p j)
-        | inr j ↦ ap (λ k. is_logged key_eq (noted key_eq bank log (entity_key q)) k) (ap entity_key (sym (IsIn-one h.path p j)) ∙ sym (same_key_at q h is)) ∙ noted-new bank log (entity_key q) (own_key _ _)
+        | inr j ↦ ap (λ k. is_logged key_eq (noted key_eq bank log (entity_key q)) k) (ap entity_key (sym (IsIn-one h.path p j)) ∙ sym (same_key_at q h is)) ∙ noted-new bank log (entity_key q) (own_key_at q)
       ];
       leads = λ p f i there. elim (IsIn-split p met (h.path ∷ []) i) as (λ _. (f ≡ h) ⊎ LeadsTo (met ++ h.path ∷ []) f) [
         | inl j ↦ further p f j there
@@ -182,41 +195,39 @@ module _ (own : List Addition) (bank : Key → Option Answer) (name : Entity) wh
         absurd (omega (arith, k, few))
     more-same extra (suc turns) met e log way few =
         let more : suc turns + extra ≡ suc (turns + extra) = omega arith in
-        ap (λ m. runs own bank (behind_typedefs m name e) log) more ∙ by_next (path_in (aliased e)) refl
+        ap (λ m. runs own bank (behind_typedefs m name e) log) more
+        ∙ by_next (λ q h next is new. more-same extra turns (met ++ h.path ∷ []) h (noted key_eq bank log (entity_key q)) (on_way met e log q h next is new way)
+          (let l = length-append met (h.path ∷ []) in omega (arith, l, few))) (path_in (aliased e)) refl
       where
-        rest : List (Key × Option Answer) → List (List ℕ) → List (Key × Option Answer)
-        rest l q = noted key_eq bank l (entity_key q)
+        -- the chain goes on through one more
+        GoesOn : Type 0
+        GoesOn = (q : List (List ℕ)) (h : Entity) → path_in (aliased e) ≡ Some q → there_at q ≡ Some h → (IsIn h.path met → ⊥)
+            → runs own bank (behind_typedefs (turns + extra) name h) (noted key_eq bank log (entity_key q)) ≡ runs own bank (behind_typedefs turns name h) (noted key_eq bank log (entity_key q))
 
-        by_among : (q : List (List ℕ)) (h : Entity) → path_in (aliased e) ≡ Some q → there_at q ≡ Some h → (IsIn h.path met) ⊎ (IsIn h.path met → ⊥)
-            → runs own bank (behind_typedefs (turns + extra) name h) (rest log q) ≡ runs own bank (behind_typedefs turns name h) (rest log q)
-        by_among q h next is (inl met_again) =
+        by_among : GoesOn → (q : List (List ℕ)) (h : Entity) → path_in (aliased e) ≡ Some q → there_at q ≡ Some h → (IsIn h.path met) ⊎ (IsIn h.path met → ⊥)
+            → runs own bank (behind_typedefs (turns + extra) name h) (noted key_eq bank log (entity_key q)) ≡ runs own bank (behind_typedefs turns name h) (noted key_eq bank log (entity_key q))
+        by_among on q h next is (inl met_again) =
             let leads : (p : List (List ℕ)) (f : Entity) → IsIn p met → there_at p ≡ Some f → LeadsTo met f = λ p f i there. elim (way.leads p f i there) [
               | inl same ↦ (q, h, ap (λ x. path_in (aliased x)) same ∙ next, is, met_again)
-              | inr on ↦ on
+              | inr leads_on ↦ leads_on
             ] in
-            let asked : AreAsked met (rest log q) = λ p i. noted-kept bank log (entity_key q) (entity_key p) (way.asked p i) in
-            round met leads (rest log q) asked (turns + extra) h met_again (at_own q h is)
-            ∙ sym (round met leads (rest log q) asked turns h met_again (at_own q h is))
-        by_among q h next is (inr new) =
-            more-same extra turns (met ++ h.path ∷ []) h (rest log q) (on_way met e log q h next is new way)
-            (let l = length-append met (h.path ∷ []) in omega (arith, l, few))
+            let asked : AreAsked met (noted key_eq bank log (entity_key q)) = λ p i. noted-kept bank log (entity_key q) (entity_key p) (way.asked p i) in
+            round met leads (noted key_eq bank log (entity_key q)) asked (turns + extra) h met_again (at_own q h is)
+            ∙ sym (round met leads (noted key_eq bank log (entity_key q)) asked turns h met_again (at_own q h is))
+        by_among on q h next is (inr new) = on q h next is new
 
-        by_there : (q : List (List ℕ)) → path_in (aliased e) ≡ Some q → (o : Option Entity) → there_at q ≡ o
+        by_there : GoesOn → (q : List (List ℕ)) → path_in (aliased e) ≡ Some q → (o : Option Entity) → there_at q ≡ o
             → runs own bank (behind_typedefs (suc (turns + extra)) name e) log ≡ runs own bank (behind_typedefs (suc turns) name e) log
-        by_there q next None is = behind_nothing (turns + extra) e q log next is ∙ sym (behind_nothing turns e q log next is)
-        by_there q next (Some h) is =
+        by_there on q next None is = behind_nothing (turns + extra) e q log next is ∙ sym (behind_nothing turns e q log next is)
+        by_there on q next (Some h) is =
             behind_on (turns + extra) e q h log next is
-            ∙ by_among q h next is (decided (either (among h.path met)))
+            ∙ by_among on q h next is (decided h.path met)
             ∙ sym (behind_on turns e q h log next is)
-          where
-            decided : (among h.path met ≡ true) ⊎ (among h.path met ≡ false) → (IsIn h.path met) ⊎ (IsIn h.path met → ⊥)
-            decided (inl yes) = inl ((among-IsIn h.path met).0 yes)
-            decided (inr no) = inr (λ i. absurd (let both : true ≡ false = sym ((among-IsIn h.path met).1 i) ∙ no in cc))
 
-        by_next : (o : Option (List (List ℕ))) → path_in (aliased e) ≡ o
+        by_next : GoesOn → (o : Option (List (List ℕ))) → path_in (aliased e) ≡ o
             → runs own bank (behind_typedefs (suc (turns + extra)) name e) log ≡ runs own bank (behind_typedefs (suc turns) name e) log
-        by_next None next = behind_end (turns + extra) e log next ∙ sym (behind_end turns e log next)
-        by_next (Some q) next = by_there q next (there_at q) refl
+        by_next on None next = behind_end (turns + extra) e log next ∙ sym (behind_end turns e log next)
+        by_next on (Some q) next = by_there on q next (there_at q) refl
 
     -- with a turn for each entity that is declared, and one, any two numbers of turns give the same and log the same
     pub behind-same : (turns other : ℕ) (e : Entity) (log : List (Key × Option Answer)) → length places + 1 ≤ turns → length places + 1 ≤ other
@@ -224,9 +235,9 @@ module _ (own : List Addition) (bank : Key → Option Answer) (name : Entity) wh
     behind-same turns other e log h g =
         let start : IsOnWay [] e log = record { once = tt; known = λ p i. absurd i; asked = λ p i. absurd i; leads = λ p f i there. absurd i } in
         let both : turns + other ≡ other + turns = omega arith in
-        sym (more-same other turns [] e log start h)
+        sym (more-same other turns [] e log start (omega (arith, h)))
         ∙ ap (λ t. runs own bank (behind_typedefs t name e) log) both
-        ∙ more-same turns other [] e log start g
+        ∙ more-same turns other [] e log start (omega (arith, g))
 
 -- over facts, any number of turns that they and these additions need gives the same as one that no fewer entities are declared than
 pub behind-any : (facts : List UnitFacts) (own : List Addition) (turns most : ℕ) (e : Entity) (log : List (Key × Option Answer)) → HasTurnsFor facts own turns

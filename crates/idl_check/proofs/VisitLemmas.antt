@@ -192,3 +192,15 @@ module _ (bank : Key → Option Answer) where
       ∙ run-and_then key_eq (visit turns site w) (λ v. walk turns sites (noted_in v w.fault)) bank log
       ∙ ap (λ (p : Walk × List (Key × Option Answer)). runs_over (walk turns sites p.0) p.1)
       (sym (gives ∙ run-and_then key_eq (visit turns site w) (λ v. Done (noted_in v w.fault)) bank log))
+
+-- of a name of several parts that is given back, its first part alone is looked at
+given-by : (turns : ℕ) (way : Use) (name : ScopedName) (w : Walk) (rest : List (List ℕ)) → (rest ≡ [] → ⊥)
+    → elim rest as (λ _. Lookup Walk) [ [] ↦ used_noted turns way name w | part ∷ parts ↦ head_noted turns name w ] ≡ head_noted turns name w
+given-by turns way name w [] some = absurd (some refl)
+given-by turns way name w (part ∷ parts) some = refl
+
+pub given-head : (bank : Key → Option Answer) (turns : ℕ) (way : Use) (name : ScopedName) (w : Walk) (log : List (Key × Option Answer)) → name.is_global ≡ false → (name.rest ≡ [] → ⊥)
+    → run key_eq (given_noted turns way name w) bank log ≡ run key_eq (head_noted turns name w) bank log
+given-head bank turns way name w log local some =
+    ap (λ b. run key_eq (cond b (Done (past_name name w)) (elim name.rest as (λ _. Lookup Walk) [ [] ↦ used_noted turns way name w | part ∷ parts ↦ head_noted turns name w ])) bank log) local
+    ∙ ap (λ q. run key_eq q bank log) (given-by turns way name w name.rest some)

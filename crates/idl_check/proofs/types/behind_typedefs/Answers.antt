@@ -11,7 +11,7 @@ use Rattle.idl_check.proofs.types.behind_typedefs.Goals as goal
 pub loop-turn-init : goal.loop-turn-init
 loop-turn-init c = record {
   within = omega arith;
-  run = ap (λ e. runs c.args.view.own.now.additions (answers c.args.view.env.now) (behind_typedefs (c.most_declared.result + 1) c.args.entity.now e) c.args.log.now) c.in_ok-behind.ensures.cases;
+  run = ap (λ e. runs c.args.view.own.now.additions (answers c.args.view.env.now) (behind_typedefs (c.most_declared-turns.result + 1) c.args.entity.now e) c.args.log.now) c.in_ok-behind.ensures.cases;
 }
 
 pub returns-in_default : goal.returns-in_default
@@ -19,7 +19,7 @@ returns-in_default c turns h =
     let own = c.args.view.own.now.additions in
     let bank = answers c.args.view.env.now in
     let name = c.args.entity.now in
-    let all = c.most_declared.result + 1 in
+    let all = c.most_declared-turns.result + 1 in
     let at = c.loop-turn._turn in
     let e = c.loop-turn.behind in
     let log = c.loop-turn.log in
@@ -27,14 +27,14 @@ returns-in_default c turns h =
     sym (behind_end own bank name (all - (at + 1)) e log none)
     ∙ ap (λ n. runs own bank (behind_typedefs n name e) log) (sym (fewer_turns all at c.loop-turn-test.true))
     ∙ c.loop-turn.invariant.run
-    ∙ behind-any c.args.view.env.now own turns c.most_declared.result name c.args.log.now h c.most_declared.ensures.most
+    ∙ behind-any c.args.view.env.now own turns c.most_declared-turns.result name c.args.log.now h c.most_declared-turns.ensures.most
 
 pub returns-in_default-2 : goal.returns-in_default-2
 returns-in_default-2 c turns h =
     let own = c.args.view.own.now.additions in
     let bank = answers c.args.view.env.now in
     let name = c.args.entity.now in
-    let all = c.most_declared.result + 1 in
+    let all = c.most_declared-turns.result + 1 in
     let at = c.loop-turn._turn in
     let e = c.loop-turn.behind in
     let log = c.loop-turn.log in
@@ -47,14 +47,14 @@ returns-in_default-2 c turns h =
     ∙ sym (behind_nothing own bank name (all - (at + 1)) e path log some none)
     ∙ ap (λ n. runs own bank (behind_typedefs n name e) log) (sym (fewer_turns all at c.loop-turn-test.true))
     ∙ c.loop-turn.invariant.run
-    ∙ behind-any c.args.view.env.now own turns c.most_declared.result name c.args.log.now h c.most_declared.ensures.most
+    ∙ behind-any c.args.view.env.now own turns c.most_declared-turns.result name c.args.log.now h c.most_declared-turns.ensures.most
 
 pub loop-turn-preserved : goal.loop-turn-preserved
 loop-turn-preserved c =
     let own = c.args.view.own.now.additions in
     let bank = answers c.args.view.env.now in
     let name = c.args.entity.now in
-    let all = c.most_declared.result + 1 in
+    let all = c.most_declared-turns.result + 1 in
     let at = c.loop-turn._turn in
     let e = c.loop-turn.behind in
     let log = c.loop-turn.log in
@@ -78,11 +78,11 @@ returns c =
     let own = c.args.view.own.now.additions in
     let bank = answers c.args.view.env.now in
     let name = c.args.entity.now in
-    let all = c.most_declared.result + 1 in
+    let all = c.most_declared-turns.result + 1 in
     let at = c.loop-turn._turn in
     let out : all - at ≡ 0 = omega (arith, c.loop-turn.invariant.within, c.loop-turn-test.false) in
     IfOk-weaker c.clone.result _ _ (λ behind same turns h.
     (λ i. (same i, c.loop-turn.log))
     ∙ ap (λ n. runs own bank (behind_typedefs n name c.loop-turn.behind) c.loop-turn.log) (sym out)
     ∙ c.loop-turn.invariant.run
-    ∙ behind-any c.args.view.env.now own turns c.most_declared.result name c.args.log.now h c.most_declared.ensures.most) c.clone.ensures.cases
+    ∙ behind-any c.args.view.env.now own turns c.most_declared-turns.result name c.args.log.now h c.most_declared-turns.ensures.most) c.clone.ensures.cases

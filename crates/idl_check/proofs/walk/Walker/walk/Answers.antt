@@ -28,8 +28,8 @@ loop-site-preserved c =
     let counted = ap items_length here in
     record {
       rest = λ turns more.
-          let here : turns_for c.loop-site.self.env.now ≤ turns = rw c.loop-site.invariant.env more in
-          let gives = c.in_ok-visit.ensures.visited turns here ∙ ap (λ env. runs_over (answers env) (visited turns site w) log) c.loop-site.invariant.env in
+          let enough : turns_for c.loop-site.self.env.now ≤ turns = rw c.loop-site.invariant.env more in
+          let gives = c.in_ok-visit.ensures.visited turns enough ∙ ap (λ env. runs_over (answers env) (visited turns site w) log) c.loop-site.invariant.env in
           sym (walk_on bank turns site rest w log (held c.visit.new.self) c.visit.new.log (sym c.is_over.ensures ∙ c.if-is_over.false) gives)
           ∙ ap (λ sites. runs_over bank (walk turns sites w) log) (sym here) ∙ c.loop-site.invariant.rest turns more;
       env = c.in_ok-visit.ensures.env ∙ c.loop-site.invariant.env;
