@@ -1,5 +1,5 @@
 -- More turns than the facts before a unit need change neither its verdict nor what is logged for it.
-use Rattle.std.proofs.Common.{◌≡◌, ◌∙◌, ℕ, suc, ◌+◌, ◌≤◌, Bool, true, false, cond, List, [], ◌∷◌, ◌++◌, length, Option, None, Some, Result, Ok, Err, is_some, refl, sym, ap, arith, length-append}
+use Rattle.std.proofs.Common.{◌≡◌, ◌∙◌, ℕ, suc, ◌+◌, ◌≤◌, Bool, true, false, cond, List, [], ◌∷◌, ◌++◌, Option, None, Some, Result, Ok, Err, is_some, refl, sym, ap, arith, length-append}
 use Rattle.std.specs.List.{list_any}
 use Rattle.idl_memo.specs.Query.{Ask, Done, and_then, noted, run}
 use Rattle.idl_memo.proofs.QueryLaws.{run-and_then_at}
@@ -8,9 +8,8 @@ use Rattle.idl_check.proofs.TypeLemmas.{behind-same}
 use Rattle.idl_check.proofs.VisitLemmas.{turns-here}
 use Rattle.idl_check.specs.Declaring.{entity_of, inherited, standing}
 use Rattle.idl_check.specs.Identifying.{ids_of}
-use Rattle.idl_check.specs.Pragmas.{Said, about, refused_for, said, said_by, unnamed_faults}
+use Rattle.idl_check.specs.Pragmas.{said_by}
 use Rattle.idl_check.specs.Types.{behind_typedefs, is_looked_through, looked_through}
-use Rattle.idl_check.specs.Using.{last_at}
 use Rattle.idl_check.specs.Verdict.{by_names, by_tree, faulty, first_faults, first_part, judged, misplaced, pragma_judged, pragma_verdict, refused, token_verdict, tree_of, verdict}
 use Rattle.idl_check.specs.Walk.{Visit, Walk, declared_visit, first_walk, given_back, head_of, head_visit, is_over, noted_in, passed, past_name, quiet, turns_at, unfound_visit, used, used_visit, visit, walk, with_oneway}
 use Rattle.idl_check.specs.Placing.{is_misplaced}
@@ -26,15 +25,13 @@ use Rattle.idl_scope.specs.Facts.{UnitFacts, answers, entity_in, entity_key, is_
 use Rattle.idl_scope.specs.Key.{key_eq}
 use Rattle.idl_scope.specs.Lookup.{Lookup, bases_of, by_result, denoted, inherits, outward, reached, under}
 use Rattle.idl_scope.specs.Path.{name_of}
-use Rattle.idl_scope.specs.Turns.{HasTurnsFor, declared_among, declared_named, turns_among, turns_for}
-use Rattle.idl_scope.specs.declared.addition.Addition.{Addition}
+use Rattle.idl_scope.specs.Turns.{HasTurnsFor, declared_among, declared_named, turns_for}
 use Rattle.idl_scope.specs.declared.addition.Step.TheVariants.{Stays}
 use Rattle.idl_scope.specs.declared.answer.Answer.{Answer}
 use Rattle.idl_scope.specs.declared.answer.Scope.{Scope}
 use Rattle.idl_scope.specs.declared.entity.Entity.{Entity}
 use Rattle.idl_scope.specs.declared.fault.NameFault.{NameFault}
 use Rattle.idl_scope.specs.declared.found.Found.{Found}
-use Rattle.idl_scope.specs.declared.identity.Identity.{Identity}
 use Rattle.idl_scope.specs.declared.key.Key.{Key}
 use Rattle.idl_scope.specs.declared.key.Key.TheVariants.{Cursor, Declared, Introduced}
 use Rattle.idl_site.specs.Item.{Item, items, Item as item}

@@ -2,7 +2,6 @@
 use Rattle.std.proofs.Common.{◌≡◌, ◌⊎◌, ◌∙◌, ℕ, zero, suc, ◌+◌, ◌-◌, ◌<◌, ◌≤◌, Bool, true, false, cond, List, [], ◌∷◌, ◌++◌, length, Option, None, Some, refl, sym, ap, subst, inl, inr, arith, length-append}
 use Rattle.std.specs.Prelude.{◌&&◌, ◌||◌}
 use Rattle.std.specs.Cmp.Lexicographic.{bytes_decides, pointwise_decides}
-use Rattle.std.specs.List.{list_any}
 use Rattle.std.proofs.lemmas.List.Folds.{list_any-append}
 use Rattle.idl_memo.specs.Query.{Done, Ask, is_logged, noted}
 use Rattle.idl_check.specs.Types.{aliased, behind_typedefs, path_in}
@@ -61,8 +60,8 @@ decided : (p : List (List ℕ)) (paths : List (List (List ℕ))) → (IsIn p pat
 decided p paths = by_test (either (among p paths))
   where
     by_test : (among p paths ≡ true) ⊎ (among p paths ≡ false) → (IsIn p paths) ⊎ (IsIn p paths → ⊥)
-    by_test (inl yes) = inl ((among-IsIn p paths).0 yes)
-    by_test (inr no) = inr (λ i. absurd (let both : true ≡ false = sym ((among-IsIn p paths).1 i) ∙ no in cc))
+    by_test (inl h) = inl ((among-IsIn p paths).0 h)
+    by_test (inr h) = inr (λ i. absurd (let both : true ≡ false = sym ((among-IsIn p paths).1 i) ∙ h in cc))
 
 module _ (bank : Key → Option Answer) (log : List (Key × Option Answer)) where
   -- a key that is there is not logged again

@@ -1,5 +1,5 @@
-use Rattle.std.proofs.Common.{◌≡◌, ◌∙◌, ◌+◌, ◌-◌, None, Some, sym, ap, arith}
-use Rattle.std.proofs.lemmas.Result.{IfOk-weaker}
+use Rattle.std.proofs.Common.{◌≡◌, ◌∙◌, ◌+◌, ◌-◌, None, Some, Result, Ok, Err, sym, ap, arith}
+use Rattle.std.specs.Result.{IfOk, MatchResult}
 use Rattle.std.specs.Option.{option_copied}
 use Rattle.idl_check.specs.Types.{aliased, behind_typedefs, path_in}
 use Rattle.idl_check.proofs.TypeLemmas.{behind-any, behind_end, behind_nothing, behind_on, fewer_turns, next_turn}
@@ -8,11 +8,24 @@ use Rattle.idl_scope.specs.Facts.{answers, entity_in, entity_key}
 use Rattle.idl_scope.specs.declared.entity.Entity.{Entity}
 use Rattle.idl_check.proofs.types.behind_typedefs.Goals as goal
 
+-- what follows for a value from what is known of both
+if_ok : {A E : Type 0} (P Q : A → Type 0) (N : E → Type 0) (r : Result A E) → ((a : A) → P a → Q a) → MatchResult r P N → IfOk r Q
+if_ok P Q N (Ok a) f h = f a h
+if_ok P Q N (Err e) f h = tt
+
 pub loop-turn-init : goal.loop-turn-init
-loop-turn-init c = record {
-  within = omega arith;
-  run = ap (λ e. runs c.args.view.own.now.additions (answers c.args.view.env.now) (behind_typedefs (c.most_declared-turns.result + 1) c.args.entity.now e) c.args.log.now) c.in_ok-behind.ensures.cases;
-}
+loop-turn-init c =
+    let own = c.args.view.own.now.additions in
+    let bank = answers c.args.view.env.now in
+    let name = c.args.entity.now in
+    let all = c.most_declared-turns.result + 1 in
+    let whole : all - 0 ≡ all = omega arith in
+    record {
+      within = omega arith;
+      run =
+          ap (λ n. runs own bank (behind_typedefs n name c.in_ok-behind.behind) c.args.log.now) whole
+          ∙ ap (λ e. runs own bank (behind_typedefs all name e) c.args.log.now) c.in_ok-behind.ensures.cases;
+    }
 
 pub returns-in_default : goal.returns-in_default
 returns-in_default c turns h =
@@ -81,8 +94,8 @@ returns c =
     let all = c.most_declared-turns.result + 1 in
     let at = c.loop-turn._turn in
     let out : all - at ≡ 0 = omega (arith, c.loop-turn.invariant.within, c.loop-turn-test.false) in
-    IfOk-weaker c.clone.result _ _ (λ behind same turns h.
+    if_ok _ _ _ c.clone-2.result (λ behind same turns h.
     (λ i. (same i, c.loop-turn.log))
     ∙ ap (λ n. runs own bank (behind_typedefs n name c.loop-turn.behind) c.loop-turn.log) (sym out)
     ∙ c.loop-turn.invariant.run
-    ∙ behind-any c.args.view.env.now own turns c.most_declared-turns.result name c.args.log.now h c.most_declared-turns.ensures.most) c.clone.ensures.cases
+    ∙ behind-any c.args.view.env.now own turns c.most_declared-turns.result name c.args.log.now h c.most_declared-turns.ensures.most) c.clone-2.ensures.cases
