@@ -3,7 +3,7 @@ use Rattle.std.proofs.Common.{◌≡◌, ◌∙◌, ℕ, Bool, true, false, List
 use Rattle.idl_check.specs.AllFaults.{site_faults}
 use Rattle.idl_check.specs.Declaring.{entity_of, standing}
 use Rattle.idl_check.specs.Types.{looked_through}
-use Rattle.idl_check.specs.Walk.{Visit, Walk, declared_visit, given_back, head_of, head_visit, outcome_at, unfound_visit, used, used_visit, value_visit, visit, with_oneway}
+use Rattle.idl_check.specs.Walk.{turns_at, Visit, Walk, declared_visit, given_back, head_of, head_visit, outcome_at, unfound_visit, used, used_visit, value_visit, visit, with_oneway}
 use Rattle.idl_memo.specs.Query.{Done, outcome}
 use Rattle.idl_memo.proofs.QueryLaws.{outcome-and_then}
 use Rattle.idl_scope.specs.Kind.{kind_eq}
@@ -60,13 +60,13 @@ module _ (turns : ℕ) (answers : Key → Option Answer) where
   declared-apart f way name w None = refl
   declared-apart f way name w (Some s) =
       let e = entity_of w.written way name s.path in
-      let query = under w.own (standing turns s e) in
+      let query = under w.own (standing (turns_at turns w) s e) in
       outcome-and_then query (λ there. Done (declared_visit (with_fault f w) way s e there)) answers
       ∙ sym (ap (with_fault_after f) (outcome-and_then query (λ there. Done (declared_visit w way s e there)) answers))
 
   used-by-apart : (f : Option Fault) (way : Use) (name : ScopedName) (w : Walk) (r : Result Found NameFault) → outcome (used_by turns answers way name (with_fault f w) r) answers ≡ with_fault_after f (outcome (used_by turns answers way name w r) answers)
   used-by-apart f way name w (Ok found) =
-      let query = under w.own (looked_through way found.entity) in
+      let query = under w.own (looked_through (turns_at turns w) way found.entity) in
       outcome-and_then query (λ behind. Done (used_visit (with_fault f w) way name found behind)) answers
       ∙ sym (ap (with_fault_after f) (outcome-and_then query (λ behind. Done (used_visit w way name found behind)) answers))
   used-by-apart f way name w (Err fault) = unfound-apart f w way name fault
@@ -74,7 +74,7 @@ module _ (turns : ℕ) (answers : Key → Option Answer) where
   plain-apart : (f : Option Fault) (way : Use) (name : ScopedName) (w : Walk) → outcome (used turns way name (with_fault f w)) answers ≡ with_fault_after f (outcome (used turns way name w) answers)
   unfolding used
   plain-apart f way name w =
-      let query = under w.own (denoted turns w.cursor name) in
+      let query = under w.own (denoted (turns_at turns w) w.cursor name) in
       outcome-and_then query (used_by turns answers way name (with_fault f w)) answers
       ∙ used-by-apart f way name w (outcome query answers)
       ∙ sym (ap (with_fault_after f) (outcome-and_then query (used_by turns answers way name w) answers))
@@ -87,7 +87,7 @@ module _ (turns : ℕ) (answers : Key → Option Answer) where
       ∙ ap (with_oneway w.at) (plain-apart f way name w)
       ∙ sym (ap (with_fault_after f) (outcome-and_then (used turns way name w) (λ v. Done (with_oneway w.at v)) answers))
   given-apart f way name w false (part ∷ parts) =
-      let query = under w.own (denoted turns w.cursor (head_of name)) in
+      let query = under w.own (denoted (turns_at turns w) w.cursor (head_of name)) in
       outcome-and_then query (λ r. Done (with_oneway w.at (head_visit name (with_fault f w) r))) answers
       ∙ sym (ap (with_fault_after f) (outcome-and_then query (λ r. Done (with_oneway w.at (head_visit name w r))) answers))
 

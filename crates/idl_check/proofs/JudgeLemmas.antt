@@ -1,5 +1,5 @@
 -- The three steps of a verdict, run.
-use Rattle.std.proofs.Common.{◌≡◌, ℕ, true, false, cond, List, [], ◌∷◌, ◌++◌, Option, None, Some, is_some, refl, sym, ap, ◌∙◌, arith}
+use Rattle.std.proofs.Common.{◌≡◌, ℕ, true, false, cond, List, [], ◌∷◌, ◌++◌, Option, None, Some, is_some, refl, sym, ap, ◌∙◌, arith, ◌≤◌}
 use Rattle.std.proofs.lemmas.Option.{same_Some}
 use Rattle.std.proofs.lemmas.List.{length-map}
 use Rattle.std.specs.Prelude.{◌≢◌, fold, length}
@@ -14,7 +14,7 @@ use Rattle.idl_check.specs.declared.verdict.Verdict.{Verdict}
 use Rattle.idl_event.specs.declared.code.Code.TheVariants.{NoTree, MisplacedUnit}
 use Rattle.idl_lex.specs.Keywords.{folded}
 use Rattle.idl_lex.specs.Tokens.{Token}
-use Rattle.idl_scope.specs.Facts.{path_around}
+use Rattle.idl_scope.specs.Facts.{path_around, UnitFacts}
 use Rattle.idl_scope.specs.Key.{key_eq}
 use Rattle.idl_scope.specs.Lookup.{Lookup, outward, under}
 use Rattle.idl_scope.specs.declared.answer.Answer.{Answer}
@@ -32,7 +32,13 @@ use Rattle.idl_tree.specs.Unit.{spell}
 use Rattle.idl_tree.specs.declared.unit.Tree.{Tree}
 use Rattle.idl_unit.specs.Faults.{least_fault, lesser_fault}
 use Rattle.idl_unit.specs.TokenRules.{fault_at, token_faults}
+use Rattle.idl_scope.specs.Turns.{HasTurnsFor, turns_for}
+use Rattle.idl_scope.specs.declared.addition.Step.TheVariants.{Stays}
 use Rattle.idl_unit.specs.declared.fault.Fault.{Fault}
+
+-- turns for the facts are turns for them and nothing more
+pub turns-none : (facts : List UnitFacts) (own : UnitFacts) (turns : ℕ) → own ≡ record { additions = []; step = Stays } → turns_for facts ≤ turns → HasTurnsFor facts own.additions turns
+turns-none facts own turns none h = rw none (omega (arith, h))
 
 -- a lookup under no additions
 pub under-none : {A : Type 0} (q : Lookup A) → under [] q ≡ q

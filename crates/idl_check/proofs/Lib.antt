@@ -1,23 +1,24 @@
+pub mod ApartLaws
 mod BaseLemmas
+pub mod FaultOrder
 mod IdLemmas
 mod JudgeLemmas
+pub mod LeastFault
+mod MoreTurns
 mod NameLemmas
 mod NotedLemmas
+pub mod NumberLaws
 mod PartLemmas
+pub mod PragmaLaws
 mod PragmaLemmas
 mod PragmaTokens
 mod RowLaws
 mod RowLemmas
-mod StandingLemmas
-mod TypeLemmas
-mod VisitLemmas
-pub mod FaultOrder
-pub mod ApartLaws
 pub mod SiteLaws
-pub mod TableLaws
-pub mod VerdictLaws
-pub mod WalkLaws
-pub mod NumberLaws
+mod StandingLemmas
 pub mod StepLaws
-pub mod LeastFault
-pub mod PragmaLaws
+pub mod TableLaws
+mod TypeLemmas
+pub mod VerdictLaws
+mod VisitLemmas
+pub mod WalkLaws

@@ -10,7 +10,7 @@ use Rattle.idl_check.specs.Declaring.{entity_of, standing}
 use Rattle.idl_check.specs.Judging.{used_name, used_names, walked}
 use Rattle.idl_check.specs.Row.{Rest, spaced, token_text, unit_text}
 use Rattle.idl_check.specs.Types.{looked_through}
-use Rattle.idl_check.specs.Walk.{Visit, Walk, declared_visit, given_back, head_of, head_visit, outcome_at, unfound_visit, used, used_visit, value_visit, visit, with_oneway}
+use Rattle.idl_check.specs.Walk.{turns_at, Visit, Walk, declared_visit, given_back, head_of, head_visit, outcome_at, unfound_visit, used, used_visit, value_visit, visit, with_oneway}
 use Rattle.idl_event.specs.declared.code.Code.TheVariants.{BadOneway}
 use Rattle.idl_lex.specs.Kind.{kind_of}
 use Rattle.idl_lex.specs.Marks.{marks}
@@ -118,7 +118,7 @@ module _ (turns : ℕ) (answers : Key → Option Answer) where
   declared-found way name w None = refl
   declared-found way name w (Some s) =
       ap (λ (v : Visit). v.after.found)
-      (outcome-and_then (under w.own (standing turns s (entity_of w.written way name s.path))) (λ there. Done (declared_visit w way s (entity_of w.written way name s.path) there)) answers)
+      (outcome-and_then (under w.own (standing (turns_at turns w) s (entity_of w.written way name s.path))) (λ there. Done (declared_visit w way s (entity_of w.written way name s.path) there)) answers)
 
   -- after a used name a path more is found, where nothing is wrong with it
   abbrev FindsOne : Walk → Visit → Type 0
@@ -127,14 +127,14 @@ module _ (turns : ℕ) (answers : Key → Option Answer) where
   used-by-found : (way : Use) (name : ScopedName) (w : Walk) (r : Result Found NameFault) → IsUpTo (length name.rest) r → FindsOne w (outcome (used_by turns answers way name w r) answers)
   used-by-found way name w (Ok found) up h =
       ap (λ (v : Visit). length v.after.found)
-      (outcome-and_then (under w.own (looked_through way found.entity)) (λ behind. Done (used_visit w way name found behind)) answers)
+      (outcome-and_then (under w.own (looked_through (turns_at turns w) way found.entity)) (λ behind. Done (used_visit w way name found behind)) answers)
       ∙ length-append w.found (found.entity.path ∷ [])
   used-by-found way name w (Err fault) up h = absurd (unfound-faulty (length name.rest) w way name fault up h)
 
   plain-found : (way : Use) (name : ScopedName) (w : Walk) → FindsOne w (outcome (used turns way name w) answers)
   unfolding used
   plain-found way name w =
-      let query = under w.own (denoted turns w.cursor name) in
+      let query = under w.own (denoted (turns_at turns w) w.cursor name) in
       subst (FindsOne w) (sym (outcome-and_then query (used_by turns answers way name w) answers))
       (used-by-found way name w (outcome query answers) (denoted-up turns answers name w))
 
@@ -146,7 +146,7 @@ module _ (turns : ℕ) (answers : Key → Option Answer) where
       subst (FindsOne w) (sym (outcome-and_then query (λ v. Done (with_oneway w.at v)) answers))
       (λ h. absurd (no-end (outcome query answers).faults (fault_at w.at BadOneway) h))
   given-found way name w false (part ∷ parts) =
-      let query = under w.own (denoted turns w.cursor (head_of name)) in
+      let query = under w.own (denoted (turns_at turns w) w.cursor (head_of name)) in
       subst (FindsOne w) (sym (outcome-and_then query (λ r. Done (with_oneway w.at (head_visit name w r))) answers))
       (λ h. absurd (no-end (head_visit name w (outcome query answers)).faults (fault_at w.at BadOneway) h))
 
@@ -154,6 +154,22 @@ module _ (turns : ℕ) (answers : Key → Option Answer) where
   unfolding given_back
   named-found way name w true = given-found way name w name.is_global name.rest
   named-found way name w false = plain-found way name w
+
+  -- the path that is found at a used name that isn't given back, where that denotes something
+  plain-path : (way : Use) (name : ScopedName) (w : Walk) (found : Found) → outcome (under w.own (denoted (turns_at turns w) w.cursor name)) answers ≡ Ok found
+      → (outcome (used turns way name w) answers).after.found ≡ w.found ++ found.entity.path ∷ []
+  unfolding used
+  plain-path way name w found is =
+      ap (λ (v : Visit). v.after.found) (outcome-and_then (under w.own (denoted (turns_at turns w) w.cursor name)) (used_by turns answers way name w) answers)
+      ∙ ap (λ r. (outcome (used_by turns answers way name w r) answers).after.found) is
+      ∙ ap (λ (v : Visit). v.after.found) (outcome-and_then (under w.own (looked_through (turns_at turns w) way found.entity)) (λ behind. Done (used_visit w way name found behind)) answers)
+
+  pub used-path : (way : Use) (name : ScopedName) (w : Walk) (found : Found) → w.gives_back ≡ false → outcome (under w.own (denoted (turns_at turns w) w.cursor name)) answers ≡ Ok found
+      → (visited turns answers (item.Used way name) w).after.found ≡ w.found ++ found.entity.path ∷ []
+  unfolding visit
+  used-path way name w found given is =
+      ap (λ b. (outcome (named_by turns answers way name w b) answers).after.found) given
+      ∙ plain-path way name w found is
 
   visit-found : (site : Item) (w : Walk) → (visited turns answers site w).faults ≡ []
       → length (visited turns answers site w).after.found ≡ length w.found + length (used_name site)

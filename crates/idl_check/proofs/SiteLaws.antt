@@ -12,7 +12,7 @@ use Rattle.idl_check.specs.Bodies.{begun_body, with_body_label, with_context}
 use Rattle.idl_check.specs.Types.{looked_through, target_in, written_as}
 use Rattle.idl_check.specs.Using.{last_at, name_code, part_at, used_table, values_after}
 use Rattle.idl_check.specs.Values.{Values, begun_at, code_of, with_value}
-use Rattle.idl_check.specs.Walk.{Visit, Walk, begin_of, declared_visit, ended_array, ended_scope, faulty_if, given_back, head_faults, head_of, head_visit, is_repeated, outcome_at, passed, past_name, quiet, token_of, unfound_visit, used, used_after, used_visit, value_visit, valued_after, visit, with_labels, with_oneway, with_scope}
+use Rattle.idl_check.specs.Walk.{turns_at, Visit, Walk, begin_of, declared_visit, ended_array, ended_scope, faulty_if, given_back, head_faults, head_of, head_visit, is_repeated, outcome_at, passed, past_name, quiet, token_of, unfound_visit, used, used_after, used_visit, value_visit, valued_after, visit, with_labels, with_oneway, with_scope}
 use Rattle.idl_check.specs.declared.standing.Standing.{Standing}
 use Rattle.idl_event.specs.Code.{number_of}
 use Rattle.idl_event.specs.declared.code.Code.{Code}
@@ -317,7 +317,7 @@ module _ (turns : ℕ) (answers : Key → Option Answer) where
   declared_by way name w o =
       elim o [
         | None ↦ Done (quiet (passed 1 w))
-        | Some s ↦ and_then (under w.own (standing turns s (entity_of w.written way name s.path)))
+        | Some s ↦ and_then (under w.own (standing (turns_at turns w) s (entity_of w.written way name s.path)))
             (λ there. Done (declared_visit w way s (entity_of w.written way name s.path) there))
       ]
 
@@ -325,7 +325,7 @@ module _ (turns : ℕ) (answers : Key → Option Answer) where
   abbrev pub used_by : Use → ScopedName → Walk → Result Found NameFault → Lookup Visit
   used_by way name w r =
       by_result r
-      (λ found. and_then (under w.own (looked_through way found.entity)) (λ behind. Done (used_visit w way name found behind)))
+      (λ found. and_then (under w.own (looked_through (turns_at turns w) way found.entity)) (λ behind. Done (used_visit w way name found behind)))
       (λ fault. Done (unfound_visit w way name fault))
 
   -- what is given back by a oneway operation, by whether its name begins with `::`, and by the parts behind its first
@@ -333,16 +333,16 @@ module _ (turns : ℕ) (answers : Key → Option Answer) where
   given_by way name w is_global parts =
       cond is_global (Done (with_oneway w.at (quiet (past_name name w)))) (elim parts [
         | [] ↦ and_then (used turns way name w) (λ v. Done (with_oneway w.at v))
-        | part ∷ parts ↦ and_then (under w.own (denoted turns w.cursor (head_of name))) (λ r. Done (with_oneway w.at (head_visit name w r)))
+        | part ∷ parts ↦ and_then (under w.own (denoted (turns_at turns w) w.cursor (head_of name))) (λ r. Done (with_oneway w.at (head_visit name w r)))
       ])
 
   abbrev pub named_by : Use → ScopedName → Walk → Bool → Lookup Visit
   named_by way name w gives_back = cond gives_back (given_back turns way name w) (used turns way name w)
 
   -- a name denotes what it does, or has a fault at one of its parts
-  pub denoted-up : (name : ScopedName) (w : Walk) → IsUpTo (length name.rest) (outcome (under w.own (denoted turns w.cursor name)) answers)
+  pub denoted-up : (name : ScopedName) (w : Walk) → IsUpTo (length name.rest) (outcome (under w.own (denoted (turns_at turns w) w.cursor name)) answers)
   denoted-up name w =
-      subst (IsUpTo (length name.rest)) (sym (outcome-under w.own answers (denoted turns w.cursor name))) (denoted-IsUpTo turns (λ k. over w.own k (answers k)) w.cursor name)
+      subst (IsUpTo (length name.rest)) (sym (outcome-under w.own answers (denoted (turns_at turns w) w.cursor name))) (denoted-IsUpTo (turns_at turns w) (λ k. over w.own k (answers k)) w.cursor name)
 
   -- ---- the faults of a site are placed
 
@@ -350,19 +350,19 @@ module _ (turns : ℕ) (answers : Key → Option Answer) where
   declared-by-placed way name w None = quiet-placed (item.Declared way name) w (passed 1 w) refl refl refl
   declared-by-placed way name w (Some s) =
       let e = entity_of w.written way name s.path in
-      let query = under w.own (standing turns s e) in
+      let query = under w.own (standing (turns_at turns w) s e) in
       subst (IsPlaced (item.Declared way name) w) (sym (outcome-and_then query (λ there. Done (declared_visit w way s e there)) answers)) (declared-placed way name w s e (outcome query answers))
 
   used-by-placed : (way : Use) (name : ScopedName) (w : Walk) (r : Result Found NameFault) → IsUpTo (length name.rest) r → IsPlaced (item.Used way name) w (outcome (used_by way name w r) answers)
   used-by-placed way name w (Ok found) up =
-      let query = under w.own (looked_through way found.entity) in
+      let query = under w.own (looked_through (turns_at turns w) way found.entity) in
       subst (IsPlaced (item.Used way name) w) (sym (outcome-and_then query (λ behind. Done (used_visit w way name found behind)) answers)) (used-placed w way name found (outcome query answers))
   used-by-placed way name w (Err fault) up = unfound-placed w way name fault up
 
   plain-placed : (way : Use) (name : ScopedName) (w : Walk) → IsPlaced (item.Used way name) w (outcome (used turns way name w) answers)
   unfolding used
   plain-placed way name w =
-      let query = under w.own (denoted turns w.cursor name) in
+      let query = under w.own (denoted (turns_at turns w) w.cursor name) in
       subst (IsPlaced (item.Used way name) w) (sym (outcome-and_then query (used_by way name w) answers)) (used-by-placed way name w (outcome query answers) (denoted-up name w))
 
   given-by-placed : (way : Use) (name : ScopedName) (w : Walk) (is_global : Bool) (parts : List (List ℕ)) → IsPlaced (item.Used way name) w (outcome (given_by way name w is_global parts) answers)
@@ -372,7 +372,7 @@ module _ (turns : ℕ) (answers : Key → Option Answer) where
       subst (IsPlaced (item.Used way name) w) (sym (outcome-and_then (used turns way name w) (λ v. Done (with_oneway w.at v)) answers))
       (oneway-placed (item.Used way name) w (outcome (used turns way name w) answers) (omega arith) (plain-placed way name w))
   given-by-placed way name w false (part ∷ parts) =
-      let query = under w.own (denoted turns w.cursor (head_of name)) in
+      let query = under w.own (denoted (turns_at turns w) w.cursor (head_of name)) in
       subst (IsPlaced (item.Used way name) w) (sym (outcome-and_then query (λ r. Done (with_oneway w.at (head_visit name w r))) answers))
       (oneway-placed (item.Used way name) w (head_visit name w (outcome query answers)) (omega arith) (head-placed w way name (outcome query answers) (denoted-up (head_of name) w)))
 

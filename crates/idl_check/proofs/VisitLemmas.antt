@@ -1,12 +1,12 @@
 -- Runs of a walk and of its sites.
-use Rattle.std.proofs.Common.{◌≡◌, ◌∙◌, ℕ, true, false, cond, List, [], ◌∷◌, Option, None, Some, Result, Ok, Err, refl, sym, ap}
+use Rattle.std.proofs.Common.{◌≡◌, ◌∙◌, ℕ, true, false, cond, List, [], ◌∷◌, Option, None, Some, Result, Ok, Err, refl, sym, ap, ◌+◌, ◌≤◌, arith}
 use Rattle.std.specs.Prelude.{Bool, OnOk, slice_get}
 use Rattle.idl_memo.specs.Query.{Done, and_then, run}
 use Rattle.idl_memo.proofs.QueryLaws.{run-and_then, run-and_then_at}
 use Rattle.idl_check.specs.Held.{given_noted, head_noted, used_noted, visited}
 use Rattle.idl_check.specs.Declaring.{entity_of, standing}
 use Rattle.idl_check.specs.Types.{looked_through}
-use Rattle.idl_check.specs.Walk.{Visit, Walk, past_name, declared_visit, given_back, head_of, head_visit, is_over, noted_in, passed, quiet, unfound_visit, used, used_visit, visit, walk, with_oneway}
+use Rattle.idl_check.specs.Walk.{turns_at, Visit, Walk, past_name, declared_visit, given_back, head_of, head_visit, is_over, noted_in, passed, quiet, unfound_visit, used, used_visit, visit, walk, with_oneway}
 use Rattle.idl_check.specs.declared.standing.Standing.{Standing}
 use Rattle.idl_scope.specs.Key.{key_eq}
 use Rattle.idl_scope.specs.Lookup.{Lookup, by_result, denoted, under}
@@ -22,7 +22,14 @@ use Rattle.idl_site.specs.declared.site.Use.{Use}
 use Rattle.idl_tree.specs.declared.name.ScopedName.{ScopedName}
 use Rattle.idl_unit.specs.TokenRules.{first}
 use Rattle.idl_unit.specs.declared.fault.Fault.{Fault}
+use Rattle.idl_scope.specs.Facts.{UnitFacts}
+use Rattle.idl_scope.specs.Turns.{HasTurnsFor, turns_among, turns_for}
+use Rattle.idl_scope.specs.declared.addition.Addition.{Addition}
 use Rattle.idl_check.proofs.NotedLemmas.{noted_in-one_way, noted_in-quiet, one_way}
+
+-- turns for the facts before a unit are, with those for its tokens so far, turns for both
+pub turns-here : (facts : List UnitFacts) (own : List Addition) (turns : ℕ) → turns_for facts ≤ turns → HasTurnsFor facts own (turns + turns_among own)
+turns-here facts own turns h = omega (arith, h)
 
 -- the innermost of scopes
 pub first-at : {A : Type 0} (xs : List A) → first xs ≡ slice_get xs 0
@@ -65,49 +72,49 @@ module _ (bank : Key → Option Answer) where
       visited_quiet turns (item.Declared way name) w (passed 1 w) log
       (ap (λ o. elim o [
         | None ↦ Done (quiet (passed 1 w))
-        | Some s ↦ and_then (under w.own (standing turns s (entity_of w.written way name s.path)))
+        | Some s ↦ and_then (under w.own (standing (turns_at turns w) s (entity_of w.written way name s.path)))
             (λ there. Done (declared_visit w way s (entity_of w.written way name s.path) there))
       ]) h)
 
   -- and one in a scope, by what stands there under it
   pub declared_in : (turns : ℕ) (way : Declaration) (name : List ℕ) (w : Walk) (log : List (Key × Option Answer)) (s : Scope) (there : Standing) (after : List (Key × Option Answer))
-      → first w.cursor ≡ Some s → (there, after) ≡ runs_over (under w.own (standing turns s (entity_of w.written way name s.path))) log
+      → first w.cursor ≡ Some s → (there, after) ≡ runs_over (under w.own (standing (turns_at turns w) s (entity_of w.written way name s.path))) log
       → runs_over (visited turns (item.Declared way name) w) log ≡ (noted_in (declared_visit w way s (entity_of w.written way name s.path) there) w.fault, after)
   unfolding visit
   declared_in turns way name w log s there after h gives =
       ap (λ o. runs_over (and_then (elim o [
         | None ↦ Done (quiet (passed 1 w))
-        | Some s ↦ and_then (under w.own (standing turns s (entity_of w.written way name s.path)))
+        | Some s ↦ and_then (under w.own (standing (turns_at turns w) s (entity_of w.written way name s.path)))
             (λ there. Done (declared_visit w way s (entity_of w.written way name s.path) there))
       ]) (λ v. Done (noted_in v w.fault))) log) h
-      ∙ visited_by (under w.own (standing turns s (entity_of w.written way name s.path))) (declared_visit w way s (entity_of w.written way name s.path)) w.fault log there after gives
+      ∙ visited_by (under w.own (standing (turns_at turns w) s (entity_of w.written way name s.path))) (declared_visit w way s (entity_of w.written way name s.path)) w.fault log there after gives
 
   -- a used name, by what it denotes and what stands behind that
   abbrev by_found : ℕ → Use → ScopedName → Walk → Result Found NameFault → Lookup Visit
   by_found turns way name w r =
       by_result r
-      (λ found. and_then (under w.own (looked_through way found.entity)) (λ behind. Done (used_visit w way name found behind)))
+      (λ found. and_then (under w.own (looked_through (turns_at turns w) way found.entity)) (λ behind. Done (used_visit w way name found behind)))
       (λ fault. Done (unfound_visit w way name fault))
 
   pub used_by : (turns : ℕ) (way : Use) (name : ScopedName) (w : Walk) (log : List (Key × Option Answer)) (found : Found) (middle : List (Key × Option Answer)) (behind : Entity) (after : List (Key × Option Answer))
-      → (Ok found, middle) ≡ runs_over (under w.own (denoted turns w.cursor name)) log
-      → (behind, after) ≡ runs_over (under w.own (looked_through way found.entity)) middle
+      → (Ok found, middle) ≡ runs_over (under w.own (denoted (turns_at turns w) w.cursor name)) log
+      → (behind, after) ≡ runs_over (under w.own (looked_through (turns_at turns w) way found.entity)) middle
       → runs_over (used_noted turns way name w) log ≡ (noted_in (used_visit w way name found behind) w.fault, after)
   unfolding used
   used_by turns way name w log found middle behind after gives through =
-      let found_by = under w.own (denoted turns w.cursor name) in
-      let behind_by = under w.own (looked_through way found.entity) in
+      let found_by = under w.own (denoted (turns_at turns w) w.cursor name) in
+      let behind_by = under w.own (looked_through (turns_at turns w) way found.entity) in
       run-and_then_at key_eq (and_then found_by (by_found turns way name w)) (λ v. Done (noted_in v w.fault)) bank log (used_visit w way name found behind) after
       (sym (run-and_then_at key_eq found_by (by_found turns way name w) bank log (Ok found) middle gives
       ∙ run-and_then_at key_eq behind_by (λ b. Done (used_visit w way name found b)) bank middle behind after through))
 
   -- and one that denotes nothing
   pub unfound_by : (turns : ℕ) (way : Use) (name : ScopedName) (w : Walk) (log : List (Key × Option Answer)) (fault : NameFault) (after : List (Key × Option Answer))
-      → (Err fault, after) ≡ runs_over (under w.own (denoted turns w.cursor name)) log
+      → (Err fault, after) ≡ runs_over (under w.own (denoted (turns_at turns w) w.cursor name)) log
       → runs_over (used_noted turns way name w) log ≡ (noted_in (unfound_visit w way name fault) w.fault, after)
   unfolding used
   unfound_by turns way name w log fault after gives =
-      let found_by = under w.own (denoted turns w.cursor name) in
+      let found_by = under w.own (denoted (turns_at turns w) w.cursor name) in
       run-and_then_at key_eq (and_then found_by (by_found turns way name w)) (λ v. Done (noted_in v w.fault)) bank log (unfound_visit w way name fault) after
       (sym (run-and_then_at key_eq found_by (by_found turns way name w) bank log (Err fault) after gives))
 
@@ -131,7 +138,7 @@ module _ (bank : Key → Option Answer) where
   given_visit turns way name w is_global parts =
       cond is_global (Done (with_oneway w.at (quiet (past_name name w)))) (elim parts [
         | [] ↦ and_then (used turns way name w) (λ v. Done (with_oneway w.at v))
-        | part ∷ parts ↦ and_then (under w.own (denoted turns w.cursor (head_of name)))
+        | part ∷ parts ↦ and_then (under w.own (denoted (turns_at turns w) w.cursor (head_of name)))
             (λ r. Done (with_oneway w.at (head_visit name w r)))
       ])
 
@@ -146,7 +153,7 @@ module _ (bank : Key → Option Answer) where
   given_same turns way name w true parts log next after h = ap (λ (p : Walk × List (Key × Option Answer)). (one_way w.at p.0, p.1)) (sym h)
   given_same turns way name w false [] log next after h = one_way_by (used turns way name w) (λ v. v) w.at w.fault log next after h
   given_same turns way name w false (part ∷ parts) log next after h =
-      one_way_by (under w.own (denoted turns w.cursor (head_of name))) (head_visit name w) w.at w.fault log next after h
+      one_way_by (under w.own (denoted (turns_at turns w) w.cursor (head_of name))) (head_visit name w) w.at w.fault log next after h
 
   -- a name that is given back
   pub given_by : (turns : ℕ) (way : Use) (name : ScopedName) (w : Walk) (log : List (Key × Option Answer)) (next : Walk) (after : List (Key × Option Answer))
@@ -159,10 +166,10 @@ module _ (bank : Key → Option Answer) where
 
   -- of the first part of a name, by what it denotes
   pub head_by : (turns : ℕ) (name : ScopedName) (w : Walk) (log : List (Key × Option Answer)) (r : Result Found NameFault) (after : List (Key × Option Answer))
-      → (r, after) ≡ runs_over (under w.own (denoted turns w.cursor (head_of name))) log
+      → (r, after) ≡ runs_over (under w.own (denoted (turns_at turns w) w.cursor (head_of name))) log
       → runs_over (head_noted turns name w) log ≡ (noted_in (head_visit name w r) w.fault, after)
   head_by turns name w log r after h =
-      run-and_then_at key_eq (under w.own (denoted turns w.cursor (head_of name))) (λ r. Done (noted_in (head_visit name w r) w.fault)) bank log r after h
+      run-and_then_at key_eq (under w.own (denoted (turns_at turns w) w.cursor (head_of name))) (λ r. Done (noted_in (head_visit name w r) w.fault)) bank log r after h
 
   -- a walk that is over
   pub walk_over : (turns : ℕ) (sites : List Item) (w : Walk) (log : List (Key × Option Answer)) → is_over w ≡ true → runs_over (walk turns sites w) log ≡ (w, log)
@@ -185,3 +192,15 @@ module _ (bank : Key → Option Answer) where
       ∙ run-and_then key_eq (visit turns site w) (λ v. walk turns sites (noted_in v w.fault)) bank log
       ∙ ap (λ (p : Walk × List (Key × Option Answer)). runs_over (walk turns sites p.0) p.1)
       (sym (gives ∙ run-and_then key_eq (visit turns site w) (λ v. Done (noted_in v w.fault)) bank log))
+
+-- of a name of several parts that is given back, its first part alone is looked at
+given-by : (turns : ℕ) (way : Use) (name : ScopedName) (w : Walk) (rest : List (List ℕ)) → (rest ≡ [] → ⊥)
+    → elim rest as (λ _. Lookup Walk) [ [] ↦ used_noted turns way name w | part ∷ parts ↦ head_noted turns name w ] ≡ head_noted turns name w
+given-by turns way name w [] some = absurd (some refl)
+given-by turns way name w (part ∷ parts) some = refl
+
+pub given-head : (bank : Key → Option Answer) (turns : ℕ) (way : Use) (name : ScopedName) (w : Walk) (log : List (Key × Option Answer)) → name.is_global ≡ false → (name.rest ≡ [] → ⊥)
+    → run key_eq (given_noted turns way name w) bank log ≡ run key_eq (head_noted turns name w) bank log
+given-head bank turns way name w log local some =
+    ap (λ b. run key_eq (cond b (Done (past_name name w)) (elim name.rest as (λ _. Lookup Walk) [ [] ↦ used_noted turns way name w | part ∷ parts ↦ head_noted turns name w ])) bank log) local
+    ∙ ap (λ q. run key_eq q bank log) (given-by turns way name w name.rest some)

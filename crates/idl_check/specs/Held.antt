@@ -4,7 +4,7 @@ use Rattle.idl_check.specs.Declaring.{Written}
 use Rattle.idl_check.specs.Pragmas.{Said, refused_for, said}
 use Rattle.idl_check.specs.Few.{boxed_or}
 use Rattle.idl_check.specs.Values.{Values, nothing_kept}
-use Rattle.idl_check.specs.Walk.{Walk, past_name, head_of, head_visit, noted_in, used, visit}
+use Rattle.idl_check.specs.Walk.{turns_at, Walk, past_name, head_of, head_visit, noted_in, used, visit}
 use Rattle.idl_check.specs.declared.declaring.Written.{Written as LastWritten}
 use Rattle.idl_check.specs.Verdict.{pragma_verdict}
 use Rattle.idl_check.specs.declared.pragmas.Named.{Named}
@@ -71,7 +71,7 @@ used_noted turns way name w = and_then (used turns way name w) (λ v. Done (note
 
 abbrev pub head_noted : ℕ → ScopedName → Walk → Lookup Walk
 head_noted turns name w =
-    and_then (under w.own (denoted turns w.cursor (head_of name)))
+    and_then (under w.own (denoted (turns_at turns w) w.cursor (head_of name)))
     (λ r. Done (noted_in (head_visit name w r) w.fault))
 
 abbrev pub given_noted : ℕ → Use → ScopedName → Walk → Lookup Walk

@@ -13,7 +13,6 @@ use Rattle.idl_scope.specs.declared.unvalued.Unvalued.TheVariants.{Float, Double
 use Rattle.idl_scope.specs.declared.entity.Entity.{Entity}
 use Rattle.idl_scope.specs.declared.kind.Kind.TheVariants.{Structure, Union, Enumeration, Alias}
 use Rattle.idl_scope.specs.declared.kind.Stage.TheVariants.{Complete}
-use Rattle.idl_scope.specs.declared.lookup.TheConstants.{TURNS}
 use Rattle.idl_site.specs.declared.site.Shape.{Shape}
 use Rattle.idl_site.specs.declared.site.Shape.TheVariants as shape
 use Rattle.idl_site.specs.declared.site.Use.{Use}
@@ -44,16 +43,16 @@ abbrev pub path_in : Option DataType → Option (List (List ℕ))
 path_in None = None
 path_in (Some t) = named_in t
 
--- What stands behind a name through typedefs, each of which is asked in turn. So many are followed;
--- no chain that facts hold is longer.
-abbrev pub behind_typedefs : ℕ → Entity → Lookup Entity
-behind_typedefs zero e = Done e
-behind_typedefs (suc turns) e =
+-- What stands behind a name through typedefs, each of which is asked in turn, so many at most. Where
+-- they come to no end, it is the name itself.
+abbrev pub behind_typedefs : ℕ → Entity → Entity → Lookup Entity
+behind_typedefs zero name e = Done name
+behind_typedefs (suc turns) name e =
     elim (path_in (aliased e)) [
       | None ↦ Done e
       | Some path ↦ Ask (entity_key path)
           (λ there. elim (entity_in there)
-          [ None ↦ Done e | Some f ↦ behind_typedefs turns f ])
+          [ None ↦ Done e | Some f ↦ behind_typedefs turns name f ])
     ]
 
 -- a name is looked through where it is the type of a constant or of a discriminator
@@ -62,8 +61,9 @@ is_looked_through AsConstantType = true
 is_looked_through AsDiscriminator = true
 is_looked_through other = false
 
-unfoldable pub looked_through : Use → Entity → Lookup Entity
-looked_through way e = if is_looked_through way then behind_typedefs TURNS e else Done e
+unfoldable pub looked_through : ℕ → Use → Entity → Lookup Entity
+looked_through turns way e =
+    if is_looked_through way then behind_typedefs (suc turns) e e else Done e
 
 -- the type that constants of it have
 abbrev pub target_in : Option DataType → Option Target

@@ -18,6 +18,7 @@ use Rattle.idl_scope.specs.DataType.{plain_type}
 use Rattle.idl_scope.specs.Facts.{with_addition}
 use Rattle.idl_scope.specs.Kind.{kind_eq, stage_eq}
 use Rattle.idl_scope.specs.Lookup.{Lookup, by_result, denoted, is_scope, under}
+use Rattle.idl_scope.specs.Turns.{turns_among}
 use Rattle.idl_scope.specs.declared.addition.Addition.{Addition}
 use Rattle.idl_scope.specs.declared.addition.Addition.TheVariants.{Declares}
 use Rattle.idl_scope.specs.declared.answer.Scope.{Scope}
@@ -170,12 +171,16 @@ unfound_visit w way name (At why part) = record {
 }
 unfound_visit w way name Memory = quiet w
 
+-- the turns at a token, of so many before the unit: the tokens before it may declare and name more
+abbrev pub turns_at : ℕ → Walk → ℕ
+turns_at turns w = turns + turns_among w.own
+
 -- a used name
 unfoldable pub used : ℕ → Use → ScopedName → Walk → Lookup Visit
 used turns way name w =
-    and_then (under w.own (denoted turns w.cursor name))
+    and_then (under w.own (denoted (turns_at turns w) w.cursor name))
     (λ r. by_result r
-    (λ found. and_then (under w.own (looked_through way found.entity))
+    (λ found. and_then (under w.own (looked_through (turns_at turns w) way found.entity))
     (λ behind. Done (used_visit w way name found behind)))
     (λ fault. Done (unfound_visit w way name fault)))
 
@@ -205,7 +210,7 @@ given_back turns way name w =
     if name.is_global then Done (with_oneway w.at (quiet (past_name name w)))
     else elim name.rest [
       | [] ↦ and_then (used turns way name w) (λ v. Done (with_oneway w.at v))
-      | part ∷ parts ↦ and_then (under w.own (denoted turns w.cursor (head_of name)))
+      | part ∷ parts ↦ and_then (under w.own (denoted (turns_at turns w) w.cursor (head_of name)))
           (λ r. Done (with_oneway w.at (head_visit name w r)))
     ]
 
@@ -304,7 +309,7 @@ visit turns (item.Declared way name) w =
     elim (first w.cursor) [
       | None ↦ Done (quiet (passed 1 w))
       | Some s ↦ let e = entity_of w.written way name s.path in
-          and_then (under w.own (standing turns s e))
+          and_then (under w.own (standing (turns_at turns w) s e))
           (λ there. Done (declared_visit w way s e there))
     ]
 visit turns (item.Used way name) w =

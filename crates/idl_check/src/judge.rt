@@ -8,7 +8,7 @@ ghost use Rattle.idl_check.specs.Walk.{walk};
 ghost use Rattle.idl_memo.specs.Query.{and_then, run};
 ghost use Rattle.idl_scope.specs.Facts.{answers, path_around};
 ghost use Rattle.idl_scope.specs.Key.{key_eq};
-ghost use Rattle.idl_scope.specs.declared.lookup.TheConstants.{TURNS};
+ghost use Rattle.idl_scope.specs.Turns.{turns_for};
 ghost use Rattle.idl_site.specs.Item.{item_at, items, items_length};
 ghost use Rattle.idl_site.specs.UnitParts.{unit_parts};
 ghost use Rattle.idl_syntax.specs.Parse.{IsTreeOf};
@@ -67,7 +67,7 @@ impl<'a> Judge<'a> {
         text: &UnitText,
     ) -> Result<Verdict, AllocError>
         requires { text.now ≡ unit.Tokens self.tokens.now }
-        ensures { IfOk result (λ v. (turns : ℕ) → TURNS ≤ turns →
+        ensures { IfOk result (λ v. (turns : ℕ) → turns_for self.entry.env.now ≤ turns →
             (v, log.new)
             ≡ run key_eq (token_verdict turns self.entry.tokens.now self.entry.scopes.now)
             (answers self.entry.env.now) log.old) }
@@ -96,7 +96,7 @@ impl<'a> Judge<'a> {
     fn without_tree(self, log: &mut Journal<Env>) -> Result<Verdict, AllocError>
         requires rules { least_fault (token_faults self.tokens.now) ≡ None }
         requires none { tree_of self.tokens.now ≡ None }
-        ensures { IfOk result (λ v. (turns : ℕ) → TURNS ≤ turns →
+        ensures { IfOk result (λ v. (turns : ℕ) → turns_for self.entry.env.now ≤ turns →
             (v, log.new)
             ≡ run key_eq (token_verdict turns self.entry.tokens.now self.entry.scopes.now)
             (answers self.entry.env.now) log.old) }
@@ -116,7 +116,7 @@ impl<'a> Judge<'a> {
     ) -> Result<Verdict, AllocError>
         requires rules { least_fault (token_faults self.tokens.now) ≡ None }
         requires tree { IsTreeOf (unit.Tokens self.tokens.now) tree.now }
-        ensures { IfOk result (λ v. (turns : ℕ) → TURNS ≤ turns →
+        ensures { IfOk result (λ v. (turns : ℕ) → turns_for self.entry.env.now ≤ turns →
             (v, log.new)
             ≡ run key_eq (token_verdict turns self.entry.tokens.now self.entry.scopes.now)
             (answers self.entry.env.now) log.old) }
@@ -152,7 +152,7 @@ impl<'a> Judge<'a> {
         tree: &Tree,
     ) -> Result<Verdict, AllocError>
         requires { lexemes self.tokens.now ≡ spell tree.now }
-        ensures { IfOk result (λ v. (turns : ℕ) → TURNS ≤ turns →
+        ensures { IfOk result (λ v. (turns : ℕ) → turns_for self.entry.env.now ≤ turns →
             (v, log.new)
             ≡ run key_eq (by_names turns self.entry.tokens.now self.entry.scopes.now tree.now)
             (answers self.entry.env.now) log.old) }
@@ -172,7 +172,7 @@ impl<'a> Judge<'a> {
 
     // The verdict of a unit that its scope doesn't hold.
     fn misplaced(self, log: &mut Journal<Env>, sites: &[Site<'_>]) -> Result<Verdict, AllocError>
-        ensures { IfOk result (λ v. (turns : ℕ) → TURNS ≤ turns →
+        ensures { IfOk result (λ v. (turns : ℕ) → turns_for self.entry.env.now ≤ turns →
             (tree : UnitsTree) → map item_at sites.now ≡ items (unit_parts tree) →
             (v, log.new)
             ≡ run key_eq (misplaced turns self.entry.tokens.now self.entry.scopes.now tree)
@@ -187,7 +187,7 @@ impl<'a> Judge<'a> {
 
     // Asks what the first part of a name asks.
     fn ask_outward(self, log: &mut Journal<Env>, name: &[u8]) -> Result<(), AllocError>
-        ensures { OnOk result ((turns : ℕ) → TURNS ≤ turns →
+        ensures { OnOk result ((turns : ℕ) → turns_for self.entry.env.now ≤ turns →
             log.new
             ≡ (run key_eq (outward turns self.entry.scopes.now (folded name.now))
             (answers self.entry.env.now) log.old).1) }
@@ -234,7 +234,7 @@ impl<'t> Sited<'t> {
         requires sites { map item_at self.sites.now ≡ items (unit_parts self.tree.now) }
         requires room { HasRoomFor (held walker.old) (map item_at self.sites.now) }
         requires env { walker.old.env.now ≡ self.judge.env.now }
-        ensures { IfOk result (λ v. (turns : ℕ) → TURNS ≤ turns →
+        ensures { IfOk result (λ v. (turns : ℕ) → turns_for self.entry.judge.env.now ≤ turns →
             (v, log.new)
             ≡ run key_eq
             (and_then (walk turns (items (unit_parts self.entry.tree.now)) (held walker.old))

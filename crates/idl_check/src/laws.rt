@@ -3,19 +3,27 @@
 //! Each function does nothing: it carries its laws as clauses. They hold over any answers, and for
 //! any number of turns.
 
-ghost use Rattle.std.specs.Prelude.{◌≡◌, ◌≢◌, ◌↔◌, ◌+◌, ◌++◌, ◌<◌, ◌≤◌, Bool, ℕ, List, [], ◌∷◌, All, Contains, codes, decimal, false, length, take, true, None, Option, Some};
+ghost use Rattle.std.specs.Prelude.{◌≡◌, ◌≢◌, ◌↔◌, ◌+◌, ◌++◌, ◌<◌, ◌≤◌, Bool, ℕ, List, [], ◌∷◌, All, Contains, codes, decimal, false, length, take, true, None, Ok, Option, Some};
 ghost use Rattle.idl_check.specs.AllFaults.{site_faults, unit_faults};
 ghost use Rattle.idl_check.specs.Identifying.{versioned};
 ghost use Rattle.idl_check.specs.Placing.{faulty_step, step_of};
 ghost use Rattle.idl_check.specs.Judging.{IsNotAfter, IsSound, IsSpoken, refused_keys, spoken_from, spoken_till, used_names, walked, without_name};
 ghost use Rattle.idl_check.specs.Row.{Rest, unit_text};
 ghost use Rattle.idl_check.specs.Verdict.{faulty, first_faults, tree_of, verdict};
-ghost use Rattle.idl_check.specs.Walk.{Walk, visit};
+ghost use Rattle.idl_check.specs.Walk.{Walk, turns_at, visit};
 ghost use Rattle.idl_lex.specs.Tokens.{Token};
-ghost use Rattle.idl_memo.specs.Query.{asked, outcome};
-ghost use Rattle.idl_scope.specs.Facts.{scopes_in};
+ghost use Rattle.idl_memo.specs.Query.{asked, outcome, run};
+ghost use Rattle.idl_scope.specs.Facts.{UnitFacts, answers, scopes_in};
 ghost use Rattle.idl_scope.specs.Identity.{first_identity, is_within, prefixed, relative, slashed};
+ghost use Rattle.idl_scope.specs.Key.{key_eq};
+ghost use Rattle.idl_scope.specs.Lookup.{denoted, under};
+ghost use Rattle.idl_scope.specs.Meaning.{Denotes, Reaches, entity_found, seen};
 ghost use Rattle.idl_scope.specs.Path.{scope_of};
+ghost use Rattle.idl_scope.specs.Turns.{turns_for};
+ghost use Rattle.idl_scope.specs.declared.found.Found.{Found};
+ghost use Rattle.idl_site.specs.Item.{Item as item};
+ghost use Rattle.idl_site.specs.declared.site.Use.{Use};
+ghost use Rattle.idl_tree.specs.declared.name.ScopedName.{ScopedName};
 ghost use Rattle.idl_scope.specs.declared.addition.Step.TheVariants.{Stays};
 ghost use Rattle.idl_scope.specs.declared.answer.Answer.{Answer};
 ghost use Rattle.idl_scope.specs.declared.identity.Prefix.{Prefix};
@@ -156,4 +164,31 @@ pub fn identification()
     ensures elsewhere { (path : List (List ℕ)) (scope : List (List ℕ))
         → is_within (scope_of path) scope ≡ false
         → relative path scope ≡ path }
+{}
+
+/// As many turns as the facts before a unit need are enough for it: with more its verdict is the same, and so is what is logged
+/// for it.
+pub fn more_turns()
+    ensures { (facts : List UnitFacts) (turns more : ℕ) (text : UnitText)
+        (log : List (Key × Option Answer))
+        → turns_for facts ≤ turns
+        → run key_eq (verdict (turns + more) text) (answers facts) log
+        ≡ run key_eq (verdict turns text) (answers facts) log }
+{}
+
+/// Where a unit uses a name, it denotes what the scoping rules say, over the facts before the unit and what its earlier tokens
+/// add, and its use is introduced into the scopes that they tell.
+pub fn denoting()
+    ensures denoted { (facts : List UnitFacts) (turns : ℕ) (w : Walk) (name : ScopedName)
+        → turns_for facts ≤ turns
+        → Denotes (seen w.own facts) w.cursor name
+        (entity_found (outcome (under w.own (denoted (turns_at turns w) w.cursor name)) (answers facts))) }
+    ensures introduced { (facts : List UnitFacts) (turns : ℕ) (w : Walk) (name : ScopedName) (found : Found)
+        → turns_for facts ≤ turns
+        → outcome (under w.own (denoted (turns_at turns w) w.cursor name)) (answers facts) ≡ Ok found
+        → Reaches (seen w.own facts) w.cursor name found.reach }
+    ensures path { (facts : List UnitFacts) (turns : ℕ) (w : Walk) (way : Use) (name : ScopedName) (found : Found)
+        → w.gives_back ≡ false
+        → outcome (under w.own (denoted (turns_at turns w) w.cursor name)) (answers facts) ≡ Ok found
+        → (outcome (visit turns (item.Used way name) w) (answers facts)).after.found ≡ w.found ++ found.entity.path ∷ [] }
 {}

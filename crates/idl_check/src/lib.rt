@@ -33,7 +33,9 @@ mod valuing;
 mod verdict;
 mod walk;
 
-pub use laws::{acceptance, identification, least, numbering, questions, refusal, wording};
+pub use laws::{
+    acceptance, denoting, identification, least, more_turns, numbering, questions, refusal, wording,
+};
 pub use scratch::Scratch;
-pub use task::{DeclarationTask, verdict_of};
+pub use task::verdict_of;
 pub use verdict::Verdict;

@@ -15,7 +15,7 @@ ghost use Rattle.idl_scope.specs.Facts.{answers, with_addition};
 ghost use Rattle.idl_scope.specs.Key.{key_eq};
 ghost use Rattle.idl_scope.specs.DataType.{plain_type};
 ghost use Rattle.idl_scope.specs.declared.data_type.Element.TheVariants.{Named};
-ghost use Rattle.idl_scope.specs.declared.lookup.TheConstants.{TURNS};
+ghost use Rattle.idl_scope.specs.Turns.{turns_for};
 ghost use Rattle.idl_site.specs.Item.{item_length};
 ghost use Rattle.idl_site.specs.Item.{Item as item};
 ghost use Rattle.idl_unit.specs.TokenRules.{fault_at, first};
@@ -54,7 +54,7 @@ impl<'a> Walker<'a> {
         name: &Spelling,
     ) -> Result<(), AllocError>
         requires { HasRoomFor (held self.old) (item.Declared way name.now ∷ []) }
-        ensures visited { OnOk result ((turns : ℕ) → TURNS ≤ turns →
+        ensures visited { OnOk result ((turns : ℕ) → turns_for self.old.env.now ≤ turns →
             (held self.new, log.new)
             ≡ run key_eq (visited turns (item.Declared way name.now) (held self.old))
             (answers self.old.env.now) log.old) }
@@ -114,7 +114,7 @@ impl<'a> Walker<'a> {
         name: &ScopedName,
     ) -> Result<(), AllocError>
         requires { HasRoomFor (held self.old) (item.Used way name.now ∷ []) }
-        ensures visited { OnOk result ((turns : ℕ) → TURNS ≤ turns →
+        ensures visited { OnOk result ((turns : ℕ) → turns_for self.old.env.now ≤ turns →
             (held self.new, log.new)
             ≡ run key_eq (visited turns (item.Used way name.now) (held self.old))
             (answers self.old.env.now) log.old) }
@@ -141,7 +141,7 @@ impl<'a> Walker<'a> {
         name: &ScopedName,
     ) -> Result<(), AllocError>
         requires room { last_at self.old.at name.now + 1 ≤ 18446744073709551615 }
-        ensures run { OnOk result ((turns : ℕ) → TURNS ≤ turns →
+        ensures run { OnOk result ((turns : ℕ) → turns_for self.old.env.now ≤ turns →
             (held self.new, log.new)
             ≡ run key_eq (given_noted turns way name.now (held self.old))
             (answers self.old.env.now) log.old) }
@@ -165,7 +165,7 @@ impl<'a> Walker<'a> {
     fn use_head(&mut self, log: &mut Journal<Env>, name: &ScopedName) -> Result<(), AllocError>
         requires room { last_at self.old.at name.now + 1 ≤ 18446744073709551615 }
         requires local { name.now.is_global ≡ false }
-        ensures run { OnOk result ((turns : ℕ) → TURNS ≤ turns →
+        ensures run { OnOk result ((turns : ℕ) → turns_for self.old.env.now ≤ turns →
             (held self.new, log.new)
             ≡ run key_eq (head_noted turns name.now (held self.old))
             (answers self.old.env.now) log.old) }
@@ -208,7 +208,7 @@ impl<'a> Walker<'a> {
         name: &ScopedName,
     ) -> Result<(), AllocError>
         requires room { last_at self.old.at name.now + 1 ≤ 18446744073709551615 }
-        ensures run { OnOk result ((turns : ℕ) → TURNS ≤ turns →
+        ensures run { OnOk result ((turns : ℕ) → turns_for self.old.env.now ≤ turns →
             (held self.new, log.new)
             ≡ run key_eq (used_noted turns way name.now (held self.old))
             (answers self.old.env.now) log.old) }

@@ -14,7 +14,7 @@ ghost use Rattle.idl_scope.specs.declared.addition.Step.TheVariants.{Prefixes, S
 ghost use Rattle.idl_scope.specs.declared.identity.FixedIdentity.{FixedIdentity as UnitFixed};
 ghost use Rattle.idl_scope.specs.declared.identity.Identity.{Identity as UnitIdentity};
 ghost use Rattle.idl_scope.specs.declared.key.Key.TheVariants.{IdOf};
-ghost use Rattle.idl_scope.specs.declared.lookup.TheConstants.{TURNS};
+ghost use Rattle.idl_scope.specs.Turns.{turns_for};
 ghost use Rattle.idl_syntax.specs.Parse.{IsTreeOf, pragma_faults};
 ghost use Rattle.idl_tree.specs.Pragma.{pragma_of};
 ghost use Rattle.idl_tree.specs.declared.pragma.Pragma.TheVariants as pragma;
@@ -69,7 +69,7 @@ impl<'a> Speaker<'a> {
     /// The verdict of the pragma, whose text this is.
     pub fn verdict(self, log: &mut Journal<Env>, text: &UnitText) -> Result<Verdict, AllocError>
         requires { text.now ≡ unit.Pragma self.tokens.now self.inside }
-        ensures { IfOk result (λ v. (turns : ℕ) → TURNS ≤ turns →
+        ensures { IfOk result (λ v. (turns : ℕ) → turns_for self.entry.env.now ≤ turns →
             (v, log.new)
             ≡ run key_eq
             (pragma_judged turns self.entry.tokens.now self.entry.inside self.entry.scopes.now)
@@ -87,7 +87,7 @@ impl<'a> Speaker<'a> {
     fn with_tree(self, log: &mut Journal<Env>, tree: &UnitTree) -> Result<Verdict, AllocError>
         requires rules { least_fault (pragma_faults self.tokens.now self.inside) ≡ None }
         requires tree { IsTreeOf (unit.Pragma self.tokens.now self.inside) tree.now }
-        ensures { IfOk result (λ v. (turns : ℕ) → TURNS ≤ turns →
+        ensures { IfOk result (λ v. (turns : ℕ) → turns_for self.entry.env.now ≤ turns →
             (v, log.new)
             ≡ run key_eq
             (pragma_judged turns self.entry.tokens.now self.entry.inside self.entry.scopes.now)
@@ -102,7 +102,7 @@ impl<'a> Speaker<'a> {
     // The verdict of a pragma without fault so far.
     fn said(self, log: &mut Journal<Env>, pragma: &Pragma) -> Result<Verdict, AllocError>
         requires { pragma_of self.tokens.now ≡ Some pragma.now }
-        ensures { IfOk result (λ v. (turns : ℕ) → TURNS ≤ turns →
+        ensures { IfOk result (λ v. (turns : ℕ) → turns_for self.entry.env.now ≤ turns →
             (v, log.new)
             ≡ run key_eq (spoken turns self.entry.scopes.now pragma.now)
             (answers self.entry.env.now) log.old) }
@@ -123,7 +123,7 @@ impl<'a> Speaker<'a> {
         text: &[u16],
     ) -> Result<Verdict, AllocError>
         requires { last_at 2 name.now + 1 ≤ 18446744073709551615 }
-        ensures { IfOk result (λ v. (turns : ℕ) → TURNS ≤ turns →
+        ensures { IfOk result (λ v. (turns : ℕ) → turns_for self.entry.env.now ≤ turns →
             (v, log.new)
             ≡ run key_eq (spoken turns self.entry.scopes.now (pragma.Id name.now text.now))
             (answers self.entry.env.now) log.old) }
@@ -155,7 +155,7 @@ impl<'a> Speaker<'a> {
         version: (u16, u16),
     ) -> Result<Verdict, AllocError>
         requires { last_at 2 name.now ≤ 18446744073709551615 }
-        ensures { IfOk result (λ v. (turns : ℕ) → TURNS ≤ turns →
+        ensures { IfOk result (λ v. (turns : ℕ) → turns_for self.entry.env.now ≤ turns →
             (v, log.new)
             ≡ run key_eq
             (spoken turns self.entry.scopes.now (pragma.Version name.now version.0 version.1))
@@ -181,7 +181,7 @@ impl<'a> Speaker<'a> {
         name: &ScopedName,
     ) -> Result<Result<Option<Named>, Fault>, AllocError>
         requires { last_at 2 name.now ≤ 18446744073709551615 }
-        ensures { IfOk result (λ r. (turns : ℕ) → TURNS ≤ turns →
+        ensures { IfOk result (λ r. (turns : ℕ) → turns_for self.entry.env.now ≤ turns →
             (faults : UnitIdentity → List UnitFault) → (change : UnitIdentity → UnitFixed) →
             (said_of faults change r, log.new)
             ≡ run key_eq (about_name turns self.entry.scopes.now name.now faults change)

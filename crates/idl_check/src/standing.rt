@@ -11,7 +11,7 @@ ghost use Rattle.idl_scope.specs.Key.{key_eq};
 ghost use Rattle.idl_scope.specs.Lookup.{bases_of, under};
 ghost use Rattle.idl_scope.specs.Path.{name_of, scope_of};
 ghost use Rattle.idl_scope.specs.declared.key.Key.TheVariants.{Introduced};
-ghost use Rattle.idl_scope.specs.declared.lookup.TheConstants.{TURNS};
+ghost use Rattle.idl_scope.specs.Turns.{HasTurnsFor};
 
 use crate::identifying::{Ids, ids_of};
 use idl_memo::Journal;
@@ -39,7 +39,7 @@ pub fn standing_of(
     new: &Entity,
 ) -> Result<Standing, AllocError>
     requires { scope_of new.now.path ≡ scope.now.path }
-    ensures { IfOk result (λ found. (turns : ℕ) → TURNS ≤ turns →
+    ensures { IfOk result (λ found. (turns : ℕ) → HasTurnsFor view.entry.env.now view.entry.own.now.additions turns →
         (found, log.new)
         ≡ run key_eq (under view.entry.own.now.additions (standing turns scope.now new.now))
         (answers view.entry.env.now) log.old) }
@@ -112,7 +112,7 @@ fn is_inherited(
     scope: &Scope,
     path: &Path,
 ) -> Result<bool, AllocError>
-    ensures { IfOk result (λ b. (turns : ℕ) → TURNS ≤ turns →
+    ensures { IfOk result (λ b. (turns : ℕ) → HasTurnsFor view.entry.env.now view.entry.own.now.additions turns →
         (b, log.new)
         ≡ run key_eq
         (under view.entry.own.now.additions

@@ -1,56 +1,20 @@
-//! The task: the verdict of a unit.
+//! The verdict of a unit.
 
 ghost use Rattle.std.specs.Prelude.{◌≡◌, ◌≤◌, ℕ, IfOk};
 ghost use Rattle.idl_check.specs.Verdict.{verdict};
 ghost use Rattle.idl_memo.specs.Query.{run};
 ghost use Rattle.idl_scope.specs.Facts.{answers};
 ghost use Rattle.idl_scope.specs.Key.{key_eq};
-ghost use Rattle.idl_scope.specs.declared.lookup.TheConstants.{TURNS};
+ghost use Rattle.idl_scope.specs.Turns.{turns_for};
 
 use crate::judge::Judge;
 use crate::pragmas::Speaker;
 use crate::scratch::Scratch;
 use crate::verdict::Verdict;
-use idl_memo::{Journal, Log, Task, TaskKind};
+use idl_memo::Journal;
 use idl_scope::{DigestedKey, Env, OpenScopes, scopes_in};
 use idl_unit::UnitText;
-use std::alloc::{AllocError, Global};
-
-/// The check of a unit.
-#[derive(Drop)]
-pub struct DeclarationTask {
-    pub text: UnitText,
-}
-
-impl Task<Env> for DeclarationTask {
-    ghost use Rattle.idl_check.specs.Verdict.{verdict};
-    ghost use Rattle.idl_memo.specs.declared.task.TaskKind.TheVariants.{Check};
-    ghost use Rattle.idl_scope.specs.declared.lookup.TheConstants.{TURNS};
-
-    type Text = UnitText;
-
-    type Out = Verdict;
-
-    const KIND: TaskKind = TaskKind::Check;
-
-    ghost KIND = { Check };
-
-    ghost text_of = { λ task. task.text };
-
-    ghost query = { verdict TURNS };
-
-    fn text(&self) -> &UnitText {
-        &self.text
-    }
-
-    fn run(&self, alloc: Global, bank: &Env, log: &mut Log<Env>) -> Result<Verdict, AllocError> {
-        let mut journal = Journal::taking(alloc, log);
-        let mut scratch = Scratch::new(alloc);
-        let verdict = verdict_of(&mut scratch, bank, &mut journal, &self.text);
-        journal.give_back(log)?;
-        verdict
-    }
-}
+use std::alloc::AllocError;
 
 /// The verdict of a unit. What it asks goes into the journal, behind what is there.
 ///
@@ -63,7 +27,7 @@ pub fn verdict_of(
     log: &mut Journal<Env>,
     text: &UnitText,
 ) -> Result<Verdict, AllocError>
-    ensures { IfOk result (λ v. (turns : ℕ) → TURNS ≤ turns →
+    ensures { IfOk result (λ v. (turns : ℕ) → turns_for env.now ≤ turns →
         (v, log.new) ≡ run key_eq (verdict turns text.now) (answers env.now) log.old) }
 {
     let none = OpenScopes::none();

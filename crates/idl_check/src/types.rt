@@ -1,6 +1,6 @@
 //! Types: what constants may be of, what may discriminate a union, and what is not yet complete.
 
-ghost use Rattle.std.specs.Prelude.{◌≡◌, IfOk};
+ghost use Rattle.std.specs.Prelude.{◌≡◌, ℕ, suc, IfOk};
 ghost use Rattle.std.specs.Option.{option_copied, option_map};
 ghost use Rattle.idl_check.specs.Types.{aliased, behind_typedefs, bound_or_none, constants_of, element_of, is_incomplete, looked_through, may_switch, path_in, string_of, written_as};
 ghost use Rattle.idl_memo.specs.Query.{run};
@@ -8,16 +8,14 @@ ghost use Rattle.idl_scope.specs.DataType.{constants_in, with_layer};
 ghost use Rattle.idl_scope.specs.Facts.{answers};
 ghost use Rattle.idl_scope.specs.Key.{key_eq};
 ghost use Rattle.idl_scope.specs.Lookup.{under};
+ghost use Rattle.idl_scope.specs.Turns.{HasTurnsFor};
 ghost use Rattle.idl_scope.specs.declared.data_type.Layer.TheVariants.{Sequence};
-ghost use Rattle.idl_scope.specs.declared.lookup.TheConstants.{TURNS};
 
 use crate::last_type::LastType;
 use idl_base::Seq;
 use idl_lex::Spelling;
 use idl_memo::Journal;
-use idl_scope::{
-    DataType, Element, Entity, Env, Kind, Layer, Path, Shared, Stage, TURNS, Unvalued, View,
-};
+use idl_scope::{DataType, Element, Entity, Env, Kind, Layer, Path, Shared, Stage, Unvalued, View};
 use idl_site::{Shape, Use};
 use idl_tree::BasicType;
 use idl_value::Target;
@@ -40,9 +38,9 @@ pub fn looked_through(
     way: Use,
     entity: &Shared<Entity>,
 ) -> Result<Shared<Entity>, AllocError>
-    ensures { IfOk result (λ behind.
+    ensures { IfOk result (λ behind. (turns : ℕ) → HasTurnsFor view.entry.env.now view.entry.own.now.additions turns →
         (behind, log.new)
-        ≡ run key_eq (under view.entry.own.now.additions (looked_through way entity.now))
+        ≡ run key_eq (under view.entry.own.now.additions (looked_through turns way entity.now))
         (answers view.entry.env.now) log.old) }
 {
     match way {
@@ -51,19 +49,21 @@ pub fn looked_through(
     }
 }
 
-// What stands behind a name through typedefs.
+// What stands behind a name through typedefs. A chain that ends has each entity that is declared once.
 fn behind_typedefs(
     view: View<'_>,
     log: &mut Journal<Env>,
     entity: &Shared<Entity>,
 ) -> Result<Shared<Entity>, AllocError>
-    ensures { IfOk result (λ behind.
+    ensures { IfOk result (λ behind. (turns : ℕ) → HasTurnsFor view.entry.env.now view.entry.own.now.additions turns →
         (behind, log.new)
-        ≡ run key_eq (under view.entry.own.now.additions (behind_typedefs TURNS entity.now))
+        ≡ run key_eq
+        (under view.entry.own.now.additions (behind_typedefs (suc turns) entity.now entity.now))
         (answers view.entry.env.now) log.old) }
 {
+    let turns = view.most_declared() + 1;
     let mut behind = entity.clone()?;
-    for _turn in 0..TURNS {
+    for _turn in 0..turns {
         let Some(path) = path_in(behind.get()) else {
             return Ok(behind);
         };
@@ -72,7 +72,7 @@ fn behind_typedefs(
         };
         behind = next.clone()?;
     }
-    Ok(behind)
+    entity.clone()
 }
 
 // The type that the name of a typedef stands for.

@@ -11,7 +11,7 @@ ghost use Rattle.std.specs.List.{list_any};
 ghost use Rattle.idl_memo.specs.Query.{run};
 ghost use Rattle.idl_scope.specs.Facts.{answers};
 ghost use Rattle.idl_scope.specs.Key.{key_eq};
-ghost use Rattle.idl_scope.specs.declared.lookup.TheConstants.{TURNS};
+ghost use Rattle.idl_scope.specs.Turns.{turns_for};
 ghost use Rattle.idl_site.specs.Item.{Item as item, item_at, item_length};
 ghost use Rattle.idl_unit.specs.TokenRules.{fault_at};
 
@@ -98,7 +98,7 @@ impl<'a> Walker<'a> {
     /// Walks over sites.
     pub fn walk(&mut self, log: &mut Journal<Env>, sites: &[Site<'_>]) -> Result<(), AllocError>
         requires { HasRoomFor (held self.old) (map item_at sites.now) }
-        ensures walked { OnOk result ((turns : ℕ) → TURNS ≤ turns →
+        ensures walked { OnOk result ((turns : ℕ) → turns_for self.old.env.now ≤ turns →
             (held self.new, log.new)
             ≡ run key_eq (walk turns (map item_at sites.now) (held self.old))
             (answers self.old.env.now) log.old) }
@@ -141,7 +141,7 @@ impl<'a> Walker<'a> {
     #[tactic(auto, unfolding(crate::specs::Walk::visit))]
     fn visit(&mut self, log: &mut Journal<Env>, site: &Site<'_>) -> Result<(), AllocError>
         requires { HasRoomFor (held self.old) (item_at site.now ∷ []) }
-        ensures visited { OnOk result ((turns : ℕ) → TURNS ≤ turns →
+        ensures visited { OnOk result ((turns : ℕ) → turns_for self.old.env.now ≤ turns →
             (held self.new, log.new)
             ≡ run key_eq (visited turns (item_at site.now) (held self.old))
             (answers self.old.env.now) log.old) }
@@ -159,7 +159,7 @@ impl<'a> Walker<'a> {
     #[tactic(auto, unfolding(crate::specs::Walk::visit))]
     fn visit_any(&mut self, log: &mut Journal<Env>, site: &Site<'_>) -> Result<(), AllocError>
         requires { HasRoomFor (held self.old) (item_at site.now ∷ []) }
-        ensures visited { OnOk result ((turns : ℕ) → TURNS ≤ turns →
+        ensures visited { OnOk result ((turns : ℕ) → turns_for self.old.env.now ≤ turns →
             (held self.new, log.new)
             ≡ run key_eq (visited turns (item_at site.now) (held self.old))
             (answers self.old.env.now) log.old) }

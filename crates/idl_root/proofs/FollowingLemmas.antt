@@ -1,11 +1,12 @@
 -- What was kept of a root's units, beside facts of which more and more are told.
-use Rattle.std.proofs.Common.{◌≡◌, Bool, true, false, ℕ, zero, suc, ◌<◌, List, [], ◌∷◌, ◌++◌, length, get_or, map, Option, refl, ap, sym, subst, ◌∙◌, arith, append-nil, append_assoc}
+use Rattle.std.proofs.Common.{◌≡◌, Bool, true, false, ℕ, zero, suc, ◌+◌, ◌≤◌, ◌<◌, List, [], ◌∷◌, ◌++◌, length, get_or, map, Option, refl, ap, sym, subst, ◌∙◌, arith, append-nil, append_assoc}
 use Rattle.std.specs.Prelude.{All, Contains, IfSome}
 use Rattle.std.specs.Global.{Global}
 use Rattle.std.specs.Prelude.{Vec}
 use Rattle.std.proofs.lemmas.List.Elements.{All-append, All-contains, All-map, All-push, All-weaker, Contains-append_left, Contains-append_right, Contains-push}
 use Rattle.idl_check.specs.Verdict.{verdict}
-use Rattle.idl_memo.specs.Query.{Agree, asked, outcome}
+use Rattle.idl_check.specs.declared.verdict.Verdict.{Verdict}
+use Rattle.idl_memo.specs.Query.{Agree, IsLogOf, asked, outcome, run}
 use Rattle.idl_root.specs.Followed.{AgreeBut, AreBeside, ArePrinted, StayAlike, WorldsAgree, IsBeside, IsFollowed, IsKeeping, ShareNone}
 use Rattle.idl_repo.specs.Entry.{entry}
 use Rattle.idl_root.specs.Kept.{AreKept, AreNoted, IsJudged, IsKept, IsPrinted, added_by}
@@ -17,7 +18,7 @@ use Rattle.idl_root.specs.declared.kept.KeptEntry.{KeptEntry}
 use Rattle.idl_root.specs.declared.kept.KeptUnit.{KeptUnit}
 use Rattle.idl_root.specs.declared.reprinting.Reprinting.{Reprinting}
 use Rattle.idl_scope.specs.Facts.{UnitFacts, World, after, after_all, answers, entity_key, first_world, key_of, operations_among, world, with_additions}
-use Rattle.idl_scope.specs.Key.{key_digest}
+use Rattle.idl_scope.specs.Key.{key_digest, key_eq}
 use Rattle.idl_scope.specs.Lookup.{Lookup}
 use Rattle.idl_scope.specs.Outside.{AgreeOutside, AreApart, IsInnermost, WorldsAgreeAround, WorldsAgreeOutside, looked_at, looked_at_by}
 use Rattle.idl_scope.specs.declared.addition.Addition.{Addition}
@@ -27,7 +28,7 @@ use Rattle.idl_scope.specs.declared.answer.Answer.{Answer}
 use Rattle.idl_scope.specs.declared.answer.Scope.{Scope}
 use Rattle.idl_scope.specs.declared.key.Key.{Key}
 use Rattle.idl_scope.specs.declared.key.Key.TheVariants.{Cursor}
-use Rattle.idl_scope.specs.declared.lookup.TheConstants.{TURNS}
+use Rattle.idl_scope.specs.Turns.{turns_for}
 use Rattle.idl_unit.specs.declared.unit.UnitText.{UnitText}
 
 -- ---- digests
@@ -293,15 +294,46 @@ module _ {Out : Type 0} (query : Lookup Out) (outside : (keys asks : List Key) (
       let agrees = outside but.keys there (answers before) (answers facts) (answers-agree around but.keys (world before) (world facts) but.agree) apart in
       (sym (same (answers before) (answers facts) agrees), subst (AreNoted digests) (sym (asks (answers before) (answers facts) agrees)) noted)
 
+-- keys that are in a log, of which each has its digest among numbers
+pub keys-noted : {V : Type 0} (digests : List ℕ) (log : List (Key × V)) (keys : List Key) → All (λ e. Contains digests (key_digest e.0)) log
+    → All (λ k. Contains (map (λ e. e.0) log) k) keys → AreNoted digests keys
+keys-noted digests log keys noted whole =
+    let here : Key → Type 0 = λ q. Contains digests (key_digest q) in
+    All-weaker (Contains (map (λ e. e.0) log)) here (λ k c. All-contains here (map (λ e. e.0) log) k (All-map here (λ e. e.0) log noted) c) keys whole
+
+-- keys that are noted are those of another query too that logs the same
+noted-same : {A : Type 0} (q r : Lookup A) (bank : Key → Option Answer) (digests : List ℕ)
+    → ((query : Lookup A) → IsLogOf (asked query bank) bank (run key_eq query bank []).1)
+    → run key_eq q bank [] ≡ run key_eq r bank [] → AreNoted digests (asked q bank) → AreNoted digests (asked r bank)
+noted-same q r bank digests logs same noted =
+    let log = (run key_eq q bank []).1 in
+    let within : All (λ e. Contains digests (key_digest e.0)) log = All-weaker
+    (λ e. Contains (asked q bank) e.0) (λ e. Contains digests (key_digest e.0))
+    (λ e c. All-contains (λ k. Contains digests (key_digest k)) (asked q bank) e.0 noted c) log (logs q).within in
+    keys-noted digests log (asked r bank) within (subst (λ (l : List (Key × Option Answer)). All (λ k. Contains (map (λ e. e.0) l) k) (asked r bank)) (sym (ap (λ p. p.1) same)) (logs r).whole)
+
 -- what was judged of a text is so here
-pub judged-again : ((keys asks : List Key) (bank other : Key → Option Answer) → AgreeOutside keys bank other → AreApart asks keys → Agree asks bank other)
-    → ((text : UnitText) (bank other : Key → Option Answer) → Agree (asked (verdict TURNS text) bank) bank other → outcome (verdict TURNS text) other ≡ outcome (verdict TURNS text) bank)
-    → ((text : UnitText) (bank other : Key → Option Answer) → Agree (asked (verdict TURNS text) bank) bank other → asked (verdict TURNS text) other ≡ asked (verdict TURNS text) bank)
-    → (around : Bool) (changed : List ℕ) (before facts : List UnitFacts) (text : UnitText) (judgement : Judgement)
-    → IsJudged before text judgement → AgreeBut around changed before facts → ShareNone judgement.asked.items changed → IsJudged facts text judgement
-judged-again outside same asks around changed before facts text judgement own but none =
-    let both = again (verdict TURNS text) outside (same text) (asks text) around judgement.asked.items changed before facts own.noted but none in
-    record { said = own.said ∙ both.0; noted = both.1 }
+module _
+    (outside : (keys asks : List Key) (bank other : Key → Option Answer) → AgreeOutside keys bank other → AreApart asks keys → Agree asks bank other)
+    (same : (query : Lookup Verdict) (bank other : Key → Option Answer) → Agree (asked query bank) bank other → outcome query other ≡ outcome query bank)
+    (asks : (query : Lookup Verdict) (bank other : Key → Option Answer) → Agree (asked query bank) bank other → asked query other ≡ asked query bank)
+    (logs : (query : Lookup Verdict) (bank : Key → Option Answer) → IsLogOf (asked query bank) bank (run key_eq query bank []).1)
+    (more : (facts : List UnitFacts) (turns more : ℕ) (text : UnitText) (log : List (Key × Option Answer)) → turns_for facts ≤ turns
+    → run key_eq (verdict (turns + more) text) (answers facts) log ≡ run key_eq (verdict turns text) (answers facts) log)
+  where
+    pub judged-again : (around : Bool) (changed : List ℕ) (before facts : List UnitFacts) (text : UnitText) (judgement : Judgement)
+        → IsJudged before text judgement → AgreeBut around changed before facts → ShareNone judgement.asked.items changed → IsJudged facts text judgement
+    judged-again around changed before facts text judgement own but none =
+        let turns = turns_for before + turns_for facts in
+        let there = more before (turns_for before) (turns_for facts) text [] (omega arith) in
+        let swapped : turns_for facts + turns_for before ≡ turns = omega arith in
+        let here = ap (λ t. run key_eq (verdict t text) (answers facts) []) (sym swapped) ∙ more facts (turns_for facts) (turns_for before) text [] (omega arith) in
+        let noted = noted-same (verdict (turns_for before) text) (verdict turns text) (answers before) judgement.asked.items (λ q. logs q (answers before)) (sym there) own.noted in
+        let both = again (verdict turns text) outside (same (verdict turns text)) (asks (verdict turns text)) around judgement.asked.items changed before facts noted but none in
+        record {
+          said = own.said ∙ sym (ap (λ p. p.0) there) ∙ both.0 ∙ ap (λ p. p.0) here;
+          noted = noted-same (verdict turns text) (verdict (turns_for facts) text) (answers facts) judgement.asked.items (λ q. logs q (answers facts)) here both.1;
+        }
 
 -- and so is what was printed of a name
 pub printed-again : ((keys asks : List Key) (bank other : Key → Option Answer) → AgreeOutside keys bank other → AreApart asks keys → Agree asks bank other)
@@ -356,10 +388,3 @@ printed-copy facts kept path same said noted = record {
 }
 
 -- ---- what is noted
-
--- keys that are in a log, of which each has its digest among numbers
-pub keys-noted : {V : Type 0} (digests : List ℕ) (log : List (Key × V)) (keys : List Key) → All (λ e. Contains digests (key_digest e.0)) log
-    → All (λ k. Contains (map (λ e. e.0) log) k) keys → AreNoted digests keys
-keys-noted digests log keys noted whole =
-    let here : Key → Type 0 = λ q. Contains digests (key_digest q) in
-    All-weaker (Contains (map (λ e. e.0) log)) here (λ k c. All-contains here (map (λ e. e.0) log) k (All-map here (λ e. e.0) log noted) c) keys whole

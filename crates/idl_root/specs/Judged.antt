@@ -6,9 +6,9 @@ use Rattle.idl_check.specs.declared.verdict.Verdict.{Verdict}
 use Rattle.idl_event.specs.declared.site.Site.{Site}
 use Rattle.idl_memo.specs.Query.{outcome}
 use Rattle.idl_scope.specs.Facts.{UnitFacts, answers}
+use Rattle.idl_scope.specs.Turns.{turns_for}
 use Rattle.idl_scope.specs.declared.addition.Step.{Step}
 use Rattle.idl_scope.specs.declared.addition.Step.TheVariants.{Enters, Leaves}
-use Rattle.idl_scope.specs.declared.lookup.TheConstants.{TURNS}
 use Rattle.idl_unit.specs.declared.unit.Unit.{Unit as RootUnit}
 use Rattle.idl_unit.specs.declared.unit.Unit.TheVariants.{Spelled, Entered, Left, End}
 use Rattle.idl_unit.specs.declared.unit.UnitText.{UnitText}
@@ -19,9 +19,9 @@ pub record Judged : Type 0 where
   pub sites : List Site
   pub verdict : Verdict
 
--- the verdict of a text over facts
+-- the verdict of a text over facts, with as many turns as these need
 abbrev pub verdict_over : List UnitFacts → UnitText → Verdict
-verdict_over facts text = outcome (verdict TURNS text) (answers facts)
+verdict_over facts text = outcome (verdict (turns_for facts) text) (answers facts)
 
 -- a unit over facts
 abbrev pub judged_over : List UnitFacts → UnitText → List Site → Judged

@@ -11,9 +11,9 @@ use Rattle.idl_root.specs.declared.kept.KeptUnit.{KeptUnit}
 use Rattle.idl_root.specs.declared.kept.KeptUnit.TheVariants.{Judged, Entered, Left}
 use Rattle.idl_scope.specs.Facts.{UnitFacts, answers}
 use Rattle.idl_scope.specs.Key.{key_digest}
+use Rattle.idl_scope.specs.Turns.{turns_for}
 use Rattle.idl_scope.specs.declared.addition.Step.TheVariants.{Enters, Leaves}
 use Rattle.idl_scope.specs.declared.key.Key.{Key}
-use Rattle.idl_scope.specs.declared.lookup.TheConstants.{TURNS}
 use Rattle.idl_unit.specs.declared.unit.UnitText.{UnitText}
 
 -- each of these keys has its digest among these
@@ -24,7 +24,7 @@ AreNoted digests keys = All (λ key. Contains digests (key_digest key)) keys
 pub record IsJudged (facts : List UnitFacts) (text : UnitText) (judgement : Judgement)
     : Type 0 where
   pub said : judgement.verdict ≡ verdict_over facts text
-  pub noted : AreNoted judgement.asked.items (asked (verdict TURNS text) (answers facts))
+  pub noted : AreNoted judgement.asked.items (asked (verdict (turns_for facts) text) (answers facts))
 
 -- what a unit added of which this is kept
 abbrev pub added_by : KeptUnit → UnitFacts

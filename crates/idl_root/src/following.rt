@@ -11,8 +11,8 @@ ghost use Rattle.idl_scope.specs.declared.addition.Step.TheVariants.{Closes};
 use crate::changed::Changed;
 use crate::kept::{Judgement, KeptUnit, KeptUnits};
 use crate::reprinting::Reprinting;
-use idl_check::DeclarationTask;
-use idl_scope::{Env, Facts, Step, adding, agreeing_around, exchanging};
+use idl_check::Verdict;
+use idl_scope::{Answer, DigestedKey, Env, Facts, Step, adding, agreeing_around, exchanging};
 use idl_unit::UnitText;
 use std::alloc::{AllocError, Global};
 use std::rc::Rc;
@@ -77,7 +77,9 @@ impl<'k> Following<'k> {
             → IfSome result (λ j. IsJudged facts text.now j.now.value) }
     {
         idl_scope::reliance();
-        idl_memo::reliance::<Env, DeclarationTask>();
+        idl_check::more_turns();
+        idl_memo::agreement::<DigestedKey, Option<Answer>, (), Verdict>();
+        idl_memo::logging::<DigestedKey, Option<Answer>, (), Verdict>();
         let judgement = self.next_of(text)?;
         if !self.changed.shares_none(judgement.asked.as_slice()) {
             return None;

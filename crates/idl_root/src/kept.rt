@@ -8,12 +8,12 @@ ghost use Rattle.idl_root.specs.Judged.{verdict_over};
 ghost use Rattle.idl_root.specs.Kept.{AreKept, AreNoted, IsJudged, IsPrinted, added_by};
 ghost use Rattle.idl_root.specs.Printed.{entry_over};
 ghost use Rattle.idl_scope.specs.Facts.{answers};
-ghost use Rattle.idl_scope.specs.declared.lookup.TheConstants.{TURNS};
+ghost use Rattle.idl_scope.specs.Turns.{turns_for};
 
-use idl_check::{DeclarationTask, Scratch, Verdict, verdict_of};
-use idl_memo::{Journal, reliance};
+use idl_check::{Scratch, Verdict, verdict_of};
+use idl_memo::{Journal, logging, reliance};
 use idl_repo::{Entry, EntryTask, entry_by};
-use idl_scope::{Env, Path, Shared};
+use idl_scope::{Answer, DigestedKey, Env, Path, Shared};
 use idl_unit::UnitText;
 use std::alloc::{AllocError, Global};
 use std::marker::Model;
@@ -153,9 +153,9 @@ fn noted_verdict(
 ) -> Result<(Verdict, Vec<u64>), AllocError>
     ensures said { IfOk result (λ r. r.0 ≡ verdict_over env.now text.now) }
     ensures noted { IfOk result (λ r.
-        AreNoted r.1.items (asked (verdict TURNS text.now) (answers env.now))) }
+        AreNoted r.1.items (asked (verdict (turns_for env.now) text.now) (answers env.now))) }
 {
-    reliance::<Env, DeclarationTask>();
+    logging::<DigestedKey, Option<Answer>, (), Verdict>();
     let mut journal = Journal::noting(alloc);
     let verdict = verdict_of(scratch, env, &mut journal, text)?;
     let Some(digests) = journal.digests() else {

@@ -2,6 +2,7 @@ pub mod AnswerLemmas
 pub mod ApartLemmas
 pub mod AroundLaws
 pub mod CountLemmas
+pub mod DeclaredLemmas
 pub mod DenotesOnce
 pub mod ExchangeLaws
 pub mod FactsLaws
@@ -24,5 +25,6 @@ pub mod QueueLemmas
 pub mod Reaching
 pub mod RunLemmas
 pub mod StateLemmas
+pub mod TurnsLaws
 pub mod Walked
 pub mod Worlds

@@ -4,11 +4,11 @@ use Rattle.std.specs.Prelude.{◌≢◌, ◌↔◌, AllPairs, Contains, IfOk, Ma
 use Rattle.idl_lex.specs.Keywords.{folded}
 use Rattle.idl_memo.specs.Query.{outcome, run}
 use Rattle.idl_tree.specs.declared.name.ScopedName.{ScopedName}
-use Rattle.idl_scope.specs.Bases.{bases_in, bases_among, bases_named, HasTurnsFor}
+use Rattle.idl_scope.specs.Turns.{bases_among, bases_named, declared_among, declared_named, HasTurnsFor, turns_among, turns_for}
 use Rattle.idl_scope.specs.Facts.{UnitFacts, answers}
 use Rattle.idl_scope.specs.Key.{key_eq}
-use Rattle.idl_scope.specs.Lookup.{IfSettled, denoted, has, reach, searched, under}
-use Rattle.idl_scope.specs.Meaning.{Denotes, FirstHas, Has, Introduces, Reaches, entity_found, own_at, seen}
+use Rattle.idl_scope.specs.Lookup.{IfSettled, denoted, has, outward, reach, reached, searched, under}
+use Rattle.idl_scope.specs.Meaning.{Denotes, FirstHas, Has, Introduces, Reaches, bases_at, entity_found, own_at, seen}
 use Rattle.idl_scope.specs.Path.{name_of, scope_of}
 use Rattle.idl_scope.specs.declared.addition.Addition.{Addition}
 use Rattle.idl_scope.specs.declared.answer.Answer.{Answer}
@@ -23,7 +23,9 @@ use Rattle.idl_scope.proofs.Membership.{IsIn-left, IsIn-right, Contains-IsIn, Is
 use Rattle.idl_scope.proofs.FactsLaws.{outcome-under}
 use Rattle.idl_scope.proofs.Introduced.{first-home, Introduces_in, in_Introduces}
 use Rattle.idl_scope.proofs.Meant.{has-Has, denoted-Denotes, denoted-Ok}
-use Rattle.idl_scope.proofs.Worlds.{AreGrounded, answers-grounded, over-grounded, addition-grounded, wider-grounded, flat_map-in, own_at-home, own_at-name}
+use Rattle.idl_scope.proofs.RunLemmas.{runs}
+use Rattle.idl_scope.proofs.TurnsLaws.{denoted-same, has-same, outward-same, reached-same}
+use Rattle.idl_scope.proofs.Worlds.{AreDeclared, AreGrounded, addition-grounded, answers-declared, answers-grounded, bases-among, over-grounded, own_at-home, own_at-name, own_place, places-among, wider-grounded}
 
 -- a fact about a result, whatever it is
 pub IfSettled-always : {A : Type 0} (r : Result A NameFault) (Fact : Result A NameFault → Type 0) → Fact r → IfSettled r Fact
@@ -38,9 +40,15 @@ module _ (facts : List UnitFacts) (own : List Addition) where
 
   seen-grounded : AreGrounded places (seen own facts)
   unfolding places
-  seen-grounded = over-grounded (bases_named facts ++ bases_among own) own (answers facts)
-      (wider-grounded (bases_named facts) (bases_named facts ++ bases_among own) (λ c i. IsIn-left c (bases_named facts) (bases_among own) i) (answers facts) (answers-grounded facts))
-      (λ a i. addition-grounded (bases_named facts ++ bases_among own) a (λ c j. IsIn-right c (bases_named facts) (bases_among own) (flat_map-in bases_in own a c i j)))
+  seen-grounded = over-grounded (λ e. e.bases) (bases_named facts ++ bases_among own) own (answers facts)
+      (wider-grounded (λ e. e.bases) (bases_named facts) (bases_named facts ++ bases_among own) (λ c i. IsIn-left c (bases_named facts) (bases_among own) i) (answers facts) (answers-grounded facts))
+      (λ a i. addition-grounded (λ e. e.bases) (bases_named facts ++ bases_among own) a (λ e is c j. IsIn-right c (bases_named facts) (bases_among own) (bases-among own a i e is c j)))
+
+  -- what is declared stands under its own path, which is among these
+  pub seen-declared : AreDeclared (declared_named facts ++ declared_among own) (seen own facts)
+  seen-declared = over-grounded own_place (declared_named facts ++ declared_among own) own (answers facts)
+      (wider-grounded own_place (declared_named facts) (declared_named facts ++ declared_among own) (λ c i. IsIn-left c (declared_named facts) (declared_among own) i) (answers facts) (answers-declared facts))
+      (λ a i. addition-grounded own_place (declared_named facts ++ declared_among own) a (λ e is c j. IsIn-right c (declared_named facts) (declared_among own) (places-among own a i e is c j)))
 
   pub own_path : (n : List ℕ) (path : List (List ℕ)) (e : Entity) → own_at (seen own facts) n path ≡ Some e → (folded (name_of e.path) ≡ n) × (scope_of e.path ≡ path)
   own_path n path e h = (own_at-name places (seen own facts) seen-grounded n path e h, own_at-home places (seen own facts) seen-grounded n path e h)
@@ -71,6 +79,30 @@ module _ (facts : List UnitFacts) (own : List Addition) where
     pub has-once : (kind : Kind) (path : List (List ℕ)) (n : List ℕ) → AllPairs (λ e f. e ≢ f) (outcome (has turns kind path n) (seen own facts))
     has-once kind path n = AllPairs-Distinct (outcome (has turns kind path n) (seen own facts)) (has-Has places (seen own facts) seen-grounded turns enough kind path n).1
 
+    -- more turns give the same and log the same, and so they come to the same
+    pub has-more : (more : ℕ) (kind : Kind) (path : List (List ℕ)) (n : List ℕ) (log : List (Key × Option Answer)) → runs own (answers facts) (has (turns + more) kind path n) log ≡ runs own (answers facts) (has turns kind path n) log
+    has-more more kind path n log = has-same own (answers facts) places seen-grounded turns enough more kind path n log
+
+    pub denoted-more : (more : ℕ) (cursor : List Scope) (name : ScopedName) (log : List (Key × Option Answer)) → runs own (answers facts) (denoted (turns + more) cursor name) log ≡ runs own (answers facts) (denoted turns cursor name) log
+    denoted-more more cursor name log = denoted-same own (answers facts) places seen-grounded turns enough more cursor name log
+
+    pub outward-more : (more : ℕ) (scopes : List Scope) (n : List ℕ) (log : List (Key × Option Answer)) → runs own (answers facts) (outward (turns + more) scopes n) log ≡ runs own (answers facts) (outward turns scopes n) log
+    outward-more more scopes n log = outward-same own (answers facts) places seen-grounded turns enough more scopes n log
+
+    pub reached-more : (more : ℕ) (n : List ℕ) (path : List (List ℕ)) (log : List (Key × Option Answer)) → runs own (answers facts) (reached (turns + more) n (bases_at (seen own facts) path)) log ≡ runs own (answers facts) (reached turns n (bases_at (seen own facts) path)) log
+    reached-more more n path log = reached-same own (answers facts) places seen-grounded turns enough more n path log
+
+    -- what a lookup gives and logs under each number of turns from some number on, it gives and logs under this one
+    module _ (least : ℕ) (log after : List (Key × Option Answer)) where
+      pub has-from : (kind : Kind) (path : List (List ℕ)) (n : List ℕ) (es : List Entity) → ((t : ℕ) → least ≤ t → (es, after) ≡ runs own (answers facts) (has t kind path n) log) → (es, after) ≡ runs own (answers facts) (has turns kind path n) log
+      has-from kind path n es gives = gives (turns + least) (omega arith) ∙ has-more least kind path n log
+
+      pub outward-from : (scopes : List Scope) (n : List ℕ) (es : List Entity) → ((t : ℕ) → least ≤ t → (es, after) ≡ runs own (answers facts) (outward t scopes n) log) → (es, after) ≡ runs own (answers facts) (outward turns scopes n) log
+      outward-from scopes n es gives = gives (turns + least) (omega arith) ∙ outward-more least scopes n log
+
+      pub denoted-from : (cursor : List Scope) (name : ScopedName) (r : Result Found NameFault) → ((t : ℕ) → least ≤ t → (r, after) ≡ runs own (answers facts) (denoted t cursor name) log) → (r, after) ≡ runs own (answers facts) (denoted turns cursor name) log
+      denoted-from cursor name r gives = gives (turns + least) (omega arith) ∙ denoted-more least cursor name log
+
     pub denotes : (cursor : List Scope) (name : ScopedName) → Denotes (seen own facts) cursor name (entity_found (outcome (denoted turns cursor name) (seen own facts)))
     denotes cursor name = denoted-Denotes places (seen own facts) seen-grounded turns enough cursor name
 
@@ -89,7 +121,7 @@ module _ (facts : List UnitFacts) (own : List Addition) where
       → (turns : ℕ) × HasTurnsFor facts own turns × (r ≡ outcome (denoted turns cursor name) (seen own facts))
   unfolding Runs
   enough_turns least cursor name log after r runs =
-      let named = length (bases_named facts) + length (bases_among own) in
+      let named = turns_for facts + turns_among own in
       let same = runs (least + named) (omega arith) in
       (least + named, omega arith, ap (λ (p : Result Found NameFault × List (Key × Option Answer)). p.0) same ∙ outcome-under own (answers facts) (denoted (least + named) cursor name))
 

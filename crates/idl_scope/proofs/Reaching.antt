@@ -158,6 +158,19 @@ module _ {P E : Type 0} (among : P → List P → Bool) (decides : (b : P) (xs :
     next_turn : (places : List P) (turns : ℕ) → length places ≤ length entered + suc turns → length places ≤ length (entered ++ b ∷ []) + turns
     next_turn places turns h = let l = length-append entered (b ∷ []) in omega (arith, l, h)
 
+  -- what waits once a place is entered: behind what waited, the places to which it leads
+  abbrev pub waiting : P → List P → List P → List P
+  waiting b entered left = left ++ added among (entered ++ b ∷ left) (onward next b (own b))
+
+  pub waiting-Distinct : (b : P) (entered left : List P) → Distinct (entered ++ b ∷ left) → Distinct ((entered ++ b ∷ []) ++ waiting b entered left)
+  unfolding more
+  waiting-Distinct b entered left d = distinct_new b entered left [] d
+
+  pub waiting-within : (b : P) (entered left places : List P) → ((c d : P) → IsIn c places → IsIn d (next c) → IsIn d places) → ((c : P) → IsIn c (entered ++ b ∷ left) → IsIn c places)
+      → (c : P) → IsIn c ((entered ++ b ∷ []) ++ waiting b entered left) → IsIn c places
+  unfolding more
+  waiting-within b entered left places inside known c i = within_new b entered left [] places inside known c i
+
   -- all that is reached is found, where there are as many turns as places
   pub complete : (places : List P) → ((b c : P) → IsIn b places → IsIn c (next b) → IsIn c places) → (turns : ℕ) (entered left : List P) (found : List E)
       → Distinct (entered ++ left) → ((b : P) → IsIn b (entered ++ left) → IsIn b places) → length places ≤ length entered + turns → Closed entered left found

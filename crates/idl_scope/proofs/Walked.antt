@@ -38,7 +38,7 @@ among-IsIn p (q ∷ paths) = (there (among-IsIn p paths).0 (path_eq p q) refl, b
     back rest (inr i) = rw (rest i) (or_true (path_eq p q))
 
 -- paths that are joined go behind the queue, unless they are there
-joined-added : (queue paths : List (List (List ℕ))) → joined queue paths ≡ queue ++ added among queue paths
+pub joined-added : (queue paths : List (List (List ℕ))) → joined queue paths ≡ queue ++ added among queue paths
 joined-added queue [] = sym (append-nil queue)
 joined-added queue (p ∷ paths) = by_test (among p queue) (joined-added queue paths) (joined-added (queue ++ p ∷ []) paths)
   where
@@ -47,7 +47,7 @@ joined-added queue (p ∷ paths) = by_test (among p queue) (joined-added queue p
     by_test true old new = old
     by_test false old new = new ∙ append_assoc queue (p ∷ []) (added among (queue ++ p ∷ []) paths)
 
-slice_get-seam : {A : Type 0} (xs : List A) (y : A) (ys : List A) → slice_get (xs ++ y ∷ ys) (length xs) ≡ Some y
+pub slice_get-seam : {A : Type 0} (xs : List A) (y : A) (ys : List A) → slice_get (xs ++ y ∷ ys) (length xs) ≡ Some y
 slice_get-seam [] y ys = refl
 slice_get-seam (x ∷ xs) y ys = slice_get-seam xs y ys
 
@@ -65,7 +65,7 @@ module _ (bank : Key → Option Answer) (n : List ℕ) where
   entered_by b own = choose own (Ask (entity_key b) (λ base. Done (None, bases_of (entity_in base)))) (λ e. Done (Some e, []))
 
   -- what the entering of a base comes to
-  outcome-entered : (b : List (List ℕ)) → outcome (entered n b) bank ≡ (own_at bank n b, onward (bases_at bank) b (own_at bank n b))
+  pub outcome-entered : (b : List (List ℕ)) → outcome (entered n b) bank ≡ (own_at bank n b, onward (bases_at bank) b (own_at bank n b))
   outcome-entered b = by_own (own_at bank n b)
     where
       by_own : (own : Option Entity) → outcome (entered_by b own) bank ≡ (own, onward (bases_at bank) b own)

@@ -1,5 +1,4 @@
 pub mod Answer
-pub mod Bases
 pub mod DataType
 pub mod Details
 pub mod Digest
@@ -24,4 +23,5 @@ pub mod Queue
 pub mod Scope
 pub mod Signature
 pub mod Stretch
+pub mod Turns
 pub mod Unvalued

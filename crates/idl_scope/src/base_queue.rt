@@ -1,6 +1,6 @@
 //! Queues of the bases that a walk enters.
 
-ghost use Rattle.std.specs.Prelude.{◌≡◌, ◌∷◌, [], IfOk, OnOk, slice_get};
+ghost use Rattle.std.specs.Prelude.{◌≡◌, ◌<◌, ◌∷◌, [], IfOk, IsSome, OnOk, slice_get};
 ghost use Rattle.std.specs.Map.{keys_of};
 ghost use Rattle.std.specs.List.{list_any};
 ghost use Rattle.std.specs.Option.{option_copied};
@@ -8,7 +8,7 @@ ghost use Rattle.idl_scope.specs.Facts.{joined};
 ghost use Rattle.idl_scope.specs.Path.{path_eq};
 
 use crate::path::Path;
-use crate::queue::join_one;
+use crate::queue::{join, join_one};
 use idl_map::DigestTable;
 use std::alloc::{AllocError, Global};
 use std::marker::Model;
@@ -18,27 +18,30 @@ const FEW: usize = 4;
 
 /// Paths in the order in which they were put in, each once. To every contract it is the list of them.
 ///
-/// Most interfaces have few bases, and few of these have bases: so the first paths stand in place. Those behind them are found
+/// Most interfaces have few bases, and few of these have bases: so few paths stand in place. Where there are more, all are found
 /// in a table by their digests.
 #[derive(Drop)]
 pub struct BaseQueue {
     alloc: Global,
     few: [Path; FEW],
-    // How many of them are put in.
+    // How many stand in place.
     count: usize,
-    // Most queues have none, and are made often.
-    others: Option<Box<DigestTable<Path, ()>>>,
+    // All of them, where they are more. Most queues have no such table, and are made often.
+    all: Option<Box<DigestTable<Path, ()>>>,
 }
 
 impl Model for BaseQueue {
-    ghost use Rattle.std.specs.Prelude.{List, ℕ, ◌≤◌, ◌++◌, take};
-    ghost use Rattle.idl_scope.specs.Queue.{paths_in};
+    ghost use Rattle.std.specs.Prelude.{◌≡◌, [], List, ℕ, ◌≤◌, take};
+    ghost use Rattle.idl_scope.specs.Facts.{joined};
+    ghost use Rattle.idl_scope.specs.Queue.{paths_of};
 
     ghost Value = { List (List (List ℕ)) };
 
-    ghost view = { λ queue. take queue.count queue.few ++ paths_in queue.others };
+    ghost view = { λ queue. paths_of (take queue.count queue.few) queue.all };
 
-    ghost invariant = { λ queue. queue.count ≤ 4 };
+    ghost invariant = { λ queue.
+        (queue.count ≤ 4)
+        × (joined [] (take queue.count queue.few) ≡ take queue.count queue.few) };
 }
 
 impl BaseQueue {
@@ -55,20 +58,18 @@ impl BaseQueue {
                 Path::global(),
             ],
             count: 0,
-            others: None,
+            all: None,
         }
     }
 
-    /// The path at a place, or nothing past the last.
+    /// The path at a place, or nothing past the last. There is none at the last place that an index counts.
     pub fn get(&self, place: usize) -> Option<&Path>
-        ensures { option_copied result ≡ slice_get self.now place }
+        ensures path { option_copied result ≡ slice_get self.now place }
+        ensures counted { IsSome result → place < usize.MAX }
     {
-        let few = &self.few[..self.count];
-        if place < few.len() {
-            return Some(&few[place]);
-        }
-        match &self.others {
-            Some(others) => path_at(others, place - few.len()),
+        match &self.all {
+            Some(all) => path_at(all, place),
+            None if place < self.count => Some(&self.few[place]),
             None => None,
         }
     }
@@ -89,23 +90,24 @@ impl BaseQueue {
     fn join_one(&mut self, path: &Path) -> Result<(), AllocError>
         ensures { OnOk result (self.new ≡ joined self.old (path.now ∷ [])) }
     {
+        if let Some(all) = &mut self.all {
+            join_one(all, path)?;
+            return Ok(());
+        }
         if is_among(&self.few[..self.count], path) {
             return Ok(());
         }
-        if let Some(others) = &mut self.others {
-            join_one(others, path)?;
-            return Ok(());
-        }
-        let copy = path.clone()?;
         let count = self.count;
         if count < FEW {
+            let copy = path.clone()?;
             let few = &mut self.few[..];
             few[count] = copy;
             self.count = count + 1;
             return Ok(());
         }
-        let others = table_of(self.alloc, copy)?;
-        self.others = Some(others);
+        let mut all = table_of(self.alloc, &self.few[..count])?;
+        join_one(&mut all, path)?;
+        self.all = Some(all);
         Ok(())
     }
 }
@@ -119,18 +121,22 @@ fn is_among(paths: &[Path], path: &Path) -> bool
 
 // The path at a place of a table, or nothing past the last.
 fn path_at(paths: &DigestTable<Path, ()>, place: usize) -> Option<&Path>
-    ensures { option_copied result ≡ slice_get (keys_of paths.now) place }
+    ensures path { option_copied result ≡ slice_get (keys_of paths.now) place }
+    ensures counted { IsSome result → place < usize.MAX }
 {
+    if place >= paths.len() {
+        return None;
+    }
     let (path, ()) = paths.get_index(place)?;
     Some(path)
 }
 
-// The table of one path.
+// The table of these paths, each once.
 #[inline(never)]
-fn table_of(alloc: Global, path: Path) -> Result<Box<DigestTable<Path, ()>>, AllocError>
-    ensures { IfOk result (λ paths. keys_of paths.value ≡ path ∷ []) }
+fn table_of(alloc: Global, paths: &[Path]) -> Result<Box<DigestTable<Path, ()>>, AllocError>
+    ensures { IfOk result (λ table. keys_of table.value ≡ joined [] paths.now) }
 {
-    let mut paths = DigestTable::new(alloc);
-    paths.push(path, ())?;
-    Ok(Box::new(alloc, paths)?)
+    let mut table = DigestTable::new(alloc);
+    join(&mut table, paths)?;
+    Ok(Box::new(alloc, table)?)
 }

@@ -1,12 +1,12 @@
 //! The environment: what the facts so far answer.
 
-ghost use Rattle.std.specs.Prelude.{◌≡◌, ◌∷◌, ◌++◌, [], IfOk};
+ghost use Rattle.std.specs.Prelude.{◌≡◌, ◌∷◌, ◌++◌, [], IfOk, ◌+◌, ◌<◌, ◌≤◌, length};
 ghost use Rattle.std.specs.Option.{option_copied};
 ghost use Rattle.idl_scope.specs.DataType.{plain_type};
 ghost use Rattle.idl_scope.specs.Facts.{answers};
+ghost use Rattle.idl_scope.specs.Turns.{declared_named};
 
 use crate::answer::Answer;
-use crate::count::one_more;
 use crate::data_type::{DataType, Element};
 use crate::digested::DigestedKey;
 use crate::facts::Facts;
@@ -26,7 +26,7 @@ use std::marker::Model;
 pub struct Env {
     alloc: Global,
     facts: Past<Facts>,
-    // How many facts there are, since no count among the answers is larger.
+    // No fewer than the facts and what they declare, since no count among the answers is larger, and no chain of typedefs longer.
     count: usize,
     // It stands apart, since an environment is handed on with each unit.
     state: Box<State>,
@@ -34,16 +34,18 @@ pub struct Env {
 }
 
 impl Model for Env {
-    ghost use Rattle.std.specs.Prelude.{◌≡◌, List, length};
+    ghost use Rattle.std.specs.Prelude.{◌≡◌, ◌+◌, ◌≤◌, List, length};
     ghost use Rattle.idl_scope.specs.Facts.{UnitFacts, world};
     ghost use Rattle.idl_scope.specs.Held.{held};
+    ghost use Rattle.idl_scope.specs.Turns.{declared_named};
 
     ghost Value = { List UnitFacts };
 
     ghost view = { λ env. env.facts };
 
     ghost invariant = { λ env.
-        (env.count ≡ length env.facts) × (held env.state.value ≡ world env.facts) };
+        (length env.facts + length (declared_named env.facts) ≤ env.count)
+        × (held env.state.value ≡ world env.facts) };
 }
 
 impl Drop for Env {
@@ -74,6 +76,13 @@ impl Env {
         })
     }
 
+    /// No fewer than the entities that are declared, each as often as it is.
+    pub(crate) fn most_declared(&self) -> usize
+        ensures { length (declared_named self.now) ≤ result }
+    {
+        self.count
+    }
+
     /// Where it takes memory.
     pub fn alloc(&self) -> Global {
         self.alloc
@@ -90,7 +99,7 @@ impl Env {
             mut state,
             plain,
         } = self;
-        let count = one_more(count)?;
+        let count = counted(count, facts)?;
         state.add(alloc, facts)?;
         Ok(Env {
             alloc,
@@ -112,7 +121,7 @@ impl Env {
             mut state,
             plain,
         } = self;
-        let count = one_more(count)?;
+        let count = counted(count, facts.get())?;
         let after = before.and(facts.get());
         let mut facts = facts;
         state.add_own(alloc, &mut facts.inner)?;
@@ -134,6 +143,17 @@ impl Env {
             Some(t) => t.clone(),
             None => DataType::plain(self.alloc, element),
         }
+    }
+}
+
+// The count with these facts and what they add. One that is larger than memory can hold things is want of it.
+fn counted(count: usize, facts: &Facts) -> Result<usize, AllocError>
+    ensures more { IfOk result (λ n. n ≡ count + length facts.now.additions + 1) }
+    ensures room { IfOk result (λ n. count < 18446744073709551615) }
+{
+    match count.checked_add(facts.len()) {
+        Some(sum) if sum < usize::MAX => Ok(sum + 1),
+        _ => Err(AllocError),
     }
 }
 

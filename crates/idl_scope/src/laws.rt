@@ -3,12 +3,13 @@
 //! Each function does nothing: it carries its laws as clauses. They hold of any facts, also of such as
 //! no declarations add; only, a walk over bases must be allowed as many turns as the facts name bases.
 
-ghost use Rattle.std.specs.Prelude.{◌≡◌, ◌≢◌, ◌↔◌, ◌∷◌, ◌++◌, [], ℕ, List, Ok, Option, Result, Some, true, AllPairs, Contains, map};
+ghost use Rattle.std.specs.Prelude.{◌≡◌, ◌≢◌, ◌↔◌, ◌∷◌, ◌++◌, ◌+◌, [], ℕ, List, Ok, Option, Result, Some, true, AllPairs, Contains, map};
 ghost use Rattle.idl_lex.specs.Keywords.{folded};
-ghost use Rattle.idl_memo.specs.Query.{Agree, asked, outcome};
+ghost use Rattle.idl_memo.specs.Query.{Agree, asked, outcome, run};
 ghost use Rattle.idl_tree.specs.declared.name.ScopedName.{ScopedName};
-ghost use Rattle.idl_scope.specs.Bases.{HasTurnsFor};
+ghost use Rattle.idl_scope.specs.Turns.{HasTurnsFor};
 ghost use Rattle.idl_scope.specs.Facts.{UnitFacts, World, after, after_all, answers, entity_key, identity_at, key_of, no_prefix, operations_among, over, path_around, prefix_in, scopes_in, world};
+ghost use Rattle.idl_scope.specs.Key.{key_eq};
 ghost use Rattle.idl_scope.specs.Lookup.{Lookup, denoted, has, under};
 ghost use Rattle.idl_scope.specs.Meaning.{Denotes, Has, Reaches, entity_found, own_at, seen};
 ghost use Rattle.idl_scope.specs.Outside.{AgreeOutside, AreApart, IsInnermost, WorldsAgreeAround, WorldsAgreeOutside, looked_at_by};
@@ -57,6 +58,21 @@ pub fn denotation()
     ensures once { (answers : Key → Option Answer) (cursor : List Scope) (name : ScopedName)
         (r s : Result Entity NameFault)
         → Denotes answers cursor name r → Denotes answers cursor name s → r ≡ s }
+{}
+
+/// More turns than the facts name bases change nothing: neither what a scope has under a name, nor what a name denotes, nor what
+/// is logged for it.
+pub fn more_turns()
+    ensures has { (facts : List UnitFacts) (own : List Addition) (turns more : ℕ)
+        → HasTurnsFor facts own turns
+        → (kind : Kind) (path : List (List ℕ)) (n : List ℕ) (log : List (Key × Option Answer))
+        → run key_eq (under own (has (turns + more) kind path n)) (answers facts) log
+        ≡ run key_eq (under own (has turns kind path n)) (answers facts) log }
+    ensures denoted { (facts : List UnitFacts) (own : List Addition) (turns more : ℕ)
+        → HasTurnsFor facts own turns
+        → (cursor : List Scope) (name : ScopedName) (log : List (Key × Option Answer))
+        → run key_eq (under own (denoted (turns + more) cursor name)) (answers facts) log
+        ≡ run key_eq (under own (denoted turns cursor name)) (answers facts) log }
 {}
 
 /// The use of a name introduces its first part into the scopes that the rules tell, and into no others: as many, the

@@ -64,10 +64,10 @@ pub use key::Key;
 pub use kind::{Kind, Stage};
 pub use laws::{
     adding, agreeing_around, denotation, exchanging, found_in_a_scope, identities, introduction,
-    own_facts, own_path, prefixes, reliance,
+    more_turns, own_facts, own_path, prefixes, reliance,
 };
 pub use lent_key::LentKey;
-pub use lookup::{Place, TURNS, View};
+pub use lookup::{Place, View};
 pub use name::{folded_name, shared_name};
 pub use names::Names;
 pub use naming::{Standpoint, resolve};

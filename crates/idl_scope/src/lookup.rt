@@ -1,14 +1,14 @@
 //! What a scope has under a name, over an environment and what a unit's earlier tokens add.
 
-ghost use Rattle.std.specs.Prelude.{◌≡◌, ◌≤◌, ◌++◌, ℕ, IfOk, OnOk, Some, map, option_to_list};
+ghost use Rattle.std.specs.Prelude.{◌≡◌, ◌<◌, ◌≤◌, ◌+◌, ◌++◌, ℕ, IfOk, OnOk, Some, length, map, option_to_list};
 ghost use Rattle.std.specs.Option.{option_copied};
 ghost use Rattle.idl_memo.specs.Query.{noted, run};
 ghost use Rattle.idl_scope.specs.Facts.{answer_of, answers, entity_in, entity_key, identity_at, over, prefix_in};
 ghost use Rattle.idl_scope.specs.Finds.{those};
 ghost use Rattle.idl_scope.specs.Key.{key_eq};
 ghost use Rattle.idl_scope.specs.Lookup.{bases_of, entered, has, outward, reached, under};
+ghost use Rattle.idl_scope.specs.Turns.{HasTurnsFor, declared_among, declared_named};
 ghost use Rattle.idl_scope.specs.declared.key.Key.TheVariants.{Declared, IdOf, Prefix as PrefixKey};
-ghost use Rattle.idl_scope.specs.declared.lookup.TheConstants.{TURNS};
 
 use crate::addition::Addition;
 use crate::answer::{Answer, entity_in, identity_at, prefix_in};
@@ -27,9 +27,6 @@ use crate::shared::Shared;
 use idl_lex::Spelling;
 use idl_memo::Journal;
 use std::alloc::AllocError;
-
-/// A walk over bases makes no more turns than these: memory holds no longer queue.
-pub const TURNS: usize = usize::MAX;
 
 /// An environment, and over it what a unit's earlier tokens add.
 #[derive(Clone, Copy)]
@@ -109,6 +106,15 @@ impl<'a> View<'a> {
         }
     }
 
+    /// No fewer than the entities that are declared in the environment and by the unit's earlier tokens.
+    pub fn most_declared(self) -> u128
+        ensures most { length (declared_named self.entry.env.now)
+            + length (declared_among self.entry.own.now.additions) ≤ result }
+        ensures bound { result < 36893488147419103232 }
+    {
+        self.env.most_declared() as u128 + self.own.len() as u128
+    }
+
     // What a scope itself declares a name as.
     #[inline(always)]
     fn own(
@@ -173,7 +179,7 @@ impl<'a> View<'a> {
         bases: &[Path],
     ) -> Result<Vec<&'a Shared<Entity>>, AllocError>
         ensures { IfOk result (λ es.
-            (turns : ℕ) → TURNS ≤ turns →
+            (turns : ℕ) → usize.MAX ≤ turns →
             (map (λ e. e.now) es.items, log.new)
             ≡ run key_eq
             (under self.entry.own.now.additions (reached turns name.now bases.now))
@@ -185,15 +191,14 @@ impl<'a> View<'a> {
         let mut queue = BaseQueue::new(self.env.alloc());
         queue.join(bases)?;
         let mut found = Vec::new(self.env.alloc());
-        'bases: for turn in 0..TURNS {
-            let Some(base) = queue.get(turn) else {
-                return Ok(found);
-            };
+        let mut turn = 0;
+        'bases: while let Some(base) = queue.get(turn) {
             let (declared, more) = self.enter(log, name, base)?;
             keep(&mut found, declared)?;
             queue.join(more)?;
+            turn += 1;
         }
-        Err(AllocError)
+        Ok(found)
     }
 
     /// What a scope has under a name.
@@ -204,7 +209,7 @@ impl<'a> View<'a> {
         name: &Spelling,
     ) -> Result<Vec<&'a Shared<Entity>>, AllocError>
         ensures { IfOk result (λ es.
-            (turns : ℕ) → TURNS ≤ turns →
+            (turns : ℕ) → HasTurnsFor self.entry.env.now self.entry.own.now.additions turns →
             (map (λ e. e.now) es.items, log.new)
             ≡ run key_eq
             (under self.entry.own.now.additions
@@ -223,7 +228,7 @@ impl<'a> View<'a> {
         name: &Spelling,
     ) -> Result<Vec<&'a Shared<Entity>>, AllocError>
         ensures { IfOk result (λ es.
-            (turns : ℕ) → TURNS ≤ turns →
+            (turns : ℕ) → HasTurnsFor self.entry.env.now self.entry.own.now.additions turns →
             (map (λ e. e.now) es.items, log.new)
             ≡ run key_eq
             (under self.entry.own.now.additions (outward turns scopes.now name.now))
@@ -241,7 +246,7 @@ impl<'a> View<'a> {
         name: &Spelling,
     ) -> Result<Finds<'a>, AllocError>
         ensures { IfOk result (λ found.
-            (turns : ℕ) → TURNS ≤ turns →
+            (turns : ℕ) → usize.MAX ≤ turns →
             (those found, log.new)
             ≡ run key_eq
             (under self.entry.own.now.additions
@@ -267,7 +272,7 @@ impl<'a> View<'a> {
         name: &Spelling,
     ) -> Result<Finds<'a>, AllocError>
         ensures { IfOk result (λ found.
-            (turns : ℕ) → TURNS ≤ turns →
+            (turns : ℕ) → usize.MAX ≤ turns →
             (those found, log.new)
             ≡ run key_eq
             (under self.entry.own.now.additions (outward turns scopes.now name.now))

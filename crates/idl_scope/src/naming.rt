@@ -7,8 +7,8 @@ ghost use Rattle.idl_scope.specs.Finds.{those};
 ghost use Rattle.idl_scope.specs.Key.{key_eq};
 ghost use Rattle.idl_scope.specs.Lookup.{denoted, further, has, judged, named, outer_reach, part_of, placed, reach, searched, outward, under, IfSettled};
 ghost use Rattle.idl_scope.specs.Meaning.{Denotes, Reaches, entity_found, seen};
+ghost use Rattle.idl_scope.specs.Turns.{HasTurnsFor};
 ghost use Rattle.idl_lex.specs.Keywords.{folded};
-ghost use Rattle.idl_scope.specs.declared.lookup.TheConstants.{TURNS};
 
 use crate::entity::Entity;
 use crate::env::Env;
@@ -38,8 +38,8 @@ pub struct Standpoint<'a> {
 /// What a scoped name denotes, and into which scopes its use introduces it. The keys asked are logged; after want of memory
 /// nothing is said of the log.
 ///
-/// The definition of a lookup bounds the turns of a walk over bases, and no bound from `TURNS` on, more than memory can queue,
-/// cuts a walk short: what is given and logged is the same under each.
+/// The definition of a lookup bounds the turns of a walk over bases: under each bound that the facts and the unit's earlier tokens
+/// need at most, the same is given and logged.
 pub fn resolve(
     env: &Env,
     log: &mut Journal<Env>,
@@ -53,7 +53,7 @@ pub fn resolve(
         Reaches (seen place.entry.own.now.additions env.now) place.entry.cursor.now name.now
         found.reach) }
     ensures asked { IfSettled result (λ r.
-        (turns : ℕ) → TURNS ≤ turns →
+        (turns : ℕ) → HasTurnsFor env.now place.entry.own.now.additions turns →
         (r, log.new)
         ≡ run key_eq
         (under place.entry.own.now.additions (denoted turns place.entry.cursor.now name.now))
@@ -75,7 +75,7 @@ impl<'a> View<'a> {
         name: &ScopedName,
     ) -> Result<Result<Found, NameFault>, AllocError>
         ensures { IfOk result (λ r.
-            (turns : ℕ) → TURNS ≤ turns →
+            (turns : ℕ) → usize.MAX ≤ turns →
             (r, log.new)
             ≡ run key_eq
             (under self.entry.own.now.additions (denoted turns cursor.now name.now))
@@ -103,7 +103,7 @@ impl<'a> View<'a> {
         name: &ScopedName,
     ) -> Result<Result<&'a Shared<Entity>, NameFault>, AllocError>
         ensures { IfOk result (λ r.
-            (turns : ℕ) → TURNS ≤ turns →
+            (turns : ℕ) → usize.MAX ≤ turns →
             (named r, log.new)
             ≡ run key_eq (under self.entry.own.now.additions
             (part_of 0 name.now.first
@@ -122,7 +122,7 @@ impl<'a> View<'a> {
         name: &ScopedName,
     ) -> Result<Finds<'a>, AllocError>
         ensures { IfOk result (λ found.
-            (turns : ℕ) → TURNS ≤ turns →
+            (turns : ℕ) → usize.MAX ≤ turns →
             (those found, log.new)
             ≡ run key_eq (under self.entry.own.now.additions
             (outward turns (searched name.now.is_global cursor.now) (folded name.now.first)))
@@ -149,7 +149,7 @@ impl<'a> View<'a> {
         name: &Spelling,
     ) -> Result<Result<&'a Shared<Entity>, NameFault>, AllocError>
         ensures { IfOk result (λ r.
-            (turns : ℕ) → TURNS ≤ turns →
+            (turns : ℕ) → usize.MAX ≤ turns →
             (named r, log.new)
             ≡ run key_eq (under self.entry.own.now.additions
             (part_of part name.now (has turns before.now.kind before.now.path (folded name.now))))
@@ -172,7 +172,7 @@ impl<'a> View<'a> {
         names: &[Spelling],
     ) -> Result<Result<&'a Shared<Entity>, NameFault>, AllocError>
         ensures { IfOk result (λ r.
-            (turns : ℕ) → TURNS ≤ turns →
+            (turns : ℕ) → usize.MAX ≤ turns →
             (named r, log.new)
             ≡ run key_eq
             (under self.entry.own.now.additions (further turns 0 first.now names.now))

@@ -2,14 +2,13 @@ use Rattle.std.proofs.Common.{◌≡◌, ◌≤◌, ◌-◌}
 use Rattle.idl_check.specs.Types.{behind_typedefs}
 use Rattle.idl_scope.proofs.RunLemmas.{runs}
 use Rattle.idl_scope.specs.Facts.{answers}
-use Rattle.idl_scope.specs.declared.lookup.TheConstants.{TURNS}
 use Rattle.idl_check.proofs.types.behind_typedefs.Given as goal
 
 -- what stands behind with the turns that are left, over the log so far, is what stands behind
 abbrev pub invariant-loop-turn : goal.invariant-loop-turn
 invariant-loop-turn l = record {
-  within : l._turn ≤ TURNS;
+  within : l._turn ≤ l.turns;
   run :
-      runs l.view.own.now.additions (answers l.view.env.now) (behind_typedefs (TURNS - l._turn) l.behind) l.log
-      ≡ runs l.view.own.now.additions (answers l.view.env.now) (behind_typedefs TURNS l.entity) l.fn.log;
+      runs l.view.own.now.additions (answers l.view.env.now) (behind_typedefs (l.turns - l._turn) l.entity l.behind) l.log
+      ≡ runs l.view.own.now.additions (answers l.view.env.now) (behind_typedefs l.turns l.entity l.entity) l.fn.log;
 }

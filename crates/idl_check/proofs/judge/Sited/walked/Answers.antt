@@ -1,10 +1,11 @@
-use Rattle.std.proofs.Common.{sym, ap, ◌∙◌, arith}
+use Rattle.std.proofs.Common.{◌≤◌, sym, ap, ◌∙◌, arith}
 use Rattle.std.proofs.lemmas.Result.{IfOk-weaker}
 use Rattle.idl_check.proofs.JudgeLemmas.{judged_faulty, judged_from, judged_sound}
 use Rattle.idl_check.proofs.VisitLemmas.{runs_over}
 use Rattle.idl_check.specs.Held.{held}
 use Rattle.idl_check.specs.Walk.{walk}
 use Rattle.idl_scope.specs.Facts.{answers}
+use Rattle.idl_scope.specs.Turns.{turns_for}
 use Rattle.idl_check.proofs.judge.Sited.walked.Goals as goal
 
 pub sound-requires : goal.sound-requires
@@ -22,7 +23,8 @@ returns-in-Some c =
     let after = c.walk.new.log in
     IfOk-weaker c.refused.result _ _
     (λ v given turns more.
-    let gives = c.in_ok-walk.ensures.walked turns more ∙ (λ i. runs_over (answers (c.requires.env i)) (walk turns (c.requires.sites i) from) log) in
+    let enough : turns_for c.args.walker.now.env.now ≤ turns = rw c.requires.env more in
+    let gives = c.in_ok-walk.ensures.walked turns enough ∙ (λ i. runs_over (answers (c.requires.env i)) (walk turns (c.requires.sites i) from) log) in
     given ∙ ap (λ q. runs_over bank q after) (sym (judged_faulty bank turns tokens scopes tree w c.in-Some.fault c.in-Some.is))
     ∙ sym (judged_from bank turns tokens scopes tree log from w after gives))
     c.refused.ensures
@@ -39,7 +41,8 @@ returns-in-None c =
     let after = c.walk.new.log in
     IfOk-weaker c.sound.result _ _
     (λ v given turns more.
-    let gives = c.in_ok-walk.ensures.walked turns more ∙ (λ i. runs_over (answers (c.requires.env i)) (walk turns (c.requires.sites i) from) log) in
+    let enough : turns_for c.args.walker.now.env.now ≤ turns = rw c.requires.env more in
+    let gives = c.in_ok-walk.ensures.walked turns enough ∙ (λ i. runs_over (answers (c.requires.env i)) (walk turns (c.requires.sites i) from) log) in
     given ∙ ap (λ q. runs_over bank q after) (sym (judged_sound bank turns tokens scopes tree w c.in-None.is))
     ∙ sym (judged_from bank turns tokens scopes tree log from w after gives))
     c.sound.ensures

@@ -1,5 +1,5 @@
 use Rattle.std.proofs.Common.{◌∷◌, [], Ok, Err, sym, ap, ◌∙◌, arith}
-use Rattle.idl_check.proofs.JudgeLemmas.{under-none}
+use Rattle.idl_check.proofs.JudgeLemmas.{turns-none, under-none}
 use Rattle.idl_check.proofs.PartLemmas.{part-within}
 use Rattle.idl_check.proofs.PragmaLemmas.{about-named, about-none, named-found, named-unfound, named_at}
 use Rattle.idl_check.proofs.VisitLemmas.{runs_over}
@@ -15,7 +15,7 @@ use Rattle.idl_scope.specs.Lookup.{denoted, under}
 use Rattle.idl_scope.specs.declared.entity.Entity.{Entity}
 use Rattle.idl_scope.specs.declared.fault.NameFault.TheVariants.{At}
 use Rattle.idl_scope.specs.declared.key.Key.TheVariants.{IdOf}
-use Rattle.idl_scope.specs.declared.lookup.TheConstants.{TURNS}
+use Rattle.idl_scope.specs.Turns.{turns_for}
 use Rattle.idl_unit.specs.TokenRules.{fault_at}
 use Rattle.idl_check.proofs.pragmas.Speaker.named.Goals as goal
 
@@ -27,7 +27,7 @@ returns-then-not-has_id c = λ turns more faults change.
     let log = c.args.log.now in
     let found = c.in-Ok.found in
     let after = c.resolve.new.log in
-    let gives = c.in-Ok.ensures.asked turns more
+    let gives = c.in-Ok.ensures.asked turns (turns-none c.args.self.env.now c.new-own.result turns c.new-own.ensures more)
     ∙ (λ i. runs_over bank (under (c.new-own.ensures i).additions (denoted turns scopes name)) log)
     ∙ (λ i. runs_over bank (under-none (denoted turns scopes name) i) log) in
     let none = ap (λ (e : Entity). has_id e.kind) (sym c.get-entity.ensures) ∙ ap has_id (sym c.kind.ensures) ∙ sym c.has_id.ensures ∙ c.if-not-has_id.true in
@@ -43,7 +43,7 @@ returns-in-Ok c = λ turns more faults change.
     let log = c.args.log.now in
     let found = c.in-Ok.found in
     let after = c.resolve.new.log in
-    let gives = c.in-Ok.ensures.asked turns more
+    let gives = c.in-Ok.ensures.asked turns (turns-none c.args.self.env.now c.new-own.result turns c.new-own.ensures more)
     ∙ (λ i. runs_over bank (under (c.new-own.ensures i).additions (denoted turns scopes name)) log)
     ∙ (λ i. runs_over bank (under-none (denoted turns scopes name) i) log) in
     let lent = c.path.ensures ∙ ap (λ (e : Entity). e.path) c.get-entity.ensures in
@@ -60,8 +60,8 @@ pub part_at-requires : goal.part_at-requires
 part_at-requires c =
     let asked = rw c.in-Err-At.field-0-is at c.in-Err-At.ensures.asked in
     let within =
-    part-within c.new-own.result.additions (answers c.args.self.env.now) TURNS c.args.self.scopes.now c.args.name.now c.args.log.now c.resolve.new.log c.in-Err-At.code c.in-Err-At.part
-    (asked TURNS (omega arith)) in
+    part-within c.new-own.result.additions (answers c.args.self.env.now) (turns_for c.args.self.env.now) c.args.self.scopes.now c.args.name.now c.args.log.now c.resolve.new.log c.in-Err-At.code c.in-Err-At.part
+    (asked (turns_for c.args.self.env.now) (turns-none c.args.self.env.now c.new-own.result (turns_for c.args.self.env.now) c.new-own.ensures (omega arith))) in
     omega (arith, within, c.requires, c.in-Err-At.part-is)
 
 pub returns : goal.returns
@@ -72,7 +72,7 @@ returns c = λ turns more faults change.
     let log = c.args.log.now in
     let after = c.resolve.new.log in
     let asked = rw c.in-Err-At.field-0-is at c.in-Err-At.ensures.asked in
-    let gives = asked turns more
+    let gives = asked turns (turns-none c.args.self.env.now c.new-own.result turns c.new-own.ensures more)
     ∙ (λ i. runs_over bank (under (c.new-own.ensures i).additions (denoted turns scopes name)) log)
     ∙ (λ i. runs_over bank (under-none (denoted turns scopes name) i) log) in
     (λ i. (said_of faults change (Err (fault_at (c.part_at.ensures i) (c.name_code.ensures i))), after))

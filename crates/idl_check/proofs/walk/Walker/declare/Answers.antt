@@ -1,9 +1,9 @@
 use Rattle.std.proofs.Common.{◌≡◌, Some, sym, ap, ◌∙◌}
-use Rattle.idl_check.proofs.VisitLemmas.{declared_in, first-at, runs_over}
+use Rattle.idl_check.proofs.VisitLemmas.{declared_in, first-at, runs_over, turns-here}
 use Rattle.idl_check.specs.Codes.{codes_in}
 use Rattle.idl_check.specs.Declaring.{declared_table, standing}
 use Rattle.idl_check.specs.Held.{held}
-use Rattle.idl_check.specs.Walk.{declared_visit, noted_in}
+use Rattle.idl_check.specs.Walk.{declared_visit, noted_in, turns_at}
 use Rattle.idl_scope.specs.Facts.{answers}
 use Rattle.idl_scope.specs.Lookup.{under}
 use Rattle.idl_scope.specs.Path.{scope_of}
@@ -27,8 +27,8 @@ returns-clause-visited c = λ turns more.
     let new = c.get.ensures ∙ entity in
     let innermost : first w.cursor ≡ Some s = first-at w.cursor ∙ sym c.in-Some.ensures.value in
     let code = c.declared_code-code.ensures ∙ (λ i. first (codes_in (declared_table s there (c.get-2.ensures i)))) in
-    let gives = c.in_ok-standing.ensures turns more
-    ∙ (λ i. runs_over bank (under w.own (standing turns s (new i))) log) in
+    let gives = c.in_ok-standing.ensures (turns_at turns w) (turns-here c.args.self.now.env.now w.own turns more)
+    ∙ (λ i. runs_over bank (under w.own (standing (turns_at turns w) s (new i))) log) in
     (λ i. (c.in_ok-declare_as.ensures.visit s code i, after))
     ∙ (λ i. (noted_in (declared_visit w way s (entity i) there) w.fault, after))
     ∙ sym (declared_in bank turns way name w log s there after innermost gives)

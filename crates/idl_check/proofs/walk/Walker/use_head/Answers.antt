@@ -1,9 +1,9 @@
 use Rattle.std.proofs.Common.{◌+◌, ◌∷◌, [], false, Ok, sym, ap, ◌∙◌}
 use Rattle.idl_check.proofs.NotedLemmas.{head-other, head-scope}
-use Rattle.idl_check.proofs.VisitLemmas.{head_by, runs_over}
+use Rattle.idl_check.proofs.VisitLemmas.{head_by, runs_over, turns-here}
 use Rattle.idl_check.specs.Held.{held}
 use Rattle.idl_check.specs.Using.{last_at, name_code}
-use Rattle.idl_check.specs.Walk.{noted}
+use Rattle.idl_check.specs.Walk.{noted, turns_at}
 use Rattle.idl_event.specs.declared.code.Code.TheVariants.{NoScope}
 use Rattle.idl_scope.specs.Facts.{answers}
 use Rattle.idl_scope.specs.Lookup.{denoted, is_scope, under}
@@ -19,8 +19,8 @@ returns-then-is_scope-clause-run c = λ turns more.
     let log = c.args.log.now in
     let found = c.in-Ok.found in
     let after = c.resolve.new.log in
-    let gives = c.in-Ok.ensures.asked turns more
-    ∙ (λ i. runs_over bank (under w.own (denoted turns (c.scopes.ensures.value i) (record {
+    let gives = c.in-Ok.ensures.asked (turns_at turns w) (turns-here c.args.self.now.env.now w.own turns more)
+    ∙ (λ i. runs_over bank (under w.own (denoted (turns_at turns w) (c.scopes.ensures.value i) (record {
       is_global = sym c.requires.local i;
       first = c.in_ok-clone.ensures.cases i;
       rest = c.new.ensures i;
@@ -38,8 +38,8 @@ returns-in-Ok-clause-run c = λ turns more.
     let log = c.args.log.now in
     let found = c.in-Ok.found in
     let after = c.resolve.new.log in
-    let gives = c.in-Ok.ensures.asked turns more
-    ∙ (λ i. runs_over bank (under w.own (denoted turns (c.scopes.ensures.value i) (record {
+    let gives = c.in-Ok.ensures.asked (turns_at turns w) (turns-here c.args.self.now.env.now w.own turns more)
+    ∙ (λ i. runs_over bank (under w.own (denoted (turns_at turns w) (c.scopes.ensures.value i) (record {
       is_global = sym c.requires.local i;
       first = c.in_ok-clone.ensures.cases i;
       rest = c.new.ensures i;
@@ -58,8 +58,8 @@ returns-clause-run c = λ turns more.
     let log = c.args.log.now in
     let after = c.resolve.new.log in
     let asked = rw c.in-Err-At.field-0-is at c.in-Err-At.ensures.asked in
-    let gives = asked turns more
-    ∙ (λ i. runs_over bank (under w.own (denoted turns (c.scopes.ensures.value i) (record {
+    let gives = asked (turns_at turns w) (turns-here c.args.self.now.env.now w.own turns more)
+    ∙ (λ i. runs_over bank (under w.own (denoted (turns_at turns w) (c.scopes.ensures.value i) (record {
       is_global = sym c.requires.local i;
       first = c.in_ok-clone.ensures.cases i;
       rest = c.new.ensures i;

@@ -1,10 +1,11 @@
-use Rattle.std.proofs.Common.{◌+◌, drop, map, sym, ap, ◌∙◌, arith}
+use Rattle.std.proofs.Common.{◌≤◌, ◌+◌, drop, map, sym, ap, ◌∙◌, arith}
 use Rattle.std.proofs.lemmas.List.{drop_all}
 use Rattle.idl_check.proofs.VisitLemmas.{runs_over, walk_end, walk_on, walk_over}
 use Rattle.idl_check.specs.Held.{held, visited}
 use Rattle.idl_check.specs.Walk.{walk}
 use Rattle.idl_scope.proofs.PlaceLemmas.{from_here}
 use Rattle.idl_scope.specs.Facts.{answers}
+use Rattle.idl_scope.specs.Turns.{turns_for}
 use Rattle.idl_site.specs.Item.{item_at, items_length}
 use Rattle.idl_check.proofs.walk.Walker.walk.Goals as goal
 
@@ -27,7 +28,8 @@ loop-site-preserved c =
     let counted = ap items_length here in
     record {
       rest = λ turns more.
-          let gives = c.in_ok-visit.ensures.visited turns more ∙ ap (λ env. runs_over (answers env) (visited turns site w) log) c.loop-site.invariant.env in
+          let enough : turns_for c.loop-site.self.env.now ≤ turns = rw c.loop-site.invariant.env more in
+          let gives = c.in_ok-visit.ensures.visited turns enough ∙ ap (λ env. runs_over (answers env) (visited turns site w) log) c.loop-site.invariant.env in
           sym (walk_on bank turns site rest w log (held c.visit.new.self) c.visit.new.log (sym c.is_over.ensures ∙ c.if-is_over.false) gives)
           ∙ ap (λ sites. runs_over bank (walk turns sites w) log) (sym here) ∙ c.loop-site.invariant.rest turns more;
       env = c.in_ok-visit.ensures.env ∙ c.loop-site.invariant.env;

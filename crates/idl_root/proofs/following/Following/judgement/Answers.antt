@@ -13,5 +13,5 @@ returns-clause-judged c = λ facts b.
     let asked = c.as_slice.ensures.value ∙ ap (λ (j : Judgement). j.asked.items) c.deref.ensures in
     let apart : ShareNone c.in_ok-judgement.judgement.now.value.asked.items c.args.self.now.changed =
     subst (λ l. ShareNone l c.args.self.now.changed) asked (c.shares_none.ensures yes) in
-    judged-again c.reliance.ensures.outside c.reliance-2.ensures.outcome c.reliance-2.ensures.asked c.args.self.now.is_around c.args.self.now.changed b.before facts c.args.text.now c.in_ok-judgement.judgement.now.value
+    judged-again c.reliance.ensures.outside c.agreement.ensures.outcome c.agreement.ensures.asked c.logging.ensures.log c.more_turns.ensures c.args.self.now.is_around c.args.self.now.changed b.before facts c.args.text.now c.in_ok-judgement.judgement.now.value
     units.0 b.but apart
