@@ -10,6 +10,15 @@ mod RowLemmas
 mod StandingLemmas
 mod TypeLemmas
 mod VisitLemmas
+pub mod Bracketing
+pub mod UnitBracketing
+pub mod VisitFaults
+pub mod AlikeLemmas
+pub mod ExpressionFaults
+pub mod WholeLaws
+pub mod OnewayLaws
+pub mod SectionLaws
+pub mod LeastLaws
 pub mod FaultOrder
 pub mod ApartLaws
 pub mod SiteLaws
