@@ -39,6 +39,7 @@ use Rattle.idl_tree.specs.declared.construction.MemberType.{MemberType, roll-Mem
 use Rattle.idl_tree.specs.declared.construction.MemberType.TheVariants.{rolls-Construction, rolls-Type}
 use Rattle.idl_tree.specs.declared.construction.Structure.{Structure, roll-Structure}
 use Rattle.idl_tree.specs.declared.construction.Union.{Union, roll-Union}
+use Rattle.idl_tree.specs.declared.data_type.BasicType.TheVariants.{Discrete}
 use Rattle.idl_tree.specs.declared.data_type.DataType.{DataType, fold-DataType, ind-DataType, map-DataType, roll-DataType}
 use Rattle.idl_tree.specs.declared.data_type.DataType.TheFolds.{fold-roll-DataType, fold-roll-Sequence}
 use Rattle.idl_tree.specs.declared.data_type.DataType.TheOpen.{DataType-F}
@@ -57,26 +58,33 @@ use Rattle.idl_tree.specs.declared.unit.ConstantType.TheVariants as constant
 -- ---- parts, one after another
 
 -- parts whose sites are bracketed
-abbrev pub Brackets : Parts → Type 0
-Brackets p = AreBracketed (items p)
+pub record Brackets (p : Parts) : Type 0 where
+  pub is : AreBracketed (items p)
 
 pub none : Brackets []
-none = record { sections = []; formed = All-nil IsFormed; are = refl }
+none = record { is = record { sections = []; formed = All-nil IsFormed; are = refl } }
 
 pub follow : (p q : Parts) → Brackets p → Brackets q → Brackets (p ++ q)
-follow p q b c = record {
-  sections = b.sections ++ c.sections;
-  formed = All-append IsFormed b.sections c.sections b.formed c.formed;
-  are =
-      map-append item_of p q ∙ ap (λ (xs : List Item). xs ++ items q) b.are ∙ ap (λ (xs : List Item). flat_map section_sites b.sections ++ xs) c.are
-      ∙ sym (flat_map-append section_sites b.sections c.sections);
-}
+follow p q a b =
+    let s = a.is.sections in
+    let t = b.is.sections in
+    record {
+      is = record {
+        sections = s ++ t;
+        formed = All-append IsFormed s t a.is.formed b.is.formed;
+        are =
+            map-append item_of p q ∙ ap (λ (xs : List Item). xs ++ items q) a.is.are ∙ ap (λ (xs : List Item). flat_map section_sites s ++ xs) b.is.are
+            ∙ sym (flat_map-append section_sites s t);
+      };
+    }
 
 pub before : (x : Part) (p : Parts) → is_single (item_of x) ≡ true → Brackets p → Brackets (x ∷ p)
 before x p h b = record {
-  sections = Single (item_of x) ∷ b.sections;
-  formed = All-cons IsFormed (Single (item_of x)) b.sections h b.formed;
-  are = ap (λ (xs : List Item). item_of x ∷ xs) b.are;
+  is = record {
+    sections = Single (item_of x) ∷ b.is.sections;
+    formed = All-cons IsFormed (Single (item_of x)) b.is.sections h b.is.formed;
+    are = ap (λ (xs : List Item). item_of x ∷ xs) b.is.are;
+  };
 }
 
 pub one : (x : Part) → is_single (item_of x) ≡ true → Brackets (x ∷ [])
@@ -87,16 +95,20 @@ ends p x h b = follow p (x ∷ []) b (one x h)
 
 pub back : (x : Part) (p : Parts) → is_tokens (item_of x) ≡ true → Brackets p → Brackets (GivesBack ∷ x ∷ p)
 back x p h b = record {
-  sections = Returned (item_of x) ∷ b.sections;
-  formed = All-cons IsFormed (Returned (item_of x)) b.sections h b.formed;
-  are = ap (λ (xs : List Item). item_of GivesBack ∷ item_of x ∷ xs) b.are;
+  is = record {
+    sections = Returned (item_of x) ∷ b.is.sections;
+    formed = All-cons IsFormed (Returned (item_of x)) b.is.sections h b.is.formed;
+    are = ap (λ (xs : List Item). item_of GivesBack ∷ item_of x ∷ xs) b.is.are;
+  };
 }
 
 pub expression : (way : Purpose) (e : Expression) → Brackets (value_parts way e)
 expression way e = record {
-  sections = Whole way e ∷ [];
-  formed = All-cons IsFormed (Whole way e) [] tt (All-nil IsFormed);
-  are = sym (append-nil (items (value_parts way e)));
+  is = record {
+    sections = Whole way e ∷ [];
+    formed = All-cons IsFormed (Whole way e) [] tt (All-nil IsFormed);
+    are = sym (append-nil (items (value_parts way e)));
+  };
 }
 
 pub each : {X : Type 0} (f : X → Parts) → ((x : X) → Brackets (f x)) → (xs : List X) → Brackets (flat_map f xs)
@@ -223,7 +235,7 @@ pub a_type : (t : DataType) → Brackets (type_parts t)
 a_type t = started (type_parts t) (type_starts t AsType)
 
 pub constant_type : (t : ConstantType) → Brackets (constant_type_parts t)
-constant_type (constant.Discrete d) = before (Plain (spell_discrete d)) _ refl (one _ refl)
+constant_type (constant.Discrete d) = before (Plain (spell_discrete d)) (TypeEnds (Basic (Discrete d)) ∷ []) refl (one (TypeEnds (Basic (Discrete d))) refl)
 constant_type (constant.String s) = started (string_parts s) (string s)
 constant_type (constant.Name n) = one (Uses AsConstantType n) refl
 

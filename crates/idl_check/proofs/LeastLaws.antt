@@ -74,7 +74,7 @@ module _ (turns : ℕ) (answers : Key → Option Answer) where
   sites-tell : (tokens : List Token) (tree : Tree) → lexemes tokens ≡ spell tree → length tokens < 2 ^ 64 → (scopes : List Scope)
       → AreAlike (visit_faults turns answers (items (unit_parts tree)) (first_walk scopes)) (site_faults turns answers (items (unit_parts tree)) (first_walk scopes))
   sites-tell tokens tree spelled fits scopes =
-      let b = unit-bracketed tree in
+      let b = (unit-bracketed tree).is in
       let w = first_walk scopes in
       let count : items_length (items (unit_parts tree)) ≡ length tokens = counted (unit_parts tree) ∙ ap length (unit_spells tree) ∙ sym (ap length spelled) ∙ length-map tokens lexeme_of in
       let same : items_length (flat_map section_sites b.sections) ≡ items_length (items (unit_parts tree)) = ap items_length (sym b.are) in
@@ -88,18 +88,21 @@ module _ (turns : ℕ) (answers : Key → Option Answer) where
       ap (λ fs. fs ++ site_faults turns answers (items (unit_parts tree)) (first_walk scopes)) parts.0
       ∙ none-whole turns answers (items (unit_parts tree)) (first_walk scopes) parts.1
 
-  further-least : (tokens : List Token) → length tokens < 2 ^ 64 → (scopes : List Scope) (o : Option Tree) → tree_of tokens ≡ o
-      → least_fault (elim o [ None ↦ fault_at 0 NoTree ∷ [] | Some tree ↦ visit_name_faults turns answers scopes tree ])
-      ≡ least_fault (elim o [ None ↦ fault_at 0 NoTree ∷ [] | Some tree ↦ name_faults turns answers scopes tree ])
+  -- by the tree
+  abbrev told_by : List Scope → Option Tree → List Fault
+  told_by scopes o = elim o [ None ↦ fault_at 0 NoTree ∷ [] | Some tree ↦ visit_name_faults turns answers scopes tree ]
+
+  abbrev all_by : List Scope → Option Tree → List Fault
+  all_by scopes o = elim o [ None ↦ fault_at 0 NoTree ∷ [] | Some tree ↦ name_faults turns answers scopes tree ]
+
+  further-least : (tokens : List Token) → length tokens < 2 ^ 64 → (scopes : List Scope) (o : Option Tree) → tree_of tokens ≡ o → least_fault (told_by scopes o) ≡ least_fault (all_by scopes o)
   further-least tokens fits scopes None h = refl
   further-least tokens fits scopes (Some tree) h =
       let m = cond (is_misplaced tree scopes) (fault_at 0 MisplacedUnit ∷ []) [] in
       alike-append m m (visit_faults turns answers (items (unit_parts tree)) (first_walk scopes)) (site_faults turns answers (items (unit_parts tree)) (first_walk scopes))
       (λ o. refl) (sites-tell tokens tree (tree-spelled tokens tree h) fits scopes) None
 
-  further-none : (scopes : List Scope) (o : Option Tree)
-      → elim o [ None ↦ fault_at 0 NoTree ∷ [] | Some tree ↦ visit_name_faults turns answers scopes tree ] ≡ []
-      → elim o [ None ↦ fault_at 0 NoTree ∷ [] | Some tree ↦ name_faults turns answers scopes tree ] ≡ []
+  further-none : (scopes : List Scope) (o : Option Tree) → told_by scopes o ≡ [] → all_by scopes o ≡ []
   further-none scopes None h = cc
   further-none scopes (Some tree) h = names-none scopes tree h
 

@@ -56,13 +56,17 @@ found_as-from from name cursor first (Ok e) h = tt
 found_as-from from name cursor first (Err Memory) h = h
 found_as-from from name cursor first (Err (At code part)) h = h
 
+-- how many tokens stand before the first part of a name
+abbrev leading : Bool → ℕ
+leading b = cond b 1 0
+
 -- where a part of a name stands that begins with no `::`
 part-zero : (name : ScopedName) (at part : ℕ) → name.is_global ≡ false → part ≤ 0 → part_at at name part ≡ at
-part-zero name at part local le = let h : cond name.is_global 1 0 ≡ 0 = ap (λ b. cond b 1 0) local in omega (arith, h, le)
+part-zero name at part local le = let h : leading name.is_global ≡ 0 = ap leading local in omega (arith, h, le)
 
 -- and one that does, or a later part
 part-global : (name : ScopedName) (at part : ℕ) → name.is_global ≡ true → at < part_at at name part
-part-global name at part is_global = let h : cond name.is_global 1 0 ≡ 1 = ap (λ b. cond b 1 0) is_global in omega (arith, h)
+part-global name at part is_global = let h : leading name.is_global ≡ 1 = ap leading is_global in omega (arith, h)
 
 part-later : (name : ScopedName) (at part : ℕ) → 1 ≤ part → at < part_at at name part
 part-later name at part le = omega (arith, le)
@@ -163,9 +167,9 @@ module _ (turns : ℕ) (answers : Key → Option Answer) (way : Use) (name : Sco
 
   parts-alike : (part : List ℕ) (parts : List (List ℕ)) → name.is_global ≡ false → name.rest ≡ part ∷ parts → (p : Result Entity NameFault) → IsUpTo 0 p
       → AreAlike (head_faults w.at (outcome (from_first turns bank w.cursor (head_of name) p) bank) ++ given_fault ∷ []) (faults_of (outcome (from_first turns bank w.cursor name p) bank) ++ given_fault ∷ [])
-  parts-alike part parts local rest (Ok e) up = scoped-alike e part parts local rest (is_scope e.kind) refl
+  parts-alike part parts local rest (Ok e) up o = scoped-alike e part parts local rest (is_scope e.kind) refl o
   parts-alike part parts local rest (Err (At code n)) up o = ap (λ m. noted o (fault_at m (name_code code) ∷ given_fault ∷ [])) (sym (part-zero name w.at n local up))
-  parts-alike part parts local rest (Err Memory) up = absurd up
+  parts-alike part parts local rest (Err Memory) up o = absurd up
 
   -- the whole name
   abbrev named : Visit
@@ -178,9 +182,9 @@ module _ (turns : ℕ) (answers : Key → Option Answer) (way : Use) (name : Sco
   -- what counts stands at its first token
   pub given-alike : (is_global : Bool) (parts : List (List ℕ)) → name.is_global ≡ is_global → name.rest ≡ parts
       → AreAlike (outcome (given_by turns answers way name w is_global parts) answers).faults (named.faults ++ given_fault ∷ [])
-  given-alike true parts leading rest o =
+  given-alike true parts global rest o =
       let r = outcome (under w.own (denoted turns w.cursor name)) answers in
-      let later = faults-later 0 (λ p le. part-global name w.at p leading) (omega arith) r (from-first (length name.rest) r (denoted-up turns answers name w)) in
+      let later = faults-later 0 (λ p le. part-global name w.at p global) (omega arith) r (from-first (length name.rest) r (denoted-up turns answers name w)) in
       sym (alike-earlier given_fault named.faults (subst (λ (v : Visit). IsLater w.at v.faults) (sym named-is) later) o)
   given-alike false [] local rest o = ap (λ (v : Visit). noted o v.faults) (outcome-and_then (used turns way name w) (λ v. Done (with_oneway w.at v)) answers)
   given-alike false (part ∷ parts) local rest o =
