@@ -1,6 +1,5 @@
 -- What comes of a site does not hang on the fault so far.
 use Rattle.std.proofs.Common.{◌≡◌, ◌∙◌, ℕ, Bool, true, false, List, [], ◌∷◌, ◌++◌, Option, Some, None, Result, Ok, Err, refl, sym, ap}
-use Rattle.idl_check.specs.AllFaults.{site_faults}
 use Rattle.idl_check.specs.Declaring.{entity_of, standing}
 use Rattle.idl_check.specs.Types.{looked_through}
 use Rattle.idl_check.specs.Walk.{turns_at, Visit, Walk, declared_visit, given_back, head_of, head_visit, outcome_at, unfound_visit, used, used_visit, value_visit, visit, with_oneway}
@@ -26,6 +25,7 @@ use Rattle.idl_unit.specs.declared.fault.Fault.{Fault}
 use Rattle.idl_value.specs.declared.outcome.Outcome.{Outcome}
 use Rattle.idl_value.specs.declared.outcome.Outcome.TheVariants as comes
 use Rattle.idl_check.proofs.SiteLaws.{declared_by, end_visit, given_by, named_by, union_visit, used_by, visited}
+use Rattle.idl_check.proofs.VisitFaults.{visit_faults}
 
 -- ---- the same walk but for the fault
 
@@ -113,8 +113,8 @@ module _ (turns : ℕ) (answers : Key → Option Answer) where
   visit-apart f item.Default w = refl
   visit-apart f item.GivesBack w = refl
 
-  pub faults-apart : (f : Option Fault) (sites : List Item) (w : Walk) → site_faults turns answers sites (with_fault f w) ≡ site_faults turns answers sites w
+  pub faults-apart : (f : Option Fault) (sites : List Item) (w : Walk) → visit_faults turns answers sites (with_fault f w) ≡ visit_faults turns answers sites w
   faults-apart f [] w = refl
   faults-apart f (site ∷ sites) w =
-      ap (λ (v : Visit). v.faults ++ site_faults turns answers sites v.after) (visit-apart f site w)
+      ap (λ (v : Visit). v.faults ++ visit_faults turns answers sites v.after) (visit-apart f site w)
       ∙ ap (λ fs. (visited turns answers site w).faults ++ fs) (faults-apart f sites (visited turns answers site w).after)

@@ -22,7 +22,7 @@ after-trans f g h (inr a) (inr b) = inr (a.0 ∙ b.0, omega (arith, a.1, b.1))
 abbrev pub is_lesser : Fault → Fault → Bool
 is_lesser f g = nat_lt g.index f.index || (nat_eq g.index f.index && nat_lt (number_of g.code) (number_of f.code))
 
-lesser-yes : (f g : Fault) → (nat_lt g.index f.index ≡ true) ⊎ ((nat_eq g.index f.index && nat_lt (number_of g.code) (number_of f.code)) ≡ true) → IsNotAfter g f
+pub lesser-yes : (f g : Fault) → (nat_lt g.index f.index ≡ true) ⊎ ((nat_eq g.index f.index && nat_lt (number_of g.code) (number_of f.code)) ≡ true) → IsNotAfter g f
 lesser-yes f g (inl h) = inl (ltb-true g.index f.index h)
 lesser-yes f g (inr h) =
     let both = and_parts (nat_eq g.index f.index) (nat_lt (number_of g.code) (number_of f.code)) h in

@@ -1,24 +1,33 @@
+pub mod AlikeLemmas
 pub mod ApartLaws
 mod BaseLemmas
+pub mod Bracketing
+pub mod ExpressionFaults
 pub mod FaultOrder
 mod IdLemmas
 mod JudgeLemmas
 pub mod LeastFault
+pub mod LeastLaws
 mod MoreTurns
 mod NameLemmas
 mod NotedLemmas
 pub mod NumberLaws
+pub mod OnewayLaws
 mod PartLemmas
 pub mod PragmaLaws
 mod PragmaLemmas
 mod PragmaTokens
 mod RowLaws
 mod RowLemmas
+pub mod SectionLaws
 pub mod SiteLaws
 mod StandingLemmas
 pub mod StepLaws
 pub mod TableLaws
 mod TypeLemmas
+pub mod UnitBracketing
 pub mod VerdictLaws
+pub mod VisitFaults
 mod VisitLemmas
 pub mod WalkLaws
+pub mod WholeLaws

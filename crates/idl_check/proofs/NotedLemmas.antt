@@ -43,7 +43,7 @@ leads-through e f g h =
     cond_both (is_lesser e f) f e (λ x. Leads x g) (λ yes. h) (λ no. leads-from e g (after-trans e f g (lesser-no e f no) (after-from f g h)))
 
 -- of faults of which none is less than the first, that one counts
-noted-led : (o : Option Fault) (fs : List Fault) → IsLed fs → noted o fs ≡ noted o (option_to_list (first fs))
+pub noted-led : (o : Option Fault) (fs : List Fault) → IsLed fs → noted o fs ≡ noted o (option_to_list (first fs))
 noted-led o [] led = refl
 noted-led None (f ∷ fs) led = ap Some (fold-led f fs led)
 noted-led (Some e) (f ∷ fs) led =

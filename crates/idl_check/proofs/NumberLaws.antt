@@ -3,7 +3,7 @@ use Rattle.std.proofs.Common.{◌≡◌, ◌∙◌, ◌+◌, ◌<◌, ◌≤◌,
 use Rattle.std.proofs.lemmas.List.{length-map}
 use Rattle.std.proofs.lemmas.List.Elements.{All-append, All-cons, All-nil, All-weaker}
 use Rattle.std.specs.Prelude.{◌≢◌, All, nat_le}
-use Rattle.idl_check.specs.AllFaults.{further_faults, name_faults, or_else, site_faults, unit_faults}
+use Rattle.idl_check.specs.AllFaults.{or_else}
 use Rattle.idl_check.specs.Codes.{codes_in, faults_by}
 use Rattle.idl_check.specs.Placing.{brace_by, brace_from, depth, is_misplaced, opening_brace, opening_faults}
 use Rattle.idl_check.specs.Verdict.{first_faults, tree_of, verdict}
@@ -42,6 +42,7 @@ use Rattle.idl_check.proofs.FaultOrder.{all-at, least-in}
 use Rattle.idl_check.proofs.SiteLaws.{EndsInTokens, faults-till}
 use Rattle.idl_check.proofs.TableLaws.{all-if}
 use Rattle.idl_check.proofs.VerdictLaws.{least-tokens, tree-spelled}
+use Rattle.idl_check.proofs.VisitFaults.{visit_faults, visit_further_faults, visit_name_faults, visit_unit_faults}
 
 -- ---- a unit ends in a token
 
@@ -114,29 +115,29 @@ module _ (turns : ℕ) (answers : Key → Option Answer) (tokens : List Token) (
   first-inside scopes = All-append Inside (token_faults tokens) (opening_faults tokens scopes) rules-inside (opening-by scopes (opening_brace tokens) (brace-within (rule_of tokens) tokens))
 
   -- those of the sites: the sites have as many tokens as the unit
-  sites-inside : (scopes : List Scope) (tree : Tree) → lexemes tokens ≡ spell tree → All Inside (site_faults turns answers (items (unit_parts tree)) (first_walk scopes))
+  sites-inside : (scopes : List Scope) (tree : Tree) → lexemes tokens ≡ spell tree → All Inside (visit_faults turns answers (items (unit_parts tree)) (first_walk scopes))
   sites-inside scopes tree spelled =
       let count : items_length (items (unit_parts tree)) ≡ length tokens = counted (unit_parts tree) ∙ ap length (unit_spells tree) ∙ sym (ap length spelled) ∙ length-map tokens lexeme_of in
       All-weaker (λ f. f.index < 0 + items_length (items (unit_parts tree))) Inside (λ f h. omega (arith, h, count))
-      (site_faults turns answers (items (unit_parts tree)) (first_walk scopes)) (faults-till turns answers (items (unit_parts tree)) (first_walk scopes) (unit-ends tree))
+      (visit_faults turns answers (items (unit_parts tree)) (first_walk scopes)) (faults-till turns answers (items (unit_parts tree)) (first_walk scopes) (unit-ends tree))
 
-  further-by : (scopes : List Scope) (o : Option Tree) → tree_of tokens ≡ o → All Inside (elim o [ None ↦ fault_at 0 NoTree ∷ [] | Some tree ↦ name_faults turns answers scopes tree ])
+  further-by : (scopes : List Scope) (o : Option Tree) → tree_of tokens ≡ o → All Inside (elim o [ None ↦ fault_at 0 NoTree ∷ [] | Some tree ↦ visit_name_faults turns answers scopes tree ])
   further-by scopes None h = All-cons Inside (fault_at 0 NoTree) [] some (All-nil Inside)
   further-by scopes (Some tree) h =
-      All-append Inside (cond (is_misplaced tree scopes) (fault_at 0 MisplacedUnit ∷ []) []) (site_faults turns answers (items (unit_parts tree)) (first_walk scopes))
+      All-append Inside (cond (is_misplaced tree scopes) (fault_at 0 MisplacedUnit ∷ []) []) (visit_faults turns answers (items (unit_parts tree)) (first_walk scopes))
       (all-if Inside (is_misplaced tree scopes) (fault_at 0 MisplacedUnit) [] some (All-nil Inside)) (sites-inside scopes tree (tree-spelled tokens tree h))
 
   else-inside : (fs more : List Fault) → All Inside fs → All Inside more → All Inside (or_else turns answers fs more)
   else-inside [] more here there = there
   else-inside (f ∷ fs) more here there = here
 
-  unit-inside : All Inside (unit_faults turns answers (unit.Tokens tokens))
+  unit-inside : All Inside (visit_unit_faults turns answers (unit.Tokens tokens))
   unit-inside =
       let scopes = scopes_in (answers Cursor) in
-      else-inside (first_faults tokens scopes) (further_faults turns answers tokens scopes) (first-inside scopes) (further-by scopes (tree_of tokens) refl)
+      else-inside (first_faults tokens scopes) (visit_further_faults turns answers tokens scopes) (first-inside scopes) (further-by scopes (tree_of tokens) refl)
 
   told-inside : (f : Fault) → (outcome (verdict turns (unit.Tokens tokens)) answers).fault ≡ Some f → f.index < length tokens
-  told-inside f h = least-in Inside (unit_faults turns answers (unit.Tokens tokens)) f unit-inside (sym (least-tokens turns answers tokens) ∙ h)
+  told-inside f h = least-in Inside (visit_unit_faults turns answers (unit.Tokens tokens)) f unit-inside (sym (least-tokens turns answers tokens) ∙ h)
 
 not-empty : (tokens : List Token) → tokens ≢ [] → 0 < length tokens
 not-empty [] some = absurd (some refl)

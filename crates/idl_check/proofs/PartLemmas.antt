@@ -31,7 +31,7 @@ placed-IsUpTo part last (Ok e) h = tt
 placed-IsUpTo part last (Err code) h = h
 
 module _ (turns : ℕ) (bank : Key → Option Answer) where
-  part_of-IsUpTo : (part last : ℕ) (name : List ℕ) (there : Lookup (List Entity)) → part ≤ last → IsUpTo last (outcome (part_of part name there) bank)
+  pub part_of-IsUpTo : (part last : ℕ) (name : List ℕ) (there : Lookup (List Entity)) → part ≤ last → IsUpTo last (outcome (part_of part name there) bank)
   part_of-IsUpTo part last name there h =
       rw (outcome-and_then there (λ found. Done (placed part (judged name found))) bank)
       (placed-IsUpTo part last (judged name (outcome there bank)) h)

@@ -2,7 +2,7 @@
 use Rattle.std.proofs.Common.{◌≡◌, ◌∙◌, ℕ, suc, ◌+◌, ◌<◌, Bool, true, false, cond, List, [], ◌∷◌, ◌++◌, length, Option, None, Some, Result, Ok, Err, is_some, refl, sym, ap, subst, arith}
 use Rattle.std.proofs.lemmas.List.Elements.{All-append, All-cons, All-nil}
 use Rattle.std.specs.Prelude.{◌≢◌, All, fold, not}
-use Rattle.idl_check.specs.AllFaults.{or_else, unit_faults}
+use Rattle.idl_check.specs.AllFaults.{or_else}
 use Rattle.idl_check.specs.Codes.{faults_by}
 use Rattle.idl_check.specs.Identifying.{has_id, is_fixed, is_given, is_id, is_visible}
 use Rattle.idl_check.specs.Judging.{IsSpoken}
@@ -44,6 +44,7 @@ use Rattle.idl_check.proofs.LeastFault.{least-none}
 use Rattle.idl_check.proofs.PartLemmas.{IsUpTo, denoted-IsUpTo}
 use Rattle.idl_check.proofs.PragmaTokens.{end_of, pragma-length}
 use Rattle.idl_check.proofs.VerdictLaws.{least-tokens}
+use Rattle.idl_check.proofs.VisitFaults.{visit_unit_faults}
 
 -- the verdict of what is said, by its least fault
 abbrev verdict_by : Said → Option Fault → Verdict
@@ -118,7 +119,7 @@ is-some None h = cc
 is-some (Some x) h = (x, refl)
 
 module _ (turns : ℕ) (tokens : List Token) (inside : Bool) (answers : Key → Option Answer) where
-  pub least-pragma : (outcome (verdict turns (unit.Pragma tokens inside)) answers).fault ≡ least_fault (unit_faults turns answers (unit.Pragma tokens inside))
+  pub least-pragma : (outcome (verdict turns (unit.Pragma tokens inside)) answers).fault ≡ least_fault (visit_unit_faults turns answers (unit.Pragma tokens inside))
   unfolding verdict
   least-pragma = least-by turns answers (scopes_in (answers Cursor)) (pragma_faults tokens inside) (pragma_of tokens)
 
@@ -179,7 +180,7 @@ module _ (turns : ℕ) (answers : Key → Option Answer) (scopes : List Scope) (
   said-at-before faults change path None each = All-nil (Before n)
   said-at-before faults change path (Some d) each = each d
 
-  abbrev about_by : ℕ → (Identity → List Fault) → (Identity → FixedIdentity) → Entity → Bool → Lookup Said
+  abbrev pub about_by : ℕ → (Identity → List Fault) → (Identity → FixedIdentity) → Entity → Bool → Lookup Said
   about_by at faults change e b =
       cond b (Ask (IdOf e.path) (λ answer. Done (said_at faults change e.path (identity_at e.path answer)))) (Done (refused_for (fault_at at NoRepositoryId ∷ [])))
 
@@ -239,10 +240,10 @@ pragma-within turns tokens inside answers f some h =
     let all = else-before turns answers scopes n (pragma_faults tokens inside) (outcome (said_by turns scopes (pragma_of tokens)) answers).faults
     (form-before turns answers scopes n inside (is_some (pragma_of tokens)) (not-empty tokens some))
     (by-before turns answers scopes n (pragma_of tokens) (pragma-length tokens)) in
-    least-in (Before n) (unit_faults turns answers (unit.Pragma tokens inside)) f all (sym (least-pragma turns tokens inside answers) ∙ h)
+    least-in (Before n) (visit_unit_faults turns answers (unit.Pragma tokens inside)) f all (sym (least-pragma turns tokens inside answers) ∙ h)
 
 -- ---- of any unit
 
-pub least-is : (turns : ℕ) (text : UnitText) (answers : Key → Option Answer) → (outcome (verdict turns text) answers).fault ≡ least_fault (unit_faults turns answers text)
+pub least-is : (turns : ℕ) (text : UnitText) (answers : Key → Option Answer) → (outcome (verdict turns text) answers).fault ≡ least_fault (visit_unit_faults turns answers text)
 least-is turns (unit.Tokens tokens) answers = least-tokens turns answers tokens
 least-is turns (unit.Pragma tokens inside) answers = least-pragma turns tokens inside answers

@@ -5,7 +5,6 @@ use Rattle.std.proofs.lemmas.Option.{same_Some}
 use Rattle.std.proofs.lemmas.Slice.Eq.{bytes_eq-Decides}
 use Rattle.std.specs.Prelude.{◌||◌, codes, is_some}
 use Rattle.std.specs.Str.{bytes_eq}
-use Rattle.idl_check.specs.AllFaults.{site_faults}
 use Rattle.idl_check.specs.Declaring.{entity_of, standing}
 use Rattle.idl_check.specs.Judging.{used_name, used_names, walked}
 use Rattle.idl_check.specs.Row.{Rest, spaced, token_text, unit_text}
@@ -83,13 +82,14 @@ use Rattle.idl_value.specs.declared.value.Value.{Value}
 use Rattle.idl_check.proofs.PartLemmas.{IsUpTo}
 use Rattle.idl_check.proofs.SiteLaws.{declared_by, denoted-up, end_visit, given_by, named_by, union_visit, used_by, visited}
 use Rattle.idl_check.proofs.WalkLaws.{none-append}
+use Rattle.idl_check.proofs.VisitFaults.{visit_faults}
 
 -- ---- a path for each used name
 
 none-more : (n : ℕ) → n ≡ n + 0
 none-more n = omega arith
 
-no-end : {A : Type 0} (fs : List A) (f : A) → fs ++ f ∷ [] ≡ [] → ⊥
+pub no-end : {A : Type 0} (fs : List A) (f : A) → fs ++ f ∷ [] ≡ [] → ⊥
 no-end [] f h = cc
 no-end (g ∷ fs) f h = cc
 
@@ -189,11 +189,11 @@ module _ (turns : ℕ) (answers : Key → Option Answer) where
   visit-found item.Default w h = none-more (length w.found)
   visit-found item.GivesBack w h = none-more (length w.found)
 
-  pub walked-found : (sites : List Item) (w : Walk) → site_faults turns answers sites w ≡ [] → length (walked turns answers sites w).found ≡ length w.found + length (used_names sites)
+  pub walked-found : (sites : List Item) (w : Walk) → visit_faults turns answers sites w ≡ [] → length (walked turns answers sites w).found ≡ length w.found + length (used_names sites)
   walked-found [] w h = none-more (length w.found)
   walked-found (site ∷ sites) w h =
       let v = visited turns answers site w in
-      let parts = none-append v.faults (site_faults turns answers sites v.after) h in
+      let parts = none-append v.faults (visit_faults turns answers sites v.after) h in
       walked-found sites v.after parts.1
       ∙ ap (λ n. n + length (used_names sites)) (visit-found site w parts.0)
       ∙ add_assoc (length w.found) (length (used_name site)) (length (used_names sites))

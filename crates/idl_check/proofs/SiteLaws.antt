@@ -3,7 +3,6 @@ use Rattle.std.proofs.Common.{◌≡◌, ℕ, ◌+◌, ◌<◌, ◌≤◌, min, 
 use Rattle.std.proofs.lemmas.List.Elements.{All-append, All-cons, All-nil, All-weaker}
 use Rattle.std.specs.List.{list_any}
 use Rattle.std.specs.Prelude.{All, drop, not, take}
-use Rattle.idl_check.specs.AllFaults.{site_faults}
 use Rattle.idl_check.specs.Codes.{Table, faults_by}
 use Rattle.idl_check.specs.Declaring.{declared_table, entity_of, standing}
 use Rattle.idl_check.specs.Judging.{spoken_from, spoken_till, walked}
@@ -52,6 +51,7 @@ use Rattle.idl_value.specs.declared.value.Value.{Value}
 use Rattle.idl_check.proofs.NameLemmas.{behind_name}
 use Rattle.idl_check.proofs.PartLemmas.{IsUpTo, denoted-IsUpTo}
 use Rattle.idl_check.proofs.TableLaws.{Ascends, all-by, all-if, declared-up, name-number, used-up}
+use Rattle.idl_check.proofs.VisitFaults.{visit_faults}
 
 -- ---- where an expression begins
 
@@ -144,7 +144,7 @@ table-within from till n table up le lt = all-by n table (Within from till) (λ 
 
 -- ---- used names
 
-begin-values : (way : Use) (v : Option Value) (values : Values) → (values_after way v values).begin ≡ values.begin
+pub begin-values : (way : Use) (v : Option Value) (values : Values) → (values_after way v values).begin ≡ values.begin
 begin-values (AsBase is_local) v values = refl
 begin-values AsType v values = refl
 begin-values AsElement v values = refl
@@ -178,7 +178,7 @@ unfound-placed w way name (At why part) up =
 unfound-placed w way name Memory up = absurd up
 
 -- what is given back by a oneway operation
-oneway-placed : (site : Item) (w : Walk) (v : Visit) → spoken_from site w ≤ w.at → IsPlaced site w v → IsPlaced site w (with_oneway w.at v)
+pub oneway-placed : (site : Item) (w : Walk) (v : Visit) → spoken_from site w ≤ w.at → IsPlaced site w v → IsPlaced site w (with_oneway w.at v)
 oneway-placed site w v from p = record {
   passes = p.passes;
   begins = p.begins;
@@ -253,7 +253,7 @@ end-placed w (Some s) = union-placed w (kind_eq s.kind Union)
 
 -- ---- the ends of expressions
 
-value-number : (why : ValueCode) → 22 ≤ number_of (code_of why)
+pub value-number : (why : ValueCode) → 22 ≤ number_of (code_of why)
 value-number value_code.WrongKind = omega arith
 value-number value_code.OutOfRange = omega arith
 value-number value_code.DivisionByZero = omega arith
@@ -359,7 +359,7 @@ module _ (turns : ℕ) (answers : Key → Option Answer) where
       subst (IsPlaced (item.Used way name) w) (sym (outcome-and_then query (λ behind. Done (used_visit w way name found behind)) answers)) (used-placed w way name found (outcome query answers))
   used-by-placed way name w (Err fault) up = unfound-placed w way name fault up
 
-  plain-placed : (way : Use) (name : ScopedName) (w : Walk) → IsPlaced (item.Used way name) w (outcome (used turns way name w) answers)
+  pub plain-placed : (way : Use) (name : ScopedName) (w : Walk) → IsPlaced (item.Used way name) w (outcome (used turns way name w) answers)
   unfolding used
   plain-placed way name w =
       let query = under w.own (denoted (turns_at turns w) w.cursor name) in
@@ -376,7 +376,7 @@ module _ (turns : ℕ) (answers : Key → Option Answer) where
       subst (IsPlaced (item.Used way name) w) (sym (outcome-and_then query (λ r. Done (with_oneway w.at (head_visit name w r))) answers))
       (oneway-placed (item.Used way name) w (head_visit name w (outcome query answers)) (omega arith) (head-placed w way name (outcome query answers) (denoted-up (head_of name) w)))
 
-  named-placed : (way : Use) (name : ScopedName) (w : Walk) (b : Bool) → IsPlaced (item.Used way name) w (outcome (named_by way name w b) answers)
+  pub named-placed : (way : Use) (name : ScopedName) (w : Walk) (b : Bool) → IsPlaced (item.Used way name) w (outcome (named_by way name w b) answers)
   unfolding given_back
   named-placed way name w true = given-by-placed way name w name.is_global name.rest
   named-placed way name w false = plain-placed way name w
@@ -424,23 +424,23 @@ module _ (turns : ℕ) (answers : Key → Option Answer) where
   -- ---- all sites
 
   -- none stands before the expression in which a walk is
-  pub faults-from : (sites : List Item) (w : Walk) → All (IsFrom (begin_of w)) (site_faults turns answers sites w)
+  pub faults-from : (sites : List Item) (w : Walk) → All (IsFrom (begin_of w)) (visit_faults turns answers sites w)
   faults-from [] w = All-nil (IsFrom (begin_of w))
   faults-from (site ∷ sites) w =
       let v = visited site w in
       let p : IsPlaced site w v = visit-placed site w in
-      All-append (IsFrom (begin_of w)) v.faults (site_faults turns answers sites v.after)
+      All-append (IsFrom (begin_of w)) v.faults (visit_faults turns answers sites v.after)
       (All-weaker (Within (spoken_from site w) (spoken_till site w)) (IsFrom (begin_of w)) (λ f h. (omega (arith, h.0, spoken-begin site w), h.2)) v.faults p.within)
-      (All-weaker (IsFrom (begin_of v.after)) (IsFrom (begin_of w)) (λ f h. (omega (arith, h.0, p.begins), h.1)) (site_faults turns answers sites v.after) (faults-from sites v.after))
+      (All-weaker (IsFrom (begin_of v.after)) (IsFrom (begin_of w)) (λ f h. (omega (arith, h.0, p.begins), h.1)) (visit_faults turns answers sites v.after) (faults-from sites v.after))
 
   -- where the last of them has a token, each fault stands at a token of theirs
-  pub faults-till : (sites : List Item) (w : Walk) → EndsInTokens sites → All (λ f. f.index < w.at + items_length sites) (site_faults turns answers sites w)
+  pub faults-till : (sites : List Item) (w : Walk) → EndsInTokens sites → All (λ f. f.index < w.at + items_length sites) (visit_faults turns answers sites w)
   faults-till [] w ends = All-nil (λ f. f.index < w.at + 0)
   faults-till (site ∷ sites) w ends =
       let v = visited site w in
       let p : IsPlaced site w v = visit-placed site w in
       let P : Fault → Type 0 = λ f. f.index < w.at + items_length (site ∷ sites) in
       let till : spoken_till site w ≤ w.at + items_length (site ∷ sites) = till-ends site sites w ends.0 in
-      All-append P v.faults (site_faults turns answers sites v.after)
+      All-append P v.faults (visit_faults turns answers sites v.after)
       (All-weaker (Within (spoken_from site w) (spoken_till site w)) P (λ f h. omega (arith, h.1, till)) v.faults p.within)
-      (All-weaker (λ f. f.index < v.after.at + items_length sites) P (λ f h. omega (arith, h, p.passes)) (site_faults turns answers sites v.after) (faults-till sites v.after ends.1))
+      (All-weaker (λ f. f.index < v.after.at + items_length sites) P (λ f h. omega (arith, h, p.passes)) (visit_faults turns answers sites v.after) (faults-till sites v.after ends.1))

@@ -3,7 +3,7 @@ use Rattle.std.proofs.Common.{◌≡◌, ◌∙◌, ℕ, suc, ◌<◌, Bool, tru
 use Rattle.std.proofs.lemmas.List.Elements.{All-weaker}
 use Rattle.std.specs.Prelude.{◌≢◌, ◌⊎◌, fold}
 use Rattle.std.proofs.lemmas.List.{length-map}
-use Rattle.idl_check.specs.AllFaults.{further_faults, name_faults, or_else, site_faults, unit_faults}
+use Rattle.idl_check.specs.AllFaults.{or_else}
 use Rattle.idl_check.specs.Placing.{faulty_step, is_misplaced, opened_kind, opening_faults, step_of}
 use Rattle.idl_check.specs.Judging.{IsSound, refused_keys}
 use Rattle.idl_check.specs.Verdict.{asking, by_names, by_tree, faulty, first_faults, first_part, judged, misplaced, refused, sound, tree_of, verdict, whole}
@@ -39,6 +39,8 @@ use Rattle.idl_unit.specs.declared.unit.UnitText.TheVariants as unit
 use Rattle.idl_check.proofs.FaultOrder.{Leads, fold-led, leads-beside}
 use Rattle.idl_check.proofs.SiteLaws.{IsFrom, faults-from}
 use Rattle.idl_check.proofs.WalkLaws.{none-append, none-noted, walk-noted, walk-sound}
+use Rattle.idl_check.proofs.WholeLaws.{none-whole}
+use Rattle.idl_check.proofs.VisitFaults.{visit_faults, visit_further_faults, visit_name_faults, visit_unit_faults}
 
 -- ---- the tree of tokens
 
@@ -119,13 +121,13 @@ module _ (turns : ℕ) (answers : Key → Option Answer) (tokens : List Token) w
   module _ (scopes : List Scope) (rules : token_faults tokens ≡ []) (opening : opening_faults tokens scopes ≡ []) where
     module _ (tree : Tree) (spelled : lexemes tokens ≡ spell tree) where
       walked-comes : is_misplaced tree scopes ≡ false → (w : Walk) → w ≡ outcome (walk turns (items (unit_parts tree)) (first_walk scopes)) answers → (o : Option Fault) → w.fault ≡ o
-          → Comes (site_faults turns answers (items (unit_parts tree)) (first_walk scopes)) scopes (outcome (judged tokens scopes tree w) answers)
+          → Comes (visit_faults turns answers (items (unit_parts tree)) (first_walk scopes)) scopes (outcome (judged tokens scopes tree w) answers)
       walked-comes stands w is (Some f) h =
-          let fs = site_faults turns answers (items (unit_parts tree)) (first_walk scopes) in
+          let fs = visit_faults turns answers (items (unit_parts tree)) (first_walk scopes) in
           let at_least : w.fault ≡ least_fault fs = ap (λ (u : Walk). u.fault) is ∙ walk-noted turns answers (items (unit_parts tree)) (first_walk scopes) in
           inl (f, judged-some scopes tree w f w.fault h, sym at_least ∙ h)
       walked-comes stands w is None h =
-          let fs = site_faults turns answers (items (unit_parts tree)) (first_walk scopes) in
+          let fs = visit_faults turns answers (items (unit_parts tree)) (first_walk scopes) in
           let at_least : w.fault ≡ least_fault fs = ap (λ (u : Walk). u.fault) is ∙ walk-noted turns answers (items (unit_parts tree)) (first_walk scopes) in
           let empty : fs ≡ [] = none-noted fs (sym at_least ∙ h) in
           inr (
@@ -135,7 +137,7 @@ module _ (turns : ℕ) (answers : Key → Option Answer) (tokens : List Token) w
               opening = opening;
               spelled = spelled;
               placed = stands;
-              named = empty;
+              named = none-whole turns answers (items (unit_parts tree)) (first_walk scopes) empty;
               is = judged-none scopes tree w w.fault h ∙ ap (sound tokens scopes tree) (is ∙ walk-sound turns answers (items (unit_parts tree)) (first_walk scopes) refl empty);
             },
             empty,
@@ -143,11 +145,11 @@ module _ (turns : ℕ) (answers : Key → Option Answer) (tokens : List Token) w
 
       -- by whether it is misplaced
       named-comes : (b : Bool) → is_misplaced tree scopes ≡ b
-          → Comes (cond b (fault_at 0 MisplacedUnit ∷ []) [] ++ site_faults turns answers (items (unit_parts tree)) (first_walk scopes)) scopes
+          → Comes (cond b (fault_at 0 MisplacedUnit ∷ []) [] ++ visit_faults turns answers (items (unit_parts tree)) (first_walk scopes)) scopes
           (outcome (cond b (misplaced turns tokens scopes tree) (and_then (walk turns (items (unit_parts tree)) (first_walk scopes)) (λ w. judged tokens scopes tree w))) answers)
       named-comes true stands =
           let f = fault_at 0 MisplacedUnit in
-          let fs = site_faults turns answers (items (unit_parts tree)) (first_walk scopes) in
+          let fs = visit_faults turns answers (items (unit_parts tree)) (first_walk scopes) in
           let before : Lookup (List Entity) = elim (first_part (items (unit_parts tree))) [ None ↦ Done [] | Some name ↦ outward turns scopes (folded name) ] in
           inl (
             f,
@@ -157,27 +159,27 @@ module _ (turns : ℕ) (answers : Key → Option Answer) (tokens : List Token) w
       named-comes false stands =
           let query = walk turns (items (unit_parts tree)) (first_walk scopes) in
           let w = outcome query answers in
-          subst (Comes (site_faults turns answers (items (unit_parts tree)) (first_walk scopes)) scopes)
+          subst (Comes (visit_faults turns answers (items (unit_parts tree)) (first_walk scopes)) scopes)
           (sym (outcome-and_then query (λ w. judged tokens scopes tree w) answers))
           (walked-comes stands w refl w.fault refl)
 
     -- by its tree
     tree-comes : (o : Option Tree) → tree_of tokens ≡ o
-        → Comes (elim o [ None ↦ fault_at 0 NoTree ∷ [] | Some tree ↦ name_faults turns answers scopes tree ]) scopes
+        → Comes (elim o [ None ↦ fault_at 0 NoTree ∷ [] | Some tree ↦ visit_name_faults turns answers scopes tree ]) scopes
         (outcome (elim o [ None ↦ refused tokens (fault_at 0 NoTree) | Some tree ↦ by_names turns tokens scopes tree ]) answers)
     tree-comes None h = inl (fault_at 0 NoTree, refused-is (fault_at 0 NoTree), refl)
     tree-comes (Some tree) h = named-comes tree (tree-spelled tokens tree h) (is_misplaced tree scopes) refl
 
   -- by the faults of the first step
   first-comes : (scopes : List Scope) (fs : List Fault) → first_faults tokens scopes ≡ fs
-      → Comes (or_else turns answers fs (further_faults turns answers tokens scopes)) scopes
+      → Comes (or_else turns answers fs (visit_further_faults turns answers tokens scopes)) scopes
       (outcome (elim (least_fault fs) [ Some fault ↦ refused tokens fault | None ↦ by_tree turns tokens scopes ]) answers)
   first-comes scopes [] h =
       let none = none-append (token_faults tokens) (opening_faults tokens scopes) h in
       tree-comes scopes none.0 none.1 (tree_of tokens) refl
   first-comes scopes (f ∷ fs) h = inl (fold lesser_fault f fs, refused-is (fold lesser_fault f fs), refl)
 
-  pub verdict-comes : Comes (unit_faults turns answers (unit.Tokens tokens)) (scopes_in (answers Cursor)) (outcome (verdict turns (unit.Tokens tokens)) answers)
+  pub verdict-comes : Comes (visit_unit_faults turns answers (unit.Tokens tokens)) (scopes_in (answers Cursor)) (outcome (verdict turns (unit.Tokens tokens)) answers)
   unfolding verdict
   verdict-comes = first-comes (scopes_in (answers Cursor)) (first_faults tokens (scopes_in (answers Cursor))) refl
 
@@ -200,14 +202,14 @@ module _ (turns : ℕ) (answers : Key → Option Answer) (tokens : List Token) w
 
   -- a faulty unit
   pub faulty-is : (f : Fault) → (outcome (verdict turns (unit.Tokens tokens)) answers).fault ≡ Some f → outcome (verdict turns (unit.Tokens tokens)) answers ≡ faulty f (faulty_step tokens)
-  faulty-is = refused-comes (unit_faults turns answers (unit.Tokens tokens)) (scopes_in (answers Cursor)) (outcome (verdict turns (unit.Tokens tokens)) answers) verdict-comes
+  faulty-is = refused-comes (visit_unit_faults turns answers (unit.Tokens tokens)) (scopes_in (answers Cursor)) (outcome (verdict turns (unit.Tokens tokens)) answers) verdict-comes
 
   -- and one without fault
   pub sound-is : (outcome (verdict turns (unit.Tokens tokens)) answers).fault ≡ None → IsSound turns answers (scopes_in (answers Cursor)) tokens (outcome (verdict turns (unit.Tokens tokens)) answers)
-  sound-is = sound-comes (unit_faults turns answers (unit.Tokens tokens)) (scopes_in (answers Cursor)) (outcome (verdict turns (unit.Tokens tokens)) answers) verdict-comes
+  sound-is = sound-comes (visit_unit_faults turns answers (unit.Tokens tokens)) (scopes_in (answers Cursor)) (outcome (verdict turns (unit.Tokens tokens)) answers) verdict-comes
 
-  pub least-tokens : (outcome (verdict turns (unit.Tokens tokens)) answers).fault ≡ least_fault (unit_faults turns answers (unit.Tokens tokens))
-  least-tokens = least-comes (unit_faults turns answers (unit.Tokens tokens)) (scopes_in (answers Cursor)) (outcome (verdict turns (unit.Tokens tokens)) answers) verdict-comes
+  pub least-tokens : (outcome (verdict turns (unit.Tokens tokens)) answers).fault ≡ least_fault (visit_unit_faults turns answers (unit.Tokens tokens))
+  least-tokens = least-comes (visit_unit_faults turns answers (unit.Tokens tokens)) (scopes_in (answers Cursor)) (outcome (verdict turns (unit.Tokens tokens)) answers) verdict-comes
 
   -- ---- what a unit asks that the first two steps refuse
 

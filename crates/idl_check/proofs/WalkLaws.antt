@@ -3,7 +3,6 @@ use Rattle.std.proofs.Common.{◌≡◌, ◌∙◌, ◌<◌, ℕ, Bool, true, fa
 use Rattle.std.proofs.lemmas.Bool.{and_parts, ltb-true}
 use Rattle.std.proofs.lemmas.List.Elements.{All-weaker}
 use Rattle.std.specs.Prelude.{◌&&◌, All, is_some, nat_lt, not}
-use Rattle.idl_check.specs.AllFaults.{site_faults}
 use Rattle.idl_check.specs.Judging.{walked}
 use Rattle.idl_check.specs.Walk.{Walk, is_over, noted, noted_in, visit, walk}
 use Rattle.idl_memo.specs.Query.{Done, and_then, outcome}
@@ -17,6 +16,7 @@ use Rattle.idl_check.proofs.ApartLaws.{faults-apart, with_fault}
 use Rattle.idl_check.proofs.FaultOrder.{Leads, fold-led, leads-later}
 use Rattle.idl_check.proofs.NotedLemmas.{noted-append, noted-none}
 use Rattle.idl_check.proofs.SiteLaws.{IsFrom, IsPlaced, begin_before, faults-from, visit-placed, visited}
+use Rattle.idl_check.proofs.VisitFaults.{visit_faults}
 
 -- the fault of a walk that is over stands before those of all later sites
 abbrev over_by : Option Fault → Option ℕ → ℕ → Bool
@@ -51,31 +51,31 @@ module _ (turns : ℕ) (answers : Key → Option Answer) where
   on-goes site sites w = outcome-and_then (visit turns site w) (λ v. walk turns sites (noted_in v w.fault)) answers
 
   noted-on : (b : Bool) (site : Item) (sites : List Item) (w : Walk) → is_over w ≡ b
-      → ((u : Walk) → (outcome (walk turns sites u) answers).fault ≡ noted u.fault (site_faults turns answers sites u))
-      → (outcome (on b site sites w) answers).fault ≡ noted w.fault (site_faults turns answers (site ∷ sites) w)
-  noted-on true site sites w is more = still-least w.fault w.values.begin w.at (site_faults turns answers (site ∷ sites) w) is (faults-from turns answers (site ∷ sites) w)
+      → ((u : Walk) → (outcome (walk turns sites u) answers).fault ≡ noted u.fault (visit_faults turns answers sites u))
+      → (outcome (on b site sites w) answers).fault ≡ noted w.fault (visit_faults turns answers (site ∷ sites) w)
+  noted-on true site sites w is more = still-least w.fault w.values.begin w.at (visit_faults turns answers (site ∷ sites) w) is (faults-from turns answers (site ∷ sites) w)
   noted-on false site sites w is more =
       let v = visited turns answers site w in
       let f = noted w.fault v.faults in
       ap (λ (u : Walk). u.fault) (on-goes site sites w)
       ∙ more (noted_in v w.fault)
       ∙ ap (noted f) (faults-apart turns answers f sites v.after)
-      ∙ noted-append w.fault v.faults (site_faults turns answers sites v.after)
+      ∙ noted-append w.fault v.faults (visit_faults turns answers sites v.after)
 
   -- its fault is the least of all, also of those of sites to which it doesn't come
-  pub walk-noted : (sites : List Item) (w : Walk) → (outcome (walk turns sites w) answers).fault ≡ noted w.fault (site_faults turns answers sites w)
+  pub walk-noted : (sites : List Item) (w : Walk) → (outcome (walk turns sites w) answers).fault ≡ noted w.fault (visit_faults turns answers sites w)
   unfolding walk
   walk-noted [] w = sym (noted-none w.fault)
   walk-noted (site ∷ sites) w = noted-on (is_over w) site sites w refl (walk-noted sites)
 
-  on-sound : (b : Bool) (site : Item) (sites : List Item) (w : Walk) → b ≡ false → w.fault ≡ None → site_faults turns answers (site ∷ sites) w ≡ []
-      → ((u : Walk) → u.fault ≡ None → site_faults turns answers sites u ≡ [] → outcome (walk turns sites u) answers ≡ walked turns answers sites u)
+  on-sound : (b : Bool) (site : Item) (sites : List Item) (w : Walk) → b ≡ false → w.fault ≡ None → visit_faults turns answers (site ∷ sites) w ≡ []
+      → ((u : Walk) → u.fault ≡ None → visit_faults turns answers sites u ≡ [] → outcome (walk turns sites u) answers ≡ walked turns answers sites u)
       → outcome (on b site sites w) answers ≡ walked turns answers (site ∷ sites) w
   on-sound true site sites w is none h more = cc
   on-sound false site sites w is none h more =
       let v = visited turns answers site w in
       let p : IsPlaced site w v = visit-placed turns answers site w in
-      let parts = none-append v.faults (site_faults turns answers sites v.after) h in
+      let parts = none-append v.faults (visit_faults turns answers sites v.after) h in
       let kept : v.after.fault ≡ None = p.keeps ∙ none in
       let same : noted w.fault v.faults ≡ v.after.fault = ap (noted w.fault) parts.0 ∙ noted-none w.fault ∙ none ∙ sym kept in
       on-goes site sites w
@@ -83,7 +83,7 @@ module _ (turns : ℕ) (answers : Key → Option Answer) where
       ∙ more v.after kept parts.1
 
   -- without any fault it passes all sites
-  pub walk-sound : (sites : List Item) (w : Walk) → w.fault ≡ None → site_faults turns answers sites w ≡ [] → outcome (walk turns sites w) answers ≡ walked turns answers sites w
+  pub walk-sound : (sites : List Item) (w : Walk) → w.fault ≡ None → visit_faults turns answers sites w ≡ [] → outcome (walk turns sites w) answers ≡ walked turns answers sites w
   unfolding walk
   walk-sound [] w none h = refl
   walk-sound (site ∷ sites) w none h = on-sound (is_over w) site sites w (not-over w.fault w.values.begin w.at none) none h (walk-sound sites)

@@ -1,5 +1,5 @@
 -- What the laws of verdicts speak of.
-use Rattle.std.specs.Prelude.{◌≡◌, ◌<◌, ◌≤◌, ◌⊎◌, ◌+◌, ℕ, max, Bool, false, List, [], ◌∷◌, flat_map, Option, None, Some}
+use Rattle.std.specs.Prelude.{◌≡◌, ◌<◌, ◌≤◌, ◌⊎◌, ◌+◌, ◌^◌, ℕ, length, max, Bool, false, List, [], ◌∷◌, flat_map, Option, None, Some}
 use Rattle.idl_check.specs.AllFaults.{site_faults}
 use Rattle.idl_check.specs.Placing.{is_misplaced, opened_kind, opening_faults}
 use Rattle.idl_check.specs.Pragmas.{said}
@@ -26,11 +26,18 @@ use Rattle.idl_tree.specs.declared.pragma.Pragma.{Pragma}
 use Rattle.idl_tree.specs.declared.unit.Tree.{Tree}
 use Rattle.idl_unit.specs.TokenRules.{token_faults}
 use Rattle.idl_unit.specs.declared.fault.Fault.{Fault}
+use Rattle.idl_unit.specs.declared.unit.UnitText.{UnitText}
+use Rattle.idl_unit.specs.declared.unit.UnitText.TheVariants as unit
 
 -- a fault at an earlier token than another, or at the same with no greater code
 abbrev pub IsNotAfter : Fault → Fault → Type 0
 IsNotAfter f g =
     (f.index < g.index) ⊎ ((f.index ≡ g.index) × (number_of f.code ≤ number_of g.code))
+
+-- no unit that memory holds has 2^64 tokens
+abbrev pub FitsMemory : UnitText → Type 0
+FitsMemory (unit.Tokens tokens) = length tokens < 2 ^ 64
+FitsMemory (unit.Pragma tokens inside) = Unit {0}
 
 -- what a faulty unit of these tokens asks beside the open scopes
 abbrev pub refused_keys : List Token → List Key

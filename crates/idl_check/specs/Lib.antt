@@ -13,6 +13,7 @@ pub mod Placing
 pub mod Row
 pub mod HeldRow
 pub mod Verdict
+pub mod Sections
 pub mod AllFaults
 pub mod Held
 pub mod Judging

@@ -38,11 +38,13 @@ refused_for faults = record { faults = faults; additions = []; step = Stays }
 abbrev pub prefix_faults : List ℕ → List Fault
 prefix_faults text = faults_by 2 ((not (is_visible text), BadIdText) ∷ [])
 
--- those of an id behind a name that ends at this token, and of a version, by what identifies it
+-- that of the text of an id behind a name that ends at this token
+abbrev pub text_faults : ℕ → List ℕ → List Fault
+text_faults at text = faults_by (at + 1) ((not (is_id text), BadIdText) ∷ [])
+
+-- those of an id, and of a version, by what identifies what the name denotes
 abbrev pub id_faults : ℕ → List ℕ → Identity → List Fault
-id_faults at text d =
-    faults_by at ((is_given text d, RepeatedId) ∷ [])
-    ++ faults_by (at + 1) ((not (is_id text), BadIdText) ∷ [])
+id_faults at text d = faults_by at ((is_given text d, RepeatedId) ∷ []) ++ text_faults at text
 
 abbrev pub version_faults : ℕ → Identity → List Fault
 version_faults at d = faults_by at ((is_fixed d, RepeatedVersion) ∷ [])

@@ -5,11 +5,9 @@ use Rattle.idl_event.specs.declared.code.Code.TheVariants as code
 use Rattle.idl_tree.specs.declared.expression.Expression.{Expression}
 use Rattle.idl_site.specs.declared.site.Target.{Target as Purpose}
 use Rattle.idl_site.specs.declared.site.Target.TheVariants as purpose
-use Rattle.idl_value.specs.Evaluation.{Operands, bound_of, first_of, value_of}
+use Rattle.idl_value.specs.Evaluation.{Evaluation, Faulty, Operands, bound_of, value_of}
 use Rattle.idl_value.specs.declared.outcome.Code.{Code as ValueCode}
 use Rattle.idl_value.specs.declared.outcome.Code.TheVariants as value_code
-use Rattle.idl_value.specs.declared.outcome.Outcome.{Outcome}
-use Rattle.idl_value.specs.declared.outcome.Outcome.TheVariants as outcome
 use Rattle.idl_value.specs.declared.target.Target.{Target}
 use Rattle.idl_value.specs.declared.value.Value.{Value}
 use Rattle.idl_value.specs.declared.value.Value.TheVariants as value
@@ -55,16 +53,17 @@ abbrev pub with_operand : Option Value → Values → Values
 with_operand v values = record values { operands = values.operands ++ v ∷ [] }
 
 -- what an expression comes to for a type, if it is known; else its faults are told elsewhere
-abbrev pub value_for : Option Target → Operands → Expression → Outcome
-value_for (Some t) operands e = first_of (value_of t operands e)
-value_for None operands e = outcome.Told
+abbrev pub evaluation_in : Option Target → Operands → Expression → Evaluation
+evaluation_in (Some t) operands e = value_of t operands e
+evaluation_in None operands e = Faulty []
 
 -- what an expression comes to that is for this, where constants and labels are to be of these types
-abbrev pub outcome_for : Purpose → Option Target → Option Target → Operands → Expression → Outcome
-outcome_for purpose.Bound constant label operands e = first_of (bound_of operands e)
-outcome_for purpose.Length constant label operands e = first_of (bound_of operands e)
-outcome_for purpose.Constant constant label operands e = value_for constant operands e
-outcome_for purpose.Label constant label operands e = value_for label operands e
+abbrev pub evaluation_for : Purpose → Option Target → Option Target → Operands → Expression
+    → Evaluation
+evaluation_for purpose.Bound constant label operands e = bound_of operands e
+evaluation_for purpose.Length constant label operands e = bound_of operands e
+evaluation_for purpose.Constant constant label operands e = evaluation_in constant operands e
+evaluation_for purpose.Label constant label operands e = evaluation_in label operands e
 
 -- the code of a fault in an expression
 abbrev pub code_of : ValueCode → Code

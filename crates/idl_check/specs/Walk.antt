@@ -8,7 +8,7 @@ use Rattle.idl_check.specs.Declaring.{Written, declared_table, entity_of, kind_o
 use Rattle.idl_check.specs.Labels.{Labels, is_idle, is_labelled, no_labels, with_default, with_label}
 use Rattle.idl_check.specs.Types.{looked_through, target_in, written_as}
 use Rattle.idl_check.specs.Using.{Bases, bases_after, constants_after, last_at, name_code, part_at, type_after, unions_after, used_table, values_after, with_uses}
-use Rattle.idl_check.specs.Values.{Values, begun_at, code_of, no_values, outcome_for, with_value}
+use Rattle.idl_check.specs.Values.{Values, begun_at, code_of, evaluation_for, no_values, with_value}
 use Rattle.idl_check.specs.declared.standing.Standing.{Standing}
 use Rattle.idl_event.specs.declared.code.Code.{Code}
 use Rattle.idl_event.specs.declared.code.Code.TheVariants as code
@@ -40,6 +40,7 @@ use Rattle.idl_tree.specs.declared.name.ScopedName.{ScopedName}
 use Rattle.idl_unit.specs.Faults.{least_fault}
 use Rattle.idl_unit.specs.TokenRules.{fault_at, first}
 use Rattle.idl_unit.specs.declared.fault.Fault.{Fault}
+use Rattle.idl_value.specs.Evaluation.{Evaluation, first_of}
 use Rattle.idl_value.specs.Target.{discriminates, target_of}
 use Rattle.idl_value.specs.declared.outcome.Outcome.{Outcome}
 use Rattle.idl_value.specs.declared.outcome.Outcome.TheVariants as outcome
@@ -298,10 +299,13 @@ value_visit w way (outcome.Fault f) = record {
 value_visit w way outcome.Told =
     quiet (record w { values = record w.values { begin = None } })
 
--- what it comes to
+-- what it comes to, and what is told of that
+abbrev pub evaluation_at : Walk → Purpose → Expression → Evaluation
+evaluation_at w way e =
+    evaluation_for way w.written.constants (label_target w.unions) w.values.operands e
+
 abbrev pub outcome_at : Walk → Purpose → Expression → Outcome
-outcome_at w way e =
-    outcome_for way w.written.constants (label_target w.unions) w.values.operands e
+outcome_at w way e = first_of (evaluation_at w way e)
 
 -- a site
 unfoldable pub visit : ℕ → Item → Walk → Lookup Visit

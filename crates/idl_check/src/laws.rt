@@ -7,8 +7,9 @@ ghost use Rattle.std.specs.Prelude.{◌≡◌, ◌≢◌, ◌↔◌, ◌+◌, �
 ghost use Rattle.idl_check.specs.AllFaults.{site_faults, unit_faults};
 ghost use Rattle.idl_check.specs.Identifying.{versioned};
 ghost use Rattle.idl_check.specs.Placing.{faulty_step, step_of};
-ghost use Rattle.idl_check.specs.Judging.{IsNotAfter, IsSound, IsSpoken, refused_keys, spoken_from, spoken_till, used_names, walked, without_name};
+ghost use Rattle.idl_check.specs.Judging.{FitsMemory, IsNotAfter, IsSound, IsSpoken, refused_keys, spoken_from, spoken_till, used_names, walked, without_name};
 ghost use Rattle.idl_check.specs.Row.{Rest, unit_text};
+ghost use Rattle.idl_check.specs.Sections.{AreBracketed};
 ghost use Rattle.idl_check.specs.Verdict.{faulty, first_faults, tree_of, verdict};
 ghost use Rattle.idl_check.specs.Walk.{Walk, turns_at, visit};
 ghost use Rattle.idl_lex.specs.Tokens.{Token};
@@ -43,17 +44,19 @@ ghost use Rattle.idl_unit.specs.declared.unit.UnitText.{UnitText};
 ghost use Rattle.idl_unit.specs.declared.unit.UnitText.TheVariants as unit;
 
 /// The fault that is told is the least of all that hold in the first step that has one, also of
-/// those at sites to which the walk never comes: it is one of them, at no later token than any
-/// other, and with no greater code than another there. Where none is told, none holds.
+/// those at sites to which the walk never comes, and behind the first of an expression or of a name:
+/// it is one of them, at no later token than any other, and with no greater code than another there.
+/// Where none is told, none holds.
 pub fn least()
     ensures is { (turns : ℕ) (text : UnitText) (answers : Key → Option Answer)
+        → FitsMemory text
         → (outcome (verdict turns text) answers).fault
         ≡ least_fault (unit_faults turns answers text) }
     ensures among { (turns : ℕ) (text : UnitText) (answers : Key → Option Answer) (fault : Fault)
-        → (outcome (verdict turns text) answers).fault ≡ Some fault
+        → FitsMemory text → (outcome (verdict turns text) answers).fault ≡ Some fault
         → Contains (unit_faults turns answers text) fault }
     ensures before { (turns : ℕ) (text : UnitText) (answers : Key → Option Answer) (fault : Fault)
-        → (outcome (verdict turns text) answers).fault ≡ Some fault
+        → FitsMemory text → (outcome (verdict turns text) answers).fault ≡ Some fault
         → (other : Fault) → Contains (unit_faults turns answers text) other
         → IsNotAfter fault other }
     ensures none { (turns : ℕ) (text : UnitText) (answers : Key → Option Answer)
@@ -114,6 +117,13 @@ pub fn numbering()
         → tokens ≢ []
         → (outcome (verdict turns (unit.Pragma tokens inside)) answers).fault ≡ Some fault
         → fault.index < length tokens }
+{}
+
+/// The sites of a unit are bracketed: between an expression's beginning and its end stands what it
+/// is made of, and an expression is nowhere else. What a oneway operation gives back begins with a
+/// token.
+pub fn bracketing()
+    ensures { (tree : Tree) → AreBracketed (items (unit_parts tree)) }
 {}
 
 /// A walk over sites without fault has found a path for each name that they use, so no used name is

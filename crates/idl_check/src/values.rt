@@ -4,7 +4,8 @@ ghost use Rattle.std.specs.Prelude.{◌≡◌, ◌∷◌, ◌++◌, [], IfOk, No
 ghost use Rattle.std.specs.Option.{option_copied};
 ghost use Rattle.idl_check.specs.Held.{held_values};
 ghost use Rattle.idl_check.specs.Few.{boxed_or};
-ghost use Rattle.idl_check.specs.Values.{begun_at, code_of, no_values, nothing_kept, number_of, outcome_for, value_for, with_operand, with_value};
+ghost use Rattle.idl_check.specs.Values.{begun_at, code_of, evaluation_for, evaluation_in, no_values, nothing_kept, number_of, with_operand, with_value};
+ghost use Rattle.idl_value.specs.Evaluation.{first_of};
 
 use idl_event::Code;
 use idl_scope::Shared;
@@ -141,8 +142,9 @@ impl Values {
     ) -> Result<Outcome, AllocError>
         ensures { IfOk result (λ outcome.
             outcome
-            ≡ outcome_for way (option_copied types.entry.constant)
-            (option_copied types.entry.label) (held_values self.now).operands expression.now) }
+            ≡ first_of
+            (evaluation_for way (option_copied types.entry.constant)
+            (option_copied types.entry.label) (held_values self.now).operands expression.now)) }
     {
         let operands = match &self.kept {
             Some(kept) => kept.operands.as_slice(),
@@ -238,7 +240,8 @@ fn value_for(
     expression: &Expression,
 ) -> Result<Outcome, AllocError>
     ensures { IfOk result (λ outcome.
-        outcome ≡ value_for (option_copied target.entry) operands.now expression.now) }
+        outcome
+        ≡ first_of (evaluation_in (option_copied target.entry) operands.now expression.now)) }
 {
     match target {
         Some(target) => evaluate(alloc, target, operands, expression),

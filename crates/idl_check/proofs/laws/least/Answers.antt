@@ -1,17 +1,17 @@
 use Rattle.std.proofs.Common.{◌∙◌, sym}
 use Rattle.idl_check.specs.AllFaults.{unit_faults}
-use Rattle.idl_check.proofs.LeastFault.{least-among, least-before, least-none}
-use Rattle.idl_check.proofs.PragmaLaws.{least-is}
+use Rattle.idl_check.proofs.LeastFault.{least-among, least-before}
+use Rattle.idl_check.proofs.LeastLaws.{least-whole, none-at-all}
 use Rattle.idl_check.proofs.laws.least.Goals as goal
 
 pub returns-clause-is : goal.returns-clause-is
-returns-clause-is c = least-is
+returns-clause-is c = least-whole
 
 pub returns-clause-among : goal.returns-clause-among
-returns-clause-among c = λ turns text answers fault h. least-among (unit_faults turns answers text) fault (sym (least-is turns text answers) ∙ h)
+returns-clause-among c = λ turns text answers fault fits h. least-among (unit_faults turns answers text) fault (sym (least-whole turns text answers fits) ∙ h)
 
 pub returns-clause-before : goal.returns-clause-before
-returns-clause-before c = λ turns text answers fault h. least-before (unit_faults turns answers text) fault (sym (least-is turns text answers) ∙ h)
+returns-clause-before c = λ turns text answers fault fits h. least-before (unit_faults turns answers text) fault (sym (least-whole turns text answers fits) ∙ h)
 
 pub returns-clause-none : goal.returns-clause-none
-returns-clause-none c = λ turns text answers h. least-none (unit_faults turns answers text) (sym (least-is turns text answers) ∙ h)
+returns-clause-none c = none-at-all
