@@ -4,7 +4,8 @@ ghost use Rattle.std.specs.Prelude.{◌≡◌, ◌&&◌, ◌∷◌, [], IfOk, On
 ghost use Rattle.std.specs.List.{list_any};
 ghost use Rattle.std.specs.Map.{keys_of};
 ghost use Rattle.idl_check.specs.Codes.{codes_in};
-ghost use Rattle.idl_check.specs.Using.{base_table, is_another, no_bases, with_base, with_operation};
+ghost use Rattle.idl_check.specs.Using.{base_table, no_bases, with_base, with_operation};
+ghost use Rattle.idl_check.specs.Rules.{is_another};
 ghost use Rattle.idl_scope.specs.Facts.{joined};
 ghost use Rattle.idl_scope.specs.Path.{path_eq};
 ghost use Rattle.idl_unit.specs.TokenRules.{first};

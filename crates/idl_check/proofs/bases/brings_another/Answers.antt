@@ -1,6 +1,6 @@
 use Rattle.std.proofs.Common.{◌≡◌, ◌∙◌, false, List, ℕ, [], ◌∷◌, refl, sym, ap}
 use Rattle.std.specs.List.{list_any}
-use Rattle.idl_check.specs.Using.{is_another}
+use Rattle.idl_check.specs.Rules.{is_another}
 use Rattle.idl_check.proofs.bases.brings_another.Goals as goal
 
 -- nothing stands beside another one where none was brought
