@@ -7,7 +7,8 @@ use Rattle.idl_check.proofs.LeastFault.{least-none}
 use Rattle.idl_memo.specs.Query.{Ask, Done, Tell, and_then, noted}
 use Rattle.idl_memo.proofs.QueryLaws.{run-and_then_at}
 use Rattle.idl_check.proofs.VisitLemmas.{runs_over}
-use Rattle.idl_check.specs.Placing.{faulty_step, is_misplaced, opened_kind, opening_faults, step_of}
+use Rattle.idl_check.specs.Placing.{faulty_step, opened_kind, opening_faults, step_of}
+use Rattle.idl_check.specs.Rules.{is_misplaced}
 use Rattle.idl_check.specs.Verdict.{asking, by_names, by_tree, faulty, first_faults, first_part, judged, misplaced, refused, sound, token_verdict, tree_of}
 use Rattle.idl_check.specs.Walk.{Walk, first_walk, walk}
 use Rattle.idl_check.specs.declared.verdict.Verdict.{Verdict}

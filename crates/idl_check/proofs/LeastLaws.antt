@@ -5,9 +5,9 @@ use Rattle.std.proofs.lemmas.List.Elements.{All-cons, All-nil}
 use Rattle.std.specs.Prelude.{All, flat_map, not}
 use Rattle.idl_check.specs.AllFaults.{further_faults, given_faults, name_faults, or_else, said_faults, site_faults, unit_faults}
 use Rattle.idl_check.specs.Codes.{faults_by}
-use Rattle.idl_check.specs.Identifying.{given, has_id, is_id}
+use Rattle.idl_check.specs.Identifying.{given}
 use Rattle.idl_check.specs.Judging.{FitsMemory}
-use Rattle.idl_check.specs.Placing.{is_misplaced}
+use Rattle.idl_check.specs.Rules.{has_id, is_id, is_misplaced}
 use Rattle.idl_check.specs.Pragmas.{Said, about, id_faults, refused_for, said, said_by, text_faults, unnamed_faults}
 use Rattle.idl_check.specs.Sections.{section_sites}
 use Rattle.idl_check.specs.Using.{last_at, name_code, part_at}

@@ -12,7 +12,7 @@ use Rattle.idl_check.specs.Pragmas.{said_by}
 use Rattle.idl_check.specs.Types.{behind_typedefs, is_looked_through, looked_through}
 use Rattle.idl_check.specs.Verdict.{by_names, by_tree, faulty, first_faults, first_part, judged, misplaced, pragma_judged, pragma_verdict, refused, token_verdict, tree_of, verdict}
 use Rattle.idl_check.specs.Walk.{Visit, Walk, declared_visit, first_walk, given_back, head_of, head_visit, is_over, noted_in, passed, past_name, quiet, turns_at, unfound_visit, used, used_visit, visit, walk, with_oneway}
-use Rattle.idl_check.specs.Placing.{is_misplaced}
+use Rattle.idl_check.specs.Rules.{is_misplaced}
 use Rattle.idl_check.specs.declared.standing.Standing.{Standing}
 use Rattle.idl_check.specs.declared.verdict.Verdict.{Verdict}
 use Rattle.idl_event.specs.declared.code.Code.TheVariants.{NoTree, MisplacedUnit}

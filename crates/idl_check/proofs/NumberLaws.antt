@@ -5,7 +5,8 @@ use Rattle.std.proofs.lemmas.List.Elements.{All-append, All-cons, All-nil, All-w
 use Rattle.std.specs.Prelude.{◌≢◌, All, nat_le}
 use Rattle.idl_check.specs.AllFaults.{or_else}
 use Rattle.idl_check.specs.Codes.{codes_in, faults_by}
-use Rattle.idl_check.specs.Placing.{brace_by, brace_from, depth, is_misplaced, opening_brace, opening_faults}
+use Rattle.idl_check.specs.Placing.{brace_by, brace_from, opening_brace, opening_faults}
+use Rattle.idl_check.specs.Rules.{depth, is_misplaced}
 use Rattle.idl_check.specs.Verdict.{first_faults, tree_of, verdict}
 use Rattle.idl_check.specs.Walk.{first_walk}
 use Rattle.idl_event.specs.declared.code.Code.TheVariants.{MisplacedUnit, NestedTooDeep, NoTree}

@@ -4,7 +4,7 @@ use Rattle.std.proofs.lemmas.List.Elements.{All-append, All-cons, All-nil}
 use Rattle.std.specs.Prelude.{◌≢◌, All, fold, not}
 use Rattle.idl_check.specs.AllFaults.{or_else}
 use Rattle.idl_check.specs.Codes.{faults_by}
-use Rattle.idl_check.specs.Identifying.{has_id, is_fixed, is_given, is_id, is_visible}
+use Rattle.idl_check.specs.Rules.{has_id, is_fixed, is_given, is_id, is_visible}
 use Rattle.idl_check.specs.Judging.{IsSpoken}
 use Rattle.idl_check.specs.Pragmas.{Said, about, about_name, id_faults, refused_for, said, said_by, unnamed_faults, version_faults}
 use Rattle.idl_check.specs.Using.{last_at, name_code, part_at}

@@ -5,7 +5,7 @@ use Rattle.std.specs.Option.{option_map}
 use Rattle.std.specs.Prelude.{not}
 use Rattle.idl_check.specs.Codes.{faults_by}
 use Rattle.idl_check.specs.Held.{said_of, spoken}
-use Rattle.idl_check.specs.Identifying.{has_id, is_fixed, is_given, is_id}
+use Rattle.idl_check.specs.Rules.{has_id, is_fixed, is_given, is_id}
 use Rattle.idl_check.specs.Pragmas.{Said, about, about_name, id_faults, refused_for, said, said_by, unnamed_faults, version_faults}
 use Rattle.idl_check.specs.Using.{last_at}
 use Rattle.idl_check.specs.Verdict.{faulty, pragma_judged, pragma_verdict}

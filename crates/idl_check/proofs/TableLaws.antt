@@ -4,7 +4,8 @@ use Rattle.std.proofs.lemmas.List.Elements.{All-cons, All-map, All-nil, All-weak
 use Rattle.std.specs.Prelude.{All, ⊤}
 use Rattle.idl_check.specs.Codes.{Table, codes_in, faults_by}
 use Rattle.idl_check.specs.Declaring.{declared_table}
-use Rattle.idl_check.specs.Using.{Bases, name_code, suited_table, suits, used_table}
+use Rattle.idl_check.specs.Using.{Bases, name_code, suited_table, used_table}
+use Rattle.idl_check.specs.Rules.{suits}
 use Rattle.idl_check.specs.declared.standing.Standing.{Standing}
 use Rattle.idl_event.specs.Code.{number_of}
 use Rattle.idl_event.specs.declared.code.Code.{Code}

@@ -4,7 +4,8 @@ use Rattle.std.proofs.lemmas.List.Elements.{All-weaker}
 use Rattle.std.specs.Prelude.{◌≢◌, ◌⊎◌, fold}
 use Rattle.std.proofs.lemmas.List.{length-map}
 use Rattle.idl_check.specs.AllFaults.{or_else}
-use Rattle.idl_check.specs.Placing.{faulty_step, is_misplaced, opened_kind, opening_faults, step_of}
+use Rattle.idl_check.specs.Placing.{faulty_step, opened_kind, opening_faults, step_of}
+use Rattle.idl_check.specs.Rules.{is_misplaced}
 use Rattle.idl_check.specs.Judging.{IsSound, refused_keys}
 use Rattle.idl_check.specs.Verdict.{asking, by_names, by_tree, faulty, first_faults, first_part, judged, misplaced, refused, sound, tree_of, verdict, whole}
 use Rattle.idl_check.specs.Walk.{Walk, first_walk, walk}

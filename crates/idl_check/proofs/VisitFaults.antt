@@ -2,7 +2,7 @@
 -- of a name that a oneway operation gives back those of its first token.
 use Rattle.std.proofs.Common.{ℕ, List, [], ◌∷◌, ◌++◌, Option, None, Some, if◌then◌else◌}
 use Rattle.idl_check.specs.AllFaults.{or_else}
-use Rattle.idl_check.specs.Placing.{is_misplaced}
+use Rattle.idl_check.specs.Rules.{is_misplaced}
 use Rattle.idl_check.specs.Pragmas.{said_by}
 use Rattle.idl_check.specs.Verdict.{first_faults, tree_of}
 use Rattle.idl_check.specs.Walk.{Walk, first_walk, visit}

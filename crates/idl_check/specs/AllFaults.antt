@@ -1,10 +1,9 @@
 -- All faults of a unit, as if none ended the search for others: each of an expression, those of the
 -- whole name that a oneway operation gives back, and that of an id's text whatever its name is. The
 -- one that is told is the least.
-use Rattle.std.specs.Prelude.{ℕ, ◌+◌, List, [], ◌∷◌, ◌++◌, map, not, Option, None, Some, Result, Ok, Err, if◌then◌else◌}
-use Rattle.idl_check.specs.Codes.{faults_by}
-use Rattle.idl_check.specs.Identifying.{given, has_id, is_id}
-use Rattle.idl_check.specs.Placing.{is_misplaced}
+use Rattle.std.specs.Prelude.{ℕ, ◌+◌, List, [], ◌∷◌, ◌++◌, map, Option, None, Some, Result, Ok, Err, if◌then◌else◌}
+use Rattle.idl_check.specs.Identifying.{given}
+use Rattle.idl_check.specs.Rules.{has_id, is_misplaced}
 use Rattle.idl_check.specs.Pragmas.{about, id_faults, said, text_faults, unnamed_faults}
 use Rattle.idl_check.specs.Using.{last_at}
 use Rattle.idl_check.specs.Values.{code_of}
@@ -27,7 +26,6 @@ use Rattle.idl_site.specs.declared.site.Target.{Target as Purpose}
 use Rattle.idl_site.specs.declared.site.Use.{Use}
 use Rattle.idl_syntax.specs.Parse.{pragma_faults}
 use Rattle.idl_tree.specs.Pragma.{pragma_of}
-use Rattle.idl_tree.specs.declared.expression.Expression.{Expression}
 use Rattle.idl_tree.specs.declared.name.ScopedName.{ScopedName}
 use Rattle.idl_tree.specs.declared.pragma.Pragma.{Pragma}
 use Rattle.idl_tree.specs.declared.pragma.Pragma.TheVariants as pragma

@@ -1,19 +1,18 @@
 -- Declared names: what they are declared as, and what is wrong with that.
-use Rattle.std.specs.Prelude.{ℕ, Bool, false, ◌&&◌, ◌||◌, List, [], ◌∷◌, fold, is_some, map, not, Option, None, Some, if◌then◌else◌}
-use Rattle.std.specs.Bool.{beq}
+use Rattle.std.specs.Prelude.{ℕ, Bool, false, ◌&&◌, ◌||◌, List, [], ◌∷◌, fold, is_some, map, Option, None, Some, if◌then◌else◌}
 use Rattle.std.specs.List.{list_any}
-use Rattle.std.specs.Str.{bytes_eq}
 use Rattle.idl_check.specs.Bodies.{Clauses, signature_of}
 use Rattle.idl_check.specs.Codes.{Table}
-use Rattle.idl_check.specs.Identifying.{has_other_prefix, ids_of, may_be_ahead, with_identity}
+use Rattle.idl_check.specs.Identifying.{ids_of, with_identity}
+use Rattle.idl_check.specs.Rules.{has_other_prefix, is_ahead, is_declared, is_inherited, is_introduced, is_name_of_scope, is_other_ahead, is_there, may_follow}
 use Rattle.idl_check.specs.declared.standing.Standing.{Standing}
 use Rattle.idl_event.specs.declared.code.Code.TheVariants.{AlreadyDeclared, NameOfScope, DeclaredAfterUse, OtherForward, InheritedTwice, OtherPrefix}
 use Rattle.idl_lex.specs.Keywords.{folded}
 use Rattle.idl_memo.specs.Query.{Done, Ask, and_then}
 use Rattle.idl_scope.specs.DataType.{plain_type}
 use Rattle.idl_scope.specs.Facts.{entity_in, entity_key, is_operation, with_addition}
-use Rattle.idl_scope.specs.Kind.{kind_eq, stage_eq}
-use Rattle.idl_scope.specs.Lookup.{Lookup, bases_of, inherits, is_scope, reached}
+use Rattle.idl_scope.specs.Kind.{kind_eq}
+use Rattle.idl_scope.specs.Lookup.{Lookup, bases_of, inherits, reached}
 use Rattle.idl_scope.specs.Path.{name_of}
 use Rattle.idl_scope.specs.declared.addition.Addition.{Addition}
 use Rattle.idl_scope.specs.declared.addition.Addition.TheVariants.{Declares}
@@ -166,44 +165,14 @@ standing turns s e =
       ids = ids;
     })))))
 
-abbrev pub is_ahead : Entity → Bool
-is_ahead e = stage_eq e.stage Ahead
-
--- A name may be declared again with the same spelling: a module, and what is declared ahead before
--- or after its definition.
-abbrev pub are_modules : Entity → Entity → Bool
-are_modules old new = kind_eq old.kind Module && kind_eq new.kind Module
-
-abbrev pub come_ahead : Entity → Entity → Bool
-come_ahead old new =
-    (may_be_ahead old.kind && may_be_ahead new.kind) && (is_ahead old || is_ahead new)
-
-abbrev pub may_follow : Entity → Entity → Bool
-may_follow old new =
-    bytes_eq (name_of old.path) (name_of new.path) && (are_modules old new || come_ahead old new)
-
--- but then as the same kind, and local as before or not
-abbrev pub differs : Entity → Entity → Bool
-differs old new = not (kind_eq old.kind new.kind) || not (beq old.is_local new.is_local)
-
--- whether an entity is there and passes a test
-abbrev pub is_there : Option Entity → (Entity → Bool) → Bool
-is_there None test = false
-is_there (Some old) test = test old
-
--- the name, in a scope that a name can lead to, is the scope's own
-abbrev pub is_name_of_scope : Scope → Entity → Bool
-is_name_of_scope s e =
-    is_scope s.kind && bytes_eq (folded (name_of s.path)) (folded (name_of e.path))
-
 -- the faults of a declared name
 abbrev pub declared_table : Scope → Standing → Entity → Table
 declared_table s standing e =
-    (is_there standing.there (λ old. not (may_follow old e)), AlreadyDeclared)
+    (is_declared standing.there e, AlreadyDeclared)
     ∷ (is_name_of_scope s e, NameOfScope)
-    ∷ (standing.is_used, DeclaredAfterUse)
-    ∷ (is_there standing.there (λ old. may_follow old e && differs old e), OtherForward)
-    ∷ (standing.is_inherited, InheritedTwice)
+    ∷ (is_introduced standing, DeclaredAfterUse)
+    ∷ (is_other_ahead standing.there e, OtherForward)
+    ∷ (is_inherited standing, InheritedTwice)
     ∷ (has_other_prefix standing.ids, OtherPrefix) ∷ []
 
 -- what is there already stays as it is where a module is opened again, or where it is declared

@@ -1,7 +1,8 @@
 -- What the laws of verdicts speak of.
 use Rattle.std.specs.Prelude.{◌≡◌, ◌<◌, ◌≤◌, ◌⊎◌, ◌+◌, ◌^◌, ℕ, length, max, Bool, false, List, [], ◌∷◌, flat_map, Option, None, Some}
 use Rattle.idl_check.specs.AllFaults.{site_faults}
-use Rattle.idl_check.specs.Placing.{is_misplaced, opened_kind, opening_faults}
+use Rattle.idl_check.specs.Placing.{opened_kind, opening_faults}
+use Rattle.idl_check.specs.Rules.{is_misplaced}
 use Rattle.idl_check.specs.Pragmas.{said}
 use Rattle.idl_check.specs.Verdict.{sound}
 use Rattle.idl_check.specs.Walk.{Walk, begin_of, first_walk, visit}

@@ -3,6 +3,7 @@ pub mod Codes
 pub mod Types
 pub mod Labels
 pub mod Values
+pub mod Rules
 pub mod Declaring
 pub mod Few
 pub mod Identifying

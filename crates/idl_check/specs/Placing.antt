@@ -1,15 +1,14 @@
 -- Where a unit may stand, and what it does to the open scopes.
-use Rattle.std.specs.Prelude.{ℕ, ◌+◌, ◌-◌, Bool, true, false, List, [], ◌∷◌, length, nat_eq, nat_le, not, Option, None, Some, if◌then◌else◌}
+use Rattle.std.specs.Prelude.{ℕ, ◌+◌, ◌-◌, Bool, true, false, List, [], ◌∷◌, Option, None, Some, if◌then◌else◌}
 use Rattle.idl_check.specs.Codes.{faults_by}
+use Rattle.idl_check.specs.Rules.{is_too_deep}
 use Rattle.idl_event.specs.declared.code.Code.TheVariants.{NestedTooDeep}
 use Rattle.idl_lex.specs.Tokens.{Token}
-use Rattle.idl_scope.specs.Kind.{kind_eq}
 use Rattle.idl_scope.specs.declared.addition.Step.{Step}
 use Rattle.idl_scope.specs.declared.addition.Step.TheVariants.{Stays, Opens, OpensNameless, Closes}
 use Rattle.idl_scope.specs.declared.answer.Scope.{Scope}
 use Rattle.idl_scope.specs.declared.kind.Kind.{Kind}
 use Rattle.idl_scope.specs.declared.kind.Kind.TheVariants as kind
-use Rattle.idl_tree.specs.declared.interface.Forward.TheVariants as forward
 use Rattle.idl_tree.specs.declared.unit.Tree.{Tree}
 use Rattle.idl_tree.specs.declared.unit.Tree.TheVariants as tree
 use Rattle.idl_unit.specs.Ending.{begins, opens, role, rule_of}
@@ -63,33 +62,10 @@ step_of (tree.Module name) scope = Opens (name ∷ scope) kind.Module
 step_of (tree.Interface i) scope = Opens (i.name ∷ scope) kind.Interface
 step_of other scope = Stays
 
--- how many scopes are open beside the global one, the last of these
-abbrev pub depth : List Scope → ℕ
-depth scopes = length scopes - 1
-
 -- an opening where 64 scopes are open, at its `{`
 abbrev pub opening_faults : List Token → List Scope → List Fault
 opening_faults tokens scopes =
     elim (opening_brace tokens) [
       | None ↦ []
-      | Some n ↦ faults_by n ((nat_le 64 (depth scopes), NestedTooDeep) ∷ [])
+      | Some n ↦ faults_by n ((is_too_deep scopes, NestedTooDeep) ∷ [])
     ]
-
--- in a scope that is an interface or not, a unit stands that may not stand there
-abbrev pub is_misplaced_in : Bool → Tree → Bool
-is_misplaced_in in_interface (tree.Module name) = in_interface
-is_misplaced_in in_interface (tree.Interface i) = in_interface
-is_misplaced_in in_interface (tree.Forward (forward.Interface is_local name)) = in_interface
-is_misplaced_in in_interface (tree.ReadonlyAttribute a) = not in_interface
-is_misplaced_in in_interface (tree.Attribute a) = not in_interface
-is_misplaced_in in_interface (tree.Operation o) = not in_interface
-is_misplaced_in in_interface other = false
-
-abbrev pub is_interface : List Scope → Bool
-is_interface [] = false
-is_interface (s ∷ scopes) = kind_eq s.kind kind.Interface
-
--- a unit that the innermost of these scopes doesn't hold; the global scope holds no closing
-abbrev pub is_misplaced : Tree → List Scope → Bool
-is_misplaced tree.Closing scopes = nat_eq (depth scopes) 0
-is_misplaced other scopes = is_misplaced_in (is_interface scopes) other

@@ -1,8 +1,9 @@
 -- Pragmas: what they say of prefixes and ids, and what is wrong with that. The tokens are the word
 -- `pragma`, its own word, and from the third on what it speaks of.
-use Rattle.std.specs.Prelude.{ℕ, ◌+◌, List, [], ◌∷◌, ◌++◌, not, Option, None, Some, if◌then◌else◌}
+use Rattle.std.specs.Prelude.{ℕ, ◌+◌, List, [], ◌∷◌, ◌++◌, Option, None, Some, if◌then◌else◌}
 use Rattle.idl_check.specs.Codes.{faults_by}
-use Rattle.idl_check.specs.Identifying.{given, has_id, is_fixed, is_given, is_id, is_visible, versioned}
+use Rattle.idl_check.specs.Identifying.{given, versioned}
+use Rattle.idl_check.specs.Rules.{has_id, is_fixed, is_given, is_no_id, is_no_prefix}
 use Rattle.idl_check.specs.Using.{last_at, name_code, part_at}
 use Rattle.idl_event.specs.declared.code.Code.TheVariants.{BadIdText, NoRepositoryId, RepeatedId, RepeatedVersion}
 use Rattle.idl_memo.specs.Query.{Done, Ask, and_then}
@@ -36,11 +37,11 @@ refused_for faults = record { faults = faults; additions = []; step = Stays }
 
 -- the faults of a prefix
 abbrev pub prefix_faults : List ℕ → List Fault
-prefix_faults text = faults_by 2 ((not (is_visible text), BadIdText) ∷ [])
+prefix_faults text = faults_by 2 ((is_no_prefix text, BadIdText) ∷ [])
 
 -- that of the text of an id behind a name that ends at this token
 abbrev pub text_faults : ℕ → List ℕ → List Fault
-text_faults at text = faults_by (at + 1) ((not (is_id text), BadIdText) ∷ [])
+text_faults at text = faults_by (at + 1) ((is_no_id text, BadIdText) ∷ [])
 
 -- those of an id, and of a version, by what identifies what the name denotes
 abbrev pub id_faults : ℕ → List ℕ → Identity → List Fault

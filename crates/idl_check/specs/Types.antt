@@ -1,9 +1,9 @@
 -- Types: what constants may be of, what may discriminate a union, and what is not yet complete.
-use Rattle.std.specs.Prelude.{ℕ, zero, suc, Bool, true, false, ◌&&◌, ◌||◌, not, List, Option, None, Some, if◌then◌else◌}
+use Rattle.std.specs.Prelude.{ℕ, zero, suc, Bool, true, false, not, List, Option, None, Some, if◌then◌else◌}
 use Rattle.idl_memo.specs.Query.{Done, Ask}
 use Rattle.idl_scope.specs.DataType.{constants_in, named_in, plain_type, with_layer}
 use Rattle.idl_scope.specs.Facts.{entity_in, entity_key}
-use Rattle.idl_scope.specs.Kind.{kind_eq, stage_eq}
+use Rattle.idl_scope.specs.Kind.{kind_eq}
 use Rattle.idl_scope.specs.Lookup.{Lookup}
 use Rattle.idl_scope.specs.declared.data_type.DataType.{DataType}
 use Rattle.idl_scope.specs.declared.data_type.Element.{Element}
@@ -11,7 +11,7 @@ use Rattle.idl_scope.specs.declared.data_type.Element.TheVariants.{Constants, Na
 use Rattle.idl_scope.specs.declared.data_type.Layer.TheVariants.{Sequence}
 use Rattle.idl_scope.specs.declared.unvalued.Unvalued.TheVariants.{Float, Double, LongDouble, Any, Object}
 use Rattle.idl_scope.specs.declared.entity.Entity.{Entity}
-use Rattle.idl_scope.specs.declared.kind.Kind.TheVariants.{Structure, Union, Enumeration, Alias}
+use Rattle.idl_scope.specs.declared.kind.Kind.TheVariants.{Enumeration, Alias}
 use Rattle.idl_scope.specs.declared.kind.Stage.TheVariants.{Complete}
 use Rattle.idl_site.specs.declared.site.Shape.{Shape}
 use Rattle.idl_site.specs.declared.site.Shape.TheVariants as shape
@@ -22,11 +22,6 @@ use Rattle.idl_tree.specs.declared.data_type.BasicType.TheVariants as basic
 use Rattle.idl_value.specs.Target.{discriminates, target_of}
 use Rattle.idl_value.specs.declared.target.Target.{Target}
 use Rattle.idl_value.specs.declared.target.Target.TheVariants as target
-
--- A struct or union stands only as the element of a sequence until it is complete.
-abbrev pub is_incomplete : Entity → Bool
-is_incomplete e =
-    (kind_eq e.kind Structure || kind_eq e.kind Union) && not (stage_eq e.stage Complete)
 
 -- the type that was written last: what is declared at a path, where that is kept, and else the type
 -- that is told

@@ -1,20 +1,18 @@
 -- Used names: what they may denote where they stand, and what bases bring.
-use Rattle.std.specs.Prelude.{ℕ, ◌+◌, ◌*◌, Bool, true, false, ◌&&◌, List, [], ◌∷◌, fold, is_none, is_some, length, map, not, None, Option, Some, if◌then◌else◌}
-use Rattle.std.specs.List.{list_any}
-use Rattle.std.specs.Map.{lookup}
+use Rattle.std.specs.Prelude.{ℕ, ◌+◌, ◌*◌, Bool, true, false, List, [], ◌∷◌, fold, length, map, not, Option, Some, if◌then◌else◌}
 use Rattle.std.specs.Str.{bytes_eq}
 use Rattle.idl_base.specs.Table.{insert_entry}
 use Rattle.idl_check.specs.Codes.{Table}
 use Rattle.idl_check.specs.Labels.{Labels, no_labels}
-use Rattle.idl_check.specs.Types.{constants_of, is_incomplete, may_switch}
+use Rattle.idl_check.specs.Types.{constants_of}
+use Rattle.idl_check.specs.Rules.{brings_another, has_no_constants, is_incomplete, is_local_base, is_named_again, is_no_discriminator, is_open_base, suits}
 use Rattle.idl_check.specs.Values.{Values, with_operand}
 use Rattle.idl_event.specs.declared.code.Code.{Code}
 use Rattle.idl_event.specs.declared.code.Code.TheVariants as code
 use Rattle.idl_lex.specs.Keywords.{folded}
 use Rattle.idl_scope.specs.DataType.{plain_type}
 use Rattle.idl_scope.specs.Facts.{joined, with_addition}
-use Rattle.idl_scope.specs.Kind.{kind_eq, stage_eq}
-use Rattle.idl_scope.specs.Path.{name_of, path_eq}
+use Rattle.idl_scope.specs.Path.{name_of}
 use Rattle.idl_scope.specs.declared.addition.Addition.{Addition}
 use Rattle.idl_scope.specs.declared.addition.Addition.TheVariants.{Uses}
 use Rattle.idl_scope.specs.declared.answer.Scope.{Scope}
@@ -23,11 +21,8 @@ use Rattle.idl_scope.specs.declared.data_type.Element.TheVariants.{Named}
 use Rattle.idl_scope.specs.declared.entity.Entity.{Entity}
 use Rattle.idl_scope.specs.declared.fault.NameCode.{NameCode}
 use Rattle.idl_scope.specs.declared.fault.NameCode.TheVariants.{Undeclared, Ambiguous, OtherSpelling, NoScope}
-use Rattle.idl_scope.specs.declared.kind.Kind.{Kind}
-use Rattle.idl_scope.specs.declared.kind.Kind.TheVariants.{Interface, Structure, Union, Exception, Enumeration, Alias, Native}
-use Rattle.idl_scope.specs.declared.kind.Stage.TheVariants.{Complete}
 use Rattle.idl_site.specs.declared.site.Use.{Use}
-use Rattle.idl_site.specs.declared.site.Use.TheVariants.{AsBase, AsType, AsElement, AsConstantType, AsDiscriminator, AsOperand, Raised, RaisedBySet}
+use Rattle.idl_site.specs.declared.site.Use.TheVariants.{AsBase, AsType, AsElement, AsConstantType, AsDiscriminator, AsOperand}
 use Rattle.idl_tree.specs.declared.name.ScopedName.{ScopedName}
 use Rattle.idl_value.specs.declared.target.Target.{Target}
 use Rattle.idl_value.specs.declared.value.Value.{Value}
@@ -46,27 +41,6 @@ name_code Ambiguous = code.AmbiguousName
 name_code OtherSpelling = code.OtherCase
 name_code NoScope = code.NoScope
 
-abbrev pub is_type : Kind → Bool
-is_type Interface = true
-is_type Structure = true
-is_type Union = true
-is_type Enumeration = true
-is_type Alias = true
-is_type Native = true
-is_type other = false
-
--- whether a name may be used so that denotes this: an operand is an enumerator, or a constant that
--- is not the one whose value is being told
-abbrev pub suits : Use → Entity → Bool
-suits (AsBase is_local) e = kind_eq e.kind Interface
-suits AsType e = is_type e.kind
-suits AsElement e = is_type e.kind
-suits AsConstantType e = is_type e.kind
-suits AsDiscriminator e = is_type e.kind
-suits AsOperand e = is_some e.value
-suits Raised e = kind_eq e.kind Exception
-suits RaisedBySet e = kind_eq e.kind Exception
-
 -- the bases that were named so far: their paths, and those of the operations and attributes that
 -- they bring, by the folded names
 pub record Bases : Type 0 where
@@ -75,12 +49,6 @@ pub record Bases : Type 0 where
 
 abbrev pub no_bases : Bases
 no_bases = record { paths = []; operations = [] }
-
--- an operation or attribute stands beside another one that was brought under its name
-abbrev pub is_another : List (List ℕ × List (List ℕ)) → List (List ℕ) → Bool
-is_another operations p =
-    elim (lookup (bytes_eq (folded (name_of p))) operations)
-    [ None ↦ false | Some q ↦ not (path_eq p q) ]
 
 -- the bases with one more
 abbrev pub with_operation : List (List ℕ × List (List ℕ)) → List (List ℕ)
@@ -96,10 +64,10 @@ with_base e bases = record {
 -- the faults of a base of an interface, which is local or not
 abbrev pub base_table : Bool → Bases → Entity → Table
 base_table is_local bases e =
-    (not (stage_eq e.stage Complete), code.IncompleteBase)
-    ∷ (list_any (path_eq e.path) bases.paths, code.RepeatedBase)
-    ∷ (list_any (is_another bases.operations) e.operations, code.InheritedTwice)
-    ∷ (e.is_local && not is_local, code.LocalBase) ∷ []
+    (is_open_base e, code.IncompleteBase)
+    ∷ (is_named_again bases.paths e, code.RepeatedBase)
+    ∷ (brings_another bases.operations e, code.InheritedTwice)
+    ∷ (is_local_base is_local e, code.LocalBase) ∷ []
 
 abbrev pub is_base : Use → Bool
 is_base (AsBase is_local) = true
@@ -110,11 +78,11 @@ abbrev pub suited_table : Use → Bases → Entity → Entity → Table
 suited_table (AsBase is_local) bases e behind = base_table is_local bases e
 suited_table AsType bases e behind = (is_incomplete e, code.IncompleteType) ∷ []
 suited_table AsConstantType bases e behind =
-    (is_none (constants_of behind), code.NoConstantType)
+    (has_no_constants (constants_of behind), code.NoConstantType)
     ∷ (is_incomplete e, code.IncompleteType) ∷ []
 suited_table AsDiscriminator bases e behind =
     (is_incomplete e, code.IncompleteType)
-    ∷ (not (may_switch (constants_of behind)), code.BadDiscriminator) ∷ []
+    ∷ (is_no_discriminator (constants_of behind), code.BadDiscriminator) ∷ []
 suited_table other bases e behind = []
 
 abbrev pub used_table : Use → Bases → Entity → Entity → Table

@@ -3,7 +3,8 @@
 use Rattle.std.specs.Prelude.{ℕ, Bool, suc, ◌-◌, List, [], ◌∷◌, ◌++◌, length, false, Option, None, Some, Result, Ok, if◌then◌else◌}
 use Rattle.idl_check.specs.Bodies.{raising}
 use Rattle.idl_check.specs.Declaring.{finished, with_finished}
-use Rattle.idl_check.specs.Placing.{depth, faulty_step, is_misplaced, opened_kind, opening_faults, step_of}
+use Rattle.idl_check.specs.Placing.{faulty_step, opened_kind, opening_faults, step_of}
+use Rattle.idl_check.specs.Rules.{depth, is_misplaced}
 use Rattle.idl_check.specs.Pragmas.{Said, said_by}
 use Rattle.idl_check.specs.Row.{Rest, row_of}
 use Rattle.idl_check.specs.Walk.{Walk, first_walk, walk}

@@ -1,11 +1,11 @@
 -- The walk over the sites of a unit, in the order of its tokens: what is asked at each, what is
 -- wrong there, and what it adds.
 use Rattle.std.specs.Prelude.{ℕ, ◌+◌, Bool, true, false, ◌&&◌, ◌||◌, List, [], ◌∷◌, ◌++◌, drop, is_some, min, nat_lt, not, take, Option, None, Some, Result, Ok, Err, if◌then◌else◌, option_to_list}
-use Rattle.std.specs.List.{list_any}
 use Rattle.idl_check.specs.Bodies.{Body, Clauses, array_of, begun_body, no_clauses, told_innermost, with_array_member, with_body_label, with_context, with_member, with_raised}
 use Rattle.idl_check.specs.Codes.{faults_by}
 use Rattle.idl_check.specs.Declaring.{Written, declared_table, entity_of, kind_of, standing, with_declared, written_after}
-use Rattle.idl_check.specs.Labels.{Labels, is_idle, is_labelled, no_labels, with_default, with_label}
+use Rattle.idl_check.specs.Labels.{Labels, no_labels, with_default, with_label}
+use Rattle.idl_check.specs.Rules.{is_default_again, is_label_again, is_no_discriminator, is_useless_default}
 use Rattle.idl_check.specs.Types.{looked_through, target_in, written_as}
 use Rattle.idl_check.specs.Using.{Bases, bases_after, constants_after, last_at, name_code, part_at, type_after, unions_after, used_table, values_after, with_uses}
 use Rattle.idl_check.specs.Values.{Values, begun_at, code_of, evaluation_for, no_values, with_value}
@@ -41,7 +41,7 @@ use Rattle.idl_unit.specs.Faults.{least_fault}
 use Rattle.idl_unit.specs.TokenRules.{fault_at, first}
 use Rattle.idl_unit.specs.declared.fault.Fault.{Fault}
 use Rattle.idl_value.specs.Evaluation.{Evaluation, first_of}
-use Rattle.idl_value.specs.Target.{discriminates, target_of}
+use Rattle.idl_value.specs.Target.{target_of}
 use Rattle.idl_value.specs.declared.outcome.Outcome.{Outcome}
 use Rattle.idl_value.specs.declared.outcome.Outcome.TheVariants as outcome
 use Rattle.idl_value.specs.declared.target.Target.{Target}
@@ -241,7 +241,7 @@ scope_visit w =
       | None ↦ quiet w
       | Some s ↦
           if kind_eq s.kind Union
-          then faulty_if (list_any is_idle (take 1 w.unions)) code.UselessDefault w
+          then faulty_if (is_useless_default w.unions) code.UselessDefault w
           (record (ended_scope w) { unions = drop 1 w.unions })
           else quiet (ended_scope w)
     ]
@@ -277,7 +277,7 @@ valued_after w purpose.Label v = record w {
 valued_after w other v = w
 
 abbrev pub is_repeated : Walk → Purpose → Value → Bool
-is_repeated w purpose.Label v = list_any (λ l. is_labelled l v) (take 1 w.unions)
+is_repeated w purpose.Label v = is_label_again w.unions v
 is_repeated w other v = false
 
 -- the number of its first token, and of the one so many further on, none behind the next token
@@ -339,13 +339,13 @@ visit turns (item.Enumerates names) w =
     }))
 visit turns (item.Switches discrete) w =
     let t = target_of discrete in
-    Done (faulty_if (not (discriminates t)) code.BadDiscriminator w
+    Done (faulty_if (is_no_discriminator (Some t)) code.BadDiscriminator w
     (record w {
       written = record w.written { data_type = Some (plain_type (Constants t)) };
       unions = no_labels (Some t) 0 ∷ w.unions;
     }))
 visit turns item.Default w =
-    Done (faulty_if (list_any (λ l. l.has_default) (take 1 w.unions)) code.RepeatedLabel w
+    Done (faulty_if (is_default_again w.unions) code.RepeatedLabel w
     (record w {
       unions = with_labels with_default w.unions;
       bodies = with_body_label None w.bodies;

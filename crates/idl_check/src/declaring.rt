@@ -1,12 +1,12 @@
 //! Declared names: what they are declared as, and what is wrong with that.
 
 ghost use Rattle.std.specs.Prelude.{◌≡◌, ◌∷◌, [], IfOk, IfSome, None, OnOk, Some, true};
-ghost use Rattle.idl_check.specs.Declaring.{are_modules, come_ahead, data_type_in, declared_table, differs, entity_of, finished, is_local_in, is_name_of_scope, is_oneway_in, is_readonly_in, kind_of, may_follow, stage_of, stays, value_in, written_after};
+ghost use Rattle.idl_check.specs.Declaring.{data_type_in, declared_table, entity_of, finished, is_local_in, is_oneway_in, is_readonly_in, kind_of, stage_of, stays, value_in, written_after};
+ghost use Rattle.idl_check.specs.Rules.{are_modules, come_ahead, differs, is_name_of_scope, may_be_ahead, may_follow};
 ghost use Rattle.idl_check.specs.Held.{held_written};
 ghost use Rattle.idl_check.specs.Bodies.{array_of};
 ghost use Rattle.idl_scope.specs.DataType.{plain_type};
 ghost use Rattle.idl_scope.specs.declared.data_type.Element.TheVariants.{Named};
-ghost use Rattle.idl_check.specs.Identifying.{may_be_ahead};
 ghost use Rattle.idl_check.specs.Codes.{codes_in};
 ghost use Rattle.idl_unit.specs.TokenRules.{first};
 

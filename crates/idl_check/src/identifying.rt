@@ -2,7 +2,8 @@
 
 ghost use Rattle.std.specs.Prelude.{◌≡◌, ◌++◌, IfOk, None, OnOk, Some, decimal, if◌then◌else◌};
 ghost use Rattle.std.specs.Str.{bytes_eq};
-ghost use Rattle.idl_check.specs.Identifying.{given, has_id, has_other_prefix, id_before, ids_of, is_fixed, is_given, is_id, is_visible, may_be_ahead, versioned};
+ghost use Rattle.idl_check.specs.Identifying.{given, id_before, ids_of, versioned};
+ghost use Rattle.idl_check.specs.Rules.{has_id, has_other_prefix, is_fixed, is_given, is_id, is_visible, may_be_ahead};
 ghost use Rattle.idl_memo.specs.Query.{run};
 ghost use Rattle.idl_scope.specs.Facts.{answers};
 ghost use Rattle.idl_scope.specs.Key.{key_eq};

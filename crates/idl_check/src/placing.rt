@@ -1,7 +1,8 @@
 //! Where a unit may stand, and what it does to the open scopes.
 
 ghost use Rattle.std.specs.Prelude.{◌≡◌, IfOk, if◌then◌else◌, option_to_list};
-ghost use Rattle.idl_check.specs.Placing.{brace_from, depth, faulty_step, heading_kind, is_closing_by, is_interface, is_misplaced, is_module, opened_kind, opening_brace, opening_faults, step_of};
+ghost use Rattle.idl_check.specs.Placing.{brace_from, faulty_step, heading_kind, is_closing_by, is_module, opened_kind, opening_brace, opening_faults, step_of};
+ghost use Rattle.idl_check.specs.Rules.{depth, is_interface, is_misplaced};
 ghost use Rattle.idl_scope.specs.declared.addition.Step.TheVariants as steps;
 ghost use Rattle.idl_unit.specs.Ending.{begins, opens};
 

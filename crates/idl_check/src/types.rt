@@ -2,7 +2,8 @@
 
 ghost use Rattle.std.specs.Prelude.{◌≡◌, ℕ, suc, IfOk};
 ghost use Rattle.std.specs.Option.{option_copied, option_map};
-ghost use Rattle.idl_check.specs.Types.{aliased, behind_typedefs, bound_or_none, constants_of, element_of, is_incomplete, looked_through, may_switch, path_in, string_of, written_as};
+ghost use Rattle.idl_check.specs.Types.{aliased, behind_typedefs, bound_or_none, constants_of, element_of, looked_through, may_switch, path_in, string_of, written_as};
+ghost use Rattle.idl_check.specs.Rules.{is_incomplete};
 ghost use Rattle.idl_memo.specs.Query.{run};
 ghost use Rattle.idl_scope.specs.DataType.{constants_in, with_layer};
 ghost use Rattle.idl_scope.specs.Facts.{answers};

@@ -1,7 +1,8 @@
 //! Used names: what they may denote where they stand.
 
 ghost use Rattle.std.specs.Prelude.{◌≡◌, ◌≤◌, ◌+◌, ◌*◌, IfOk, OnOk, false, length, take};
-ghost use Rattle.idl_check.specs.Using.{is_base, part_at, last_at, name_code, is_type, suited_table, suits, used_table, with_uses, Bases as NamedBases};
+ghost use Rattle.idl_check.specs.Using.{is_base, part_at, last_at, name_code, suited_table, used_table, with_uses, Bases as NamedBases};
+ghost use Rattle.idl_check.specs.Rules.{is_type, suits};
 ghost use Rattle.idl_check.specs.Codes.{codes_in};
 ghost use Rattle.idl_check.specs.Types.{constants_of};
 ghost use Rattle.idl_scope.specs.declared.entity.Entity.{Entity as ScopeEntity};

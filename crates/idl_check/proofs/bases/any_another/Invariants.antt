@@ -1,6 +1,6 @@
 use Rattle.std.proofs.Common.{◌≡◌, drop}
 use Rattle.std.specs.List.{list_any}
-use Rattle.idl_check.specs.Using.{is_another}
+use Rattle.idl_check.specs.Rules.{is_another}
 use Rattle.idl_check.proofs.bases.any_another.Given as goal
 
 -- what holds of one of all is asked of the rest

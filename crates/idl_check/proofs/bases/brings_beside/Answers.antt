@@ -3,7 +3,8 @@ use Rattle.std.specs.Prelude.{fold, IfOk}
 use Rattle.std.specs.List.{list_any}
 use Rattle.std.specs.Map.{lookup}
 use Rattle.std.specs.Str.{bytes_eq}
-use Rattle.idl_check.specs.Using.{is_another, with_operation}
+use Rattle.idl_check.specs.Using.{with_operation}
+use Rattle.idl_check.specs.Rules.{is_another}
 use Rattle.idl_check.proofs.BaseLemmas.{alike-any}
 use Rattle.idl_check.proofs.bases.brings_beside.Goals as goal
 

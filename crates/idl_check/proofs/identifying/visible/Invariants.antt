@@ -1,5 +1,5 @@
 use Rattle.std.proofs.Common.{◌≡◌, ◌++◌, drop}
-use Rattle.idl_check.specs.Identifying.{is_visible}
+use Rattle.idl_check.specs.Rules.{is_visible}
 use Rattle.idl_check.proofs.identifying.visible.Given as goal
 
 -- the bytes so far, which are visible, and the rest are the text

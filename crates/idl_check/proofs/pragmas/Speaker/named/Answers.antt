@@ -4,7 +4,7 @@ use Rattle.idl_check.proofs.PartLemmas.{part-within}
 use Rattle.idl_check.proofs.PragmaLemmas.{about-named, about-none, named-found, named-unfound, named_at}
 use Rattle.idl_check.proofs.VisitLemmas.{runs_over}
 use Rattle.idl_check.specs.Held.{said_of}
-use Rattle.idl_check.specs.Identifying.{has_id}
+use Rattle.idl_check.specs.Rules.{has_id}
 use Rattle.idl_check.specs.Pragmas.{refused_for}
 use Rattle.idl_check.specs.Using.{last_at, name_code, part_at}
 use Rattle.idl_event.specs.declared.code.Code.TheVariants.{NoRepositoryId}

@@ -2,7 +2,8 @@ use Rattle.std.proofs.Common.{◌∷◌, [], Ok, Err, None, Some, ap, sym, ◌�
 use Rattle.std.proofs.lemmas.Result.{IfOk-weaker}
 use Rattle.idl_check.proofs.PragmaLemmas.{spoken-by, verdict-faulty, verdict-sound, version-fixed, version-sound}
 use Rattle.idl_check.specs.Held.{said_of}
-use Rattle.idl_check.specs.Identifying.{is_fixed, versioned}
+use Rattle.idl_check.specs.Identifying.{versioned}
+use Rattle.idl_check.specs.Rules.{is_fixed}
 use Rattle.idl_check.specs.Pragmas.{version_faults}
 use Rattle.idl_check.specs.Using.{last_at}
 use Rattle.idl_check.specs.Verdict.{faulty, pragma_verdict}
