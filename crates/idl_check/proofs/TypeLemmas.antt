@@ -196,7 +196,7 @@ module _ (own : List Addition) (bank : Key → Option Answer) (name : Entity) wh
         let more : suc turns + extra ≡ suc (turns + extra) = omega arith in
         ap (λ m. runs own bank (behind_typedefs m name e) log) more
         ∙ by_next (λ q h next is new. more-same extra turns (met ++ h.path ∷ []) h (noted key_eq bank log (entity_key q)) (on_way met e log q h next is new way)
-          (let l = length-append met (h.path ∷ []) in omega (arith, l, few))) (path_in (aliased e)) refl
+        (let l = length-append met (h.path ∷ []) in omega (arith, l, few))) (path_in (aliased e)) refl
       where
         -- the chain goes on through one more
         GoesOn : Type 0
