@@ -9,7 +9,7 @@ ghost use Rattle.idl_tree.specs.Reading.{first, many_of};
 ghost use Rattle.idl_syntax.specs.Gives.{Advances, Reads, Remains};
 ghost use Rattle.idl_syntax.specs.Nested.{nested};
 
-use crate::cursor::{behind, behind_word, boxed, closed, identifier, is_at, is_at_word, keyword};
+use crate::cursor::{behind, behind_word, closed, identifier, is_at, is_at_word, keyword};
 use crate::data_type::{data_type, discrete_type};
 use crate::declarator::{declarator, declarators};
 use crate::error::ReadError;
@@ -185,7 +185,7 @@ pub fn member_type(
 {
     if is_at_construction(tokens) {
         let (construction, rest) = construction(alloc, depth, tokens)?;
-        let construction = boxed(alloc, construction)?;
+        let construction = Boxed::new(alloc, construction)?;
         Ok((MemberType::Construction(construction), rest))
     } else {
         let (kind, rest) = data_type(alloc, depth, tokens)?;
@@ -257,13 +257,12 @@ pub fn structure_rest(
     let rest = behind(tokens, Mark::OpenBrace)?;
     let (first, rest) = member(alloc, depth, rest)?;
     let (more, rest) = members(alloc, depth, rest)?;
-    let rest = behind(rest, Mark::CloseBrace)?;
     let structure = Structure {
         name,
         first,
         rest: more,
     };
-    Ok((boxed(alloc, structure)?, rest))
+    closed(Boxed::new(alloc, structure)?, rest, Mark::CloseBrace)
 }
 
 /// A union.
@@ -318,14 +317,13 @@ fn union_cases(
     let (first, rest) = case(alloc, depth, rest)?;
     let (more, rest) = cases(alloc, depth, rest)?;
     let (name, discriminator) = head;
-    let rest = behind(rest, Mark::CloseBrace)?;
     let union = Union {
         name,
         discriminator,
         first,
         rest: more,
     };
-    Ok((boxed(alloc, union)?, rest))
+    closed(Boxed::new(alloc, union)?, rest, Mark::CloseBrace)
 }
 
 /// A member of a union, with its labels.
