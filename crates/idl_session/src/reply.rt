@@ -28,6 +28,7 @@ pub fn write_ok<K: Sink>(sink: &mut K) -> Result<(), WriteFailed>
 }
 
 /// `refused` and the number of the refusal
+#[inline(never)]
 pub fn write_refused<K: Sink>(sink: &mut K, refusal: Refusal) -> Result<(), WriteFailed>
     requires counts { K.failures sink.old < 2 ^ 64 - 1 }
 
@@ -84,6 +85,7 @@ pub fn write_lines<K: Sink>(sink: &mut K, rows: &[Row]) -> Result<(), WriteFaile
 }
 
 /// `work`, and how many roots were expanded, declarations checked and entries printed
+#[inline(never)]
 pub fn write_work<K: Sink>(sink: &mut K, work: Work) -> Result<(), WriteFailed>
     requires counts { K.failures sink.old < 2 ^ 64 - 1 }
 

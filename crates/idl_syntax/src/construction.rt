@@ -174,6 +174,7 @@ fn construction_inside(
 /// A type, or one that is declared in place.
 #[cycle(construction)]
 #[tactic(auto, unfolding(idl_tree::specs::ReadConstruction::member_type_with))]
+#[inline(always)]
 pub fn member_type(
     alloc: Global,
     depth: usize,
@@ -228,7 +229,7 @@ pub fn members(
 /// A struct.
 #[cycle(construction)]
 #[tactic(auto, unfolding(idl_tree::specs::ReadConstruction::structure_with))]
-#[inline(never)]
+#[inline(always)]
 fn structure(
     alloc: Global,
     depth: usize,
@@ -268,7 +269,7 @@ pub fn structure_rest(
 /// A union.
 #[cycle(construction)]
 #[tactic(auto, unfolding(idl_tree::specs::ReadConstruction::union_with))]
-#[inline(never)]
+#[inline(always)]
 fn union_type(
     alloc: Global,
     depth: usize,
@@ -304,6 +305,7 @@ pub fn union_rest(
 /// The cases of the union with this name and discriminator, in braces.
 #[cycle(construction)]
 #[tactic(auto, unfolding(idl_tree::specs::ReadConstruction::cases_with))]
+#[inline(never)]
 fn union_cases(
     alloc: Global,
     depth: usize,
@@ -346,6 +348,7 @@ fn case(alloc: Global, depth: usize, tokens: &[Token]) -> Result<(Case, &[Token]
 
 /// The cases before a closing brace.
 #[cycle(construction)]
+#[inline(always)]
 fn cases(alloc: Global, depth: usize, tokens: &[Token]) -> Result<(Seq<Case>, &[Token]), ReadError>
     ensures reads { Reads (many_of goes_on (nested case_with depth)) tokens.now result }
     ensures within { Remains tokens.now result }

@@ -55,6 +55,7 @@ pub fn unit(alloc: Global, depth: usize, tokens: &[Token]) -> Result<(Tree, &[To
 
 /// A struct, or its declaration ahead.
 #[tactic(auto, unfolding(idl_tree::specs::ReadUnit::structure_unit_with, idl_tree::specs::ReadUnit::ended_with, idl_tree::specs::ReadUnit::ahead_at))]
+#[inline(never)]
 fn structure_unit(
     alloc: Global,
     depth: usize,
@@ -83,6 +84,7 @@ fn structure_unit(
 
 /// A union, or its declaration ahead.
 #[tactic(auto, unfolding(idl_tree::specs::ReadUnit::union_unit_with, idl_tree::specs::ReadUnit::ended_with, idl_tree::specs::ReadUnit::ahead_at))]
+#[inline(never)]
 fn union_unit(alloc: Global, depth: usize, tokens: &[Token]) -> Result<(Tree, &[Token]), ReadError>
     ensures reads { Reads (nested union_unit_with depth) tokens.now result }
     ensures shorter { Advances tokens.now result }
@@ -127,6 +129,7 @@ fn typedef(alloc: Global, depth: usize, tokens: &[Token]) -> Result<(Typedef, &[
 
 /// A typedef.
 #[tactic(auto, unfolding(idl_tree::specs::ReadUnit::ended_with))]
+#[inline(never)]
 fn typedef_unit(
     alloc: Global,
     depth: usize,
@@ -205,6 +208,7 @@ fn constant(
 
 /// A constant.
 #[tactic(auto, unfolding(idl_tree::specs::ReadUnit::ended_with))]
+#[inline(never)]
 fn constant_unit(
     alloc: Global,
     depth: usize,
@@ -237,6 +241,7 @@ fn exception(
 
 /// An exception.
 #[tactic(auto, unfolding(idl_tree::specs::ReadUnit::ended_with))]
+#[inline(never)]
 fn exception_unit(
     alloc: Global,
     depth: usize,
@@ -252,6 +257,7 @@ fn exception_unit(
 
 /// An attribute that is read alone.
 #[tactic(auto, unfolding(idl_tree::specs::ReadUnit::ended_with))]
+#[inline(never)]
 fn readonly_attribute_unit(
     alloc: Global,
     depth: usize,
@@ -267,6 +273,7 @@ fn readonly_attribute_unit(
 
 /// An attribute that is read and written.
 #[tactic(auto, unfolding(idl_tree::specs::ReadUnit::ended_with))]
+#[inline(never)]
 fn attribute_unit(
     alloc: Global,
     depth: usize,
@@ -282,6 +289,7 @@ fn attribute_unit(
 
 /// An operation.
 #[tactic(auto, unfolding(idl_tree::specs::ReadUnit::ended_with))]
+#[inline(never)]
 fn operation_unit(
     alloc: Global,
     depth: usize,
