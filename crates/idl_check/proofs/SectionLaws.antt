@@ -4,7 +4,7 @@ use Rattle.std.proofs.lemmas.List.{map-append}
 use Rattle.std.proofs.lemmas.List.Elements.{All-head, All-tail, All-weaker}
 use Rattle.std.specs.Prelude.{All, flat_map}
 use Rattle.idl_check.specs.AllFaults.{evaluation_faults, site_faults, whole_visit}
-use Rattle.idl_check.specs.Sections.{AreBracketed, IsFormed, Section, Single, Returned, Whole, is_single, is_tokens, section_sites}
+use Rattle.idl_check.specs.Sections.{IsFormed, Section, Single, Returned, Whole, is_tokens, section_sites}
 use Rattle.idl_check.specs.Values.{begun_at}
 use Rattle.idl_check.specs.Walk.{Visit, Walk, begin_of, evaluation_at, given_back, label_target, noted, passed, used, value_visit, visit, with_oneway}
 use Rattle.idl_event.specs.declared.code.Code.TheVariants.{BadOneway}
@@ -12,7 +12,7 @@ use Rattle.idl_memo.specs.Query.{outcome}
 use Rattle.idl_scope.specs.declared.answer.Answer.{Answer}
 use Rattle.idl_scope.specs.declared.key.Key.{Key}
 use Rattle.idl_site.specs.ExpressionParts.{expression_parts, value_parts}
-use Rattle.idl_site.specs.Item.{Item, item_length, item_of, items, items_length, Item as item}
+use Rattle.idl_site.specs.Item.{Item, item_of, items, items_length, Item as item}
 use Rattle.idl_site.specs.Part.{Part as part}
 use Rattle.idl_site.specs.declared.site.Target.{Target as Purpose}
 use Rattle.idl_site.specs.declared.site.Target.TheVariants as purpose
