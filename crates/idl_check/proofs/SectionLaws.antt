@@ -1,5 +1,5 @@
 -- Over bracketed sites the least of all faults is the least of those to which the walk comes.
-use Rattle.std.proofs.Common.{◌≡◌, ◌∙◌, ℕ, ◌+◌, ◌^◌, ◌<◌, ◌≤◌, Bool, true, false, cond, List, [], ◌∷◌, ◌++◌, length, Option, None, Some, append_assoc, refl, sym, ap, subst, arith}
+use Rattle.std.proofs.Common.{◌≡◌, ◌∙◌, ℕ, ◌+◌, ◌^◌, ◌<◌, Bool, true, false, cond, List, [], ◌∷◌, ◌++◌, length, Option, None, Some, append_assoc, refl, sym, ap, subst, arith}
 use Rattle.std.proofs.lemmas.List.{map-append}
 use Rattle.std.proofs.lemmas.List.Elements.{All-head, All-tail, All-weaker}
 use Rattle.std.specs.Prelude.{All, flat_map}
@@ -24,7 +24,7 @@ use Rattle.idl_unit.specs.TokenRules.{fault_at}
 use Rattle.idl_unit.specs.declared.fault.Fault.{Fault}
 use Rattle.idl_value.specs.Evaluation.{Evaluation, Faulty, Valued, first_of}
 use Rattle.idl_check.proofs.AlikeLemmas.{AreAlike, alike-append, alike-behind}
-use Rattle.idl_check.proofs.Bracketing.{tokens-single}
+use Rattle.idl_check.proofs.BracketLemmas.{tokens-single}
 use Rattle.idl_check.proofs.ExpressionFaults.{alike-expression, expression-count, expression-items, for-ordered}
 use Rattle.idl_check.proofs.FaultOrder.{Leads, leads-later}
 use Rattle.idl_check.proofs.NameLemmas.{behind_name}

@@ -1,5 +1,5 @@
 -- What comes of a site whole, and of the walk's visit of it.
-use Rattle.std.proofs.Common.{◌≡◌, ◌∙◌, ℕ, length, ◌+◌, ◌<◌, ◌≤◌, Bool, true, false, cond, List, [], ◌∷◌, ◌++◌, map, Option, None, Some, Result, Ok, Err, refl, sym, ap, subst, arith}
+use Rattle.std.proofs.Common.{◌≡◌, ◌∙◌, ℕ, length, ◌≤◌, Bool, true, false, cond, List, [], ◌∷◌, ◌++◌, map, Option, None, Some, Result, Ok, Err, refl, sym, ap, subst, arith}
 use Rattle.std.proofs.lemmas.List.Elements.{All-append, All-cons, All-nil, All-weaker}
 use Rattle.std.specs.Prelude.{All}
 use Rattle.idl_check.specs.AllFaults.{evaluation_faults, first_token, placed_at, site_faults, whole_visit}
