@@ -1,8 +1,10 @@
 -- The sites of an expression are its names, each of which is an operand, and the tokens around them.
-use Rattle.std.proofs.Common.{◌≡◌, ◌∙◌, ℕ, ◌+◌, Bool, true, false, List, [], ◌∷◌, ◌++◌, map, Option, None, Some, refl, sym, ap, subst, arith}
-use Rattle.std.proofs.lemmas.List.{map-append}
+use Rattle.std.proofs.Common.{◌≡◌, ◌∙◌, ℕ, ◌+◌, Bool, true, false, List, [], ◌∷◌, ◌++◌, length, map, Option, None, Some, refl, sym, ap, subst, arith}
+use Rattle.std.proofs.lemmas.Grind.{flat_map-append}
+use Rattle.std.proofs.lemmas.List.{length-append, map-append}
 use Rattle.std.proofs.lemmas.List.Elements.{All-append, All-cons, All-map, All-nil}
 use Rattle.std.specs.Prelude.{All, flat_map}
+use Rattle.idl_check.specs.Judging.{used_name, used_names}
 use Rattle.idl_lex.specs.declared.mark.Mark.{Mark}
 use Rattle.idl_lex.specs.declared.mark.Mark.TheVariants as mark
 use Rattle.idl_site.proofs.ExpressionEquations.{and_parts-made, exclusive_or_parts-made, expression_parts-made, primary_parts-literal, primary_parts-name, primary_parts-parentheses, product_parts-made, shift_parts-made, sum_parts-made, unary_parts-made}
@@ -49,17 +51,11 @@ is_operand (Item.Used way name) = is_operand_use way
 is_operand other = false
 
 -- how many names sites use
-abbrev pub site_names : Item → ℕ
-site_names (Item.Used way name) = 1
-site_names other = 0
-
 abbrev pub names_in : List Item → ℕ
-names_in [] = 0
-names_in (site ∷ sites) = site_names site + names_in sites
+names_in sites = length (used_names sites)
 
 names_in-append : (xs ys : List Item) → names_in (xs ++ ys) ≡ names_in xs + names_in ys
-names_in-append [] ys = omega arith
-names_in-append (x ∷ xs) ys = let h = names_in-append xs ys in omega (arith, h)
+names_in-append xs ys = ap length (flat_map-append used_name xs ys) ∙ length-append (used_names xs) (used_names ys)
 
 -- ---- parts with so many names, each an operand
 
@@ -234,8 +230,11 @@ expression-holds = ind-Expression Primaries Ands ExclusiveOrs Expressions Produc
     (λ x y is. subst (λ z. Sums (roll-Sum z)) is (a_sum y.first y.rest))
     (λ x y is. subst (λ z. Unaries (roll-Unary z)) is (a_unary y.operator y.operand.0 y.operand.1))
 
+pub operand-parts : (e : Expression) → All (λ x. is_operand (item_of x) ≡ true) (expression_parts e)
+operand-parts e = (expression-holds e).operands
+
 pub expression-operands : (e : Expression) → All (λ x. is_operand x ≡ true) (items (expression_parts e))
-expression-operands e = All-map (λ x. is_operand x ≡ true) item_of (expression_parts e) (expression-holds e).operands
+expression-operands e = All-map (λ x. is_operand x ≡ true) item_of (expression_parts e) (operand-parts e)
 
 -- as many names as it has
 pub expression-names : (e : Expression) → names_in (items (expression_parts e)) ≡ name_count e

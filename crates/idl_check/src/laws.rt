@@ -10,8 +10,9 @@ ghost use Rattle.idl_check.specs.Placing.{faulty_step, step_of};
 ghost use Rattle.idl_check.specs.Judging.{FitsMemory, IsNotAfter, IsSound, IsSpoken, refused_keys, spoken_from, spoken_till, used_names, walked, without_name};
 ghost use Rattle.idl_check.specs.Row.{Rest, unit_text};
 ghost use Rattle.idl_check.specs.Sections.{AreBracketed};
+ghost use Rattle.idl_check.specs.Valued.{AreValues, expressions};
 ghost use Rattle.idl_check.specs.Verdict.{faulty, first_faults, tree_of, verdict};
-ghost use Rattle.idl_check.specs.Walk.{Walk, turns_at, visit};
+ghost use Rattle.idl_check.specs.Walk.{Walk, first_walk, turns_at, visit};
 ghost use Rattle.idl_lex.specs.Tokens.{Token};
 ghost use Rattle.idl_memo.specs.Query.{asked, outcome, run};
 ghost use Rattle.idl_scope.specs.Facts.{UnitFacts, answers, scopes_in};
@@ -24,13 +25,17 @@ ghost use Rattle.idl_scope.specs.Turns.{turns_for};
 ghost use Rattle.idl_scope.specs.declared.found.Found.{Found};
 ghost use Rattle.idl_site.specs.Item.{Item as item};
 ghost use Rattle.idl_site.specs.declared.site.Use.{Use};
+ghost use Rattle.idl_tree.specs.declared.expression.Expression.{Expression};
 ghost use Rattle.idl_tree.specs.declared.name.ScopedName.{ScopedName};
+ghost use Rattle.idl_value.specs.Names.{name_count};
 ghost use Rattle.idl_scope.specs.declared.addition.Step.TheVariants.{Stays};
 ghost use Rattle.idl_scope.specs.declared.answer.Answer.{Answer};
+ghost use Rattle.idl_scope.specs.declared.answer.Scope.{Scope};
 ghost use Rattle.idl_scope.specs.declared.identity.Prefix.{Prefix};
 ghost use Rattle.idl_scope.specs.declared.key.Key.{Key};
 ghost use Rattle.idl_scope.specs.declared.key.Key.TheVariants.{Cursor};
 ghost use Rattle.idl_site.specs.Item.{Item, items, items_length};
+ghost use Rattle.idl_site.specs.ExpressionParts.{expression_parts};
 ghost use Rattle.idl_site.specs.UnitParts.{unit_parts};
 ghost use Rattle.idl_syntax.specs.Parse.{pragma_faults};
 ghost use Rattle.idl_tree.specs.Lexeme.{lexemes};
@@ -137,6 +142,19 @@ pub fn numbering()
 /// token.
 pub fn bracketing()
     ensures { (tree : Tree) → AreBracketed (items (unit_parts tree)) }
+{}
+
+/// Where a unit has no fault, each of its expressions has a value, which is told, in the order of
+/// tokens: what the expression comes to, each of whose names has a value. There are as many operands
+/// as the expression uses names.
+pub fn valuing()
+    ensures values { (turns : ℕ) (answers : Key → Option Answer) (tree : Tree)
+        (scopes : List Scope)
+        → site_faults turns answers (items (unit_parts tree)) (first_walk scopes) ≡ []
+        → AreValues (expressions (items (unit_parts tree)))
+        (walked turns answers (items (unit_parts tree)) (first_walk scopes)).values.told }
+    ensures names { (e : Expression)
+        → length (used_names (items (expression_parts e))) ≡ name_count e }
 {}
 
 /// A walk over sites without fault has found a path for each name that they use, so no used name is

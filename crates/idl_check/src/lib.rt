@@ -35,7 +35,7 @@ mod walk;
 
 pub use laws::{
     acceptance, bracketing, denoting, fitting, identification, least, more_turns, numbering,
-    questions, refusal, wording,
+    questions, refusal, valuing, wording,
 };
 pub use scratch::Scratch;
 pub use task::verdict_of;

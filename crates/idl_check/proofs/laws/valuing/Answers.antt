@@ -1,0 +1,9 @@
+use Rattle.idl_check.proofs.Operands.{expression-names}
+use Rattle.idl_check.proofs.ValuedLaws.{unit-values}
+use Rattle.idl_check.proofs.laws.valuing.Goals as goal
+
+pub returns-clause-values : goal.returns-clause-values
+returns-clause-values c = unit-values
+
+pub returns-clause-names : goal.returns-clause-names
+returns-clause-names c = expression-names
