@@ -372,39 +372,42 @@ module _ (need : ℕ) (way : Declaration) (name : List ℕ) (p q : Parts) (n : N
   scoped-around a =
       ap (λ xs. arounds xs (begun a)) (map-append item_of p (ScopeEnds ∷ q)) ∙ arounds-append (items p) (items (ScopeEnds ∷ q)) (begun a)
 
+  behind-other : opens_union way ≡ false → (a : Around) → ((behind a).unions ≡ a.unions) × ((behind a).scopes ≡ a.scopes)
+  behind-other other a =
+      let back = popped-other (last a).scopes (last a) a.scopes (last-scopes a ∙ ap (λ s. s ∷ a.scopes) other) in
+      (back.0 ∙ (n.same (begun a)).unions, back.1)
+
+  behind-union : opens_union way ≡ true → (a : Around) → ((behind a).unions ≡ a.unions - 1) × ((behind a).scopes ≡ a.scopes)
+  behind-union union a =
+      let back = popped-union (last a).scopes (last a) a.scopes (last-scopes a ∙ ap (λ s. s ∷ a.scopes) union) in
+      (back.0 ∙ ap (λ k. k - 1) (n.same (begun a)).unions, back.1)
+
 -- a scope that is no union's
 pub scope : (way : Declaration) (name : List ℕ) (p q : Parts) → opens_union way ≡ false → Nests p → Nests q → Nests (ScopeBegins way name ∷ (p ++ ScopeEnds ∷ q))
-scope way name p q other n m =
-    let back = λ a. popped-other (last 0 way name p q n a).scopes (last 0 way name p q n a) a.scopes (last-scopes 0 way name p q n a ∙ ap (λ s. s ∷ a.scopes) other) in
-    record {
-      fit = λ a h. scoped-fit 0 way name p q n a h (m.fit (behind 0 way name p q n a) (omega arith));
-      same =
-          λ a. subst (AreSame a) (sym (scoped-around 0 way name p q n a))
-          (record {
-            unions = (m.same (behind 0 way name p q n a)).unions ∙ (back a).0 ∙ (n.same (begun 0 way name p q n a)).unions;
-            scopes = (m.same (behind 0 way name p q n a)).scopes ∙ (back a).1;
-          });
-    }
+scope way name p q other n m = record {
+  fit = λ a h. scoped-fit 0 way name p q n a h (m.fit (behind 0 way name p q n a) (omega arith));
+  same =
+      λ a. let b = behind 0 way name p q n a in
+      let back = behind-other 0 way name p q n other a in
+      subst (AreSame a) (sym (scoped-around 0 way name p q n a)) (record { unions = (m.same b).unions ∙ back.0; scopes = (m.same b).scopes ∙ back.1 });
+}
 
--- the body of a union that one union more is open for
+-- the body of a union, for which one more is open before it
 pub record UnionNests (p : Parts) : Type 0 where
-  fit : (a : Around) → 1 ≤ a.unions → AreFit (items p) a
-  unions : (a : Around) → (arounds (items p) a).unions ≡ a.unions - 1
-  scopes : (a : Around) → (arounds (items p) a).scopes ≡ a.scopes
+  pub fit : (a : Around) → 1 ≤ a.unions → AreFit (items p) a
+  pub unions : (a : Around) → (arounds (items p) a).unions ≡ a.unions - 1
+  pub scopes : (a : Around) → (arounds (items p) a).scopes ≡ a.scopes
 
 pub union_scope : (name : List ℕ) (p q : Parts) → NestsIn 1 p → Nests q → UnionNests (ScopeBegins declaration.Union name ∷ (p ++ ScopeEnds ∷ q))
-union_scope name p q n m =
-    let way = declaration.Union in
-    let back = λ a. popped-union (last 1 way name p q n a).scopes (last 1 way name p q n a) a.scopes (last-scopes 1 way name p q n a) in
-    record {
-      fit = λ a h. scoped-fit 1 way name p q n a h (m.fit (behind 1 way name p q n a) (omega arith));
-      unions =
-          λ a. ap (λ (x : Around). x.unions) (scoped-around 1 way name p q n a)
-          ∙ (m.same (behind 1 way name p q n a)).unions ∙ (back a).0
-          ∙ ap (λ k. k - 1) (n.same (begun 1 way name p q n a)).unions;
-      scopes =
-          λ a. ap (λ (x : Around). x.scopes) (scoped-around 1 way name p q n a) ∙ (m.same (behind 1 way name p q n a)).scopes ∙ (back a).1;
-    }
+union_scope name p q n m = record {
+  fit = λ a h. scoped-fit 1 declaration.Union name p q n a h (m.fit (behind 1 declaration.Union name p q n a) (omega arith));
+  unions =
+      λ a. ap (λ (x : Around). x.unions) (scoped-around 1 declaration.Union name p q n a)
+      ∙ (m.same (behind 1 declaration.Union name p q n a)).unions ∙ (behind-union 1 declaration.Union name p q n refl a).0;
+  scopes =
+      λ a. ap (λ (x : Around). x.scopes) (scoped-around 1 declaration.Union name p q n a)
+      ∙ (m.same (behind 1 declaration.Union name p q n a)).scopes ∙ (behind-union 1 declaration.Union name p q n refl a).1;
+}
 
 -- behind its discriminator
 pub discriminated : (d : Discriminator) (name : List ℕ) (p : Parts) → UnionNests (ScopeBegins declaration.Union name ∷ p) → Nests (discriminator_parts d ++ (union_brace name ++ p))

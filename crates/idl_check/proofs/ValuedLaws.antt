@@ -16,6 +16,7 @@ use Rattle.idl_check.specs.Valued.{AreValues, IsValue, expression_at, expression
 use Rattle.idl_check.specs.Values.{begun_at, evaluation_for}
 use Rattle.idl_check.specs.Walk.{Walk, evaluation_at, first_walk, given_back, label_target, turns_at, used, used_visit, value_visit, visit}
 use Rattle.idl_event.specs.declared.code.Code.TheVariants.{BadOneway}
+use Rattle.idl_lex.specs.declared.mark.Mark.TheVariants as mark
 use Rattle.idl_memo.proofs.QueryLaws.{outcome-and_then}
 use Rattle.idl_memo.specs.Query.{Done, outcome}
 use Rattle.idl_scope.specs.Lookup.{denoted, under}
@@ -27,15 +28,20 @@ use Rattle.idl_scope.specs.declared.fault.NameFault.TheVariants.{At, Memory}
 use Rattle.idl_scope.specs.declared.found.Found.{Found}
 use Rattle.idl_scope.specs.declared.key.Key.{Key}
 use Rattle.idl_site.specs.ExpressionParts.{expression_parts, value_parts}
-use Rattle.idl_site.specs.Item.{Item, items, Item as item}
+use Rattle.idl_site.specs.Item.{Item, item_of, items, Item as item}
+use Rattle.idl_site.specs.Part.{Parts, Declares, ValueEnds, punctuation}
+use Rattle.idl_site.specs.TypeParts.{constant_type_parts}
 use Rattle.idl_site.specs.UnitParts.{unit_parts}
+use Rattle.idl_site.specs.declared.site.Declaration.TheVariants as declaration
 use Rattle.idl_site.specs.declared.site.Target.{Target as Purpose}
 use Rattle.idl_site.specs.declared.site.Target.TheVariants as purpose
 use Rattle.idl_site.specs.declared.site.Use.{Use}
 use Rattle.idl_site.specs.declared.site.Use.TheVariants.{AsBase, AsType, AsElement, AsConstantType, AsDiscriminator, AsOperand, Raised, RaisedBySet}
 use Rattle.idl_tree.specs.declared.expression.Expression.{Expression}
 use Rattle.idl_tree.specs.declared.name.ScopedName.{ScopedName}
+use Rattle.idl_tree.specs.declared.unit.Constant.{Constant}
 use Rattle.idl_tree.specs.declared.unit.Tree.{Tree}
+use Rattle.idl_tree.specs.declared.unit.Tree.TheVariants as tree
 use Rattle.idl_unit.specs.TokenRules.{fault_at}
 use Rattle.idl_unit.specs.declared.fault.Fault.{Fault}
 use Rattle.idl_value.proofs.DecisionLemmas.{bound-open, value-open}
@@ -391,20 +397,48 @@ stands-first : (scopes : List Scope) → StandsIn (first_walk scopes) bare
 stands-first [] = record { count = omega arith; typed = All-nil IsTyped; scopes = tt; constant = λ h. cc }
 stands-first (s ∷ scopes) = record { count = omega arith; typed = All-nil IsTyped; scopes = tt; constant = λ h. cc }
 
-module _ (turns : ℕ) (answers : Key → Option Answer) (tree : Tree) (scopes : List Scope) (none : site_faults turns answers (items (unit_parts tree)) (first_walk scopes) ≡ []) where
-  unit-told : IsTold (expressions (items (unit_parts tree))) (first_walk scopes) (walked turns answers (items (unit_parts tree)) (first_walk scopes))
+module _ (turns : ℕ) (answers : Key → Option Answer) (unit : Tree) (scopes : List Scope) (none : site_faults turns answers (items (unit_parts unit)) (first_walk scopes) ≡ []) where
+  unit-told : IsTold (expressions (items (unit_parts unit))) (first_walk scopes) (walked turns answers (items (unit_parts unit)) (first_walk scopes))
   unit-told =
-      let b = (unit-bracketed tree).is in
+      let b = (unit-bracketed unit).is in
       let w = first_walk scopes in
-      let sites = items (unit_parts tree) in
+      let sites = items (unit_parts unit) in
       let P : List Item → Type 0 = λ xs. AreFit xs bare → visit_faults turns answers xs w ≡ [] → IsTold (expressions xs) w (walked turns answers xs w) in
       subst P (sym b.are)
       (λ fit no. subst (λ es. IsTold es w (walked turns answers (flat_map section_sites b.sections) w)) (sym (sections-have b.sections b.formed))
       (sections-told turns answers b.sections b.formed w bare refl (stands-first scopes) fit no))
-      (unit-fits tree bare) (whole-none turns answers sites w none)
+      (unit-fits unit bare) (whole-none turns answers sites w none)
 
-  pub unit-values : AreValues (expressions (items (unit_parts tree))) (walked turns answers (items (unit_parts tree)) (first_walk scopes)).values.told
-  unit-values = subst (AreValues (expressions (items (unit_parts tree)))) (sym unit-told.told) unit-told.are
+  pub unit-values : AreValues (expressions (items (unit_parts unit))) (walked turns answers (items (unit_parts unit)) (first_walk scopes)).values.told
+  unit-values = subst (AreValues (expressions (items (unit_parts unit)))) (sym unit-told.told) unit-told.are
 
-  pub constant-told : list_any of_constant (expressions (items (unit_parts tree))) ≡ true → IsSome (walked turns answers (items (unit_parts tree)) (first_walk scopes)).values.constant
+  pub constant-told : list_any of_constant (expressions (items (unit_parts unit))) ≡ true → IsSome (walked turns answers (items (unit_parts unit)) (first_walk scopes)).values.constant
   constant-told = unit-told.constant
+
+-- ---- constants
+
+any-behind : (xs ys : List (Purpose × Expression)) → list_any of_constant ys ≡ true → list_any of_constant (xs ++ ys) ≡ true
+any-behind [] ys h = h
+any-behind (x ∷ xs) ys h =
+    elim (of_constant x) as (λ b. (b || list_any of_constant (xs ++ ys)) ≡ true) [ true ↦ refl | false ↦ any-behind xs ys h ]
+
+-- behind other parts
+parts-behind : (p q : Parts) → list_any of_constant (expressions (items q)) ≡ true → list_any of_constant (expressions (items (p ++ q))) ≡ true
+parts-behind p q h =
+    ap (λ es. list_any of_constant es) (ap expressions (map-append item_of p q) ∙ flat_map-append expression_at (items p) (items q))
+    ∙ any-behind (expressions (items p)) (expressions (items q)) h
+
+constant-has : (c : Constant) → list_any of_constant (expressions (items (unit_parts (tree.Constant c)))) ≡ true
+unfolding unit_parts
+constant-has c =
+    let types = constant_type_parts c.kind in
+    let end : Parts = ValueEnds purpose.Constant c.value ∷ [] in
+    let q : Parts = punctuation mark.Semicolon ∷ [] in
+    let told : Parts = Declares declaration.Constant c.name ∷ punctuation mark.Equals ∷ value_parts purpose.Constant c.value in
+    let last : list_any of_constant (expressions (items ((expression_parts c.value ++ end) ++ q))) ≡ true =
+    subst (λ p. list_any of_constant (expressions (items p)) ≡ true) (sym (append_assoc (expression_parts c.value) end q)) (parts-behind (expression_parts c.value) (end ++ q) refl) in
+    subst (λ p. list_any of_constant (expressions (items p)) ≡ true) (sym (append_assoc types told q)) (parts-behind types (told ++ q) last)
+
+pub constant-valued : (turns : ℕ) (answers : Key → Option Answer) (c : Constant) (scopes : List Scope) → site_faults turns answers (items (unit_parts (tree.Constant c))) (first_walk scopes) ≡ []
+    → IsSome (walked turns answers (items (unit_parts (tree.Constant c))) (first_walk scopes)).values.constant
+constant-valued turns answers c scopes none = constant-told turns answers (tree.Constant c) scopes none (constant-has c)

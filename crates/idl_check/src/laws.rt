@@ -4,6 +4,7 @@
 //! any number of turns. `fitting` alone looks at a unit that a program holds.
 
 ghost use Rattle.std.specs.Prelude.{◌≡◌, ◌≢◌, ◌↔◌, ◌+◌, ◌++◌, ◌<◌, ◌≤◌, Bool, ℕ, List, [], ◌∷◌, All, Contains, codes, decimal, false, length, take, true, None, Ok, Option, Some};
+ghost use Rattle.std.specs.Option.{IsSome};
 ghost use Rattle.idl_check.specs.AllFaults.{site_faults, unit_faults};
 ghost use Rattle.idl_check.specs.Identifying.{versioned};
 ghost use Rattle.idl_check.specs.Placing.{faulty_step, step_of};
@@ -42,7 +43,9 @@ ghost use Rattle.idl_tree.specs.Lexeme.{lexemes};
 ghost use Rattle.idl_tree.specs.Pragma.{pragma_of};
 ghost use Rattle.idl_tree.specs.Unit.{spell};
 ghost use Rattle.idl_tree.specs.declared.pragma.Pragma.TheVariants as pragma;
+ghost use Rattle.idl_tree.specs.declared.unit.Constant.{Constant};
 ghost use Rattle.idl_tree.specs.declared.unit.Tree.{Tree};
+ghost use Rattle.idl_tree.specs.declared.unit.Tree.TheVariants as tree;
 ghost use Rattle.idl_unit.specs.Faults.{least_fault};
 ghost use Rattle.idl_unit.specs.declared.fault.Fault.{Fault};
 ghost use Rattle.idl_unit.specs.declared.unit.UnitText.{UnitText};
@@ -145,14 +148,19 @@ pub fn bracketing()
 {}
 
 /// Where a unit has no fault, each of its expressions has a value, which is told, in the order of
-/// tokens: what the expression comes to, each of whose names has a value. There are as many operands
-/// as the expression uses names.
+/// tokens: what the expression comes to, each of whose names has a value. A constant then has one
+/// too. There are as many operands as the expression uses names.
 pub fn valuing()
     ensures values { (turns : ℕ) (answers : Key → Option Answer) (tree : Tree)
         (scopes : List Scope)
         → site_faults turns answers (items (unit_parts tree)) (first_walk scopes) ≡ []
         → AreValues (expressions (items (unit_parts tree)))
         (walked turns answers (items (unit_parts tree)) (first_walk scopes)).values.told }
+    ensures constant { (turns : ℕ) (answers : Key → Option Answer) (c : Constant)
+        (scopes : List Scope)
+        → site_faults turns answers (items (unit_parts (tree.Constant c))) (first_walk scopes) ≡ []
+        → IsSome (walked turns answers (items (unit_parts (tree.Constant c)))
+        (first_walk scopes)).values.constant }
     ensures names { (e : Expression)
         → length (used_names (items (expression_parts e))) ≡ name_count e }
 {}
