@@ -5,6 +5,7 @@ pub mod Bracketing
 pub mod ExpressionFaults
 pub mod FaultOrder
 mod IdLemmas
+pub mod InheritedLaws
 mod JudgeLemmas
 pub mod LeastFault
 pub mod LeastLaws
