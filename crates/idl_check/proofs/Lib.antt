@@ -1,7 +1,7 @@
 pub mod AlikeLemmas
 pub mod ApartLaws
 mod BaseLemmas
-pub mod Bracketing
+pub mod BracketLemmas
 pub mod ExpressionFaults
 pub mod FaultOrder
 mod IdLemmas

@@ -1,7 +1,7 @@
 //! The laws of verdicts.
 //!
 //! Each function does nothing: it carries its laws as clauses. They hold over any answers, and for
-//! any number of turns.
+//! any number of turns. `fitting` alone looks at a unit that a program holds.
 
 ghost use Rattle.std.specs.Prelude.{◌≡◌, ◌≢◌, ◌↔◌, ◌+◌, ◌++◌, ◌<◌, ◌≤◌, Bool, ℕ, List, [], ◌∷◌, All, Contains, codes, decimal, false, length, take, true, None, Ok, Option, Some};
 ghost use Rattle.idl_check.specs.AllFaults.{site_faults, unit_faults};
@@ -50,7 +50,7 @@ ghost use Rattle.idl_unit.specs.declared.unit.UnitText.TheVariants as unit;
 /// The fault that is told is the least of all that hold in the first step that has one, also of
 /// those at sites to which the walk never comes, and behind the first of an expression or of a name:
 /// it is one of them, at no later token than any other, and with no greater code than another there.
-/// Where none is told, none holds.
+/// Where none is told, none holds. Each unit that a program holds fits into memory (`fitting`).
 pub fn least()
     ensures is { (turns : ℕ) (text : UnitText) (answers : Key → Option Answer)
         → FitsMemory text
@@ -67,6 +67,19 @@ pub fn least()
         → (outcome (verdict turns text) answers).fault ≡ None
         → unit_faults turns answers text ≡ [] }
 {}
+
+/// A unit that a program holds has fewer tokens than `FitsMemory` asks for: they stand in a list of
+/// which the number is a `usize`.
+pub fn fitting(text: &idl_unit::UnitText)
+    ensures { FitsMemory text.now }
+{
+    match text {
+        idl_unit::UnitText::Tokens(run) => {
+            let _count = run.len();
+        }
+        idl_unit::UnitText::Pragma(_tokens, _inside) => {}
+    }
+}
 
 /// A faulty unit of tokens adds nothing but its step, which its tokens alone tell: an opening opens
 /// a nameless scope, a closing closes, and any other changes no open scope. That is what it would

@@ -27,7 +27,7 @@ pub fn push_construction<'a>(
         (Pushes sites.old.items sites.new.items (construction_parts construction.now)) }
 {
     match construction {
-        Construction::Structure(structure) => push_structure(sites, structure),
+        Construction::Structure(structure) => push_structure(sites, structure.get()),
         Construction::Union(union) => push_union(sites, union.get()),
         Construction::Enumeration(enumeration) => push_enumeration(sites, enumeration),
     }
@@ -145,7 +145,7 @@ fn push_label<'a>(sites: &mut Vec<Site<'a>>, label: &'a Label) -> Result<(), All
     match label {
         Label::Case(value) => {
             sites.push(Site::Tokens(1))?;
-            push_value(sites, Target::Label, value)?;
+            push_value(sites, Target::Label, value.get())?;
             sites.push(Site::Tokens(1))?;
         }
         Label::Default => {
