@@ -7,6 +7,7 @@ mod ConstructionNesting
 pub mod ExpressionFaults
 pub mod FaultOrder
 mod IdLemmas
+pub mod InheritedLaws
 mod JudgeLemmas
 pub mod LeastFault
 pub mod LeastLaws

@@ -6,6 +6,7 @@
 ghost use Rattle.std.specs.Prelude.{◌≡◌, ◌≢◌, ◌↔◌, ◌+◌, ◌++◌, ◌<◌, ◌≤◌, Bool, ℕ, List, [], ◌∷◌, All, Contains, codes, decimal, false, length, take, true, None, Ok, Option, Some};
 ghost use Rattle.std.specs.Option.{IsSome};
 ghost use Rattle.idl_check.specs.AllFaults.{site_faults, unit_faults};
+ghost use Rattle.idl_check.specs.Declaring.{standing};
 ghost use Rattle.idl_check.specs.Identifying.{versioned};
 ghost use Rattle.idl_check.specs.Placing.{faulty_step, step_of};
 ghost use Rattle.idl_check.specs.Judging.{FitsMemory, IsNotAfter, IsSound, IsSpoken, refused_keys, spoken_from, spoken_till, used_names, walked, without_name};
@@ -14,14 +15,15 @@ ghost use Rattle.idl_check.specs.Sections.{AreBracketed};
 ghost use Rattle.idl_check.specs.Valued.{AreValues, expressions};
 ghost use Rattle.idl_check.specs.Verdict.{faulty, first_faults, tree_of, verdict};
 ghost use Rattle.idl_check.specs.Walk.{Walk, first_walk, turns_at, visit};
+ghost use Rattle.idl_lex.specs.Keywords.{folded};
 ghost use Rattle.idl_lex.specs.Tokens.{Token};
 ghost use Rattle.idl_memo.specs.Query.{asked, outcome, run};
 ghost use Rattle.idl_scope.specs.Facts.{UnitFacts, answers, scopes_in};
 ghost use Rattle.idl_scope.specs.Identity.{first_identity, is_within, prefixed, relative, slashed};
 ghost use Rattle.idl_scope.specs.Key.{key_eq};
 ghost use Rattle.idl_scope.specs.Lookup.{denoted, under};
-ghost use Rattle.idl_scope.specs.Meaning.{Denotes, Reaches, entity_found, seen};
-ghost use Rattle.idl_scope.specs.Path.{scope_of};
+ghost use Rattle.idl_scope.specs.Meaning.{Denotes, InheritsOperation, Reaches, entity_found, seen};
+ghost use Rattle.idl_scope.specs.Path.{name_of, scope_of};
 ghost use Rattle.idl_scope.specs.Turns.{turns_for};
 ghost use Rattle.idl_scope.specs.declared.found.Found.{Found};
 ghost use Rattle.idl_site.specs.Item.{Item as item};
@@ -32,6 +34,7 @@ ghost use Rattle.idl_value.specs.Names.{name_count};
 ghost use Rattle.idl_scope.specs.declared.addition.Step.TheVariants.{Stays};
 ghost use Rattle.idl_scope.specs.declared.answer.Answer.{Answer};
 ghost use Rattle.idl_scope.specs.declared.answer.Scope.{Scope};
+ghost use Rattle.idl_scope.specs.declared.entity.Entity.{Entity};
 ghost use Rattle.idl_scope.specs.declared.identity.Prefix.{Prefix};
 ghost use Rattle.idl_scope.specs.declared.key.Key.{Key};
 ghost use Rattle.idl_scope.specs.declared.key.Key.TheVariants.{Cursor};
@@ -215,8 +218,8 @@ pub fn identification()
         → relative path scope ≡ path }
 {}
 
-/// As many turns as the facts before a unit need are enough for it: with more its verdict is the same, and so is what is logged
-/// for it.
+/// As many turns as the facts before a unit need are enough for it: with more its verdict is the
+/// same, and so is what is logged for it.
 pub fn more_turns()
     ensures { (facts : List UnitFacts) (turns more : ℕ) (text : UnitText)
         (log : List (Key × Option Answer))
@@ -225,19 +228,37 @@ pub fn more_turns()
         ≡ run key_eq (verdict turns text) (answers facts) log }
 {}
 
-/// Where a unit uses a name, it denotes what the scoping rules say, over the facts before the unit and what its earlier tokens
-/// add, and its use is introduced into the scopes that they tell.
+/// Where a unit uses a name, it denotes what the scoping rules say, over the facts before the unit
+/// and what its earlier tokens add, and its use is introduced into the scopes that they tell. A
+/// pragma's name denotes what they say over the facts before it. Where a unit declares a name, it is
+/// told just where an interface inherits an operation or attribute of that name.
 pub fn denoting()
     ensures denoted { (facts : List UnitFacts) (turns : ℕ) (w : Walk) (name : ScopedName)
         → turns_for facts ≤ turns
-        → Denotes (seen w.own facts) w.cursor name
-        (entity_found (outcome (under w.own (denoted (turns_at turns w) w.cursor name)) (answers facts))) }
-    ensures introduced { (facts : List UnitFacts) (turns : ℕ) (w : Walk) (name : ScopedName) (found : Found)
+        → let query = under w.own (denoted (turns_at turns w) w.cursor name) in
+        Denotes (seen w.own facts) w.cursor name (entity_found (outcome query (answers facts))) }
+    ensures introduced { (facts : List UnitFacts) (turns : ℕ) (w : Walk) (name : ScopedName)
+        (found : Found)
         → turns_for facts ≤ turns
-        → outcome (under w.own (denoted (turns_at turns w) w.cursor name)) (answers facts) ≡ Ok found
+        → let query = under w.own (denoted (turns_at turns w) w.cursor name) in
+        outcome query (answers facts) ≡ Ok found
         → Reaches (seen w.own facts) w.cursor name found.reach }
-    ensures path { (facts : List UnitFacts) (turns : ℕ) (w : Walk) (way : Use) (name : ScopedName) (found : Found)
+    ensures path { (facts : List UnitFacts) (turns : ℕ) (w : Walk) (way : Use) (name : ScopedName)
+        (found : Found)
         → w.gives_back ≡ false
-        → outcome (under w.own (denoted (turns_at turns w) w.cursor name)) (answers facts) ≡ Ok found
-        → (outcome (visit turns (item.Used way name) w) (answers facts)).after.found ≡ w.found ++ found.entity.path ∷ [] }
+        → let query = under w.own (denoted (turns_at turns w) w.cursor name) in
+        outcome query (answers facts) ≡ Ok found
+        → (outcome (visit turns (item.Used way name) w) (answers facts)).after.found
+        ≡ w.found ++ found.entity.path ∷ [] }
+    ensures pragma { (facts : List UnitFacts) (turns : ℕ) (scopes : List Scope)
+        (name : ScopedName)
+        → turns_for facts ≤ turns
+        → Denotes (answers facts) scopes name
+        (entity_found (outcome (denoted turns scopes name) (answers facts))) }
+    ensures inherited { (facts : List UnitFacts) (turns : ℕ) (w : Walk) (s : Scope) (e : Entity)
+        → turns_for facts ≤ turns
+        → let query = under w.own (standing (turns_at turns w) s e) in
+        ((outcome query (answers facts)).is_inherited ≡ true)
+        ↔ ((f : Entity)
+        × InheritsOperation (seen w.own facts) s (folded (name_of e.path)) f) }
 {}
