@@ -38,6 +38,7 @@ pub fn enumeration(alloc: Global, tokens: &[Token]) -> Result<(Enumeration, &[To
 
 /// The type of a union's discriminator.
 #[tactic(auto, unfolding(idl_tree::specs::ReadConstruction::discriminator_at))]
+#[inline(never)]
 fn discriminator(alloc: Global, tokens: &[Token]) -> Result<(Discriminator, &[Token]), ReadError>
     ensures reads { Reads discriminator_at tokens.now result }
     ensures shorter { Advances tokens.now result }
@@ -63,6 +64,7 @@ fn label(alloc: Global, depth: usize, tokens: &[Token]) -> Result<(Label, &[Toke
     if is_at_word(tokens, Keyword::Case) {
         let rest = behind_word(tokens, Keyword::Case)?;
         let (value, rest) = expression(alloc, depth, rest)?;
+        let value = Boxed::new(alloc, value)?;
         closed(Label::Case(value), rest, Mark::Colon)
     } else {
         let rest = behind_word(tokens, Keyword::Default)?;
@@ -80,6 +82,7 @@ fn is_at_label(tokens: &[Token]) -> bool
 
 /// One label or more.
 #[tactic(auto, unfolding(idl_tree::specs::ReadConstruction::all_with))]
+#[inline(never)]
 fn labels(
     alloc: Global,
     depth: usize,
@@ -95,6 +98,7 @@ fn labels(
 }
 
 /// The labels that stand here.
+#[inline(never)]
 fn more_labels(
     alloc: Global,
     depth: usize,
@@ -154,18 +158,38 @@ fn construction_inside(
 {
     match keyword(tokens) {
         Some(Keyword::Struct) => {
-            let (structure, rest) = structure(alloc, depth, tokens)?;
+            let (structure, rest) = boxed_structure(alloc, depth, tokens)?;
             Ok((Construction::Structure(structure), rest))
         }
         Some(Keyword::Union) => {
-            let (union, rest) = union_type(alloc, depth, tokens)?;
-            Ok((Construction::Union(Boxed::new(alloc, union)?), rest))
+            let (union, rest) = boxed_union(alloc, depth, tokens)?;
+            Ok((Construction::Union(union), rest))
         }
         _ => {
             let (enumeration, rest) = enumeration(alloc, tokens)?;
             Ok((Construction::Enumeration(enumeration), rest))
         }
     }
+}
+
+#[inline(never)]
+#[cycle(construction)]
+fn boxed_structure(
+    alloc: Global,
+    depth: usize,
+    tokens: &[Token],
+) -> Result<(Boxed<Structure>, &[Token]), ReadError> {
+    structure(alloc, depth, tokens)
+}
+
+#[inline(never)]
+#[cycle(construction)]
+fn boxed_union(
+    alloc: Global,
+    depth: usize,
+    tokens: &[Token],
+) -> Result<(Boxed<Union>, &[Token]), ReadError> {
+    union_type(alloc, depth, tokens)
 }
 
 /// A type, or one that is declared in place.
@@ -229,7 +253,7 @@ fn structure(
     alloc: Global,
     depth: usize,
     tokens: &[Token],
-) -> Result<(Structure, &[Token]), ReadError>
+) -> Result<(Boxed<Structure>, &[Token]), ReadError>
     ensures reads { Reads (nested structure_with depth) tokens.now result }
     ensures shorter { Advances tokens.now result }
 {
@@ -246,25 +270,26 @@ pub fn structure_rest(
     depth: usize,
     name: Spelling,
     tokens: &[Token],
-) -> Result<(Structure, &[Token]), ReadError>
+) -> Result<(Boxed<Structure>, &[Token]), ReadError>
     ensures reads { Reads (nested structure_rest_with depth name) tokens.now result }
     ensures shorter { Advances tokens.now result }
 {
     let rest = behind(tokens, Mark::OpenBrace)?;
     let (first, rest) = member(alloc, depth, rest)?;
     let (more, rest) = members(alloc, depth, rest)?;
+    let rest = behind(rest, Mark::CloseBrace)?;
     let structure = Structure {
         name,
         first,
         rest: more,
     };
-    closed(structure, rest, Mark::CloseBrace)
+    Ok((Boxed::new(alloc, structure)?, rest))
 }
 
 /// A union.
 #[cycle(construction)]
 #[tactic(auto, unfolding(idl_tree::specs::ReadConstruction::union_with))]
-fn union_type(alloc: Global, depth: usize, tokens: &[Token]) -> Result<(Union, &[Token]), ReadError>
+fn union_type(alloc: Global, depth: usize, tokens: &[Token]) -> Result<(Boxed<Union>, &[Token]), ReadError>
     ensures reads { Reads (nested union_with depth) tokens.now result }
     ensures shorter { Advances tokens.now result }
 {
@@ -281,15 +306,20 @@ pub fn union_rest(
     depth: usize,
     name: Spelling,
     tokens: &[Token],
-) -> Result<(Union, &[Token]), ReadError>
+) -> Result<(Boxed<Union>, &[Token]), ReadError>
     ensures reads { Reads (nested union_rest_with depth name) tokens.now result }
     ensures shorter { Advances tokens.now result }
 {
+    let (discriminator, rest) = switch(alloc, tokens)?;
+    union_cases(alloc, depth, (name, discriminator), rest)
+}
+
+#[inline(never)]
+fn switch(alloc: Global, tokens: &[Token]) -> Result<(Discriminator, &[Token]), ReadError> {
     let rest = behind_word(tokens, Keyword::Switch)?;
     let rest = behind(rest, Mark::OpenParenthesis)?;
     let (discriminator, rest) = discriminator(alloc, rest)?;
-    let (discriminator, rest) = closed(discriminator, rest, Mark::CloseParenthesis)?;
-    union_cases(alloc, depth, (name, discriminator), rest)
+    closed(discriminator, rest, Mark::CloseParenthesis)
 }
 
 /// The cases of the union with this name and discriminator, in braces.
@@ -300,7 +330,7 @@ fn union_cases(
     depth: usize,
     head: (Spelling, Discriminator),
     tokens: &[Token],
-) -> Result<(Union, &[Token]), ReadError>
+) -> Result<(Boxed<Union>, &[Token]), ReadError>
     ensures reads { Reads (nested cases_with depth head.0 head.1) tokens.now result }
     ensures shorter { Advances tokens.now result }
 {
@@ -308,13 +338,14 @@ fn union_cases(
     let (first, rest) = case(alloc, depth, rest)?;
     let (more, rest) = cases(alloc, depth, rest)?;
     let (name, discriminator) = head;
+    let rest = behind(rest, Mark::CloseBrace)?;
     let union = Union {
         name,
         discriminator,
         first,
         rest: more,
     };
-    closed(union, rest, Mark::CloseBrace)
+    Ok((Boxed::new(alloc, union)?, rest))
 }
 
 /// A member of a union, with its labels.

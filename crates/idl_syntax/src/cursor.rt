@@ -82,6 +82,7 @@ pub fn named<T: Drop>(read: T, tokens: &[Token]) -> Result<((T, Spelling), &[Tok
 }
 
 /// What was read, with this mark behind it.
+#[inline(never)]
 pub fn closed<T: Drop>(read: T, tokens: &[Token], mark: Mark) -> Result<(T, &[Token]), ReadError>
     ensures reads { Reads (closed_with mark read) tokens.now result }
     ensures shorter { Advances tokens.now result }

@@ -53,6 +53,7 @@ fn alternatives(
 {
     let (first, rest) = exclusive_or(alloc, depth, tokens)?;
     let (more, rest) = more_alternatives(alloc, depth, rest)?;
+    let first = Boxed::new(alloc, first)?;
     Ok((Expression { first, rest: more }, rest))
 }
 
@@ -90,6 +91,7 @@ fn exclusive_or(
 {
     let (first, rest) = and(alloc, depth, tokens)?;
     let (more, rest) = more_ands(alloc, depth, rest)?;
+    let first = Boxed::new(alloc, first)?;
     Ok((ExclusiveOr { first, rest: more }, rest))
 }
 
@@ -123,6 +125,7 @@ fn and(alloc: Global, depth: usize, tokens: &[Token]) -> Result<(And, &[Token]),
 {
     let (first, rest) = shift(alloc, depth, tokens)?;
     let (more, rest) = more_shifts(alloc, depth, rest)?;
+    let first = Boxed::new(alloc, first)?;
     Ok((And { first, rest: more }, rest))
 }
 
@@ -156,6 +159,7 @@ fn shift(alloc: Global, depth: usize, tokens: &[Token]) -> Result<(Shift, &[Toke
 {
     let (first, rest) = sum(alloc, depth, tokens)?;
     let (more, rest) = more_sums(alloc, depth, rest)?;
+    let first = Boxed::new(alloc, first)?;
     Ok((Shift { first, rest: more }, rest))
 }
 
@@ -189,6 +193,7 @@ fn sum(alloc: Global, depth: usize, tokens: &[Token]) -> Result<(Sum, &[Token]),
 {
     let (first, rest) = product(alloc, depth, tokens)?;
     let (more, rest) = more_products(alloc, depth, rest)?;
+    let first = Boxed::new(alloc, first)?;
     Ok((Sum { first, rest: more }, rest))
 }
 
@@ -222,6 +227,7 @@ fn product(alloc: Global, depth: usize, tokens: &[Token]) -> Result<(Product, &[
 {
     let (first, rest) = unary(alloc, depth, tokens)?;
     let (more, rest) = more_unaries(alloc, depth, rest)?;
+    let first = Boxed::new(alloc, first)?;
     Ok((Product { first, rest: more }, rest))
 }
 
