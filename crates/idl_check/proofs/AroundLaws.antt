@@ -12,7 +12,7 @@ use Rattle.idl_check.specs.Sections.{is_single}
 use Rattle.idl_check.specs.Types.{constants_of, looked_through, target_in, written_as}
 use Rattle.idl_check.specs.Using.{constants_after, last_at, suited_table, unions_after, used_table, values_after}
 use Rattle.idl_check.specs.Values.{Values}
-use Rattle.idl_check.specs.Walk.{Walk, declared_visit, ended_scope, turns_at, unfound_visit, used, used_visit, valued_after, visit, with_labels, with_scope}
+use Rattle.idl_check.specs.Walk.{Visit, Walk, declared_visit, ended_scope, turns_at, unfound_visit, used, used_visit, valued_after, visit, with_labels, with_scope}
 use Rattle.idl_event.specs.declared.code.Code.{Code}
 use Rattle.idl_event.specs.declared.code.Code.TheVariants as code
 use Rattle.idl_memo.proofs.QueryLaws.{outcome-and_then}
@@ -150,7 +150,7 @@ module _ (turns : ℕ) (answers : Key → Option Answer) where
   used-by-kept way name w a (Ok found) up none k =
       let query = under w.own (looked_through (turns_at turns w) way found.entity) in
       let same = outcome-and_then query (λ behind. Done (used_visit w way name found behind)) answers in
-      subst (λ v. IsKept w v.after (used_around way a)) (sym same) (found-kept w way name found (outcome query answers) a (ap (λ v. v.faults) (sym same) ∙ none) k)
+      subst (λ (v : Visit). IsKept w v.after (used_around way a)) (sym same) (found-kept w way name found (outcome query answers) a (ap (λ (v : Visit). v.faults) (sym same) ∙ none) k)
   used-by-kept way name w a (Err (At why part)) up none k = cc
   used-by-kept way name w a (Err Memory) up none k = absurd up
 
@@ -160,8 +160,8 @@ module _ (turns : ℕ) (answers : Key → Option Answer) where
   used-kept way name w a none k =
       let query = under w.own (denoted (turns_at turns w) w.cursor name) in
       let same = outcome-and_then query (used_by turns answers way name w) answers in
-      subst (λ v. IsKept w v.after (used_around way a)) (sym same)
-      (used-by-kept way name w a (outcome query answers) (denoted-up turns answers name w) (ap (λ v. v.faults) (sym same) ∙ none) k)
+      subst (λ (v : Visit). IsKept w v.after (used_around way a)) (sym same)
+      (used-by-kept way name w a (outcome query answers) (denoted-up turns answers name w) (ap (λ (v : Visit). v.faults) (sym same) ∙ none) k)
 
   named-kept : (way : Use) (name : ScopedName) (w : Walk) (a : Around) (b : Bool) → b ≡ false → (outcome (named_by turns answers way name w b) answers).faults ≡ [] → StandsIn w a
       → IsKept w (outcome (named_by turns answers way name w b) answers).after (used_around way a)
@@ -179,7 +179,7 @@ module _ (turns : ℕ) (answers : Key → Option Answer) where
   declared-kept way name w a (Some s) k =
       let e = entity_of w.written way name s.path in
       let query = under w.own (standing (turns_at turns w) s e) in
-      subst (λ v. IsKept w v.after a) (sym (outcome-and_then query (λ there. Done (declared_visit w way s e there)) answers))
+      subst (λ (v : Visit). IsKept w v.after a) (sym (outcome-and_then query (λ there. Done (declared_visit w way s e there)) answers))
       (record {
         stands = subst (λ c. Stands w.unions w.cursor c a) (sym (written-constants w.written e (kind_eq e.kind Enumeration))) k;
         told = refl;

@@ -14,7 +14,7 @@ use Rattle.idl_check.specs.Types.{looked_through}
 use Rattle.idl_check.specs.Using.{last_at}
 use Rattle.idl_check.specs.Valued.{AreValues, IsValue, expression_at, expressions}
 use Rattle.idl_check.specs.Values.{begun_at, evaluation_for}
-use Rattle.idl_check.specs.Walk.{Walk, evaluation_at, first_walk, given_back, label_target, turns_at, used, used_visit, value_visit, visit}
+use Rattle.idl_check.specs.Walk.{Visit, Walk, evaluation_at, first_walk, given_back, label_target, turns_at, used, used_visit, value_visit, visit}
 use Rattle.idl_event.specs.declared.code.Code.TheVariants.{BadOneway}
 use Rattle.idl_lex.specs.declared.mark.Mark.TheVariants as mark
 use Rattle.idl_memo.proofs.QueryLaws.{outcome-and_then}
@@ -95,10 +95,10 @@ module _ (turns : ℕ) (answers : Key → Option Answer) where
   operand-by name w (Ok found) up none =
       let query = under w.own (looked_through (turns_at turns w) AsOperand found.entity) in
       let same = outcome-and_then query (λ behind. Done (used_visit w AsOperand name found behind)) answers in
-      subst (λ v. HasOne w v.after) (sym same)
+      subst (λ (v : Visit). HasOne w v.after) (sym same)
       (record {
         operand = found.entity.value;
-        some = (used-none (last_at w.at name) w AsOperand found.entity (outcome query answers) (ap (λ v. v.faults) (sym same) ∙ none)).0;
+        some = (used-none (last_at w.at name) w AsOperand found.entity (outcome query answers) (ap (λ (v : Visit). v.faults) (sym same) ∙ none)).0;
         are = refl;
       })
   operand-by name w (Err (At why part)) up none = cc
@@ -109,7 +109,7 @@ module _ (turns : ℕ) (answers : Key → Option Answer) where
   operand-one name w none =
       let query = under w.own (denoted (turns_at turns w) w.cursor name) in
       let same = outcome-and_then query (used_by turns answers AsOperand name w) answers in
-      subst (λ v. HasOne w v.after) (sym same) (operand-by name w (outcome query answers) (denoted-up turns answers name w) (ap (λ v. v.faults) (sym same) ∙ none))
+      subst (λ (v : Visit). HasOne w v.after) (sym same) (operand-by name w (outcome query answers) (denoted-up turns answers name w) (ap (λ (v : Visit). v.faults) (sym same) ∙ none))
 
   named-grows : (name : ScopedName) (w : Walk) (a : Around) (b : Bool) → b ≡ false → (outcome (named_by turns answers AsOperand name w b) answers).faults ≡ [] → StandsIn w a
       → Grows w (outcome (named_by turns answers AsOperand name w b) answers).after a 1
@@ -309,7 +309,7 @@ module _ (turns : ℕ) (answers : Key → Option Answer) where
       let v = value_visit u way (first_of x) in
       let end = none-append v.faults (visit_faults turns answers sites v.after) parts.1 in
       let there = value-there x (known-found way e u a full behind.0 g.kept.stands) u way end.0 in
-      let ends : Ends u v.after a way there.0 = subst (λ y. Ends u (value_visit u way (first_of y)).after a way there.0) (sym there.1) (value-ends way there.0 u a g.kept.stands) in
+      let ends : Ends u v.after a way there.0 = subst (λ (y : Evaluation). Ends u (value_visit u way (first_of y)).after a way there.0) (sym there.1) (value-ends way there.0 u a g.kept.stands) in
       let is : IsValue way e there.0 = record {
         constant = u.written.constants;
         label = label_target u.unions;
