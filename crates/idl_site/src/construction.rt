@@ -145,7 +145,7 @@ fn push_label<'a>(sites: &mut Vec<Site<'a>>, label: &'a Label) -> Result<(), All
     match label {
         Label::Case(value) => {
             sites.push(Site::Tokens(1))?;
-            push_value(sites, Target::Label, value.get())?;
+            push_value(sites, Target::Label, value)?;
             sites.push(Site::Tokens(1))?;
         }
         Label::Default => {
