@@ -52,8 +52,8 @@ module _ (bank : Key → Option Answer) (turns : ℕ) (s : Scope) where
       by_kind : (b : Bool) → inherits s.kind ≡ b
           → (list_any is_operation (outcome (cond b (Ask (entity_key s.path) (λ scope. reached turns n (bases_of (entity_in scope)))) (Done [])) bank) ≡ true) ↔ ((f : Entity) × InheritsOperation bank s n f)
       by_kind true k = (
-        λ h. let r = Any-from_list_any is_operation found h in (r.1.0, k, (through r.1.0).0 (r.0, r.1.1.0, r.1.1.1.0), r.1.1.1.1),
-        λ p. let c = (through p.0).1 p.1.1.0 in list_any-from_Any is_operation found (c.0, p.0, c.1.0, c.1.1, p.1.1.1),
+        λ h. let r = Any-from_list_any is_operation found h in (r.1, (k, ((through r.1).0 (r.0, r.2, r.3), r.4))),
+        λ p. let c = (through p.0).1 p.1.1.0 in list_any-from_Any is_operation found (c.0, p.0, c.1, c.2, p.1.1.1),
       )
       by_kind false k = (λ h. absurd (false≢true h), λ p. absurd (false≢true (sym k ∙ p.1.0)))
 

@@ -9,7 +9,7 @@ ghost use Rattle.idl_tree.specs.Reading.{first, many_of};
 ghost use Rattle.idl_syntax.specs.Gives.{Advances, Reads, Remains};
 ghost use Rattle.idl_syntax.specs.Nested.{nested};
 
-use crate::cursor::{behind, behind_word, closed, identifier, is_at, is_at_word, keyword};
+use crate::cursor::{behind, behind_word, boxed, closed, identifier, is_at, is_at_word, keyword};
 use crate::data_type::{data_type, discrete_type};
 use crate::declarator::{declarator, declarators};
 use crate::error::ReadError;
@@ -64,7 +64,6 @@ fn label(alloc: Global, depth: usize, tokens: &[Token]) -> Result<(Label, &[Toke
     if is_at_word(tokens, Keyword::Case) {
         let rest = behind_word(tokens, Keyword::Case)?;
         let (value, rest) = expression(alloc, depth, rest)?;
-        let value = Boxed::new(alloc, value)?;
         closed(Label::Case(value), rest, Mark::Colon)
     } else {
         let rest = behind_word(tokens, Keyword::Default)?;
@@ -158,11 +157,11 @@ fn construction_inside(
 {
     match keyword(tokens) {
         Some(Keyword::Struct) => {
-            let (structure, rest) = boxed_structure(alloc, depth, tokens)?;
+            let (structure, rest) = structure(alloc, depth, tokens)?;
             Ok((Construction::Structure(structure), rest))
         }
         Some(Keyword::Union) => {
-            let (union, rest) = boxed_union(alloc, depth, tokens)?;
+            let (union, rest) = union_type(alloc, depth, tokens)?;
             Ok((Construction::Union(union), rest))
         }
         _ => {
@@ -170,26 +169,6 @@ fn construction_inside(
             Ok((Construction::Enumeration(enumeration), rest))
         }
     }
-}
-
-#[inline(never)]
-#[cycle(construction)]
-fn boxed_structure(
-    alloc: Global,
-    depth: usize,
-    tokens: &[Token],
-) -> Result<(Boxed<Structure>, &[Token]), ReadError> {
-    structure(alloc, depth, tokens)
-}
-
-#[inline(never)]
-#[cycle(construction)]
-fn boxed_union(
-    alloc: Global,
-    depth: usize,
-    tokens: &[Token],
-) -> Result<(Boxed<Union>, &[Token]), ReadError> {
-    union_type(alloc, depth, tokens)
 }
 
 /// A type, or one that is declared in place.
@@ -206,7 +185,7 @@ pub fn member_type(
 {
     if is_at_construction(tokens) {
         let (construction, rest) = construction(alloc, depth, tokens)?;
-        let construction = Boxed::new(alloc, construction)?;
+        let construction = boxed(alloc, construction)?;
         Ok((MemberType::Construction(construction), rest))
     } else {
         let (kind, rest) = data_type(alloc, depth, tokens)?;
@@ -249,6 +228,7 @@ pub fn members(
 /// A struct.
 #[cycle(construction)]
 #[tactic(auto, unfolding(idl_tree::specs::ReadConstruction::structure_with))]
+#[inline(never)]
 fn structure(
     alloc: Global,
     depth: usize,
@@ -283,13 +263,18 @@ pub fn structure_rest(
         first,
         rest: more,
     };
-    Ok((Boxed::new(alloc, structure)?, rest))
+    Ok((boxed(alloc, structure)?, rest))
 }
 
 /// A union.
 #[cycle(construction)]
 #[tactic(auto, unfolding(idl_tree::specs::ReadConstruction::union_with))]
-fn union_type(alloc: Global, depth: usize, tokens: &[Token]) -> Result<(Boxed<Union>, &[Token]), ReadError>
+#[inline(never)]
+fn union_type(
+    alloc: Global,
+    depth: usize,
+    tokens: &[Token],
+) -> Result<(Boxed<Union>, &[Token]), ReadError>
     ensures reads { Reads (nested union_with depth) tokens.now result }
     ensures shorter { Advances tokens.now result }
 {
@@ -310,16 +295,11 @@ pub fn union_rest(
     ensures reads { Reads (nested union_rest_with depth name) tokens.now result }
     ensures shorter { Advances tokens.now result }
 {
-    let (discriminator, rest) = switch(alloc, tokens)?;
-    union_cases(alloc, depth, (name, discriminator), rest)
-}
-
-#[inline(never)]
-fn switch(alloc: Global, tokens: &[Token]) -> Result<(Discriminator, &[Token]), ReadError> {
     let rest = behind_word(tokens, Keyword::Switch)?;
     let rest = behind(rest, Mark::OpenParenthesis)?;
     let (discriminator, rest) = discriminator(alloc, rest)?;
-    closed(discriminator, rest, Mark::CloseParenthesis)
+    let rest = behind(rest, Mark::CloseParenthesis)?;
+    union_cases(alloc, depth, (name, discriminator), rest)
 }
 
 /// The cases of the union with this name and discriminator, in braces.
@@ -345,7 +325,7 @@ fn union_cases(
         first,
         rest: more,
     };
-    Ok((Boxed::new(alloc, union)?, rest))
+    Ok((boxed(alloc, union)?, rest))
 }
 
 /// A member of a union, with its labels.
