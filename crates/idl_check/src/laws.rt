@@ -153,7 +153,7 @@ pub fn bracketing()
 /// Where a unit has no fault, each of its expressions has a value, which is told, in the order of
 /// tokens: what the expression comes to, each of whose names has a value. A constant then has one
 /// too. There are as many operands as the expression uses names.
-pub fn valuing()
+pub fn evaluating()
     ensures values { (turns : ℕ) (answers : Key → Option Answer) (tree : Tree)
         (scopes : List Scope)
         → site_faults turns answers (items (unit_parts tree)) (first_walk scopes) ≡ []

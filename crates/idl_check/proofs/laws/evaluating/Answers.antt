@@ -1,6 +1,6 @@
 use Rattle.idl_check.proofs.Operands.{expression-names}
 use Rattle.idl_check.proofs.ValuedLaws.{constant-valued, unit-values}
-use Rattle.idl_check.proofs.laws.valuing.Goals as goal
+use Rattle.idl_check.proofs.laws.evaluating.Goals as goal
 
 pub returns-clause-values : goal.returns-clause-values
 returns-clause-values c = unit-values
