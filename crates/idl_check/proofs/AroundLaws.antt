@@ -7,7 +7,7 @@ use Rattle.std.specs.Prelude.{All, not}
 use Rattle.idl_check.specs.Codes.{Table, codes_in, faults_by}
 use Rattle.idl_check.specs.Declaring.{Written, entity_of, kind_of, standing, written_after}
 use Rattle.idl_check.specs.Labels.{Labels, no_labels, with_default, with_label}
-use Rattle.idl_check.specs.Rules.{has_no_constants, is_no_discriminator, suits}
+use Rattle.idl_check.specs.Rules.{has_no_constants, is_incomplete, is_no_discriminator, suits}
 use Rattle.idl_check.specs.Sections.{is_single}
 use Rattle.idl_check.specs.Types.{constants_of, looked_through, target_in, written_as}
 use Rattle.idl_check.specs.Using.{constants_after, last_at, suited_table, unions_after, used_table, values_after}
@@ -111,11 +111,11 @@ used-stands AsConstantType found behind w a none k = record {
   count = k.count;
   typed = k.typed;
   scopes = k.scopes;
-  constant = λ h. some-constants (constants_of behind) (no-row (has_no_constants (constants_of behind)) code.NoConstantType _ none).0;
+  constant = λ h. some-constants (constants_of behind) (no-row (has_no_constants (constants_of behind)) code.NoConstantType (codes_in ((is_incomplete found, code.IncompleteType) ∷ [])) none).0;
 }
 used-stands AsDiscriminator found behind w a none k =
     let labels = no_labels (constants_of behind) (length behind.enumerators) in
-    let some = some-switch (constants_of behind) (no-row (is_no_discriminator (constants_of behind)) code.BadDiscriminator [] (no-row _ code.IncompleteType _ none).1).0 in
+    let some : IsSome (constants_of behind) = some-switch (constants_of behind) (no-row (is_no_discriminator (constants_of behind)) code.BadDiscriminator [] (no-row (is_incomplete found) code.IncompleteType (codes_in ((is_no_discriminator (constants_of behind), code.BadDiscriminator) ∷ [])) none).1).0 in
     record {
       count = let c = k.count in omega (arith, c);
       typed = All-cons IsTyped labels w.unions some k.typed;

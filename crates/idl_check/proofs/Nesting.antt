@@ -36,6 +36,7 @@ pub record Around : Type 0 where
 
 abbrev pub opens_union : Declaration → Bool
 opens_union declaration.Union = true
+opens_union declaration.UnionAhead = true
 opens_union other = false
 
 abbrev pub is_inside : List Bool → Bool

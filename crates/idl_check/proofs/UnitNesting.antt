@@ -6,7 +6,7 @@ use Rattle.idl_lex.specs.declared.keyword.Keyword.TheVariants as word
 use Rattle.idl_lex.specs.declared.mark.Mark.TheVariants as mark
 use Rattle.idl_site.specs.ConstructionParts.{construction_parts, member_parts, member_type_parts}
 use Rattle.idl_site.specs.ExpressionParts.{expression_parts, value_parts}
-use Rattle.idl_site.specs.Item.{items}
+use Rattle.idl_site.specs.Item.{item_of, items}
 use Rattle.idl_site.specs.Part.{Part, Parts, Declares, GivesBack, Plain, Says, ScopeBegins, ScopeEnds, TypeEnds, Uses, ValueEnds, declared, if_some, keyword_part, listed, punctuation, raised, used}
 use Rattle.idl_site.specs.TypeParts.{bound_parts, constant_type_parts, declarator_parts, type_parts}
 use Rattle.idl_site.specs.UnitParts.{attribute_names, attribute_names_parts, attribute_parts, bases_parts, constant_parts, context_parts, direction_parts, exception_parts, exceptions_parts, forward_parts, given_back, interface_parts, native_parts, oneway_parts, operation_parts, parameter_parts, raises_parts, readonly_attribute_parts, readonly_names_parts, result_parts, typedef_parts, unit_parts}

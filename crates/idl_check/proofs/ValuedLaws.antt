@@ -1,5 +1,5 @@
 -- A unit without fault has a value for each of its expressions, and a constant has one.
-use Rattle.std.proofs.Common.{◌≡◌, ◌∙◌, ℕ, ◌+◌, ◌≤◌, Bool, true, false, cond, List, [], ◌∷◌, ◌++◌, length, Option, None, Some, append_assoc, flat_map, refl, sym, ap, subst, arith}
+use Rattle.std.proofs.Common.{◌≡◌, ◌∙◌, ℕ, ◌+◌, ◌≤◌, Bool, true, false, cond, List, [], ◌∷◌, ◌++◌, length, Option, None, Some, Result, Ok, Err, append_assoc, flat_map, refl, sym, ap, subst, arith}
 use Rattle.std.proofs.lemmas.Grind.{flat_map-append}
 use Rattle.std.proofs.lemmas.List.{append-nil, length-append, map-append}
 use Rattle.std.proofs.lemmas.List.Elements.{All-append, All-cons, All-head, All-nil, All-tail}
@@ -164,9 +164,9 @@ module _ (turns : ℕ) (answers : Key → Option Answer) where
       let v = visited turns answers x w in
       ap (λ fs. v.faults ++ fs) (faults-follow xs ys v.after) ∙ sym (append_assoc v.faults (visit_faults turns answers xs v.after) (visit_faults turns answers ys (walked turns answers xs v.after)))
 
-  walked-follow : (xs ys : List Item) (w : Walk) → walked turns answers (xs ++ ys) w ≡ walked turns answers ys (walked turns answers xs w)
-  walked-follow [] ys w = refl
-  walked-follow (x ∷ xs) ys w = walked-follow xs ys (visited turns answers x w).after
+  walked-on : (xs ys : List Item) (w : Walk) → walked turns answers ys (walked turns answers xs w) ≡ walked turns answers (xs ++ ys) w
+  walked-on [] ys w = refl
+  walked-on (x ∷ xs) ys w = walked-on xs ys (visited turns answers x w).after
 
 -- ---- the end of an expression
 
@@ -299,7 +299,7 @@ module _ (turns : ℕ) (answers : Key → Option Answer) where
       let operands = expression-operands e in
       let w0 : Walk = record w { values = begun_at w.at w.values } in
       let u = walked turns answers front w0 in
-      let parts = none-append (visit_faults turns answers front w0) (visit_faults turns answers last u) (sym (faults-follow turns answers front last w0) ∙ none) in
+      let parts = none-append (visit_faults turns answers front w0) (visit_faults turns answers last u) (subst (λ fs. fs ≡ []) (faults-follow turns answers front last w0) none) in
       let g : Grows w0 u a (names_in front) = front-grows turns answers front operands w0 a given parts.0 k in
       let count = g.count in
       let names = expression-names e in
@@ -317,7 +317,7 @@ module _ (turns : ℕ) (answers : Key → Option Answer) where
         given = full;
         is = there.1;
       } in
-      subst (λ z. IsTold ((way, e) ∷ es) w z) (sym (walked-follow turns answers front last w0))
+      subst (λ z. IsTold ((way, e) ∷ es) w z) (walked-on turns answers front last w0)
       (first-told way e es there.0 a w u v.after (walked turns answers sites v.after) g.kept.told g.kept.constant is ends
       (more v.after (ends.given ∙ g.given) ends.stands behind.1 end.1))
 
