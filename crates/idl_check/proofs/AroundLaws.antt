@@ -1,18 +1,18 @@
 -- A walk without fault knows what stands around each site: as many unions as are open, each with a type of labels, and the type of the next constant.
-use Rattle.std.proofs.Common.{◌≡◌, ◌∙◌, ℕ, ◌+◌, ◌-◌, ◌≤◌, Bool, true, false, cond, List, [], ◌∷◌, ◌++◌, drop, length, map, Option, None, Some, Result, Ok, Err, refl, sym, ap, subst, arith}
+use Rattle.std.proofs.Common.{◌≡◌, ◌∙◌, ℕ, ◌≤◌, Bool, true, false, cond, List, [], ◌∷◌, drop, length, map, Option, None, Some, Result, Ok, Err, refl, sym, ap, subst, arith}
 use Rattle.std.proofs.lemmas.List.{length-drop}
-use Rattle.std.proofs.lemmas.List.Elements.{All-cons, All-drop, All-head, All-nil, All-tail}
+use Rattle.std.proofs.lemmas.List.Elements.{All-cons, All-drop, All-head, All-tail}
 use Rattle.std.specs.Option.{IsSome}
-use Rattle.std.specs.Prelude.{All, not}
+use Rattle.std.specs.Prelude.{All}
 use Rattle.idl_check.specs.Codes.{Table, codes_in, faults_by}
-use Rattle.idl_check.specs.Declaring.{Written, entity_of, kind_of, standing, written_after}
+use Rattle.idl_check.specs.Declaring.{Written, entity_of, kind_of, standing}
 use Rattle.idl_check.specs.Labels.{Labels, no_labels, with_default, with_label}
 use Rattle.idl_check.specs.Rules.{has_no_constants, is_incomplete, is_no_discriminator, suits}
 use Rattle.idl_check.specs.Sections.{is_single}
 use Rattle.idl_check.specs.Types.{constants_of, looked_through, target_in, written_as}
 use Rattle.idl_check.specs.Using.{constants_after, last_at, suited_table, unions_after, used_table, values_after}
 use Rattle.idl_check.specs.Values.{Values}
-use Rattle.idl_check.specs.Walk.{Visit, Walk, declared_visit, ended_scope, turns_at, unfound_visit, used, used_visit, valued_after, visit, with_labels, with_scope}
+use Rattle.idl_check.specs.Walk.{Visit, Walk, declared_visit, turns_at, used, used_visit, valued_after, visit, with_labels, with_scope}
 use Rattle.idl_event.specs.declared.code.Code.{Code}
 use Rattle.idl_event.specs.declared.code.Code.TheVariants as code
 use Rattle.idl_memo.proofs.QueryLaws.{outcome-and_then}
@@ -42,7 +42,6 @@ use Rattle.idl_site.specs.declared.site.Use.TheVariants.{AsBase, AsType, AsEleme
 use Rattle.idl_tree.specs.declared.data_type.BasicType.TheVariants as basic
 use Rattle.idl_tree.specs.declared.name.ScopedName.{ScopedName}
 use Rattle.idl_unit.specs.TokenRules.{fault_at, first}
-use Rattle.idl_unit.specs.declared.fault.Fault.{Fault}
 use Rattle.idl_value.specs.declared.target.Target.{Target}
 use Rattle.idl_value.specs.declared.value.Value.{Value}
 use Rattle.idl_check.proofs.Nesting.{Around, around_after, has_constants, is_inside, opens_union, popped, used_around}

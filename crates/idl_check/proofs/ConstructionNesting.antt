@@ -1,24 +1,19 @@
 -- The sites of types, declarators and constructions nest: by their grammar.
-use Rattle.std.proofs.Common.{◌≡◌, ◌∙◌, ℕ, true, List, [], ◌∷◌, ◌++◌, Option, None, Some, append_assoc, flat_map, is_some, map, refl, sym, ap, subst}
-use Rattle.std.proofs.lemmas.Grind.{flat_map-append}
-use Rattle.std.proofs.lemmas.List.{append-nil, map-append}
-use Rattle.std.proofs.lemmas.List.Elements.{All-append, All-cons, All-nil}
+use Rattle.std.proofs.Common.{◌≡◌, ℕ, true, List, [], ◌∷◌, ◌++◌, Option, None, Some, append_assoc, flat_map, is_some, map, refl, sym, subst}
 use Rattle.idl_lex.specs.declared.keyword.Keyword.TheVariants as word
 use Rattle.idl_lex.specs.declared.mark.Mark.TheVariants as mark
-use Rattle.idl_site.proofs.ConstructionEquations.{case_parts-made, construction_parts-enumeration, construction_parts-structure, construction_parts-union, member_parts-made, member_type_parts-construction, member_type_parts-type, structure_opening, structure_parts-made, union_brace, union_opening, union_parts-made}
+use Rattle.idl_site.proofs.ConstructionEquations.{case_parts-made, construction_parts-enumeration, construction_parts-structure, construction_parts-union, member_parts-made, member_type_parts-construction, member_type_parts-type, structure_parts-made, union_brace, union_parts-made}
 use Rattle.idl_site.specs.ConstructionParts.{case_parts, construction_parts, discriminator_parts, enumeration_parts, label_parts, member_parts, member_type_parts, structure_parts, union_parts}
 use Rattle.idl_site.specs.ExpressionParts.{value_parts}
-use Rattle.idl_site.specs.Item.{Item, item_of, items}
-use Rattle.idl_site.specs.Part.{Part, Parts, ArrayEnds, Declares, Default, Enumerates, GivesBack, Plain, ScopeBegins, ScopeEnds, Switches, TypeEnds, Uses, all_parts, declared, if_some, keyword_part, listed, punctuation}
-use Rattle.idl_site.specs.TypeParts.{array_end, bound_parts, constant_type_parts, data_type_step, declarator_parts, length_parts, limit_parts, plain_parts, sequence_step, string_parts, type_parts, type_parts_as}
+use Rattle.idl_site.specs.Part.{Parts, ArrayEnds, Declares, Default, Enumerates, Plain, ScopeBegins, ScopeEnds, TypeEnds, Uses, all_parts, declared, keyword_part, listed, punctuation}
+use Rattle.idl_site.specs.TypeParts.{array_end, bound_parts, constant_type_parts, declarator_parts, length_parts, limit_parts, plain_parts, string_parts, type_parts, type_parts_as}
 use Rattle.idl_site.specs.declared.site.Declaration.{Declaration}
 use Rattle.idl_site.specs.declared.site.Declaration.TheVariants as declaration
 use Rattle.idl_site.specs.declared.site.Shape.TheVariants.{Basic, Text, Sequence as Elements}
-use Rattle.idl_site.specs.declared.site.Target.{Target as Purpose}
 use Rattle.idl_site.specs.declared.site.Target.TheVariants.{Bound, Length}
 use Rattle.idl_site.specs.declared.site.Target.TheVariants as purpose
 use Rattle.idl_site.specs.declared.site.Use.{Use}
-use Rattle.idl_site.specs.declared.site.Use.TheVariants.{AsConstantType, AsDiscriminator, AsElement, AsType}
+use Rattle.idl_site.specs.declared.site.Use.TheVariants.{AsConstantType, AsElement, AsType}
 use Rattle.idl_tree.specs.DataType.{spell_basic, spell_discrete, spell_string_word}
 use Rattle.idl_tree.specs.Lexeme.{Word, Punctuation}
 use Rattle.idl_tree.specs.ReadConstruction.{made_case, made_member, made_structure, made_union}
@@ -29,7 +24,6 @@ use Rattle.idl_tree.specs.declared.construction.Construction.TheFolds.{ind-Const
 use Rattle.idl_tree.specs.declared.construction.Construction.TheOpen.{Construction-F, MemberType-F}
 use Rattle.idl_tree.specs.declared.construction.Construction.TheVariants.{rolls-Enumeration, rolls-Structure, rolls-Union}
 use Rattle.idl_tree.specs.declared.construction.Discriminator.{Discriminator}
-use Rattle.idl_tree.specs.declared.construction.Discriminator.TheVariants as discriminator
 use Rattle.idl_tree.specs.declared.construction.Enumeration.{Enumeration}
 use Rattle.idl_tree.specs.declared.construction.Label.{Label}
 use Rattle.idl_tree.specs.declared.construction.Label.TheVariants as label
@@ -39,8 +33,7 @@ use Rattle.idl_tree.specs.declared.construction.MemberType.TheVariants.{rolls-Co
 use Rattle.idl_tree.specs.declared.construction.Structure.{Structure, roll-Structure}
 use Rattle.idl_tree.specs.declared.construction.Union.{Union, roll-Union}
 use Rattle.idl_tree.specs.declared.data_type.BasicType.TheVariants.{Discrete}
-use Rattle.idl_tree.specs.declared.data_type.DataType.{DataType, fold-DataType, ind-DataType, map-DataType, roll-DataType}
-use Rattle.idl_tree.specs.declared.data_type.DataType.TheFolds.{fold-roll-DataType, fold-roll-Sequence}
+use Rattle.idl_tree.specs.declared.data_type.DataType.{DataType, ind-DataType, map-DataType, roll-DataType}
 use Rattle.idl_tree.specs.declared.data_type.DataType.TheOpen.{DataType-F}
 use Rattle.idl_tree.specs.declared.data_type.DataType.TheVariants.{rolls-Plain, rolls-Sequence}
 use Rattle.idl_tree.specs.declared.data_type.DataType.TheVariants as data_type
@@ -54,7 +47,7 @@ use Rattle.idl_tree.specs.declared.several.Several.{Several}
 use Rattle.idl_tree.specs.declared.unit.ConstantType.{ConstantType}
 use Rattle.idl_tree.specs.declared.unit.ConstantType.TheVariants as constant
 use Rattle.idl_check.proofs.BracketLemmas.{sequence_rest, type_parts-plain, type_parts-sequence}
-use Rattle.idl_check.proofs.Nesting.{Nests, NestsIn, at_least, before, before_in, discriminated, each, ends, expression, follow, follow_in, is_level_use, label_value, lifted, many, maybe, none, one, scope, several, union_scope}
+use Rattle.idl_check.proofs.Nesting.{Nests, NestsIn, at_least, before, before_in, discriminated, each, ends, expression, follow, follow_in, is_level_use, label_value, lifted, many, none, one, scope, several, union_scope}
 
 -- ---- types
 

@@ -14,7 +14,7 @@ use Rattle.idl_site.specs.declared.site.Declaration.TheVariants as declaration
 use Rattle.idl_site.specs.declared.site.Shape.TheVariants.{Text}
 use Rattle.idl_site.specs.declared.site.Target.TheVariants as purpose
 use Rattle.idl_site.specs.declared.site.Use.{Use}
-use Rattle.idl_site.specs.declared.site.Use.TheVariants.{AsBase, AsType, Raised, RaisedBySet}
+use Rattle.idl_site.specs.declared.site.Use.TheVariants.{AsBase, Raised, RaisedBySet}
 use Rattle.idl_tree.specs.Interface.{spell_direction, spell_local}
 use Rattle.idl_tree.specs.Lexeme.{Word, Punctuation}
 use Rattle.idl_tree.specs.declared.attribute.Attribute.{Attribute}
@@ -44,7 +44,7 @@ use Rattle.idl_tree.specs.declared.unit.Tree.{Tree}
 use Rattle.idl_tree.specs.declared.unit.Tree.TheVariants as tree
 use Rattle.idl_tree.specs.declared.unit.Typedef.{Typedef}
 use Rattle.idl_check.proofs.ConstructionNesting.{a_type, constant_type, construction, declarator, member, member_type}
-use Rattle.idl_check.proofs.Nesting.{Around, AreFit, Nests, around_after, arounds, arounds-append, before, each, ends, fit-append, follow, is_level_use, maybe, none, one, operands-fit, scope, several}
+use Rattle.idl_check.proofs.Nesting.{Around, AreFit, Nests, arounds, arounds-append, before, each, ends, fit-append, follow, is_level_use, maybe, none, one, operands-fit, scope, several}
 use Rattle.idl_check.proofs.Operands.{operand-parts}
 
 -- ---- interfaces

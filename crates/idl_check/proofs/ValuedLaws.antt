@@ -22,7 +22,6 @@ use Rattle.idl_memo.specs.Query.{Done, outcome}
 use Rattle.idl_scope.specs.Lookup.{denoted, under}
 use Rattle.idl_scope.specs.declared.answer.Answer.{Answer}
 use Rattle.idl_scope.specs.declared.answer.Scope.{Scope}
-use Rattle.idl_scope.specs.declared.entity.Entity.{Entity}
 use Rattle.idl_scope.specs.declared.fault.NameFault.{NameFault}
 use Rattle.idl_scope.specs.declared.fault.NameFault.TheVariants.{At, Memory}
 use Rattle.idl_scope.specs.declared.found.Found.{Found}
@@ -46,10 +45,10 @@ use Rattle.idl_unit.specs.TokenRules.{fault_at}
 use Rattle.idl_unit.specs.declared.fault.Fault.{Fault}
 use Rattle.idl_value.proofs.DecisionLemmas.{bound-open, value-open}
 use Rattle.idl_value.specs.Evaluation.{Evaluation, Faulty, Operands, Valued, first_of}
-use Rattle.idl_value.specs.Names.{AreGiven, name_count}
+use Rattle.idl_value.specs.Names.{AreGiven}
 use Rattle.idl_value.specs.declared.target.Target.{Target}
 use Rattle.idl_value.specs.declared.value.Value.{Value}
-use Rattle.idl_check.proofs.AroundLaws.{IsKept, IsTyped, Stands, StandsIn, single-kept, used-kept, used-none, valued-stands}
+use Rattle.idl_check.proofs.AroundLaws.{IsKept, IsTyped, StandsIn, single-kept, used-kept, used-none, valued-stands}
 use Rattle.idl_check.proofs.BracketLemmas.{tokens-single}
 use Rattle.idl_check.proofs.ExpressionFaults.{expression-items}
 use Rattle.idl_check.proofs.Nesting.{AreFit, Around, IsFit, IsKnown, around_after, arounds, arounds-operands}
