@@ -1,4 +1,4 @@
-use Rattle.std.proofs.Common.{◌≡◌, ◌∙◌, ℕ, List, None, ap, refl, sym}
+use Rattle.std.proofs.Common.{◌≡◌, ◌∙◌, ℕ, List, ap, refl, sym}
 use Rattle.std.specs.Str.{bytes_eq}
 use Rattle.indexmap.specs.IndexMap.{insert_entry}
 use Rattle.idl_workspace.specs.Edits.{Define, after}
@@ -19,8 +19,8 @@ returns-in-Some c =
           ∙ define-refused (rootless c.self.inside.bank) word c.args.body c.in-Some.refusal c.in-Some.ensures;
     }
 
-pub invariant_of-self : goal.invariant_of-self
-invariant_of-self c =
+pub invariant_of-self-2 : goal.invariant_of-self-2
+invariant_of-self-2 c =
     let old : Inputs = c.self.inside.bank in
     let new : Inputs = c.define.new.self in
     let word = c.in_ok-word.word in

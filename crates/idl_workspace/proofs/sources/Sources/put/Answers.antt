@@ -17,8 +17,8 @@ set_files-requires-clause-beside c =
     subst (λ (files : Texts). IsSameBeside c.in_ok-name.name files new) c.files.ensures
     (subst (λ (name : List ℕ). IsSameBeside name old new) named (put-beside old new bytes c.args.lines.items c.in_ok-files.ensures.ok))
 
-pub invariant_of-self : goal.invariant_of-self
-invariant_of-self c =
+pub invariant_of-self-2 : goal.invariant_of-self-2
+invariant_of-self-2 c =
     let old : Inputs = c.self.inside.bank in
     let new : Inputs = c.set_files.new.self in
     let name = c.args.name.now in
