@@ -1,10 +1,11 @@
 pub mod AlikeLemmas
 pub mod ApartLaws
 mod BaseLemmas
-pub mod Bracketing
+pub mod BracketLemmas
 pub mod ExpressionFaults
 pub mod FaultOrder
 mod IdLemmas
+pub mod InheritedLaws
 mod JudgeLemmas
 pub mod LeastFault
 pub mod LeastLaws

@@ -69,6 +69,7 @@ impl Loading {
     }
 
     // Loads what the roots ask for.
+    #[inline(never)]
     fn explore_all<'a, L: Loader>(
         &mut self,
         roots: &[Name],
@@ -171,6 +172,7 @@ impl Loading {
     }
 
     // Loads the file of this name, unless it is known to be missing, and tells whether it is there.
+    #[inline(never)]
     fn load<'a, L: Loader>(&mut self, name: &Name, loader: &mut L) -> Result<bool, Failure<'a>>
         ensures { OnOk result (IsLoading (L.told loader.old) (L.told loader.new) self.old self.new) }
     {

@@ -27,7 +27,7 @@ pub fn push_construction<'a>(
         (Pushes sites.old.items sites.new.items (construction_parts construction.now)) }
 {
     match construction {
-        Construction::Structure(structure) => push_structure(sites, structure),
+        Construction::Structure(structure) => push_structure(sites, structure.get()),
         Construction::Union(union) => push_union(sites, union.get()),
         Construction::Enumeration(enumeration) => push_enumeration(sites, enumeration),
     }

@@ -38,7 +38,7 @@ fn push_expression<'a>(
         (Pushes sites.old.items sites.new.items (expression_parts expression.now)) }
 {
     let Expression { first, rest } = expression;
-    push_exclusive_or(sites, first)?;
+    push_exclusive_or(sites, first.get())?;
     for operand in rest.as_slice() {
         sites.push(Site::Tokens(1))?;
         push_exclusive_or(sites, operand)?;
@@ -57,7 +57,7 @@ fn push_exclusive_or<'a>(
         (Pushes sites.old.items sites.new.items (exclusive_or_parts exclusive_or.now)) }
 {
     let ExclusiveOr { first, rest } = exclusive_or;
-    push_and(sites, first)?;
+    push_and(sites, first.get())?;
     for operand in rest.as_slice() {
         sites.push(Site::Tokens(1))?;
         push_and(sites, operand)?;
@@ -72,7 +72,7 @@ fn push_and<'a>(sites: &mut Vec<Site<'a>>, and: &'a And) -> Result<(), AllocErro
     ensures { OnOk result (Pushes sites.old.items sites.new.items (and_parts and.now)) }
 {
     let And { first, rest } = and;
-    push_shift(sites, first)?;
+    push_shift(sites, first.get())?;
     for operand in rest.as_slice() {
         sites.push(Site::Tokens(1))?;
         push_shift(sites, operand)?;
@@ -87,7 +87,7 @@ fn push_shift<'a>(sites: &mut Vec<Site<'a>>, shift: &'a Shift) -> Result<(), All
     ensures { OnOk result (Pushes sites.old.items sites.new.items (shift_parts shift.now)) }
 {
     let Shift { first, rest } = shift;
-    push_sum(sites, first)?;
+    push_sum(sites, first.get())?;
     for (_operator, operand) in rest.as_slice() {
         sites.push(Site::Tokens(1))?;
         push_sum(sites, operand)?;
@@ -102,7 +102,7 @@ fn push_sum<'a>(sites: &mut Vec<Site<'a>>, sum: &'a Sum) -> Result<(), AllocErro
     ensures { OnOk result (Pushes sites.old.items sites.new.items (sum_parts sum.now)) }
 {
     let Sum { first, rest } = sum;
-    push_product(sites, first)?;
+    push_product(sites, first.get())?;
     for (_operator, operand) in rest.as_slice() {
         sites.push(Site::Tokens(1))?;
         push_product(sites, operand)?;
@@ -117,7 +117,7 @@ fn push_product<'a>(sites: &mut Vec<Site<'a>>, product: &'a Product) -> Result<(
     ensures { OnOk result (Pushes sites.old.items sites.new.items (product_parts product.now)) }
 {
     let Product { first, rest } = product;
-    push_unary(sites, first)?;
+    push_unary(sites, first.get())?;
     for (_operator, operand) in rest.as_slice() {
         sites.push(Site::Tokens(1))?;
         push_unary(sites, operand)?;

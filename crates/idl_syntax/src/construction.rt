@@ -9,7 +9,7 @@ ghost use Rattle.idl_tree.specs.Reading.{first, many_of};
 ghost use Rattle.idl_syntax.specs.Gives.{Advances, Reads, Remains};
 ghost use Rattle.idl_syntax.specs.Nested.{nested};
 
-use crate::cursor::{behind, behind_word, closed, identifier, is_at, is_at_word, keyword};
+use crate::cursor::{behind, behind_word, boxed, closed, identifier, is_at, is_at_word, keyword};
 use crate::data_type::{data_type, discrete_type};
 use crate::declarator::{declarator, declarators};
 use crate::error::ReadError;
@@ -38,6 +38,7 @@ pub fn enumeration(alloc: Global, tokens: &[Token]) -> Result<(Enumeration, &[To
 
 /// The type of a union's discriminator.
 #[tactic(auto, unfolding(idl_tree::specs::ReadConstruction::discriminator_at))]
+#[inline(never)]
 fn discriminator(alloc: Global, tokens: &[Token]) -> Result<(Discriminator, &[Token]), ReadError>
     ensures reads { Reads discriminator_at tokens.now result }
     ensures shorter { Advances tokens.now result }
@@ -80,6 +81,7 @@ fn is_at_label(tokens: &[Token]) -> bool
 
 /// One label or more.
 #[tactic(auto, unfolding(idl_tree::specs::ReadConstruction::all_with))]
+#[inline(never)]
 fn labels(
     alloc: Global,
     depth: usize,
@@ -95,6 +97,7 @@ fn labels(
 }
 
 /// The labels that stand here.
+#[inline(never)]
 fn more_labels(
     alloc: Global,
     depth: usize,
@@ -159,7 +162,7 @@ fn construction_inside(
         }
         Some(Keyword::Union) => {
             let (union, rest) = union_type(alloc, depth, tokens)?;
-            Ok((Construction::Union(Boxed::new(alloc, union)?), rest))
+            Ok((Construction::Union(union), rest))
         }
         _ => {
             let (enumeration, rest) = enumeration(alloc, tokens)?;
@@ -182,7 +185,7 @@ pub fn member_type(
 {
     if is_at_construction(tokens) {
         let (construction, rest) = construction(alloc, depth, tokens)?;
-        let construction = Boxed::new(alloc, construction)?;
+        let construction = boxed(alloc, construction)?;
         Ok((MemberType::Construction(construction), rest))
     } else {
         let (kind, rest) = data_type(alloc, depth, tokens)?;
@@ -225,11 +228,12 @@ pub fn members(
 /// A struct.
 #[cycle(construction)]
 #[tactic(auto, unfolding(idl_tree::specs::ReadConstruction::structure_with))]
+#[inline(never)]
 fn structure(
     alloc: Global,
     depth: usize,
     tokens: &[Token],
-) -> Result<(Structure, &[Token]), ReadError>
+) -> Result<(Boxed<Structure>, &[Token]), ReadError>
     ensures reads { Reads (nested structure_with depth) tokens.now result }
     ensures shorter { Advances tokens.now result }
 {
@@ -246,25 +250,31 @@ pub fn structure_rest(
     depth: usize,
     name: Spelling,
     tokens: &[Token],
-) -> Result<(Structure, &[Token]), ReadError>
+) -> Result<(Boxed<Structure>, &[Token]), ReadError>
     ensures reads { Reads (nested structure_rest_with depth name) tokens.now result }
     ensures shorter { Advances tokens.now result }
 {
     let rest = behind(tokens, Mark::OpenBrace)?;
     let (first, rest) = member(alloc, depth, rest)?;
     let (more, rest) = members(alloc, depth, rest)?;
+    let rest = behind(rest, Mark::CloseBrace)?;
     let structure = Structure {
         name,
         first,
         rest: more,
     };
-    closed(structure, rest, Mark::CloseBrace)
+    Ok((boxed(alloc, structure)?, rest))
 }
 
 /// A union.
 #[cycle(construction)]
 #[tactic(auto, unfolding(idl_tree::specs::ReadConstruction::union_with))]
-fn union_type(alloc: Global, depth: usize, tokens: &[Token]) -> Result<(Union, &[Token]), ReadError>
+#[inline(never)]
+fn union_type(
+    alloc: Global,
+    depth: usize,
+    tokens: &[Token],
+) -> Result<(Boxed<Union>, &[Token]), ReadError>
     ensures reads { Reads (nested union_with depth) tokens.now result }
     ensures shorter { Advances tokens.now result }
 {
@@ -281,14 +291,14 @@ pub fn union_rest(
     depth: usize,
     name: Spelling,
     tokens: &[Token],
-) -> Result<(Union, &[Token]), ReadError>
+) -> Result<(Boxed<Union>, &[Token]), ReadError>
     ensures reads { Reads (nested union_rest_with depth name) tokens.now result }
     ensures shorter { Advances tokens.now result }
 {
     let rest = behind_word(tokens, Keyword::Switch)?;
     let rest = behind(rest, Mark::OpenParenthesis)?;
     let (discriminator, rest) = discriminator(alloc, rest)?;
-    let (discriminator, rest) = closed(discriminator, rest, Mark::CloseParenthesis)?;
+    let rest = behind(rest, Mark::CloseParenthesis)?;
     union_cases(alloc, depth, (name, discriminator), rest)
 }
 
@@ -300,7 +310,7 @@ fn union_cases(
     depth: usize,
     head: (Spelling, Discriminator),
     tokens: &[Token],
-) -> Result<(Union, &[Token]), ReadError>
+) -> Result<(Boxed<Union>, &[Token]), ReadError>
     ensures reads { Reads (nested cases_with depth head.0 head.1) tokens.now result }
     ensures shorter { Advances tokens.now result }
 {
@@ -308,13 +318,14 @@ fn union_cases(
     let (first, rest) = case(alloc, depth, rest)?;
     let (more, rest) = cases(alloc, depth, rest)?;
     let (name, discriminator) = head;
+    let rest = behind(rest, Mark::CloseBrace)?;
     let union = Union {
         name,
         discriminator,
         first,
         rest: more,
     };
-    closed(union, rest, Mark::CloseBrace)
+    Ok((boxed(alloc, union)?, rest))
 }
 
 /// A member of a union, with its labels.

@@ -9,8 +9,9 @@ ghost use Rattle.idl_syntax.specs.Gives.{Advances, Passes, Reads};
 ghost use Rattle.idl_syntax.specs.Next.{closed_with, mark_of, named_with};
 
 use crate::error::ReadError;
+use idl_base::Boxed;
 use idl_lex::{Keyword, Kind, Mark, Spelling, Token};
-use std::alloc::AllocError;
+use std::alloc::{AllocError, Global};
 
 /// The mark that the next token is.
 #[tactic(auto, unfolding(idl_tree::specs::Lexeme::lexeme_of))]
@@ -82,12 +83,21 @@ pub fn named<T: Drop>(read: T, tokens: &[Token]) -> Result<((T, Spelling), &[Tok
 }
 
 /// What was read, with this mark behind it.
+#[inline(never)]
 pub fn closed<T: Drop>(read: T, tokens: &[Token], mark: Mark) -> Result<(T, &[Token]), ReadError>
     ensures reads { Reads (closed_with mark read) tokens.now result }
     ensures shorter { Advances tokens.now result }
 {
     let rest = behind(tokens, mark)?;
     Ok((read, rest))
+}
+
+/// What was read, moved behind a pointer. The copies that a move takes stand in a frame of its own.
+#[inline(never)]
+pub fn boxed<T: Drop>(alloc: Global, read: T) -> Result<Boxed<T>, AllocError>
+    ensures { IfOk result (λ boxed. boxed ≡ read) }
+{
+    Boxed::new(alloc, read)
 }
 
 /// What stands behind this keyword.

@@ -53,6 +53,7 @@ fn array_lengths(
 
 /// A declared name, with the lengths of its array if it is one.
 #[tactic(auto, unfolding(idl_tree::specs::ReadType::declarator_with))]
+#[inline(never)]
 pub fn declarator(
     alloc: Global,
     depth: usize,
@@ -68,6 +69,7 @@ pub fn declarator(
 
 /// One declared name or more, with commas between.
 #[tactic(auto, unfolding(idl_tree::specs::ReadExpression::parted_with))]
+#[inline(never)]
 pub fn declarators(
     alloc: Global,
     depth: usize,

@@ -10,12 +10,12 @@ ghost use Rattle.idl_tree.specs.Tests.{is_mark};
 ghost use Rattle.idl_syntax.specs.Gives.{Advances, Reads, Remains};
 ghost use Rattle.idl_syntax.specs.Steps.{steps_with};
 
-use crate::cursor::{behind, closed, is_at, name};
+use crate::cursor::{behind, boxed, closed, is_at, name};
 use crate::error::ReadError;
 use crate::literal::literal;
 use crate::name::scoped_name;
 use crate::operator::{product_operator, shift_operator, sum_operator, unary_operator};
-use idl_base::{Boxed, Seq};
+use idl_base::Seq;
 use idl_lex::{Mark, Token};
 use idl_tree::{
     And, ExclusiveOr, Expression, Primary, Product, ProductOperator, Shift, ShiftOperator, Sum,
@@ -53,6 +53,7 @@ fn alternatives(
 {
     let (first, rest) = exclusive_or(alloc, depth, tokens)?;
     let (more, rest) = more_alternatives(alloc, depth, rest)?;
+    let first = boxed(alloc, first)?;
     Ok((Expression { first, rest: more }, rest))
 }
 
@@ -90,6 +91,7 @@ fn exclusive_or(
 {
     let (first, rest) = and(alloc, depth, tokens)?;
     let (more, rest) = more_ands(alloc, depth, rest)?;
+    let first = boxed(alloc, first)?;
     Ok((ExclusiveOr { first, rest: more }, rest))
 }
 
@@ -123,6 +125,7 @@ fn and(alloc: Global, depth: usize, tokens: &[Token]) -> Result<(And, &[Token]),
 {
     let (first, rest) = shift(alloc, depth, tokens)?;
     let (more, rest) = more_shifts(alloc, depth, rest)?;
+    let first = boxed(alloc, first)?;
     Ok((And { first, rest: more }, rest))
 }
 
@@ -156,6 +159,7 @@ fn shift(alloc: Global, depth: usize, tokens: &[Token]) -> Result<(Shift, &[Toke
 {
     let (first, rest) = sum(alloc, depth, tokens)?;
     let (more, rest) = more_sums(alloc, depth, rest)?;
+    let first = boxed(alloc, first)?;
     Ok((Shift { first, rest: more }, rest))
 }
 
@@ -189,6 +193,7 @@ fn sum(alloc: Global, depth: usize, tokens: &[Token]) -> Result<(Sum, &[Token]),
 {
     let (first, rest) = product(alloc, depth, tokens)?;
     let (more, rest) = more_products(alloc, depth, rest)?;
+    let first = boxed(alloc, first)?;
     Ok((Sum { first, rest: more }, rest))
 }
 
@@ -222,6 +227,7 @@ fn product(alloc: Global, depth: usize, tokens: &[Token]) -> Result<(Product, &[
 {
     let (first, rest) = unary(alloc, depth, tokens)?;
     let (more, rest) = more_unaries(alloc, depth, rest)?;
+    let first = boxed(alloc, first)?;
     Ok((Product { first, rest: more }, rest))
 }
 
@@ -305,5 +311,5 @@ fn parentheses(
     let rest = behind(tokens, Mark::OpenParenthesis)?;
     let (inner, rest) = expression(alloc, depth, rest)?;
     let (inner, rest) = closed(inner, rest, Mark::CloseParenthesis)?;
-    Ok((Primary::Parentheses(Boxed::new(alloc, inner)?), rest))
+    Ok((Primary::Parentheses(boxed(alloc, inner)?), rest))
 }

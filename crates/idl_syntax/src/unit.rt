@@ -24,7 +24,6 @@ use crate::expression::expression;
 use crate::interface::{closing, interface, module};
 use crate::name::scoped_name;
 use crate::operation::operation;
-use idl_base::Boxed;
 use idl_lex::{Keyword, Mark, Spelling, Token};
 use idl_tree::{Constant, ConstantType, Construction, Exception, Forward, Tree, Typedef};
 use std::alloc::Global;
@@ -92,7 +91,6 @@ fn union_unit(alloc: Global, depth: usize, tokens: &[Token]) -> Result<(Tree, &[
     let (name, rest) = identifier(rest)?;
     if is_at_word(rest, Keyword::Switch) {
         let (union, rest) = union_rest(alloc, depth, name, rest)?;
-        let union = Boxed::new(alloc, union)?;
         closed(
             Tree::Construction(Construction::Union(union)),
             rest,

@@ -65,7 +65,7 @@ pub enum MemberType {
 #[cycle(construction)]
 #[derive(Drop)]
 pub enum Construction {
-    Structure(Structure),
+    Structure(Boxed<Structure>),
     Union(Boxed<Union>),
     Enumeration(Enumeration),
 }

@@ -38,7 +38,7 @@ pub enum UnaryOperator {
 #[cycle(expression)]
 #[derive(Drop)]
 pub struct Expression {
-    pub first: ExclusiveOr,
+    pub first: Boxed<ExclusiveOr>,
     pub rest: Seq<ExclusiveOr>,
 }
 
@@ -46,7 +46,7 @@ pub struct Expression {
 #[cycle(expression)]
 #[derive(Drop)]
 pub struct ExclusiveOr {
-    pub first: And,
+    pub first: Boxed<And>,
     pub rest: Seq<And>,
 }
 
@@ -54,7 +54,7 @@ pub struct ExclusiveOr {
 #[cycle(expression)]
 #[derive(Drop)]
 pub struct And {
-    pub first: Shift,
+    pub first: Boxed<Shift>,
     pub rest: Seq<Shift>,
 }
 
@@ -62,7 +62,7 @@ pub struct And {
 #[cycle(expression)]
 #[derive(Drop)]
 pub struct Shift {
-    pub first: Sum,
+    pub first: Boxed<Sum>,
     pub rest: Seq<(ShiftOperator, Sum)>,
 }
 
@@ -70,7 +70,7 @@ pub struct Shift {
 #[cycle(expression)]
 #[derive(Drop)]
 pub struct Sum {
-    pub first: Product,
+    pub first: Boxed<Product>,
     pub rest: Seq<(SumOperator, Product)>,
 }
 
@@ -78,7 +78,7 @@ pub struct Sum {
 #[cycle(expression)]
 #[derive(Drop)]
 pub struct Product {
-    pub first: Unary,
+    pub first: Boxed<Unary>,
     pub rest: Seq<(ProductOperator, Unary)>,
 }
 

@@ -60,7 +60,7 @@ impl<'a> Scene<'a> {
             (expression_term expression.now) }
     {
         let Expression { first, rest } = expression;
-        let mut left = self.exclusive_or(place, first);
+        let mut left = self.exclusive_or(place, first.get());
         for operand in rest.as_slice() {
             let right = self.exclusive_or(left.place.further(1, 0), operand);
             left = self.operated(Operator::Or, left, right);
@@ -77,7 +77,7 @@ impl<'a> Scene<'a> {
             (exclusive_or_term exclusive_or.now) }
     {
         let ExclusiveOr { first, rest } = exclusive_or;
-        let mut left = self.and(place, first);
+        let mut left = self.and(place, first.get());
         for operand in rest.as_slice() {
             let right = self.and(left.place.further(1, 0), operand);
             left = self.operated(Operator::ExclusiveOr, left, right);
@@ -93,7 +93,7 @@ impl<'a> Scene<'a> {
             ≡ walk_term self.entry.target.now self.entry.operands.now place (and_term and.now) }
     {
         let And { first, rest } = and;
-        let mut left = self.shift(place, first);
+        let mut left = self.shift(place, first.get());
         for operand in rest.as_slice() {
             let right = self.shift(left.place.further(1, 0), operand);
             left = self.operated(Operator::And, left, right);
@@ -109,7 +109,7 @@ impl<'a> Scene<'a> {
             ≡ walk_term self.entry.target.now self.entry.operands.now place (shift_term shift.now) }
     {
         let Shift { first, rest } = shift;
-        let mut left = self.sum(place, first);
+        let mut left = self.sum(place, first.get());
         for (operator, operand) in rest.as_slice() {
             let right = self.sum(left.place.further(1, 0), operand);
             left = self.operated(shift_operator(*operator), left, right);
@@ -125,7 +125,7 @@ impl<'a> Scene<'a> {
             ≡ walk_term self.entry.target.now self.entry.operands.now place (sum_term sum.now) }
     {
         let Sum { first, rest } = sum;
-        let mut left = self.product(place, first);
+        let mut left = self.product(place, first.get());
         for (operator, operand) in rest.as_slice() {
             let right = self.product(left.place.further(1, 0), operand);
             left = self.operated(sum_operator(*operator), left, right);
@@ -142,7 +142,7 @@ impl<'a> Scene<'a> {
             (product_term product.now) }
     {
         let Product { first, rest } = product;
-        let mut left = self.unary(place, first);
+        let mut left = self.unary(place, first.get());
         for (operator, operand) in rest.as_slice() {
             let right = self.unary(left.place.further(1, 0), operand);
             left = self.operated(product_operator(*operator), left, right);

@@ -12,10 +12,10 @@ use Rattle.idl_site.proofs.PushLemmas.{pushes-append, pushes-close, pushes-close
 use Rattle.idl_site.proofs.construction.+construction.Goals as goal
 
 pub push_construction-returns-in-Structure : goal.push_construction-returns-in-Structure
-push_construction-returns-in-Structure t c = rw (c.in-Structure.is, construction_parts-structure) c.push_structure.ensures
+push_construction-returns-in-Structure t c = rw (c.in-Structure.is, construction_parts-structure) (rw c.get.ensures at c.push_structure.ensures)
 
 pub push_construction-returns-in-Union : goal.push_construction-returns-in-Union
-push_construction-returns-in-Union t c = rw (c.in-Union.is, construction_parts-union) (rw c.get.ensures at c.push_union.ensures)
+push_construction-returns-in-Union t c = rw (c.in-Union.is, construction_parts-union) (rw c.get-in-Union.ensures at c.push_union.ensures)
 
 pub push_member_type-returns-in-Construction : goal.push_member_type-returns-in-Construction
 push_member_type-returns-in-Construction t c =

@@ -16,32 +16,38 @@ use Rattle.idl_value.proofs.walk.Scene.+expression.Goals as goal
 pub expression-loop-operand-init : goal.expression-loop-operand-init
 expression-loop-operand-init t c =
     rw expression_term-out
-    (ap (λ w. walk_links c.args.self.target.now c.args.self.operands.now w (links (λ s. operator.Or) exclusive_or_term (out-Expression c.args.expression.now).rest)) c.exclusive_or-left.ensures)
+    (ap (λ w. walk_links c.args.self.target.now c.args.self.operands.now w (links (λ s. operator.Or) exclusive_or_term (out-Expression c.args.expression.now).rest))
+    (c.exclusive_or-left.ensures ∙ ap (λ x. walk_term c.args.self.target.now c.args.self.operands.now c.args.place (exclusive_or_term x)) c.get.ensures))
 
 pub exclusive_or-loop-operand-init : goal.exclusive_or-loop-operand-init
 exclusive_or-loop-operand-init t c =
     rw exclusive_or_term-out
-    (ap (λ w. walk_links c.args.self.target.now c.args.self.operands.now w (links (λ s. operator.ExclusiveOr) and_term (out-ExclusiveOr c.args.exclusive_or.now).rest)) c.and-left.ensures)
+    (ap (λ w. walk_links c.args.self.target.now c.args.self.operands.now w (links (λ s. operator.ExclusiveOr) and_term (out-ExclusiveOr c.args.exclusive_or.now).rest))
+    (c.and-left.ensures ∙ ap (λ x. walk_term c.args.self.target.now c.args.self.operands.now c.args.place (and_term x)) c.get.ensures))
 
 pub and-loop-operand-init : goal.and-loop-operand-init
 and-loop-operand-init t c =
     rw and_term-out
-    (ap (λ w. walk_links c.args.self.target.now c.args.self.operands.now w (links (λ s. operator.And) shift_term (out-And c.args.and.now).rest)) c.shift-left.ensures)
+    (ap (λ w. walk_links c.args.self.target.now c.args.self.operands.now w (links (λ s. operator.And) shift_term (out-And c.args.and.now).rest))
+    (c.shift-left.ensures ∙ ap (λ x. walk_term c.args.self.target.now c.args.self.operands.now c.args.place (shift_term x)) c.get.ensures))
 
 pub shift-loop-operator-init : goal.shift-loop-operator-init
 shift-loop-operator-init t c =
     rw shift_term-out
-    (ap (λ w. walk_links c.args.self.target.now c.args.self.operands.now w (links (λ s. shift_operator s.0) (λ s. sum_term s.1) (out-Shift c.args.shift.now).rest)) c.sum-left.ensures)
+    (ap (λ w. walk_links c.args.self.target.now c.args.self.operands.now w (links (λ s. shift_operator s.0) (λ s. sum_term s.1) (out-Shift c.args.shift.now).rest))
+    (c.sum-left.ensures ∙ ap (λ x. walk_term c.args.self.target.now c.args.self.operands.now c.args.place (sum_term x)) c.get.ensures))
 
 pub sum-loop-operator-init : goal.sum-loop-operator-init
 sum-loop-operator-init t c =
     rw sum_term-out
-    (ap (λ w. walk_links c.args.self.target.now c.args.self.operands.now w (links (λ s. sum_operator s.0) (λ s. product_term s.1) (out-Sum c.args.sum.now).rest)) c.product-left.ensures)
+    (ap (λ w. walk_links c.args.self.target.now c.args.self.operands.now w (links (λ s. sum_operator s.0) (λ s. product_term s.1) (out-Sum c.args.sum.now).rest))
+    (c.product-left.ensures ∙ ap (λ x. walk_term c.args.self.target.now c.args.self.operands.now c.args.place (product_term x)) c.get.ensures))
 
 pub product-loop-operator-init : goal.product-loop-operator-init
 product-loop-operator-init t c =
     rw product_term-out
-    (ap (λ w. walk_links c.args.self.target.now c.args.self.operands.now w (links (λ s. product_operator s.0) (λ s. unary_term s.1) (out-Product c.args.product.now).rest)) c.unary-left.ensures)
+    (ap (λ w. walk_links c.args.self.target.now c.args.self.operands.now w (links (λ s. product_operator s.0) (λ s. unary_term s.1) (out-Product c.args.product.now).rest))
+    (c.unary-left.ensures ∙ ap (λ x. walk_term c.args.self.target.now c.args.self.operands.now c.args.place (unary_term x)) c.get.ensures))
 
 pub unary-returns-in-None : goal.unary-returns-in-None
 unary-returns-in-None t c = rw (unary_term-out, c.in-None.is) c.primary.ensures
