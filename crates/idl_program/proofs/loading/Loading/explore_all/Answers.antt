@@ -10,7 +10,7 @@ roots-preserved g c =
     let before = told c.args.loader.now in
     let own = c.own_file.new in
     let file : IsLoading before (told own.loader) c.args.self.now own.self =
-    loading-more before (told c.roots.loader) (told own.loader) c.args.self.now c.roots.self _ own.self c.roots.invariant refl refl c.in_ok-file.ensures in
+    loading-more before (told c.roots.loader) (told own.loader) c.args.self.now c.roots.self c.roots.self own.self c.roots.invariant refl refl c.in_ok-file.ensures in
     elim c.match-branch-2.branch [
       | in-Some+in_ok-explore w ↦
           let new = w.explore.new in
