@@ -48,7 +48,7 @@ count-append [] ys = omega arith
 count-append (x ∷ xs) ys = omega (arith, count-append xs ys)
 
 -- behind its beginning
-value-sites : (way : Purpose) (e : Expression) (sites : List Item) → items (value_parts way e) ++ sites ≡ item.ValueBegins ∷ (items (expression_parts e) ++ item.ValueEnds way e ∷ sites)
+pub value-sites : (way : Purpose) (e : Expression) (sites : List Item) → items (value_parts way e) ++ sites ≡ item.ValueBegins ∷ (items (expression_parts e) ++ item.ValueEnds way e ∷ sites)
 value-sites way e sites =
     ap (λ (xs : List Item). item.ValueBegins ∷ (xs ++ sites)) (map-append item_of (expression_parts e) (part.ValueEnds way e ∷ []))
     ∙ ap (λ (xs : List Item). item.ValueBegins ∷ xs) (append_assoc (items (expression_parts e)) (item.ValueEnds way e ∷ []) sites)

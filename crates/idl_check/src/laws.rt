@@ -4,6 +4,7 @@
 //! any number of turns. `fitting` alone looks at a unit that a program holds.
 
 ghost use Rattle.std.specs.Prelude.{◌≡◌, ◌≢◌, ◌↔◌, ◌+◌, ◌++◌, ◌<◌, ◌≤◌, Bool, ℕ, List, [], ◌∷◌, All, Contains, codes, decimal, false, length, take, true, None, Ok, Option, Some};
+ghost use Rattle.std.specs.Option.{IsSome};
 ghost use Rattle.idl_check.specs.AllFaults.{site_faults, unit_faults};
 ghost use Rattle.idl_check.specs.Declaring.{standing};
 ghost use Rattle.idl_check.specs.Identifying.{versioned};
@@ -11,8 +12,9 @@ ghost use Rattle.idl_check.specs.Placing.{faulty_step, step_of};
 ghost use Rattle.idl_check.specs.Judging.{FitsMemory, IsNotAfter, IsSound, IsSpoken, refused_keys, spoken_from, spoken_till, used_names, walked, without_name};
 ghost use Rattle.idl_check.specs.Row.{Rest, unit_text};
 ghost use Rattle.idl_check.specs.Sections.{AreBracketed};
+ghost use Rattle.idl_check.specs.Valued.{AreValues, expressions};
 ghost use Rattle.idl_check.specs.Verdict.{faulty, first_faults, tree_of, verdict};
-ghost use Rattle.idl_check.specs.Walk.{Walk, turns_at, visit};
+ghost use Rattle.idl_check.specs.Walk.{Walk, first_walk, turns_at, visit};
 ghost use Rattle.idl_lex.specs.Keywords.{folded};
 ghost use Rattle.idl_lex.specs.Tokens.{Token};
 ghost use Rattle.idl_memo.specs.Query.{asked, outcome, run};
@@ -26,7 +28,9 @@ ghost use Rattle.idl_scope.specs.Turns.{turns_for};
 ghost use Rattle.idl_scope.specs.declared.found.Found.{Found};
 ghost use Rattle.idl_site.specs.Item.{Item as item};
 ghost use Rattle.idl_site.specs.declared.site.Use.{Use};
+ghost use Rattle.idl_tree.specs.declared.expression.Expression.{Expression};
 ghost use Rattle.idl_tree.specs.declared.name.ScopedName.{ScopedName};
+ghost use Rattle.idl_value.specs.Names.{name_count};
 ghost use Rattle.idl_scope.specs.declared.addition.Step.TheVariants.{Stays};
 ghost use Rattle.idl_scope.specs.declared.answer.Answer.{Answer};
 ghost use Rattle.idl_scope.specs.declared.answer.Scope.{Scope};
@@ -35,13 +39,16 @@ ghost use Rattle.idl_scope.specs.declared.identity.Prefix.{Prefix};
 ghost use Rattle.idl_scope.specs.declared.key.Key.{Key};
 ghost use Rattle.idl_scope.specs.declared.key.Key.TheVariants.{Cursor};
 ghost use Rattle.idl_site.specs.Item.{Item, items, items_length};
+ghost use Rattle.idl_site.specs.ExpressionParts.{expression_parts};
 ghost use Rattle.idl_site.specs.UnitParts.{unit_parts};
 ghost use Rattle.idl_syntax.specs.Parse.{pragma_faults};
 ghost use Rattle.idl_tree.specs.Lexeme.{lexemes};
 ghost use Rattle.idl_tree.specs.Pragma.{pragma_of};
 ghost use Rattle.idl_tree.specs.Unit.{spell};
 ghost use Rattle.idl_tree.specs.declared.pragma.Pragma.TheVariants as pragma;
+ghost use Rattle.idl_tree.specs.declared.unit.Constant.{Constant};
 ghost use Rattle.idl_tree.specs.declared.unit.Tree.{Tree};
+ghost use Rattle.idl_tree.specs.declared.unit.Tree.TheVariants as tree;
 ghost use Rattle.idl_unit.specs.Faults.{least_fault};
 ghost use Rattle.idl_unit.specs.declared.fault.Fault.{Fault};
 ghost use Rattle.idl_unit.specs.declared.unit.UnitText.{UnitText};
@@ -141,6 +148,24 @@ pub fn numbering()
 /// token.
 pub fn bracketing()
     ensures { (tree : Tree) → AreBracketed (items (unit_parts tree)) }
+{}
+
+/// Where a unit has no fault, each of its expressions has a value, which is told, in the order of
+/// tokens: what the expression comes to, each of whose names has a value. A constant then has one
+/// too. There are as many operands as the expression uses names.
+pub fn evaluating()
+    ensures values { (turns : ℕ) (answers : Key → Option Answer) (tree : Tree)
+        (scopes : List Scope)
+        → site_faults turns answers (items (unit_parts tree)) (first_walk scopes) ≡ []
+        → AreValues (expressions (items (unit_parts tree)))
+        (walked turns answers (items (unit_parts tree)) (first_walk scopes)).values.told }
+    ensures constant { (turns : ℕ) (answers : Key → Option Answer) (c : Constant)
+        (scopes : List Scope)
+        → site_faults turns answers (items (unit_parts (tree.Constant c))) (first_walk scopes) ≡ []
+        → IsSome (walked turns answers (items (unit_parts (tree.Constant c)))
+        (first_walk scopes)).values.constant }
+    ensures names { (e : Expression)
+        → length (used_names (items (expression_parts e))) ≡ name_count e }
 {}
 
 /// A walk over sites without fault has found a path for each name that they use, so no used name is
