@@ -54,6 +54,7 @@ pub enum Failure<'a> {
 
 impl<'a> Failure<'a> {
     /// Writes the one line that tells of it.
+    #[inline(never)]
     pub fn tell<K: Sink>(&self, errors: &mut K) -> Result<(), WriteFailed>
         requires counts { K.failures errors.old < 2 ^ 64 - 1 }
         ensures { OnOk result

@@ -34,6 +34,7 @@ pub fn compile_all<'a, L: Loader>(
         let compiled = compile_each(&mut loading.sources, roots)?;
         let Some(name) = loading.untried(&compiled) else {
             let Loading { sources, .. } = loading;
+            sources.keeps_form();
             return Ok((sources, compiled));
         };
         loading.load(name, loader)?;
@@ -68,6 +69,7 @@ impl Loading {
     }
 
     // Loads what the roots ask for.
+    #[inline(never)]
     fn explore_all<'a, L: Loader>(
         &mut self,
         roots: &[Name],
@@ -170,6 +172,7 @@ impl Loading {
     }
 
     // Loads the file of this name, unless it is known to be missing, and tells whether it is there.
+    #[inline(never)]
     fn load<'a, L: Loader>(&mut self, name: &Name, loader: &mut L) -> Result<bool, Failure<'a>>
         ensures { OnOk result (IsLoading (L.told loader.old) (L.told loader.new) self.old self.new) }
     {

@@ -12,6 +12,7 @@ use indexmap::IndexSet;
 use std::alloc::{AllocError, Global};
 
 /// Sources with the macros and directories of the options, and the roots of these.
+#[inline(never)]
 pub fn prepared<'a>(
     alloc: Global,
     options: &Options<'a>,

@@ -127,6 +127,7 @@ fn fulfil<'a, L: Loader, S: Source, O: Sink, E: Sink>(
     }
 }
 
+#[inline(never)]
 fn compile<'a, L: Loader, S: Source, O: Sink, E: Sink>(
     alloc: Global,
     options: &Options<'a>,
@@ -154,6 +155,7 @@ fn compile<'a, L: Loader, S: Source, O: Sink, E: Sink>(
 }
 
 // Writes what goes out of these roots, each in turn.
+#[inline(never)]
 fn show_all<L: Loader, S: Source, O: Sink, E: Sink>(
     compiled: &[CompiledRoot],
     options: &Options<'_>,

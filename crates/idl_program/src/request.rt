@@ -55,6 +55,7 @@ impl From<AllocError> for WordsFault {
 
 /// Reads the words behind the program's name.
 #[tactic(auto, using(crate::proofs::RequestLemmas::told, crate::proofs::RequestLemmas::refused))]
+#[inline(never)]
 pub fn request_of<'a>(alloc: Global, words: &'a [&'a str]) -> Result<Request<'a>, WordsFault>
     ensures asked { IfOk result (IsRequestOf (map (λ w. w.now) words.entry.now)) }
     ensures wrong { IfErr result (λ fault. fault ≡ WordsFault.Wrong

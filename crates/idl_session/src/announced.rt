@@ -28,6 +28,7 @@ pub enum Announced {
 }
 
 /// Takes so many lines, or fewer at the end of the input.
+#[inline(never)]
 pub fn read_announced<S: Source>(
     alloc: Global,
     source: &mut S,

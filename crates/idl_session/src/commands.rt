@@ -36,6 +36,7 @@ use idl_workspace::Session;
 /// Each reply has gone out whole before the next command is served, and before anything more is read. The first failure of
 /// a device ends the run, and neither device is called after that: see [`Stop`]. Nothing is read once the source has told
 /// its end. Memory is taken by edits alone, and not by `unroot`.
+#[inline(never)]
 pub fn run<S: Source, K: Sink>(
     session: &mut Session,
     source: &mut S,

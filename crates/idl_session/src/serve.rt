@@ -129,6 +129,7 @@ fn heading_of(line: &LineBuffer<MAX_COMMAND>) -> Heading<'_>
     }
 }
 
+#[inline(never)]
 fn write_edit<K: Sink>(sink: &mut K, outcome: Result<Work, Refusal>) -> Result<(), WriteFailed>
     requires counts { K.failures sink.old < 2 ^ 64 - 1 }
 
@@ -147,6 +148,7 @@ fn write_edit<K: Sink>(sink: &mut K, outcome: Result<Work, Refusal>) -> Result<(
 }
 
 // The rows that a query of this name found, or why there are none.
+#[inline(never)]
 fn write_query<K: Sink>(
     sink: &mut K,
     name: &[u8],
