@@ -1,5 +1,5 @@
 -- The faults of an expression: the first is the least, and the walk tells it at its token.
-use Rattle.std.proofs.Common.{◌≡◌, ◌∙◌, ℕ, ◌+◌, ◌^◌, ◌<◌, ◌≤◌, min, Bool, true, false, cond, List, [], ◌∷◌, ◌++◌, length, map, Option, None, Some, refl, sym, ap, subst, arith}
+use Rattle.std.proofs.Common.{◌≡◌, ◌∙◌, ℕ, ◌+◌, ◌^◌, ◌<◌, ◌≤◌, true, cond, List, [], ◌∷◌, ◌++◌, length, map, Option, None, Some, refl, sym, ap, subst, arith}
 use Rattle.std.proofs.Common.{zero, suc}
 use Rattle.std.proofs.lemmas.List.Elements.{All-append, All-cons, All-map, All-nil, All-weaker}
 use Rattle.std.specs.Prelude.{All, flat_map, pos, negsuc}
@@ -13,7 +13,7 @@ use Rattle.idl_site.proofs.ExpressionEquations.{and_parts-made, exclusive_or_par
 use Rattle.idl_site.proofs.ExpressionSpelling.{expression_spells-parts}
 use Rattle.idl_site.proofs.UnitSpelling.{counted}
 use Rattle.idl_site.specs.ExpressionParts.{and_parts, exclusive_or_parts, expression_parts, operator_parts, primary_parts, product_parts, shift_parts, sum_parts, unary_parts}
-use Rattle.idl_site.specs.Item.{Item, item_of, items, items_length}
+use Rattle.idl_site.specs.Item.{item_of, items, items_length}
 use Rattle.idl_site.specs.Part.{Part, Parts, Plain, Uses, punctuation}
 use Rattle.idl_site.specs.declared.site.Target.{Target as Purpose}
 use Rattle.idl_site.specs.declared.site.Target.TheVariants as purpose
@@ -39,7 +39,6 @@ use Rattle.idl_tree.specs.declared.expression.UnaryOperator.{UnaryOperator}
 use Rattle.idl_tree.specs.declared.literal.Literal.{Literal}
 use Rattle.idl_tree.specs.declared.name.ScopedName.{ScopedName}
 use Rattle.idl_unit.specs.TokenRules.{fault_at}
-use Rattle.idl_unit.specs.declared.fault.Fault.{Fault}
 use Rattle.idl_value.proofs.OrderLemmas.{value-ascends}
 use Rattle.idl_value.specs.Evaluation.{Evaluation, Faulty, Operands, Valued, bound_of, faults_of, first_of, positive, value_of}
 use Rattle.idl_value.specs.Order.{IsAscending}
@@ -47,7 +46,6 @@ use Rattle.idl_value.specs.declared.integer.IntegerKind.TheVariants.{UnsignedLon
 use Rattle.idl_value.specs.declared.outcome.Fault.{Fault as ValueFault}
 use Rattle.idl_value.specs.declared.target.Target.{Target}
 use Rattle.idl_value.specs.declared.target.Target.TheVariants as target
-use Rattle.idl_value.specs.declared.value.Value.{Value}
 use Rattle.idl_value.specs.declared.value.Value.TheVariants as value
 use Rattle.idl_check.proofs.AlikeLemmas.{AreAlike, alike-led}
 use Rattle.idl_check.proofs.FaultOrder.{Leads, leads-later}

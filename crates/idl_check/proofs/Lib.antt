@@ -1,18 +1,23 @@
 pub mod AlikeLemmas
 pub mod ApartLaws
+mod AroundLaws
 mod BaseLemmas
-pub mod Bracketing
+pub mod BracketLemmas
+mod ConstructionNesting
 pub mod ExpressionFaults
 pub mod FaultOrder
 mod IdLemmas
+pub mod InheritedLaws
 mod JudgeLemmas
 pub mod LeastFault
 pub mod LeastLaws
 mod MoreTurns
 mod NameLemmas
+mod Nesting
 mod NotedLemmas
 pub mod NumberLaws
 pub mod OnewayLaws
+mod Operands
 mod PartLemmas
 pub mod PragmaLaws
 mod PragmaLemmas
@@ -26,6 +31,8 @@ pub mod StepLaws
 pub mod TableLaws
 mod TypeLemmas
 pub mod UnitBracketing
+mod UnitNesting
+mod ValuedLaws
 pub mod VerdictLaws
 pub mod VisitFaults
 mod VisitLemmas

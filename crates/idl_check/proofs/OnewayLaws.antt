@@ -1,11 +1,11 @@
 -- The name that a oneway operation gives back: what is wrong behind its first token doesn't count.
-use Rattle.std.proofs.Common.{◌≡◌, ◌∙◌, ℕ, ◌+◌, ◌*◌, ◌<◌, ◌≤◌, Bool, true, false, cond, List, [], ◌∷◌, ◌++◌, length, Option, None, Some, Result, Ok, Err, refl, sym, ap, subst, arith}
+use Rattle.std.proofs.Common.{◌≡◌, ◌∙◌, ℕ, ◌+◌, ◌<◌, ◌≤◌, Bool, true, false, cond, List, [], ◌∷◌, ◌++◌, length, Option, Result, Ok, Err, refl, sym, ap, subst, arith}
 use Rattle.std.proofs.lemmas.List.Elements.{All-cons, All-nil}
 use Rattle.std.specs.Prelude.{All}
 use Rattle.idl_check.specs.Codes.{codes_in}
 use Rattle.idl_check.specs.Types.{looked_through}
 use Rattle.idl_check.specs.Using.{last_at, name_code, part_at, used_table}
-use Rattle.idl_check.specs.Walk.{Visit, Walk, head_faults, head_of, head_visit, noted, used, used_visit, with_oneway}
+use Rattle.idl_check.specs.Walk.{Visit, Walk, head_faults, head_of, head_visit, noted, used, used_visit, with_oneway, turns_at}
 use Rattle.idl_event.specs.declared.code.Code.TheVariants.{BadOneway, NoScope}
 use Rattle.idl_lex.specs.Keywords.{folded}
 use Rattle.idl_memo.proofs.QueryLaws.{outcome-and_then}
@@ -145,28 +145,28 @@ module _ (turns : ℕ) (answers : Key → Option Answer) (way : Use) (name : Sco
 
   faults-later : (from : ℕ) → ((part : ℕ) → from ≤ part → w.at < part_at w.at name part) → from ≤ length name.rest → (r : Result Found NameFault) → IsFromPart from r → IsLater w.at (faults_of r)
   faults-later from later le (Ok found) h =
-      let query = under w.own (looked_through way found.entity) in
+      let query = under w.own (looked_through (turns_at turns w) way found.entity) in
       subst (λ (v : Visit). IsLater w.at v.faults) (sym (outcome-and_then query (λ behind. Done (used_visit w way name found behind)) answers))
       (all-at (λ f. w.at < f.index) (last_at w.at name) (λ c. later (length name.rest) le) (codes_in (used_table way w.bases found.entity (outcome query answers))))
   faults-later from later le (Err (At code part)) h = All-cons (λ f. w.at < f.index) (fault_at (part_at w.at name part) (name_code code)) [] (later part h) (All-nil (λ f. w.at < f.index))
   faults-later from later le (Err Memory) h = absurd h
 
   scoped-alike : (e : Entity) (part : List ℕ) (parts : List (List ℕ)) → name.is_global ≡ false → name.rest ≡ part ∷ parts → (b : Bool) → is_scope e.kind ≡ b
-      → AreAlike (cond b [] (fault_at w.at NoScope ∷ []) ++ given_fault ∷ []) (faults_of (outcome (from_first turns bank w.cursor name (Ok e)) bank) ++ given_fault ∷ [])
+      → AreAlike (cond b [] (fault_at w.at NoScope ∷ []) ++ given_fault ∷ []) (faults_of (outcome (from_first (turns_at turns w) bank w.cursor name (Ok e)) bank) ++ given_fault ∷ [])
   scoped-alike e part parts local rest true scope o =
-      let r = outcome (from_first turns bank w.cursor name (Ok e)) bank in
-      let inside : IsFromPart 1 (outcome (further turns 0 e name.rest) bank) = subst (λ names. IsFromPart 1 (outcome (further turns 0 e names) bank)) (sym rest) (scope-from turns bank e part parts scope) in
-      let up : IsFromPart 1 r = subst (IsFromPart 1) (sym (first-is turns bank w.cursor name e)) (found_as-from 1 name w.cursor e (outcome (further turns 0 e name.rest) bank) inside) in
+      let r = outcome (from_first (turns_at turns w) bank w.cursor name (Ok e)) bank in
+      let inside : IsFromPart 1 (outcome (further (turns_at turns w) 0 e name.rest) bank) = subst (λ names. IsFromPart 1 (outcome (further (turns_at turns w) 0 e names) bank)) (sym rest) (scope-from (turns_at turns w) bank e part parts scope) in
+      let up : IsFromPart 1 r = subst (IsFromPart 1) (sym (first-is (turns_at turns w) bank w.cursor name e)) (found_as-from 1 name w.cursor e (outcome (further (turns_at turns w) 0 e name.rest) bank) inside) in
       let some : 1 ≤ length name.rest = omega (arith, ap length rest) in
       sym (alike-earlier given_fault (faults_of r) (faults-later 1 (λ p le. part-later name w.at p le) some r up) o)
   scoped-alike e part parts local rest false scope o =
-      let none : outcome (further turns 0 e name.rest) bank ≡ Err (At why.NoScope 0) = ap (λ names. outcome (further turns 0 e names) bank) rest ∙ other-is turns bank e part parts scope in
-      let is : outcome (from_first turns bank w.cursor name (Ok e)) bank ≡ Err (At why.NoScope 0) = first-is turns bank w.cursor name e ∙ ap (found_as name w.cursor e) none in
+      let none : outcome (further (turns_at turns w) 0 e name.rest) bank ≡ Err (At why.NoScope 0) = ap (λ names. outcome (further (turns_at turns w) 0 e names) bank) rest ∙ other-is (turns_at turns w) bank e part parts scope in
+      let is : outcome (from_first (turns_at turns w) bank w.cursor name (Ok e)) bank ≡ Err (At why.NoScope 0) = first-is (turns_at turns w) bank w.cursor name e ∙ ap (found_as name w.cursor e) none in
       ap (λ n. noted o (fault_at n NoScope ∷ given_fault ∷ [])) (sym (part-zero name w.at 0 local (omega arith)))
       ∙ ap (λ r. noted o (faults_of r ++ given_fault ∷ [])) (sym is)
 
   parts-alike : (part : List ℕ) (parts : List (List ℕ)) → name.is_global ≡ false → name.rest ≡ part ∷ parts → (p : Result Entity NameFault) → IsUpTo 0 p
-      → AreAlike (head_faults w.at (outcome (from_first turns bank w.cursor (head_of name) p) bank) ++ given_fault ∷ []) (faults_of (outcome (from_first turns bank w.cursor name p) bank) ++ given_fault ∷ [])
+      → AreAlike (head_faults w.at (outcome (from_first (turns_at turns w) bank w.cursor (head_of name) p) bank) ++ given_fault ∷ []) (faults_of (outcome (from_first (turns_at turns w) bank w.cursor name p) bank) ++ given_fault ∷ [])
   parts-alike part parts local rest (Ok e) up o = scoped-alike e part parts local rest (is_scope e.kind) refl o
   parts-alike part parts local rest (Err (At code n)) up o = ap (λ m. noted o (fault_at m (name_code code) ∷ given_fault ∷ [])) (sym (part-zero name w.at n local up))
   parts-alike part parts local rest (Err Memory) up o = absurd up
@@ -175,23 +175,23 @@ module _ (turns : ℕ) (answers : Key → Option Answer) (way : Use) (name : Sco
   abbrev named : Visit
   named = outcome (used turns way name w) answers
 
-  named-is : named ≡ outcome (used_by turns answers way name w (outcome (under w.own (denoted turns w.cursor name)) answers)) answers
+  named-is : named ≡ outcome (used_by turns answers way name w (outcome (under w.own (denoted (turns_at turns w) w.cursor name)) answers)) answers
   unfolding used
-  named-is = outcome-and_then (under w.own (denoted turns w.cursor name)) (used_by turns answers way name w) answers
+  named-is = outcome-and_then (under w.own (denoted (turns_at turns w) w.cursor name)) (used_by turns answers way name w) answers
 
   -- what counts stands at its first token
   pub given-alike : (is_global : Bool) (parts : List (List ℕ)) → name.is_global ≡ is_global → name.rest ≡ parts
       → AreAlike (outcome (given_by turns answers way name w is_global parts) answers).faults (named.faults ++ given_fault ∷ [])
   given-alike true parts global rest o =
-      let r = outcome (under w.own (denoted turns w.cursor name)) answers in
+      let r = outcome (under w.own (denoted (turns_at turns w) w.cursor name)) answers in
       let later = faults-later 0 (λ p le. part-global name w.at p global) (omega arith) r (from-first (length name.rest) r (denoted-up turns answers name w)) in
       sym (alike-earlier given_fault named.faults (subst (λ (v : Visit). IsLater w.at v.faults) (sym named-is) later) o)
   given-alike false [] local rest o = ap (λ (v : Visit). noted o v.faults) (outcome-and_then (used turns way name w) (λ v. Done (with_oneway w.at v)) answers)
   given-alike false (part ∷ parts) local rest o =
-      let query = under w.own (denoted turns w.cursor (head_of name)) in
-      let up = part_of-IsUpTo turns bank 0 0 name.first (outward turns (searched name.is_global w.cursor) (folded name.first)) (omega arith) in
+      let query = under w.own (denoted (turns_at turns w) w.cursor (head_of name)) in
+      let up = part_of-IsUpTo (turns_at turns w) bank 0 0 name.first (outward (turns_at turns w) (searched name.is_global w.cursor) (folded name.first)) (omega arith) in
       ap (λ (v : Visit). noted o v.faults) (outcome-and_then query (λ r. Done (with_oneway w.at (head_visit name w r))) answers)
-      ∙ ap (λ r. noted o (head_faults w.at r ++ given_fault ∷ [])) (outcome-under w.own answers (denoted turns w.cursor (head_of name)) ∙ denoted-is turns bank w.cursor (head_of name))
-      ∙ parts-alike part parts local rest (first_of turns bank w.cursor name) up o
-      ∙ ap (λ r. noted o (faults_of r ++ given_fault ∷ [])) (sym (outcome-under w.own answers (denoted turns w.cursor name) ∙ denoted-is turns bank w.cursor name))
+      ∙ ap (λ r. noted o (head_faults w.at r ++ given_fault ∷ [])) (outcome-under w.own answers (denoted (turns_at turns w) w.cursor (head_of name)) ∙ denoted-is (turns_at turns w) bank w.cursor (head_of name))
+      ∙ parts-alike part parts local rest (first_of (turns_at turns w) bank w.cursor name) up o
+      ∙ ap (λ r. noted o (faults_of r ++ given_fault ∷ [])) (sym (outcome-under w.own answers (denoted (turns_at turns w) w.cursor name) ∙ denoted-is (turns_at turns w) bank w.cursor name))
       ∙ ap (λ (v : Visit). noted o (v.faults ++ given_fault ∷ [])) (sym named-is)

@@ -1,10 +1,10 @@
 -- Over bracketed sites the least of all faults is the least of those to which the walk comes.
-use Rattle.std.proofs.Common.{◌≡◌, ◌∙◌, ℕ, ◌+◌, ◌^◌, ◌<◌, ◌≤◌, Bool, true, false, cond, List, [], ◌∷◌, ◌++◌, length, Option, None, Some, append_assoc, refl, sym, ap, subst, arith}
+use Rattle.std.proofs.Common.{◌≡◌, ◌∙◌, ℕ, ◌+◌, ◌^◌, ◌<◌, Bool, true, false, cond, List, [], ◌∷◌, ◌++◌, length, Option, None, Some, append_assoc, refl, sym, ap, subst, arith}
 use Rattle.std.proofs.lemmas.List.{map-append}
 use Rattle.std.proofs.lemmas.List.Elements.{All-head, All-tail, All-weaker}
 use Rattle.std.specs.Prelude.{All, flat_map}
 use Rattle.idl_check.specs.AllFaults.{evaluation_faults, site_faults, whole_visit}
-use Rattle.idl_check.specs.Sections.{AreBracketed, IsFormed, Section, Single, Returned, Whole, is_single, is_tokens, section_sites}
+use Rattle.idl_check.specs.Sections.{IsFormed, Section, Single, Returned, Whole, is_tokens, section_sites}
 use Rattle.idl_check.specs.Values.{begun_at}
 use Rattle.idl_check.specs.Walk.{Visit, Walk, begin_of, evaluation_at, given_back, label_target, noted, passed, used, value_visit, visit, with_oneway}
 use Rattle.idl_event.specs.declared.code.Code.TheVariants.{BadOneway}
@@ -12,7 +12,7 @@ use Rattle.idl_memo.specs.Query.{outcome}
 use Rattle.idl_scope.specs.declared.answer.Answer.{Answer}
 use Rattle.idl_scope.specs.declared.key.Key.{Key}
 use Rattle.idl_site.specs.ExpressionParts.{expression_parts, value_parts}
-use Rattle.idl_site.specs.Item.{Item, item_length, item_of, items, items_length, Item as item}
+use Rattle.idl_site.specs.Item.{Item, item_of, items, items_length, Item as item}
 use Rattle.idl_site.specs.Part.{Part as part}
 use Rattle.idl_site.specs.declared.site.Target.{Target as Purpose}
 use Rattle.idl_site.specs.declared.site.Target.TheVariants as purpose
@@ -24,7 +24,7 @@ use Rattle.idl_unit.specs.TokenRules.{fault_at}
 use Rattle.idl_unit.specs.declared.fault.Fault.{Fault}
 use Rattle.idl_value.specs.Evaluation.{Evaluation, Faulty, Valued, first_of}
 use Rattle.idl_check.proofs.AlikeLemmas.{AreAlike, alike-append, alike-behind}
-use Rattle.idl_check.proofs.Bracketing.{tokens-single}
+use Rattle.idl_check.proofs.BracketLemmas.{tokens-single}
 use Rattle.idl_check.proofs.ExpressionFaults.{alike-expression, expression-count, expression-items, for-ordered}
 use Rattle.idl_check.proofs.FaultOrder.{Leads, leads-later}
 use Rattle.idl_check.proofs.NameLemmas.{behind_name}
@@ -48,7 +48,7 @@ count-append [] ys = omega arith
 count-append (x ∷ xs) ys = omega (arith, count-append xs ys)
 
 -- behind its beginning
-value-sites : (way : Purpose) (e : Expression) (sites : List Item) → items (value_parts way e) ++ sites ≡ item.ValueBegins ∷ (items (expression_parts e) ++ item.ValueEnds way e ∷ sites)
+pub value-sites : (way : Purpose) (e : Expression) (sites : List Item) → items (value_parts way e) ++ sites ≡ item.ValueBegins ∷ (items (expression_parts e) ++ item.ValueEnds way e ∷ sites)
 value-sites way e sites =
     ap (λ (xs : List Item). item.ValueBegins ∷ (xs ++ sites)) (map-append item_of (expression_parts e) (part.ValueEnds way e ∷ []))
     ∙ ap (λ (xs : List Item). item.ValueBegins ∷ xs) (append_assoc (items (expression_parts e)) (item.ValueEnds way e ∷ []) sites)

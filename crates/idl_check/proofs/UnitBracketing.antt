@@ -37,7 +37,7 @@ use Rattle.idl_tree.specs.declared.unit.Exception.{Exception}
 use Rattle.idl_tree.specs.declared.unit.Tree.{Tree}
 use Rattle.idl_tree.specs.declared.unit.Tree.TheVariants as tree
 use Rattle.idl_tree.specs.declared.unit.Typedef.{Typedef}
-use Rattle.idl_check.proofs.Bracketing.{Brackets, Starts, a_type, back, before, constant_type, construction, declarator, each, ends, expression, follow, given_first, maybe, member, member_type, none, one, scope_ends, several, started, starts, type_starts}
+use Rattle.idl_check.proofs.BracketLemmas.{Brackets, Starts, a_type, before, constant_type, construction, declarator, each, ends, expression, follow, given_first, maybe, member, member_type, none, one, scope_ends, several, started, starts, type_starts}
 
 -- ---- interfaces
 

@@ -1,14 +1,13 @@
 -- What comes of a site whole, and of the walk's visit of it.
-use Rattle.std.proofs.Common.{◌≡◌, ◌∙◌, ℕ, length, ◌+◌, ◌<◌, ◌≤◌, Bool, true, false, cond, List, [], ◌∷◌, ◌++◌, map, Option, None, Some, Result, Ok, Err, refl, sym, ap, subst, arith}
-use Rattle.std.proofs.lemmas.List.Elements.{All-append, All-cons, All-map, All-nil, All-weaker}
+use Rattle.std.proofs.Common.{◌≡◌, ◌∙◌, ℕ, length, ◌≤◌, Bool, true, false, cond, List, [], ◌∷◌, ◌++◌, map, Option, None, Some, Result, Ok, Err, refl, sym, ap, subst, arith}
+use Rattle.std.proofs.lemmas.List.Elements.{All-append, All-cons, All-nil, All-weaker}
 use Rattle.std.specs.Prelude.{All}
-use Rattle.idl_check.specs.AllFaults.{evaluation_faults, first_token, name_visit, placed_at, site_faults, whole_visit}
+use Rattle.idl_check.specs.AllFaults.{evaluation_faults, first_token, placed_at, site_faults, whole_visit}
 use Rattle.idl_check.specs.Declaring.{entity_of, standing}
 use Rattle.idl_check.specs.Judging.{spoken_from, spoken_till}
-use Rattle.idl_check.specs.Sections.{is_single, is_tokens}
+use Rattle.idl_check.specs.Sections.{is_single}
 use Rattle.idl_check.specs.Types.{looked_through}
-use Rattle.idl_check.specs.Values.{code_of}
-use Rattle.idl_check.specs.Walk.{Visit, Walk, begin_of, declared_visit, evaluation_at, given_back, head_of, head_visit, is_repeated, outcome_at, past_name, quiet, unfound_visit, used, used_visit, value_visit, visit, with_oneway}
+use Rattle.idl_check.specs.Walk.{Visit, Walk, begin_of, declared_visit, evaluation_at, given_back, head_of, head_visit, is_repeated, unfound_visit, used, used_visit, value_visit, visit, with_oneway, turns_at}
 use Rattle.idl_event.specs.declared.code.Code.TheVariants.{BadOneway, RepeatedLabel}
 use Rattle.idl_memo.proofs.QueryLaws.{outcome-and_then}
 use Rattle.idl_memo.specs.Query.{Done, outcome}
@@ -25,7 +24,6 @@ use Rattle.idl_site.specs.Item.{Item, Item as item}
 use Rattle.idl_site.specs.declared.site.Declaration.{Declaration}
 use Rattle.idl_site.specs.declared.site.Target.{Target as Purpose}
 use Rattle.idl_site.specs.declared.site.Use.{Use}
-use Rattle.idl_tree.specs.declared.expression.Expression.{Expression}
 use Rattle.idl_tree.specs.declared.name.ScopedName.{ScopedName}
 use Rattle.idl_unit.specs.TokenRules.{fault_at, first}
 use Rattle.idl_unit.specs.declared.fault.Fault.{Fault}
@@ -33,7 +31,7 @@ use Rattle.idl_value.specs.Evaluation.{Evaluation, Faulty, Valued, first_of}
 use Rattle.idl_value.specs.declared.outcome.Outcome.TheVariants as comes
 use Rattle.idl_check.proofs.PartLemmas.{IsUpTo}
 use Rattle.idl_check.proofs.RowLaws.{no-end}
-use Rattle.idl_check.proofs.SiteLaws.{IsFrom, IsPlaced, Within, begin-at, begin-values, begin_before, declared_by, denoted-up, end_visit, given_by, named_by, oneway-placed, plain-placed, spoken-begin, union_visit, used_by, value-number, visit-placed, visited}
+use Rattle.idl_check.proofs.SiteLaws.{IsFrom, IsPlaced, Within, begin-values, begin_before, declared_by, denoted-up, end_visit, given_by, named_by, oneway-placed, plain-placed, spoken-begin, union_visit, used_by, value-number, visit-placed, visited}
 use Rattle.idl_check.proofs.VisitFaults.{visit_faults}
 use Rattle.idl_check.proofs.WalkLaws.{none-append}
 
@@ -61,19 +59,19 @@ module _ (turns : ℕ) (answers : Key → Option Answer) where
   declared-calm way name w None h = record { begin = refl; given = refl }
   declared-calm way name w (Some s) h =
       let e = entity_of w.written way name s.path in
-      let query = under w.own (standing turns s e) in
+      let query = under w.own (standing (turns_at turns w) s e) in
       subst (IsCalm w) (sym (outcome-and_then query (λ there. Done (declared_visit w way s e there)) answers)) (record { begin = refl; given = h })
 
   used-by-calm : (way : Use) (name : ScopedName) (w : Walk) (r : Result Found NameFault) → IsUpTo {A = Found} (length name.rest) r → IsCalm w (outcome (used_by turns answers way name w r) answers)
   used-by-calm way name w (Ok found) up =
-      let query = under w.own (looked_through way found.entity) in
+      let query = under w.own (looked_through (turns_at turns w) way found.entity) in
       subst (IsCalm w) (sym (outcome-and_then query (λ behind. Done (used_visit w way name found behind)) answers)) (record { begin = begin-values way found.entity.value w.values; given = refl })
   used-by-calm way name w (Err fault) up = unfound-calm (length name.rest) w way name fault up
 
   pub used-calm : (way : Use) (name : ScopedName) (w : Walk) → IsCalm w (outcome (used turns way name w) answers)
   unfolding used
   used-calm way name w =
-      let query = under w.own (denoted turns w.cursor name) in
+      let query = under w.own (denoted (turns_at turns w) w.cursor name) in
       subst (IsCalm w) (sym (outcome-and_then query (used_by turns answers way name w) answers)) (used-by-calm way name w (outcome query answers) (denoted-up turns answers name w))
 
   named-calm : (way : Use) (name : ScopedName) (w : Walk) (b : Bool) → b ≡ false → IsCalm w (outcome (named_by turns answers way name w b) answers)
@@ -86,13 +84,13 @@ module _ (turns : ℕ) (answers : Key → Option Answer) where
   given-begin way name w false [] =
       ap (λ (v : Visit). v.after.values.begin) (outcome-and_then (used turns way name w) (λ v. Done (with_oneway w.at v)) answers) ∙ (used-calm way name w).begin
   given-begin way name w false (part ∷ parts) =
-      ap (λ (v : Visit). v.after.values.begin) (outcome-and_then (under w.own (denoted turns w.cursor (head_of name))) (λ r. Done (with_oneway w.at (head_visit name w r))) answers)
+      ap (λ (v : Visit). v.after.values.begin) (outcome-and_then (under w.own (denoted (turns_at turns w) w.cursor (head_of name))) (λ r. Done (with_oneway w.at (head_visit name w r))) answers)
 
   pub given-ends : (way : Use) (name : ScopedName) (w : Walk) (is_global : Bool) (parts : List (List ℕ)) → (fs : List Fault) × ((outcome (given_by turns answers way name w is_global parts) answers).faults ≡ fs ++ fault_at w.at BadOneway ∷ [])
   given-ends way name w true parts = ([], refl)
   given-ends way name w false [] = ((outcome (used turns way name w) answers).faults, ap (λ (v : Visit). v.faults) (outcome-and_then (used turns way name w) (λ v. Done (with_oneway w.at v)) answers))
   given-ends way name w false (part ∷ parts) =
-      let query = under w.own (denoted turns w.cursor (head_of name)) in
+      let query = under w.own (denoted (turns_at turns w) w.cursor (head_of name)) in
       ((head_visit name w (outcome query answers)).faults, ap (λ (v : Visit). v.faults) (outcome-and_then query (λ r. Done (with_oneway w.at (head_visit name w r))) answers))
 
   pub single-calm : (site : Item) (w : Walk) → is_single site ≡ true → w.gives_back ≡ false → IsCalm w (visited turns answers site w)
@@ -228,7 +226,7 @@ module _ (turns : ℕ) (answers : Key → Option Answer) where
       let query = used turns way name w in
       no-end (outcome query answers).faults (fault_at w.at BadOneway) (ap (λ (v : Visit). v.faults) (sym (outcome-and_then query (λ v. Done (with_oneway w.at v)) answers)) ∙ h)
   given-some way name w false (part ∷ parts) h =
-      let query = under w.own (denoted turns w.cursor (head_of name)) in
+      let query = under w.own (denoted (turns_at turns w) w.cursor (head_of name)) in
       no-end (head_visit name w (outcome query answers)).faults (fault_at w.at BadOneway) (ap (λ (v : Visit). v.faults) (sym (outcome-and_then query (λ r. Done (with_oneway w.at (head_visit name w r))) answers)) ∙ h)
 
   named-even : (way : Use) (name : ScopedName) (w : Walk) (b : Bool)

@@ -1,4 +1,5 @@
 -- Repository ids: which names have one, and what pragmas make of it.
+use Rattle.idl_check.specs.Rules.{has_id, may_be_ahead}
 use Rattle.std.specs.Prelude.{ℕ, ◌-◌, List, ◌∷◌, ◌++◌, decimal, length, take, Option, None, Some, if◌then◌else◌}
 use Rattle.idl_check.specs.declared.identifying.Ids.{Ids}
 use Rattle.idl_memo.specs.Query.{Done, Ask, and_then}

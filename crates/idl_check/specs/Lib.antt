@@ -2,6 +2,7 @@ pub mod Bodies
 pub mod Codes
 pub mod Types
 pub mod Labels
+pub mod Valued
 pub mod Values
 pub mod Rules
 pub mod Declaring

@@ -1,5 +1,5 @@
 -- Where a unit may stand, and what it does to the open scopes.
-use Rattle.std.specs.Prelude.{ℕ, ◌+◌, ◌-◌, Bool, true, false, List, [], ◌∷◌, Option, None, Some, if◌then◌else◌}
+use Rattle.std.specs.Prelude.{ℕ, ◌+◌, Bool, true, false, List, [], ◌∷◌, Option, None, Some, if◌then◌else◌}
 use Rattle.idl_check.specs.Codes.{faults_by}
 use Rattle.idl_check.specs.Rules.{is_too_deep}
 use Rattle.idl_event.specs.declared.code.Code.TheVariants.{NestedTooDeep}

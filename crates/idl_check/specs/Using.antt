@@ -1,5 +1,5 @@
 -- Used names: what they may denote where they stand, and what bases bring.
-use Rattle.std.specs.Prelude.{ℕ, ◌+◌, ◌*◌, Bool, true, false, List, [], ◌∷◌, fold, length, map, not, Option, Some, if◌then◌else◌}
+use Rattle.std.specs.Prelude.{ℕ, ◌+◌, ◌*◌, Bool, true, false, List, [], ◌∷◌, fold, length, map, Option, Some, if◌then◌else◌}
 use Rattle.std.specs.Str.{bytes_eq}
 use Rattle.idl_base.specs.Table.{insert_entry}
 use Rattle.idl_check.specs.Codes.{Table}

@@ -1,43 +1,54 @@
 //! The laws of verdicts.
 //!
 //! Each function does nothing: it carries its laws as clauses. They hold over any answers, and for
-//! any number of turns.
+//! any number of turns. `fitting` alone looks at a unit that a program holds.
 
 ghost use Rattle.std.specs.Prelude.{◌≡◌, ◌≢◌, ◌↔◌, ◌+◌, ◌++◌, ◌<◌, ◌≤◌, Bool, ℕ, List, [], ◌∷◌, All, Contains, codes, decimal, false, length, take, true, None, Ok, Option, Some};
+ghost use Rattle.std.specs.Option.{IsSome};
 ghost use Rattle.idl_check.specs.AllFaults.{site_faults, unit_faults};
+ghost use Rattle.idl_check.specs.Declaring.{standing};
 ghost use Rattle.idl_check.specs.Identifying.{versioned};
 ghost use Rattle.idl_check.specs.Placing.{faulty_step, step_of};
 ghost use Rattle.idl_check.specs.Judging.{FitsMemory, IsNotAfter, IsSound, IsSpoken, refused_keys, spoken_from, spoken_till, used_names, walked, without_name};
 ghost use Rattle.idl_check.specs.Row.{Rest, unit_text};
 ghost use Rattle.idl_check.specs.Sections.{AreBracketed};
+ghost use Rattle.idl_check.specs.Valued.{AreValues, expressions};
 ghost use Rattle.idl_check.specs.Verdict.{faulty, first_faults, tree_of, verdict};
-ghost use Rattle.idl_check.specs.Walk.{Walk, turns_at, visit};
+ghost use Rattle.idl_check.specs.Walk.{Walk, first_walk, turns_at, visit};
+ghost use Rattle.idl_lex.specs.Keywords.{folded};
 ghost use Rattle.idl_lex.specs.Tokens.{Token};
 ghost use Rattle.idl_memo.specs.Query.{asked, outcome, run};
 ghost use Rattle.idl_scope.specs.Facts.{UnitFacts, answers, scopes_in};
 ghost use Rattle.idl_scope.specs.Identity.{first_identity, is_within, prefixed, relative, slashed};
 ghost use Rattle.idl_scope.specs.Key.{key_eq};
 ghost use Rattle.idl_scope.specs.Lookup.{denoted, under};
-ghost use Rattle.idl_scope.specs.Meaning.{Denotes, Reaches, entity_found, seen};
-ghost use Rattle.idl_scope.specs.Path.{scope_of};
+ghost use Rattle.idl_scope.specs.Meaning.{Denotes, InheritsOperation, Reaches, entity_found, seen};
+ghost use Rattle.idl_scope.specs.Path.{name_of, scope_of};
 ghost use Rattle.idl_scope.specs.Turns.{turns_for};
 ghost use Rattle.idl_scope.specs.declared.found.Found.{Found};
 ghost use Rattle.idl_site.specs.Item.{Item as item};
 ghost use Rattle.idl_site.specs.declared.site.Use.{Use};
+ghost use Rattle.idl_tree.specs.declared.expression.Expression.{Expression};
 ghost use Rattle.idl_tree.specs.declared.name.ScopedName.{ScopedName};
+ghost use Rattle.idl_value.specs.Names.{name_count};
 ghost use Rattle.idl_scope.specs.declared.addition.Step.TheVariants.{Stays};
 ghost use Rattle.idl_scope.specs.declared.answer.Answer.{Answer};
+ghost use Rattle.idl_scope.specs.declared.answer.Scope.{Scope};
+ghost use Rattle.idl_scope.specs.declared.entity.Entity.{Entity};
 ghost use Rattle.idl_scope.specs.declared.identity.Prefix.{Prefix};
 ghost use Rattle.idl_scope.specs.declared.key.Key.{Key};
 ghost use Rattle.idl_scope.specs.declared.key.Key.TheVariants.{Cursor};
 ghost use Rattle.idl_site.specs.Item.{Item, items, items_length};
+ghost use Rattle.idl_site.specs.ExpressionParts.{expression_parts};
 ghost use Rattle.idl_site.specs.UnitParts.{unit_parts};
 ghost use Rattle.idl_syntax.specs.Parse.{pragma_faults};
 ghost use Rattle.idl_tree.specs.Lexeme.{lexemes};
 ghost use Rattle.idl_tree.specs.Pragma.{pragma_of};
 ghost use Rattle.idl_tree.specs.Unit.{spell};
 ghost use Rattle.idl_tree.specs.declared.pragma.Pragma.TheVariants as pragma;
+ghost use Rattle.idl_tree.specs.declared.unit.Constant.{Constant};
 ghost use Rattle.idl_tree.specs.declared.unit.Tree.{Tree};
+ghost use Rattle.idl_tree.specs.declared.unit.Tree.TheVariants as tree;
 ghost use Rattle.idl_unit.specs.Faults.{least_fault};
 ghost use Rattle.idl_unit.specs.declared.fault.Fault.{Fault};
 ghost use Rattle.idl_unit.specs.declared.unit.UnitText.{UnitText};
@@ -46,7 +57,7 @@ ghost use Rattle.idl_unit.specs.declared.unit.UnitText.TheVariants as unit;
 /// The fault that is told is the least of all that hold in the first step that has one, also of
 /// those at sites to which the walk never comes, and behind the first of an expression or of a name:
 /// it is one of them, at no later token than any other, and with no greater code than another there.
-/// Where none is told, none holds.
+/// Where none is told, none holds. Each unit that a program holds fits into memory (`fitting`).
 pub fn least()
     ensures is { (turns : ℕ) (text : UnitText) (answers : Key → Option Answer)
         → FitsMemory text
@@ -63,6 +74,19 @@ pub fn least()
         → (outcome (verdict turns text) answers).fault ≡ None
         → unit_faults turns answers text ≡ [] }
 {}
+
+/// A unit that a program holds has fewer tokens than `FitsMemory` asks for: they stand in a list of
+/// which the number is a `usize`.
+pub fn fitting(text: &idl_unit::UnitText)
+    ensures { FitsMemory text.now }
+{
+    match text {
+        idl_unit::UnitText::Tokens(run) => {
+            let _count = run.len();
+        }
+        idl_unit::UnitText::Pragma(_tokens, _inside) => {}
+    }
+}
 
 /// A faulty unit of tokens adds nothing but its step, which its tokens alone tell: an opening opens
 /// a nameless scope, a closing closes, and any other changes no open scope. That is what it would
@@ -126,6 +150,24 @@ pub fn bracketing()
     ensures { (tree : Tree) → AreBracketed (items (unit_parts tree)) }
 {}
 
+/// Where a unit has no fault, each of its expressions has a value, which is told, in the order of
+/// tokens: what the expression comes to, each of whose names has a value. A constant then has one
+/// too. There are as many operands as the expression uses names.
+pub fn evaluating()
+    ensures values { (turns : ℕ) (answers : Key → Option Answer) (tree : Tree)
+        (scopes : List Scope)
+        → site_faults turns answers (items (unit_parts tree)) (first_walk scopes) ≡ []
+        → AreValues (expressions (items (unit_parts tree)))
+        (walked turns answers (items (unit_parts tree)) (first_walk scopes)).values.told }
+    ensures constant { (turns : ℕ) (answers : Key → Option Answer) (c : Constant)
+        (scopes : List Scope)
+        → site_faults turns answers (items (unit_parts (tree.Constant c))) (first_walk scopes) ≡ []
+        → IsSome (walked turns answers (items (unit_parts (tree.Constant c)))
+        (first_walk scopes)).values.constant }
+    ensures names { (e : Expression)
+        → length (used_names (items (expression_parts e))) ≡ name_count e }
+{}
+
 /// A walk over sites without fault has found a path for each name that they use, so no used name is
 /// left out of a row; and a row's first word has a blank before it, which is what is dropped there.
 pub fn wording()
@@ -176,8 +218,8 @@ pub fn identification()
         → relative path scope ≡ path }
 {}
 
-/// As many turns as the facts before a unit need are enough for it: with more its verdict is the same, and so is what is logged
-/// for it.
+/// As many turns as the facts before a unit need are enough for it: with more its verdict is the
+/// same, and so is what is logged for it.
 pub fn more_turns()
     ensures { (facts : List UnitFacts) (turns more : ℕ) (text : UnitText)
         (log : List (Key × Option Answer))
@@ -186,19 +228,37 @@ pub fn more_turns()
         ≡ run key_eq (verdict turns text) (answers facts) log }
 {}
 
-/// Where a unit uses a name, it denotes what the scoping rules say, over the facts before the unit and what its earlier tokens
-/// add, and its use is introduced into the scopes that they tell.
+/// Where a unit uses a name, it denotes what the scoping rules say, over the facts before the unit
+/// and what its earlier tokens add, and its use is introduced into the scopes that they tell. A
+/// pragma's name denotes what they say over the facts before it. Where a unit declares a name, it is
+/// told just where an interface inherits an operation or attribute of that name.
 pub fn denoting()
     ensures denoted { (facts : List UnitFacts) (turns : ℕ) (w : Walk) (name : ScopedName)
         → turns_for facts ≤ turns
-        → Denotes (seen w.own facts) w.cursor name
-        (entity_found (outcome (under w.own (denoted (turns_at turns w) w.cursor name)) (answers facts))) }
-    ensures introduced { (facts : List UnitFacts) (turns : ℕ) (w : Walk) (name : ScopedName) (found : Found)
+        → let query = under w.own (denoted (turns_at turns w) w.cursor name) in
+        Denotes (seen w.own facts) w.cursor name (entity_found (outcome query (answers facts))) }
+    ensures introduced { (facts : List UnitFacts) (turns : ℕ) (w : Walk) (name : ScopedName)
+        (found : Found)
         → turns_for facts ≤ turns
-        → outcome (under w.own (denoted (turns_at turns w) w.cursor name)) (answers facts) ≡ Ok found
+        → let query = under w.own (denoted (turns_at turns w) w.cursor name) in
+        outcome query (answers facts) ≡ Ok found
         → Reaches (seen w.own facts) w.cursor name found.reach }
-    ensures path { (facts : List UnitFacts) (turns : ℕ) (w : Walk) (way : Use) (name : ScopedName) (found : Found)
+    ensures path { (facts : List UnitFacts) (turns : ℕ) (w : Walk) (way : Use) (name : ScopedName)
+        (found : Found)
         → w.gives_back ≡ false
-        → outcome (under w.own (denoted (turns_at turns w) w.cursor name)) (answers facts) ≡ Ok found
-        → (outcome (visit turns (item.Used way name) w) (answers facts)).after.found ≡ w.found ++ found.entity.path ∷ [] }
+        → let query = under w.own (denoted (turns_at turns w) w.cursor name) in
+        outcome query (answers facts) ≡ Ok found
+        → (outcome (visit turns (item.Used way name) w) (answers facts)).after.found
+        ≡ w.found ++ found.entity.path ∷ [] }
+    ensures pragma { (facts : List UnitFacts) (turns : ℕ) (scopes : List Scope)
+        (name : ScopedName)
+        → turns_for facts ≤ turns
+        → Denotes (answers facts) scopes name
+        (entity_found (outcome (denoted turns scopes name) (answers facts))) }
+    ensures inherited { (facts : List UnitFacts) (turns : ℕ) (w : Walk) (s : Scope) (e : Entity)
+        → turns_for facts ≤ turns
+        → let query = under w.own (standing (turns_at turns w) s e) in
+        ((outcome query (answers facts)).is_inherited ≡ true)
+        ↔ ((f : Entity)
+        × InheritsOperation (seen w.own facts) s (folded (name_of e.path)) f) }
 {}

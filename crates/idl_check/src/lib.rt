@@ -34,7 +34,8 @@ mod verdict;
 mod walk;
 
 pub use laws::{
-    acceptance, denoting, identification, least, more_turns, numbering, questions, refusal, wording,
+    acceptance, bracketing, denoting, evaluating, fitting, identification, least, more_turns,
+    numbering, questions, refusal, wording,
 };
 pub use scratch::Scratch;
 pub use task::verdict_of;

@@ -39,8 +39,9 @@ pub fn standing_of(
     new: &Entity,
 ) -> Result<Standing, AllocError>
     requires { scope_of new.now.path ≡ scope.now.path }
-    ensures { IfOk result (λ found. (turns : ℕ) → HasTurnsFor view.entry.env.now view.entry.own.now.additions turns →
-        (found, log.new)
+    ensures { IfOk result (λ found. (turns : ℕ)
+        → HasTurnsFor view.entry.env.now view.entry.own.now.additions turns
+        → (found, log.new)
         ≡ run key_eq (under view.entry.own.now.additions (standing turns scope.now new.now))
         (answers view.entry.env.now) log.old) }
 {
@@ -112,8 +113,9 @@ fn is_inherited(
     scope: &Scope,
     path: &Path,
 ) -> Result<bool, AllocError>
-    ensures { IfOk result (λ b. (turns : ℕ) → HasTurnsFor view.entry.env.now view.entry.own.now.additions turns →
-        (b, log.new)
+    ensures { IfOk result (λ b. (turns : ℕ)
+        → HasTurnsFor view.entry.env.now view.entry.own.now.additions turns
+        → (b, log.new)
         ≡ run key_eq
         (under view.entry.own.now.additions
         (and_then (inherited turns scope.now (folded (name_of path.now)))

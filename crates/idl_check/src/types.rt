@@ -39,8 +39,9 @@ pub fn looked_through(
     way: Use,
     entity: &Shared<Entity>,
 ) -> Result<Shared<Entity>, AllocError>
-    ensures { IfOk result (λ behind. (turns : ℕ) → HasTurnsFor view.entry.env.now view.entry.own.now.additions turns →
-        (behind, log.new)
+    ensures { IfOk result (λ behind. (turns : ℕ)
+        → HasTurnsFor view.entry.env.now view.entry.own.now.additions turns
+        → (behind, log.new)
         ≡ run key_eq (under view.entry.own.now.additions (looked_through turns way entity.now))
         (answers view.entry.env.now) log.old) }
 {
@@ -56,8 +57,9 @@ fn behind_typedefs(
     log: &mut Journal<Env>,
     entity: &Shared<Entity>,
 ) -> Result<Shared<Entity>, AllocError>
-    ensures { IfOk result (λ behind. (turns : ℕ) → HasTurnsFor view.entry.env.now view.entry.own.now.additions turns →
-        (behind, log.new)
+    ensures { IfOk result (λ behind. (turns : ℕ)
+        → HasTurnsFor view.entry.env.now view.entry.own.now.additions turns
+        → (behind, log.new)
         ≡ run key_eq
         (under view.entry.own.now.additions (behind_typedefs (suc turns) entity.now entity.now))
         (answers view.entry.env.now) log.old) }

@@ -20,9 +20,10 @@ use Rattle.idl_program.specs.Compiled.{IsShown, Written}
 use Rattle.idl_program.specs.Holding.{Allows, Holding, NoFile}
 use Rattle.idl_program.specs.Loading.{AreComplete, AreLoaded, IsFileOf}
 use Rattle.idl_program.specs.Rows.{AreShown, output_of}
-use Rattle.idl_program.specs.Tried.{AreMissing, AreTried, IsTrue}
+use Rattle.idl_program.specs.Tried.{AreMissing, AreTried, IsLoading, IsTrue}
 use Rattle.idl_program.specs.declared.failure.Status.{Status}
 use Rattle.idl_program.specs.declared.failure.Status.TheVariants.{Sound, Faulty}
+use Rattle.idl_program.specs.declared.loading.Loading.{Loading}
 use Rattle.idl_program.specs.declared.request.Options.{Options}
 
 -- one file more
@@ -46,18 +47,24 @@ AreLoaded-empty told files none name lines there =
     absurd (cc)
 
 -- names were tried, nothing was changed, and more were tried
-pub tried-more : (told mid still : List ℕ → Holding) (old between same new : Inputs) (before here there after : List (List ℕ)) → AreTried told mid old between before here
-    → same ≡ between → there ≡ here → AreTried mid still same new there after → AreTried told still old new before after
-tried-more told mid still old between same new before here there after first sources missing next =
-    let inputs : AreTried told mid old same before here = subst (λ (i : Inputs). AreTried told mid old i before here) (sym sources) first in
-    let now : AreTried told mid old same before there = subst (λ (names : List (List ℕ)). AreTried told mid old same before names) (sym missing) inputs in
+pub loading-more : (told mid still : List ℕ → Holding) (old between same new : Loading) → IsLoading told mid old between → same.sources ≡ between.sources → same.missing.keys ≡ between.missing.keys
+    → IsLoading mid still same new → IsLoading told still old new
+loading-more told mid still old between same new first sources missing next =
+    let inputs : AreTried told mid old.sources same.sources old.missing.keys between.missing.keys =
+    subst (λ (i : Inputs). AreTried told mid old.sources i old.missing.keys between.missing.keys) (sym sources) first in
+    let now : IsLoading told mid old same = subst (λ (names : List (List ℕ)). AreTried told mid old.sources same.sources old.missing.keys names) (sym missing) inputs in
     record {
       stays_told = next.stays_told ∙ now.stays_told;
       stays_true = λ is.
-          subst (λ (f : List ℕ → Holding). IsTrue f new after) now.stays_told
-          (next.stays_true (subst (λ (f : List ℕ → Holding). IsTrue f same there) (sym now.stays_told) (now.stays_true is)));
+          subst (λ (f : List ℕ → Holding). IsTrue f new.sources new.missing.keys) now.stays_told
+          (next.stays_true (subst (λ (f : List ℕ → Holding). IsTrue f same.sources same.missing.keys) (sym now.stays_told) (now.stays_true is)));
       stays = record { macros = next.stays.macros ∙ now.stays.macros; search = next.stays.search ∙ now.stays.search };
     }
+
+-- what came of it, by another name
+pub loading-named : (told still same : List ℕ → Holding) (old new named : Loading) → IsLoading told still old new → named ≡ new → same ≡ still → IsLoading told same old named
+loading-named told still same old new named is self loader =
+    subst (λ (s : Loading). IsLoading told same old s) (sym self) (subst (λ (f : List ℕ → Holding). IsLoading told f old new) (sym loader) is)
 
 -- what is missing, the loader hasn't
 pub complete : (told : List ℕ → Holding) (inputs : Inputs) (missing roots : List (List ℕ)) (compiled : List CompiledRoot) → IsTrue told inputs missing

@@ -5,7 +5,9 @@ use Rattle.std.specs.List.{flat_map, list_any}
 use Rattle.idl_session.specs.Replies.{whole_line}
 use Rattle.idl_source.specs.Device.{append}
 use Rattle.idl_workspace.specs.Compile.{compiled_root}
+use Rattle.idl_workspace.specs.Made.{rootless}
 use Rattle.idl_workspace.specs.Project.{Inputs}
+use Rattle.idl_workspace.specs.WellFormed.{IsWellFormed}
 use Rattle.idl_program.specs.Holding.{Holding}
 use Rattle.idl_program.specs.Loading.{AreLoaded, AreComplete}
 use Rattle.idl_program.specs.Options.{AreAsked}
@@ -54,12 +56,13 @@ pub record IsShown (options : Options) (inputs : Inputs) (roots : List (List ℕ
   pub output : after.output ≡ append before.output (lines_of (output_in options inputs) roots)
   pub ending : status ≡ (if is_faulty inputs roots then Faulty else Sound)
 
--- the options are served, over the files that the loader tells of
+-- the options are served, over the files that the loader tells of and within the limits
 pub record IsCompiled (told : List ℕ → Holding) (options : Options) (before after : Written)
     (status : Status) : Type 0 where
   pub inputs : Inputs
   pub roots : List (List ℕ)
   pub asked : AreAsked options inputs roots
+  pub formed : IsWellFormed (rootless inputs)
   pub loaded : AreLoaded told inputs.files
   pub complete : AreComplete told inputs roots
   pub shown : IsShown options inputs roots before after status

@@ -4,7 +4,9 @@ use Rattle.std.specs.FinMap as finite
 use Rattle.idl_source.specs.Cut.{cut_lines}
 use Rattle.idl_source.specs.Texts.{Texts}
 use Rattle.idl_workspace.specs.Compile.{compiled_root}
+use Rattle.idl_workspace.specs.Made.{rootless}
 use Rattle.idl_workspace.specs.Project.{Inputs}
+use Rattle.idl_workspace.specs.WellFormed.{IsWellFormed}
 use Rattle.idl_workspace.specs.declared.compile.CompiledRoot.{CompiledRoot}
 use Rattle.idl_program.specs.Holding.{Holding, File, NoFile, Allows}
 
@@ -29,9 +31,10 @@ pub record StaysAsked (before after : Inputs) : Type 0 where
   pub macros : after.macros ≡ before.macros
   pub search : after.search ≡ before.search
 
--- what these roots compile to over inputs that all their files were loaded into
+-- what these roots compile to over well-formed inputs that all their files were loaded into
 pub record AreCompiled (told : List ℕ → Holding) (before after : Inputs) (roots : List (List ℕ))
     (compiled : List CompiledRoot) : Type 0 where
+  pub formed : IsWellFormed (rootless after)
   pub rows : compiled ≡ map (compiled_root after) roots
   pub loaded : AreLoaded told after.files
   pub complete : AreComplete told after roots

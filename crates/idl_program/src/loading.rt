@@ -34,6 +34,7 @@ pub fn compile_all<'a, L: Loader>(
         let compiled = compile_each(&mut loading.sources, roots)?;
         let Some(name) = loading.untried(&compiled) else {
             let Loading { sources, .. } = loading;
+            sources.keeps_form();
             return Ok((sources, compiled));
         };
         loading.load(name, loader)?;

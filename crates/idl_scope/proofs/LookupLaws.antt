@@ -8,7 +8,7 @@ use Rattle.idl_scope.specs.Turns.{bases_among, bases_named, declared_among, decl
 use Rattle.idl_scope.specs.Facts.{UnitFacts, answers}
 use Rattle.idl_scope.specs.Key.{key_eq}
 use Rattle.idl_scope.specs.Lookup.{IfSettled, denoted, has, outward, reach, reached, searched, under}
-use Rattle.idl_scope.specs.Meaning.{Denotes, FirstHas, Has, Introduces, Reaches, bases_at, entity_found, own_at, seen}
+use Rattle.idl_scope.specs.Meaning.{Denotes, FirstHas, Has, Introduces, Reaches, Through, bases_at, entity_found, own_at, seen}
 use Rattle.idl_scope.specs.Path.{name_of, scope_of}
 use Rattle.idl_scope.specs.declared.addition.Addition.{Addition}
 use Rattle.idl_scope.specs.declared.answer.Answer.{Answer}
@@ -22,7 +22,7 @@ use Rattle.idl_scope.specs.declared.kind.Kind.{Kind}
 use Rattle.idl_scope.proofs.Membership.{IsIn-left, IsIn-right, Contains-IsIn, IsIn-Contains, AllPairs-Distinct}
 use Rattle.idl_scope.proofs.FactsLaws.{outcome-under}
 use Rattle.idl_scope.proofs.Introduced.{first-home, Introduces_in, in_Introduces}
-use Rattle.idl_scope.proofs.Meant.{has-Has, denoted-Denotes, denoted-Ok}
+use Rattle.idl_scope.proofs.Meant.{has-Has, denoted-Denotes, denoted-Ok, reached-all}
 use Rattle.idl_scope.proofs.RunLemmas.{runs}
 use Rattle.idl_scope.proofs.TurnsLaws.{denoted-same, has-same, outward-same, reached-same}
 use Rattle.idl_scope.proofs.Worlds.{AreDeclared, AreGrounded, addition-grounded, answers-declared, answers-grounded, bases-among, over-grounded, own_at-home, own_at-name, own_place, places-among, wider-grounded}
@@ -78,6 +78,13 @@ module _ (facts : List UnitFacts) (own : List Addition) where
 
     pub has-once : (kind : Kind) (path : List (List ℕ)) (n : List ℕ) → AllPairs (λ e f. e ≢ f) (outcome (has turns kind path n) (seen own facts))
     has-once kind path n = AllPairs-Distinct (outcome (has turns kind path n) (seen own facts)) (has-Has places (seen own facts) seen-grounded turns enough kind path n).1
+
+    -- what is reached through the bases of what stands at a path
+    pub through-all : (path : List (List ℕ)) (n : List ℕ) (e : Entity) → Contains (outcome (reached turns n (bases_at (seen own facts) path)) (seen own facts)) e ↔ Through (seen own facts) n (bases_at (seen own facts) path) e
+    through-all path n e =
+        let all = (reached-all places (seen own facts) seen-grounded turns enough n path).0 e in
+        let found = outcome (reached turns n (bases_at (seen own facts) path)) (seen own facts) in
+        (λ c. all.0 (IsIn-Contains e found c), λ r. Contains-IsIn e found (all.1 r))
 
     -- more turns give the same and log the same, and so they come to the same
     pub has-more : (more : ℕ) (kind : Kind) (path : List (List ℕ)) (n : List ℕ) (log : List (Key × Option Answer)) → runs own (answers facts) (has (turns + more) kind path n) log ≡ runs own (answers facts) (has turns kind path n) log

@@ -80,7 +80,7 @@ module _ (bank : Key → Option Answer) (n : List ℕ) where
 -- over answers in which entities stand under their own paths, with turns for all bases
 module _ (places : List (List (List ℕ))) (bank : Key → Option Answer) (g : AreGrounded places bank) (turns : ℕ) (enough : length places ≤ turns) where
   -- a walk over the bases of an entity finds what is reached through them
-  reached-all : (n : List ℕ) (path : List (List ℕ)) → IsAll (Through bank n (bases_at bank path)) (outcome (reached turns n (bases_at bank path)) bank)
+  pub reached-all : (n : List ℕ) (path : List (List ℕ)) → IsAll (Through bank n (bases_at bank path)) (outcome (reached turns n (bases_at bank path)) bank)
   reached-all n path = rw (outcome-reached bank n turns (bases_at bank path))
       (λ e. (λ i. reached-Through bank n ((all e).0 i), λ t. (all e).1 (through-Reached bank n t)), visited-Distinct among among-IsIn (own_at bank n) (bases_at bank) (λ e. scope_of e.path) (own_at-home places bank g n) turns (bases_at bank path))
     where

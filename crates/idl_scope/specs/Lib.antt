@@ -19,6 +19,7 @@ pub mod Outline
 pub mod Outside
 pub mod Past
 pub mod Path
+pub mod Question
 pub mod Queue
 pub mod Scope
 pub mod Signature

@@ -1,16 +1,16 @@
--- How a scoped name is looked up: what is asked, and what comes of it.
--- Bases are entered one after another, at most so many; each once.
+-- How a scoped name is looked up: what is asked, and what comes of it, which is what the rules of
+-- `Meaning` say. Bases are entered one after another, at most so many; each once.
 use Rattle.std.specs.Prelude.{ℕ, zero, suc, ◌+◌, Bool, true, false, List, [], ◌∷◌, ◌++◌, Option, Some, None, Result, Ok, Err, option_to_list, slice_get, if◌then◌else◌}
 use denote.Ref.{Bor}
 use Rattle.std.specs.Str.{bytes_eq}
 use Rattle.idl_lex.specs.Keywords.{folded}
-use Rattle.idl_memo.specs.Query.{Query, Done, Ask, Tell, and_then}
+use Rattle.idl_memo.specs.Query.{Done, Ask, and_then}
 use Rattle.idl_tree.specs.declared.name.ScopedName.{ScopedName}
-use Rattle.idl_scope.specs.Facts.{entity_key, entity_in, joined, global_scope, over}
+use Rattle.idl_scope.specs.Facts.{entity_key, entity_in, joined}
 use Rattle.idl_scope.specs.Kind.{kind_eq}
+pub use Rattle.idl_scope.specs.Meaning.{bases_of, has_bases, inherits, is_scope, searched}
 use Rattle.idl_scope.specs.Path.{name_of, path_eq, scope_of}
-use Rattle.idl_scope.specs.declared.addition.Addition.{Addition}
-use Rattle.idl_scope.specs.declared.answer.Answer.{Answer}
+pub use Rattle.idl_scope.specs.Question.{Lookup, by_result, under}
 use Rattle.idl_scope.specs.declared.answer.Scope.{Scope}
 use Rattle.idl_scope.specs.declared.entity.Entity.{Entity}
 use Rattle.idl_scope.specs.declared.fault.NameCode.{NameCode}
@@ -18,47 +18,9 @@ use Rattle.idl_scope.specs.declared.fault.NameCode.TheVariants.{Undeclared, Ambi
 use Rattle.idl_scope.specs.declared.fault.NameFault.{NameFault}
 use Rattle.idl_scope.specs.declared.fault.NameFault.TheVariants.{At, Memory}
 use Rattle.idl_scope.specs.declared.found.Found.{Found}
-use Rattle.idl_scope.specs.declared.key.Key.{Key}
 use Rattle.idl_scope.specs.declared.key.Key.TheVariants.{Declared}
 use Rattle.idl_scope.specs.declared.kind.Kind.{Kind}
-use Rattle.idl_scope.specs.declared.kind.Kind.TheVariants.{Module, Interface, Structure, Union, Exception}
-use Rattle.idl_scope.specs.declared.kind.Stage.{Stage}
-use Rattle.idl_scope.specs.declared.kind.Stage.TheVariants.{Ahead, Begun, Open, Complete}
-
--- questions about names
-abbrev pub Lookup : Type 0 → Type 0
-Lookup A = Query Key (Option Answer) (Unit {0}) A
-
--- the query to which each answer comes with what these additions change in it
-abbrev pub under : {A : Type 0} → List Addition → Lookup A → Lookup A
-under additions (Done a) = Done a
-under additions (Ask k next) = Ask k (λ v. under additions (next (over additions k v)))
-under additions (Tell x query) = Tell x (under additions query)
-
--- whether what is declared in bases is reached from an entity at this stage
-abbrev pub has_bases : Stage → Bool
-has_bases Ahead = false
-has_bases Begun = false
-has_bases Open = true
-has_bases Complete = true
-
--- the bases of an entity that count: none before its definition is open
-abbrev pub bases_of : Option Entity → List (List (List ℕ))
-bases_of None = []
-bases_of (Some e) = if has_bases e.stage then e.bases else []
-
--- whether a scope of this kind has what its bases have
-abbrev pub inherits : Kind → Bool
-inherits kind = kind_eq kind Interface
-
--- whether further parts of a name are looked for in an entity of this kind
-abbrev pub is_scope : Kind → Bool
-is_scope Module = true
-is_scope Interface = true
-is_scope Structure = true
-is_scope Union = true
-is_scope Exception = true
-is_scope other = false
+use Rattle.idl_scope.specs.declared.kind.Kind.TheVariants.{Module}
 
 -- one way where there is nothing, another where there is an entity
 abbrev pub choose : {A : Type 0} → Option Entity → A → (Entity → A) → A
@@ -118,11 +80,6 @@ abbrev pub placed : ℕ → Result Entity NameCode → Result Entity NameFault
 placed part (Ok e) = Ok e
 placed part (Err code) = Err (At code part)
 
--- one way with a value, another with an error
-abbrev pub by_result : {A B C : Type 0} → Result A B → (A → C) → (B → C) → C
-by_result (Ok a) f g = f a
-by_result (Err b) f g = g b
-
 -- what a part of a name denotes, by what is there under it
 abbrev pub part_of : ℕ → List ℕ → Lookup (List Entity) → Lookup (Result Entity NameFault)
 part_of part name there = and_then there (λ found. Done (placed part (judged name found)))
@@ -152,10 +109,6 @@ reach [] e = 0
 reach (s ∷ scopes) e =
     if path_eq (scope_of e.path) s.path then 0
     else suc (if kind_eq s.kind Module then 0 else outer_reach scopes e)
-
--- the scopes in which the first part is looked for
-abbrev pub searched : Bool → List Scope → List Scope
-searched is_global cursor = if is_global then global_scope ∷ [] else cursor
 
 -- what is found, and how far the first part is introduced
 abbrev pub found_as : ScopedName → List Scope → Entity → Result Entity NameFault

@@ -1,9 +1,9 @@
 -- What names denote, over answers: the scoping rules, without a word of how a name is looked up.
-use Rattle.std.specs.Prelude.{◌≡◌, ◌≢◌, ◌↔◌, ◌⊎◌, ℕ, true, MatchBool, List, [], ◌∷◌, ◌+◌, Option, Some, None, Result, Ok, Err, Contains, take}
+use Rattle.std.specs.Prelude.{◌≡◌, ◌≢◌, ◌↔◌, ◌⊎◌, ℕ, Bool, true, false, if◌then◌else◌, MatchBool, List, [], ◌∷◌, ◌+◌, Option, Some, None, Result, Ok, Err, Contains, take}
 use Rattle.idl_lex.specs.Keywords.{folded}
 use Rattle.idl_tree.specs.declared.name.ScopedName.{ScopedName}
-use Rattle.idl_scope.specs.Facts.{UnitFacts, answers, entity_key, entity_in, over}
-use Rattle.idl_scope.specs.Lookup.{bases_of, inherits, is_scope, searched}
+use Rattle.idl_scope.specs.Facts.{UnitFacts, answers, entity_key, entity_in, global_scope, is_operation, over}
+use Rattle.idl_scope.specs.Kind.{kind_eq}
 use Rattle.idl_scope.specs.Path.{name_of}
 use Rattle.idl_scope.specs.declared.addition.Addition.{Addition}
 use Rattle.idl_scope.specs.declared.answer.Answer.{Answer}
@@ -17,7 +17,9 @@ use Rattle.idl_scope.specs.declared.found.Found.{Found}
 use Rattle.idl_scope.specs.declared.key.Key.{Key}
 use Rattle.idl_scope.specs.declared.key.Key.TheVariants.{Declared}
 use Rattle.idl_scope.specs.declared.kind.Kind.{Kind}
-use Rattle.idl_scope.specs.declared.kind.Kind.TheVariants.{Module}
+use Rattle.idl_scope.specs.declared.kind.Kind.TheVariants.{Module, Interface, Structure, Union, Exception}
+use Rattle.idl_scope.specs.declared.kind.Stage.{Stage}
+use Rattle.idl_scope.specs.declared.kind.Stage.TheVariants.{Ahead, Begun, Open, Complete}
 
 -- the answers over facts, as these additions change them
 abbrev pub seen : List Addition → List UnitFacts → Key → Option Answer
@@ -26,6 +28,31 @@ seen own facts key = over own key (answers facts key)
 -- what a scope itself declares a name as
 abbrev pub own_at : (Key → Option Answer) → List ℕ → List (List ℕ) → Option Entity
 own_at answers n path = entity_in (answers (Declared n path))
+
+-- whether what is declared in bases is reached from an entity at this stage
+abbrev pub has_bases : Stage → Bool
+has_bases Ahead = false
+has_bases Begun = false
+has_bases Open = true
+has_bases Complete = true
+
+-- the bases of an entity that count: none before its definition is open
+abbrev pub bases_of : Option Entity → List (List (List ℕ))
+bases_of None = []
+bases_of (Some e) = if has_bases e.stage then e.bases else []
+
+-- whether a scope of this kind has what its bases have
+abbrev pub inherits : Kind → Bool
+inherits kind = kind_eq kind Interface
+
+-- whether further parts of a name are looked for in an entity of this kind
+abbrev pub is_scope : Kind → Bool
+is_scope Module = true
+is_scope Interface = true
+is_scope Structure = true
+is_scope Union = true
+is_scope Exception = true
+is_scope other = false
 
 -- the bases of what stands at a path
 abbrev pub bases_at : (Key → Option Answer) → List (List ℕ) → List (List (List ℕ))
@@ -48,6 +75,12 @@ Has answers kind path n e =
     (own_at answers n path ≡ Some e)
     ⊎ ((own_at answers n path ≡ None)
     × ((inherits kind ≡ true) × Through answers n (bases_at answers path) e))
+
+-- an operation or attribute of this name that an interface inherits from its bases
+abbrev pub InheritsOperation : (Key → Option Answer) → Scope → List ℕ → Entity → Type 0
+InheritsOperation answers s n e =
+    (inherits s.kind ≡ true)
+    × (Through answers n (bases_at answers s.path) e × (is_operation e ≡ true))
 
 -- what the innermost of these scopes has of those that have the name
 abbrev pub FirstHas : (Key → Option Answer) → List Scope → List ℕ → Entity → Type 0
@@ -80,6 +113,10 @@ DenotesIn answers part e (name ∷ names) r =
     ((j : Result Entity NameCode) × Judges (Has answers e.kind e.path (folded name)) name j
     × Goes (part + 1) j (λ f. DenotesIn answers (part + 1) f names r) r)
     (r ≡ Err (At NoScope part))
+
+-- the scopes in which the first part is looked for
+abbrev pub searched : Bool → List Scope → List Scope
+searched is_global cursor = if is_global then global_scope ∷ [] else cursor
 
 -- what a scoped name denotes that stands in these scopes, the innermost first
 abbrev pub Denotes : (Key → Option Answer) → List Scope → ScopedName → Result Entity NameFault

@@ -1,5 +1,5 @@
--- How many turns facts need: a walk over bases enters each base that is named at most once, and a chain of typedefs that ends
--- has each entity that is declared at most once.
+-- How many turns facts need: a walk over bases enters each base that is named at most once, and a
+-- chain of typedefs that ends has each entity that is declared at most once.
 use Rattle.std.specs.Prelude.{ℕ, ◌+◌, ◌≤◌, List, [], ◌∷◌, flat_map, length}
 use Rattle.idl_scope.specs.Facts.{UnitFacts}
 use Rattle.idl_scope.specs.declared.addition.Addition.{Addition}

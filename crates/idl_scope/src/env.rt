@@ -7,6 +7,7 @@ ghost use Rattle.idl_scope.specs.Facts.{answers};
 ghost use Rattle.idl_scope.specs.Turns.{declared_named};
 
 use crate::answer::Answer;
+use crate::count::{one_more, sum};
 use crate::data_type::{DataType, Element};
 use crate::digested::DigestedKey;
 use crate::facts::Facts;
@@ -151,10 +152,7 @@ fn counted(count: usize, facts: &Facts) -> Result<usize, AllocError>
     ensures more { IfOk result (λ n. n ≡ count + length facts.now.additions + 1) }
     ensures room { IfOk result (λ n. count < 18446744073709551615) }
 {
-    match count.checked_add(facts.len()) {
-        Some(sum) if sum < usize::MAX => Ok(sum + 1),
-        _ => Err(AllocError),
-    }
+    one_more(sum(count, facts.len())?)
 }
 
 impl Bank for Env {

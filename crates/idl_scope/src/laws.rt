@@ -1,7 +1,7 @@
 //! The laws of names: that lookup comes to what the scoping rules say.
 //!
 //! Each function does nothing: it carries its laws as clauses. They hold of any facts, also of such as
-//! no declarations add; only, a walk over bases must be allowed as many turns as the facts name bases.
+//! no declarations add; only, a walk over bases must be allowed as many turns as these facts need.
 
 ghost use Rattle.std.specs.Prelude.{◌≡◌, ◌≢◌, ◌↔◌, ◌∷◌, ◌++◌, ◌+◌, [], ℕ, List, Ok, Option, Result, Some, true, AllPairs, Contains, map};
 ghost use Rattle.idl_lex.specs.Keywords.{folded};
@@ -10,8 +10,8 @@ ghost use Rattle.idl_tree.specs.declared.name.ScopedName.{ScopedName};
 ghost use Rattle.idl_scope.specs.Turns.{HasTurnsFor};
 ghost use Rattle.idl_scope.specs.Facts.{UnitFacts, World, after, after_all, answers, entity_key, identity_at, key_of, no_prefix, operations_among, over, path_around, prefix_in, scopes_in, world};
 ghost use Rattle.idl_scope.specs.Key.{key_eq};
-ghost use Rattle.idl_scope.specs.Lookup.{Lookup, denoted, has, under};
-ghost use Rattle.idl_scope.specs.Meaning.{Denotes, Has, Reaches, entity_found, own_at, seen};
+ghost use Rattle.idl_scope.specs.Lookup.{Lookup, denoted, has, reached, under};
+ghost use Rattle.idl_scope.specs.Meaning.{Denotes, Has, Reaches, Through, bases_at, entity_found, own_at, seen};
 ghost use Rattle.idl_scope.specs.Outside.{AgreeOutside, AreApart, IsInnermost, WorldsAgreeAround, WorldsAgreeOutside, looked_at_by};
 ghost use Rattle.idl_scope.specs.Path.{name_of, scope_of};
 ghost use Rattle.idl_scope.specs.declared.addition.Addition.{Addition};
@@ -35,7 +35,8 @@ pub fn own_path()
 {}
 
 /// What is found under a name in a scope is what the scope declares or reaches through its bases, all
-/// of it, and each entity once.
+/// of it, and each entity once; and what is found in the bases of what stands at a path is what is
+/// reached through these.
 pub fn found_in_a_scope()
     ensures all { (facts : List UnitFacts) (own : List Addition) (turns : ℕ)
         → HasTurnsFor facts own turns
@@ -46,6 +47,12 @@ pub fn found_in_a_scope()
         → HasTurnsFor facts own turns
         → (kind : Kind) (path : List (List ℕ)) (n : List ℕ)
         → AllPairs (λ e f. e ≢ f) (outcome (has turns kind path n) (seen own facts)) }
+    ensures through { (facts : List UnitFacts) (own : List Addition) (turns : ℕ)
+        → HasTurnsFor facts own turns
+        → (path : List (List ℕ)) (n : List ℕ) (e : Entity)
+        → let bases = bases_at (seen own facts) path in
+        Contains (outcome (reached turns n bases) (seen own facts)) e
+        ↔ Through (seen own facts) n bases e }
 {}
 
 /// A scoped name denotes one thing, an entity or a fault, and lookup comes to it.
@@ -60,8 +67,8 @@ pub fn denotation()
         → Denotes answers cursor name r → Denotes answers cursor name s → r ≡ s }
 {}
 
-/// More turns than the facts name bases change nothing: neither what a scope has under a name, nor what a name denotes, nor what
-/// is logged for it.
+/// More turns than the facts need change nothing: neither what a scope has under a name, nor what a
+/// name denotes, nor what is logged for it.
 pub fn more_turns()
     ensures has { (facts : List UnitFacts) (own : List Addition) (turns more : ℕ)
         → HasTurnsFor facts own turns
@@ -75,8 +82,8 @@ pub fn more_turns()
         ≡ run key_eq (under own (denoted turns cursor name)) (answers facts) log }
 {}
 
-/// The use of a name introduces its first part into the scopes that the rules tell, and into no others: as many, the
-/// innermost first, as its reach says.
+/// The use of a name introduces its first part into the scopes that the rules tell, and into no
+/// others: as many, the innermost first, as its reach says.
 pub fn introduction()
     ensures { (facts : List UnitFacts) (own : List Addition) (turns : ℕ)
         → HasTurnsFor facts own turns

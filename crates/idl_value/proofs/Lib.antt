@@ -1,4 +1,5 @@
 pub mod BitLemmas
+pub mod DecisionLemmas
 pub mod OrderLemmas
 pub mod SizeLemmas
 pub mod TermEquations

@@ -2,6 +2,7 @@ pub mod Bits
 pub mod Evaluation
 pub mod Exact
 pub mod Integer
+pub mod Names
 pub mod Operate
 pub mod Order
 pub mod SameInteger

@@ -2,10 +2,11 @@
 //!
 //! Each function does nothing: it carries its laws as clauses. No expression that memory holds has 2^64 tokens.
 
-ghost use Rattle.std.specs.Prelude.{◌≡◌, ◌<◌, ◌^◌, length};
+ghost use Rattle.std.specs.Prelude.{◌≡◌, ◌≢◌, ◌<◌, ◌^◌, [], length};
 ghost use Rattle.idl_tree.specs.Expression.{spell_expression};
 ghost use Rattle.idl_tree.specs.declared.expression.Expression.{Expression};
-ghost use Rattle.idl_value.specs.Evaluation.{Operands, faults_of, read_term, start, value_of};
+ghost use Rattle.idl_value.specs.Evaluation.{Faulty, Operands, bound_of, faults_of, read_term, start, value_of};
+ghost use Rattle.idl_value.specs.Names.{AreGiven};
 ghost use Rattle.idl_value.specs.Order.{IsAscending};
 ghost use Rattle.idl_value.specs.Term.{expression_term};
 ghost use Rattle.idl_value.specs.declared.target.Target.{Target};
@@ -24,4 +25,13 @@ pub fn counting()
         → length (spell_expression e) < 2 ^ 64
         → (read_term target operands start (expression_term e)).place.token
         ≡ length (spell_expression e) }
+{}
+
+/// Where each name of an expression has a value, the expression has one too, or a fault of its own. So nothing is told of it
+/// only where a name of it is faulty.
+pub fn deciding()
+    ensures value { (target : Target) (operands : Operands) (e : Expression)
+        → AreGiven operands e → value_of target operands e ≢ Faulty [] }
+    ensures bound { (operands : Operands) (e : Expression)
+        → AreGiven operands e → bound_of operands e ≢ Faulty [] }
 {}

@@ -1,10 +1,10 @@
 -- The roots that are held: what is found among them, and what is held with one more or one less.
 use Rattle.std.proofs.Common.{◌≡◌, ℕ, Bool, true, false, cond, ◌||◌, List, [], ◌∷◌, ◌++◌, All, Contains, IsTrue, Option, None, Some, is_some, map-id, subst, refl, sym, ap, ◌∙◌, if◌then◌else◌}
 use Rattle.std.proofs.lemmas.Bool.{true≢false}
-use Rattle.std.proofs.lemmas.Map.Keys.{IsDistinct-head, IsDistinct-tail, IsDistinct-push}
+use Rattle.std.proofs.lemmas.Map.Keys.{IsDistinct-head, IsDistinct-tail}
 use Rattle.std.proofs.lemmas.Map.Made.{is_some-lookup}
 use Rattle.std.proofs.lemmas.List.{map-append, append-nil}
-use Rattle.std.proofs.lemmas.List.Elements.{All-head, All-tail, All-push, All-contains_itself}
+use Rattle.std.proofs.lemmas.List.Elements.{All-head, All-nil, All-tail, All-push, All-contains_itself}
 use Rattle.std.specs.List.{list_any, AllByRecursion, IsDistinct}
 use Rattle.std.specs.Map.{lookup, keys_of, remove_entry}
 use Rattle.std.specs.Option.{option_map}
@@ -18,12 +18,14 @@ use Rattle.idl_memo.specs.Cause.{changed}
 use Rattle.idl_source.specs.Name.{is_name}
 use Rattle.idl_workspace.specs.Compile.{compile_over}
 use Rattle.idl_workspace.specs.Bank.{bank_of}
-use Rattle.idl_workspace.specs.Project.{Inputs}
+use Rattle.idl_workspace.specs.Project.{Inputs, Project, no_inputs}
 use Rattle.idl_workspace.specs.Renewed.{IsRenewed}
-use Rattle.idl_workspace.specs.UpToDate.{AreKept, IsKept, IsUpToDate, State}
+use Rattle.idl_workspace.specs.UpToDate.{AreKept, IsKept, IsUpToDate, State, project_held}
+use Rattle.idl_workspace.specs.WellFormed.{IsWellFormed}
 use Rattle.idl_workspace.specs.Work.{staying, work_between, work_of}
 use Rattle.idl_workspace.specs.declared.work.Work.{Work}
 use Rattle.idl_workspace.specs.declared.kept_root.KeptRoot.{KeptRoot}
+use Rattle.idl_workspace.proofs.FormLemmas.{none-formed}
 
 -- of roots that are kept a name is found with what compiling it gives, and no other name is found
 pub lookup-held : (bank : Key → Option Answer) (held : List (List ℕ × KeptRoot)) (name : List ℕ) → AreKept bank held
@@ -78,32 +80,28 @@ lookup-absent held name new = none _ (is_some-lookup (bytes_eq name) held ∙ ne
     none None h = refl
     none (Some kept) h = absurd (true≢false h)
 
+-- nothing
+pub none-up_to_date : (inputs : Inputs) (held : List (List ℕ × KeptRoot)) → inputs ≡ no_inputs → held ≡ [] → IsUpToDate inputs held
+none-up_to_date inputs held no_input no_root = record {
+  formed = subst (λ (p : Project). IsWellFormed p) (λ i. project_held (sym no_input i) (sym no_root i)) none-formed;
+  kept = subst (AreKept (bank_of inputs)) (sym no_root) (All-nil (λ (root : List ℕ × KeptRoot). IsKept (bank_of inputs) root));
+}
+
 -- one more root, with what is kept of it
-pub IsUpToDate-push : (bank : Key → Option Answer) (held : List (List ℕ × KeptRoot)) (name : List ℕ) (kept : KeptRoot) → IsUpToDate bank held
-    → IsTrue (is_name name) → list_any (bytes_eq name) (keys_of held) ≡ false → IsKept bank (name, kept)
-    → IsUpToDate bank (held ++ (name, kept) ∷ [])
-IsUpToDate-push bank held name kept up allowed new is =
+pub IsUpToDate-push : (inputs : Inputs) (held : List (List ℕ × KeptRoot)) (name : List ℕ) (kept : KeptRoot) → AreKept (bank_of inputs) held → IsKept (bank_of inputs) (name, kept)
+    → IsWellFormed (record { inputs = inputs; roots = keys_of held ++ name ∷ [] }) → IsUpToDate inputs (held ++ (name, kept) ∷ [])
+IsUpToDate-push inputs held name kept are is formed =
     let names : keys_of (held ++ (name, kept) ∷ []) ≡ keys_of held ++ name ∷ [] = map-append (λ (e : List ℕ × KeptRoot). e.0) held ((name, kept) ∷ []) in
     record {
-      names = subst (λ (ns : List (List ℕ)). All (λ n. IsTrue (is_name n)) ns) (sym names) (All-push (λ (n : List ℕ). IsTrue (is_name n)) (keys_of held) name up.names allowed);
-      distinct = subst (λ (ns : List (List ℕ)). IsDistinct bytes_eq ns) (sym names) (IsDistinct-push nat_list_eq_equiv (keys_of held) name up.distinct new);
-      kept = All-push (λ (root : List ℕ × KeptRoot). IsKept bank root) held (name, kept) up.kept is;
+      formed = subst (λ (ns : List (List ℕ)). IsWellFormed (record { inputs = inputs; roots = ns })) (sym names) formed;
+      kept = All-push (λ (root : List ℕ × KeptRoot). IsKept (bank_of inputs) root) held (name, kept) are is;
     }
 
--- what holds of all entries holds of those that stay
-All-remove_entry : (P : List ℕ × KeptRoot → Type 0) (test : List ℕ → Bool) (held : List (List ℕ × KeptRoot)) → All P held → All P (remove_entry test held)
-All-remove_entry P test held h =
-    subst (λ (es : List (List ℕ × KeptRoot)). All P es) (map-id (remove_entry test held))
-    (All-map-remove_entry test (λ (e : List ℕ × KeptRoot). e) P held (subst (λ (es : List (List ℕ × KeptRoot)). All P es) (sym (map-id held)) h))
-
--- one root less
-pub IsUpToDate-remove : (bank : Key → Option Answer) (held : List (List ℕ × KeptRoot)) (test : List ℕ → Bool) → IsUpToDate bank held
-    → IsDistinct bytes_eq (keys_of (remove_entry test held)) → IsUpToDate bank (remove_entry test held)
-IsUpToDate-remove bank held test up distinct = record {
-  names = All-map-remove_entry test (λ (e : List ℕ × KeptRoot). e.0) (λ n. IsTrue (is_name n)) held up.names;
-  distinct = distinct;
-  kept = All-remove_entry (λ (root : List ℕ × KeptRoot). IsKept bank root) test held up.kept;
-}
+-- what is kept of all roots is kept of those that stay
+pub AreKept-remove : (bank : Key → Option Answer) (held : List (List ℕ × KeptRoot)) (test : List ℕ → Bool) → AreKept bank held → AreKept bank (remove_entry test held)
+AreKept-remove bank held test are =
+    subst (AreKept bank) (map-id (remove_entry test held))
+    (All-map-remove_entry test (λ (e : List ℕ × KeptRoot). e) (λ (root : List ℕ × KeptRoot). IsKept bank root) held (subst (AreKept bank) (sym (map-id held)) are))
 
 -- the roots that stay were there
 pub remaining-there : (held : List (List ℕ × KeptRoot)) (test : List ℕ → Bool) → All (Contains (keys_of held)) (keys_of (remove_entry test held))
@@ -111,18 +109,16 @@ remaining-there held test = All-map-remove_entry test (λ (e : List ℕ × KeptR
 
 -- After an edit that changes one answer: the same roots, with what is kept of them over the changed answers.
 pub IsUpToDate-edited : (state : State) (now new : Inputs) (held : List (List ℕ × KeptRoot)) (renewed : List (List ℕ × KeptRoot) × Work) (asked at : Key) (given answer : Option Answer) (work : Work)
-    → record { project = record { inputs = now; roots = keys_of held }; work = work } ≡ state → IsUpToDate (bank_of now) held
+    → record { project = record { inputs = now; roots = keys_of held }; work = work } ≡ state
     → IsRenewed state.project asked given renewed
-    → asked ≡ at → given ≡ answer → bank_of new ≡ changed key_eq (bank_of now) at answer → IsUpToDate (bank_of new) renewed.0
-IsUpToDate-edited state now new held renewed asked at given answer work is up again asks gives changes =
-    let same : keys_of renewed.0 ≡ keys_of held = again.roots ∙ ap (λ (s : State). s.project.roots) (sym is) in
-    record {
-      names = subst (λ (ns : List (List ℕ)). All (λ n. IsTrue (is_name n)) ns) (sym same) up.names;
-      distinct = subst (λ (ns : List (List ℕ)). IsDistinct bytes_eq ns) (sym same) up.distinct;
-      kept = subst (λ (bank : Key → Option Answer). AreKept bank renewed.0)
-          (ap (λ (s : State). changed key_eq (bank_of s.project.inputs) asked given) (sym is) ∙ ap (λ (k : Key). changed key_eq (bank_of now) k given) asks ∙ ap (changed key_eq (bank_of now) at) gives ∙ sym changes)
-          again.kept;
-    }
+    → asked ≡ at → given ≡ answer → bank_of new ≡ changed key_eq (bank_of now) at answer
+    → IsWellFormed (record { inputs = new; roots = keys_of renewed.0 }) → IsUpToDate new renewed.0
+IsUpToDate-edited state now new held renewed asked at given answer work is again asks gives changes formed = record {
+  formed = formed;
+  kept = subst (λ (bank : Key → Option Answer). AreKept bank renewed.0)
+      (ap (λ (s : State). changed key_eq (bank_of s.project.inputs) asked given) (sym is) ∙ ap (λ (k : Key). changed key_eq (bank_of now) k given) asks ∙ ap (changed key_eq (bank_of now) at) gives ∙ sym changes)
+      again.kept;
+}
 
 -- and the work is that between the two projects
 pub work-edited : (state : State) (now new : Inputs) (held : List (List ℕ × KeptRoot)) (renewed : List (List ℕ × KeptRoot) × Work) (asked at : Key) (given answer : Option Answer) (work : Work)

@@ -1,18 +1,17 @@
 -- The claim: what a session answers is what compiling the present project from scratch gives.
-use Rattle.std.specs.Prelude.{◌≡◌, ℕ, Bool, List, All, IsTrue, Option, None, Some, refl, length, if◌then◌else◌, ◌+◌, [], ◌∷◌}
+use Rattle.std.specs.Prelude.{◌≡◌, ℕ, Bool, List, All, Option, None, Some, refl, length, if◌then◌else◌, ◌+◌, [], ◌∷◌}
 use Rattle.std.specs.Coded.{Coded, code_by, coded×, coded_ℕ}
-use Rattle.std.specs.List.{IsDistinct}
 use Rattle.std.specs.Map.{keys_of}
 use Rattle.std.specs.Option.{option_map}
-use Rattle.std.specs.Str.{bytes_eq}
 use Rattle.idl_event.specs.declared.key.Answer.{Answer}
 use Rattle.idl_event.specs.Key.{key_eq}
 use Rattle.idl_event.specs.declared.key.Key.{Key}
 use Rattle.idl_memo.specs.Kept.{HoldsOver}
 use Rattle.idl_prep.specs.Root.{expansion}
-use Rattle.idl_source.specs.Name.{is_name}
+use Rattle.idl_workspace.specs.Bank.{bank_of}
 use Rattle.idl_workspace.specs.Compile.{compiled_root, compile_over}
-use Rattle.idl_workspace.specs.Project.{Project, project_code, is_root}
+use Rattle.idl_workspace.specs.Project.{Inputs, Project, project_code, is_root}
+use Rattle.idl_workspace.specs.WellFormed.{IsWellFormed}
 use Rattle.idl_workspace.specs.declared.compile.CompiledRoot.{CompiledRoot}
 use Rattle.idl_workspace.specs.declared.kept_root.KeptRoot.{KeptRoot}
 use Rattle.idl_workspace.specs.declared.work.Work.{Work}
@@ -58,12 +57,14 @@ pub record IsKept (bank : Key → Option Answer) (root : List ℕ × KeptRoot) :
 abbrev pub AreKept : (Key → Option Answer) → List (List ℕ × KeptRoot) → Type 0
 AreKept bank held = All (λ root. IsKept bank root) held
 
--- what is held of the roots: distinct names, each with what is kept of it
-pub record IsUpToDate (bank : Key → Option Answer) (held : List (List ℕ × KeptRoot))
-    : Type 0 where
-  pub names : All (λ name. IsTrue (is_name name)) (keys_of held)
-  pub distinct : IsDistinct bytes_eq (keys_of held)
-  pub kept : AreKept bank held
+-- the project of these inputs and of the roots that are held
+abbrev pub project_held : Inputs → List (List ℕ × KeptRoot) → Project
+project_held inputs held = record { inputs = inputs; roots = keys_of held }
+
+-- what is held of a session: a well-formed project, and with each root what is kept of it
+pub record IsUpToDate (inputs : Inputs) (held : List (List ℕ × KeptRoot)) : Type 0 where
+  pub formed : IsWellFormed (project_held inputs held)
+  pub kept : AreKept (bank_of inputs) held
 
 -- how many keys these roots asked
 abbrev pub keys_asked : List (List ℕ × KeptRoot) → ℕ

@@ -10,7 +10,7 @@ ghost use Rattle.idl_memo.specs.Cause.{changed};
 ghost use Rattle.idl_memo.specs.Meter.{compared_after};
 ghost use Rattle.idl_source.specs.Limits.{most_roots};
 ghost use Rattle.idl_workspace.specs.Bank.{bank_of};
-ghost use Rattle.idl_workspace.specs.UpToDate.{AreKept, IsUpToDate, keys_asked};
+ghost use Rattle.idl_workspace.specs.UpToDate.{AreKept, keys_asked};
 ghost use Rattle.idl_workspace.specs.Work.{work_between};
 
 use crate::MAX_ROOTS;
@@ -123,7 +123,8 @@ impl RootTable {
         memory: &mut Memory,
         edited: &Edited<'a, SessionBank>,
     ) -> Result<(RootTable, Work), AllocError>
-        requires { IsUpToDate (bank_of edited.now.base.now) self.now }
+        requires distinct { IsDistinct bytes_eq (keys_of self.now) }
+        requires kept { AreKept (bank_of edited.now.base.now) self.now }
         ensures roots { IfOk result (λ renewed. keys_of renewed.0 ≡ keys_of self.now) }
         ensures kept { let before = bank_of edited.now.base.now in
             let after = changed key_eq before edited.now.key.now (option_copied edited.now.answer) in

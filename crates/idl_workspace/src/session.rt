@@ -12,6 +12,7 @@ ghost use Rattle.idl_workspace.specs.Edited.{IsEdited, takes_memory};
 ghost use Rattle.idl_workspace.specs.Edits.{Edit, Put, Splice, Remove, Define, Undef, Search, AddRoot, DropRoot, after, are_too_long};
 ghost use Rattle.idl_workspace.specs.Renewed.{IsRenewed};
 ghost use Rattle.idl_workspace.specs.UpToDate.{compiled_of, diagnostics_of, listing_of, dump_of, is_faulty_of, absent_of};
+ghost use Rattle.idl_workspace.specs.WellFormed.{IsWellFormed};
 
 use crate::Row;
 use crate::bank::SessionBank;
@@ -33,7 +34,7 @@ use idl_source::{Files, Line, Name, Refusal, Span};
 use std::alloc::{AllocError, Global};
 use std::marker::Model;
 
-/// A project, and for each of its roots what it compiles to.
+/// A well-formed project, and for each of its roots what it compiles to.
 ///
 /// An edit is accepted, and then all rows are those of the project after it, or it is refused, and then nothing has
 /// changed. Queries take no memory, but that `asked` makes a list.
@@ -47,7 +48,6 @@ pub struct Session {
 
 impl Model for Session {
     ghost use Rattle.std.specs.Map.{keys_of};
-    ghost use Rattle.idl_workspace.specs.Bank.{bank_of};
     ghost use Rattle.idl_workspace.specs.UpToDate.{State, state_code, IsUpToDate};
 
     ghost Value = { State };
@@ -59,7 +59,7 @@ impl Model for Session {
       work = session.work;
     } };
 
-    ghost invariant = { λ session. IsUpToDate (bank_of session.bank) session.roots };
+    ghost invariant = { λ session. IsUpToDate session.bank session.roots };
 }
 
 impl Session {
@@ -283,6 +283,16 @@ impl Session {
         self.work
     }
 
+    /// Tells that the project is well-formed, whatever edits it comes of: names, words and directories obey their rules, each
+    /// macro and each root is there once, and nothing is more or longer than the limits allow.
+    ///
+    /// This does nothing: it carries the fact.
+    pub fn keeps_form(&self)
+        ensures { IsWellFormed self.now.project }
+    {
+        let _roots = &self.roots;
+    }
+
     /// Where the session's memory comes from, for what a caller has to hand in.
     pub fn allocator(&self) -> Global {
         self.memory.alloc()
@@ -340,6 +350,7 @@ impl Session {
     fn change_files(&mut self, name: &[u8], files: Files) -> Result<Work, Refusal>
         requires allowed { IsTrue (is_name name.now) }
         requires beside { IsSameBeside name.now self.old.project.inputs.files files }
+        requires formed { IsWellFormed (with_files self.old.project files) }
         ensures { (edit : Edit) → takes_memory edit ≡ true
             → after self.old.project edit ≡ Ok (with_files self.old.project files)
             → IsEdited edit self.old self.new result }

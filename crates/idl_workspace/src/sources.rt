@@ -3,8 +3,9 @@
 ghost use Rattle.std.specs.Prelude.{◌≡◌, IfOk, map};
 ghost use Rattle.idl_workspace.specs.Compile.{compiled_root};
 ghost use Rattle.idl_workspace.specs.Edits.{Define, Put, Search, Undef};
-ghost use Rattle.idl_workspace.specs.Made.{IsMade};
+ghost use Rattle.idl_workspace.specs.Made.{IsMade, rootless};
 ghost use Rattle.idl_workspace.specs.Project.{no_inputs};
+ghost use Rattle.idl_workspace.specs.WellFormed.{IsWellFormed};
 
 use crate::bank::SessionBank;
 use crate::compile::{CompiledRoot, compile_alone};
@@ -31,13 +32,17 @@ pub struct Sources {
 }
 
 impl Model for Sources {
+    ghost use Rattle.idl_workspace.specs.Made.{rootless};
     ghost use Rattle.idl_workspace.specs.Project.{Inputs, inputs_code};
+    ghost use Rattle.idl_workspace.specs.WellFormed.{IsWellFormed};
 
     ghost Value = { Inputs };
 
     ghost coded = { inputs_code };
 
     ghost view = { λ sources. sources.bank };
+
+    ghost invariant = { λ sources. IsWellFormed (rootless sources.bank) };
 }
 
 impl Sources {
@@ -113,6 +118,15 @@ impl Sources {
         ensures same { self.new ≡ self.old }
     {
         compile_alone(&mut self.memory, &self.bank, root)
+    }
+
+    /// Tells that the inputs are well-formed, whatever edits they come of, as those of a session are.
+    ///
+    /// This does nothing: it carries the fact.
+    pub fn keeps_form(&self)
+        ensures { IsWellFormed (rootless self.now) }
+    {
+        let _bank = &self.bank;
     }
 
     /// Where memory comes from, for what a caller has to hand in.

@@ -1,6 +1,9 @@
 //! What is long or deep: the limits of commands, of a project and of a root, and what goes past none.
 
-use super::support::{have_replies, have_rows};
+ghost use Rattle.idl_workspace.specs.WithinLimits.{IsWithinLimits};
+
+use super::support::{answers, have_replies, have_rows};
+use idl_session::Session;
 use std::test::Fail;
 
 static LINES: [&str; 2] = [
@@ -52,6 +55,21 @@ fn the_lines_of_a_file_are_bounded(rt: HostRuntime) -> Result<(), Fail> {
 #[test]
 fn commands_and_projects_are_bounded(rt: HostRuntime) -> Result<(), Fail> {
     have_replies(&rt, &COMMANDS)
+}
+
+// Whatever commands a session has served, a proof knows this of it.
+fn tells_its_limits(session: &Session)
+    ensures { IsWithinLimits session.now.project }
+{
+    session.keeps_form();
+}
+
+#[test]
+fn a_session_tells_that_it_keeps_the_limits(rt: HostRuntime) -> Result<(), Fail> {
+    let mut session = Session::new(rt.alloc());
+    answers(&rt, &mut session, "define X 1\nroot a.idl\n", b"ok\nok\n")?;
+    tells_its_limits(&session);
+    answers(&rt, &mut session, "absent a.idl\n", b"rows 1\na.idl\n")
 }
 
 #[test]

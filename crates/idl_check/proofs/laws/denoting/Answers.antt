@@ -1,4 +1,5 @@
-use Rattle.std.proofs.Common.{◌∙◌, sym, subst, Result}
+use Rattle.std.proofs.Common.{◌∙◌, sym, subst, arith, [], Result}
+use Rattle.idl_check.proofs.InheritedLaws.{standing-inherited}
 use Rattle.idl_check.proofs.RowLaws.{used-path}
 use Rattle.idl_check.proofs.VisitLemmas.{turns-here}
 use Rattle.idl_check.specs.Walk.{turns_at}
@@ -24,3 +25,9 @@ returns-clause-introduced c = λ facts turns w name found enough is.
 
 pub returns-clause-path : goal.returns-clause-path
 returns-clause-path c = λ facts turns w way name found given is. used-path turns (answers facts) way name w found given is
+
+pub returns-clause-pragma : goal.returns-clause-pragma
+returns-clause-pragma c = λ facts turns scopes name enough. denotes facts [] turns (omega (arith, enough)) scopes name
+
+pub returns-clause-inherited : goal.returns-clause-inherited
+returns-clause-inherited c = standing-inherited

@@ -40,6 +40,7 @@ returns-in_default g c =
     let is = subst (λ (i : Inputs). IsTrue told i missing) (sym same) then in
     let are = subst (λ (rs : List CompiledRoot). AreMissing missing rs) c.deref.ensures.value c.in_default.ensures in
     record {
+      formed = c.keeps_form.ensures;
       rows = rows;
       loaded = is.loaded;
       complete = complete told last missing roots compiled is rows are;

@@ -24,6 +24,7 @@ returns-clause-compiled g c =
       inputs = inputs;
       roots = roots;
       asked = asked;
+      formed = are.formed;
       loaded = are.loaded;
       complete = are.complete;
       shown = shown options inputs roots compiled before after status are.rows

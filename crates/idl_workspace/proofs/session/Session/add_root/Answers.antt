@@ -23,20 +23,10 @@ use Rattle.idl_workspace.specs.UpToDate.{IsUpToDate, State}
 use Rattle.idl_workspace.specs.Work.{staying, work_of}
 use Rattle.idl_workspace.specs.declared.kept_root.KeptRoot.{KeptRoot}
 use Rattle.idl_workspace.specs.declared.work.Work.{Work}
+use Rattle.idl_workspace.proofs.FormLemmas.{after-formed}
 use Rattle.idl_workspace.proofs.KeptLemmas.{work-roots}
 use Rattle.idl_workspace.proofs.RootLemmas.{IsUpToDate-push, staying-push}
 use Rattle.idl_workspace.proofs.session.Session.add_root.Goals as goal
-
-pub invariant_of-self-2 : goal.invariant_of-self-2
-invariant_of-self-2 c =
-    let bank = bank_of c.self.inside.bank in
-    let root = c.in-Some.root in
-    let allowed : is_name root ≡ true = ap is_name c.in-Some.ensures.same ∙ c.in-Some.ensures.allowed.0 refl in
-    let kept = c.in_ok-kept.ensures.kept in
-    let grown : c.add.new.self ≡ c.self.inside.roots ++ (root, c.in_ok-kept.kept) ∷ [] =
-    c.in_ok-add.ensures.ok ∙ ap (λ (rs : List (List ℕ × KeptRoot)). rs ++ (root, c.in_ok-kept.kept) ∷ []) c.reserve_one.ensures in
-    subst (λ (after : List (List ℕ × KeptRoot)). IsUpToDate bank after) (sym grown)
-    (IsUpToDate-push bank c.self.inside.roots root c.in_ok-kept.kept c.self.invariant allowed (sym c.contains.ensures ∙ c.if-contains.false) (rw c.copied.ensures at kept))
 
 -- a root that isn't refused
 added : (project : Project) (name root : List ℕ) (roots : List (List ℕ)) → root ≡ name → is_name name ≡ true → is_root project root ≡ false
@@ -50,6 +40,23 @@ added project name root roots same allowed new room made =
     ∙ ap (λ b. cond b (Err OverLimit) more) room
     ∙ ap (λ (n : List ℕ). Ok (project.roots ++ n ∷ [])) (sym same)
     ∙ ap Ok (sym made)
+
+pub invariant_of-self-2 : goal.invariant_of-self-2
+invariant_of-self-2 c =
+    let inputs = c.self.inside.bank in
+    let held = c.self.inside.roots in
+    let root = c.in-Some.root in
+    let project : Project = record { inputs = inputs; roots = keys_of held } in
+    let new : Project = record { inputs = inputs; roots = keys_of held ++ root ∷ [] } in
+    let room : nat_le most_roots (length (keys_of held)) ≡ false = ap (nat_le most_roots) (length-keys_of held) ∙ sym c.is_full.ensures ∙ c.if-is_full.false in
+    let is : after project (AddRoot c.args.name.now) ≡ Ok new =
+    ap (λ (r : Result (List (List ℕ)) Refusal). result_map (with_roots project) r)
+    (added project c.args.name.now root new.roots c.in-Some.ensures.same (c.in-Some.ensures.allowed.0 refl) (sym c.contains.ensures ∙ c.if-contains.false) room refl) in
+    let kept = c.in_ok-kept.ensures.kept in
+    let grown : c.add.new.self ≡ held ++ (root, c.in_ok-kept.kept) ∷ [] =
+    c.in_ok-add.ensures.ok ∙ ap (λ (rs : List (List ℕ × KeptRoot)). rs ++ (root, c.in_ok-kept.kept) ∷ []) c.reserve_one.ensures in
+    subst (λ (more : List (List ℕ × KeptRoot)). IsUpToDate inputs more) (sym grown)
+    (IsUpToDate-push inputs held root c.in_ok-kept.kept c.self.invariant.kept (rw c.copied.ensures at kept) (after-formed project new (AddRoot c.args.name.now) c.self.invariant.formed is))
 
 pub returns : goal.returns
 returns c =
@@ -65,7 +72,7 @@ returns c =
     let names : keys_of more ≡ keys_of held ++ root ∷ [] =
     ap (λ (es : List (List ℕ × KeptRoot)). keys_of es) grown ∙ map-append (λ (e : List ℕ × KeptRoot). e.0) held ((root, c.in_ok-kept.kept) ∷ []) in
     let stay : staying (keys_of held) (keys_of more) ≡ keys_of held = ap (staying (keys_of held)) names ∙ staying-push (keys_of held) root new in
-    let one = c.freshness.ensures.one_more bank (keys_of held) root (IsDistinct-push nat_list_eq_equiv (keys_of held) root c.self.invariant.distinct new) in
+    let one = c.freshness.ensures.one_more bank (keys_of held) root (IsDistinct-push nat_list_eq_equiv (keys_of held) root c.self.invariant.formed.roots_once new) in
     let fresh = subst (λ (ns : List (List ℕ)). fresh_among bytes_eq (option_eq ghosts.eq) expansion bank (keys_of held) bank ns ≡ 1) (sym names) one in
     let room : nat_le most_roots (length (keys_of held)) ≡ false = ap (nat_le most_roots) (length-keys_of held) ∙ sym c.is_full.ensures ∙ c.if-is_full.false in
     let counts : Meter → Work = λ m. record { expanded = m.expanded; checked = m.checked; printed = m.printed; compared = m.compared } in

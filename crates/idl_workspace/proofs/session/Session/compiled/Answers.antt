@@ -18,7 +18,7 @@ returns-in_err-new c =
     let none : compiled_of c.args.self.now.project name ≡ None =
     ap (λ (state : State). compiled_of state.project name) (sym c.self.view_is)
     ∙ cond-false (list_any (bytes_eq name) (keys_of held)) _ _
-    (list_any-bad_name (keys_of held) name c.self.invariant.names (λ allowed. false≢true (c.in_err-new.ensures.allowed.1 allowed))) in
+    (list_any-bad_name (keys_of held) name c.self.invariant.formed.roots (λ allowed. false≢true (c.in_err-new.ensures.allowed.1 allowed))) in
     ap (λ (found : Option (Bor CompiledRoot)). option_copied found) c.from_residual.ensures ∙ sym none
 
 pub returns : goal.returns

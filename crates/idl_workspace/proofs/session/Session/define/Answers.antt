@@ -1,24 +1,17 @@
-use Rattle.std.proofs.Common.{◌≡◌, ◌∙◌, ℕ, Bool, true, false, cond, List, ◌∷◌, [], None, Some, Ok, Err, refl, ap, sym, subst}
+use Rattle.std.proofs.Common.{◌≡◌, ◌∙◌, ℕ, List, ◌∷◌, [], None, Some, refl, ap, sym, subst}
 use Rattle.std.specs.Map.{keys_of}
 use Rattle.std.specs.Result.{result_err}
 use Rattle.std.specs.Str.{bytes_eq}
 use Rattle.indexmap.specs.IndexMap.{insert_entry}
 use Rattle.idl_event.specs.declared.key.Answer.TheVariants as answers
 use Rattle.idl_event.specs.declared.key.Key.TheVariants as keys
-use Rattle.idl_macro.specs.Words.{is_macro_word}
-use Rattle.idl_source.specs.declared.refusal.Refusal.TheVariants.{BadMacro, OverLimit}
-use Rattle.idl_workspace.specs.Edits.{Define, after, is_macro_over, macros_with, result_map}
-use Rattle.idl_workspace.specs.Project.{Inputs, Macros, Project, with_macros}
+use Rattle.idl_workspace.specs.Edits.{Define, after, macros_with}
+use Rattle.idl_workspace.specs.Project.{Project}
 use Rattle.idl_workspace.specs.UpToDate.{State}
-use Rattle.idl_workspace.proofs.EditLemmas.{define-refused}
+use Rattle.idl_workspace.proofs.EditLemmas.{define-accepted, define-refused}
+use Rattle.idl_workspace.proofs.FormLemmas.{after-formed}
 use Rattle.idl_workspace.proofs.RootLemmas.{IsUpToDate-edited, work-edited}
 use Rattle.idl_workspace.proofs.session.Session.define.Goals as goal
-
-pub invariant_of-self-2 : goal.invariant_of-self-2
-invariant_of-self-2 c =
-    IsUpToDate-edited c.args.self.now c.self-2.inside.bank c.define.new.self c.self-2.inside.roots c.in_ok-renewed.renewed (keys.Macro c.in_ok-word.word) (keys.Macro c.in_ok-word.word)
-    (Some c.answer.result.now) (Some (answers.Macro (c.in_ok-body.body ∷ []))) c.self-2.inside.work
-    (c.self-2.view_is ∙ c.in_ok-renewed.ensures.same) c.self-2.invariant c.in_ok-renewed.ensures.renewed refl (ap Some c.answer.ensures) c.in_ok-define.ensures.bank
 
 pub returns-in-Some : goal.returns-in-Some
 returns-in-Some c =
@@ -33,20 +26,21 @@ returns-in-Some c =
       memory = λ is. refl;
     }
 
--- a macro that isn't refused
-accepted : (over allowed : Bool) (macros : Macros) → None ≡ result_err (cond over (Err OverLimit) (cond allowed (Ok macros) (Err BadMacro)))
-    → cond over (Err OverLimit) (cond allowed (Ok macros) (Err BadMacro)) ≡ Ok macros
-accepted true allowed macros h = cc
-accepted false true macros h = refl
-accepted false false macros h = cc
-
-defined : (project : Project) (word body : List ℕ) (inputs : Inputs) (roots : List (List ℕ)) → None ≡ result_err (macros_with project.inputs.macros word body)
-    → inputs ≡ record project.inputs { macros = insert_entry bytes_eq project.inputs.macros word body } → roots ≡ project.roots
-    → after project (Define word body) ≡ Ok (record { inputs = inputs; roots = roots })
-defined project word body inputs roots none made same =
-    ap (result_map (with_macros project)) (accepted (is_macro_over project.inputs.macros word body) (is_macro_word word) (insert_entry bytes_eq project.inputs.macros word body) none)
-    ∙ ap (λ (inputs : Inputs). Ok (record { inputs = inputs; roots = project.roots })) (sym made)
-    ∙ ap (λ (roots : List (List ℕ)). Ok (record { inputs = inputs; roots = roots })) (sym same)
+pub invariant_of-self-2 : goal.invariant_of-self-2
+invariant_of-self-2 c =
+    let project : Project = record { inputs = c.self-2.inside.bank; roots = keys_of c.self-2.inside.roots } in
+    let new : Project = record { inputs = c.define.new.self; roots = keys_of c.in_ok-renewed.renewed.0 } in
+    let word = c.in_ok-word.word in
+    let none : None ≡ result_err (macros_with project.inputs.macros word c.args.body) =
+    subst (λ (state : State). None ≡ result_err (macros_with state.project.inputs.macros word c.args.body)) (c.self.view_is ∙ sym (c.self-2.view_is ∙ c.in_ok-renewed.ensures.same))
+    c.in_default.ensures in
+    let is = define-accepted project word c.args.body c.define.new.self new.roots none
+    (c.in_ok-define.ensures.ok ∙ ap (λ (b : List ℕ). record project.inputs { macros = insert_entry bytes_eq project.inputs.macros word b }) c.in_ok-body.ensures)
+    (c.in_ok-renewed.ensures.renewed.roots ∙ ap (λ (state : State). state.project.roots) (sym (c.self-2.view_is ∙ c.in_ok-renewed.ensures.same))) in
+    IsUpToDate-edited c.args.self.now c.self-2.inside.bank c.define.new.self c.self-2.inside.roots c.in_ok-renewed.renewed (keys.Macro word) (keys.Macro word)
+    (Some c.answer.result.now) (Some (answers.Macro (c.in_ok-body.body ∷ []))) c.self-2.inside.work
+    (c.self-2.view_is ∙ c.in_ok-renewed.ensures.same) c.in_ok-renewed.ensures.renewed refl (ap Some c.answer.ensures) c.in_ok-define.ensures.bank
+    (after-formed project new (Define word c.args.body) c.self-2.invariant.formed is)
 
 pub returns : goal.returns
 returns c =
@@ -59,7 +53,7 @@ returns c =
       project =
           ap (λ (state : State). after state.project (Define c.args.word.now c.args.body)) (sym (c.self-2.view_is ∙ c.in_ok-renewed.ensures.same))
           ∙ ap (λ w. after project (Define w c.args.body)) (sym c.in_ok-word.ensures)
-          ∙ defined project word c.args.body c.define.new.self (keys_of c.in_ok-renewed.renewed.0) none
+          ∙ define-accepted project word c.args.body c.define.new.self (keys_of c.in_ok-renewed.renewed.0) none
           (c.in_ok-define.ensures.ok ∙ ap (λ (b : List ℕ). record project.inputs { macros = insert_entry bytes_eq project.inputs.macros word b }) c.in_ok-body.ensures)
           (c.in_ok-renewed.ensures.renewed.roots ∙ ap (λ (state : State). state.project.roots) (sym (c.self-2.view_is ∙ c.in_ok-renewed.ensures.same)));
       kept = refl;

@@ -19,7 +19,7 @@ returns-in_err-new-clause-none c =
     let none : asked_of c.args.self.now.project name ≡ [] =
     ap (λ (state : State). asked_of state.project name) (sym c.self.view_is)
     ∙ cond-false (list_any (bytes_eq name) (keys_of held)) _ _
-    (list_any-bad_name (keys_of held) name c.self.invariant.names (λ allowed. false≢true (c.in_err-new.ensures.allowed.1 allowed))) in
+    (list_any-bad_name (keys_of held) name c.self.invariant.formed.roots (λ allowed. false≢true (c.in_err-new.ensures.allowed.1 allowed))) in
     subst (λ (found : Option (Bor KeptRoot)). IfNone found (asked_of c.args.self.now.project name ≡ [])) (sym c.from_residual.ensures) none
 
 pub returns-clause-some : goal.returns-clause-some

@@ -184,17 +184,17 @@ plain_type (plain.Basic b) way = starts (Plain (spell_basic b)) (TypeEnds (Basic
 plain_type (plain.String s) way = string s
 plain_type (plain.Name n) way = starts (Uses way n) [] refl none
 
-type_parts-plain : (p : PlainType) (way : Use) → type_parts_as (data_type.Plain p) way ≡ plain_parts p way
+pub type_parts-plain : (p : PlainType) (way : Use) → type_parts_as (data_type.Plain p) way ≡ plain_parts p way
 unfolding type_parts_as
 type_parts-plain p way = ap (λ (f : Use → Parts). f way)
     (ap (fold-DataType (Use → Parts) (Use → Parts) data_type_step sequence_step) (sym (rolls-Plain p))
     ∙ fold-roll-DataType (Use → Parts) (Use → Parts) data_type_step sequence_step (DataType-F.Plain p))
 
 -- behind the first tokens of a sequence
-abbrev sequence_rest : DataType → Option Expression → Parts
+abbrev pub sequence_rest : DataType → Option Expression → Parts
 sequence_rest t b = type_parts_as t AsElement ++ (limit_parts b ++ punctuation mark.Greater ∷ TypeEnds (Elements (is_some b)) ∷ [])
 
-type_parts-sequence : (t : DataType) (b : Option Expression) (way : Use)
+pub type_parts-sequence : (t : DataType) (b : Option Expression) (way : Use)
     → type_parts_as (made_sequence t b) way ≡ Plain (Word word.Sequence ∷ Punctuation mark.Less ∷ []) ∷ sequence_rest t b
 unfolding type_parts_as
 type_parts-sequence t b way =

@@ -1,0 +1,227 @@
+-- The sites of each unit nest: by its grammar.
+use Rattle.std.proofs.Common.{◌≡◌, ◌∙◌, ℕ, Bool, true, false, List, [], ◌∷◌, ◌++◌, Option, None, Some, append_assoc, flat_map, is_some, refl, sym, ap, subst, arith}
+use Rattle.std.proofs.lemmas.List.{map-append}
+use Rattle.idl_lex.specs.declared.keyword.Keyword.{Keyword}
+use Rattle.idl_lex.specs.declared.keyword.Keyword.TheVariants as word
+use Rattle.idl_lex.specs.declared.mark.Mark.TheVariants as mark
+use Rattle.idl_site.specs.ConstructionParts.{construction_parts, member_parts, member_type_parts}
+use Rattle.idl_site.specs.ExpressionParts.{expression_parts, value_parts}
+use Rattle.idl_site.specs.Item.{item_of, items}
+use Rattle.idl_site.specs.Part.{Part, Parts, Declares, GivesBack, Plain, Says, ScopeBegins, ScopeEnds, TypeEnds, Uses, ValueEnds, declared, if_some, keyword_part, listed, punctuation, raised, used}
+use Rattle.idl_site.specs.TypeParts.{bound_parts, constant_type_parts, declarator_parts, type_parts}
+use Rattle.idl_site.specs.UnitParts.{attribute_names, attribute_names_parts, attribute_parts, bases_parts, constant_parts, context_parts, direction_parts, exception_parts, exceptions_parts, forward_parts, given_back, interface_parts, native_parts, oneway_parts, operation_parts, parameter_parts, raises_parts, readonly_attribute_parts, readonly_names_parts, result_parts, typedef_parts, unit_parts}
+use Rattle.idl_site.specs.declared.site.Declaration.TheVariants as declaration
+use Rattle.idl_site.specs.declared.site.Shape.TheVariants.{Text}
+use Rattle.idl_site.specs.declared.site.Target.TheVariants as purpose
+use Rattle.idl_site.specs.declared.site.Use.{Use}
+use Rattle.idl_site.specs.declared.site.Use.TheVariants.{AsBase, Raised, RaisedBySet}
+use Rattle.idl_tree.specs.Interface.{spell_direction, spell_local}
+use Rattle.idl_tree.specs.Lexeme.{Word, Punctuation}
+use Rattle.idl_tree.specs.declared.attribute.Attribute.{Attribute}
+use Rattle.idl_tree.specs.declared.attribute.AttributeNames.{AttributeNames}
+use Rattle.idl_tree.specs.declared.attribute.AttributeNames.TheVariants as names
+use Rattle.idl_tree.specs.declared.attribute.AttributeRaises.{AttributeRaises}
+use Rattle.idl_tree.specs.declared.attribute.AttributeRaises.TheVariants.{Get, Set}
+use Rattle.idl_tree.specs.declared.attribute.ReadonlyAttribute.{ReadonlyAttribute}
+use Rattle.idl_tree.specs.declared.attribute.ReadonlyNames.{ReadonlyNames}
+use Rattle.idl_tree.specs.declared.attribute.ReadonlyNames.TheVariants as readonly
+use Rattle.idl_tree.specs.declared.data_type.DataType.{DataType}
+use Rattle.idl_tree.specs.declared.interface.Forward.{Forward}
+use Rattle.idl_tree.specs.declared.interface.Forward.TheVariants as forward
+use Rattle.idl_tree.specs.declared.interface.Interface.{Interface}
+use Rattle.idl_tree.specs.declared.name.ScopedName.{ScopedName}
+use Rattle.idl_tree.specs.declared.operation.Direction.{Direction}
+use Rattle.idl_tree.specs.declared.operation.Direction.TheVariants.{In, InOut, Out}
+use Rattle.idl_tree.specs.declared.operation.Operation.{Operation}
+use Rattle.idl_tree.specs.declared.operation.Parameter.{Parameter}
+use Rattle.idl_tree.specs.declared.several.Several.{Several}
+use Rattle.idl_tree.specs.declared.expression.Expression.{Expression}
+use Rattle.idl_tree.specs.declared.unit.Constant.{Constant}
+use Rattle.idl_tree.specs.declared.unit.ConstantType.{ConstantType}
+use Rattle.idl_tree.specs.declared.unit.ConstantType.TheVariants as constant
+use Rattle.idl_tree.specs.declared.unit.Exception.{Exception}
+use Rattle.idl_tree.specs.declared.unit.Tree.{Tree}
+use Rattle.idl_tree.specs.declared.unit.Tree.TheVariants as tree
+use Rattle.idl_tree.specs.declared.unit.Typedef.{Typedef}
+use Rattle.idl_check.proofs.ConstructionNesting.{a_type, constant_type, construction, declarator, member, member_type}
+use Rattle.idl_check.proofs.Nesting.{Around, AreFit, Nests, arounds, arounds-append, before, each, ends, fit-append, follow, is_level_use, maybe, none, one, operands-fit, scope, several}
+use Rattle.idl_check.proofs.Operands.{operand-parts}
+
+-- ---- interfaces
+
+uses : (way : Use) → is_level_use way ≡ true → (ns : Several ScopedName) → Nests (used way ns)
+uses way level ns = several (λ name. Uses way name ∷ []) (λ name. one (Uses way name) level) ns
+
+-- the names of exceptions, behind a keyword
+raising_rest : (way : Use) → is_level_use way ≡ true → (ns : Several ScopedName) → Nests (punctuation mark.OpenParenthesis ∷ (used way ns ++ punctuation mark.CloseParenthesis ∷ []))
+raising_rest way level ns = before (punctuation mark.OpenParenthesis) _ refl (ends (used way ns) (punctuation mark.CloseParenthesis) refl (uses way level ns))
+
+raising : (way : Use) → is_level_use way ≡ true → (keyword : Keyword) (ns : Several ScopedName) → Nests (raised way keyword ns)
+raising way level keyword ns = before (keyword_part keyword) _ refl (raising_rest way level ns)
+
+bases : (is_local : Bool) (ns : Several ScopedName) → Nests (bases_parts is_local ns)
+bases is_local ns = before (punctuation mark.Colon) (used (AsBase is_local) ns) refl (uses (AsBase is_local) refl ns)
+
+interface : (i : Interface) → Nests (interface_parts i)
+interface i =
+    before (Plain (spell_local i.is_local ++ Word word.Interface ∷ [])) _ refl
+    (before (Declares (declaration.Interface i.is_local) i.name) _ refl
+    (ends (if_some (bases_parts i.is_local) i.bases) (punctuation mark.OpenBrace) refl (maybe (bases_parts i.is_local) (bases i.is_local) i.bases)))
+
+ahead : (f : Forward) → Nests (forward_parts f)
+ahead (forward.Interface is_local name) = before (Plain (spell_local is_local ++ Word word.Interface ∷ [])) _ refl (one (Declares (declaration.InterfaceAhead is_local) name) refl)
+ahead (forward.Structure name) = before (keyword_part word.Struct) _ refl (one (Declares declaration.StructureAhead name) refl)
+ahead (forward.Union name) = before (keyword_part word.Union) _ refl (one (Declares declaration.UnionAhead name) refl)
+
+attribute_names_b : (is_readonly : Bool) (ids : Several (List ℕ)) → Nests (attribute_names is_readonly ids)
+attribute_names_b is_readonly ids = several (declared (declaration.Attribute is_readonly)) (λ name. one (Declares (declaration.Attribute is_readonly) name) refl) ids
+
+readonly_names : (n : ReadonlyNames) → Nests (readonly_names_parts n)
+readonly_names (readonly.Raising name ns) = before (Declares (declaration.Attribute true) name) (raised Raised word.Raises ns) refl (raising Raised refl word.Raises ns)
+readonly_names (readonly.Plain ids) = attribute_names_b true ids
+
+readonly_attribute : (a : ReadonlyAttribute) → Nests (readonly_attribute_parts a)
+readonly_attribute a =
+    before (Plain (Word word.Readonly ∷ Word word.Attribute ∷ [])) (type_parts a.kind ++ readonly_names_parts a.names) refl
+    (follow (type_parts a.kind) (readonly_names_parts a.names) (a_type a.kind) (readonly_names a.names))
+
+exceptions : (r : AttributeRaises) → Nests (exceptions_parts r)
+exceptions (Get ns set) =
+    follow (raised Raised word.Getraises ns) (if_some (raised RaisedBySet word.Setraises) set) (raising Raised refl word.Getraises ns)
+    (maybe (raised RaisedBySet word.Setraises) (raising RaisedBySet refl word.Setraises) set)
+exceptions (Set ns) = raising RaisedBySet refl word.Setraises ns
+
+names_of_attributes : (n : AttributeNames) → Nests (attribute_names_parts n)
+names_of_attributes (names.Raising name raises) = before (Declares (declaration.Attribute false) name) (exceptions_parts raises) refl (exceptions raises)
+names_of_attributes (names.Plain ids) = attribute_names_b false ids
+
+attribute : (a : Attribute) → Nests (attribute_parts a)
+attribute a =
+    before (keyword_part word.Attribute) (type_parts a.kind ++ attribute_names_parts a.names) refl
+    (follow (type_parts a.kind) (attribute_names_parts a.names) (a_type a.kind) (names_of_attributes a.names))
+
+oneway : (is_oneway : Bool) → Nests (oneway_parts is_oneway)
+oneway true = one (keyword_part word.Oneway) refl
+oneway false = none
+
+-- what may be given back
+maybe_given : (is_oneway : Bool) (p : Parts) → Nests p → Nests (given_back is_oneway ++ p)
+maybe_given true p n = before GivesBack p refl n
+maybe_given false p n = n
+
+result : (is_oneway : Bool) (t : Option DataType) → Nests (result_parts is_oneway t)
+result is_oneway None = one (keyword_part word.Void) refl
+result is_oneway (Some t) = maybe_given is_oneway (type_parts t) (a_type t)
+
+direction : (is_oneway : Bool) (d : Direction) → Nests (direction_parts is_oneway d)
+direction is_oneway In = one (Plain (spell_direction In)) refl
+direction is_oneway Out = maybe_given is_oneway (Plain (spell_direction Out) ∷ []) (before (Plain (spell_direction Out)) [] refl none)
+direction is_oneway InOut = maybe_given is_oneway (Plain (spell_direction InOut) ∷ []) (before (Plain (spell_direction InOut)) [] refl none)
+
+parameter : (is_oneway : Bool) (p : Parameter) → Nests (parameter_parts is_oneway p)
+parameter is_oneway p =
+    let name = Declares (declaration.Parameter p.direction) p.name in
+    follow (direction_parts is_oneway p.direction) (type_parts p.kind ++ name ∷ []) (direction is_oneway p.direction) (ends (type_parts p.kind) name refl (a_type p.kind))
+
+raises : (is_oneway : Bool) (ns : Several ScopedName) → Nests (raises_parts is_oneway ns)
+raises is_oneway ns =
+    maybe_given is_oneway (raised Raised word.Raises ns)
+    (before (keyword_part word.Raises) (punctuation mark.OpenParenthesis ∷ (used Raised ns ++ punctuation mark.CloseParenthesis ∷ [])) refl (raising_rest Raised refl ns))
+
+context : (texts : Several (Several (List ℕ))) → Nests (context_parts texts)
+context texts =
+    before (Plain (Word word.Context ∷ Punctuation mark.OpenParenthesis ∷ [])) _ refl
+    (ends (listed (λ text. Says text ∷ []) texts) (punctuation mark.CloseParenthesis) refl (several (λ text. Says text ∷ []) (λ text. one (Says text) refl) texts))
+
+-- the parameters and what stands behind them are what stands inside an operation
+inside : (parameters exceptions contexts : Parts) (x y : Part)
+    → (parameters ++ x ∷ (exceptions ++ contexts)) ++ y ∷ [] ≡ parameters ++ x ∷ (exceptions ++ (contexts ++ y ∷ []))
+inside parameters exceptions contexts x y =
+    append_assoc parameters (x ∷ (exceptions ++ contexts)) (y ∷ [])
+    ∙ ap (λ (p : Parts). parameters ++ x ∷ p) (append_assoc exceptions contexts (y ∷ []))
+
+operation : (o : Operation) → Nests (operation_parts o)
+operation o =
+    let way = declaration.Operation o.is_oneway in
+    let parameters = if_some (listed (parameter_parts o.is_oneway)) o.parameters in
+    let exceptions = if_some (raises_parts o.is_oneway) o.raises in
+    let contexts = if_some context_parts o.context in
+    let within : Parts = parameters ++ punctuation mark.CloseParenthesis ∷ (exceptions ++ contexts) in
+    let last : Parts = parameters ++ punctuation mark.CloseParenthesis ∷ (exceptions ++ (contexts ++ ScopeEnds ∷ [])) in
+    let nests : Nests within =
+    follow parameters (punctuation mark.CloseParenthesis ∷ (exceptions ++ contexts)) (maybe (listed (parameter_parts o.is_oneway)) (several (parameter_parts o.is_oneway) (parameter o.is_oneway)) o.parameters)
+    (before (punctuation mark.CloseParenthesis) (exceptions ++ contexts) refl
+    (follow exceptions contexts (maybe (raises_parts o.is_oneway) (raises o.is_oneway) o.raises) (maybe context_parts context o.context))) in
+    let body = scope way o.name (punctuation mark.OpenParenthesis ∷ within) [] refl (before (punctuation mark.OpenParenthesis) within refl nests) none in
+    let name : Parts = Declares way o.name ∷ ScopeBegins way o.name ∷ punctuation mark.OpenParenthesis ∷ last in
+    follow (oneway_parts o.is_oneway) (result_parts o.is_oneway o.result ++ name) (oneway o.is_oneway)
+    (follow (result_parts o.is_oneway o.result) name (result o.is_oneway o.result)
+    (before (Declares way o.name) (ScopeBegins way o.name ∷ punctuation mark.OpenParenthesis ∷ last) refl
+    (subst (λ p. Nests (ScopeBegins way o.name ∷ punctuation mark.OpenParenthesis ∷ p)) (inside parameters exceptions contexts (punctuation mark.CloseParenthesis) ScopeEnds) body)))
+
+-- ---- units
+
+a_typedef : (t : Typedef) → Nests (typedef_parts t)
+a_typedef t =
+    before (keyword_part word.Typedef) (member_type_parts t.kind ++ listed (declarator_parts declaration.Alias) t.declarators) refl
+    (follow (member_type_parts t.kind) (listed (declarator_parts declaration.Alias) t.declarators) (member_type t.kind) (several (declarator_parts declaration.Alias) (declarator declaration.Alias) t.declarators))
+
+an_exception : (e : Exception) → Nests (exception_parts e)
+an_exception e =
+    before (keyword_part word.Exception) _ refl
+    (before (Declares declaration.Exception e.name) _ refl
+    (before (punctuation mark.OpenBrace) _ refl
+    (scope declaration.Exception e.name (flat_map member_parts e.members) (punctuation mark.CloseBrace ∷ []) refl (each member_parts member e.members) (one (punctuation mark.CloseBrace) refl))))
+
+-- ---- a constant: its type is told before its value
+
+text-typed : (p : Parts) (is_wide is_bounded : Bool) (a : Around) → (arounds (items (p ++ TypeEnds (Text is_wide is_bounded) ∷ [])) a).is_typed ≡ true
+text-typed p is_wide is_bounded a =
+    let last : Parts = TypeEnds (Text is_wide is_bounded) ∷ [] in
+    ap (λ xs. (arounds xs a).is_typed) (map-append item_of p last) ∙ ap (λ (b : Around). b.is_typed) (arounds-append (items p) (items last) a)
+
+type-typed : (t : ConstantType) (a : Around) → (arounds (items (constant_type_parts t)) a).is_typed ≡ true
+type-typed (constant.Discrete d) a = refl
+type-typed (constant.String s) a = text-typed (bound_parts s.bound) s.is_wide (is_some s.bound) a
+type-typed (constant.Name n) a = refl
+
+value-fits : (e : Expression) (q : Parts) (a : Around) → a.is_typed ≡ true → AreFit (items q) a → AreFit (items ((expression_parts e ++ ValueEnds purpose.Constant e ∷ []) ++ q)) a
+value-fits e q a typed h =
+    subst (λ p. AreFit (items p) a) (sym (append_assoc (expression_parts e) (ValueEnds purpose.Constant e ∷ []) q))
+    (operands-fit (expression_parts e) (ValueEnds purpose.Constant e ∷ q) (operand-parts e) a (typed, h))
+
+constant-fits : (c : Constant) (a : Around) → AreFit (items (constant_parts c ++ punctuation mark.Semicolon ∷ [])) a
+constant-fits c a =
+    let q : Parts = punctuation mark.Semicolon ∷ [] in
+    let told : Parts = Declares declaration.Constant c.name ∷ punctuation mark.Equals ∷ value_parts purpose.Constant c.value in
+    let types = constant_type_parts c.kind in
+    let b = arounds (items types) a in
+    let rest : AreFit (items (told ++ q)) b = (tt, (tt, (tt, value-fits c.value q b (type-typed c.kind a) (tt, tt)))) in (
+      tt,
+      subst (λ p. AreFit (items p) a) (sym (append_assoc types told q))
+          (subst (λ xs. AreFit xs a) (sym (map-append item_of types (told ++ q))) (fit-append (items types) (items (told ++ q)) a ((constant_type c.kind).fit a (omega arith)) rest)),
+    )
+
+-- ---- units
+
+semicolon : (p : Parts) → Nests p → Nests (p ++ punctuation mark.Semicolon ∷ [])
+semicolon p n = ends p (punctuation mark.Semicolon) refl n
+
+fits : (p : Parts) → Nests p → (a : Around) → AreFit (items p) a
+fits p n a = n.fit a (omega arith)
+
+-- whatever stands around, each scope that ends in a unit begins in it, and the type of each expression is known
+pub unit-fits : (t : Tree) (a : Around) → AreFit (items (unit_parts t)) a
+unfolding unit_parts
+unit-fits tree.Closing = fits _ (one (Plain (Punctuation mark.CloseBrace ∷ Punctuation mark.Semicolon ∷ [])) refl)
+unit-fits (tree.Module name) = fits _ (before (keyword_part word.Module) _ refl (before (Declares declaration.Module name) _ refl (one (punctuation mark.OpenBrace) refl)))
+unit-fits (tree.Interface i) = fits (interface_parts i) (interface i)
+unit-fits (tree.Forward f) = fits _ (semicolon (forward_parts f) (ahead f))
+unit-fits (tree.Typedef t) = fits _ (semicolon (typedef_parts t) (a_typedef t))
+unit-fits (tree.Construction c) = fits _ (semicolon (construction_parts c) (construction c))
+unit-fits (tree.Native name) = fits _ (semicolon (native_parts name) (before (keyword_part word.Native) _ refl (one (Declares declaration.Native name) refl)))
+unit-fits (tree.Constant c) = constant-fits c
+unit-fits (tree.Exception e) = fits _ (semicolon (exception_parts e) (an_exception e))
+unit-fits (tree.ReadonlyAttribute a) = fits _ (semicolon (readonly_attribute_parts a) (readonly_attribute a))
+unit-fits (tree.Attribute a) = fits _ (semicolon (attribute_parts a) (attribute a))
+unit-fits (tree.Operation o) = fits _ (semicolon (operation_parts o) (operation o))
