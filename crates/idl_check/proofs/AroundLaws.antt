@@ -44,7 +44,7 @@ use Rattle.idl_tree.specs.declared.name.ScopedName.{ScopedName}
 use Rattle.idl_unit.specs.TokenRules.{fault_at, first}
 use Rattle.idl_value.specs.declared.target.Target.{Target}
 use Rattle.idl_value.specs.declared.value.Value.{Value}
-use Rattle.idl_check.proofs.Nesting.{Around, around_after, has_constants, is_inside, opens_union, popped, used_around}
+use Rattle.idl_check.proofs.LevelSites.{Around, around_after, has_constants, is_inside, opens_union, popped, used_around}
 use Rattle.idl_check.proofs.PartLemmas.{IsUpTo}
 use Rattle.idl_check.proofs.SiteLaws.{declared_by, denoted-up, end_visit, named_by, union_visit, used_by, visited}
 

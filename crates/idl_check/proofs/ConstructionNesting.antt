@@ -1,5 +1,5 @@
 -- The sites of types, declarators and constructions nest: by their grammar.
-use Rattle.std.proofs.Common.{◌≡◌, ℕ, true, List, [], ◌∷◌, ◌++◌, Option, None, Some, append_assoc, flat_map, is_some, map, refl, sym, subst}
+use Rattle.std.proofs.Common.{◌≡◌, ℕ, true, false, List, [], ◌∷◌, ◌++◌, Option, None, Some, append_assoc, flat_map, is_some, map, refl, sym, subst}
 use Rattle.idl_lex.specs.declared.keyword.Keyword.TheVariants as word
 use Rattle.idl_lex.specs.declared.mark.Mark.TheVariants as mark
 use Rattle.idl_site.proofs.ConstructionEquations.{case_parts-made, construction_parts-enumeration, construction_parts-structure, construction_parts-union, member_parts-made, member_type_parts-construction, member_type_parts-type, structure_parts-made, union_brace, union_parts-made}
@@ -47,7 +47,8 @@ use Rattle.idl_tree.specs.declared.several.Several.{Several}
 use Rattle.idl_tree.specs.declared.unit.ConstantType.{ConstantType}
 use Rattle.idl_tree.specs.declared.unit.ConstantType.TheVariants as constant
 use Rattle.idl_check.proofs.BracketLemmas.{sequence_rest, type_parts-plain, type_parts-sequence}
-use Rattle.idl_check.proofs.Nesting.{Nests, NestsIn, at_least, before, before_in, discriminated, each, ends, expression, follow, follow_in, is_level_use, label_value, lifted, many, none, one, scope, several, union_scope}
+use Rattle.idl_check.proofs.Nesting.{Nests, NestsAt, NestsIn, at_least, before, before_in, carry, declares, discriminated, each, ends, expression, follow, follow_in, label_value, lifted, many, none, one, scope, several, union_scope}
+use Rattle.idl_check.proofs.LevelSites.{is_declared_at, is_level_use}
 
 -- ---- types
 
@@ -111,9 +112,9 @@ an_array : (lengths : List Expression) → Nests (array_end lengths)
 an_array [] = none
 an_array (e ∷ lengths) = one ArrayEnds refl
 
-pub declarator : (way : Declaration) (d : Declarator) → Nests (declarator_parts way d)
-declarator way d =
-    before (Declares way d.name) (flat_map length_parts d.lengths ++ array_end d.lengths) refl
+pub declarator : (way : Declaration) → is_declared_at false way ≡ true → (d : Declarator) → Nests (declarator_parts way d)
+declarator way inner d =
+    before (Declares way d.name) (flat_map length_parts d.lengths ++ array_end d.lengths) inner
     (follow (flat_map length_parts d.lengths) (array_end d.lengths) (each length_parts a_length d.lengths) (an_array d.lengths))
 
 -- ---- constructions
@@ -158,12 +159,12 @@ a_member kind ds h =
     let declarators = listed (declarator_parts declaration.Member) ds in
     subst Nests (sym (member_parts-made kind ds))
     (follow (member_type_parts kind) (declarators ++ punctuation mark.Semicolon ∷ []) h
-    (ends declarators (punctuation mark.Semicolon) refl (several (declarator_parts declaration.Member) (declarator declaration.Member) ds)))
+    (ends declarators (punctuation mark.Semicolon) refl (several (declarator_parts declaration.Member) (declarator declaration.Member refl) ds)))
 
 a_case : (labels : Several Label) (kind : MemberType) (d : Declarator) → MemberTypes kind → Cases (made_case labels kind d)
 a_case labels kind d h =
     let last = declarator_parts declaration.Member d ++ punctuation mark.Semicolon ∷ [] in
-    let behind = follow (member_type_parts kind) last h (ends (declarator_parts declaration.Member d) (punctuation mark.Semicolon) refl (declarator declaration.Member d)) in
+    let behind = follow (member_type_parts kind) last h (ends (declarator_parts declaration.Member d) (punctuation mark.Semicolon) refl (declarator declaration.Member refl d)) in
     subst (NestsIn 1) (sym (case_parts-made labels kind d))
     (follow_in 1 (all_parts label_parts labels) (member_type_parts kind ++ last) (at_least 1 label_parts a_label labels) (lifted 1 (member_type_parts kind ++ last) behind))
 
@@ -181,9 +182,9 @@ a_structure name m ms =
     let body = scope declaration.Structure name (member_parts m.0 ++ rest) brace refl (follow (member_parts m.0) rest m.1 (many 0 member_parts (λ s. s.0) (λ s. s.1) ms)) (one (punctuation mark.CloseBrace) refl) in
     subst Nests (sym (structure_parts-made name m.0 (map (λ s. s.0) ms)))
     (before (keyword_part word.Struct) _ refl
-    (before (Declares declaration.Structure name) _ refl
-    (before (punctuation mark.OpenBrace) (ScopeBegins declaration.Structure name ∷ (member_parts m.0 ++ (rest ++ ScopeEnds ∷ brace))) refl
-    (subst (λ p. Nests (ScopeBegins declaration.Structure name ∷ p)) (inside (member_parts m.0) rest) body))))
+    (declares declaration.Structure name _ refl refl
+    (carry (Punctuation mark.OpenBrace ∷ []) (ScopeBegins declaration.Structure name ∷ (member_parts m.0 ++ (rest ++ ScopeEnds ∷ brace)))
+    (subst (λ p. NestsAt (Some name) false 0 (ScopeBegins declaration.Structure name ∷ p)) (inside (member_parts m.0) rest) body))))
 
 a_union : (name : List ℕ) (d : Discriminator) (c : Such Cases) (cs : List (Such Cases)) → Unions (made_union name d c.0 (map (λ s. s.0) cs))
 a_union name d c cs =
@@ -191,9 +192,9 @@ a_union name d c cs =
     let body = union_scope name (case_parts c.0 ++ rest) brace (follow_in 1 (case_parts c.0) rest c.1 (many 1 case_parts (λ s. s.0) (λ s. s.1) cs)) (one (punctuation mark.CloseBrace) refl) in
     subst Nests (sym (union_parts-made name d c.0 (map (λ s. s.0) cs)))
     (before (keyword_part word.Union) _ refl
-    (before (Declares declaration.Union name) _ refl
-    (before (Plain (Word word.Switch ∷ Punctuation mark.OpenParenthesis ∷ [])) (discriminator_parts d ++ (union_brace name ++ (case_parts c.0 ++ (rest ++ ScopeEnds ∷ brace)))) refl
-    (subst (λ p. Nests (discriminator_parts d ++ (union_brace name ++ p))) (inside (case_parts c.0) rest) (discriminated d name ((case_parts c.0 ++ rest) ++ ScopeEnds ∷ brace) body)))))
+    (declares declaration.Union name _ refl refl
+    (carry (Word word.Switch ∷ Punctuation mark.OpenParenthesis ∷ []) (discriminator_parts d ++ (union_brace name ++ (case_parts c.0 ++ (rest ++ ScopeEnds ∷ brace))))
+    (subst (λ p. NestsAt (Some name) false 0 (discriminator_parts d ++ (union_brace name ++ p))) (inside (case_parts c.0) rest) (discriminated d name ((case_parts c.0 ++ rest) ++ ScopeEnds ∷ brace) body)))))
 
 by_construction : (y : Construction-F (Such Constructions) (Such MemberTypes) (Such Cases) (Such Members) (Such Structures) (Such Unions))
     → Constructions (roll-Construction (map-Construction (Such Constructions) (Such MemberTypes) (Such Cases) (Such Members) (Such Structures) (Such Unions)

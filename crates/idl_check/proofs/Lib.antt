@@ -13,6 +13,8 @@ pub mod LeastFault
 pub mod LeastLaws
 mod MoreTurns
 mod NameLemmas
+mod Scenes
+mod LevelSites
 mod Nesting
 mod NotedLemmas
 pub mod NumberLaws
@@ -33,6 +35,19 @@ mod TypeLemmas
 pub mod UnitBracketing
 mod UnitNesting
 mod ValuedLaws
+mod ReachedLaws
+mod SettledLaws
+mod TurnedLaws
+mod ClosingLaws
+mod FittingLaws
+mod GrowingLaws
+mod StandingLaws
+mod WalkingLaws
+mod WalkedLaws
+mod OpeningLaws
+mod LoneLaws
+mod NamedTokens
+mod SoundLaws
 pub mod VerdictLaws
 pub mod VisitFaults
 mod VisitLemmas

@@ -1,201 +1,58 @@
 -- How unions and scopes nest in a unit: parts that leave what stands around them as it is.
-use Rattle.std.proofs.Common.{◌≡◌, ◌∙◌, ℕ, ◌+◌, ◌-◌, ◌≤◌, Bool, true, false, List, [], ◌∷◌, ◌++◌, Option, None, Some, flat_map, map, refl, sym, ap, subst, arith}
+use Rattle.std.proofs.Common.{◌≡◌, ◌∙◌, ℕ, suc, ◌+◌, ◌-◌, ◌≤◌, Bool, true, false, List, [], ◌∷◌, ◌++◌, Option, None, Some, flat_map, map, refl, sym, ap, subst, arith}
 use Rattle.std.proofs.lemmas.List.{map-append}
 use Rattle.std.proofs.lemmas.List.Elements.{All-head, All-tail}
 use Rattle.std.specs.Prelude.{All}
+use Rattle.idl_check.proofs.Scenes.{ArePlaced, AtTop, IsFrom, Scene, last_named, placed-append, scene_after, scenes, scenes-append}
+use Rattle.idl_check.proofs.LevelSites.{AreFit, AreSame, Around, around_after, arounds, arounds-append, fit-append, fit-level, is_declared_at, is_inside, is_level, is_level_at, is_level_value, level-at, opens_union, placed-level, popped, same-here, same-level, scene-level}
+use Rattle.idl_tree.specs.Lexeme.{Lexemes}
 use Rattle.idl_lex.specs.declared.mark.Mark.TheVariants as mark
 use Rattle.idl_site.specs.ConstructionParts.{discriminator_parts}
 use Rattle.idl_site.specs.ExpressionParts.{expression_parts, value_parts}
 use Rattle.idl_site.specs.Item.{Item, item_of, items}
-use Rattle.idl_site.specs.Part.{Part, Parts, ScopeBegins, ScopeEnds, ValueBegins, ValueEnds, all_parts, if_some, listed, punctuation}
+use Rattle.idl_site.specs.Part.{Part, Parts, Declares, Plain, ScopeBegins, ScopeEnds, ValueBegins, ValueEnds, all_parts, if_some, listed, punctuation}
 use Rattle.idl_site.proofs.ConstructionEquations.{union_brace}
 use Rattle.idl_site.specs.declared.site.Declaration.{Declaration}
 use Rattle.idl_site.specs.declared.site.Declaration.TheVariants as declaration
-use Rattle.idl_site.specs.declared.site.Shape.{Shape}
-use Rattle.idl_site.specs.declared.site.Shape.TheVariants.{Basic, Text, Sequence as Elements}
 use Rattle.idl_site.specs.declared.site.Target.{Target as Purpose}
 use Rattle.idl_site.specs.declared.site.Target.TheVariants as purpose
-use Rattle.idl_site.specs.declared.site.Use.{Use}
 use Rattle.idl_site.specs.declared.site.Use.TheVariants.{AsBase, AsType, AsElement, AsConstantType, AsDiscriminator, AsOperand, Raised, RaisedBySet}
 use Rattle.idl_tree.specs.declared.construction.Discriminator.{Discriminator}
 use Rattle.idl_tree.specs.declared.construction.Discriminator.TheVariants as discriminator
-use Rattle.idl_tree.specs.declared.data_type.BasicType.{BasicType}
-use Rattle.idl_tree.specs.declared.data_type.BasicType.TheVariants.{Discrete}
 use Rattle.idl_tree.specs.declared.expression.Expression.{Expression}
 use Rattle.idl_tree.specs.declared.several.Several.{Several}
 use Rattle.idl_check.proofs.Operands.{is_operand, operand-parts}
 
--- ---- what stands around a site
-
--- how many unions are open whose labels may come, which of the scopes that have begun are those of unions, the innermost first, and
--- whether the type of the next constant is written
-pub record Around : Type 0 where
-  pub unions : ℕ
-  pub scopes : List Bool
-  pub is_typed : Bool
-
-abbrev pub opens_union : Declaration → Bool
-opens_union declaration.Union = true
-opens_union declaration.UnionAhead = true
-opens_union other = false
-
-abbrev pub is_inside : List Bool → Bool
-is_inside [] = false
-is_inside (s ∷ scopes) = true
-
--- behind the end of the innermost of these scopes
-abbrev pub popped : List Bool → Around → Around
-popped [] a = a
-popped (true ∷ scopes) a = record a { unions = a.unions - 1; scopes = scopes }
-popped (false ∷ scopes) a = record a { scopes = scopes }
-
-abbrev pub is_discrete : BasicType → Bool
-is_discrete (Discrete d) = true
-is_discrete other = false
-
--- whether constants are of a type
-abbrev pub has_constants : Shape → Bool
-has_constants (Basic b) = is_discrete b
-has_constants (Text is_wide is_bounded) = true
-has_constants (Elements is_bounded) = false
-
-abbrev pub used_around : Use → Around → Around
-used_around AsDiscriminator a = record a { unions = a.unions + 1 }
-used_around AsConstantType a = record a { is_typed = true }
-used_around other a = a
-
-abbrev pub around_after : Item → Around → Around
-around_after (Item.Used way name) a = used_around way a
-around_after (Item.ScopeBegins way name) a = record a { scopes = opens_union way ∷ a.scopes }
-around_after Item.ScopeEnds a = popped a.scopes a
-around_after (Item.TypeEnds shape) a = record a { is_typed = has_constants shape }
-around_after (Item.Switches discrete) a = record a { unions = a.unions + 1 }
-around_after other a = a
-
--- the type is known of an expression that is for this
-abbrev pub IsKnown : Purpose → Around → Type 0
-IsKnown purpose.Constant a = a.is_typed ≡ true
-IsKnown purpose.Label a = 1 ≤ a.unions
-IsKnown other a = Unit {0}
-
--- it is so at the end of each expression, and the scope that ends has begun
-abbrev pub IsFit : Item → Around → Type 0
-IsFit (Item.ValueEnds way e) a = IsKnown way a
-IsFit Item.ScopeEnds a = is_inside a.scopes ≡ true
-IsFit other a = Unit {0}
-
-abbrev pub AreFit : List Item → Around → Type 0
-AreFit [] a = Unit {0}
-AreFit (site ∷ sites) a = IsFit site a × AreFit sites (around_after site a)
-
-abbrev pub arounds : List Item → Around → Around
-arounds [] a = a
-arounds (site ∷ sites) a = arounds sites (around_after site a)
-
-pub fit-append : (xs ys : List Item) (a : Around) → AreFit xs a → AreFit ys (arounds xs a) → AreFit (xs ++ ys) a
-fit-append [] ys a h k = k
-fit-append (x ∷ xs) ys a h k = (h.0, fit-append xs ys (around_after x a) h.1 k)
-
-pub arounds-append : (xs ys : List Item) (a : Around) → arounds (xs ++ ys) a ≡ arounds ys (arounds xs a)
-arounds-append [] ys a = refl
-arounds-append (x ∷ xs) ys a = arounds-append xs ys (around_after x a)
-
--- ---- sites at which nothing begins or ends around
-
-abbrev pub is_level_use : Use → Bool
-is_level_use AsDiscriminator = false
-is_level_use other = true
-
-abbrev pub is_level_value : Purpose → Bool
-is_level_value purpose.Constant = false
-is_level_value purpose.Label = false
-is_level_value other = true
-
-abbrev pub is_level : Item → Bool
-is_level (Item.Used way name) = is_level_use way
-is_level (Item.ValueEnds way e) = is_level_value way
-is_level (Item.ScopeBegins way name) = false
-is_level Item.ScopeEnds = false
-is_level (Item.Switches discrete) = false
-is_level other = true
-
--- the same unions and scopes
-pub record AreSame (a b : Around) : Type 0 where
-  pub unions : b.unions ≡ a.unions
-  pub scopes : b.scopes ≡ a.scopes
-
-same-here : (a : Around) → AreSame a a
-same-here a = record { unions = refl; scopes = refl }
-
-same-used : (way : Use) (a : Around) → is_level_use way ≡ true → AreSame a (used_around way a)
-same-used (AsBase is_local) a h = same-here a
-same-used AsType a h = same-here a
-same-used AsElement a h = same-here a
-same-used AsConstantType a h = record { unions = refl; scopes = refl }
-same-used AsDiscriminator a h = cc
-same-used AsOperand a h = same-here a
-same-used Raised a h = same-here a
-same-used RaisedBySet a h = same-here a
-
-same-level : (x : Item) (a : Around) → is_level x ≡ true → AreSame a (around_after x a)
-same-level (Item.Tokens n) a h = same-here a
-same-level (Item.Declared way name) a h = same-here a
-same-level (Item.Used way name) a h = same-used way a h
-same-level (Item.Joined text) a h = same-here a
-same-level Item.ValueBegins a h = same-here a
-same-level (Item.ValueEnds way e) a h = same-here a
-same-level (Item.ScopeBegins way name) a h = cc
-same-level Item.ScopeEnds a h = cc
-same-level (Item.TypeEnds shape) a h = record { unions = refl; scopes = refl }
-same-level Item.ArrayEnds a h = same-here a
-same-level (Item.Enumerates names) a h = same-here a
-same-level (Item.Switches discrete) a h = cc
-same-level Item.Default a h = same-here a
-same-level Item.GivesBack a h = same-here a
-
-known-level : (way : Purpose) (a : Around) → is_level_value way ≡ true → IsKnown way a
-known-level purpose.Bound a h = tt
-known-level purpose.Constant a h = cc
-known-level purpose.Length a h = tt
-known-level purpose.Label a h = cc
-
-fit-level : (x : Item) (a : Around) → is_level x ≡ true → IsFit x a
-fit-level (Item.Tokens n) a h = tt
-fit-level (Item.Declared way name) a h = tt
-fit-level (Item.Used way name) a h = tt
-fit-level (Item.Joined text) a h = tt
-fit-level Item.ValueBegins a h = tt
-fit-level (Item.ValueEnds way e) a h = known-level way a h
-fit-level (Item.ScopeBegins way name) a h = cc
-fit-level Item.ScopeEnds a h = cc
-fit-level (Item.TypeEnds shape) a h = tt
-fit-level Item.ArrayEnds a h = tt
-fit-level (Item.Enumerates names) a h = tt
-fit-level (Item.Switches discrete) a h = cc
-fit-level Item.Default a h = tt
-fit-level Item.GivesBack a h = tt
-
 -- ---- parts, one after another
 
--- parts that fit where so many unions are open, and leave the unions and scopes around as they are
-pub record NestsIn (need : ℕ) (p : Parts) : Type 0 where
+-- parts that fit where so many unions are open, and leave the unions and scopes around as they are; behind this name, if they need one
+pub record NestsAt (behind : Option (List ℕ)) (top : Bool) (need : ℕ) (p : Parts) : Type 0 where
   pub fit : (a : Around) → need ≤ a.unions → AreFit (items p) a
   pub same : (a : Around) → AreSame a (arounds (items p) a)
+  pub placed : (s : Scene) → IsFrom behind s → AtTop top s → ArePlaced (items p) s
+  pub level : (s : Scene) → (scenes (items p) s).level ≡ s.level
+
+abbrev pub NestsIn : ℕ → Parts → Type 0
+NestsIn need p = NestsAt None false need p
 
 abbrev pub Nests : Parts → Type 0
 Nests p = NestsIn 0 p
 
 -- and so where more are open
 pub lifted : (need : ℕ) (p : Parts) → Nests p → NestsIn need p
-lifted need p n = record { fit = λ a h. n.fit a (omega arith); same = n.same }
+lifted need p n = record { fit = λ a h. n.fit a (omega arith); same = n.same; placed = n.placed; level = n.level }
 
-pub none_in : (need : ℕ) → NestsIn need []
-none_in need = record { fit = λ a h. tt; same = same-here }
+-- and so in no scope
+pub topped : (p : Parts) → Nests p → NestsAt None true 0 p
+topped p n = record { fit = n.fit; same = n.same; placed = λ s from at. n.placed s from (λ h. cc); level = n.level }
 
-pub none : Nests []
+pub none_in : {top : Bool} (need : ℕ) → NestsAt None top need []
+none_in need = record { fit = λ a h. tt; same = same-here; placed = λ s from at. tt; level = λ s. refl }
+
+pub none : {top : Bool} → NestsAt None top 0 []
 none = none_in 0
 
-pub follow_in : (need : ℕ) (p q : Parts) → NestsIn need p → NestsIn need q → NestsIn need (p ++ q)
+pub follow_in : {behind : Option (List ℕ)} {top : Bool} (need : ℕ) (p q : Parts) → NestsAt behind top need p → NestsAt None top need q → NestsAt behind top need (p ++ q)
 follow_in need p q m n =
     let sites = map-append item_of p q in
     record {
@@ -206,31 +63,54 @@ follow_in need p q m n =
           λ a. let b = arounds (items p) a in
           subst (AreSame a) (sym (ap (λ xs. arounds xs a) sites ∙ arounds-append (items p) (items q) a))
           (record { unions = (n.same b).unions ∙ (m.same a).unions; scopes = (n.same b).scopes ∙ (m.same a).scopes });
+      placed =
+          λ s from at. subst (λ xs. ArePlaced xs s) (sym sites)
+          (placed-append (items p) (items q) s (m.placed s from at) (n.placed (scenes (items p) s) tt (λ h. m.level s ∙ at h)));
+      level =
+          λ s. ap (λ xs. (scenes xs s).level) sites ∙ ap (λ (t : Scene). t.level) (scenes-append (items p) (items q) s)
+          ∙ n.level (scenes (items p) s) ∙ m.level s;
     }
 
-pub follow : (p q : Parts) → Nests p → Nests q → Nests (p ++ q)
-follow = follow_in 0
+pub follow : {behind : Option (List ℕ)} {top : Bool} (p q : Parts) → NestsAt behind top 0 p → NestsAt None top 0 q → NestsAt behind top 0 (p ++ q)
+follow p q m n = follow_in 0 p q m n
 
-pub before_in : (need : ℕ) (x : Part) (p : Parts) → is_level (item_of x) ≡ true → NestsIn need p → NestsIn need (x ∷ p)
-before_in need x p level n =
+pub before_in : {top : Bool} (need : ℕ) (x : Part) (p : Parts) → is_level_at top (item_of x) ≡ true → NestsAt None top need p → NestsAt None top need (x ∷ p)
+before_in {top} need x p at n =
     let site = item_of x in
+    let level = level-at top site at in
     record {
       fit = λ a h. (fit-level site a level, n.fit (around_after site a) (let e = (same-level site a level).unions in omega (arith, e, h)));
       same =
           λ a. let b = around_after site a in
           record { unions = (n.same b).unions ∙ (same-level site a level).unions; scopes = (n.same b).scopes ∙ (same-level site a level).scopes };
+      placed = λ s from t. (placed-level top site s at t, n.placed (scene_after site s) tt (λ h. scene-level site s level ∙ t h));
+      level = λ s. n.level (scene_after site s) ∙ scene-level site s level;
     }
 
-pub before : (x : Part) (p : Parts) → is_level (item_of x) ≡ true → Nests p → Nests (x ∷ p)
-before = before_in 0
+pub before : {top : Bool} (x : Part) (p : Parts) → is_level_at top (item_of x) ≡ true → NestsAt None top 0 p → NestsAt None top 0 (x ∷ p)
+before x p h n = before_in 0 x p h n
 
-pub one : (x : Part) → is_level (item_of x) ≡ true → Nests (x ∷ [])
+-- a name, before what stands behind it
+pub declares : {top : Bool} (way : Declaration) (name : List ℕ) (p : Parts) → is_declared_at top way ≡ true → last_named way name ≡ Some name
+    → NestsAt (Some name) top 0 p → NestsAt None top 0 (Declares way name ∷ p)
+declares {top} way name p at last n = record {
+  fit = λ a h. (tt, n.fit a h);
+  same = λ a. n.same a;
+  placed = λ s from t. (placed-level top (Item.Declared way name) s at t, n.placed (record s { last = last_named way name }) last t);
+  level = λ s. n.level (record s { last = last_named way name });
+}
+
+-- tokens between a name and what stands behind it
+pub carry : {behind : Option (List ℕ)} {top : Bool} (words : Lexemes) (p : Parts) → NestsAt behind top 0 p → NestsAt behind top 0 (Plain words ∷ p)
+carry words p n = record { fit = λ a h. (tt, n.fit a h); same = λ a. n.same a; placed = λ s from t. (tt, n.placed s from t); level = λ s. n.level s }
+
+pub one : {top : Bool} (x : Part) → is_level_at top (item_of x) ≡ true → NestsAt None top 0 (x ∷ [])
 one x h = before x [] h none
 
-pub ends : (p : Parts) (x : Part) → is_level (item_of x) ≡ true → Nests p → Nests (p ++ x ∷ [])
+pub ends : {behind : Option (List ℕ)} {top : Bool} (p : Parts) (x : Part) → is_level_at top (item_of x) ≡ true → NestsAt behind top 0 p → NestsAt behind top 0 (p ++ x ∷ [])
 ends p x h n = follow p (x ∷ []) n (one x h)
 
-pub each : {X : Type 0} (f : X → Parts) → ((x : X) → Nests (f x)) → (xs : List X) → Nests (flat_map f xs)
+pub each : {top : Bool} {X : Type 0} (f : X → Parts) → ((x : X) → NestsAt None top 0 (f x)) → (xs : List X) → NestsAt None top 0 (flat_map f xs)
 each f n [] = none
 each f n (x ∷ xs) = follow (f x) (flat_map f xs) (n x) (each f n xs)
 
@@ -245,7 +125,7 @@ each_in need f n (x ∷ xs) = follow_in need (f x) (flat_map f xs) (n x) (each_i
 pub at_least : {X : Type 0} (need : ℕ) (f : X → Parts) → ((x : X) → NestsIn need (f x)) → (xs : Several X) → NestsIn need (all_parts f xs)
 at_least need f n xs = follow_in need (f xs.first) (flat_map f xs.rest) (n xs.first) (each_in need f n xs.rest)
 
-pub several : {X : Type 0} (f : X → Parts) → ((x : X) → Nests (f x)) → (xs : Several X) → Nests (listed f xs)
+pub several : {top : Bool} {X : Type 0} (f : X → Parts) → ((x : X) → NestsAt None top 0 (f x)) → (xs : Several X) → NestsAt None top 0 (listed f xs)
 several f n xs =
     follow (f xs.first) (flat_map (λ x. punctuation mark.Comma ∷ f x) xs.rest) (n xs.first)
     (each (λ x. punctuation mark.Comma ∷ f x) (λ x. before (punctuation mark.Comma) (f x) refl (n x)) xs.rest)
@@ -279,10 +159,33 @@ level-operand (Item.Switches discrete) h = cc
 level-operand Item.Default h = cc
 level-operand Item.GivesBack h = cc
 
+at-operand : (x : Item) → is_operand x ≡ true → is_level_at false x ≡ true
+at-operand (Item.Tokens n) h = refl
+at-operand (Item.Used AsOperand name) h = refl
+at-operand (Item.Used (AsBase is_local) name) h = refl
+at-operand (Item.Used AsType name) h = refl
+at-operand (Item.Used AsElement name) h = refl
+at-operand (Item.Used AsConstantType name) h = refl
+at-operand (Item.Used AsDiscriminator name) h = cc
+at-operand (Item.Used Raised name) h = refl
+at-operand (Item.Used RaisedBySet name) h = refl
+at-operand (Item.Declared way name) h = cc
+at-operand (Item.Joined text) h = cc
+at-operand Item.ValueBegins h = cc
+at-operand (Item.ValueEnds way e) h = cc
+at-operand (Item.ScopeBegins way name) h = cc
+at-operand Item.ScopeEnds h = cc
+at-operand (Item.TypeEnds shape) h = cc
+at-operand Item.ArrayEnds h = cc
+at-operand (Item.Enumerates names) h = cc
+at-operand (Item.Switches discrete) h = cc
+at-operand Item.Default h = cc
+at-operand Item.GivesBack h = cc
+
 operands-nest : (need : ℕ) (p q : Parts) → All (λ x. is_operand (item_of x) ≡ true) p → NestsIn need q → NestsIn need (p ++ q)
 operands-nest need [] q all n = n
 operands-nest need (x ∷ p) q all n =
-    before_in need x (p ++ q) (level-operand (item_of x) (All-head (λ x. is_operand (item_of x) ≡ true) x p all))
+    before_in need x (p ++ q) (at-operand (item_of x) (All-head (λ x. is_operand (item_of x) ≡ true) x p all))
     (operands-nest need p q (All-tail (λ x. is_operand (item_of x) ≡ true) x p all) n)
 
 around-operand : (x : Item) (a : Around) → is_operand x ≡ true → around_after x a ≡ a
@@ -322,6 +225,13 @@ operands-fit (x ∷ p) q all a h =
       subst (AreFit (items (p ++ q))) (sym (around-operand (item_of x) a operand)) (operands-fit p q (All-tail (λ x. is_operand (item_of x) ≡ true) x p all) a h),
     )
 
+pub operands-placed : (p q : Parts) → All (λ x. is_operand (item_of x) ≡ true) p → (s : Scene) → ((t : Scene) → ArePlaced (items q) t) → ArePlaced (items (p ++ q)) s
+operands-placed [] q all s h = h s
+operands-placed (x ∷ p) q all s h = (
+  placed-level false (item_of x) s (at-operand (item_of x) (All-head (λ x. is_operand (item_of x) ≡ true) x p all)) (λ h. cc),
+  operands-placed p q (All-tail (λ x. is_operand (item_of x) ≡ true) x p all) (scene_after (item_of x) s) h,
+)
+
 -- a whole one, where its end nests
 valued : (need : ℕ) (way : Purpose) (e : Expression) → NestsIn need (ValueEnds way e ∷ []) → NestsIn need (value_parts way e)
 valued need way e n = before_in need ValueBegins (expression_parts e ++ ValueEnds way e ∷ []) refl (operands-nest need (expression_parts e) (ValueEnds way e ∷ []) (operand-parts e) n)
@@ -330,7 +240,7 @@ pub expression : (way : Purpose) (e : Expression) → is_level_value way ≡ tru
 expression way e h = valued 0 way e (one (ValueEnds way e) h)
 
 pub label_value : (e : Expression) → NestsIn 1 (value_parts purpose.Label e)
-label_value e = valued 1 purpose.Label e (record { fit = λ a h. (h, tt); same = same-here })
+label_value e = valued 1 purpose.Label e (record { fit = λ a h. (h, tt); same = same-here; placed = λ s from at. (tt, tt); level = λ s. refl })
 
 -- ---- scopes
 
@@ -383,24 +293,52 @@ module _ (need : ℕ) (way : Declaration) (name : List ℕ) (p q : Parts) (n : N
       let back = popped-union (last a).scopes (last a) a.scopes (last-scopes a ∙ ap (λ s. s ∷ a.scopes) union) in
       (back.0 ∙ ap (λ k. k - 1) (n.same (begun a)).unions, back.1)
 
+  abbrev begun_scene : Scene → Scene
+  begun_scene s = record { level = suc s.level; last = None }
+
+  abbrev behind_scene : Scene → Scene
+  behind_scene s = record { level = (scenes (items p) (begun_scene s)).level - 1; last = None }
+
+  scoped-placed : (s : Scene) → s.last ≡ Some name → ArePlaced (items q) (behind_scene s) → ArePlaced (items scoped) s
+  scoped-placed s from k = (
+    from,
+    subst (λ xs. ArePlaced xs (begun_scene s)) (sym (map-append item_of p (ScopeEnds ∷ q)))
+        (placed-append (items p) (items (ScopeEnds ∷ q)) (begun_scene s) (n.placed (begun_scene s) tt (λ h. cc)) (let e = n.level (begun_scene s) in omega (arith, e), k)),
+  )
+
+  behind-level : (s : Scene) → (behind_scene s).level ≡ s.level
+  behind-level s = let e = n.level (begun_scene s) in omega (arith, e)
+
+  scoped-level : ((t : Scene) → (scenes (items q) t).level ≡ t.level) → (s : Scene) → (scenes (items scoped) s).level ≡ s.level
+  scoped-level k s =
+      ap (λ xs. (scenes xs (begun_scene s)).level) (map-append item_of p (ScopeEnds ∷ q))
+      ∙ ap (λ (t : Scene). t.level) (scenes-append (items p) (items (ScopeEnds ∷ q)) (begun_scene s))
+      ∙ k (behind_scene s) ∙ behind-level s
+
 -- a scope that is no union's
-pub scope : (way : Declaration) (name : List ℕ) (p q : Parts) → opens_union way ≡ false → Nests p → Nests q → Nests (ScopeBegins way name ∷ (p ++ ScopeEnds ∷ q))
+pub scope : {top : Bool} (way : Declaration) (name : List ℕ) (p q : Parts) → opens_union way ≡ false → Nests p → Nests q → NestsAt (Some name) top 0 (ScopeBegins way name ∷ (p ++ ScopeEnds ∷ q))
 scope way name p q other n m = record {
   fit = λ a h. scoped-fit 0 way name p q n a h (m.fit (behind 0 way name p q n a) (omega arith));
   same =
       λ a. let b = behind 0 way name p q n a in
       let back = behind-other 0 way name p q n other a in
       subst (AreSame a) (sym (scoped-around 0 way name p q n a)) (record { unions = (m.same b).unions ∙ back.0; scopes = (m.same b).scopes ∙ back.1 });
+  placed = λ s from at. scoped-placed 0 way name p q n s from (m.placed (behind_scene 0 way name p q n s) tt (λ h. cc));
+  level = scoped-level 0 way name p q n m.level;
 }
 
 -- the body of a union, for which one more is open before it
-pub record UnionNests (p : Parts) : Type 0 where
+pub record UnionNests (name : List ℕ) (p : Parts) : Type 0 where
+  pub placed : (s : Scene) → s.last ≡ Some name → ArePlaced (items p) s
+  pub level : (s : Scene) → (scenes (items p) s).level ≡ s.level
   pub fit : (a : Around) → 1 ≤ a.unions → AreFit (items p) a
   pub unions : (a : Around) → (arounds (items p) a).unions ≡ a.unions - 1
   pub scopes : (a : Around) → (arounds (items p) a).scopes ≡ a.scopes
 
-pub union_scope : (name : List ℕ) (p q : Parts) → NestsIn 1 p → Nests q → UnionNests (ScopeBegins declaration.Union name ∷ (p ++ ScopeEnds ∷ q))
+pub union_scope : (name : List ℕ) (p q : Parts) → NestsIn 1 p → Nests q → UnionNests name (ScopeBegins declaration.Union name ∷ (p ++ ScopeEnds ∷ q))
 union_scope name p q n m = record {
+  placed = λ s from. scoped-placed 1 declaration.Union name p q n s from (m.placed (behind_scene 1 declaration.Union name p q n s) tt (λ h. cc));
+  level = scoped-level 1 declaration.Union name p q n m.level;
   fit = λ a h. scoped-fit 1 declaration.Union name p q n a h (m.fit (behind 1 declaration.Union name p q n a) (omega arith));
   unions =
       λ a. ap (λ (x : Around). x.unions) (scoped-around 1 declaration.Union name p q n a)
@@ -411,8 +349,10 @@ union_scope name p q n m = record {
 }
 
 -- behind its discriminator
-pub discriminated : (d : Discriminator) (name : List ℕ) (p : Parts) → UnionNests (ScopeBegins declaration.Union name ∷ p) → Nests (discriminator_parts d ++ (union_brace name ++ p))
+pub discriminated : (d : Discriminator) (name : List ℕ) (p : Parts) → UnionNests name (ScopeBegins declaration.Union name ∷ p) → NestsAt (Some name) false 0 (discriminator_parts d ++ (union_brace name ++ p))
 discriminated (discriminator.Discrete d) name p u = record {
+  placed = λ s from at. (tt, (tt, (tt, u.placed s from)));
+  level = λ s. u.level s;
   fit = λ a h. (tt, (tt, (tt, u.fit (record a { unions = a.unions + 1 }) (omega arith))));
   same = λ a. record {
     unions = let e = u.unions (record a { unions = a.unions + 1 }) in omega (arith, e);
@@ -420,6 +360,8 @@ discriminated (discriminator.Discrete d) name p u = record {
   };
 }
 discriminated (discriminator.Name n) name p u = record {
+  placed = λ s from at. (tt, (tt, u.placed s from));
+  level = λ s. u.level s;
   fit = λ a h. (tt, (tt, u.fit (record a { unions = a.unions + 1 }) (omega arith)));
   same = λ a. record {
     unions = let e = u.unions (record a { unions = a.unions + 1 }) in omega (arith, e);

@@ -9,7 +9,7 @@ use Rattle.idl_site.specs.ExpressionParts.{expression_parts, value_parts}
 use Rattle.idl_site.specs.Item.{item_of, items}
 use Rattle.idl_site.specs.Part.{Part, Parts, Declares, GivesBack, Plain, Says, ScopeBegins, ScopeEnds, TypeEnds, Uses, ValueEnds, declared, if_some, keyword_part, listed, punctuation, raised, used}
 use Rattle.idl_site.specs.TypeParts.{bound_parts, constant_type_parts, declarator_parts, type_parts}
-use Rattle.idl_site.specs.UnitParts.{attribute_names, attribute_names_parts, attribute_parts, bases_parts, constant_parts, context_parts, direction_parts, exception_parts, exceptions_parts, forward_parts, given_back, interface_parts, native_parts, oneway_parts, operation_parts, parameter_parts, raises_parts, readonly_attribute_parts, readonly_names_parts, result_parts, typedef_parts, unit_parts}
+use Rattle.idl_site.specs.UnitParts.{attribute_names, attribute_names_parts, attribute_parts, bases_parts, constant_parts, context_parts, direction_parts, exception_parts, exceptions_parts, given_back, interface_parts, native_parts, oneway_parts, operation_parts, parameter_parts, raises_parts, readonly_attribute_parts, readonly_names_parts, result_parts, typedef_parts, unit_parts}
 use Rattle.idl_site.specs.declared.site.Declaration.TheVariants as declaration
 use Rattle.idl_site.specs.declared.site.Shape.TheVariants.{Text}
 use Rattle.idl_site.specs.declared.site.Target.TheVariants as purpose
@@ -26,7 +26,6 @@ use Rattle.idl_tree.specs.declared.attribute.ReadonlyAttribute.{ReadonlyAttribut
 use Rattle.idl_tree.specs.declared.attribute.ReadonlyNames.{ReadonlyNames}
 use Rattle.idl_tree.specs.declared.attribute.ReadonlyNames.TheVariants as readonly
 use Rattle.idl_tree.specs.declared.data_type.DataType.{DataType}
-use Rattle.idl_tree.specs.declared.interface.Forward.{Forward}
 use Rattle.idl_tree.specs.declared.interface.Forward.TheVariants as forward
 use Rattle.idl_tree.specs.declared.interface.Interface.{Interface}
 use Rattle.idl_tree.specs.declared.name.ScopedName.{ScopedName}
@@ -44,7 +43,9 @@ use Rattle.idl_tree.specs.declared.unit.Tree.{Tree}
 use Rattle.idl_tree.specs.declared.unit.Tree.TheVariants as tree
 use Rattle.idl_tree.specs.declared.unit.Typedef.{Typedef}
 use Rattle.idl_check.proofs.ConstructionNesting.{a_type, constant_type, construction, declarator, member, member_type}
-use Rattle.idl_check.proofs.Nesting.{Around, AreFit, Nests, arounds, arounds-append, before, each, ends, fit-append, follow, is_level_use, maybe, none, one, operands-fit, scope, several}
+use Rattle.idl_check.proofs.Nesting.{Nests, NestsAt, before, carry, declares, each, ends, follow, maybe, none, one, operands-fit, operands-placed, scope, several, topped}
+use Rattle.idl_check.proofs.LevelSites.{Around, AreFit, arounds, arounds-append, fit-append, is_level_use}
+use Rattle.idl_check.proofs.Scenes.{ArePlaced, Scene, placed-append, scenes}
 use Rattle.idl_check.proofs.Operands.{operand-parts}
 
 -- ---- interfaces
@@ -68,22 +69,17 @@ interface i =
     (before (Declares (declaration.Interface i.is_local) i.name) _ refl
     (ends (if_some (bases_parts i.is_local) i.bases) (punctuation mark.OpenBrace) refl (maybe (bases_parts i.is_local) (bases i.is_local) i.bases)))
 
-ahead : (f : Forward) → Nests (forward_parts f)
-ahead (forward.Interface is_local name) = before (Plain (spell_local is_local ++ Word word.Interface ∷ [])) _ refl (one (Declares (declaration.InterfaceAhead is_local) name) refl)
-ahead (forward.Structure name) = before (keyword_part word.Struct) _ refl (one (Declares declaration.StructureAhead name) refl)
-ahead (forward.Union name) = before (keyword_part word.Union) _ refl (one (Declares declaration.UnionAhead name) refl)
-
-attribute_names_b : (is_readonly : Bool) (ids : Several (List ℕ)) → Nests (attribute_names is_readonly ids)
+attribute_names_b : (is_readonly : Bool) (ids : Several (List ℕ)) → NestsAt None true 0 (attribute_names is_readonly ids)
 attribute_names_b is_readonly ids = several (declared (declaration.Attribute is_readonly)) (λ name. one (Declares (declaration.Attribute is_readonly) name) refl) ids
 
-readonly_names : (n : ReadonlyNames) → Nests (readonly_names_parts n)
-readonly_names (readonly.Raising name ns) = before (Declares (declaration.Attribute true) name) (raised Raised word.Raises ns) refl (raising Raised refl word.Raises ns)
+readonly_names : (n : ReadonlyNames) → NestsAt None true 0 (readonly_names_parts n)
+readonly_names (readonly.Raising name ns) = before (Declares (declaration.Attribute true) name) (raised Raised word.Raises ns) refl (topped (raised Raised word.Raises ns) (raising Raised refl word.Raises ns))
 readonly_names (readonly.Plain ids) = attribute_names_b true ids
 
-readonly_attribute : (a : ReadonlyAttribute) → Nests (readonly_attribute_parts a)
+readonly_attribute : (a : ReadonlyAttribute) → NestsAt None true 0 (readonly_attribute_parts a)
 readonly_attribute a =
     before (Plain (Word word.Readonly ∷ Word word.Attribute ∷ [])) (type_parts a.kind ++ readonly_names_parts a.names) refl
-    (follow (type_parts a.kind) (readonly_names_parts a.names) (a_type a.kind) (readonly_names a.names))
+    (follow (type_parts a.kind) (readonly_names_parts a.names) (topped (type_parts a.kind) (a_type a.kind)) (readonly_names a.names))
 
 exceptions : (r : AttributeRaises) → Nests (exceptions_parts r)
 exceptions (Get ns set) =
@@ -91,14 +87,14 @@ exceptions (Get ns set) =
     (maybe (raised RaisedBySet word.Setraises) (raising RaisedBySet refl word.Setraises) set)
 exceptions (Set ns) = raising RaisedBySet refl word.Setraises ns
 
-names_of_attributes : (n : AttributeNames) → Nests (attribute_names_parts n)
-names_of_attributes (names.Raising name raises) = before (Declares (declaration.Attribute false) name) (exceptions_parts raises) refl (exceptions raises)
+names_of_attributes : (n : AttributeNames) → NestsAt None true 0 (attribute_names_parts n)
+names_of_attributes (names.Raising name raises) = before (Declares (declaration.Attribute false) name) (exceptions_parts raises) refl (topped (exceptions_parts raises) (exceptions raises))
 names_of_attributes (names.Plain ids) = attribute_names_b false ids
 
-attribute : (a : Attribute) → Nests (attribute_parts a)
+attribute : (a : Attribute) → NestsAt None true 0 (attribute_parts a)
 attribute a =
     before (keyword_part word.Attribute) (type_parts a.kind ++ attribute_names_parts a.names) refl
-    (follow (type_parts a.kind) (attribute_names_parts a.names) (a_type a.kind) (names_of_attributes a.names))
+    (follow (type_parts a.kind) (attribute_names_parts a.names) (topped (type_parts a.kind) (a_type a.kind)) (names_of_attributes a.names))
 
 oneway : (is_oneway : Bool) → Nests (oneway_parts is_oneway)
 oneway true = one (keyword_part word.Oneway) refl
@@ -140,7 +136,7 @@ inside parameters exceptions contexts x y =
     append_assoc parameters (x ∷ (exceptions ++ contexts)) (y ∷ [])
     ∙ ap (λ (p : Parts). parameters ++ x ∷ p) (append_assoc exceptions contexts (y ∷ []))
 
-operation : (o : Operation) → Nests (operation_parts o)
+operation : (o : Operation) → NestsAt None true 0 (operation_parts o)
 operation o =
     let way = declaration.Operation o.is_oneway in
     let parameters = if_some (listed (parameter_parts o.is_oneway)) o.parameters in
@@ -152,25 +148,25 @@ operation o =
     follow parameters (punctuation mark.CloseParenthesis ∷ (exceptions ++ contexts)) (maybe (listed (parameter_parts o.is_oneway)) (several (parameter_parts o.is_oneway) (parameter o.is_oneway)) o.parameters)
     (before (punctuation mark.CloseParenthesis) (exceptions ++ contexts) refl
     (follow exceptions contexts (maybe (raises_parts o.is_oneway) (raises o.is_oneway) o.raises) (maybe context_parts context o.context))) in
-    let body = scope way o.name (punctuation mark.OpenParenthesis ∷ within) [] refl (before (punctuation mark.OpenParenthesis) within refl nests) none in
+    let body : NestsAt (Some o.name) true 0 (ScopeBegins way o.name ∷ ((punctuation mark.OpenParenthesis ∷ within) ++ ScopeEnds ∷ [])) = scope way o.name (punctuation mark.OpenParenthesis ∷ within) [] refl (before (punctuation mark.OpenParenthesis) within refl nests) none in
     let name : Parts = Declares way o.name ∷ ScopeBegins way o.name ∷ punctuation mark.OpenParenthesis ∷ last in
-    follow (oneway_parts o.is_oneway) (result_parts o.is_oneway o.result ++ name) (oneway o.is_oneway)
-    (follow (result_parts o.is_oneway o.result) name (result o.is_oneway o.result)
-    (before (Declares way o.name) (ScopeBegins way o.name ∷ punctuation mark.OpenParenthesis ∷ last) refl
-    (subst (λ p. Nests (ScopeBegins way o.name ∷ punctuation mark.OpenParenthesis ∷ p)) (inside parameters exceptions contexts (punctuation mark.CloseParenthesis) ScopeEnds) body)))
+    follow (oneway_parts o.is_oneway) (result_parts o.is_oneway o.result ++ name) (topped (oneway_parts o.is_oneway) (oneway o.is_oneway))
+    (follow (result_parts o.is_oneway o.result) name (topped (result_parts o.is_oneway o.result) (result o.is_oneway o.result))
+    (declares way o.name (ScopeBegins way o.name ∷ punctuation mark.OpenParenthesis ∷ last) refl refl
+    (subst (λ p. NestsAt (Some o.name) true 0 (ScopeBegins way o.name ∷ punctuation mark.OpenParenthesis ∷ p)) (inside parameters exceptions contexts (punctuation mark.CloseParenthesis) ScopeEnds) body)))
 
 -- ---- units
 
 a_typedef : (t : Typedef) → Nests (typedef_parts t)
 a_typedef t =
     before (keyword_part word.Typedef) (member_type_parts t.kind ++ listed (declarator_parts declaration.Alias) t.declarators) refl
-    (follow (member_type_parts t.kind) (listed (declarator_parts declaration.Alias) t.declarators) (member_type t.kind) (several (declarator_parts declaration.Alias) (declarator declaration.Alias) t.declarators))
+    (follow (member_type_parts t.kind) (listed (declarator_parts declaration.Alias) t.declarators) (member_type t.kind) (several (declarator_parts declaration.Alias) (declarator declaration.Alias refl) t.declarators))
 
 an_exception : (e : Exception) → Nests (exception_parts e)
 an_exception e =
     before (keyword_part word.Exception) _ refl
-    (before (Declares declaration.Exception e.name) _ refl
-    (before (punctuation mark.OpenBrace) _ refl
+    (declares declaration.Exception e.name _ refl refl
+    (carry (Punctuation mark.OpenBrace ∷ []) _
     (scope declaration.Exception e.name (flat_map member_parts e.members) (punctuation mark.CloseBrace ∷ []) refl (each member_parts member e.members) (one (punctuation mark.CloseBrace) refl))))
 
 -- ---- a constant: its type is told before its value
@@ -204,24 +200,76 @@ constant-fits c a =
 
 -- ---- units
 
-semicolon : (p : Parts) → Nests p → Nests (p ++ punctuation mark.Semicolon ∷ [])
+semicolon : {top : Bool} (p : Parts) → NestsAt None top 0 p → NestsAt None top 0 (p ++ punctuation mark.Semicolon ∷ [])
 semicolon p n = ends p (punctuation mark.Semicolon) refl n
 
-fits : (p : Parts) → Nests p → (a : Around) → AreFit (items p) a
+fits : {top : Bool} (p : Parts) → NestsAt None top 0 p → (a : Around) → AreFit (items p) a
 fits p n a = n.fit a (omega arith)
 
 -- whatever stands around, each scope that ends in a unit begins in it, and the type of each expression is known
 pub unit-fits : (t : Tree) (a : Around) → AreFit (items (unit_parts t)) a
 unfolding unit_parts
-unit-fits tree.Closing = fits _ (one (Plain (Punctuation mark.CloseBrace ∷ Punctuation mark.Semicolon ∷ [])) refl)
-unit-fits (tree.Module name) = fits _ (before (keyword_part word.Module) _ refl (before (Declares declaration.Module name) _ refl (one (punctuation mark.OpenBrace) refl)))
+unit-fits tree.Closing = fits {top = false} _ (one (Plain (Punctuation mark.CloseBrace ∷ Punctuation mark.Semicolon ∷ [])) refl)
+unit-fits (tree.Module name) = λ a. (tt, (tt, (tt, tt)))
 unit-fits (tree.Interface i) = fits (interface_parts i) (interface i)
-unit-fits (tree.Forward f) = fits _ (semicolon (forward_parts f) (ahead f))
+unit-fits (tree.Forward (forward.Interface is_local name)) = λ a. (tt, (tt, (tt, tt)))
+unit-fits (tree.Forward (forward.Structure name)) = λ a. (tt, (tt, (tt, tt)))
+unit-fits (tree.Forward (forward.Union name)) = λ a. (tt, (tt, (tt, tt)))
 unit-fits (tree.Typedef t) = fits _ (semicolon (typedef_parts t) (a_typedef t))
 unit-fits (tree.Construction c) = fits _ (semicolon (construction_parts c) (construction c))
-unit-fits (tree.Native name) = fits _ (semicolon (native_parts name) (before (keyword_part word.Native) _ refl (one (Declares declaration.Native name) refl)))
+unit-fits (tree.Native name) = fits {top = false} _ (semicolon (native_parts name) (before (keyword_part word.Native) _ refl (one (Declares declaration.Native name) refl)))
 unit-fits (tree.Constant c) = constant-fits c
 unit-fits (tree.Exception e) = fits _ (semicolon (exception_parts e) (an_exception e))
 unit-fits (tree.ReadonlyAttribute a) = fits _ (semicolon (readonly_attribute_parts a) (readonly_attribute a))
 unit-fits (tree.Attribute a) = fits _ (semicolon (attribute_parts a) (attribute a))
 unit-fits (tree.Operation o) = fits _ (semicolon (operation_parts o) (operation o))
+
+-- ---- where its names are declared, and its scopes begin
+
+-- it declares no module, no interface, and nothing ahead
+abbrev pub is_plain : Tree → Bool
+is_plain (tree.Module name) = false
+is_plain (tree.Interface i) = false
+is_plain (tree.Forward f) = false
+is_plain other = true
+
+abbrev pub scene : Scene
+scene = record { level = 0; last = None }
+
+value-placed : (e : Expression) (q : Parts) (s : Scene) → ((t : Scene) → ArePlaced (items q) t) → ArePlaced (items ((expression_parts e ++ ValueEnds purpose.Constant e ∷ []) ++ q)) s
+value-placed e q s h =
+    subst (λ p. ArePlaced (items p) s) (sym (append_assoc (expression_parts e) (ValueEnds purpose.Constant e ∷ []) q))
+    (operands-placed (expression_parts e) (ValueEnds purpose.Constant e ∷ q) (operand-parts e) s (λ t. (tt, h t)))
+
+constant-placed : (c : Constant) (s : Scene) → ArePlaced (items (constant_parts c ++ punctuation mark.Semicolon ∷ [])) s
+constant-placed c s =
+    let q : Parts = punctuation mark.Semicolon ∷ [] in
+    let told : Parts = Declares declaration.Constant c.name ∷ punctuation mark.Equals ∷ value_parts purpose.Constant c.value in
+    let types = constant_type_parts c.kind in
+    let behind = scenes (items types) s in
+    let rest : ArePlaced (items (told ++ q)) behind =
+    ((refl, λ o. cc), (tt, (tt, value-placed c.value q (record behind { last = Some c.name }) (λ t. (tt, tt))))) in (
+      tt,
+      subst (λ p. ArePlaced (items p) s) (sym (append_assoc types told q))
+          (subst (λ xs. ArePlaced xs s) (sym (map-append item_of types (told ++ q)))
+          (placed-append (items types) (items (told ++ q)) s ((constant_type c.kind).placed s tt (λ h. cc)) rest)),
+    )
+
+placed : {top : Bool} (p : Parts) → NestsAt None top 0 p → ArePlaced (items p) scene
+placed p n = n.placed scene tt (λ h. refl)
+
+-- no operation is declared in a scope of a unit, and each of its scopes begins behind its own name
+pub unit-placed : (t : Tree) → is_plain t ≡ true → ArePlaced (items (unit_parts t)) scene
+unfolding unit_parts
+unit-placed tree.Closing h = (tt, tt)
+unit-placed (tree.Module name) h = cc
+unit-placed (tree.Interface i) h = cc
+unit-placed (tree.Forward f) h = cc
+unit-placed (tree.Typedef t) h = placed _ (semicolon (typedef_parts t) (a_typedef t))
+unit-placed (tree.Construction c) h = placed _ (semicolon (construction_parts c) (construction c))
+unit-placed (tree.Native name) h = (tt, ((refl, λ o. cc), (tt, tt)))
+unit-placed (tree.Constant c) h = constant-placed c scene
+unit-placed (tree.Exception e) h = placed _ (semicolon (exception_parts e) (an_exception e))
+unit-placed (tree.ReadonlyAttribute a) h = placed _ (semicolon (readonly_attribute_parts a) (readonly_attribute a))
+unit-placed (tree.Attribute a) h = placed _ (semicolon (attribute_parts a) (attribute a))
+unit-placed (tree.Operation o) h = placed _ (semicolon (operation_parts o) (operation o))

@@ -51,7 +51,8 @@ use Rattle.idl_value.specs.declared.value.Value.{Value}
 use Rattle.idl_check.proofs.AroundLaws.{IsKept, IsTyped, StandsIn, single-kept, used-kept, used-none, valued-stands}
 use Rattle.idl_check.proofs.BracketLemmas.{tokens-single}
 use Rattle.idl_check.proofs.ExpressionFaults.{expression-items}
-use Rattle.idl_check.proofs.Nesting.{AreFit, Around, IsFit, IsKnown, around_after, arounds, arounds-operands}
+use Rattle.idl_check.proofs.Nesting.{arounds-operands}
+use Rattle.idl_check.proofs.LevelSites.{AreFit, Around, IsFit, IsKnown, around_after, arounds}
 use Rattle.idl_check.proofs.Operands.{expression-names, expression-operands, is_operand, names_in}
 use Rattle.idl_check.proofs.PartLemmas.{IsUpTo}
 use Rattle.idl_check.proofs.RowLaws.{no-end}

@@ -220,7 +220,7 @@ value-even w way (Faulty []) = (λ none. (refl, refl), λ none. (refl, refl))
 value-even w way (Faulty (f ∷ fs)) = (λ none. (cc, cc), λ none. (cc, cc))
 
 module _ (turns : ℕ) (answers : Key → Option Answer) where
-  given-some : (way : Use) (name : ScopedName) (w : Walk) (is_global : Bool) (parts : List (List ℕ)) → (outcome (given_by turns answers way name w is_global parts) answers).faults ≡ [] → ⊥
+  pub given-some : (way : Use) (name : ScopedName) (w : Walk) (is_global : Bool) (parts : List (List ℕ)) → (outcome (given_by turns answers way name w is_global parts) answers).faults ≡ [] → ⊥
   given-some way name w true parts h = no-end [] (fault_at w.at BadOneway) h
   given-some way name w false [] h =
       let query = used turns way name w in

@@ -19,3 +19,4 @@ pub mod Sections
 pub mod AllFaults
 pub mod Held
 pub mod Judging
+pub mod Closing

@@ -6,6 +6,7 @@
 ghost use Rattle.std.specs.Prelude.{◌≡◌, ◌≢◌, ◌↔◌, ◌+◌, ◌++◌, ◌<◌, ◌≤◌, Bool, ℕ, List, [], ◌∷◌, All, Contains, codes, decimal, false, length, take, true, None, Ok, Option, Some};
 ghost use Rattle.std.specs.Option.{IsSome};
 ghost use Rattle.idl_check.specs.AllFaults.{site_faults, unit_faults};
+ghost use Rattle.idl_check.specs.Closing.{AreTold, HasOperation};
 ghost use Rattle.idl_check.specs.Declaring.{standing};
 ghost use Rattle.idl_check.specs.Identifying.{versioned};
 ghost use Rattle.idl_check.specs.Placing.{faulty_step, step_of};
@@ -18,7 +19,7 @@ ghost use Rattle.idl_check.specs.Walk.{Walk, first_walk, turns_at, visit};
 ghost use Rattle.idl_lex.specs.Keywords.{folded};
 ghost use Rattle.idl_lex.specs.Tokens.{Token};
 ghost use Rattle.idl_memo.specs.Query.{asked, outcome, run};
-ghost use Rattle.idl_scope.specs.Facts.{UnitFacts, answers, scopes_in};
+ghost use Rattle.idl_scope.specs.Facts.{UnitFacts, answers, entity_key, scopes_in};
 ghost use Rattle.idl_scope.specs.Identity.{first_identity, is_within, prefixed, relative, slashed};
 ghost use Rattle.idl_scope.specs.Key.{key_eq};
 ghost use Rattle.idl_scope.specs.Lookup.{denoted, under};
@@ -33,11 +34,14 @@ ghost use Rattle.idl_tree.specs.declared.name.ScopedName.{ScopedName};
 ghost use Rattle.idl_value.specs.Names.{name_count};
 ghost use Rattle.idl_scope.specs.declared.addition.Step.TheVariants.{Stays};
 ghost use Rattle.idl_scope.specs.declared.answer.Answer.{Answer};
+ghost use Rattle.idl_scope.specs.declared.answer.Answer.TheVariants.{Known};
 ghost use Rattle.idl_scope.specs.declared.answer.Scope.{Scope};
 ghost use Rattle.idl_scope.specs.declared.entity.Entity.{Entity};
 ghost use Rattle.idl_scope.specs.declared.identity.Prefix.{Prefix};
 ghost use Rattle.idl_scope.specs.declared.key.Key.{Key};
 ghost use Rattle.idl_scope.specs.declared.key.Key.TheVariants.{Cursor};
+ghost use Rattle.idl_scope.specs.declared.kind.Kind.TheVariants.{Interface};
+ghost use Rattle.idl_scope.specs.declared.kind.Stage.TheVariants.{Complete};
 ghost use Rattle.idl_site.specs.Item.{Item, items, items_length};
 ghost use Rattle.idl_site.specs.ExpressionParts.{expression_parts};
 ghost use Rattle.idl_site.specs.UnitParts.{unit_parts};
@@ -261,4 +265,15 @@ pub fn denoting()
         ((outcome query (answers facts)).is_inherited ≡ true)
         ↔ ((f : Entity)
         × InheritsOperation (seen w.own facts) s (folded (name_of e.path)) f) }
+{}
+
+/// The operations and attributes of a closed interface are those that the scoping rules reach from
+/// it, over the facts of units each of which is told by its verdict over those before it: its own,
+/// and those of its bases of other names. Its list is what is asked where two bases are named.
+pub fn inheriting()
+    ensures { (facts : List UnitFacts) (e : Entity) (p : List (List ℕ))
+        → AreTold facts
+        → answers facts (entity_key e.path) ≡ Some (Known e)
+        → e.kind ≡ Interface → e.stage ≡ Complete
+        → Contains e.operations p ↔ HasOperation (answers facts) e.path p }
 {}

@@ -1,4 +1,5 @@
 mod ChangedLemmas
+mod FactsTold
 mod FindingLemmas
 mod FollowingLemmas
 mod JudgingLemmas

@@ -2,7 +2,9 @@
 
 ghost use Rattle.std.specs.Prelude.{◌≡◌, [], ℕ, All, List, filter, nat_eq};
 ghost use Rattle.idl_event.specs.declared.event.Event.{Event};
-ghost use Rattle.idl_root.specs.Judged.{judged_after};
+ghost use Rattle.idl_check.specs.Closing.{AreTold};
+ghost use Rattle.idl_root.specs.Judged.{facts_after, judged_after};
+ghost use Rattle.idl_unit.specs.declared.unit.Unit.{Unit as RootUnit};
 ghost use Rattle.idl_root.specs.Told.{IsTold};
 ghost use Rattle.idl_unit.specs.Units.{units_of};
 ghost use Rattle.std.specs.List.Sorted.{IsNonDecreasingBy};
@@ -26,3 +28,9 @@ pub fn telling()
     // It does nothing: it carries a law of verdicts.
     numbering();
 }
+
+/// The facts of a root are what verdicts tell, each over those before it: of them the law of closed interfaces speaks
+/// (`inheriting` of `idl_check`). This does nothing: it carries the law.
+pub fn facts()
+    ensures { (units : List RootUnit) → AreTold (facts_after [] units) }
+{}

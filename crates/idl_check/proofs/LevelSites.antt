@@ -1,0 +1,226 @@
+-- What stands around a site of a unit: unions, scopes, and the type of constants; and sites that leave it as it is.
+use Rattle.std.proofs.Common.{◌≡◌, ℕ, ◌+◌, ◌-◌, ◌≤◌, Bool, true, false, ◌&&◌, ◌||◌, List, [], ◌∷◌, ◌++◌, refl}
+use Rattle.std.specs.Prelude.{not}
+use Rattle.idl_check.proofs.Scenes.{AtTop, IsPlaced, Scene, is_operation_way, is_other, scene_after}
+use Rattle.idl_site.specs.Item.{Item}
+use Rattle.idl_site.specs.declared.site.Declaration.{Declaration}
+use Rattle.idl_site.specs.declared.site.Declaration.TheVariants as declaration
+use Rattle.idl_site.specs.declared.site.Shape.{Shape}
+use Rattle.idl_site.specs.declared.site.Shape.TheVariants.{Basic, Text, Sequence as Elements}
+use Rattle.idl_site.specs.declared.site.Target.{Target as Purpose}
+use Rattle.idl_site.specs.declared.site.Target.TheVariants as purpose
+use Rattle.idl_site.specs.declared.site.Use.{Use}
+use Rattle.idl_site.specs.declared.site.Use.TheVariants.{AsBase, AsType, AsElement, AsConstantType, AsDiscriminator, AsOperand, Raised, RaisedBySet}
+use Rattle.idl_tree.specs.declared.data_type.BasicType.{BasicType}
+use Rattle.idl_tree.specs.declared.data_type.BasicType.TheVariants.{Discrete}
+
+-- ---- what stands around a site
+
+-- how many unions are open whose labels may come, which of the scopes that have begun are those of unions, the innermost first, and
+-- whether the type of the next constant is written
+pub record Around : Type 0 where
+  pub unions : ℕ
+  pub scopes : List Bool
+  pub is_typed : Bool
+
+abbrev pub opens_union : Declaration → Bool
+opens_union declaration.Union = true
+opens_union declaration.UnionAhead = true
+opens_union other = false
+
+abbrev pub is_inside : List Bool → Bool
+is_inside [] = false
+is_inside (s ∷ scopes) = true
+
+-- behind the end of the innermost of these scopes
+abbrev pub popped : List Bool → Around → Around
+popped [] a = a
+popped (true ∷ scopes) a = record a { unions = a.unions - 1; scopes = scopes }
+popped (false ∷ scopes) a = record a { scopes = scopes }
+
+abbrev pub is_discrete : BasicType → Bool
+is_discrete (Discrete d) = true
+is_discrete other = false
+
+-- whether constants are of a type
+abbrev pub has_constants : Shape → Bool
+has_constants (Basic b) = is_discrete b
+has_constants (Text is_wide is_bounded) = true
+has_constants (Elements is_bounded) = false
+
+abbrev pub used_around : Use → Around → Around
+used_around AsDiscriminator a = record a { unions = a.unions + 1 }
+used_around AsConstantType a = record a { is_typed = true }
+used_around other a = a
+
+abbrev pub around_after : Item → Around → Around
+around_after (Item.Used way name) a = used_around way a
+around_after (Item.ScopeBegins way name) a = record a { scopes = opens_union way ∷ a.scopes }
+around_after Item.ScopeEnds a = popped a.scopes a
+around_after (Item.TypeEnds shape) a = record a { is_typed = has_constants shape }
+around_after (Item.Switches discrete) a = record a { unions = a.unions + 1 }
+around_after other a = a
+
+-- the type is known of an expression that is for this
+abbrev pub IsKnown : Purpose → Around → Type 0
+IsKnown purpose.Constant a = a.is_typed ≡ true
+IsKnown purpose.Label a = 1 ≤ a.unions
+IsKnown other a = Unit {0}
+
+-- it is so at the end of each expression, and the scope that ends has begun
+abbrev pub IsFit : Item → Around → Type 0
+IsFit (Item.ValueEnds way e) a = IsKnown way a
+IsFit Item.ScopeEnds a = is_inside a.scopes ≡ true
+IsFit other a = Unit {0}
+
+abbrev pub AreFit : List Item → Around → Type 0
+AreFit [] a = Unit {0}
+AreFit (site ∷ sites) a = IsFit site a × AreFit sites (around_after site a)
+
+abbrev pub arounds : List Item → Around → Around
+arounds [] a = a
+arounds (site ∷ sites) a = arounds sites (around_after site a)
+
+pub fit-append : (xs ys : List Item) (a : Around) → AreFit xs a → AreFit ys (arounds xs a) → AreFit (xs ++ ys) a
+fit-append [] ys a h k = k
+fit-append (x ∷ xs) ys a h k = (h.0, fit-append xs ys (around_after x a) h.1 k)
+
+pub arounds-append : (xs ys : List Item) (a : Around) → arounds (xs ++ ys) a ≡ arounds ys (arounds xs a)
+arounds-append [] ys a = refl
+arounds-append (x ∷ xs) ys a = arounds-append xs ys (around_after x a)
+
+-- ---- sites at which nothing begins or ends around
+
+abbrev pub is_level_use : Use → Bool
+is_level_use AsDiscriminator = false
+is_level_use other = true
+
+abbrev pub is_level_value : Purpose → Bool
+is_level_value purpose.Constant = false
+is_level_value purpose.Label = false
+is_level_value other = true
+
+abbrev pub is_level : Item → Bool
+is_level (Item.Used way name) = is_level_use way
+is_level (Item.ValueEnds way e) = is_level_value way
+is_level (Item.ScopeBegins way name) = false
+is_level Item.ScopeEnds = false
+is_level (Item.Switches discrete) = false
+is_level other = true
+
+-- the same unions and scopes
+pub record AreSame (a b : Around) : Type 0 where
+  pub unions : b.unions ≡ a.unions
+  pub scopes : b.scopes ≡ a.scopes
+
+pub same-here : (a : Around) → AreSame a a
+same-here a = record { unions = refl; scopes = refl }
+
+pub same-used : (way : Use) (a : Around) → is_level_use way ≡ true → AreSame a (used_around way a)
+same-used (AsBase is_local) a h = same-here a
+same-used AsType a h = same-here a
+same-used AsElement a h = same-here a
+same-used AsConstantType a h = record { unions = refl; scopes = refl }
+same-used AsDiscriminator a h = cc
+same-used AsOperand a h = same-here a
+same-used Raised a h = same-here a
+same-used RaisedBySet a h = same-here a
+
+pub same-level : (x : Item) (a : Around) → is_level x ≡ true → AreSame a (around_after x a)
+same-level (Item.Tokens n) a h = same-here a
+same-level (Item.Declared way name) a h = same-here a
+same-level (Item.Used way name) a h = same-used way a h
+same-level (Item.Joined text) a h = same-here a
+same-level Item.ValueBegins a h = same-here a
+same-level (Item.ValueEnds way e) a h = same-here a
+same-level (Item.ScopeBegins way name) a h = cc
+same-level Item.ScopeEnds a h = cc
+same-level (Item.TypeEnds shape) a h = record { unions = refl; scopes = refl }
+same-level Item.ArrayEnds a h = same-here a
+same-level (Item.Enumerates names) a h = same-here a
+same-level (Item.Switches discrete) a h = cc
+same-level Item.Default a h = same-here a
+same-level Item.GivesBack a h = same-here a
+
+pub known-level : (way : Purpose) (a : Around) → is_level_value way ≡ true → IsKnown way a
+known-level purpose.Bound a h = tt
+known-level purpose.Constant a h = cc
+known-level purpose.Length a h = tt
+known-level purpose.Label a h = cc
+
+pub fit-level : (x : Item) (a : Around) → is_level x ≡ true → IsFit x a
+fit-level (Item.Tokens n) a h = tt
+fit-level (Item.Declared way name) a h = tt
+fit-level (Item.Used way name) a h = tt
+fit-level (Item.Joined text) a h = tt
+fit-level Item.ValueBegins a h = tt
+fit-level (Item.ValueEnds way e) a h = known-level way a h
+fit-level (Item.ScopeBegins way name) a h = cc
+fit-level Item.ScopeEnds a h = cc
+fit-level (Item.TypeEnds shape) a h = tt
+fit-level Item.ArrayEnds a h = tt
+fit-level (Item.Enumerates names) a h = tt
+fit-level (Item.Switches discrete) a h = cc
+fit-level Item.Default a h = tt
+fit-level Item.GivesBack a h = tt
+
+abbrev pub is_declared_at : Bool → Declaration → Bool
+is_declared_at top way = is_other way && (top || not (is_operation_way way))
+
+abbrev pub is_level_at : Bool → Item → Bool
+is_level_at top (Item.Declared way name) = is_declared_at top way
+is_level_at top other = is_level other
+
+pub level-at : (top : Bool) (x : Item) → is_level_at top x ≡ true → is_level x ≡ true
+level-at top (Item.Tokens n) h = refl
+level-at top (Item.Declared way name) h = refl
+level-at top (Item.Used way name) h = h
+level-at top (Item.Joined text) h = refl
+level-at top Item.ValueBegins h = refl
+level-at top (Item.ValueEnds way e) h = h
+level-at top (Item.ScopeBegins way name) h = cc
+level-at top Item.ScopeEnds h = cc
+level-at top (Item.TypeEnds shape) h = refl
+level-at top Item.ArrayEnds h = refl
+level-at top (Item.Enumerates names) h = refl
+level-at top (Item.Switches discrete) h = cc
+level-at top Item.Default h = refl
+level-at top Item.GivesBack h = refl
+
+pub at-declared : (top other operation : Bool) → other && (top || not operation) ≡ true → (other ≡ true) × (operation ≡ true → top ≡ true)
+at-declared top false operation h = cc
+at-declared true true operation h = (refl, λ o. refl)
+at-declared false true true h = cc
+at-declared false true false h = (refl, λ o. cc)
+
+pub placed-level : (top : Bool) (x : Item) (s : Scene) → is_level_at top x ≡ true → AtTop top s → IsPlaced x s
+placed-level top (Item.Tokens n) s h at = tt
+placed-level top (Item.Declared way name) s h at = let parts = at-declared top (is_other way) (is_operation_way way) h in (parts.0, λ o. at (parts.1 o))
+placed-level top (Item.Used way name) s h at = tt
+placed-level top (Item.Joined text) s h at = tt
+placed-level top Item.ValueBegins s h at = tt
+placed-level top (Item.ValueEnds way e) s h at = tt
+placed-level top (Item.ScopeBegins way name) s h at = cc
+placed-level top Item.ScopeEnds s h at = cc
+placed-level top (Item.TypeEnds shape) s h at = tt
+placed-level top Item.ArrayEnds s h at = tt
+placed-level top (Item.Enumerates names) s h at = tt
+placed-level top (Item.Switches discrete) s h at = tt
+placed-level top Item.Default s h at = tt
+placed-level top Item.GivesBack s h at = tt
+
+pub scene-level : (x : Item) (s : Scene) → is_level x ≡ true → (scene_after x s).level ≡ s.level
+scene-level (Item.Tokens n) s h = refl
+scene-level (Item.Declared way name) s h = refl
+scene-level (Item.Used way name) s h = refl
+scene-level (Item.Joined text) s h = refl
+scene-level Item.ValueBegins s h = refl
+scene-level (Item.ValueEnds way e) s h = refl
+scene-level (Item.ScopeBegins way name) s h = cc
+scene-level Item.ScopeEnds s h = cc
+scene-level (Item.TypeEnds shape) s h = refl
+scene-level Item.ArrayEnds s h = refl
+scene-level (Item.Enumerates names) s h = refl
+scene-level (Item.Switches discrete) s h = refl
+scene-level Item.Default s h = refl
+scene-level Item.GivesBack s h = refl
