@@ -1,8 +1,8 @@
 -- The three steps of a verdict, run.
-use Rattle.std.proofs.Common.{◌≡◌, ℕ, true, false, cond, List, [], ◌∷◌, ◌++◌, Option, None, Some, is_some, refl, sym, ap, ◌∙◌, arith, ◌≤◌}
+use Rattle.std.proofs.Common.{◌≡◌, ℕ, true, false, cond, List, [], ◌∷◌, ◌++◌, Option, None, Some, Ok, Err, is_some, refl, sym, ap, ◌∙◌, arith, ◌≤◌}
 use Rattle.std.proofs.lemmas.Option.{same_Some}
 use Rattle.std.proofs.lemmas.List.{length-map}
-use Rattle.std.specs.Prelude.{◌≢◌, fold, length}
+use Rattle.std.specs.Prelude.{fold, length}
 use Rattle.idl_check.proofs.LeastFault.{least-none}
 use Rattle.idl_memo.specs.Query.{Ask, Done, Tell, and_then, noted}
 use Rattle.idl_memo.proofs.QueryLaws.{run-and_then_at}
@@ -27,7 +27,6 @@ use Rattle.idl_scope.specs.declared.kind.Kind.{Kind}
 use Rattle.idl_site.specs.Item.{items, items_length}
 use Rattle.idl_site.specs.UnitParts.{unit_parts}
 use Rattle.idl_site.proofs.UnitSpelling.{counted, unit_spells}
-use Rattle.idl_syntax.specs.Parse.{StopsAt}
 use Rattle.idl_tree.specs.Lexeme.{lexeme_of, lexemes}
 use Rattle.idl_tree.specs.Unit.{spell}
 use Rattle.idl_tree.specs.declared.unit.Tree.{Tree}
@@ -87,11 +86,6 @@ pub first_faults-opening : (tokens : List Token) (scopes : List Scope) (faults :
     → first_faults tokens scopes ≡ faults
 first_faults-opening tokens scopes faults h is = λ i. least-none (token_faults tokens) h i ++ sym is i
 
--- no tree spells tokens that stop somewhere
-pub stops-none : (tokens : List Token) (place : Option ℕ) → StopsAt tokens place → (tree : Tree) → lexemes tokens ≢ spell tree
-stops-none tokens None h = λ tree is. h.none tree (sym is)
-stops-none tokens (Some n) h = λ tree is. h.1.none tree (sym is)
-
 -- the sites of a unit are as many tokens as it has
 pub sites-length : (tokens : List Token) (tree : Tree) → lexemes tokens ≡ spell tree → items_length (items (unit_parts tree)) ≡ length tokens
 sites-length tokens tree h =
@@ -105,17 +99,17 @@ pub first_step : (turns : ℕ) (tokens : List Token) (scopes : List Scope) (faul
     → token_verdict turns tokens scopes ≡ refused tokens fault
 first_step turns tokens scopes fault h = ap (λ o. elim o [ Some fault ↦ refused tokens fault | None ↦ by_tree turns tokens scopes ]) h
 
-pub second_step : (turns : ℕ) (tokens : List Token) (scopes : List Scope) → least_fault (first_faults tokens scopes) ≡ None
-    → tree_of tokens ≡ None → token_verdict turns tokens scopes ≡ refused tokens (fault_at 0 NoTree)
-second_step turns tokens scopes h none =
+pub second_step : (turns : ℕ) (tokens : List Token) (scopes : List Scope) (place : ℕ) → least_fault (first_faults tokens scopes) ≡ None
+    → tree_of tokens ≡ Err place → token_verdict turns tokens scopes ≡ refused tokens (fault_at place NoTree)
+second_step turns tokens scopes place h none =
     ap (λ o. elim o [ Some fault ↦ refused tokens fault | None ↦ by_tree turns tokens scopes ]) h
-    ∙ ap (λ o. elim o [ None ↦ refused tokens (fault_at 0 NoTree) | Some tree ↦ by_names turns tokens scopes tree ]) none
+    ∙ ap (λ r. elim r [ Err at ↦ refused tokens (fault_at at NoTree) | Ok tree ↦ by_names turns tokens scopes tree ]) none
 
 pub third_step : (turns : ℕ) (tokens : List Token) (scopes : List Scope) (tree : Tree) → least_fault (first_faults tokens scopes) ≡ None
-    → tree_of tokens ≡ Some tree → token_verdict turns tokens scopes ≡ by_names turns tokens scopes tree
+    → tree_of tokens ≡ Ok tree → token_verdict turns tokens scopes ≡ by_names turns tokens scopes tree
 third_step turns tokens scopes tree h some =
     ap (λ o. elim o [ Some fault ↦ refused tokens fault | None ↦ by_tree turns tokens scopes ]) h
-    ∙ ap (λ o. elim o [ None ↦ refused tokens (fault_at 0 NoTree) | Some tree ↦ by_names turns tokens scopes tree ]) some
+    ∙ ap (λ r. elim r [ Err at ↦ refused tokens (fault_at at NoTree) | Ok tree ↦ by_names turns tokens scopes tree ]) some
 
 -- a unit that stands where it may not
 pub is_misplaced_by : (turns : ℕ) (tokens : List Token) (scopes : List Scope) (tree : Tree) → is_misplaced tree scopes ≡ true

@@ -89,22 +89,22 @@ module _ (turns : ℕ) (answers : Key → Option Answer) where
       ∙ none-whole turns answers (items (unit_parts tree)) (first_walk scopes) parts.1
 
   -- by the tree
-  abbrev told_by : List Scope → Option Tree → List Fault
-  told_by scopes o = elim o [ None ↦ fault_at 0 NoTree ∷ [] | Some tree ↦ visit_name_faults turns answers scopes tree ]
+  abbrev told_by : List Scope → Result Tree ℕ → List Fault
+  told_by scopes r = elim r [ Err place ↦ fault_at place NoTree ∷ [] | Ok tree ↦ visit_name_faults turns answers scopes tree ]
 
-  abbrev all_by : List Scope → Option Tree → List Fault
-  all_by scopes o = elim o [ None ↦ fault_at 0 NoTree ∷ [] | Some tree ↦ name_faults turns answers scopes tree ]
+  abbrev all_by : List Scope → Result Tree ℕ → List Fault
+  all_by scopes r = elim r [ Err place ↦ fault_at place NoTree ∷ [] | Ok tree ↦ name_faults turns answers scopes tree ]
 
-  further-least : (tokens : List Token) → length tokens < 2 ^ 64 → (scopes : List Scope) (o : Option Tree) → tree_of tokens ≡ o → least_fault (told_by scopes o) ≡ least_fault (all_by scopes o)
-  further-least tokens fits scopes None h = refl
-  further-least tokens fits scopes (Some tree) h =
+  further-least : (tokens : List Token) → length tokens < 2 ^ 64 → (scopes : List Scope) (r : Result Tree ℕ) → tree_of tokens ≡ r → least_fault (told_by scopes r) ≡ least_fault (all_by scopes r)
+  further-least tokens fits scopes (Err place) h = refl
+  further-least tokens fits scopes (Ok tree) h =
       let m = cond (is_misplaced tree scopes) (fault_at 0 MisplacedUnit ∷ []) [] in
       alike-append m m (visit_faults turns answers (items (unit_parts tree)) (first_walk scopes)) (site_faults turns answers (items (unit_parts tree)) (first_walk scopes))
       (λ o. refl) (sites-tell tokens tree (tree-spelled tokens tree h) fits scopes) None
 
-  further-none : (scopes : List Scope) (o : Option Tree) → told_by scopes o ≡ [] → all_by scopes o ≡ []
-  further-none scopes None h = cc
-  further-none scopes (Some tree) h = names-none scopes tree h
+  further-none : (scopes : List Scope) (r : Result Tree ℕ) → told_by scopes r ≡ [] → all_by scopes r ≡ []
+  further-none scopes (Err place) h = cc
+  further-none scopes (Ok tree) h = names-none scopes tree h
 
   else-least : (fs gs hs : List Fault) → least_fault gs ≡ least_fault hs → least_fault (or_else turns answers fs gs) ≡ least_fault (or_else turns answers fs hs)
   else-least [] gs hs h = h

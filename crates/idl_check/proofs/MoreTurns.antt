@@ -263,12 +263,12 @@ module _ (facts : List UnitFacts) (turns : ℕ) (enough : turns_for facts ≤ tu
   by_tree-same : (tokens : List Token) (scopes : List Scope) → Same (by_tree (turns + extra) tokens scopes) (by_tree turns tokens scopes)
   by_tree-same tokens scopes log = by_spelling (tree_of tokens)
     where
-      read : ℕ → Option Tree → Lookup Verdict
-      read t o = elim o as (λ _. Lookup Verdict) [ None ↦ refused tokens (fault_at 0 NoTree) | Some tree ↦ by_names t tokens scopes tree ]
+      read : ℕ → Result Tree ℕ → Lookup Verdict
+      read t r = elim r as (λ _. Lookup Verdict) [ Err place ↦ refused tokens (fault_at place NoTree) | Ok tree ↦ by_names t tokens scopes tree ]
 
-      by_spelling : (o : Option Tree) → run key_eq (read (turns + extra) o) (answers facts) log ≡ run key_eq (read turns o) (answers facts) log
-      by_spelling None = refl
-      by_spelling (Some tree) = by_names-same tokens scopes tree log
+      by_spelling : (r : Result Tree ℕ) → run key_eq (read (turns + extra) r) (answers facts) log ≡ run key_eq (read turns r) (answers facts) log
+      by_spelling (Err place) = refl
+      by_spelling (Ok tree) = by_names-same tokens scopes tree log
 
   token_verdict-same : (tokens : List Token) (scopes : List Scope) → Same (token_verdict (turns + extra) tokens scopes) (token_verdict turns tokens scopes)
   token_verdict-same tokens scopes log = by_fault (least_fault (first_faults tokens scopes))

@@ -1,5 +1,5 @@
 -- A fault that is told stands at a token of its unit.
-use Rattle.std.proofs.Common.{◌≡◌, ◌∙◌, ◌+◌, ◌<◌, ◌≤◌, ℕ, Bool, true, false, cond, List, [], ◌∷◌, ◌++◌, length, map, Option, None, Some, refl, sym, ap, arith}
+use Rattle.std.proofs.Common.{◌≡◌, ◌∙◌, ◌+◌, ◌<◌, ◌≤◌, ℕ, Bool, true, false, cond, List, [], ◌∷◌, ◌++◌, length, map, Option, None, Some, Result, Ok, Err, refl, sym, ap, arith}
 use Rattle.std.proofs.lemmas.List.{length-map}
 use Rattle.std.proofs.lemmas.List.Elements.{All-append, All-cons, All-nil, All-weaker}
 use Rattle.std.specs.Prelude.{◌≢◌, All, nat_le}
@@ -42,7 +42,8 @@ use Rattle.idl_unit.specs.declared.unit.UnitText.TheVariants as unit
 use Rattle.idl_check.proofs.FaultOrder.{all-at, least-in}
 use Rattle.idl_check.proofs.SiteLaws.{EndsInTokens, faults-till}
 use Rattle.idl_check.proofs.TableLaws.{all-if}
-use Rattle.idl_check.proofs.VerdictLaws.{least-tokens, tree-spelled}
+use Rattle.idl_check.proofs.VerdictLaws.{least-tokens, tree-spelled, tree-stops}
+use Rattle.idl_syntax.proofs.Stops.{stops-within}
 use Rattle.idl_check.proofs.VisitFaults.{visit_faults, visit_further_faults, visit_name_faults, visit_unit_faults}
 
 -- ---- a unit ends in a token
@@ -122,9 +123,9 @@ module _ (turns : ℕ) (answers : Key → Option Answer) (tokens : List Token) (
       All-weaker (λ f. f.index < 0 + items_length (items (unit_parts tree))) Inside (λ f h. omega (arith, h, count))
       (visit_faults turns answers (items (unit_parts tree)) (first_walk scopes)) (faults-till turns answers (items (unit_parts tree)) (first_walk scopes) (unit-ends tree))
 
-  further-by : (scopes : List Scope) (o : Option Tree) → tree_of tokens ≡ o → All Inside (elim o [ None ↦ fault_at 0 NoTree ∷ [] | Some tree ↦ visit_name_faults turns answers scopes tree ])
-  further-by scopes None h = All-cons Inside (fault_at 0 NoTree) [] some (All-nil Inside)
-  further-by scopes (Some tree) h =
+  further-by : (scopes : List Scope) (r : Result Tree ℕ) → tree_of tokens ≡ r → All Inside (elim r [ Err place ↦ fault_at place NoTree ∷ [] | Ok tree ↦ visit_name_faults turns answers scopes tree ])
+  further-by scopes (Err place) h = All-cons Inside (fault_at place NoTree) [] (stops-within tokens place some (tree-stops tokens place h)) (All-nil Inside)
+  further-by scopes (Ok tree) h =
       All-append Inside (cond (is_misplaced tree scopes) (fault_at 0 MisplacedUnit ∷ []) []) (visit_faults turns answers (items (unit_parts tree)) (first_walk scopes))
       (all-if Inside (is_misplaced tree scopes) (fault_at 0 MisplacedUnit) [] some (All-nil Inside)) (sites-inside scopes tree (tree-spelled tokens tree h))
 

@@ -1,7 +1,7 @@
 -- What comes of a unit: its least fault and what a faulty unit does, or what all its sites come to.
-use Rattle.std.proofs.Common.{◌≡◌, ◌∙◌, ℕ, suc, ◌<◌, Bool, true, false, cond, List, [], ◌∷◌, ◌++◌, length, Option, Some, None, Result, Ok, Err, refl, sym, ap, subst, arith, inl, inr}
+use Rattle.std.proofs.Common.{◌≡◌, ◌∙◌, ℕ, suc, ◌-◌, ◌<◌, Bool, true, false, cond, List, [], ◌∷◌, ◌++◌, length, Option, Some, None, Result, Ok, Err, refl, sym, ap, subst, arith, inl, inr}
 use Rattle.std.proofs.lemmas.List.Elements.{All-weaker}
-use Rattle.std.specs.Prelude.{◌≢◌, ◌⊎◌, fold}
+use Rattle.std.specs.Prelude.{◌≢◌, ◌⊎◌, fold, max}
 use Rattle.std.proofs.lemmas.List.{length-map}
 use Rattle.idl_check.specs.AllFaults.{or_else}
 use Rattle.idl_check.specs.Placing.{faulty_step, opened_kind, opening_faults, step_of}
@@ -32,7 +32,9 @@ use Rattle.idl_tree.specs.ReadUnit.{unit_at}
 use Rattle.idl_tree.specs.Unit.{spell}
 use Rattle.idl_tree.specs.declared.unit.Tree.{Tree}
 use Rattle.idl_tree.proofs.UnitAgain.{unit_again}
-use Rattle.idl_tree.proofs.UnitWhole.{unit_found}
+use Rattle.idl_syntax.proofs.Stops.{some-left, stops-at, stops-once}
+use Rattle.idl_syntax.specs.Parse.{StopsAt}
+use Rattle.idl_tree.proofs.UnitWhole.{unit_fault, unit_found, unit_rest}
 use Rattle.idl_unit.specs.Faults.{least_fault, lesser_fault}
 use Rattle.idl_unit.specs.TokenRules.{fault_at, token_faults}
 use Rattle.idl_unit.specs.declared.fault.Fault.{Fault}
@@ -45,21 +47,50 @@ use Rattle.idl_check.proofs.VisitFaults.{visit_faults, visit_further_faults, vis
 
 -- ---- the tree of tokens
 
-whole-Ok : (r : Result (Tree × List Lexeme) ℕ) (tree : Tree) → whole r ≡ Some tree → r ≡ Ok (tree, [])
-whole-Ok (Ok (t, [])) tree h = let same : t ≡ tree = cc in ap (λ x. Ok (x, [])) same
-whole-Ok (Ok (t, x ∷ xs)) tree h = cc
-whole-Ok (Err left) tree h = cc
+whole-Ok : (count : ℕ) (r : Result (Tree × List Lexeme) ℕ) (tree : Tree) → whole count r ≡ Ok tree → r ≡ Ok (tree, [])
+whole-Ok count (Ok (t, [])) tree h = let same : t ≡ tree = cc in ap (λ x. Ok (x, [])) same
+whole-Ok count (Ok (t, x ∷ xs)) tree h = cc
+whole-Ok count (Err left) tree h = cc
+
+-- a reading may take more levels than there are tokens
+tokens-below : (tokens : List Token) → length (lexemes tokens) < suc (length tokens)
+tokens-below tokens = omega (arith, length-map tokens lexeme_of)
 
 -- it is the one that they spell
-pub tree-spelled : (tokens : List Token) (tree : Tree) → tree_of tokens ≡ Some tree → lexemes tokens ≡ spell tree
+pub tree-spelled : (tokens : List Token) (tree : Tree) → tree_of tokens ≡ Ok tree → lexemes tokens ≡ spell tree
 tree-spelled tokens tree h =
-    let below : length (lexemes tokens) < suc (length tokens) = omega (arith, length-map tokens lexeme_of) in
-    unit_found (suc (length tokens)) (lexemes tokens) tree below (whole-Ok (unit_at (suc (length tokens)) (lexemes tokens)) tree h)
+    unit_found (suc (length tokens)) (lexemes tokens) tree (tokens-below tokens) (whole-Ok (length tokens) (unit_at (suc (length tokens)) (lexemes tokens)) tree h)
 
-pub spelled-tree : (tokens : List Token) (tree : Tree) → lexemes tokens ≡ spell tree → tree_of tokens ≡ Some tree
+pub spelled-tree : (tokens : List Token) (tree : Tree) → lexemes tokens ≡ spell tree → tree_of tokens ≡ Ok tree
 spelled-tree tokens tree h =
     let below : length (spell tree) < suc (length tokens) = omega (arith, length-map tokens lexeme_of, ap length h) in
-    ap (λ ts. whole (unit_at (suc (length tokens)) ts)) h ∙ ap whole (unit_again tree (suc (length tokens)) below)
+    ap (λ ts. whole (length tokens) (unit_at (suc (length tokens)) ts)) h ∙ ap (whole (length tokens)) (unit_again tree (suc (length tokens)) below)
+
+-- ---- where they have none
+
+stops-by : (tokens : List Token) (r : Result (Tree × List Lexeme) ℕ) → unit_at (suc (length tokens)) (lexemes tokens) ≡ r
+    → (place : ℕ) → whole (length tokens) r ≡ Err place → StopsAt tokens place
+stops-by tokens (Ok (t, [])) is place h = absurd cc
+stops-by tokens (Ok (t, x ∷ xs)) is place h =
+    let left = length (x ∷ xs) in
+    let same : length tokens - left ≡ place = cc in
+    subst (StopsAt tokens) same
+    (stops-at tokens left (unit_rest (suc (length tokens)) (lexemes tokens) t x xs (tokens-below tokens) is) left (some-left left (omega arith)))
+stops-by tokens (Err left) is place h =
+    let same : length tokens - max left 1 ≡ place = cc in
+    subst (StopsAt tokens) same (stops-at tokens left (unit_fault (suc (length tokens)) (lexemes tokens) left (tokens-below tokens) is) (max left 1) refl)
+
+-- there they stop
+pub tree-stops : (tokens : List Token) (place : ℕ) → tree_of tokens ≡ Err place → StopsAt tokens place
+tree-stops tokens place h = stops-by tokens (unit_at (suc (length tokens)) (lexemes tokens)) refl place h
+
+stopped-by : (tokens : List Token) (place : ℕ) → StopsAt tokens place → (r : Result Tree ℕ) → tree_of tokens ≡ r → r ≡ Err place
+stopped-by tokens place h (Ok tree) is = absurd (h.0 tree (tree-spelled tokens tree is))
+stopped-by tokens place h (Err at) is = ap Err (stops-once tokens at place (tree-stops tokens at is) h)
+
+-- and where they stop, they have none
+pub stopped-tree : (tokens : List Token) (place : ℕ) → StopsAt tokens place → tree_of tokens ≡ Err place
+stopped-tree tokens place h = stopped-by tokens place h (tree_of tokens) refl
 
 module _ (turns : ℕ) (answers : Key → Option Answer) (tokens : List Token) where
   -- ---- a refused unit
@@ -165,11 +196,11 @@ module _ (turns : ℕ) (answers : Key → Option Answer) (tokens : List Token) w
           (walked-comes stands w refl w.fault refl)
 
     -- by its tree
-    tree-comes : (o : Option Tree) → tree_of tokens ≡ o
-        → Comes (elim o [ None ↦ fault_at 0 NoTree ∷ [] | Some tree ↦ visit_name_faults turns answers scopes tree ]) scopes
-        (outcome (elim o [ None ↦ refused tokens (fault_at 0 NoTree) | Some tree ↦ by_names turns tokens scopes tree ]) answers)
-    tree-comes None h = inl (fault_at 0 NoTree, refused-is (fault_at 0 NoTree), refl)
-    tree-comes (Some tree) h = named-comes tree (tree-spelled tokens tree h) (is_misplaced tree scopes) refl
+    tree-comes : (r : Result Tree ℕ) → tree_of tokens ≡ r
+        → Comes (elim r [ Err place ↦ fault_at place NoTree ∷ [] | Ok tree ↦ visit_name_faults turns answers scopes tree ]) scopes
+        (outcome (elim r [ Err place ↦ refused tokens (fault_at place NoTree) | Ok tree ↦ by_names turns tokens scopes tree ]) answers)
+    tree-comes (Err place) h = inl (fault_at place NoTree, refused-is (fault_at place NoTree), refl)
+    tree-comes (Ok tree) h = named-comes tree (tree-spelled tokens tree h) (is_misplaced tree scopes) refl
 
   -- by the faults of the first step
   first-comes : (scopes : List Scope) (fs : List Fault) → first_faults tokens scopes ≡ fs
@@ -214,23 +245,35 @@ module _ (turns : ℕ) (answers : Key → Option Answer) (tokens : List Token) w
 
   -- ---- what a unit asks that the first two steps refuse
 
-  tree-asks : (scopes : List Scope) (o : Option Tree) → o ≡ None → asked (elim o [ None ↦ refused tokens (fault_at 0 NoTree) | Some tree ↦ by_names turns tokens scopes tree ]) answers ≡ refused_keys tokens
-  tree-asks scopes None h = refused-asks (fault_at 0 NoTree)
-  tree-asks scopes (Some tree) h = cc
+  tree-asks : (scopes : List Scope) (r : Result Tree ℕ) → tree_of tokens ≡ r → ((tree : Tree) → lexemes tokens ≢ spell tree)
+      → asked (elim r [ Err place ↦ refused tokens (fault_at place NoTree) | Ok tree ↦ by_names turns tokens scopes tree ]) answers ≡ refused_keys tokens
+  tree-asks scopes (Err place) is none = refused-asks (fault_at place NoTree)
+  tree-asks scopes (Ok tree) is none = absurd (none tree (tree-spelled tokens tree is))
 
-  first-asks : (scopes : List Scope) (fs : List Fault) → (fs ≡ [] → tree_of tokens ≡ None)
+  first-asks : (scopes : List Scope) (fs : List Fault) → (fs ≡ [] → (tree : Tree) → lexemes tokens ≢ spell tree)
       → asked (elim (least_fault fs) [ Some fault ↦ refused tokens fault | None ↦ by_tree turns tokens scopes ]) answers ≡ refused_keys tokens
-  first-asks scopes [] h = tree-asks scopes (tree_of tokens) (h refl)
+  first-asks scopes [] h = tree-asks scopes (tree_of tokens) refl (h refl)
   first-asks scopes (f ∷ fs) h = refused-asks (fold lesser_fault f fs)
 
-  pub verdict-asks : (first_faults tokens (scopes_in (answers Cursor)) ≡ [] → tree_of tokens ≡ None) → asked (verdict turns (unit.Tokens tokens)) answers ≡ Cursor ∷ refused_keys tokens
+  pub verdict-asks : (first_faults tokens (scopes_in (answers Cursor)) ≡ [] → (tree : Tree) → lexemes tokens ≢ spell tree) → asked (verdict turns (unit.Tokens tokens)) answers ≡ Cursor ∷ refused_keys tokens
   unfolding verdict
   verdict-asks h = ap (λ ks. Cursor ∷ ks) (first-asks (scopes_in (answers Cursor)) (first_faults tokens (scopes_in (answers Cursor))) h)
 
--- tokens that no tree spells
-no-tree : (tokens : List Token) → ((tree : Tree) → lexemes tokens ≢ spell tree) → (o : Option Tree) → tree_of tokens ≡ o → o ≡ None
-no-tree tokens none None h = refl
-no-tree tokens none (Some tree) h = absurd (none tree (tree-spelled tokens tree h))
+  -- ---- what is told of one that stops
 
-pub none-spelled : (tokens : List Token) → ((tree : Tree) → lexemes tokens ≢ spell tree) → tree_of tokens ≡ None
-none-spelled tokens none = no-tree tokens none (tree_of tokens) refl
+  stop-tells : (scopes : List Scope) (place : ℕ) (r : Result Tree ℕ) → r ≡ Err place
+      → outcome (elim r [ Err at ↦ refused tokens (fault_at at NoTree) | Ok tree ↦ by_names turns tokens scopes tree ]) answers ≡ faulty (fault_at place NoTree) (faulty_step tokens)
+  stop-tells scopes place (Err at) h = let same : at ≡ place = cc in refused-is (fault_at at NoTree) ∙ ap (λ n. faulty (fault_at n NoTree) (faulty_step tokens)) same
+  stop-tells scopes place (Ok tree) h = cc
+
+  first-tells : (scopes : List Scope) (place : ℕ) (fs : List Fault) → fs ≡ [] → tree_of tokens ≡ Err place
+      → outcome (elim (least_fault fs) [ Some fault ↦ refused tokens fault | None ↦ by_tree turns tokens scopes ]) answers ≡ faulty (fault_at place NoTree) (faulty_step tokens)
+  first-tells scopes place [] none h = stop-tells scopes place (tree_of tokens) h
+  first-tells scopes place (f ∷ fs) none h = cc
+
+  pub verdict-tells : (place : ℕ) → first_faults tokens (scopes_in (answers Cursor)) ≡ [] → StopsAt tokens place
+      → (outcome (verdict turns (unit.Tokens tokens)) answers).fault ≡ Some (fault_at place NoTree)
+  unfolding verdict
+  verdict-tells place none stops =
+      let scopes = scopes_in (answers Cursor) in
+      ap (λ (v : Verdict). v.fault) (first-tells scopes place (first_faults tokens scopes) none (stopped-tree tokens place stops))

@@ -1,6 +1,6 @@
 -- The faults to which the walk and the verdict come by themselves: of an expression the first one, and
 -- of a name that a oneway operation gives back those of its first token.
-use Rattle.std.proofs.Common.{ℕ, List, [], ◌∷◌, ◌++◌, Option, None, Some, if◌then◌else◌}
+use Rattle.std.proofs.Common.{ℕ, List, [], ◌∷◌, ◌++◌, Option, Ok, Err, if◌then◌else◌}
 use Rattle.idl_check.specs.AllFaults.{or_else}
 use Rattle.idl_check.specs.Rules.{is_misplaced}
 use Rattle.idl_check.specs.Pragmas.{said_by}
@@ -38,7 +38,7 @@ module _ (turns : ℕ) (answers : Key → Option Answer) where
   abbrev pub visit_further_faults : List Token → List Scope → List Fault
   visit_further_faults tokens scopes =
       elim (tree_of tokens)
-      [ None ↦ fault_at 0 NoTree ∷ [] | Some tree ↦ visit_name_faults scopes tree ]
+      [ Err place ↦ fault_at place NoTree ∷ [] | Ok tree ↦ visit_name_faults scopes tree ]
 
   abbrev pub visit_unit_faults : UnitText → List Fault
   visit_unit_faults (unit.Tokens tokens) =

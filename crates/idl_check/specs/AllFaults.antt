@@ -87,7 +87,7 @@ module _ (turns : ℕ) (answers : Key → Option Answer) where
   abbrev pub further_faults : List Token → List Scope → List Fault
   further_faults tokens scopes =
       elim (tree_of tokens)
-      [ None ↦ fault_at 0 NoTree ∷ [] | Some tree ↦ name_faults scopes tree ]
+      [ Err place ↦ fault_at place NoTree ∷ [] | Ok tree ↦ name_faults scopes tree ]
 
   -- those of an id that is given to what a name denotes
   abbrev pub given_faults : ScopedName → List ℕ → Result Found NameFault → List Fault

@@ -1,6 +1,6 @@
 -- The verdict of a unit: its fault, what it adds, and its row in the dump. A fault is found in
 -- three steps: the rules of tokens, the tree, and the rules over tree and names.
-use Rattle.std.specs.Prelude.{ℕ, Bool, suc, ◌-◌, List, [], ◌∷◌, ◌++◌, length, false, Option, None, Some, Result, Ok, if◌then◌else◌}
+use Rattle.std.specs.Prelude.{ℕ, Bool, suc, ◌-◌, List, [], ◌∷◌, ◌++◌, length, max, false, Option, None, Some, Result, Ok, Err, if◌then◌else◌}
 use Rattle.idl_check.specs.Bodies.{raising}
 use Rattle.idl_check.specs.Declaring.{finished, with_finished}
 use Rattle.idl_check.specs.Placing.{faulty_step, opened_kind, opening_faults, step_of}
@@ -105,20 +105,22 @@ by_names turns tokens scopes tree =
     else and_then (walk turns (items (unit_parts tree)) (first_walk scopes))
     (λ w. judged tokens scopes tree w)
 
--- the tree that all of these tokens spell
-abbrev pub whole : Result (Tree × List Lexeme) ℕ → Option Tree
-whole (Ok (tree, [])) = Some tree
-whole other = None
+-- what reading gives over so many tokens: the tree that all of them spell, or else the number of
+-- the one at which they stop being the beginning of one, and of the last where none is left
+abbrev pub whole : ℕ → Result (Tree × List Lexeme) ℕ → Result Tree ℕ
+whole count (Ok (tree, [])) = Ok tree
+whole count (Ok (tree, next ∷ more)) = Err (count - length (next ∷ more))
+whole count (Err left) = Err (count - max left 1)
 
-abbrev pub tree_of : List Token → Option Tree
-tree_of tokens = whole (unit_at (suc (length tokens)) (lexemes tokens))
+abbrev pub tree_of : List Token → Result Tree ℕ
+tree_of tokens = whole (length tokens) (unit_at (suc (length tokens)) (lexemes tokens))
 
 -- the second step, and then the third
 abbrev pub by_tree : ℕ → List Token → List Scope → Lookup Verdict
 by_tree turns tokens scopes =
     elim (tree_of tokens) [
-      | None ↦ refused tokens (fault_at 0 NoTree)
-      | Some tree ↦ by_names turns tokens scopes tree
+      | Err place ↦ refused tokens (fault_at place NoTree)
+      | Ok tree ↦ by_names turns tokens scopes tree
     ]
 
 -- the faults of the first step

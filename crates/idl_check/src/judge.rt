@@ -1,9 +1,9 @@
 //! The verdict of a unit of tokens.
 
-ghost use Rattle.std.specs.Prelude.{◌≡◌, ◌≤◌, ◌++◌, [], ℕ, IfOk, List, None, OnOk, Some, map};
+ghost use Rattle.std.specs.Prelude.{◌≡◌, ◌≤◌, ◌++◌, ◌-◌, [], ℕ, IfOk, List, None, OnOk, Some, length, map};
 ghost use Rattle.idl_check.specs.Held.{HasRoomFor, held};
 ghost use Rattle.idl_check.specs.Placing.{opening_faults, step_of};
-ghost use Rattle.idl_check.specs.Verdict.{asking, by_names, first_part, judged, misplaced, refused, row_depth, sound, token_verdict, tree_of};
+ghost use Rattle.idl_check.specs.Verdict.{asking, by_names, first_part, judged, misplaced, refused, row_depth, sound, token_verdict};
 ghost use Rattle.idl_check.specs.Walk.{walk};
 ghost use Rattle.idl_memo.specs.Query.{and_then, run};
 ghost use Rattle.idl_scope.specs.Facts.{answers, path_around};
@@ -11,7 +11,7 @@ ghost use Rattle.idl_scope.specs.Key.{key_eq};
 ghost use Rattle.idl_scope.specs.Turns.{turns_for};
 ghost use Rattle.idl_site.specs.Item.{item_at, items, items_length};
 ghost use Rattle.idl_site.specs.UnitParts.{unit_parts};
-ghost use Rattle.idl_syntax.specs.Parse.{IsTreeOf};
+ghost use Rattle.idl_syntax.specs.Parse.{IsTreeOf, StopsAt};
 ghost use Rattle.idl_tree.specs.Lexeme.{lexemes};
 ghost use Rattle.idl_tree.specs.Unit.{spell};
 ghost use Rattle.idl_tree.specs.declared.unit.Tree.{Tree as UnitsTree};
@@ -75,7 +75,7 @@ impl<'a> Judge<'a> {
         match parse(self.env.alloc(), text) {
             Ok(tree) => self.with_tree(scratch, log, &tree),
             Err(SyntaxFault::Rule(fault)) => self.refused(log, self.with_opening(fault)),
-            Err(SyntaxFault::NoTree(_place)) => self.without_tree(log),
+            Err(SyntaxFault::NoTree(left)) => self.without_tree(log, left),
             Err(SyntaxFault::Memory) => Err(AllocError),
         }
     }
@@ -92,10 +92,11 @@ impl<'a> Judge<'a> {
         }
     }
 
-    // The verdict of a unit that has no tree, though no rule of tokens refuses it.
-    fn without_tree(self, log: &mut Journal<Env>) -> Result<Verdict, AllocError>
+    // The verdict of a unit that no rule of tokens refuses, but that has no tree: from the token at which that shows so many are
+    // left.
+    fn without_tree(self, log: &mut Journal<Env>, left: usize) -> Result<Verdict, AllocError>
         requires rules { least_fault (token_faults self.tokens.now) ≡ None }
-        requires none { tree_of self.tokens.now ≡ None }
+        requires stops { StopsAt self.tokens.now (length self.tokens.now - left) }
         ensures { IfOk result (λ v. (turns : ℕ) → turns_for self.entry.env.now ≤ turns →
             (v, log.new)
             ≡ run key_eq (token_verdict turns self.entry.tokens.now self.entry.scopes.now)
@@ -103,7 +104,7 @@ impl<'a> Judge<'a> {
     {
         match opening_fault(self.tokens, self.scopes) {
             Some(fault) => self.refused(log, fault),
-            None => self.refused(log, at_first(Code::NoTree)),
+            None => self.refused(log, no_tree(self.tokens, left)),
         }
     }
 
@@ -310,6 +311,16 @@ fn row_depth(tree: &Tree, scopes: &OpenScopes) -> usize
     match tree {
         Tree::Closing => depth(scopes).saturating_sub(1),
         _ => depth(scopes),
+    }
+}
+
+// The fault of a unit that has no tree, where so many of its tokens are left.
+fn no_tree(tokens: &[Token], left: usize) -> Fault
+    ensures { result ≡ fault_at (length tokens.now - left) NoTree }
+{
+    Fault {
+        index: tokens.len().saturating_sub(left),
+        code: Code::NoTree,
     }
 }
 

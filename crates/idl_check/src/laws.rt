@@ -3,7 +3,7 @@
 //! Each function does nothing: it carries its laws as clauses. They hold over any answers, and for
 //! any number of turns. `fitting` alone looks at a unit that a program holds.
 
-ghost use Rattle.std.specs.Prelude.{◌≡◌, ◌≢◌, ◌↔◌, ◌+◌, ◌++◌, ◌<◌, ◌≤◌, Bool, ℕ, List, [], ◌∷◌, All, Contains, codes, decimal, false, length, take, true, None, Ok, Option, Some};
+ghost use Rattle.std.specs.Prelude.{◌≡◌, ◌≢◌, ◌↔◌, ◌+◌, ◌++◌, ◌<◌, ◌≤◌, Bool, ℕ, List, [], ◌∷◌, All, Contains, codes, decimal, false, length, take, true, Err, None, Ok, Option, Some};
 ghost use Rattle.std.specs.Option.{IsSome};
 ghost use Rattle.idl_check.specs.AllFaults.{site_faults, unit_faults};
 ghost use Rattle.idl_check.specs.Closing.{AreTold, HasOperation};
@@ -16,6 +16,7 @@ ghost use Rattle.idl_check.specs.Sections.{AreBracketed};
 ghost use Rattle.idl_check.specs.Valued.{AreValues, expressions};
 ghost use Rattle.idl_check.specs.Verdict.{faulty, first_faults, tree_of, verdict};
 ghost use Rattle.idl_check.specs.Walk.{Walk, first_walk, turns_at, visit};
+ghost use Rattle.idl_event.specs.declared.code.Code.TheVariants.{NoTree};
 ghost use Rattle.idl_lex.specs.Keywords.{folded};
 ghost use Rattle.idl_lex.specs.Tokens.{Token};
 ghost use Rattle.idl_memo.specs.Query.{asked, outcome, run};
@@ -45,7 +46,7 @@ ghost use Rattle.idl_scope.specs.declared.kind.Stage.TheVariants.{Complete};
 ghost use Rattle.idl_site.specs.Item.{Item, items, items_length};
 ghost use Rattle.idl_site.specs.ExpressionParts.{expression_parts};
 ghost use Rattle.idl_site.specs.UnitParts.{unit_parts};
-ghost use Rattle.idl_syntax.specs.Parse.{pragma_faults};
+ghost use Rattle.idl_syntax.specs.Parse.{StopsAt, pragma_faults};
 ghost use Rattle.idl_tree.specs.Lexeme.{lexemes};
 ghost use Rattle.idl_tree.specs.Pragma.{pragma_of};
 ghost use Rattle.idl_tree.specs.Unit.{spell};
@@ -54,6 +55,7 @@ ghost use Rattle.idl_tree.specs.declared.unit.Constant.{Constant};
 ghost use Rattle.idl_tree.specs.declared.unit.Tree.{Tree};
 ghost use Rattle.idl_tree.specs.declared.unit.Tree.TheVariants as tree;
 ghost use Rattle.idl_unit.specs.Faults.{least_fault};
+ghost use Rattle.idl_unit.specs.TokenRules.{fault_at};
 ghost use Rattle.idl_unit.specs.declared.fault.Fault.{Fault};
 ghost use Rattle.idl_unit.specs.declared.unit.UnitText.{UnitText};
 ghost use Rattle.idl_unit.specs.declared.unit.UnitText.TheVariants as unit;
@@ -118,12 +120,27 @@ pub fn acceptance()
         → IsSound turns answers (scopes_in (answers Cursor)) tokens
         (outcome (verdict turns (unit.Tokens tokens)) answers) }
     ensures tree { (tokens : List Token) (tree : Tree)
-        → (tree_of tokens ≡ Some tree) ↔ (lexemes tokens ≡ spell tree) }
+        → (tree_of tokens ≡ Ok tree) ↔ (lexemes tokens ≡ spell tree) }
     ensures pragma { (turns : ℕ) (tokens : List Token) (inside : Bool)
         (answers : Key → Option Answer)
         → (outcome (verdict turns (unit.Pragma tokens inside)) answers).fault ≡ None
         → IsSpoken turns answers tokens inside
         (outcome (verdict turns (unit.Pragma tokens inside)) answers) }
+{}
+
+/// Where no tree spells the tokens of a unit, they stop being the beginning of one at one token alone: the first such that the
+/// tokens through it are no beginning of a tree, or the last where all of them are one. There the unit has E20, if nothing is
+/// wrong with it in the first step.
+pub fn stopping()
+    ensures place { (tokens : List Token) (place : ℕ)
+        → (tree_of tokens ≡ Err place) ↔ StopsAt tokens place }
+    ensures once { (tokens : List Token) (place other : ℕ)
+        → StopsAt tokens place → StopsAt tokens other → place ≡ other }
+    ensures told { (turns : ℕ) (tokens : List Token) (answers : Key → Option Answer)
+        (place : ℕ)
+        → first_faults tokens (scopes_in (answers Cursor)) ≡ [] → StopsAt tokens place
+        → (outcome (verdict turns (unit.Tokens tokens)) answers).fault
+        ≡ Some (fault_at place NoTree) }
 {}
 
 /// At a site a walk has come to the number of its first token, whatever is wrong before, and the

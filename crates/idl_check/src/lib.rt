@@ -35,7 +35,7 @@ mod walk;
 
 pub use laws::{
     acceptance, bracketing, denoting, evaluating, fitting, identification, least, more_turns,
-    numbering, questions, refusal, wording,
+    numbering, questions, refusal, stopping, wording,
 };
 pub use scratch::Scratch;
 pub use task::verdict_of;

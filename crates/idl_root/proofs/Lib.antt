@@ -3,6 +3,7 @@ mod FactsTold
 mod FindingLemmas
 mod FollowingLemmas
 mod JudgingLemmas
+mod NumberLemmas
 mod OrderLemmas
 mod PrintLemmas
 mod ToldLemmas

@@ -85,7 +85,7 @@ told-at : (text : UnitText) (sites : List Site) (v : Verdict) → ((fault : Faul
     → IsTold (record { text = text; sites = sites; verdict = v })
 told-at text sites v there fault is =
     let token = slice_get (tokens_of text) fault.index in
-    (_, (ap (fault_finding text sites) is ∙ ap (λ s. finding_at fault.code s token) (there fault is).1, refl))
+    (_, (ap (fault_finding text sites) is ∙ ap (λ s. finding_at fault.code s token) (there fault is).1, (refl, refl)))
 
 module _
     (numbered : (turns : ℕ) (tokens : List Token) (answers : Key → Option Answer) (fault : Fault) → tokens ≢ []

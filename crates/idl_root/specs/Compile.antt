@@ -1,15 +1,15 @@
 -- What compiling a root gives, from the events that it expands to.
-use Rattle.std.specs.Prelude.{ℕ, Bool, true, false, ◌||◌, List, [], ◌∷◌, ◌++◌, flat_map, length, map, nat_lt, None, option_to_list}
+use Rattle.std.specs.Prelude.{ℕ, Bool, true, false, List, [], ◌∷◌, ◌++◌, flat_map, length, map, nat_lt, None, option_to_list}
 use Rattle.std.specs.List.{enumerate_from, list_any}
 use Rattle.idl_event.specs.Code.{is_error}
-use Rattle.idl_event.specs.Diagnostic.{diagnostic_row}
 use Rattle.idl_event.specs.declared.code.Code.TheVariants.{OpenScope}
 use Rattle.idl_event.specs.declared.event.Event.{Event}
 use Rattle.idl_event.specs.declared.place.Place.{Place}
-use Rattle.idl_root.specs.Findings.{event_finding, in_order, unit_finding}
+use Rattle.idl_root.specs.Findings.{event_finding, finding_row, in_order, numbered, unit_finding}
 use Rattle.idl_root.specs.Judged.{Judged, facts_after, judged_after}
 use Rattle.idl_root.specs.Printed.{Listed, closing_finding, entry_row, listed_in}
 use Rattle.idl_root.specs.declared.compiled.Compiled.{Compiled}
+use Rattle.idl_root.specs.declared.finding.EventFinding.{EventFinding}
 use Rattle.idl_root.specs.declared.finding.Finding.{Finding}
 use Rattle.idl_scope.specs.Facts.{UnitFacts, answers, scopes_in}
 use Rattle.idl_scope.specs.declared.key.Key.TheVariants.{Cursor}
@@ -19,7 +19,7 @@ use Rattle.idl_unit.specs.Units.{units_of}
 -- of the dump, and the names that have an id, in the order in which they are declared first
 pub record Outcome : Type 0 where
   pub facts : List UnitFacts
-  pub found : List Finding
+  pub found : List EventFinding
   pub rows : List (List ℕ)
   pub listed : List Listed
 
@@ -28,7 +28,7 @@ abbrev pub row_in : Judged → List (List ℕ)
 row_in j = option_to_list j.verdict.row
 
 -- what is found in the events, and then what is found in the units
-abbrev pub findings : List Event → List Judged → List Finding
+abbrev pub findings : List Event → List Judged → List EventFinding
 findings events judged =
     flat_map event_finding (enumerate_from 0 events) ++ flat_map unit_finding judged
 
@@ -47,10 +47,11 @@ outcome_of events =
 abbrev pub is_open : List UnitFacts → Bool
 is_open facts = nat_lt 1 (length (scopes_in (answers facts Cursor)))
 
--- the row of a scope that is open at the end, which is this place
-abbrev pub open_row : Place → Bool → List (List ℕ)
-open_row end true = diagnostic_row end OpenScope None ∷ []
-open_row end false = []
+-- what is found of a scope that is open at the end, which is this place
+abbrev pub open_finding : Place → Bool → List Finding
+open_finding end true =
+    record { place = end; code = OpenScope; text = None; number = None } ∷ []
+open_finding end false = []
 
 -- one of them is an error
 abbrev pub has_error : List Finding → Bool
@@ -61,22 +62,25 @@ abbrev pub rows_beside : Bool → List (List ℕ) → List (List ℕ)
 rows_beside false rows = rows
 rows_beside true rows = []
 
--- the rows of a root, whose end is this place: those of what is found, in the order of the events
--- that they name, then that of an open scope, and then those of what is never defined
-abbrev pub told : Place → Outcome → Compiled
-told end o =
-    let is_open_at_end = is_open o.facts in
-    let closing = flat_map (closing_finding o.facts) o.listed in
-    let is_faulty = (is_open_at_end || has_error o.found) || has_error closing in
+-- what is found in a root of these events, whose end is this place: in the order of the events that
+-- it names, then an open scope, and then what is never defined
+abbrev pub all_findings : Place → List Event → Outcome → List Finding
+all_findings end events o =
+    (map (numbered events) (in_order o.found) ++ open_finding end (is_open o.facts))
+    ++ map (numbered events) (flat_map (closing_finding o.facts) o.listed)
+
+-- what is told of a root: what is found, a row each, and other rows where no error is among it
+abbrev pub told : Place → List Event → Outcome → Compiled
+told end events o =
+    let findings = all_findings end events o in
     record {
-      diagnostics =
-          map (λ f. f.row) (in_order o.found)
-          ++ (open_row end is_open_at_end ++ map (λ f. f.row) closing);
-      listing = rows_beside is_faulty (flat_map (entry_row o.facts) o.listed);
-      dump = rows_beside is_faulty o.rows;
-      is_faulty = is_faulty;
+      findings = findings;
+      diagnostics = map finding_row findings;
+      listing = rows_beside (has_error findings) (flat_map (entry_row o.facts) o.listed);
+      dump = rows_beside (has_error findings) o.rows;
+      is_faulty = has_error findings;
     }
 
 -- the rows of a root that expands to these events, and whose end is this place
 unfoldable pub compile : Place → List Event → Compiled
-compile end events = told end (outcome_of events)
+compile end events = told end events (outcome_of events)

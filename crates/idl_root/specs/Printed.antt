@@ -7,7 +7,7 @@ use Rattle.idl_repo.specs.Entry.{entry}
 use Rattle.idl_repo.specs.declared.entry.Entry.{Entry}
 use Rattle.idl_root.specs.Findings.{fault_finding, tokens_of}
 use Rattle.idl_root.specs.Judged.{Judged}
-use Rattle.idl_root.specs.declared.finding.Finding.{Finding}
+use Rattle.idl_root.specs.declared.finding.EventFinding.{EventFinding}
 use Rattle.idl_root.specs.declared.printing.Sought.{Sought}
 use Rattle.idl_scope.specs.Facts.{UnitFacts, answers}
 use Rattle.idl_scope.specs.declared.addition.Addition.{Addition}
@@ -52,7 +52,7 @@ abbrev pub name_index : UnitText → ℕ
 name_index text = length (tokens_of text) - 2
 
 -- what is wrong with a name at the end, at that name where it was declared ahead
-abbrev pub closing_finding : List UnitFacts → Listed → List Finding
+abbrev pub closing_finding : List UnitFacts → Listed → List EventFinding
 closing_finding facts l =
     fault_finding l.text l.sites
     (option_map (fault_at (name_index l.text)) (entry_over facts l.path).fault)
@@ -64,5 +64,5 @@ sought_at s = record { path = s.answered.1; text = s.unit.text.now; sites = s.un
 abbrev pub sought_row : Sought → List (List ℕ)
 sought_row s = entry_row s.answered.0 (sought_at s)
 
-abbrev pub sought_finding : Sought → List Finding
+abbrev pub sought_finding : Sought → List EventFinding
 sought_finding s = closing_finding s.answered.0 (sought_at s)

@@ -1,28 +1,28 @@
 //! The compilation of a root.
 
-ghost use Rattle.std.specs.Prelude.{◌≡◌, ◌++◌, [], IfOk, IfSome, map};
-ghost use Rattle.idl_root.specs.Compile.{compile, rows_beside, has_error, open_row, told};
-ghost use Rattle.idl_root.specs.Findings.{in_order};
+ghost use Rattle.std.specs.Prelude.{◌≡◌, ◌++◌, [], IfOk, IfSome, OnOk};
+ghost use Rattle.idl_root.specs.Compile.{compile, rows_beside, open_finding, told};
 ghost use Rattle.idl_root.specs.Followed.{IsKeeping};
 ghost use Rattle.idl_root.specs.Held.{held};
 
-use crate::finding::{Finding, event_findings, has_error, push_rows, rows_in_order};
+use crate::finding::{Finding, event_findings, has_error, in_order, push_numbered, rows_of};
 use crate::judging::{Ended, Judging};
 use crate::keeping::Keeping;
 use crate::kept::KeptUnits;
 use crate::memory::Memory;
 use crate::printing::Printed;
 use idl_base::{Seq, SharedText};
-use idl_event::{Code, Expansion, Place, diagnostic_row};
+use idl_event::{Code, Expansion, Place};
 use idl_unit::split;
 use std::alloc::{AllocError, Global};
 
 /// A row of diagnostics, of a listing or of a dump, whose bytes are shared: a line of text without its newline.
 pub type Row = SharedText;
 
-/// What compiling a root gives: the rows of its diagnostics, and of its listing and its dump, which are empty where one of them
-/// is an error.
+/// What compiling a root gives: what is found in it, a row of its diagnostics each, and the rows of its listing and its dump, which
+/// are empty where an error is among that.
 pub struct Compiled {
+    pub findings: Seq<Finding>,
     pub diagnostics: Seq<Row>,
     pub listing: Seq<Row>,
     pub dump: Seq<Row>,
@@ -33,6 +33,7 @@ pub struct Compiled {
 impl Drop for Compiled {
     fn drop(self) {
         let Compiled {
+            findings: _findings,
             diagnostics: _diagnostics,
             listing: _listing,
             dump: _dump,
@@ -100,7 +101,7 @@ fn compile_with(
     let keeping = keeping(alloc, earlier, count.saturating_sub(1))?;
     let first = Judging::new(alloc, findings, count, keeping)?;
     let judging = first.with_all(alloc, units.as_slice())?;
-    Ok(told(memory, end, judging)?)
+    Ok(told(memory, end, expansion, judging)?)
 }
 
 // Before the first of so many units, where this was kept, if anything is kept.
@@ -121,10 +122,11 @@ fn keeping<'k>(
 fn told(
     memory: &mut Memory,
     end: &Place,
+    expansion: &Expansion,
     judging: Judging,
 ) -> Result<(Compiled, Option<KeptUnits>), AllocError>
     requires { IfSome judging.gathered.keeping (λ k. IsKeeping k judging.env) }
-    ensures { IfOk result (λ root. root.0 ≡ told end.now (held judging.entry)) }
+    ensures { IfOk result (λ root. root.0 ≡ told end.now expansion.now (held judging.entry)) }
 {
     let alloc = memory.alloc();
     let is_open = judging.is_open();
@@ -134,14 +136,18 @@ fn told(
         entries,
     } = judging.printed(alloc)?;
     let Ended {
-        findings,
+        findings: found,
         rows,
         kept,
     } = judging.ended(memory, entries);
-    let is_faulty = is_open || has_error(&findings) || has_error(&closing);
-    let open = open_rows(alloc, end, is_open)?;
-    let diagnostics = diagnostics(alloc, findings, open, closing)?;
+    let mut findings = Vec::new(alloc);
+    push_numbered(alloc, &mut findings, expansion, &in_order(found)?)?;
+    push_open(&mut findings, end, is_open)?;
+    push_numbered(alloc, &mut findings, expansion, &closing)?;
+    let is_faulty = has_error(&findings);
+    let diagnostics = rows_of(alloc, &findings)?;
     let compiled = Compiled {
+        findings: Seq::from_vec(findings),
         diagnostics: Seq::from_vec(diagnostics),
         listing: rows_beside(alloc, is_faulty, listing),
         dump: rows_beside(alloc, is_faulty, rows),
@@ -150,33 +156,19 @@ fn told(
     Ok((compiled, kept))
 }
 
-// The row of a scope that is open at the end, if one is.
-fn open_rows(alloc: Global, end: &Place, is_open: bool) -> Result<Vec<Row>, AllocError>
-    ensures { IfOk result (λ rows. rows.items ≡ open_row end.now is_open) }
+// Puts in that a scope is open at the end, if one is.
+fn push_open(findings: &mut Vec<Finding>, end: &Place, is_open: bool) -> Result<(), AllocError>
+    ensures { OnOk result (findings.new.items ≡ findings.old.items ++ open_finding end.now is_open) }
 {
-    let mut rows = Vec::new(alloc);
     if is_open {
-        let row = diagnostic_row(alloc, end, Code::OpenScope, None)?;
-        rows.push(SharedText::from_slice(alloc, row.as_bytes())?)?;
+        findings.push(Finding {
+            place: end.clone()?,
+            code: Code::OpenScope,
+            text: None,
+            number: None,
+        })?;
     }
-    Ok(rows)
-}
-
-// The rows of the diagnostics: those of what is found, in the order of events, and then others.
-fn diagnostics(
-    alloc: Global,
-    findings: Vec<Finding>,
-    mut scope: Vec<Row>,
-    closing: Vec<Finding>,
-) -> Result<Vec<Row>, AllocError>
-    ensures { IfOk result (λ rows. rows.items
-        ≡ map (λ f. f.row) (in_order findings.items)
-        ++ (scope.items ++ map (λ f. f.row) closing.items)) }
-{
-    let mut rows = rows_in_order(alloc, findings)?;
-    rows.append(&mut scope)?;
-    push_rows(&mut rows, closing.as_slice())?;
-    Ok(rows)
+    Ok(())
 }
 
 // Rows, beside an error none.

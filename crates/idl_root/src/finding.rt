@@ -4,19 +4,32 @@ ghost use Rattle.std.specs.Prelude.{◌≡◌, ◌++◌, IfOk, OnOk, Some, flat_
 ghost use Rattle.std.specs.List.{enumerate_from};
 ghost use Rattle.std.specs.Option.{option_copied, option_to_list};
 ghost use Rattle.idl_root.specs.Compile.{has_error};
-ghost use Rattle.idl_root.specs.Findings.{event_finding, fault_finding, finding_at, in_order, site_of, tokens_of};
+ghost use Rattle.idl_root.specs.Findings.{event_finding, fault_finding, finding_at, finding_row, in_order, numbered, site_of, tokens_of};
 
+use crate::number::token_number;
 use idl_base::SharedText;
 use idl_event::{Code, Event, Expansion, Place, Site, diagnostic_row};
 use idl_unit::{Fault, SiteRun, UnitText};
 use std::alloc::{AllocError, Global};
 
-/// A diagnostic: the number of the event that it names, its code, and its row.
+/// What is found in a root, of which a row is made.
 #[derive(Drop)]
 pub struct Finding {
-    pub event: usize,
+    pub place: Place,
     pub code: Code,
-    pub row: SharedText,
+    /// What the row shows behind the code, if it does: most often the token at which the fault is decided.
+    pub text: Option<SharedText>,
+    /// The number of that token among those of its line that stand together, from 0.
+    pub number: Option<usize>,
+}
+
+/// What is found at an event: the number of the event, and what a row is made of.
+#[derive(Drop)]
+pub struct EventFinding {
+    pub event: usize,
+    pub place: Place,
+    pub code: Code,
+    pub text: Option<SharedText>,
 }
 
 /// A unit with tokens: its text, and where each token stands, or of a pragma its first word.
@@ -27,7 +40,7 @@ pub struct Spelled<'a> {
 }
 
 /// What is found in the events: the faults of the preprocessor.
-pub fn event_findings(alloc: Global, expansion: &Expansion) -> Result<Vec<Finding>, AllocError>
+pub fn event_findings(alloc: Global, expansion: &Expansion) -> Result<Vec<EventFinding>, AllocError>
     ensures { IfOk result (λ findings. findings.items
         ≡ flat_map event_finding (enumerate_from 0 expansion.now)) }
 {
@@ -42,7 +55,7 @@ pub fn event_findings(alloc: Global, expansion: &Expansion) -> Result<Vec<Findin
 // Puts in what is found in an event, if it is a fault.
 fn push_event(
     alloc: Global,
-    findings: &mut Vec<Finding>,
+    findings: &mut Vec<EventFinding>,
     number: usize,
     event: &Event,
 ) -> Result<(), AllocError>
@@ -53,19 +66,29 @@ fn push_event(
         return Ok(());
     };
     let text = text.as_ref().map(|text| text.as_bytes());
-    let row = diagnostic_row(alloc, place, *code, text)?;
-    findings.push(Finding {
+    findings.push(EventFinding {
         event: number,
+        place: place.clone()?,
         code: *code,
-        row: SharedText::from_slice(alloc, row.as_bytes())?,
+        text: shared_text(alloc, text)?,
     })?;
     Ok(())
+}
+
+// A text of these bytes, if there are any.
+fn shared_text(alloc: Global, bytes: Option<&[u8]>) -> Result<Option<SharedText>, AllocError>
+    ensures { IfOk result (λ text. text ≡ option_copied bytes.entry) }
+{
+    match bytes {
+        Some(bytes) => Ok(Some(SharedText::from_slice(alloc, bytes)?)),
+        None => Ok(None),
+    }
 }
 
 /// Puts in the fault of a unit, if it has one.
 pub fn push_fault(
     alloc: Global,
-    findings: &mut Vec<Finding>,
+    findings: &mut Vec<EventFinding>,
     unit: Spelled<'_>,
     fault: Option<Fault>,
 ) -> Result<(), AllocError>
@@ -84,7 +107,7 @@ pub fn push_fault(
 
 impl<'a> Spelled<'a> {
     // What is told of this fault of the unit.
-    fn finding(self, alloc: Global, fault: Fault) -> Result<Option<Finding>, AllocError>
+    fn finding(self, alloc: Global, fault: Fault) -> Result<Option<EventFinding>, AllocError>
         ensures { IfOk result (λ found. option_to_list found
             ≡ fault_finding self.entry.text.now self.entry.sites.now (Some fault)) }
     {
@@ -122,19 +145,18 @@ fn finding_at(
     code: Code,
     site: Option<&Site>,
     token: Option<&[u8]>,
-) -> Result<Option<Finding>, AllocError>
+) -> Result<Option<EventFinding>, AllocError>
     ensures { IfOk result (λ found. option_to_list found
         ≡ finding_at code (option_copied site.entry) (option_copied token.entry)) }
 {
     let Some(site) = site else {
         return Ok(None);
     };
-    let row = diagnostic_row(alloc, &site.place()?, code, token)?;
-    let row = SharedText::from_slice(alloc, row.as_bytes())?;
-    Ok(Some(Finding {
+    Ok(Some(EventFinding {
         event: site.event,
+        place: site.place()?,
         code,
-        row,
+        text: shared_text(alloc, token)?,
     }))
 }
 
@@ -145,33 +167,65 @@ pub fn has_error(findings: &[Finding]) -> bool
     findings.iter().any(|finding| finding.code.is_error())
 }
 
-/// The rows in the order of the events that they name.
-pub fn rows_in_order(
-    alloc: Global,
-    mut findings: Vec<Finding>,
-) -> Result<Vec<SharedText>, AllocError>
-    ensures { IfOk result (λ rows. rows.items ≡ map (λ f. f.row) (in_order findings.items)) }
+/// What is found, in the order of the events that it names.
+pub fn in_order(mut found: Vec<EventFinding>) -> Result<Vec<EventFinding>, AllocError>
+    ensures { IfOk result (λ sorted. sorted.items ≡ in_order found.items) }
 {
-    findings.sort_by_key(|finding| finding.event)?;
-    Ok(rows_of(alloc, &findings)?)
+    found.sort_by_key(|finding| finding.event)?;
+    Ok(found)
 }
 
-// Their rows, which they share.
-fn rows_of(alloc: Global, findings: &[Finding]) -> Result<Vec<SharedText>, AllocError>
-    ensures { IfOk result (λ rows. rows.items ≡ map (λ f. f.row) findings.now) }
+/// Puts in what is found at events of an expansion, with the numbers of its tokens.
+pub fn push_numbered(
+    alloc: Global,
+    findings: &mut Vec<Finding>,
+    expansion: &Expansion,
+    found: &[EventFinding],
+) -> Result<(), AllocError>
+    ensures { OnOk result
+        (findings.new.items ≡ findings.old.items ++ map (numbered expansion.now) found.now) }
 {
-    let mut rows = Vec::new(alloc);
-    push_rows(&mut rows, findings)?;
+    for finding in found {
+        findings.push(numbered(alloc, expansion, finding)?)?;
+    }
+    Ok(())
+}
+
+// What is found at an event of an expansion, with its token's number.
+fn numbered(
+    alloc: Global,
+    expansion: &Expansion,
+    found: &EventFinding,
+) -> Result<Finding, AllocError>
+    ensures { IfOk result (λ finding. finding ≡ numbered expansion.now found.now) }
+{
+    let text = found.text.as_ref().map(|text| text.as_bytes());
+    Ok(Finding {
+        place: found.place.clone()?,
+        code: found.code,
+        text: shared_text(alloc, text)?,
+        number: token_number(expansion, found.event),
+    })
+}
+
+/// The rows of what is found.
+pub fn rows_of(alloc: Global, findings: &[Finding]) -> Result<Vec<SharedText>, AllocError>
+    ensures { IfOk result (λ rows. rows.items ≡ map finding_row findings.now) }
+{
+    let mut rows = Vec::with_capacity(alloc, findings.len())?;
+    for finding in findings {
+        rows.push(finding.row(alloc)?)?;
+    }
     Ok(rows)
 }
 
-/// Puts in their rows, which they share.
-pub fn push_rows(rows: &mut Vec<SharedText>, findings: &[Finding]) -> Result<(), AllocError>
-    ensures { OnOk result
-        (rows.new.items ≡ rows.old.items ++ map (λ f. f.row) findings.now) }
-{
-    for finding in findings {
-        rows.push(finding.row.clone()?)?;
+impl Finding {
+    // Its row.
+    fn row(&self, alloc: Global) -> Result<SharedText, AllocError>
+        ensures { IfOk result (λ row. row ≡ finding_row self.now) }
+    {
+        let text = self.text.as_ref().map(|text| text.as_bytes());
+        let row = diagnostic_row(alloc, &self.place, self.code, text)?;
+        SharedText::from_slice(alloc, row.as_bytes())
     }
-    Ok(())
 }

@@ -12,7 +12,7 @@ ghost use Rattle.idl_scope.specs.Facts.{UnitFacts};
 
 use crate::added::Added;
 use crate::compiled::Row;
-use crate::finding::{Finding, Spelled, push_fault};
+use crate::finding::{EventFinding, Spelled, push_fault};
 use crate::keeping::Keeping;
 use crate::kept::{KeptEntry, KeptUnit, KeptUnits};
 use crate::memory::Memory;
@@ -31,7 +31,7 @@ pub struct Judging<'a> {
 
 /// What was gathered of a root's units so far.
 pub struct Gathered<'a> {
-    pub findings: Vec<Finding>,
+    pub findings: Vec<EventFinding>,
     /// The rows of the dump.
     pub rows: Vec<Row>,
     /// The names that have an id, in the order in which they were declared first.
@@ -45,7 +45,7 @@ pub struct Gathered<'a> {
 /// What came of all units.
 #[derive(Drop)]
 pub struct Ended {
-    pub findings: Vec<Finding>,
+    pub findings: Vec<EventFinding>,
     pub rows: Vec<Row>,
     pub kept: Option<KeptUnits>,
 }
@@ -75,7 +75,7 @@ impl<'a> Judging<'a> {
     /// Before the first of so many units, where this is found in the events.
     pub fn new(
         alloc: Global,
-        findings: Vec<Finding>,
+        findings: Vec<EventFinding>,
         count: usize,
         keeping: Option<Keeping<'a>>,
     ) -> Result<Judging<'a>, AllocError>

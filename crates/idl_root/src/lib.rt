@@ -14,10 +14,12 @@ mod keeping;
 mod kept;
 mod laws;
 mod memory;
+mod number;
 mod printing;
 mod reprinting;
 
 pub use compiled::{Compiled, Recompiled, Row, compile, compile_after};
+pub use finding::Finding;
 pub use kept::KeptUnits;
 pub use laws::{ordering, telling};
 pub use memory::Memory;

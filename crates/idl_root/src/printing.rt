@@ -11,7 +11,7 @@ ghost use Rattle.idl_root.specs.Printed.{closing_finding, entry_over, entry_row,
 ghost use Rattle.idl_unit.specs.TokenRules.{fault_at};
 
 use crate::compiled::Row;
-use crate::finding::{Finding, Spelled, push_fault};
+use crate::finding::{EventFinding, Spelled, push_fault};
 use crate::kept::KeptEntry;
 use crate::reprinting::Reprinting;
 use idl_base::{Span, push_texts};
@@ -30,7 +30,7 @@ pub struct Listed<'a> {
 /// What comes of names: what is wrong with them, and the rows of a listing.
 #[derive(Drop)]
 pub struct Printed {
-    pub findings: Vec<Finding>,
+    pub findings: Vec<EventFinding>,
     pub rows: Vec<Row>,
     /// What is kept of the names, if anything is.
     pub entries: Vec<Shared<KeptEntry>>,
@@ -325,7 +325,7 @@ impl Written {
 // Puts in what is wrong at the end with a name that a unit declares first, if anything is.
 fn push_closing(
     alloc: Global,
-    findings: &mut Vec<Finding>,
+    findings: &mut Vec<EventFinding>,
     unit: Spelled<'_>,
     fault: Option<Code>,
 ) -> Result<(), AllocError>

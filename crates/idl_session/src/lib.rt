@@ -21,7 +21,7 @@ pub use idl_source::{
     BufferSink, Line, Name, ReadFailed, Refusal, Sink, SliceSource, Source, WriteFailed, write_all,
 };
 pub use idl_workspace::{
-    MAX_BODY, MAX_DIRECTORIES, MAX_MACROS, MAX_ROOTS, Row, Session, Span, Work,
+    Finding, MAX_BODY, MAX_DIRECTORIES, MAX_MACROS, MAX_ROOTS, Row, Session, Span, Work,
 };
 pub use laws::complete_commands;
 pub use reply::write_lines;

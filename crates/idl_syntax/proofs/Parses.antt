@@ -1,10 +1,6 @@
 -- What a whole reading says of the tokens of the code.
 use Rattle.std.proofs.Common.{◌≡◌, ℕ, ◌+◌, ◌<◌, List, [], ◌∷◌, length, Ok, Err, subst, arith}
 use Rattle.std.proofs.lemmas.List.{length-map}
-use Rattle.idl_syntax.specs.Fault.{IsFault}
-use Rattle.idl_syntax.specs.Gives.{Fails}
-use Rattle.idl_syntax.specs.declared.error.ReadError.{ReadError}
-use Rattle.idl_syntax.specs.declared.error.ReadError.TheVariants as errors
 use Rattle.idl_tree.specs.Fault.{IsFaultAt}
 use Rattle.idl_tree.specs.Lexeme.{Lexeme, Lexemes, lexeme_of, lexemes}
 use Rattle.idl_tree.specs.ReadUnit.{unit_at}
@@ -20,9 +16,8 @@ tree_found found tokens [] tree read none = found (length tokens + 1) (lexemes t
 tree_found found tokens (t ∷ rest) tree read none = absurd (omega (arith, none))
 
 pub fault_found : ((n : ℕ) (tokens : Lexemes) (left : ℕ) → length tokens < n → unit_at n tokens ≡ Err left → IsFaultAt spell tokens left)
-    → (tokens : List (List ℕ)) (why : ReadError) → Fails why (unit_at (length tokens + 1) (lexemes tokens)) → IsFault (lexemes tokens) why
-fault_found fault tokens errors.Memory read = tt
-fault_found fault tokens (errors.Syntax left) read = fault (length tokens + 1) (lexemes tokens) left (enough tokens) read
+    → (tokens : List (List ℕ)) (left : ℕ) → unit_at (length tokens + 1) (lexemes tokens) ≡ Err left → IsFaultAt spell (lexemes tokens) left
+fault_found law tokens left read = law (length tokens + 1) (lexemes tokens) left (enough tokens) read
 
 pub rest_found : ((n : ℕ) (tokens : Lexemes) (tree : Tree) (next : Lexeme) (more : Lexemes) → length tokens < n → unit_at n tokens ≡ Ok (tree, next ∷ more) → IsFaultAt spell tokens (length (next ∷ more)))
     → (tokens rest : List (List ℕ)) (tree : Tree) → unit_at (length tokens + 1) (lexemes tokens) ≡ Ok (tree, lexemes rest) → 0 < length rest → IsFaultAt spell (lexemes tokens) (length rest)

@@ -1,16 +1,17 @@
 -- What is read after something was read.
 use Rattle.std.proofs.Common.{◌≡◌, ℕ, Bool, List, [], ◌∷◌, Result, Ok, Err, drop, length, slice_range, refl, ap, ◌∙◌}
 use Rattle.idl_syntax.specs.Gives.{Fails}
-use Rattle.idl_syntax.specs.declared.error.ReadError.{ReadError}
-use Rattle.idl_syntax.specs.declared.error.ReadError.TheVariants as errors
+use Rattle.idl_syntax.specs.declared.fault.SyntaxFault.{SyntaxFault}
+use Rattle.idl_syntax.specs.declared.fault.SyntaxFault.TheVariants as fault
 use Rattle.idl_syntax.proofs.Turns.{rest_is}
 use Rattle.idl_tree.specs.Lexeme.{Lexemes, lexemes}
 use Rattle.idl_tree.specs.Reading.{Reader, ◌>>=◌}
 
 -- where reading fails, nothing is read after it
-step_fails : {A B : Type 0} (why : ReadError) (read : Result A ℕ) (next : A → Result B ℕ) → Fails why read → Fails why (read >>= next)
-step_fails errors.Memory read next f = f
-step_fails (errors.Syntax left) read next f = ap (λ r. r >>= next) f
+step_fails : {A B : Type 0} (why : SyntaxFault) (read : Result A ℕ) (next : A → Result B ℕ) → Fails why read → Fails why (read >>= next)
+step_fails fault.Memory read next f = f
+step_fails (fault.Rule found) read next f = f
+step_fails (fault.NoTree left) read next f = ap (λ r. r >>= next) f
 
 -- what was read, with what is left
 abbrev with_rest : {A : Type 0} → A → Lexemes → Result (A × Lexemes) ℕ
@@ -36,7 +37,7 @@ named_read (Err left) x y rest h = cc
 
 -- an operation whose context can't be read
 pub context_fails : {P R C O : Type 0} (opening : Result Lexemes ℕ) (parameters : Reader P) (closing : Lexemes → Result Lexemes ℕ) (raises : Reader R) (context : Reader C) (operation : P → R → C → O)
-    (why : ReadError) (ts ts1 ts2 ts3 : Lexemes) (p q : P) (r : R) → opening ≡ Ok ts → parameters ts ≡ Ok (p, ts1) → (closing ts1 >>= with_rest p) ≡ Ok (q, ts2) → raises ts2 ≡ Ok (r, ts3) → Fails why (context ts3)
+    (why : SyntaxFault) (ts ts1 ts2 ts3 : Lexemes) (p q : P) (r : R) → opening ≡ Ok ts → parameters ts ≡ Ok (p, ts1) → (closing ts1 >>= with_rest p) ≡ Ok (q, ts2) → raises ts2 ≡ Ok (r, ts3) → Fails why (context ts3)
     → Fails why (opening >>= λ rest. parameters rest >>= λ ps. closing ps.1 >>= λ rest2. raises rest2 >>= λ rs. context rs.1 >>= made (operation ps.0 rs.0))
 context_fails opening parameters closing raises context operation why ts ts1 ts2 ts3 p q r opened listed closed raised f =
     rw (opened, listed, closed_read (closing ts1) p q ts2 closed, raised) (step_fails why (context ts3) (made (operation p r)) f)

@@ -1,5 +1,4 @@
 pub mod Gives
-pub mod Fault
 pub mod Next
 pub mod Literal
 pub mod Steps

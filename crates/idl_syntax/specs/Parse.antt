@@ -1,15 +1,16 @@
 -- The tree of a unit, and the fault of one that has none.
-use Rattle.std.specs.Prelude.{◌≡◌, ◌<◌, ◌-◌, ℕ, Bool, List, [], ◌∷◌, ◌++◌, length, is_some, Option, None, Some, if◌then◌else◌}
+use Rattle.std.specs.Prelude.{◌≡◌, ◌≢◌, ◌⊎◌, ◌+◌, ◌-◌, ℕ, Bool, List, [], ◌∷◌, ◌++◌, length, take, is_some, Option, None, Some, if◌then◌else◌}
 use Rattle.idl_event.specs.declared.code.Code.TheVariants.{PragmaInside, MalformedPragma}
 use Rattle.idl_lex.specs.Tokens.{Token}
-use Rattle.idl_syntax.specs.declared.unit_tree.SyntaxFault.{SyntaxFault}
-use Rattle.idl_syntax.specs.declared.unit_tree.SyntaxFault.TheVariants as fault
+use Rattle.idl_syntax.specs.declared.fault.SyntaxFault.{SyntaxFault}
+use Rattle.idl_syntax.specs.declared.fault.SyntaxFault.TheVariants as fault
 use Rattle.idl_syntax.specs.declared.unit_tree.UnitTree.{UnitTree}
 use Rattle.idl_syntax.specs.declared.unit_tree.UnitTree.TheVariants as tree
-use Rattle.idl_tree.specs.Fault.{IsFaultAt}
-use Rattle.idl_tree.specs.Lexeme.{lexemes}
+use Rattle.idl_tree.specs.Fault.{Begins}
+use Rattle.idl_tree.specs.Lexeme.{Lexemes, lexemes}
 use Rattle.idl_tree.specs.Pragma.{pragma_of}
 use Rattle.idl_tree.specs.Unit.{spell}
+use Rattle.idl_tree.specs.declared.unit.Tree.{Tree}
 use Rattle.idl_unit.specs.TokenRules.{fault_at, token_faults}
 use Rattle.idl_unit.specs.declared.fault.Fault.{Fault}
 use Rattle.idl_unit.specs.declared.unit.UnitText.{UnitText}
@@ -33,16 +34,22 @@ IsTreeOf (unit.Tokens tokens) (tree.Tokens t) = lexemes tokens ≡ spell t
 IsTreeOf (unit.Pragma tokens inside) (tree.Pragma p) = pragma_of tokens ≡ Some p
 IsTreeOf text other = ⊥
 
--- No tree has this spelling. The tokens before the one with this number are the beginning of one,
--- and through it they are none; without a number all of them are the beginning of one.
-abbrev pub StopsAt : List Token → Option ℕ → Type 0
-StopsAt tokens None = IsFaultAt spell (lexemes tokens) 0
-StopsAt tokens (Some n) =
-    (n < length tokens) × IsFaultAt spell (lexemes tokens) (length tokens - n)
+-- the tokens before the one with this number are the beginning of a tree, and through it they are
+-- none
+abbrev pub BeginsUpTo : Lexemes → ℕ → Type 0
+BeginsUpTo tokens n = Begins spell (take n tokens) × (Begins spell (take (n + 1) tokens) → ⊥)
+
+-- No tree has this spelling. The token with this number is the first such that the tokens through
+-- it are no beginning of a tree; or all of them are the beginning of one, and it is the last.
+abbrev pub StopsAt : List Token → ℕ → Type 0
+StopsAt tokens n =
+    ((tree : Tree) → lexemes tokens ≢ spell tree)
+    × (BeginsUpTo (lexemes tokens) n ⊎ (Begins spell (lexemes tokens) × (n ≡ length tokens - 1)))
 
 -- why a unit, in which the rules found this, has no tree; want of memory says nothing
 abbrev pub IsFaultOf : UnitText → Option Fault → SyntaxFault → Type 0
 IsFaultOf text found fault.Memory = Unit {0}
 IsFaultOf text found (fault.Rule f) = found ≡ Some f
-IsFaultOf (unit.Tokens tokens) found (fault.NoTree place) = (found ≡ None) × StopsAt tokens place
+IsFaultOf (unit.Tokens tokens) found (fault.NoTree left) =
+    (found ≡ None) × StopsAt tokens (length tokens - left)
 IsFaultOf text found other = ⊥

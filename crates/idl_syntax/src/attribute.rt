@@ -8,7 +8,7 @@ ghost use Rattle.idl_syntax.specs.Gives.{Advances, Reads, Remains};
 
 use crate::cursor::{behind_word, identifier, is_at_word, keyword};
 use crate::data_type::data_type;
-use crate::error::ReadError;
+use crate::fault::SyntaxFault;
 use crate::name::{more_identifiers, raises, raises_if};
 use idl_lex::{Keyword, Spelling, Token};
 use idl_tree::{
@@ -22,7 +22,7 @@ pub fn readonly_attribute(
     alloc: Global,
     depth: usize,
     tokens: &[Token],
-) -> Result<(ReadonlyAttribute, &[Token]), ReadError>
+) -> Result<(ReadonlyAttribute, &[Token]), SyntaxFault>
     ensures reads { Reads (readonly_attribute_with (type_at depth)) tokens.now result }
     ensures shorter { Advances tokens.now result }
 {
@@ -35,7 +35,7 @@ pub fn readonly_attribute(
 
 /// Its name with what reading raises, or its names.
 #[tactic(auto, unfolding(idl_tree::specs::ReadInterface::readonly_names_at))]
-fn readonly_names(alloc: Global, tokens: &[Token]) -> Result<(ReadonlyNames, &[Token]), ReadError>
+fn readonly_names(alloc: Global, tokens: &[Token]) -> Result<(ReadonlyNames, &[Token]), SyntaxFault>
     ensures reads { Reads readonly_names_at tokens.now result }
     ensures shorter { Advances tokens.now result }
 {
@@ -49,7 +49,7 @@ fn readonly_names_rest(
     alloc: Global,
     name: Spelling,
     tokens: &[Token],
-) -> Result<(ReadonlyNames, &[Token]), ReadError>
+) -> Result<(ReadonlyNames, &[Token]), SyntaxFault>
     ensures reads { Reads (readonly_rest name) tokens.now result }
     ensures within { Remains tokens.now result }
 {
@@ -72,7 +72,7 @@ pub fn attribute(
     alloc: Global,
     depth: usize,
     tokens: &[Token],
-) -> Result<(Attribute, &[Token]), ReadError>
+) -> Result<(Attribute, &[Token]), SyntaxFault>
     ensures reads { Reads (attribute_with (type_at depth)) tokens.now result }
     ensures shorter { Advances tokens.now result }
 {
@@ -84,7 +84,10 @@ pub fn attribute(
 
 /// Its name with what it raises, or its names.
 #[tactic(auto, unfolding(idl_tree::specs::ReadInterface::attribute_names_at))]
-fn attribute_names(alloc: Global, tokens: &[Token]) -> Result<(AttributeNames, &[Token]), ReadError>
+fn attribute_names(
+    alloc: Global,
+    tokens: &[Token],
+) -> Result<(AttributeNames, &[Token]), SyntaxFault>
     ensures reads { Reads attribute_names_at tokens.now result }
     ensures shorter { Advances tokens.now result }
 {
@@ -97,7 +100,7 @@ fn attribute_names_rest(
     alloc: Global,
     name: Spelling,
     tokens: &[Token],
-) -> Result<(AttributeNames, &[Token]), ReadError>
+) -> Result<(AttributeNames, &[Token]), SyntaxFault>
     ensures reads { Reads (λ ts. attribute_by name (keyword_of (first ts)) ts) tokens.now result }
     ensures within { Remains tokens.now result }
 {
@@ -126,7 +129,7 @@ fn attribute_names_rest(
 
 /// What reading raises, with what writing does if that is said.
 #[tactic(auto, unfolding(idl_tree::specs::ReadInterface::getraises_at))]
-fn getraises(alloc: Global, tokens: &[Token]) -> Result<(AttributeRaises, &[Token]), ReadError>
+fn getraises(alloc: Global, tokens: &[Token]) -> Result<(AttributeRaises, &[Token]), SyntaxFault>
     ensures reads { Reads getraises_at tokens.now result }
     ensures shorter { Advances tokens.now result }
 {

@@ -12,8 +12,8 @@ ghost use Rattle.idl_syntax.specs.Nested.{nested};
 use crate::cursor::{behind, behind_word, closed, identifier, is_at, is_at_word, keyword};
 use crate::data_type::{data_type, discrete_type};
 use crate::declarator::{declarator, declarators};
-use crate::error::ReadError;
 use crate::expression::expression;
+use crate::fault::SyntaxFault;
 use crate::name::{identifiers, scoped_name};
 use idl_base::{Boxed, Seq};
 use idl_lex::{Keyword, Mark, Spelling, Token};
@@ -25,7 +25,7 @@ use std::alloc::Global;
 
 /// An enum.
 #[tactic(auto, unfolding(idl_tree::specs::ReadConstruction::enumeration_at))]
-pub fn enumeration(alloc: Global, tokens: &[Token]) -> Result<(Enumeration, &[Token]), ReadError>
+pub fn enumeration(alloc: Global, tokens: &[Token]) -> Result<(Enumeration, &[Token]), SyntaxFault>
     ensures reads { Reads enumeration_at tokens.now result }
     ensures shorter { Advances tokens.now result }
 {
@@ -39,7 +39,7 @@ pub fn enumeration(alloc: Global, tokens: &[Token]) -> Result<(Enumeration, &[To
 /// The type of a union's discriminator.
 #[tactic(auto, unfolding(idl_tree::specs::ReadConstruction::discriminator_at))]
 #[inline(never)]
-fn discriminator(alloc: Global, tokens: &[Token]) -> Result<(Discriminator, &[Token]), ReadError>
+fn discriminator(alloc: Global, tokens: &[Token]) -> Result<(Discriminator, &[Token]), SyntaxFault>
     ensures reads { Reads discriminator_at tokens.now result }
     ensures shorter { Advances tokens.now result }
 {
@@ -57,7 +57,7 @@ fn discriminator(alloc: Global, tokens: &[Token]) -> Result<(Discriminator, &[To
 
 /// A label of a case.
 #[tactic(auto, unfolding(idl_tree::specs::ReadConstruction::label_with))]
-fn label(alloc: Global, depth: usize, tokens: &[Token]) -> Result<(Label, &[Token]), ReadError>
+fn label(alloc: Global, depth: usize, tokens: &[Token]) -> Result<(Label, &[Token]), SyntaxFault>
     ensures reads { Reads (label_with (expression_at depth)) tokens.now result }
     ensures shorter { Advances tokens.now result }
 {
@@ -86,7 +86,7 @@ fn labels(
     alloc: Global,
     depth: usize,
     tokens: &[Token],
-) -> Result<(Several<Label>, &[Token]), ReadError>
+) -> Result<(Several<Label>, &[Token]), SyntaxFault>
     ensures reads { Reads (all_with begins_label (label_with (expression_at depth)))
         tokens.now result }
     ensures shorter { Advances tokens.now result }
@@ -102,7 +102,7 @@ fn more_labels(
     alloc: Global,
     depth: usize,
     tokens: &[Token],
-) -> Result<(Seq<Label>, &[Token]), ReadError>
+) -> Result<(Seq<Label>, &[Token]), SyntaxFault>
     ensures reads { Reads (many_of begins_label (label_with (expression_at depth)))
         tokens.now result }
     ensures within { Remains tokens.now result }
@@ -134,12 +134,12 @@ pub fn construction(
     alloc: Global,
     depth: usize,
     tokens: &[Token],
-) -> Result<(Construction, &[Token]), ReadError>
+) -> Result<(Construction, &[Token]), SyntaxFault>
     ensures reads { Reads (construction_at depth) tokens.now result }
     ensures shorter { Advances tokens.now result }
 {
     if depth == 0 {
-        return Err(ReadError::Syntax(tokens.len()));
+        return Err(SyntaxFault::NoTree(tokens.len()));
     }
     construction_inside(alloc, depth - 1, tokens)
 }
@@ -151,7 +151,7 @@ fn construction_inside(
     alloc: Global,
     depth: usize,
     tokens: &[Token],
-) -> Result<(Construction, &[Token]), ReadError>
+) -> Result<(Construction, &[Token]), SyntaxFault>
     ensures reads { Reads (nested construction_with depth) tokens.now result }
     ensures shorter { Advances tokens.now result }
 {
@@ -179,7 +179,7 @@ pub fn member_type(
     alloc: Global,
     depth: usize,
     tokens: &[Token],
-) -> Result<(MemberType, &[Token]), ReadError>
+) -> Result<(MemberType, &[Token]), SyntaxFault>
     ensures reads { Reads (member_type_with (type_at depth) (construction_at depth))
         tokens.now result }
     ensures shorter { Advances tokens.now result }
@@ -197,7 +197,7 @@ pub fn member_type(
 /// Members of one type.
 #[cycle(construction)]
 #[tactic(auto, unfolding(idl_tree::specs::ReadConstruction::member_with))]
-fn member(alloc: Global, depth: usize, tokens: &[Token]) -> Result<(Member, &[Token]), ReadError>
+fn member(alloc: Global, depth: usize, tokens: &[Token]) -> Result<(Member, &[Token]), SyntaxFault>
     ensures reads { Reads (nested member_with depth) tokens.now result }
     ensures shorter { Advances tokens.now result }
 {
@@ -212,7 +212,7 @@ pub fn members(
     alloc: Global,
     depth: usize,
     tokens: &[Token],
-) -> Result<(Seq<Member>, &[Token]), ReadError>
+) -> Result<(Seq<Member>, &[Token]), SyntaxFault>
     ensures reads { Reads (many_of goes_on (nested member_with depth)) tokens.now result }
     ensures within { Remains tokens.now result }
 {
@@ -234,7 +234,7 @@ fn structure(
     alloc: Global,
     depth: usize,
     tokens: &[Token],
-) -> Result<(Boxed<Structure>, &[Token]), ReadError>
+) -> Result<(Boxed<Structure>, &[Token]), SyntaxFault>
     ensures reads { Reads (nested structure_with depth) tokens.now result }
     ensures shorter { Advances tokens.now result }
 {
@@ -251,7 +251,7 @@ pub fn structure_rest(
     depth: usize,
     name: Spelling,
     tokens: &[Token],
-) -> Result<(Boxed<Structure>, &[Token]), ReadError>
+) -> Result<(Boxed<Structure>, &[Token]), SyntaxFault>
     ensures reads { Reads (nested structure_rest_with depth name) tokens.now result }
     ensures shorter { Advances tokens.now result }
 {
@@ -274,7 +274,7 @@ fn union_type(
     alloc: Global,
     depth: usize,
     tokens: &[Token],
-) -> Result<(Boxed<Union>, &[Token]), ReadError>
+) -> Result<(Boxed<Union>, &[Token]), SyntaxFault>
     ensures reads { Reads (nested union_with depth) tokens.now result }
     ensures shorter { Advances tokens.now result }
 {
@@ -291,7 +291,7 @@ pub fn union_rest(
     depth: usize,
     name: Spelling,
     tokens: &[Token],
-) -> Result<(Boxed<Union>, &[Token]), ReadError>
+) -> Result<(Boxed<Union>, &[Token]), SyntaxFault>
     ensures reads { Reads (nested union_rest_with depth name) tokens.now result }
     ensures shorter { Advances tokens.now result }
 {
@@ -311,7 +311,7 @@ fn union_cases(
     depth: usize,
     head: (Spelling, Discriminator),
     tokens: &[Token],
-) -> Result<(Boxed<Union>, &[Token]), ReadError>
+) -> Result<(Boxed<Union>, &[Token]), SyntaxFault>
     ensures reads { Reads (nested cases_with depth head.0 head.1) tokens.now result }
     ensures shorter { Advances tokens.now result }
 {
@@ -331,7 +331,7 @@ fn union_cases(
 /// A member of a union, with its labels.
 #[cycle(construction)]
 #[tactic(auto, unfolding(idl_tree::specs::ReadConstruction::case_with))]
-fn case(alloc: Global, depth: usize, tokens: &[Token]) -> Result<(Case, &[Token]), ReadError>
+fn case(alloc: Global, depth: usize, tokens: &[Token]) -> Result<(Case, &[Token]), SyntaxFault>
     ensures reads { Reads (nested case_with depth) tokens.now result }
     ensures shorter { Advances tokens.now result }
 {
@@ -349,7 +349,11 @@ fn case(alloc: Global, depth: usize, tokens: &[Token]) -> Result<(Case, &[Token]
 /// The cases before a closing brace.
 #[cycle(construction)]
 #[inline(always)]
-fn cases(alloc: Global, depth: usize, tokens: &[Token]) -> Result<(Seq<Case>, &[Token]), ReadError>
+fn cases(
+    alloc: Global,
+    depth: usize,
+    tokens: &[Token],
+) -> Result<(Seq<Case>, &[Token]), SyntaxFault>
     ensures reads { Reads (many_of goes_on (nested case_with depth)) tokens.now result }
     ensures within { Remains tokens.now result }
 {

@@ -8,7 +8,7 @@ ghost use Rattle.idl_tree.specs.Tests.{by_word, identifier_at, identifier_of, is
 ghost use Rattle.idl_syntax.specs.Gives.{Advances, Passes, Reads};
 ghost use Rattle.idl_syntax.specs.Next.{closed_with, mark_of, named_with};
 
-use crate::error::ReadError;
+use crate::fault::SyntaxFault;
 use idl_lex::{Keyword, Kind, Mark, Spelling, Token};
 use std::alloc::AllocError;
 
@@ -61,19 +61,19 @@ pub fn is_at_word(tokens: &[Token], word: Keyword) -> bool
 }
 
 /// What stands behind this mark.
-pub fn behind(tokens: &[Token], mark: Mark) -> Result<&[Token], ReadError>
+pub fn behind(tokens: &[Token], mark: Mark) -> Result<&[Token], SyntaxFault>
     ensures reads { Passes (is_mark mark) tokens.now result }
     ensures shorter { IfOk result (λ x. length x.now < length tokens.now) }
 {
     if is_at(tokens, mark) {
         Ok(&tokens[1..])
     } else {
-        Err(ReadError::Syntax(tokens.len()))
+        Err(SyntaxFault::NoTree(tokens.len()))
     }
 }
 
 /// What was read, with an identifier behind it.
-pub fn named<T: Drop>(read: T, tokens: &[Token]) -> Result<((T, Spelling), &[Token]), ReadError>
+pub fn named<T: Drop>(read: T, tokens: &[Token]) -> Result<((T, Spelling), &[Token]), SyntaxFault>
     ensures reads { Reads (named_with read) tokens.now result }
     ensures shorter { Advances tokens.now result }
 {
@@ -82,7 +82,7 @@ pub fn named<T: Drop>(read: T, tokens: &[Token]) -> Result<((T, Spelling), &[Tok
 }
 
 /// What was read, with this mark behind it.
-pub fn closed<T: Drop>(read: T, tokens: &[Token], mark: Mark) -> Result<(T, &[Token]), ReadError>
+pub fn closed<T: Drop>(read: T, tokens: &[Token], mark: Mark) -> Result<(T, &[Token]), SyntaxFault>
     ensures reads { Reads (closed_with mark read) tokens.now result }
     ensures shorter { Advances tokens.now result }
 {
@@ -91,14 +91,14 @@ pub fn closed<T: Drop>(read: T, tokens: &[Token], mark: Mark) -> Result<(T, &[To
 }
 
 /// What stands behind this keyword.
-pub fn behind_word(tokens: &[Token], word: Keyword) -> Result<&[Token], ReadError>
+pub fn behind_word(tokens: &[Token], word: Keyword) -> Result<&[Token], SyntaxFault>
     ensures reads { Passes (is_word word) tokens.now result }
     ensures shorter { IfOk result (λ x. length x.now < length tokens.now) }
 {
     if is_at_word(tokens, word) {
         Ok(&tokens[1..])
     } else {
-        Err(ReadError::Syntax(tokens.len()))
+        Err(SyntaxFault::NoTree(tokens.len()))
     }
 }
 
@@ -107,7 +107,7 @@ pub fn by_word<T: Copy>(
     tokens: &[Token],
     word: Keyword,
     value: T,
-) -> Result<(T, &[Token]), ReadError>
+) -> Result<(T, &[Token]), SyntaxFault>
     ensures reads { Reads (by_word word value) tokens.now result }
     ensures shorter { Advances tokens.now result }
 {
@@ -138,12 +138,12 @@ fn shared_name(tokens: &[Token]) -> Result<Option<Spelling>, AllocError>
 }
 
 /// An identifier.
-pub fn identifier(tokens: &[Token]) -> Result<(Spelling, &[Token]), ReadError>
+pub fn identifier(tokens: &[Token]) -> Result<(Spelling, &[Token]), SyntaxFault>
     ensures reads { Reads identifier_at tokens.now result }
     ensures shorter { Advances tokens.now result }
 {
     match shared_name(tokens)? {
         Some(name) => Ok((name, &tokens[1..])),
-        None => Err(ReadError::Syntax(tokens.len())),
+        None => Err(SyntaxFault::NoTree(tokens.len())),
     }
 }

@@ -8,8 +8,8 @@ ghost use Rattle.idl_tree.specs.Reading.{first};
 ghost use Rattle.idl_syntax.specs.Gives.{Advances, Reads, Remains};
 
 use crate::cursor::{behind, behind_word, by_word, closed, is_at, is_at_word, keyword};
-use crate::error::ReadError;
 use crate::expression::expression;
+use crate::fault::SyntaxFault;
 use crate::name::scoped_name;
 use idl_base::Boxed;
 use idl_lex::{Keyword, Mark, Token};
@@ -21,7 +21,7 @@ use std::alloc::Global;
 
 /// The size that is said behind `long`.
 #[tactic(auto, unfolding(idl_tree::specs::ReadType::long_size_at))]
-fn long_size(tokens: &[Token]) -> Result<(IntegerSize, &[Token]), ReadError>
+fn long_size(tokens: &[Token]) -> Result<(IntegerSize, &[Token]), SyntaxFault>
     ensures reads { Reads long_size_at tokens.now result }
     ensures within { Remains tokens.now result }
 {
@@ -34,7 +34,7 @@ fn long_size(tokens: &[Token]) -> Result<(IntegerSize, &[Token]), ReadError>
 
 /// The size of an integer type.
 #[tactic(auto, unfolding(idl_tree::specs::ReadType::size_at))]
-fn integer_size(tokens: &[Token]) -> Result<(IntegerSize, &[Token]), ReadError>
+fn integer_size(tokens: &[Token]) -> Result<(IntegerSize, &[Token]), SyntaxFault>
     ensures reads { Reads size_at tokens.now result }
     ensures shorter { Advances tokens.now result }
 {
@@ -47,7 +47,7 @@ fn integer_size(tokens: &[Token]) -> Result<(IntegerSize, &[Token]), ReadError>
 }
 
 /// An integer type with `unsigned`.
-fn unsigned_type(tokens: &[Token]) -> Result<(DiscreteType, &[Token]), ReadError>
+fn unsigned_type(tokens: &[Token]) -> Result<(DiscreteType, &[Token]), SyntaxFault>
     ensures reads { Reads unsigned_at tokens.now result }
     ensures shorter { Advances tokens.now result }
 {
@@ -61,7 +61,7 @@ fn unsigned_type(tokens: &[Token]) -> Result<(DiscreteType, &[Token]), ReadError
 }
 
 /// An integer type without `unsigned`.
-fn signed_type(tokens: &[Token]) -> Result<(DiscreteType, &[Token]), ReadError>
+fn signed_type(tokens: &[Token]) -> Result<(DiscreteType, &[Token]), SyntaxFault>
     ensures reads { Reads signed_at tokens.now result }
     ensures shorter { Advances tokens.now result }
 {
@@ -75,7 +75,7 @@ fn signed_type(tokens: &[Token]) -> Result<(DiscreteType, &[Token]), ReadError>
 
 /// A type of keywords alone that a discriminator or a constant may have.
 #[tactic(auto, unfolding(idl_tree::specs::ReadType::discrete_at))]
-pub fn discrete_type(tokens: &[Token]) -> Result<(DiscreteType, &[Token]), ReadError>
+pub fn discrete_type(tokens: &[Token]) -> Result<(DiscreteType, &[Token]), SyntaxFault>
     ensures reads { Reads discrete_at tokens.now result }
     ensures shorter { Advances tokens.now result }
 {
@@ -86,13 +86,13 @@ pub fn discrete_type(tokens: &[Token]) -> Result<(DiscreteType, &[Token]), ReadE
         Some(Keyword::Wchar) => by_word(tokens, Keyword::Wchar, DiscreteType::WideChar),
         Some(Keyword::Boolean) => by_word(tokens, Keyword::Boolean, DiscreteType::Boolean),
         Some(Keyword::Octet) => by_word(tokens, Keyword::Octet, DiscreteType::Octet),
-        _ => Err(ReadError::Syntax(tokens.len())),
+        _ => Err(SyntaxFault::NoTree(tokens.len())),
     }
 }
 
 /// What `long` begins.
 #[tactic(auto, unfolding(idl_tree::specs::ReadType::long_at))]
-fn long_type(tokens: &[Token]) -> Result<(BasicType, &[Token]), ReadError>
+fn long_type(tokens: &[Token]) -> Result<(BasicType, &[Token]), SyntaxFault>
     ensures reads { Reads long_at tokens.now result }
     ensures shorter { Advances tokens.now result }
 {
@@ -116,7 +116,7 @@ fn signed(size: IntegerSize) -> BasicType
 
 /// A type of keywords alone.
 #[tactic(auto, unfolding(idl_tree::specs::ReadType::basic_at))]
-fn basic_type(tokens: &[Token]) -> Result<(BasicType, &[Token]), ReadError>
+fn basic_type(tokens: &[Token]) -> Result<(BasicType, &[Token]), SyntaxFault>
     ensures reads { Reads basic_at tokens.now result }
     ensures shorter { Advances tokens.now result }
 {
@@ -139,7 +139,7 @@ fn string_bound(
     alloc: Global,
     depth: usize,
     tokens: &[Token],
-) -> Result<(Option<Boxed<Expression>>, &[Token]), ReadError>
+) -> Result<(Option<Boxed<Expression>>, &[Token]), SyntaxFault>
     ensures reads { Reads (bound_with (expression_at depth)) tokens.now result }
     ensures within { Remains tokens.now result }
 {
@@ -158,12 +158,12 @@ pub fn string_type(
     alloc: Global,
     depth: usize,
     tokens: &[Token],
-) -> Result<(StringType, &[Token]), ReadError>
+) -> Result<(StringType, &[Token]), SyntaxFault>
     ensures reads { Reads (string_with (expression_at depth)) tokens.now result }
     ensures shorter { Advances tokens.now result }
 {
     let Some(is_wide) = string_word(tokens) else {
-        return Err(ReadError::Syntax(tokens.len()));
+        return Err(SyntaxFault::NoTree(tokens.len()));
     };
     let (bound, rest) = string_bound(alloc, depth, &tokens[1..])?;
     Ok((StringType { is_wide, bound }, rest))
@@ -186,7 +186,7 @@ fn plain_type(
     alloc: Global,
     depth: usize,
     tokens: &[Token],
-) -> Result<(PlainType, &[Token]), ReadError>
+) -> Result<(PlainType, &[Token]), SyntaxFault>
     ensures reads { Reads (plain_with (expression_at depth)) tokens.now result }
     ensures shorter { Advances tokens.now result }
 {
@@ -212,7 +212,7 @@ fn sequence_bound(
     alloc: Global,
     depth: usize,
     tokens: &[Token],
-) -> Result<(Option<Expression>, &[Token]), ReadError>
+) -> Result<(Option<Expression>, &[Token]), SyntaxFault>
     ensures reads { Reads (limit_with (expression_at depth)) tokens.now result }
     ensures within { Remains tokens.now result }
 {
@@ -231,12 +231,12 @@ pub fn data_type(
     alloc: Global,
     depth: usize,
     tokens: &[Token],
-) -> Result<(DataType, &[Token]), ReadError>
+) -> Result<(DataType, &[Token]), SyntaxFault>
     ensures reads { Reads (type_at depth) tokens.now result }
     ensures shorter { Advances tokens.now result }
 {
     if depth == 0 {
-        return Err(ReadError::Syntax(tokens.len()));
+        return Err(SyntaxFault::NoTree(tokens.len()));
     }
     if is_at_word(tokens, Keyword::Sequence) {
         return sequence(alloc, depth - 1, tokens);
@@ -252,7 +252,7 @@ fn sequence(
     alloc: Global,
     depth: usize,
     tokens: &[Token],
-) -> Result<(DataType, &[Token]), ReadError>
+) -> Result<(DataType, &[Token]), SyntaxFault>
     ensures reads { Reads (sequence_with (expression_at depth) (type_at depth)) tokens.now result }
     ensures shorter { Advances tokens.now result }
 {

@@ -9,8 +9,8 @@ ghost use Rattle.idl_tree.specs.Tests.{is_mark};
 ghost use Rattle.idl_syntax.specs.Gives.{Advances, Reads, Remains};
 
 use crate::cursor::{behind, closed, identifier, is_at};
-use crate::error::ReadError;
 use crate::expression::expression;
+use crate::fault::SyntaxFault;
 use idl_base::Seq;
 use idl_lex::{Mark, Token};
 use idl_tree::{Declarator, Expression, Several};
@@ -22,7 +22,7 @@ fn array_length(
     alloc: Global,
     depth: usize,
     tokens: &[Token],
-) -> Result<(Expression, &[Token]), ReadError>
+) -> Result<(Expression, &[Token]), SyntaxFault>
     ensures reads { Reads (length_with (expression_at depth)) tokens.now result }
     ensures shorter { Advances tokens.now result }
 {
@@ -36,7 +36,7 @@ fn array_lengths(
     alloc: Global,
     depth: usize,
     tokens: &[Token],
-) -> Result<(Seq<Expression>, &[Token]), ReadError>
+) -> Result<(Seq<Expression>, &[Token]), SyntaxFault>
     ensures reads { Reads (many_of (is_mark OpenBracket) (length_with (expression_at depth)))
         tokens.now result }
     ensures within { Remains tokens.now result }
@@ -58,7 +58,7 @@ pub fn declarator(
     alloc: Global,
     depth: usize,
     tokens: &[Token],
-) -> Result<(Declarator, &[Token]), ReadError>
+) -> Result<(Declarator, &[Token]), SyntaxFault>
     ensures reads { Reads (declarator_with (expression_at depth)) tokens.now result }
     ensures shorter { Advances tokens.now result }
 {
@@ -74,7 +74,7 @@ pub fn declarators(
     alloc: Global,
     depth: usize,
     tokens: &[Token],
-) -> Result<(Several<Declarator>, &[Token]), ReadError>
+) -> Result<(Several<Declarator>, &[Token]), SyntaxFault>
     ensures reads { Reads (listed_with (declarator_with (expression_at depth))) tokens.now result }
     ensures shorter { Advances tokens.now result }
 {
@@ -88,7 +88,7 @@ fn more_declarators(
     alloc: Global,
     depth: usize,
     tokens: &[Token],
-) -> Result<(Seq<Declarator>, &[Token]), ReadError>
+) -> Result<(Seq<Declarator>, &[Token]), SyntaxFault>
     ensures reads { Reads (many_of (is_mark Comma) (behind_with Comma (declarator_with
         (expression_at depth)))) tokens.now result }
     ensures within { Remains tokens.now result }

@@ -11,7 +11,7 @@ ghost use Rattle.idl_syntax.specs.Gives.{Advances, Reads, Remains};
 ghost use Rattle.idl_syntax.specs.Steps.{steps_with};
 
 use crate::cursor::{behind, closed, is_at, name};
-use crate::error::ReadError;
+use crate::fault::SyntaxFault;
 use crate::literal::literal;
 use crate::name::scoped_name;
 use crate::operator::{product_operator, shift_operator, sum_operator, unary_operator};
@@ -30,12 +30,12 @@ pub fn expression(
     alloc: Global,
     depth: usize,
     tokens: &[Token],
-) -> Result<(Expression, &[Token]), ReadError>
+) -> Result<(Expression, &[Token]), SyntaxFault>
     ensures reads { Reads (expression_at depth) tokens.now result }
     ensures shorter { Advances tokens.now result }
 {
     if depth == 0 {
-        return Err(ReadError::Syntax(tokens.len()));
+        return Err(SyntaxFault::NoTree(tokens.len()));
     }
     alternatives(alloc, depth - 1, tokens)
 }
@@ -47,7 +47,7 @@ fn alternatives(
     alloc: Global,
     depth: usize,
     tokens: &[Token],
-) -> Result<(Expression, &[Token]), ReadError>
+) -> Result<(Expression, &[Token]), SyntaxFault>
     ensures reads { Reads (or_with (expression_at depth)) tokens.now result }
     ensures shorter { Advances tokens.now result }
 {
@@ -63,7 +63,7 @@ fn more_alternatives(
     alloc: Global,
     depth: usize,
     tokens: &[Token],
-) -> Result<(Seq<ExclusiveOr>, &[Token]), ReadError>
+) -> Result<(Seq<ExclusiveOr>, &[Token]), SyntaxFault>
     ensures reads { Reads (many_of (is_mark mark.Bar) (behind_with mark.Bar (exclusive_or_with
         (expression_at depth)))) tokens.now result }
     ensures within { Remains tokens.now result }
@@ -85,7 +85,7 @@ fn exclusive_or(
     alloc: Global,
     depth: usize,
     tokens: &[Token],
-) -> Result<(ExclusiveOr, &[Token]), ReadError>
+) -> Result<(ExclusiveOr, &[Token]), SyntaxFault>
     ensures reads { Reads (exclusive_or_with (expression_at depth)) tokens.now result }
     ensures shorter { Advances tokens.now result }
 {
@@ -101,7 +101,7 @@ fn more_ands(
     alloc: Global,
     depth: usize,
     tokens: &[Token],
-) -> Result<(Seq<And>, &[Token]), ReadError>
+) -> Result<(Seq<And>, &[Token]), SyntaxFault>
     ensures reads { Reads (many_of (is_mark mark.Caret) (behind_with mark.Caret (and_with
         (expression_at depth)))) tokens.now result }
     ensures within { Remains tokens.now result }
@@ -119,7 +119,7 @@ fn more_ands(
 /// Operands with `&` between them.
 #[cycle(expression)]
 #[tactic(auto, unfolding(idl_tree::specs::ReadExpression::parted_with))]
-fn and(alloc: Global, depth: usize, tokens: &[Token]) -> Result<(And, &[Token]), ReadError>
+fn and(alloc: Global, depth: usize, tokens: &[Token]) -> Result<(And, &[Token]), SyntaxFault>
     ensures reads { Reads (and_with (expression_at depth)) tokens.now result }
     ensures shorter { Advances tokens.now result }
 {
@@ -135,7 +135,7 @@ fn more_shifts(
     alloc: Global,
     depth: usize,
     tokens: &[Token],
-) -> Result<(Seq<Shift>, &[Token]), ReadError>
+) -> Result<(Seq<Shift>, &[Token]), SyntaxFault>
     ensures reads { Reads (many_of (is_mark mark.Ampersand) (behind_with mark.Ampersand (shift_with
         (expression_at depth)))) tokens.now result }
     ensures within { Remains tokens.now result }
@@ -153,7 +153,7 @@ fn more_shifts(
 /// An operand, and shifts of it.
 #[cycle(expression)]
 #[tactic(auto, unfolding(idl_tree::specs::ReadExpression::chain_with))]
-fn shift(alloc: Global, depth: usize, tokens: &[Token]) -> Result<(Shift, &[Token]), ReadError>
+fn shift(alloc: Global, depth: usize, tokens: &[Token]) -> Result<(Shift, &[Token]), SyntaxFault>
     ensures reads { Reads (shift_with (expression_at depth)) tokens.now result }
     ensures shorter { Advances tokens.now result }
 {
@@ -169,7 +169,7 @@ fn more_sums(
     alloc: Global,
     depth: usize,
     tokens: &[Token],
-) -> Result<(Seq<(ShiftOperator, Sum)>, &[Token]), ReadError>
+) -> Result<(Seq<(ShiftOperator, Sum)>, &[Token]), SyntaxFault>
     ensures reads { Reads (steps_with shift_operator_of (sum_with (expression_at depth))) tokens.now
         result }
     ensures within { Remains tokens.now result }
@@ -187,7 +187,7 @@ fn more_sums(
 /// An operand, and what is added or taken away.
 #[cycle(expression)]
 #[tactic(auto, unfolding(idl_tree::specs::ReadExpression::chain_with))]
-fn sum(alloc: Global, depth: usize, tokens: &[Token]) -> Result<(Sum, &[Token]), ReadError>
+fn sum(alloc: Global, depth: usize, tokens: &[Token]) -> Result<(Sum, &[Token]), SyntaxFault>
     ensures reads { Reads (sum_with (expression_at depth)) tokens.now result }
     ensures shorter { Advances tokens.now result }
 {
@@ -203,7 +203,7 @@ fn more_products(
     alloc: Global,
     depth: usize,
     tokens: &[Token],
-) -> Result<(Seq<(SumOperator, Product)>, &[Token]), ReadError>
+) -> Result<(Seq<(SumOperator, Product)>, &[Token]), SyntaxFault>
     ensures reads { Reads (steps_with sum_operator_of (product_with (expression_at depth)))
         tokens.now result }
     ensures within { Remains tokens.now result }
@@ -221,7 +221,11 @@ fn more_products(
 /// An operand, and factors and divisors.
 #[cycle(expression)]
 #[tactic(auto, unfolding(idl_tree::specs::ReadExpression::chain_with))]
-fn product(alloc: Global, depth: usize, tokens: &[Token]) -> Result<(Product, &[Token]), ReadError>
+fn product(
+    alloc: Global,
+    depth: usize,
+    tokens: &[Token],
+) -> Result<(Product, &[Token]), SyntaxFault>
     ensures reads { Reads (product_with (expression_at depth)) tokens.now result }
     ensures shorter { Advances tokens.now result }
 {
@@ -237,7 +241,7 @@ fn more_unaries(
     alloc: Global,
     depth: usize,
     tokens: &[Token],
-) -> Result<(Seq<(ProductOperator, Unary)>, &[Token]), ReadError>
+) -> Result<(Seq<(ProductOperator, Unary)>, &[Token]), SyntaxFault>
     ensures reads { Reads (steps_with product_operator_of (unary_with (primary_with (expression_at
         depth)))) tokens.now result }
     ensures within { Remains tokens.now result }
@@ -255,7 +259,7 @@ fn more_unaries(
 /// An operand, with at most one operator before it.
 #[cycle(expression)]
 #[tactic(auto, unfolding(idl_tree::specs::ReadExpression::unary_with))]
-fn unary(alloc: Global, depth: usize, tokens: &[Token]) -> Result<(Unary, &[Token]), ReadError>
+fn unary(alloc: Global, depth: usize, tokens: &[Token]) -> Result<(Unary, &[Token]), SyntaxFault>
     ensures reads { Reads (unary_with (primary_with (expression_at depth))) tokens.now result }
     ensures shorter { Advances tokens.now result }
 {
@@ -272,7 +276,11 @@ fn unary(alloc: Global, depth: usize, tokens: &[Token]) -> Result<(Unary, &[Toke
 /// A name, a literal, or an expression in parentheses.
 #[cycle(expression)]
 #[tactic(auto, unfolding(idl_tree::specs::ReadExpression::primary_with))]
-fn primary(alloc: Global, depth: usize, tokens: &[Token]) -> Result<(Primary, &[Token]), ReadError>
+fn primary(
+    alloc: Global,
+    depth: usize,
+    tokens: &[Token],
+) -> Result<(Primary, &[Token]), SyntaxFault>
     ensures reads { Reads (primary_with (expression_at depth)) tokens.now result }
     ensures shorter { Advances tokens.now result }
 {
@@ -304,7 +312,7 @@ fn parentheses(
     alloc: Global,
     depth: usize,
     tokens: &[Token],
-) -> Result<(Primary, &[Token]), ReadError>
+) -> Result<(Primary, &[Token]), SyntaxFault>
     ensures reads { Reads (parentheses_with (expression_at depth)) tokens.now result }
     ensures shorter { Advances tokens.now result }
 {

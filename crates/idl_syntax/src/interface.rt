@@ -4,7 +4,7 @@ ghost use Rattle.idl_tree.specs.ReadUnit.{bases_at, closing_at, interface_at, in
 ghost use Rattle.idl_syntax.specs.Gives.{Advances, Reads, Remains};
 
 use crate::cursor::{behind, behind_word, closed, identifier, is_at, is_at_word};
-use crate::error::ReadError;
+use crate::fault::SyntaxFault;
 use crate::name::scoped_names;
 use idl_lex::{Keyword, Mark, Spelling, Token};
 use idl_tree::{Forward, Interface, ScopedName, Several, Tree};
@@ -12,7 +12,7 @@ use std::alloc::Global;
 
 /// The closing of a scope.
 #[tactic(auto, unfolding(idl_tree::specs::ReadUnit::closing_at))]
-pub fn closing(tokens: &[Token]) -> Result<(Tree, &[Token]), ReadError>
+pub fn closing(tokens: &[Token]) -> Result<(Tree, &[Token]), SyntaxFault>
     ensures reads { Reads closing_at tokens.now result }
     ensures shorter { Advances tokens.now result }
 {
@@ -23,7 +23,7 @@ pub fn closing(tokens: &[Token]) -> Result<(Tree, &[Token]), ReadError>
 
 /// The opening of a module.
 #[tactic(auto, unfolding(idl_tree::specs::ReadUnit::module_at))]
-pub fn module(tokens: &[Token]) -> Result<(Tree, &[Token]), ReadError>
+pub fn module(tokens: &[Token]) -> Result<(Tree, &[Token]), SyntaxFault>
     ensures reads { Reads module_at tokens.now result }
     ensures shorter { Advances tokens.now result }
 {
@@ -34,7 +34,7 @@ pub fn module(tokens: &[Token]) -> Result<(Tree, &[Token]), ReadError>
 
 /// The opening of an interface, or its declaration ahead.
 #[tactic(auto, unfolding(idl_tree::specs::ReadUnit::interface_at))]
-pub fn interface(alloc: Global, tokens: &[Token]) -> Result<(Tree, &[Token]), ReadError>
+pub fn interface(alloc: Global, tokens: &[Token]) -> Result<(Tree, &[Token]), SyntaxFault>
     ensures reads { Reads interface_at tokens.now result }
     ensures shorter { Advances tokens.now result }
 {
@@ -52,7 +52,7 @@ fn interface_rest(
     is_local: bool,
     name: Spelling,
     tokens: &[Token],
-) -> Result<(Tree, &[Token]), ReadError>
+) -> Result<(Tree, &[Token]), SyntaxFault>
     ensures reads { Reads (interface_rest is_local name) tokens.now result }
     ensures shorter { Advances tokens.now result }
 {
@@ -74,7 +74,7 @@ fn interface_rest(
 fn bases(
     alloc: Global,
     tokens: &[Token],
-) -> Result<(Option<Several<ScopedName>>, &[Token]), ReadError>
+) -> Result<(Option<Several<ScopedName>>, &[Token]), SyntaxFault>
     ensures reads { Reads bases_at tokens.now result }
     ensures within { Remains tokens.now result }
 {

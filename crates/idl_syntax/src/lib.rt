@@ -11,8 +11,8 @@ mod construction;
 mod cursor;
 mod data_type;
 mod declarator;
-mod error;
 mod expression;
+mod fault;
 mod interface;
 mod literal;
 mod name;
@@ -23,4 +23,5 @@ mod unit;
 mod unit_tree;
 mod version;
 
-pub use unit_tree::{SyntaxFault, UnitTree, parse};
+pub use fault::SyntaxFault;
+pub use unit_tree::{UnitTree, parse};

@@ -11,14 +11,14 @@ ghost use Rattle.idl_tree.specs.Tests.{pick};
 ghost use Rattle.idl_syntax.specs.Gives.{Advances, Reads, Remains};
 ghost use Rattle.idl_syntax.specs.Literal.{is_at_text, is_at_wide_text, single_at, wide_text_at};
 
-use crate::error::ReadError;
+use crate::fault::SyntaxFault;
 use idl_base::Seq;
 use idl_lex::{Keyword, Kind, Token, decode, integer_value};
 use idl_tree::{Literal, Several};
 use std::alloc::{AllocError, Global};
 
 /// A literal.
-pub fn literal(alloc: Global, tokens: &[Token]) -> Result<(Literal, &[Token]), ReadError>
+pub fn literal(alloc: Global, tokens: &[Token]) -> Result<(Literal, &[Token]), SyntaxFault>
     ensures reads { Reads literal_at tokens.now result }
     ensures shorter { Advances tokens.now result }
 {
@@ -55,19 +55,19 @@ fn is_at_wide_text(tokens: &[Token]) -> bool
 
 /// One narrow string literal or more, side by side.
 #[tactic(auto, unfolding(idl_tree::specs::ReadInterface::text_at, idl_tree::specs::ReadConstruction::all_with))]
-pub fn text(alloc: Global, tokens: &[Token]) -> Result<(Several<Seq<u16>>, &[Token]), ReadError>
+pub fn text(alloc: Global, tokens: &[Token]) -> Result<(Several<Seq<u16>>, &[Token]), SyntaxFault>
     ensures reads { Reads text_at tokens.now result }
     ensures shorter { Advances tokens.now result }
 {
     let Some(first) = text_piece(alloc, tokens)? else {
-        return Err(ReadError::Syntax(tokens.len()));
+        return Err(SyntaxFault::NoTree(tokens.len()));
     };
     let (more, rest) = more_text(alloc, &tokens[1..])?;
     Ok((Several { first, rest: more }, rest))
 }
 
 /// The narrow string literals that stand here.
-fn more_text(alloc: Global, tokens: &[Token]) -> Result<(Seq<Seq<u16>>, &[Token]), ReadError>
+fn more_text(alloc: Global, tokens: &[Token]) -> Result<(Seq<Seq<u16>>, &[Token]), SyntaxFault>
     ensures reads { Reads (many_of (λ t. is_some (text_of t)) (pick text_of)) tokens.now result }
     ensures within { Remains tokens.now result }
 {
@@ -96,19 +96,19 @@ fn text_piece(alloc: Global, tokens: &[Token]) -> Result<Option<Seq<u16>>, Alloc
 
 /// One wide string literal or more, side by side.
 #[tactic(auto, unfolding(idl_tree::specs::ReadConstruction::all_with))]
-fn wide_text(alloc: Global, tokens: &[Token]) -> Result<(Several<Seq<u16>>, &[Token]), ReadError>
+fn wide_text(alloc: Global, tokens: &[Token]) -> Result<(Several<Seq<u16>>, &[Token]), SyntaxFault>
     ensures reads { Reads wide_text_at tokens.now result }
     ensures shorter { Advances tokens.now result }
 {
     let Some(first) = wide_text_piece(alloc, tokens)? else {
-        return Err(ReadError::Syntax(tokens.len()));
+        return Err(SyntaxFault::NoTree(tokens.len()));
     };
     let (more, rest) = more_wide_text(alloc, &tokens[1..])?;
     Ok((Several { first, rest: more }, rest))
 }
 
 /// The wide string literals that stand here.
-fn more_wide_text(alloc: Global, tokens: &[Token]) -> Result<(Seq<Seq<u16>>, &[Token]), ReadError>
+fn more_wide_text(alloc: Global, tokens: &[Token]) -> Result<(Seq<Seq<u16>>, &[Token]), SyntaxFault>
     ensures reads { Reads (many_of (λ t. is_some (wide_text_of t)) (pick wide_text_of)) tokens.now
         result }
     ensures within { Remains tokens.now result }
@@ -137,16 +137,16 @@ fn wide_text_piece(alloc: Global, tokens: &[Token]) -> Result<Option<Seq<u16>>, 
 }
 
 /// A literal that is one token.
-fn single_literal(alloc: Global, tokens: &[Token]) -> Result<(Literal, &[Token]), ReadError>
+fn single_literal(alloc: Global, tokens: &[Token]) -> Result<(Literal, &[Token]), SyntaxFault>
     ensures reads { Reads single_at tokens.now result }
     ensures shorter { Advances tokens.now result }
 {
     match tokens {
         [token, rest @ ..] => match value(alloc, token)? {
             Some(literal) => Ok((literal, rest)),
-            None => Err(ReadError::Syntax(tokens.len())),
+            None => Err(SyntaxFault::NoTree(tokens.len())),
         },
-        [] => Err(ReadError::Syntax(0)),
+        [] => Err(SyntaxFault::NoTree(0)),
     }
 }
 

@@ -10,7 +10,7 @@ ghost use Rattle.idl_tree.specs.Tests.{identifier_at, is_mark};
 ghost use Rattle.idl_syntax.specs.Gives.{Advances, Reads, Remains};
 
 use crate::cursor::{behind, behind_word, closed, identifier, is_at, is_at_word};
-use crate::error::ReadError;
+use crate::fault::SyntaxFault;
 use idl_base::Seq;
 use idl_lex::{Keyword, Mark, Spelling, Token};
 use idl_tree::{ScopedName, Several};
@@ -18,7 +18,7 @@ use std::alloc::Global;
 
 /// A scoped name, with or without a leading `::`.
 #[tactic(auto, unfolding(idl_tree::specs::ReadName::name_at))]
-pub fn scoped_name(alloc: Global, tokens: &[Token]) -> Result<(ScopedName, &[Token]), ReadError>
+pub fn scoped_name(alloc: Global, tokens: &[Token]) -> Result<(ScopedName, &[Token]), SyntaxFault>
     ensures reads { Reads name_at tokens.now result }
     ensures shorter { Advances tokens.now result }
 {
@@ -36,7 +36,7 @@ pub fn scoped_name(alloc: Global, tokens: &[Token]) -> Result<(ScopedName, &[Tok
 
 /// A further part of a name.
 #[tactic(auto, unfolding(idl_tree::specs::ReadName::part_at))]
-fn part(tokens: &[Token]) -> Result<(Spelling, &[Token]), ReadError>
+fn part(tokens: &[Token]) -> Result<(Spelling, &[Token]), SyntaxFault>
     ensures reads { Reads part_at tokens.now result }
     ensures shorter { Advances tokens.now result }
 {
@@ -45,7 +45,7 @@ fn part(tokens: &[Token]) -> Result<(Spelling, &[Token]), ReadError>
 }
 
 /// The further parts of a name.
-fn parts(alloc: Global, tokens: &[Token]) -> Result<(Seq<Spelling>, &[Token]), ReadError>
+fn parts(alloc: Global, tokens: &[Token]) -> Result<(Seq<Spelling>, &[Token]), SyntaxFault>
     ensures reads { Reads parts_at tokens.now result }
     ensures within { Remains tokens.now result }
 {
@@ -64,7 +64,7 @@ fn parts(alloc: Global, tokens: &[Token]) -> Result<(Seq<Spelling>, &[Token]), R
 pub fn scoped_names(
     alloc: Global,
     tokens: &[Token],
-) -> Result<(Several<ScopedName>, &[Token]), ReadError>
+) -> Result<(Several<ScopedName>, &[Token]), SyntaxFault>
     ensures reads { Reads (listed_with name_at) tokens.now result }
     ensures shorter { Advances tokens.now result }
 {
@@ -77,7 +77,7 @@ pub fn scoped_names(
 fn more_scoped_names(
     alloc: Global,
     tokens: &[Token],
-) -> Result<(Seq<ScopedName>, &[Token]), ReadError>
+) -> Result<(Seq<ScopedName>, &[Token]), SyntaxFault>
     ensures reads { Reads (many_of (is_mark Comma) (behind_with Comma name_at)) tokens.now result }
     ensures within { Remains tokens.now result }
 {
@@ -96,7 +96,7 @@ fn more_scoped_names(
 pub fn identifiers(
     alloc: Global,
     tokens: &[Token],
-) -> Result<(Several<Spelling>, &[Token]), ReadError>
+) -> Result<(Several<Spelling>, &[Token]), SyntaxFault>
     ensures reads { Reads (listed_with identifier_at) tokens.now result }
     ensures shorter { Advances tokens.now result }
 {
@@ -109,7 +109,7 @@ pub fn identifiers(
 pub fn more_identifiers(
     alloc: Global,
     tokens: &[Token],
-) -> Result<(Seq<Spelling>, &[Token]), ReadError>
+) -> Result<(Seq<Spelling>, &[Token]), SyntaxFault>
     ensures reads { Reads more_names_at tokens.now result }
     ensures within { Remains tokens.now result }
 {
@@ -128,7 +128,7 @@ pub fn more_identifiers(
 fn scoped_name_list(
     alloc: Global,
     tokens: &[Token],
-) -> Result<(Several<ScopedName>, &[Token]), ReadError>
+) -> Result<(Several<ScopedName>, &[Token]), SyntaxFault>
     ensures reads { Reads list_at tokens.now result }
     ensures shorter { Advances tokens.now result }
 {
@@ -143,7 +143,7 @@ pub fn raises(
     alloc: Global,
     word: Keyword,
     tokens: &[Token],
-) -> Result<(Several<ScopedName>, &[Token]), ReadError>
+) -> Result<(Several<ScopedName>, &[Token]), SyntaxFault>
     ensures reads { Reads (raises_at word) tokens.now result }
     ensures shorter { Advances tokens.now result }
 {
@@ -157,7 +157,7 @@ pub fn raises_if(
     alloc: Global,
     word: Keyword,
     tokens: &[Token],
-) -> Result<(Option<Several<ScopedName>>, &[Token]), ReadError>
+) -> Result<(Option<Several<ScopedName>>, &[Token]), SyntaxFault>
     ensures reads { Reads (raises_if word) tokens.now result }
     ensures within { Remains tokens.now result }
 {

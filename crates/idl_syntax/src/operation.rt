@@ -13,7 +13,7 @@ ghost use Rattle.idl_syntax.specs.Gives.{Advances, Reads, Remains};
 
 use crate::cursor::{behind, behind_word, closed, is_at, is_at_word, keyword, named};
 use crate::data_type::data_type;
-use crate::error::ReadError;
+use crate::fault::SyntaxFault;
 use crate::literal::text;
 use crate::name::raises_if;
 use idl_base::{Boxed, Seq};
@@ -39,12 +39,12 @@ fn parameter(
     alloc: Global,
     depth: usize,
     tokens: &[Token],
-) -> Result<(Parameter, &[Token]), ReadError>
+) -> Result<(Parameter, &[Token]), SyntaxFault>
     ensures reads { Reads (parameter_with (type_at depth)) tokens.now result }
     ensures shorter { Advances tokens.now result }
 {
     let Some(direction) = direction(tokens) else {
-        return Err(ReadError::Syntax(tokens.len()));
+        return Err(SyntaxFault::NoTree(tokens.len()));
     };
     let (kind, rest) = data_type(alloc, depth, &tokens[1..])?;
     let ((kind, name), rest) = named(kind, rest)?;
@@ -62,7 +62,7 @@ fn some_parameters(
     alloc: Global,
     depth: usize,
     tokens: &[Token],
-) -> Result<(Several<Parameter>, &[Token]), ReadError>
+) -> Result<(Several<Parameter>, &[Token]), SyntaxFault>
     ensures reads { Reads (listed_with (parameter_with (type_at depth))) tokens.now result }
     ensures shorter { Advances tokens.now result }
 {
@@ -77,7 +77,7 @@ fn parameters(
     alloc: Global,
     depth: usize,
     tokens: &[Token],
-) -> Result<(Option<Several<Parameter>>, &[Token]), ReadError>
+) -> Result<(Option<Several<Parameter>>, &[Token]), SyntaxFault>
     ensures reads { Reads (parameters_with (type_at depth)) tokens.now result }
     ensures within { Remains tokens.now result }
 {
@@ -93,7 +93,7 @@ fn more_parameters(
     alloc: Global,
     depth: usize,
     tokens: &[Token],
-) -> Result<(Seq<Parameter>, &[Token]), ReadError>
+) -> Result<(Seq<Parameter>, &[Token]), SyntaxFault>
     ensures reads { Reads (many_of (is_mark Comma) (behind_with Comma (parameter_with (type_at
         depth)))) tokens.now result }
     ensures within { Remains tokens.now result }
@@ -114,7 +114,7 @@ fn operation_result(
     alloc: Global,
     depth: usize,
     tokens: &[Token],
-) -> Result<(Option<DataType>, &[Token]), ReadError>
+) -> Result<(Option<DataType>, &[Token]), SyntaxFault>
     ensures reads { Reads (result_with (type_at depth)) tokens.now result }
     ensures shorter { Advances tokens.now result }
 {
@@ -132,7 +132,7 @@ fn operation_result(
 fn texts(
     alloc: Global,
     tokens: &[Token],
-) -> Result<(Several<Several<Seq<u16>>>, &[Token]), ReadError>
+) -> Result<(Several<Several<Seq<u16>>>, &[Token]), SyntaxFault>
     ensures reads { Reads (listed_with text_at) tokens.now result }
     ensures shorter { Advances tokens.now result }
 {
@@ -145,7 +145,7 @@ fn texts(
 fn more_texts(
     alloc: Global,
     tokens: &[Token],
-) -> Result<(Seq<Several<Seq<u16>>>, &[Token]), ReadError>
+) -> Result<(Seq<Several<Seq<u16>>>, &[Token]), SyntaxFault>
     ensures reads { Reads (many_of (is_mark Comma) (behind_with Comma text_at)) tokens.now result }
     ensures within { Remains tokens.now result }
 {
@@ -164,7 +164,7 @@ fn more_texts(
 fn context(
     alloc: Global,
     tokens: &[Token],
-) -> Result<(Several<Several<Seq<u16>>>, &[Token]), ReadError>
+) -> Result<(Several<Several<Seq<u16>>>, &[Token]), SyntaxFault>
     ensures reads { Reads context_at tokens.now result }
     ensures shorter { Advances tokens.now result }
 {
@@ -179,7 +179,7 @@ fn context(
 fn context_if(
     alloc: Global,
     tokens: &[Token],
-) -> Result<(Option<Boxed<Several<Several<Seq<u16>>>>>, &[Token]), ReadError>
+) -> Result<(Option<Boxed<Several<Several<Seq<u16>>>>>, &[Token]), SyntaxFault>
     ensures reads { Reads context_if tokens.now result }
     ensures within { Remains tokens.now result }
 {
@@ -196,7 +196,7 @@ pub fn operation(
     alloc: Global,
     depth: usize,
     tokens: &[Token],
-) -> Result<(Operation, &[Token]), ReadError>
+) -> Result<(Operation, &[Token]), SyntaxFault>
     ensures reads { Reads (operation_with (type_at depth)) tokens.now result }
     ensures shorter { Advances tokens.now result }
 {
@@ -215,7 +215,7 @@ fn operation_rest(
     depth: usize,
     head: ((bool, Option<DataType>), Spelling),
     tokens: &[Token],
-) -> Result<(Operation, &[Token]), ReadError>
+) -> Result<(Operation, &[Token]), SyntaxFault>
     ensures reads { Reads (operation_rest_with (type_at depth) head.0.0 head.0.1 head.1)
         tokens.now result }
     ensures shorter { Advances tokens.now result }

@@ -1,9 +1,7 @@
 //! Units.
 
-ghost use Rattle.std.specs.Prelude.{◌≡◌, ◌<◌, ◌≤◌, length, IfErr, IfOk};
+ghost use Rattle.std.specs.Prelude.{◌≡◌, ◌<◌, ◌≤◌, length, IfOk};
 ghost use Rattle.idl_tree.specs.Lexeme.{lexemes};
-ghost use Rattle.idl_tree.specs.Unit.{spell};
-ghost use Rattle.idl_syntax.specs.Fault.{IsFault};
 ghost use Rattle.idl_tree.specs.ReadConstruction.{construction_at, enumeration_at};
 ghost use Rattle.idl_tree.specs.ReadExpression.{expression_at};
 ghost use Rattle.idl_tree.specs.ReadInterface.{attribute_with, operation_with, readonly_attribute_with};
@@ -19,8 +17,8 @@ use crate::construction::{enumeration, member_type, members, structure_rest, uni
 use crate::cursor::{behind, behind_word, closed, identifier, is_at, is_at_word, keyword, named};
 use crate::data_type::{discrete_type, string_type};
 use crate::declarator::declarators;
-use crate::error::ReadError;
 use crate::expression::expression;
+use crate::fault::SyntaxFault;
 use crate::interface::{closing, interface, module};
 use crate::name::scoped_name;
 use crate::operation::operation;
@@ -30,7 +28,7 @@ use std::alloc::Global;
 
 /// A unit, with parts of less than so many levels.
 #[tactic(auto, unfolding(idl_tree::specs::ReadUnit::unit_at, idl_tree::specs::ReadUnit::unit_with))]
-pub fn unit(alloc: Global, depth: usize, tokens: &[Token]) -> Result<(Tree, &[Token]), ReadError>
+pub fn unit(alloc: Global, depth: usize, tokens: &[Token]) -> Result<(Tree, &[Token]), SyntaxFault>
     ensures reads { Reads (unit_at depth) tokens.now result }
     ensures shorter { Advances tokens.now result }
 {
@@ -60,7 +58,7 @@ fn structure_unit(
     alloc: Global,
     depth: usize,
     tokens: &[Token],
-) -> Result<(Tree, &[Token]), ReadError>
+) -> Result<(Tree, &[Token]), SyntaxFault>
     ensures reads { Reads (nested structure_unit_with depth) tokens.now result }
     ensures shorter { Advances tokens.now result }
 {
@@ -85,7 +83,11 @@ fn structure_unit(
 /// A union, or its declaration ahead.
 #[tactic(auto, unfolding(idl_tree::specs::ReadUnit::union_unit_with, idl_tree::specs::ReadUnit::ended_with, idl_tree::specs::ReadUnit::ahead_at))]
 #[inline(never)]
-fn union_unit(alloc: Global, depth: usize, tokens: &[Token]) -> Result<(Tree, &[Token]), ReadError>
+fn union_unit(
+    alloc: Global,
+    depth: usize,
+    tokens: &[Token],
+) -> Result<(Tree, &[Token]), SyntaxFault>
     ensures reads { Reads (nested union_unit_with depth) tokens.now result }
     ensures shorter { Advances tokens.now result }
 {
@@ -105,7 +107,7 @@ fn union_unit(alloc: Global, depth: usize, tokens: &[Token]) -> Result<(Tree, &[
 
 /// An enum.
 #[tactic(auto, unfolding(idl_tree::specs::ReadUnit::ended_with))]
-fn enumeration_unit(alloc: Global, tokens: &[Token]) -> Result<(Tree, &[Token]), ReadError>
+fn enumeration_unit(alloc: Global, tokens: &[Token]) -> Result<(Tree, &[Token]), SyntaxFault>
     ensures reads { Reads (ended_with (λ e. tree.Construction (construction.Enumeration e)) enumeration_at)
         tokens.now result }
     ensures shorter { Advances tokens.now result }
@@ -117,7 +119,11 @@ fn enumeration_unit(alloc: Global, tokens: &[Token]) -> Result<(Tree, &[Token]),
 
 /// A typedef, without its `;`.
 #[tactic(auto, unfolding(idl_tree::specs::ReadUnit::typedef_with))]
-fn typedef(alloc: Global, depth: usize, tokens: &[Token]) -> Result<(Typedef, &[Token]), ReadError>
+fn typedef(
+    alloc: Global,
+    depth: usize,
+    tokens: &[Token],
+) -> Result<(Typedef, &[Token]), SyntaxFault>
     ensures reads { Reads (nested typedef_with depth) tokens.now result }
     ensures shorter { Advances tokens.now result }
 {
@@ -134,7 +140,7 @@ fn typedef_unit(
     alloc: Global,
     depth: usize,
     tokens: &[Token],
-) -> Result<(Tree, &[Token]), ReadError>
+) -> Result<(Tree, &[Token]), SyntaxFault>
     ensures reads { Reads (ended_with tree.Typedef (nested typedef_with depth)) tokens.now result }
     ensures shorter { Advances tokens.now result }
 {
@@ -144,7 +150,7 @@ fn typedef_unit(
 
 /// `native` and a name, without the `;`.
 #[tactic(auto, unfolding(idl_tree::specs::ReadUnit::native_at))]
-fn native(tokens: &[Token]) -> Result<(Spelling, &[Token]), ReadError>
+fn native(tokens: &[Token]) -> Result<(Spelling, &[Token]), SyntaxFault>
     ensures reads { Reads native_at tokens.now result }
     ensures shorter { Advances tokens.now result }
 {
@@ -154,7 +160,7 @@ fn native(tokens: &[Token]) -> Result<(Spelling, &[Token]), ReadError>
 
 /// A native type.
 #[tactic(auto, unfolding(idl_tree::specs::ReadUnit::ended_with))]
-fn native_unit(tokens: &[Token]) -> Result<(Tree, &[Token]), ReadError>
+fn native_unit(tokens: &[Token]) -> Result<(Tree, &[Token]), SyntaxFault>
     ensures reads { Reads (ended_with tree.Native native_at) tokens.now result }
     ensures shorter { Advances tokens.now result }
 {
@@ -168,7 +174,7 @@ fn constant_type(
     alloc: Global,
     depth: usize,
     tokens: &[Token],
-) -> Result<(ConstantType, &[Token]), ReadError>
+) -> Result<(ConstantType, &[Token]), SyntaxFault>
     ensures reads { Reads (constant_type_with (expression_at depth)) tokens.now result }
     ensures shorter { Advances tokens.now result }
 {
@@ -194,7 +200,7 @@ fn constant(
     alloc: Global,
     depth: usize,
     tokens: &[Token],
-) -> Result<(Constant, &[Token]), ReadError>
+) -> Result<(Constant, &[Token]), SyntaxFault>
     ensures reads { Reads (constant_with (expression_at depth)) tokens.now result }
     ensures shorter { Advances tokens.now result }
 {
@@ -213,7 +219,7 @@ fn constant_unit(
     alloc: Global,
     depth: usize,
     tokens: &[Token],
-) -> Result<(Tree, &[Token]), ReadError>
+) -> Result<(Tree, &[Token]), SyntaxFault>
     ensures reads { Reads (ended_with tree.Constant (constant_with (expression_at depth)))
         tokens.now result }
     ensures shorter { Advances tokens.now result }
@@ -228,7 +234,7 @@ fn exception(
     alloc: Global,
     depth: usize,
     tokens: &[Token],
-) -> Result<(Exception, &[Token]), ReadError>
+) -> Result<(Exception, &[Token]), SyntaxFault>
     ensures reads { Reads (nested exception_with depth) tokens.now result }
     ensures shorter { Advances tokens.now result }
 {
@@ -246,7 +252,7 @@ fn exception_unit(
     alloc: Global,
     depth: usize,
     tokens: &[Token],
-) -> Result<(Tree, &[Token]), ReadError>
+) -> Result<(Tree, &[Token]), SyntaxFault>
     ensures reads { Reads (ended_with tree.Exception (nested exception_with depth))
         tokens.now result }
     ensures shorter { Advances tokens.now result }
@@ -262,7 +268,7 @@ fn readonly_attribute_unit(
     alloc: Global,
     depth: usize,
     tokens: &[Token],
-) -> Result<(Tree, &[Token]), ReadError>
+) -> Result<(Tree, &[Token]), SyntaxFault>
     ensures reads { Reads (ended_with tree.ReadonlyAttribute (readonly_attribute_with (type_at depth)))
         tokens.now result }
     ensures shorter { Advances tokens.now result }
@@ -278,7 +284,7 @@ fn attribute_unit(
     alloc: Global,
     depth: usize,
     tokens: &[Token],
-) -> Result<(Tree, &[Token]), ReadError>
+) -> Result<(Tree, &[Token]), SyntaxFault>
     ensures reads { Reads (ended_with tree.Attribute (attribute_with (type_at depth)))
         tokens.now result }
     ensures shorter { Advances tokens.now result }
@@ -294,7 +300,7 @@ fn operation_unit(
     alloc: Global,
     depth: usize,
     tokens: &[Token],
-) -> Result<(Tree, &[Token]), ReadError>
+) -> Result<(Tree, &[Token]), SyntaxFault>
     ensures reads { Reads (ended_with tree.Operation (operation_with (type_at depth)))
         tokens.now result }
     ensures shorter { Advances tokens.now result }

@@ -1,24 +1,20 @@
 //! The tree of a unit, or its fault.
 
 ghost use Rattle.std.specs.Prelude.{◌≡◌, None, Some, IfOk, IfErr};
-ghost use Rattle.idl_syntax.specs.Parse.{IsFaultOf, IsTreeOf, StopsAt, pragma_faults, rule_faults};
-ghost use Rattle.idl_syntax.specs.declared.unit_tree.SyntaxFault.TheVariants as fault;
-ghost use Rattle.idl_tree.specs.Fault.{IsFaultAt};
-ghost use Rattle.idl_tree.specs.Lexeme.{lexemes};
+ghost use Rattle.idl_syntax.specs.Parse.{IsFaultOf, IsTreeOf, pragma_faults, rule_faults};
 ghost use Rattle.idl_tree.specs.Pragma.{pragma_of};
-ghost use Rattle.idl_tree.specs.Unit.{spell};
 ghost use Rattle.idl_unit.specs.Faults.{least_fault};
 ghost use Rattle.idl_unit.specs.TokenRules.{token_faults};
 ghost use Rattle.idl_unit.specs.declared.unit.UnitText.TheVariants as unit;
 
-use crate::error::ReadError;
+use crate::fault::SyntaxFault;
 use crate::pragma::pragma;
 use crate::unit::unit;
 use idl_event::Code;
 use idl_lex::{Token, TokenRange};
 use idl_tree::{Pragma, Tree, reading};
 use idl_unit::{Fault, UnitText, token_fault};
-use std::alloc::{AllocError, Global};
+use std::alloc::Global;
 
 /// What a unit is.
 pub enum UnitTree {
@@ -34,27 +30,6 @@ impl Drop for UnitTree {
             UnitTree::Tokens(_tree) => {}
             UnitTree::Pragma(_pragma) => {}
         }
-    }
-}
-
-/// Why a unit has no tree.
-#[derive(Clone, Copy)]
-pub enum SyntaxFault {
-    /// There is no more memory.
-    Memory,
-    /// The rules of tokens find this (E01 to E09, E21, E24, E36), or those of pragmas (E25, E26): it
-    /// is the least fault, by the token and then by the code.
-    Rule(Fault),
-    /// No tree has this spelling. It stops being the beginning of one at the token with this number,
-    /// from 0, or nowhere.
-    NoTree(Option<usize>),
-}
-
-impl From<AllocError> for SyntaxFault {
-    ghost from_gives = { λ _ why. why ≡ fault.Memory };
-
-    fn from(_refused: AllocError) -> SyntaxFault {
-        SyntaxFault::Memory
     }
 }
 
@@ -87,19 +62,11 @@ fn tokens_tree(alloc: Global, tokens: &[Token]) -> Result<UnitTree, SyntaxFault>
     reading();
     match unit(alloc, tokens.len() + 1, tokens) {
         Ok((tree, [])) => Ok(UnitTree::Tokens(tree)),
-        Ok((_tree, rest)) => Err(SyntaxFault::NoTree(stop(tokens, rest.len()))),
-        Err(ReadError::Memory) => Err(SyntaxFault::Memory),
-        Err(ReadError::Syntax(left)) => Err(SyntaxFault::NoTree(stop(tokens, left))),
-    }
-}
-
-/// The number of the token before which all but so many stand, if any are left.
-fn stop(tokens: &[Token], left: usize) -> Option<usize>
-    ensures { IsFaultAt spell (lexemes tokens.now) left → StopsAt tokens.now result }
-{
-    match left {
-        0 => None,
-        _ => tokens.len().checked_sub(left),
+        Ok((_tree, rest)) => Err(SyntaxFault::NoTree(rest.len())),
+        Err(SyntaxFault::Memory) => Err(SyntaxFault::Memory),
+        Err(SyntaxFault::Rule(fault)) => Err(SyntaxFault::Rule(fault)),
+        // Where all tokens are the beginning of a tree, it is told at the last.
+        Err(SyntaxFault::NoTree(left)) => Err(SyntaxFault::NoTree(left.max(1))),
     }
 }
 

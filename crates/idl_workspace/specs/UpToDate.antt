@@ -8,6 +8,7 @@ use Rattle.idl_event.specs.Key.{key_eq}
 use Rattle.idl_event.specs.declared.key.Key.{Key}
 use Rattle.idl_memo.specs.Kept.{HoldsOver}
 use Rattle.idl_prep.specs.Root.{expansion}
+use Rattle.idl_root.specs.declared.finding.Finding.{Finding}
 use Rattle.idl_workspace.specs.Bank.{bank_of}
 use Rattle.idl_workspace.specs.Compile.{compiled_root, compile_over}
 use Rattle.idl_workspace.specs.Project.{Inputs, Project, project_code, is_root}
@@ -25,6 +26,10 @@ pub record State : Type 0 where
 abbrev pub compiled_of : Project → List ℕ → Option CompiledRoot
 compiled_of project name =
     if is_root project name then Some (compiled_root project.inputs name) else None
+
+-- what is found that is answered for a name
+abbrev pub findings_of : Project → List ℕ → Option (List Finding)
+findings_of project name = option_map (λ root. root.rows.findings) (compiled_of project name)
 
 -- the diagnostics that are answered for a name
 abbrev pub diagnostics_of : Project → List ℕ → Option (List (List ℕ))

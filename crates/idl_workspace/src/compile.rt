@@ -1,18 +1,21 @@
 //! The compilation of a root.
 
-ghost use Rattle.std.specs.Prelude.{◌≡◌, IfOk};
-ghost use Rattle.std.specs.Option.{option_copied};
+ghost use Rattle.std.specs.Prelude.{◌≡◌, ℕ, IfOk, List, map};
+ghost use Rattle.std.specs.Option.{option_copied, option_map};
 ghost use Rattle.idl_event.specs.Key.{key_eq};
 ghost use Rattle.idl_memo.specs.Kept.{HoldsOver};
 ghost use Rattle.idl_prep.specs.Root.{expansion};
+ghost use Rattle.idl_root.specs.Findings.{finding_row};
 ghost use Rattle.idl_workspace.specs.Compile.{compile_over, compiled_root, end_of, line_count};
+ghost use Rattle.idl_workspace.specs.Project.{Project};
+ghost use Rattle.idl_workspace.specs.UpToDate.{diagnostics_of, findings_of};
 
 use crate::bank::SessionBank;
 use idl_base::Seq;
 use idl_event::{Answer, Expansion, FileName, Key, Place, RootBank};
 use idl_memo::{Kept, Meter, run_anew};
 use idl_prep::{RootTask, absent};
-use idl_root::{Compiled, KeptUnits, Memory, Recompiled};
+use idl_root::{Compiled, KeptUnits, Memory, Recompiled, telling};
 use idl_source::Name;
 use std::alloc::{AllocError, Global};
 
@@ -95,6 +98,16 @@ pub fn compile_after<B: RootBank>(
         absent: Seq::from_vec(names),
     };
     Ok(CompiledAgain { compiled, units })
+}
+
+/// The diagnostics that are answered for a name are the rows of what is found. This does nothing: it carries the law.
+pub fn diagnostics_are_findings()
+    ensures { (project : Project) (name : List ℕ)
+        → diagnostics_of project name
+        ≡ option_map (map finding_row) (findings_of project name) }
+{
+    // It does nothing: it carries the law of a root's rows.
+    telling();
 }
 
 // The end of a root: its number of lines.

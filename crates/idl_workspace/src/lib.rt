@@ -18,8 +18,8 @@ mod word;
 mod work;
 
 pub use bank::answers_come_from_inputs;
-pub use compile::CompiledRoot;
-pub use idl_root::{Compiled, Row};
+pub use compile::{CompiledRoot, diagnostics_are_findings};
+pub use idl_root::{Compiled, Finding, Row};
 pub use idl_source::Span;
 pub use limits::{
     MAX_BODY, MAX_DIRECTORIES, MAX_MACROS, MAX_ROOTS, edits_keep_form, edits_keep_limits,

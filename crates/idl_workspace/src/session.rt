@@ -11,7 +11,7 @@ ghost use Rattle.idl_workspace.specs.Work.{no_work};
 ghost use Rattle.idl_workspace.specs.Edited.{IsEdited, takes_memory};
 ghost use Rattle.idl_workspace.specs.Edits.{Edit, Put, Splice, Remove, Define, Undef, Search, AddRoot, DropRoot, after, are_too_long};
 ghost use Rattle.idl_workspace.specs.Renewed.{IsRenewed};
-ghost use Rattle.idl_workspace.specs.UpToDate.{compiled_of, diagnostics_of, listing_of, dump_of, is_faulty_of, absent_of};
+ghost use Rattle.idl_workspace.specs.UpToDate.{compiled_of, diagnostics_of, findings_of, listing_of, dump_of, is_faulty_of, absent_of};
 ghost use Rattle.idl_workspace.specs.WellFormed.{IsWellFormed};
 
 use crate::Row;
@@ -29,7 +29,7 @@ use idl_lex::Spelling;
 use idl_macro::is_macro_word;
 use idl_memo::{Edited, Meter, freshness};
 use idl_prep::RootTask;
-use idl_root::Memory;
+use idl_root::{Finding, Memory};
 use idl_source::{Files, Line, Name, Refusal, Span};
 use std::alloc::{AllocError, Global};
 use std::marker::Model;
@@ -213,6 +213,17 @@ impl Session {
             compared: self.roots.keys_asked(),
         };
         Ok(self.work)
+    }
+
+    /// What is found in a root, of which its diagnostics are the rows, or nothing where the name isn't one of a root. It takes no
+    /// memory.
+    pub fn findings(&self, root: &[u8]) -> Option<&[Finding]>
+        ensures { option_copied result ≡ findings_of self.now.project root.now }
+    {
+        match self.compiled(root) {
+            Some(compiled) => Some(compiled.rows.findings.as_slice()),
+            None => None,
+        }
     }
 
     /// The diagnostics of a root, or nothing where the name isn't one of a root. It takes no memory.

@@ -17,7 +17,7 @@ static SCRIPTS: [&str; 10] = [
     // Macros of the session.
     "put a.idl 1\ntypedef T X ;\n=ok\nroot a.idl\n=ok\ndefine T long\n=ok\ndefine T  unsigned  long \n=ok\n\
      dump a.idl\n=rows 1\n=typedef unsigned long X;\ndefine T\n=ok\ndiagnostics a.idl\n=rows 1\n\
-     =a.idl:1: E20 typedef ¶ define 1x\n=refused 6\ndefine defined 1\n=refused 6\nundef defined\n=refused 6\n\
+     =a.idl:1: E20 ; ¶ define 1x\n=refused 6\ndefine defined 1\n=refused 6\nundef defined\n=refused 6\n\
      undef X\n=ok\nundef x-y\n=refused 6\ndefine _a9 \u{1}\u{e9}\t\n=ok",
     // A root that goes leaves the others.
     "root a.idl\n=ok\nroot b.idl\n=ok\nput b.idl 1\ntypedef long X;\n=ok\nunroot a.idl\n=ok\ndump b.idl\n=rows 1\n\
@@ -34,7 +34,7 @@ static SCRIPTS: [&str; 10] = [
     // Macros of the session stand before the first line.
     "define S unsigned  T\n=ok\ndefine T long\n=ok\nroot a.idl\n=ok\nput a.idl 1\ntypedef S X;\n=ok\ndump a.idl\n\
      =rows 1\n=typedef unsigned long X;\nput a.idl 2\n#undef T\ntypedef S X;\n=ok\ndiagnostics a.idl\n=rows 1\n\
-     =a.idl:2: E20 typedef\nput a.idl 3\n#define S unsigned T\n#define S unsigned\ntypedef S X;\n=ok\n\
+     =a.idl:2: E20 T\nput a.idl 3\n#define S unsigned T\n#define S unsigned\ntypedef S X;\n=ok\n\
      diagnostics a.idl\n=rows 1\n=a.idl:2: E17 S\nput a.idl 3\n#undef S\n#define S char\ntypedef S X;\n=ok\n\
      dump a.idl\n=rows 1\n=typedef char X;\nput a.idl 8\n#ifdef S\n#ifndef U\n#undef S\n#if !defined S\n\
      #error taken\n#endif\n#endif\n#endif\n=ok\ndiagnostics a.idl\n=rows 1\n=a.idl:5: E16 error taken",

@@ -7,13 +7,13 @@ static ROWS: [&str; 13] = [
     " ¶ typedef unsigned long long _boolean;\n=typedef unsigned long long _boolean;",
     "typedef long _x; typedef\nObject _any\t;\n=typedef long x;\n=typedef Object _any; ¶ typedef un\\\n\
      signed/**/long x;\n=typedef unsigned long x; ¶ \"a\"; L\"b\" /* c */\n\"d\";\n=a:1: E20 \"a\"\n=a:2: E08 \"d\"",
-    "typedef long $;\ntypedef char X\n=a:1: E01 $\n=a:2: E20 typedef ¶ typedef FOO\n$ ;\n=a:2: E01 $",
-    "typedef /* a\n ; */ long // b ;\n=a:1: E20 typedef ¶ typedef long x; #\n;\n=a:1: E01 #",
+    "typedef long $;\ntypedef char X\n=a:1: E01 $\n=a:2: E20 X ¶ typedef FOO\n$ ;\n=a:2: E01 $",
+    "typedef /* a\n ; */ long // b ;\n=a:2: E20 long ¶ typedef long x; #\n;\n=a:1: E01 #",
     "typedef long 'a;\n;\n=a:1: E02 'a; ¶ typedef long 'ab';\n=a:1: E03 'ab'",
     "typedef long \"\\q\";\n=a:1: E04 \"\\q\" ¶ typedef long 0x;\n=a:1: E05 0x ¶ typedef long 1.5;\n=a:1: E06 1.5",
     "typedef long 18446744073709551616;\n=a:1: E07 18446744073709551616 ¶ typedef long \"a\" \"b\"\nL\"c\" 'ab';\n\
      =a:2: E08 L\"c\" ¶ \"a\" L\"\\q\";\n=a:1: E04 L\"\\q\" ¶ typedef long x; /*\n;\n=a:1: E09 /* ¶ typedef long 1;\n\
-     =a:1: E20 typedef ¶ typedef long 1 $ 'ab';\n=a:1: E01 $ ¶ typedef short long X;\n=a:1: E20 typedef ¶ \n;\n\
+     =a:1: E20 1 ¶ typedef long 1 $ 'ab';\n=a:1: E01 $ ¶ typedef short long X;\n=a:1: E20 long ¶ \n;\n\
      =a:2: E20 ; ¶ typedef long Boolean $;\n=a:1: E36 Boolean ¶ typedef FOO X;\ntypedef long X;\n=a:1: E30 FOO",
     // The first branch whose condition holds is taken, and no condition after it is evaluated.
     "#if 0\n#error a\n#elif 1\n#error b\n#elif 1/0\n#error c\n#else\n#error d\n#endif\n=a:4: E16 error b",
@@ -30,7 +30,7 @@ static ROWS: [&str; 13] = [
     // Macros that can't be defined or undefined, and ones that may be again.
     "#define\n#define 1 2\n#define defined\n#define F(x) x\n#undef\n#undef 1\n#undef defined\n#undef F\n\
      #define F (long)\ntypedef F X;\n=a:1: E14 define\n=a:2: E14 define\n=a:3: E14 define\n=a:4: E14 define\n\
-     =a:5: E14 undef\n=a:6: E14 undef\n=a:10: E20 typedef ¶ #\n#warning a\n#ident \"b\"\n  #  /* */ // c\ntypedef\n\
+     =a:5: E14 undef\n=a:6: E14 undef\n=a:10: E20 ( ¶ #\n#warning a\n#ident \"b\"\n  #  /* */ // c\ntypedef\n\
      # warning d\nlong\n#\nX;\n/*\n*/ #error  a\t\"b  c\" // d\n=a:11: E16 error a \"b  c\"",
     // Pragmas.
     "#pragma prefix \"P\"\ntypedef long X;\n#pragma version X 1.1\n#pragma ID X \"IDL:P/X:1.1\"\n#pragma\n\
@@ -45,7 +45,7 @@ static DECLARATIONS: [&str; 13] = [
     "module M { interface I { oneway void f(in long x); }; };\n=module M {\n=  interface I {\n\
      =    oneway void f ( in long x );\n=  };\n=};",
     "};\nvoid f();\ninterface I { module M { interface J; struct S; }; };\n=a:1: E22 }\n=a:2: E22 void\n\
-     =a:3: E22 module\n=a:3: W80 J\n=a:3: E75 S ¶ module M {\n\n=a:2: E23 ¶ module M { typedef long X };\n=a:1: E20 typedef",
+     =a:3: E22 module\n=a:3: W80 J\n=a:3: E75 S ¶ module M {\n\n=a:2: E23 ¶ module M { typedef long X };\n=a:1: E20 X",
     "valuetype V { };\nconst double D = 1.5;\nconst long K = 1.5;\nstruct P { double x; };\n=a:1: E21 valuetype\n\
      =a:2: E21 double\n=a:3: E06 1.5 ¶ `64×module M@ {\n``64×};\n`\nmodule N {`64×module M@ {``65×};`\n=a:130: E24 {",
     // Names of other scopes, and what their use introduces.
@@ -79,7 +79,7 @@ static DECLARATIONS: [&str; 13] = [
      =a:6: E30 A",
     // Nesting, and what isn't closed.
     "const long K = `64×(`1`64×)`;\nconst long L = `65×(`1`65×)`;\nconst long M = `64×-(`1`64×)`;\nconst long N = --1;\n\
-     =a:2: E24 (\n=a:4: E20 const ¶ `65×module M@ {\n``64×};\n`};\n=a:65: E24 { ¶ struct S { long a;\n=a:1: E20 struct",
+     =a:2: E24 (\n=a:4: E20 - ¶ `65×module M@ {\n``64×};\n`};\n=a:65: E24 { ¶ struct S { long a;\n=a:1: E20 ;",
     "const long K = 18446744073709551616;\nconst string S = \"abc;\n=a:1: E07 18446744073709551616\n=a:2: E02 \"abc;",
     // A diamond of bases, of which each is asked once.
     "interface A0 { typedef long T; };\n#define B A0\n`40×interface L@ : B { };\ninterface R@ : B { };\n\
@@ -87,8 +87,27 @@ static DECLARATIONS: [&str; 13] = [
      =a:204: E30 T",
 ];
 
+// Where a unit that no tree spells stops being the beginning of one: the first token through which it is none.
+static PLACES: [&str; 6] = [
+    "typedef long X Y;\n=a:1: E20 Y ¶ struct S { long a short b; };\n=a:1: E20 short ¶ const long K = 1 + ;\n=a:1: E20 ; ¶ \
+     const long K = --1;\n=a:1: E20 - ¶ typedef sequence<sequence<long>> Q;\n=a:1: E20 >> ¶ enum E { };\n=a:1: E20 }",
+    // Where all of it is the beginning of one, its last token.
+    "typedef long X\n=a:1: E20 X ¶ module M { typedef long X };\n=a:1: E20 X ¶ struct S { long a;\n=a:1: E20 ; ¶ \
+     interface I\n=a:1: E20 I ¶ x\n=a:1: E20 x ¶ }\n=a:1: E20 } ¶ module M { }\n=a:1: E20 }",
+    // The line is the token's own.
+    "struct S\n{ long a\nlong b; };\n=a:3: E20 long ¶ enum E {\nA,\nB\nC,\nD };\n=a:4: E20 C",
+    "module M;\n=a:1: E20 ; ¶ interface I : { };\n=a:1: E20 { ¶ module { };\n=a:1: E20 { ¶ \
+     union U switch (float) { case 1: long a; };\n=a:1: E20 float ¶ attribute long a raises (E);\n=a:1: E20 raises ¶ \
+     readonly attribute long a getraises (E);\n=a:1: E20 getraises ¶ const boolean B = ;\n=a:1: E20 ;",
+    // A rule of tokens is told before, though its token stands behind.
+    "typedef long X Y 08;\n=a:1: E05 08 ¶ typedef long X Y Boolean;\n=a:1: E36 Boolean ¶ };;\n=a:1: E22 }\n=a:1: E20 ;",
+    // A malformed pragma has its own code, and one inside a unit is no token of it.
+    "typedef long\n#pragma prefix \"P\"\nX Y;\n=a:2: E25 pragma\n=a:3: E20 Y ¶ #pragma prefix 1\n=a:1: E26 pragma",
+];
+
 #[test]
 fn files_have_these_rows(rt: HostRuntime) -> Result<(), Fail> {
     have_rows(&rt, &ROWS)?;
-    have_rows(&rt, &DECLARATIONS)
+    have_rows(&rt, &DECLARATIONS)?;
+    have_rows(&rt, &PLACES)
 }

@@ -29,7 +29,7 @@ fn told_of(alloc: Global, expansion: &Expansion) -> Result<String, AllocError> {
 }
 
 fn say_unit(alloc: Global, said: &mut String, unit: &UnitText) -> Result<(), AllocError> {
-    let word = word_of(alloc, &parse(alloc, unit))?;
+    let word = word_of(alloc, unit, &parse(alloc, unit))?;
     let last = said.as_str().rsplit(" / ").next();
     if last == Some(word.as_str()) {
         return Ok(());
@@ -38,16 +38,29 @@ fn say_unit(alloc: Global, said: &mut String, unit: &UnitText) -> Result<(), All
     write!(said, "{between}{word}")
 }
 
-fn word_of(alloc: Global, parsed: &Result<UnitTree, SyntaxFault>) -> Result<String, AllocError> {
+fn word_of(
+    alloc: Global,
+    unit: &UnitText,
+    parsed: &Result<UnitTree, SyntaxFault>,
+) -> Result<String, AllocError> {
     match parsed {
         Ok(UnitTree::Tokens(_tree)) => String::from_str(alloc, "tree"),
         Ok(UnitTree::Pragma(pragma)) => pragma_word(alloc, pragma),
         Err(SyntaxFault::Rule(fault)) => {
             format!(in alloc; "E{:02} {}", fault.code.number(), fault.index)
         }
-        Err(SyntaxFault::NoTree(Some(index))) => format!(in alloc; "E20 {index}"),
-        Err(SyntaxFault::NoTree(None)) => String::from_str(alloc, "E20 at its end"),
+        Err(SyntaxFault::NoTree(left)) => {
+            format!(in alloc; "E20 {}", count_of(unit).saturating_sub(*left))
+        }
         Err(SyntaxFault::Memory) => Err(AllocError),
+    }
+}
+
+// How many tokens a unit has.
+fn count_of(unit: &UnitText) -> usize {
+    match unit {
+        UnitText::Tokens(run) => run.as_slice().len(),
+        UnitText::Pragma(tokens, _inside) => tokens.as_slice().len(),
     }
 }
 
@@ -104,18 +117,18 @@ static LONG: [&str; 4] = [
     "`64×struct S {`A`64× a; }`; => tree ¶ `65×struct S {`A`65× a; }`; => E24 194",
     "typedef `64×sequence<`A`64×> `T; => tree ¶ typedef `65×sequence<`A`65×> `T; => E24 130",
     "`65×module M { ` => tree ¶ const A K = 1`99999×\n+ 1`; => tree ¶ typedef A B`10000×,\nC`; => tree",
-    "typedef A B`10000×\n[1]`; => tree ¶ struct S {`10000×A a;\n` => E20 at its end",
+    "typedef A B`10000×\n[1]`; => tree ¶ struct S {`10000×A a;\n` => E20 30002",
 ];
 
 static FAULTS: [&str; 12] = [
     // The first of several faults, before a tree that isn't there.
     "typedef Boolean 08; => E36 1",
-    // With the first token through which the unit is no beginning of a tree.
-    "typedef long X Y; => E20 3 ¶ typedef long X => E20 at its end ¶ struct S { long a short b; }; => E20 5",
+    // The first token through which the unit is no beginning of a tree, or its last.
+    "typedef long X Y; => E20 3 ¶ typedef long X => E20 2 ¶ struct S { long a short b; }; => E20 5",
     "const long K = 1 + ; => E20 6 ¶ const long K = --1; => E20 5 ¶ typedef sequence<sequence<long>> Q; => E20 6",
-    "module M { typedef long X }; => tree / E20 at its end / tree ¶ struct S { long a; => E20 at its end",
-    "A A => E20 at its end ¶ x x x x => E20 2 ¶ struct S { }; => E20 3 ¶ void f() context (L\"a\"); => E20 6",
-    "} typedef A X; => E20 at its end / tree ¶ #pragma prefix \"P\" => prefix 1",
+    "module M { typedef long X }; => tree / E20 2 / tree ¶ struct S { long a; => E20 5",
+    "A A => E20 1 ¶ x x x x => E20 2 ¶ struct S { }; => E20 3 ¶ void f() context (L\"a\"); => E20 6",
+    "} typedef A X; => E20 0 / tree ¶ #pragma prefix \"P\" => prefix 1",
     "#pragma ID ::A::_b \"x\" => ID global name of parts 1 ¶ #pragma ID Boolean \"\" => ID name 0",
     "#pragma version A::B 02.4 => version name of parts 2 4",
     "#pragma version A 65535.65535 => version name 65535 65535 ¶ A\n#pragma prefix \"P\"\nf(); => tree / E25 0",

@@ -1,12 +1,12 @@
 use Rattle.idl_check.proofs.PragmaLaws.{asks-pragma, prefix-asks}
-use Rattle.idl_check.proofs.VerdictLaws.{none-spelled, verdict-asks}
+use Rattle.idl_check.proofs.VerdictLaws.{verdict-asks}
 use Rattle.idl_check.proofs.laws.questions.Goals as goal
 
 pub returns-clause-rules : goal.returns-clause-rules
 returns-clause-rules c = λ turns tokens answers some. verdict-asks turns answers tokens (λ none. absurd (some none))
 
 pub returns-clause-tree : goal.returns-clause-tree
-returns-clause-tree c = λ turns tokens answers no. verdict-asks turns answers tokens (λ none. none-spelled tokens no)
+returns-clause-tree c = λ turns tokens answers no. verdict-asks turns answers tokens (λ none. no)
 
 pub returns-clause-pragma : goal.returns-clause-pragma
 returns-clause-pragma c = asks-pragma

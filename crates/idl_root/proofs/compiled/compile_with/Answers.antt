@@ -14,4 +14,4 @@ returns c =
     let start : first ≡ record { facts = []; found = flat_map event_finding (enumerate_from 0 events); rows = []; listed = [] } =
     c.in_ok-first.ensures.held ∙ ap (λ found. record { facts = []; found = found; rows = []; listed = [] }) c.in_ok-findings.ensures in
     let all = c.in_ok-judging.ensures.held ∙ ap (to_come first) (c.as_slice.ensures ∙ c.in_ok-units.ensures) ∙ to_come-start events first start in
-    c.in_ok-told.ensures ∙ ap (told c.args.end.now) all
+    c.in_ok-told.ensures ∙ ap (told c.args.end.now events) all

@@ -1,7 +1,6 @@
 use Rattle.std.proofs.Common.{sym, ap, ◌∙◌}
 use Rattle.std.proofs.lemmas.Result.{IfOk-weaker}
-use Rattle.idl_check.proofs.JudgeLemmas.{first_step, stops-none}
-use Rattle.idl_check.proofs.VerdictLaws.{none-spelled}
+use Rattle.idl_check.proofs.JudgeLemmas.{first_step}
 use Rattle.idl_check.proofs.VisitLemmas.{runs_over}
 use Rattle.idl_scope.specs.Facts.{answers}
 use Rattle.idl_unit.specs.TokenRules.{token_faults}
@@ -26,7 +25,6 @@ returns-in-Err-Rule c =
 
 pub without_tree-requires : goal.without_tree-requires
 without_tree-requires c =
-    let tokens = c.args.self.tokens.now in
     let stop = rw c.in-Err-NoTree.field-0-is at c.in-Err-NoTree.ensures.fault in
     let stops = rw c.requires at stop in
-    record { rules = stops.0; none = none-spelled tokens (stops-none tokens c.in-Err-NoTree._place stops.1) }
+    record { rules = stops.0; stops = stops.1 }

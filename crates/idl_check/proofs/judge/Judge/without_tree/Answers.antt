@@ -1,6 +1,7 @@
-use Rattle.std.proofs.Common.{◌∷◌, [], sym, ap, ◌∙◌}
+use Rattle.std.proofs.Common.{◌∷◌, ◌-◌, [], length, sym, ap, ◌∙◌}
 use Rattle.std.proofs.lemmas.Result.{IfOk-weaker}
 use Rattle.idl_check.proofs.JudgeLemmas.{first_faults-opening, first_step, second_step}
+use Rattle.idl_check.proofs.VerdictLaws.{stopped-tree}
 use Rattle.idl_check.proofs.VisitLemmas.{runs_over}
 use Rattle.idl_check.specs.Verdict.{refused}
 use Rattle.idl_scope.specs.Facts.{answers}
@@ -21,9 +22,10 @@ returns-in-None c =
     let bank = answers c.args.self.env.now in
     let tokens = c.args.self.tokens.now in
     let scopes = c.args.self.scopes.now in
+    let place = length tokens - c.args.left in
     let told = ap least_fault (first_faults-opening tokens scopes [] c.requires.rules c.in-None.ensures) in
     IfOk-weaker c.refused-in-None.result _ _
     (λ v given turns more.
-    given ∙ ap (λ f. runs_over bank (refused tokens f) c.args.log.now) c.at_first.ensures
-    ∙ ap (λ q. runs_over bank q c.args.log.now) (sym (second_step turns tokens scopes told c.requires.none)))
+    given ∙ ap (λ f. runs_over bank (refused tokens f) c.args.log.now) c.no_tree.ensures
+    ∙ ap (λ q. runs_over bank q c.args.log.now) (sym (second_step turns tokens scopes place told (stopped-tree tokens place c.requires.stops))))
     c.refused-in-None.ensures
