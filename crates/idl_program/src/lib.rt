@@ -11,7 +11,10 @@ mod preparing;
 mod program;
 mod request;
 
-pub use failure::Status;
+pub use failure::{Failure, Status, Subject};
 pub use laws::{single_fault, worked_words};
 pub use loader::{Loaded, Loader};
+pub use loading::compile_all;
+pub use preparing::prepared;
 pub use program::{Devices, run_program};
+pub use request::{Options, options_of, with_options};

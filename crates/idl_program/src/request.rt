@@ -2,6 +2,7 @@
 
 ghost use Rattle.std.specs.Prelude.{◌≡◌, IfErr, IfOk, map, false, []};
 ghost use Rattle.clap.specs.Words.{FailsBy, app_of, found_of, kind_of, rows_of, rule_of};
+ghost use Rattle.clap.specs.declared.builder.command.Command.TheViews.{out-Command as fields_of};
 ghost use Rattle.idl_program.specs.Words.{AreOptionsOf, AreWrong, IsDisplay, IsRefusal, IsRequestOf, bare, faults_in, flag_rule, flag_rules, found_in, idlc, option_rule, option_rules, text_rule, values_of, with_rules};
 
 use clap::error::ErrorKind;
@@ -19,7 +20,9 @@ pub struct Options<'a> {
     pub directories: Vec<&'a str>,
     /// The files that are roots.
     pub files: Vec<&'a str>,
+    /// Whether `-d` stands there.
     pub shows_dump: bool,
+    /// Whether `--listing` stands there.
     pub shows_listing: bool,
 }
 
@@ -137,11 +140,17 @@ fn bare<'a>(alloc: Global) -> Command<'a>
         .version("0.1.0")
         .about("Compiles OMG IDL: tells the errors of each FILE, and shows what it declares.")
         .override_usage("idlc [OPTIONS] FILE..\n       idlc --session")
+        .after_help(
+            "A row on standard error is FILE:LINE: CODE TOKEN, and `idltool explain CODE` tells what the code means.\nThe status is 0; or 1 where a FILE has errors; or 2 for wrong words and other trouble, which a line on standard error tells.",
+        )
 }
 
-// A command with the options that have a value.
-fn with_options<'a>(alloc: Global, command: Command<'a>) -> Result<Command<'a>, AllocError>
-    ensures { IfOk result (λ more. app_of more ≡ with_rules (app_of command.entry) option_rules) }
+/// A command with the options that say what files are compiled over: `-D`, `-U` and `-I`.
+pub fn with_options<'a>(alloc: Global, command: Command<'a>) -> Result<Command<'a>, AllocError>
+    ensures rules { IfOk result (λ more.
+        app_of more ≡ with_rules (app_of command.entry) option_rules) }
+    ensures local { IfOk result (λ more.
+        (fields_of more).has_globals ≡ (fields_of command.entry).has_globals) }
 {
     command
         .arg(valued(alloc, "define", 'D', "NAME[=VALUE]").help(
@@ -204,7 +213,8 @@ fn text<'a>(alloc: Global, id: &'a str, action: ArgAction) -> Arg<'a>
     Arg::new(alloc, id).long(id).action(action)
 }
 
-fn options_of<'a>(alloc: Global, matches: &ArgMatches<'a>) -> Result<Options<'a>, AllocError>
+/// What the options of a command and its FILEs ask for, of those that it has.
+pub fn options_of<'a>(alloc: Global, matches: &ArgMatches<'a>) -> Result<Options<'a>, AllocError>
     ensures { IfOk result (AreOptionsOf (rows_of (found_of matches.now))) }
 {
     Ok(Options {

@@ -1,11 +1,15 @@
 //! The tests, by subject.
 
 mod editor;
+mod examples;
+mod explains;
 mod failures;
 mod listings;
 mod loads;
 mod options;
+mod orb;
 mod replies;
 mod room;
+mod rules;
 mod scripts;
 mod support;

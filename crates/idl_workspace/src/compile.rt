@@ -6,10 +6,13 @@ ghost use Rattle.idl_event.specs.Key.{key_eq};
 ghost use Rattle.idl_memo.specs.Kept.{HoldsOver};
 ghost use Rattle.idl_prep.specs.Root.{expansion};
 ghost use Rattle.idl_root.specs.Findings.{finding_row};
+ghost use Rattle.idl_workspace.specs.Asked.{asked_over};
+ghost use Rattle.idl_workspace.specs.Bank.{bank_of};
 ghost use Rattle.idl_workspace.specs.Compile.{compile_over, compiled_root, end_of, line_count};
 ghost use Rattle.idl_workspace.specs.Project.{Project};
 ghost use Rattle.idl_workspace.specs.UpToDate.{diagnostics_of, findings_of};
 
+use crate::asked::asked;
 use crate::bank::SessionBank;
 use idl_base::Seq;
 use idl_event::{Answer, Expansion, FileName, Key, Place, RootBank};
@@ -55,6 +58,19 @@ pub fn compile_alone(
     let task = RootTask::new(root.copied());
     let kept = run_anew(memory.alloc(), &task, bank, &mut Meter::new())?;
     compile(memory, bank, &kept)
+}
+
+/// The files that a root asks for over a bank, there or not, in the order first asked. It is expanded for that alone.
+pub fn asked_alone(alloc: Global, bank: &SessionBank, root: &Name) -> Result<Vec<Name>, AllocError>
+    ensures { IfOk result (λ names. names.items ≡ asked_over (bank_of bank.now) root.now) }
+{
+    let kept = run_anew(
+        alloc,
+        &RootTask::new(root.copied()),
+        bank,
+        &mut Meter::new(),
+    )?;
+    asked(alloc, kept.log())
 }
 
 /// Compiles a root over a bank, in which its own file may be absent, from the result of its task.

@@ -1,6 +1,9 @@
 //! Sources: what roots are made of, and what a root compiles to.
 
-ghost use Rattle.std.specs.Prelude.{◌≡◌, IfOk, map};
+ghost use Rattle.std.specs.Prelude.{◌≡◌, IfOk, is_some, map};
+ghost use Rattle.std.specs.FinMap as finite;
+ghost use Rattle.idl_workspace.specs.Asked.{asked_over};
+ghost use Rattle.idl_workspace.specs.Bank.{bank_of};
 ghost use Rattle.idl_workspace.specs.Compile.{compiled_root};
 ghost use Rattle.idl_workspace.specs.Edits.{Define, Put, Search, Undef};
 ghost use Rattle.idl_workspace.specs.Made.{IsMade, rootless};
@@ -8,7 +11,7 @@ ghost use Rattle.idl_workspace.specs.Project.{no_inputs};
 ghost use Rattle.idl_workspace.specs.WellFormed.{IsWellFormed};
 
 use crate::bank::SessionBank;
-use crate::compile::{CompiledRoot, compile_alone};
+use crate::compile::{CompiledRoot, asked_alone, compile_alone};
 use crate::directories::directories;
 use crate::macro_body::MacroBody;
 use crate::word::spelled;
@@ -118,6 +121,20 @@ impl Sources {
         ensures same { self.new ≡ self.old }
     {
         compile_alone(&mut self.memory, &self.bank, root)
+    }
+
+    /// The files that the root of this name asks for, there or not, in the order first asked.
+    pub fn asked(&self, root: &Name) -> Result<Vec<Name>, AllocError>
+        ensures { IfOk result (λ names. names.items ≡ asked_over (bank_of self.now) root.now) }
+    {
+        asked_alone(self.memory.alloc(), &self.bank, root)
+    }
+
+    /// Whether there is a file of this name.
+    pub fn has_file(&self, name: &Name) -> bool
+        ensures { result ≡ is_some (finite.get self.now.files name.now) }
+    {
+        self.bank.files().get(name.as_bytes()).is_some()
     }
 
     /// Tells that the inputs are well-formed, whatever edits they come of, as those of a session are.

@@ -4,14 +4,8 @@
 //! standard output.
 #![tactic(auto)]
 
-mod disk;
-mod reading;
-mod standard;
-
-use crate::disk::Disk;
-use crate::standard::{StandardInput, StandardOutput};
+use idl_disk::{Disk, StandardInput, StandardOutput, texts, words};
 use idl_program::{Devices, Status, run_program};
-use std::env::args;
 use std::process::ExitCode;
 
 fn main(rt: HostRuntime) -> ExitCode {
@@ -27,12 +21,9 @@ fn main(rt: HostRuntime) -> ExitCode {
 
 // Does what the words behind the program's name ask for.
 fn run(rt: &HostRuntime, words: &[String]) -> Status {
-    let mut texts: Vec<&str> = Vec::new(rt.alloc());
-    for word in words {
-        if texts.push(word.as_str()).is_err() {
-            return Status::Failed;
-        }
-    }
+    let Ok(texts) = texts(rt.alloc(), words) else {
+        return Status::Failed;
+    };
     let mut devices = Devices {
         loader: Disk::new(rt),
         source: StandardInput::new(rt.reader()),
@@ -40,13 +31,4 @@ fn run(rt: &HostRuntime, words: &[String]) -> Status {
         errors: StandardOutput::new(rt.stderr()),
     };
     run_program(rt.alloc(), &texts, &mut devices)
-}
-
-// The words behind the program's name.
-fn words(rt: &HostRuntime) -> std::io::Result<Vec<String>> {
-    let mut words = Vec::new(rt.alloc());
-    for word in args(rt)?.skip(1) {
-        words.push(word)?;
-    }
-    Ok(words)
 }

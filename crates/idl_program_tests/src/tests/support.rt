@@ -5,6 +5,7 @@ ghost use Rattle.idl_program.specs.Holding.{Untold};
 use idl_program::{Devices, Loaded, Loader, run_program};
 use idl_session::{BufferSink, SliceSource};
 use idl_source::Name;
+use idl_tool::run_tool;
 use std::alloc::{AllocError, AllocGlobal, Global};
 use std::process::Abort;
 use std::test::Fail;
@@ -89,12 +90,7 @@ pub fn told<L: Loader + Drop>(
     loader: L,
     input: &str,
 ) -> Result<String, AllocError> {
-    let mut list: Vec<&str> = Vec::new(alloc);
-    for word in words.split(' ') {
-        if !word.is_empty() {
-            list.push(word)?;
-        }
-    }
+    let list = list_of(alloc, words)?;
     let mut devices = Devices {
         loader,
         source: SliceSource::new(input.as_bytes()),
@@ -106,6 +102,32 @@ pub fn told<L: Loader + Drop>(
     push_lines(&mut text, " out ", devices.output.as_bytes())?;
     push_lines(&mut text, " err ", devices.errors.as_bytes())?;
     Ok(text)
+}
+
+/// What the second program gives, over files of a text.
+pub fn tool_given(alloc: Global, words: &str, files: &str) -> Result<String, AllocError> {
+    let list = list_of(alloc, words)?;
+    let mut devices = idl_tool::Devices {
+        loader: Files::new(alloc, files),
+        output: BufferSink::new(alloc, ROOM)?,
+        errors: BufferSink::new(alloc, ROOM)?,
+    };
+    let status = run_tool(alloc, &list, &mut devices);
+    let mut text = format!(in alloc; "{}", status.code())?;
+    push_lines(&mut text, " out ", devices.output.as_bytes())?;
+    push_lines(&mut text, " err ", devices.errors.as_bytes())?;
+    Ok(text)
+}
+
+// Words that stand in a text, parted by blanks.
+fn list_of<'w>(alloc: Global, words: &'w str) -> Result<Vec<&'w str>, AllocError> {
+    let mut list = Vec::new(alloc);
+    for word in words.split(' ') {
+        if !word.is_empty() {
+            list.push(word)?;
+        }
+    }
+    Ok(list)
 }
 
 fn push_lines(text: &mut String, title: &str, bytes: &[u8]) -> Result<(), AllocError> {
@@ -120,6 +142,18 @@ fn push_lines(text: &mut String, title: &str, bytes: &[u8]) -> Result<(), AllocE
                 c => text.push(c)?,
             }
         }
+    }
+    Ok(())
+}
+
+/// Each row: words, files, and what the second program gives.
+pub fn are_tool_given(
+    rt: &(impl Abort + AllocGlobal),
+    rows: &[(&str, &str, &str)],
+) -> Result<(), Fail> {
+    for (words, files, want) in rows {
+        let got = tool_given(rt.alloc(), words, files)?;
+        assert_eq!(rt; got.as_str(), *want, "{words} over {files}");
     }
     Ok(())
 }

@@ -23,4 +23,5 @@ returns c =
     let four : app_of c.version.result ≡ on_top versioned (app_of c.disable_version_flag.result) = ap app_of_fields c.version.ensures in
     let five : app_of c.about.result ≡ app_of c.version.result = ap app_of_fields c.about.ensures in
     let six : app_of c.override_usage.result ≡ app_of c.about.result = ap app_of_fields c.override_usage.ensures in
-    six ∙ five ∙ four ∙ ap (on_top versioned) (three ∙ ap (on_top no_version) (two ∙ ap (on_top no_help) (one ∙ ap (on_top own_words) c.new.ensures.app)))
+    let seven : app_of c.after_help.result ≡ app_of c.override_usage.result = ap app_of_fields c.after_help.ensures in
+    seven ∙ six ∙ five ∙ four ∙ ap (on_top versioned) (three ∙ ap (on_top no_version) (two ∙ ap (on_top no_help) (one ∙ ap (on_top own_words) c.new.ensures.app)))

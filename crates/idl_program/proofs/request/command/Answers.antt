@@ -12,7 +12,7 @@ is_global a = a.global
 pub returns : goal.returns
 unfolding idlc
 returns c =
-    let options : app_of c.in_ok-command.command ≡ with_rules bare option_rules = c.in_ok-command.ensures ∙ ap (λ (a : App). with_rules a option_rules) c.bare.ensures in
+    let options : app_of c.in_ok-command.command ≡ with_rules bare option_rules = c.in_ok-command.ensures.rules ∙ ap (λ (a : App). with_rules a option_rules) c.bare.ensures in
     let flags : app_of c.in_ok-with_flags.field-0 ≡ with_rules (with_rules bare option_rules) flag_rules = c.in_ok-with_flags.ensures ∙ ap (λ (a : App). with_rules a flag_rules) options in
     let value : rule_of c.value_name.result ≡ record (new_rule (codes "file")) { value_names = 1 } = ap rule_of c.value_name.ensures
     ∙ ap (λ (r : Rule). record r { value_names = 1 }) c.new.ensures.rule in

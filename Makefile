@@ -1,0 +1,26 @@
+# Puts the programs and what belongs to them in place: make install PREFIX=/usr/local
+# On first use the programs are proved and built before, which takes an hour or longer.
+PREFIX = /usr/local
+
+programs = crates/idlc/out/idlc crates/idltool/out/idltool
+bin = $(DESTDIR)$(PREFIX)/bin
+share = $(DESTDIR)$(PREFIX)/share
+
+all:
+	./idlc --version
+	./idltool --version
+
+install: all
+	mkdir -p $(bin) $(share)/man/man1 $(share)/bash-completion/completions $(share)/idl
+	install -m 755 $(programs) $(bin)
+	lib/man crates/idlc/out/idlc idlc >$(share)/man/man1/idlc.1
+	lib/man crates/idltool/out/idltool idltool explain deps >$(share)/man/man1/idltool.1
+	install -m 644 lib/completion.bash $(share)/bash-completion/completions/idlc
+	ln -sf idlc $(share)/bash-completion/completions/idltool
+	install -m 644 lib/orb.idl $(share)/idl
+
+uninstall:
+	rm -f $(bin)/idlc $(bin)/idltool $(share)/man/man1/idlc.1 $(share)/man/man1/idltool.1
+	rm -f $(share)/bash-completion/completions/idlc $(share)/bash-completion/completions/idltool $(share)/idl/orb.idl
+
+.PHONY: all install uninstall

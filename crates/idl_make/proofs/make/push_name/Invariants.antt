@@ -1,0 +1,7 @@
+use Rattle.std.proofs.Common.{◌≡◌, ◌++◌, flat_map, take}
+use Rattle.idl_make.specs.Make.{escaped_byte}
+use Rattle.idl_make.proofs.make.push_name.Given as goal
+
+-- those before
+abbrev pub invariant-bytes : goal.invariant-bytes
+invariant-bytes l = l.out.items ≡ l.fn.out.items ++ flat_map escaped_byte (take l.byte-index l.name)

@@ -1,0 +1,79 @@
+-- Rules of roots, one after another.
+use Rattle.std.proofs.Common.{◌≡◌, ◌∙◌, ◌+◌, ◌-◌, ◌<◌, ◌++◌, ◌∷◌, [], ℕ, ◌||◌, All, Bool, IsTrue, List, MatchOption, None, Option, Some, ap, codes, drop, filter, flat_map, get_or, length, map, refl, subst, sym, take, unwrap_or, if◌then◌else◌, true, false}
+use Rattle.std.specs.Str.{bytes_eq}
+use Rattle.std.proofs.lemmas.List.{take_more}
+use Rattle.std.proofs.lemmas.List.Concat.{flat_map-append}
+use Rattle.std.proofs.lemmas.List.Elements.{All-append, All-cons, All-filter, All-head, All-nil, All-tail}
+use Rattle.std.proofs.lemmas.List.Folds.{flat_map-map}
+use Rattle.clap.proofs.WalkLemmas.{list_any-map}
+use Rattle.idl_make.specs.Make.{IfThere, IsMakeRule, Need, Rule, There, is_make_name, name_in, rule_text, rules_text}
+use Rattle.idl_session.specs.Replies.{whole_line}
+use Rattle.idl_source.specs.Device.{append}
+use Rattle.idl_source.specs.Texts.{Texts}
+use Rattle.idl_workspace.specs.Compile.{compiled_root}
+use Rattle.idl_workspace.specs.Project.{Inputs}
+use Rattle.idl_workspace.specs.declared.compile.CompiledRoot.{CompiledRoot}
+use Rattle.idl_program.specs.Compiled.{errors_in, is_faulty, lines_of}
+use Rattle.idl_program.specs.Rows.{are_faulty, lines_with}
+use Rattle.idl_program.specs.declared.failure.Status.{Status}
+use Rattle.idl_program.specs.declared.failure.Status.TheVariants.{Faulty, Sound}
+use Rattle.idl_tool.specs.Deps.{empty_rule, is_other, is_there, need_of, rules_for, stem, target_of}
+use Rattle.idl_tool.specs.declared.request.Deps.{Deps}
+
+pub rules_text-append : (xs ys : List Rule) → rules_text (xs ++ ys) ≡ rules_text xs ++ rules_text ys
+rules_text-append xs ys = flat_map-append (λ rule. rule_text rule ++ 10 ∷ []) xs ys
+
+-- the rules of one root more
+pub flat_map-next : {X Y : Type 0} (f : X → List Y) (xs : List X) (i : ℕ) (x : X) → i < length xs → x ≡ get_or xs i x
+    → flat_map f (take (i + 1) xs) ≡ flat_map f (take i xs) ++ f x
+flat_map-next f xs i x within is =
+    ap (flat_map f) (take_more xs i x within) ∙ flat_map-append f (take i xs) (get_or xs i x ∷ [])
+    ∙ ap (λ y. flat_map f (take i xs) ++ flat_map f (y ∷ [])) (sym is) ∙ ap (λ l. flat_map f (take i xs) ++ l) (append-none (f x))
+  where
+    append-none : {Y : Type 0} (l : List Y) → l ++ [] ≡ l
+    append-none [] = refl
+    append-none (y ∷ l) = ap (λ m. y ∷ m) (append-none l)
+
+-- what is told of compiled roots is what is told of the roots
+pub told-of : (inputs : Inputs) (roots : List (List ℕ)) (compiled : List CompiledRoot) → compiled ≡ map (compiled_root inputs) roots
+    → lines_with (λ root. root.rows.diagnostics) compiled ≡ lines_of (errors_in inputs) roots
+told-of inputs roots compiled rows =
+    ap (lines_with (λ root. root.rows.diagnostics)) rows ∙ flat_map-map (λ (r : CompiledRoot). flat_map whole_line r.rows.diagnostics) (compiled_root inputs) roots
+
+pub ending-of : (inputs : Inputs) (roots : List (List ℕ)) (compiled : List CompiledRoot) → compiled ≡ map (compiled_root inputs) roots
+    → are_faulty compiled ≡ is_faulty inputs roots
+ending-of inputs roots compiled rows =
+    ap are_faulty rows ∙ sym (list_any-map (λ (r : CompiledRoot). r.rows.is_faulty) (compiled_root inputs) roots)
+
+-- a name without its end, by what a test of it found
+pub stem-of : (name : List ℕ) (found : Option (List ℕ))
+    → MatchOption found (bytes_eq (drop (length name - 4) name) (codes ".idl") ≡ false) (λ x. (bytes_eq (drop (length name - 4) name) (codes ".idl") ≡ true) × (x ≡ take (length name - 4) name))
+    → unwrap_or found name ≡ stem name
+stem-of name None is = sym (ap (λ b. if b then take (length name - 4) name else name) is)
+stem-of name (Some x) is = is.1 ∙ sym (ap (λ b. if b then take (length name - 4) name else name) is.0)
+
+-- make can read the rules of a root where it can read the target and what the root asks for
+abbrev Readable : List ℕ → Type 0
+Readable name = IsTrue (is_make_name name)
+
+needs-readable : (g : Bool) (files : Texts) (names : List (List ℕ)) → All Readable names → All (λ need. IsTrue (is_make_name (name_in need))) (map (need_of g files) names)
+needs-readable g files [] are = All-nil (λ need. IsTrue (is_make_name (name_in need)))
+needs-readable g files (name ∷ names) are =
+    All-cons (λ need. IsTrue (is_make_name (name_in need))) (need_of g files name) (map (need_of g files) names) (by (g || is_there files name))
+    (needs-readable g files names (All-tail Readable name names are))
+  where
+    by : (there : Bool) → IsTrue (is_make_name (name_in (if there then There name else IfThere name)))
+    by true = All-head Readable name names are
+    by false = All-head Readable name names are
+
+empties-readable : (names : List (List ℕ)) → All Readable names → All IsMakeRule (map empty_rule names)
+empties-readable [] are = All-nil IsMakeRule
+empties-readable (name ∷ names) are =
+    All-cons IsMakeRule (empty_rule name) (map empty_rule names) (record { target = All-head Readable name names are; needs = All-nil (λ need. IsTrue (is_make_name (name_in need))) })
+    (empties-readable names (All-tail Readable name names are))
+
+pub rules-readable : (deps : Deps) (files : Texts) (root : List ℕ) (names : List (List ℕ)) → Readable (target_of deps root) → All Readable names → All IsMakeRule (rules_for deps files root names)
+rules-readable deps files root names target are =
+    All-cons IsMakeRule (record { target = target_of deps root; needs = map (need_of deps.has_generated files) names }) (map empty_rule (filter (is_other files root) names))
+    (record { target = target; needs = needs-readable deps.has_generated files names are })
+    (empties-readable (filter (is_other files root) names) (All-filter (is_other files root) Readable names are))

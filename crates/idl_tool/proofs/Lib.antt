@@ -1,0 +1,3 @@
+mod DepsLemmas
+mod ExplainLemmas
+mod RequestLemmas

@@ -1,0 +1,9 @@
+use Rattle.std.proofs.Common.{◌≡◌, ◌++◌, flat_map, map, take}
+use Rattle.idl_tool.specs.Deps.{need_of}
+use Rattle.idl_make.specs.Make.{need_text}
+use Rattle.idl_tool.proofs.deps.push_needs.Given as goal
+
+-- those before
+abbrev pub invariant-names : goal.invariant-names
+invariant-names l = l.out.items
+    ≡ l.fn.out.items ++ flat_map need_text (map (need_of l.deps.has_generated l.sources.files) (take l.name-index l.asked))

@@ -1,0 +1,5 @@
+pub mod Answered
+pub mod Deps
+pub mod Messages
+pub mod Served
+pub mod Words

@@ -1,0 +1,27 @@
+-- What the program does with a request.
+use Rattle.std.specs.Prelude.{◌≡◌, ℕ, List, Option}
+use Rattle.std.specs.Option.{option_map}
+use Rattle.std.specs.String.{string_bytes}
+use Rattle.idl_program.specs.Compiled.{Written}
+use Rattle.idl_program.specs.Holding.{Holding}
+use Rattle.idl_program.specs.Served.{IsShownText}
+use Rattle.idl_program.specs.declared.failure.Status.{Status}
+use Rattle.idl_program.specs.declared.failure.Status.TheVariants.{Sound}
+use Rattle.idl_tool.specs.Answered.{IsExplained}
+use Rattle.idl_tool.specs.Deps.{IsServed}
+use Rattle.idl_tool.specs.declared.request.Request.{Request}
+use Rattle.idl_tool.specs.declared.request.Request.TheVariants.{Show, Explain, Deps}
+
+-- what a word asks for, or nothing else, was explained
+pub record IsToldOf (word : Option (List ℕ)) (before after : Written) (status : Status)
+    : Type 0 where
+  pub output : IsExplained word before.output after.output
+  pub errors : after.errors ≡ before.errors
+  pub sound : status ≡ Sound
+
+-- what is asked for was done
+abbrev pub IsDone : (List ℕ → Holding) → Written → Written → Status → Request → Type 0
+IsDone told before after status (Show text) = IsShownText (string_bytes text) before after status
+IsDone told before after status (Explain word) =
+    IsToldOf (option_map (λ w. w.now) word) before after status
+IsDone told before after status (Deps deps) = IsServed told deps before after status

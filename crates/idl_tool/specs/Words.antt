@@ -1,0 +1,106 @@
+-- What the words behind the program's name ask for: the options that there are, and what each word
+-- is to them by clap's `subcommand_of`, or what is wrong with the words by its `fault_of`.
+use Rattle.std.specs.Prelude.{◌≡◌, ◌≢◌, ◌⊎◌, ℕ, List, [], ◌∷◌, ◌++◌, Option, Some, Bool, true, false, codes, map}
+use Rattle.std.specs.Option.{option_map}
+use Rattle.clap.specs.Words.{App, IsAmong, Kinds, Row, Rule, Shape, Text, count_of, fault_of, first_of, new_app, new_rule, subcommand_of, with_subcommand}
+use Rattle.clap.specs.Simple.{new_shape, on_top}
+use Rattle.clap.specs.declared.builder.action.ArgAction.TheVariants.{Append, Count, Set}
+use Rattle.clap.specs.declared.error.kind.ErrorKind.{ErrorKind}
+use Rattle.clap.specs.declared.error.kind.ErrorKind.TheVariants.{DisplayHelp, DisplayVersion, OutOfMemory}
+use Rattle.idl_program.specs.Words.{AreOptionsOf, file_rule, flag_rule, option_rules, stands}
+use Rattle.idl_tool.specs.declared.request.Deps.{Deps}
+use Rattle.idl_tool.specs.declared.request.Request.{Request}
+use Rattle.idl_tool.specs.declared.request.Request.TheVariants as request
+use Rattle.idl_tool.specs.declared.request.WordsFault.{WordsFault}
+use Rattle.idl_tool.specs.declared.request.WordsFault.TheVariants.{Wrong, NoMemory}
+
+-- the word of `explain`, once at most
+abbrev pub word_rule : Rule
+word_rule = record (new_rule (codes "word")) { action = Some Set; value_names = 1 }
+
+abbrev pub explain_shape : Shape
+explain_shape = record (new_shape (codes "explain")) { rules = word_rule ∷ [] }
+
+-- `-t TARGET`, once at most
+abbrev pub target_rule : Rule
+target_rule =
+    record (new_rule (codes "target")) { short = Some 116; action = Some Set; value_names = 1 }
+
+abbrev pub generated_rule : Rule
+generated_rule = record (flag_rule (codes "generated")) { long = Some (codes "generated") }
+
+-- `-D`, `-U`, `-I`, these two, and FILEs, of which there is one at least
+abbrev pub deps_shape : Shape
+deps_shape = record (new_shape (codes "deps")) {
+  rules = option_rules
+      ++ target_rule ∷ generated_rule ∷ record file_rule { required = true } ∷ [];
+}
+
+-- a program whose words are all its own, which has a version, and of which a subcommand is wanted
+abbrev pub bare : App
+bare = on_top (λ top. record top {
+  no_binary_name = true;
+  has_version = true;
+  disable_help_subcommand = true;
+  subcommand_required = true;
+  arg_required_else_help = true;
+}) (new_app (codes "idltool"))
+
+-- the program
+unfoldable pub idltool : App
+idltool = with_subcommand (with_subcommand bare explain_shape) deps_shape
+
+-- the subcommand that words name and what clap finds for its options, and what it tells of words
+-- that it doesn't take
+unfoldable pub entered_in : List Text → Option (Text × List Row)
+entered_in words = subcommand_of idltool words
+
+unfoldable pub faults_in : List Text → Kinds
+faults_in words = fault_of idltool words
+
+-- clap takes the words, and they name this subcommand
+abbrev pub Enters : Text → List Text → List Row → Type 0
+Enters name words rows = (faults_in words ≡ []) × (entered_in words ≡ Some (name, rows))
+
+-- what is asked for of files
+pub record AreDepsOf (rows : List Row) (deps : Deps) : Type 0 where
+  pub options : AreOptionsOf rows deps.options
+  pub target : option_map (λ w. w.now) deps.target ≡ first_of (codes "target") rows
+  pub generated : deps.has_generated ≡ stands (codes "generated") rows
+
+-- clap's error shows how the program is used, or its version
+abbrev pub IsDisplay : ErrorKind → Type 0
+IsDisplay kind = (kind ≡ DisplayHelp) ⊎ (kind ≡ DisplayVersion)
+
+-- it says that words are wrong
+abbrev pub IsRefusal : ErrorKind → Type 0
+IsRefusal kind = (kind ≢ DisplayHelp) × (kind ≢ DisplayVersion) × (kind ≢ OutOfMemory)
+
+-- clap tells of the words an error of this sort
+abbrev pub Tells : (ErrorKind → Type 0) → List Text → Type 0
+Tells sort words = (kind : ErrorKind) × IsAmong kind (faults_in words) × sort kind
+
+-- what words ask for: to show a text, to explain a word or all, or to write rules
+abbrev pub IsRequestOf : List Text → Request → Type 0
+IsRequestOf words (request.Show text) = Tells IsDisplay words
+IsRequestOf words (request.Explain word) =
+    (rows : List Row) × Enters (codes "explain") words rows
+    × (option_map (λ w. w.now) word ≡ first_of (codes "word") rows)
+IsRequestOf words (request.Deps deps) =
+    (rows : List Row) × Enters (codes "deps") words rows × AreDepsOf rows deps
+
+-- an error of this kind is such a fault
+abbrev pub IsFaultBy : ErrorKind → WordsFault → Type 0
+IsFaultBy kind (Wrong text) = IsRefusal kind
+IsFaultBy kind NoMemory = Unit {0}
+
+-- clap takes the words, and they name neither subcommand
+abbrev pub NamesNone : List Text → Type 0
+NamesNone words = (faults_in words ≡ [])
+    × ((rows : List Row) → entered_in words ≢ Some (codes "explain", rows))
+    × ((rows : List Row) → entered_in words ≢ Some (codes "deps", rows))
+
+-- words that ask for nothing, if there was memory to read them
+abbrev pub AreWrong : List Text → WordsFault → Type 0
+AreWrong words (Wrong text) = Tells IsRefusal words ⊎ NamesNone words
+AreWrong words NoMemory = Unit {0}

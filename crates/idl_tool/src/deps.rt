@@ -1,0 +1,196 @@
+//! Rules of make from the files that roots ask for.
+
+ghost use Rattle.std.specs.Prelude.{◌≡◌, ◌++◌, ◌∷◌, ◌≤◌, ◌<◌, ◌+◌, ◌-◌, ◌^◌, [], All, IfOk, IsTrue, OnOk, codes, filter, flat_map, if◌then◌else◌, map};
+ghost use Rattle.idl_source.specs.Device.{append};
+ghost use Rattle.idl_program.specs.Rows.{are_faulty, lines_with};
+ghost use Rattle.idl_program.specs.declared.failure.Status.TheVariants.{Faulty, Sound};
+ghost use Rattle.idl_tool.specs.Deps.{IsServed, empty_rule, is_other, need_of, rules_in, stem, target_of};
+ghost use Rattle.idl_make.specs.Make.{IsMakeRule, is_make_name, need_text, rules_text, target_text};
+
+use crate::failure::Failure;
+use crate::program::Devices;
+use crate::request::Deps;
+use idl_make::{is_make_name, push_need, push_need_if_there, push_target};
+use idl_program::{Loader, Status, Subject, compile_all, prepared};
+use idl_session::{Sink, WriteFailed, write_all, write_lines};
+use idl_source::Name;
+use idl_workspace::{CompiledRoot, Sources};
+use std::alloc::{AllocError, Global};
+use std::mem::forget;
+
+/// Writes a rule of make for each file, and what is told of the files.
+pub fn write_deps<'a, L: Loader, O: Sink, E: Sink>(
+    alloc: Global,
+    deps: &Deps<'a>,
+    devices: &mut Devices<L, O, E>,
+) -> Result<Status, Failure<'a>>
+    requires writes { O.failures devices.old.output < 2 ^ 64 - 1 }
+    requires tells { E.failures devices.old.errors < 2 ^ 64 - 2 }
+
+    ensures served { IfOk result (λ status. IsServed (L.told devices.old.loader) deps.now
+        (record { errors = E.written devices.old.errors; output = O.written devices.old.output })
+        (record { errors = E.written devices.new.errors; output = O.written devices.new.output })
+        status) }
+    ensures well { OnOk result
+        ((O.failures devices.new.output ≡ O.failures devices.old.output)
+        × (E.failures devices.new.errors ≡ E.failures devices.old.errors)) }
+    ensures most { E.failures devices.new.errors ≤ E.failures devices.old.errors + 1 }
+{
+    let (sources, roots) = prepared(alloc, &deps.options)?;
+    let (sources, compiled) = compile_all(sources, roots.as_slice(), &mut devices.loader)?;
+    let rules = rules_of(&sources, roots.as_slice(), deps)?;
+    let status = tell_errors(&compiled, &mut devices.errors)?;
+    write_all(&mut devices.output, &rules)?;
+    // The program ends here, and all memory goes back at once.
+    forget((sources, compiled));
+    Ok(status)
+}
+
+// The rules of these roots.
+fn rules_of<'a>(sources: &Sources, roots: &[Name], deps: &Deps<'a>) -> Result<Vec<u8>, Failure<'a>>
+    ensures rules { IfOk result (λ text.
+        text.items ≡ rules_text (flat_map (rules_in deps.now sources.now) roots.now)) }
+    ensures readable { OnOk result
+        (All IsMakeRule (flat_map (rules_in deps.now sources.now) roots.now)) }
+{
+    let mut out = Vec::new(sources.allocator());
+    'roots: for root in roots {
+        push_rules(sources, root, deps, &mut out)?;
+    }
+    Ok(out)
+}
+
+// Writes the rule of a root, and an empty one for each other file that it asks for and that is there.
+fn push_rules<'a>(
+    sources: &Sources,
+    root: &Name,
+    deps: &Deps<'a>,
+    out: &mut Vec<u8>,
+) -> Result<(), Failure<'a>>
+    ensures more { OnOk result (out.new.items
+        ≡ out.old.items ++ rules_text (rules_in deps.now sources.now root.now)) }
+    ensures readable { OnOk result (All IsMakeRule (rules_in deps.now sources.now root.now)) }
+{
+    let asked = sources.asked(root)?;
+    refuse_names(&asked)?;
+    push_target_of(root, deps, out)?;
+    push_needs(sources, &asked, deps, out)?;
+    push_empty_rules(sources, root, &asked, out)?;
+    Ok(())
+}
+
+// Refuses names that no rule can have in it.
+fn refuse_names<'a>(names: &[Name]) -> Result<(), Failure<'a>>
+    ensures { OnOk result (All (λ name. IsTrue (is_make_name name)) names.now) }
+{
+    'names: for name in names {
+        if !is_make_name(name.as_bytes()) {
+            return Err(Failure::NoMakeName(Subject::File(name.copied())));
+        }
+    }
+    Ok(())
+}
+
+// Writes the target of a root's rule: the one that is given, or the root's listing.
+fn push_target_of<'a>(root: &Name, deps: &Deps<'a>, out: &mut Vec<u8>) -> Result<(), Failure<'a>>
+    ensures more { OnOk result
+        (out.new.items ≡ out.old.items ++ target_text (target_of deps.now root.now)) }
+    ensures readable { OnOk result (IsTrue (is_make_name (target_of deps.now root.now))) }
+{
+    match deps.target {
+        Some(target) => {
+            if !is_make_name(target.as_bytes()) {
+                return Err(Failure::NoMakeName(Subject::Word(target)));
+            }
+            push_target(target.as_bytes(), out)?;
+            Ok(())
+        }
+        None => push_listing(root, out),
+    }
+}
+
+// Writes the listing of a root as a target.
+fn push_listing<'a>(root: &Name, out: &mut Vec<u8>) -> Result<(), Failure<'a>>
+    ensures more { OnOk result (out.new.items
+        ≡ out.old.items ++ target_text (stem root.now ++ codes ".listing")) }
+    ensures readable { OnOk result (IsTrue (is_make_name (stem root.now ++ codes ".listing"))) }
+{
+    let listing = listing_of(*out.allocator(), root.as_bytes())?;
+    if !is_make_name(&listing) {
+        return Err(Failure::NoMakeName(Subject::File(root.copied())));
+    }
+    push_target(&listing, out)?;
+    Ok(())
+}
+
+// The name of a root's listing: `.listing` in the place of `.idl`.
+fn listing_of(alloc: Global, root: &[u8]) -> Result<Vec<u8>, AllocError>
+    ensures { IfOk result (λ name. name.items ≡ stem root.now ++ codes ".listing") }
+{
+    let stem = root.strip_suffix(b".idl".as_slice()).unwrap_or(root);
+    let mut name = Vec::from_slice(alloc, stem)?;
+    name.extend_from_slice(b".listing")?;
+    Ok(name)
+}
+
+// Writes what a target stands on, and the line's end.
+fn push_needs(
+    sources: &Sources,
+    asked: &[Name],
+    deps: &Deps<'_>,
+    out: &mut Vec<u8>,
+) -> Result<(), AllocError>
+    ensures { let needs = map (need_of deps.now.has_generated sources.now.files) asked.now in
+        OnOk result (out.new.items ≡ out.old.items ++ flat_map need_text needs ++ 10 ∷ []) }
+{
+    'names: for name in asked {
+        if deps.has_generated || sources.has_file(name) {
+            push_need(name.as_bytes(), out)?;
+        } else {
+            push_need_if_there(name.as_bytes(), out)?;
+        }
+    }
+    out.extend_from_slice(b"\n")
+}
+
+// Writes a rule without needs for each of these files that is there and isn't the root.
+fn push_empty_rules(
+    sources: &Sources,
+    root: &Name,
+    asked: &[Name],
+    out: &mut Vec<u8>,
+) -> Result<(), AllocError>
+    ensures { let others = filter (is_other sources.now.files root.now) asked.now in
+        OnOk result (out.new.items ≡ out.old.items ++ rules_text (map empty_rule others)) }
+{
+    'names: for name in asked {
+        if name != root && sources.has_file(name) {
+            push_target(name.as_bytes(), out)?;
+            out.extend_from_slice(b"\n")?;
+        }
+    }
+    Ok(())
+}
+
+// Writes what is told of these roots, each in turn.
+fn tell_errors<K: Sink>(compiled: &[CompiledRoot], errors: &mut K) -> Result<Status, WriteFailed>
+    requires counts { K.failures errors.old < 2 ^ 64 - 1 }
+
+    ensures told { OnOk result (K.written errors.new
+        ≡ append (K.written errors.old) (lines_with (λ root. root.rows.diagnostics) compiled.now)) }
+    ensures status { IfOk result (λ status.
+        status ≡ (if are_faulty compiled.now then Faulty else Sound)) }
+    ensures well { OnOk result (K.failures errors.new ≡ K.failures errors.old) }
+    ensures most { K.failures errors.new ≤ K.failures errors.old + 1 }
+{
+    let mut is_faulty = false;
+    'roots: for root in compiled {
+        write_lines(errors, root.rows.diagnostics.as_slice())?;
+        is_faulty = is_faulty || root.rows.is_faulty;
+    }
+    if is_faulty {
+        Ok(Status::Faulty)
+    } else {
+        Ok(Status::Sound)
+    }
+}

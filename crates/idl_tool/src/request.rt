@@ -1,0 +1,208 @@
+//! The words that the program is given.
+
+ghost use Rattle.std.specs.Prelude.{◌≡◌, IfErr, IfOk, [], false, map, true};
+ghost use Rattle.clap.specs.Words.{FailsBy, app_of, found_of, kind_of, rows_of, rule_of, shape_of, subcommand_rows_of};
+ghost use Rattle.clap.specs.declared.builder.command.Command.TheViews.{out-Command as fields_of};
+ghost use Rattle.idl_program.specs.Words.{file_rule};
+ghost use Rattle.idl_tool.specs.Words.{AreDepsOf, AreWrong, IsDisplay, IsFaultBy, IsRequestOf, bare, deps_shape, entered_in, explain_shape, faults_in, generated_rule, idltool, target_rule, word_rule};
+
+use clap::error::ErrorKind;
+use clap::{Arg, ArgAction, ArgMatches, Command, Error};
+use idl_program::{Options, options_of, with_options};
+use std::alloc::{AllocError, Global};
+
+/// Whose rules of make are to be written, and how.
+#[derive(Drop)]
+pub struct Deps<'a> {
+    /// The files, and what they are compiled over.
+    pub options: Options<'a>,
+    /// The target of each rule, where it is not to be the listing of its file.
+    pub target: Option<&'a str>,
+    /// Whether a file that isn't there is one that another rule makes.
+    pub has_generated: bool,
+}
+
+/// What the words ask for.
+#[derive(Drop)]
+pub enum Request<'a> {
+    /// To show a text, which tells how the program is used or its version.
+    Show(String),
+    /// To explain the code or the refusal that a word names, or all without one.
+    Explain(Option<&'a str>),
+    /// To write rules of make.
+    Deps(Deps<'a>),
+}
+
+/// Why words make no request.
+#[derive(Drop)]
+pub enum WordsFault {
+    /// They are none that the program takes: what is told of them.
+    Wrong(String),
+    /// There was no memory to read them.
+    NoMemory,
+}
+
+impl From<AllocError> for WordsFault {
+    ghost use Rattle.idl_tool.specs.declared.request.WordsFault.{WordsFault};
+
+    ghost from_gives = { λ _ fault. fault ≡ WordsFault.NoMemory };
+
+    fn from(_error: AllocError) -> WordsFault {
+        WordsFault::NoMemory
+    }
+}
+
+/// Reads the words behind the program's name.
+pub fn request_of<'a>(alloc: Global, words: &'a [&'a str]) -> Result<Request<'a>, WordsFault>
+    ensures asked { IfOk result (IsRequestOf (map (λ w. w.now) words.entry.now)) }
+    ensures wrong { IfErr result (AreWrong (map (λ w. w.now) words.entry.now)) }
+{
+    match matches_of(alloc, words) {
+        Ok(matches) => chosen(alloc, words, &matches),
+        Err(error) => match text_of(alloc, &error) {
+            Ok(text) => Ok(Request::Show(text)),
+            Err(fault) => Err(fault),
+        },
+    }
+}
+
+// What is asked for by words that are taken.
+fn chosen<'a>(
+    alloc: Global,
+    words: &'a [&'a str],
+    matches: &ArgMatches<'a>,
+) -> Result<Request<'a>, WordsFault>
+    requires taken { faults_in (map (λ w. w.now) words.now) ≡ [] }
+    requires entered { subcommand_rows_of matches.now ≡ entered_in (map (λ w. w.now) words.now) }
+
+    ensures asked { IfOk result (IsRequestOf (map (λ w. w.now) words.entry.now)) }
+    ensures wrong { IfErr result (AreWrong (map (λ w. w.now) words.entry.now)) }
+{
+    if let Some(explain) = matches.subcommand_matches("explain") {
+        return Ok(Request::Explain(explain.get_str("word")));
+    }
+    match matches.subcommand_matches("deps") {
+        Some(deps) => Ok(Request::Deps(deps_of(alloc, deps)?)),
+        // One of the two is wanted.
+        None => Err(WordsFault::Wrong(String::new(alloc))),
+    }
+}
+
+// How the program is used, or its version, where that is why there are no matches; or what is wrong.
+fn text_of(alloc: Global, error: &Error) -> Result<String, WordsFault>
+    ensures text { IfOk result (λ _. IsDisplay (kind_of error.now)) }
+    ensures wrong { IfErr result (IsFaultBy (kind_of error.now)) }
+{
+    let text = format!(in alloc; "{error}")?;
+    match error.kind() {
+        ErrorKind::DisplayHelp | ErrorKind::DisplayVersion => Ok(text),
+        ErrorKind::OutOfMemory => Err(WordsFault::NoMemory),
+        _ => Err(WordsFault::Wrong(text)),
+    }
+}
+
+fn matches_of<'a>(alloc: Global, words: &'a [&'a str]) -> Result<ArgMatches<'a>, Error>
+    ensures entered { IfOk result (λ m.
+        subcommand_rows_of m ≡ entered_in (map (λ w. w.now) words.entry.now)) }
+    ensures kinds { FailsBy (faults_in (map (λ w. w.now) words.entry.now)) result }
+{
+    command(alloc)?.try_get_matches_from(words)
+}
+
+fn command<'a>(alloc: Global) -> Result<Command<'a>, AllocError>
+    ensures { IfOk result (λ command. app_of command ≡ idltool) }
+{
+    let explain = explain_command(alloc)?;
+    let deps = deps_command(alloc)?;
+    bare(alloc).subcommand(explain)?.subcommand(deps)
+}
+
+// The program without a subcommand.
+fn bare<'a>(alloc: Global) -> Command<'a>
+    ensures { app_of result ≡ bare }
+{
+    Command::new(alloc, "idltool")
+        .no_binary_name(true)
+        .disable_help_subcommand(true)
+        .subcommand_required(true)
+        .arg_required_else_help(true)
+        .version("0.1.0")
+        .about("Tells what the rows of idlc mean, and what files stand on.")
+        .after_help(
+            "The status is 0; or 1 where a FILE has errors; or 2 for wrong words and other trouble, which standard error tells.",
+        )
+}
+
+fn explain_command<'a>(alloc: Global) -> Result<Command<'a>, AllocError>
+    ensures shape { IfOk result (λ command. shape_of command ≡ explain_shape) }
+    ensures local { IfOk result (λ command. (fields_of command).has_globals ≡ false) }
+{
+    Command::new(alloc, "explain")
+        .about("Explains the code of a row, or a refusal, with an example")
+        .arg(word(alloc))
+}
+
+fn deps_command<'a>(alloc: Global) -> Result<Command<'a>, AllocError>
+    ensures shape { IfOk result (λ command. shape_of command ≡ deps_shape) }
+    ensures local { IfOk result (λ command. (fields_of command).has_globals ≡ false) }
+{
+    let command = Command::new(alloc, "deps").about(
+        "Writes a rule of make for each FILE: what the FILE stands on",
+    );
+    with_options(alloc, command)?
+        .arg(target(alloc))?
+        .arg(generated(alloc))?
+        .arg(file(alloc))
+}
+
+fn word<'a>(alloc: Global) -> Arg<'a>
+    ensures rule { rule_of result ≡ word_rule }
+    ensures global { result.global ≡ false }
+{
+    Arg::new(alloc, "word")
+        .value_name("CODE|NUMBER")
+        .action(ArgAction::Set)
+        .help("A code, as E35, or the number of a refusal; without it all are told, in a line each")
+}
+
+fn target<'a>(alloc: Global) -> Arg<'a>
+    ensures rule { rule_of result ≡ target_rule }
+    ensures global { result.global ≡ false }
+{
+    Arg::new(alloc, "target")
+        .short('t')
+        .value_name("TARGET")
+        .action(ArgAction::Set)
+        .help("The target of each rule, in the place of FILE with .listing for .idl")
+}
+
+fn generated<'a>(alloc: Global) -> Arg<'a>
+    ensures rule { rule_of result ≡ generated_rule }
+    ensures global { result.global ≡ false }
+{
+    Arg::new(alloc, "generated")
+        .long("generated")
+        .action(ArgAction::Count)
+        .help("Has each file that isn't there be made by another rule")
+}
+
+fn file<'a>(alloc: Global) -> Arg<'a>
+    ensures rule { rule_of result ≡ record file_rule { required = true } }
+    ensures global { result.global ≡ false }
+{
+    Arg::new(alloc, "file")
+        .value_name("FILE")
+        .required(true)
+        .action(ArgAction::Append)
+        .help("A file to compile")
+}
+
+fn deps_of<'a>(alloc: Global, matches: &ArgMatches<'a>) -> Result<Deps<'a>, AllocError>
+    ensures { IfOk result (AreDepsOf (rows_of (found_of matches.now))) }
+{
+    Ok(Deps {
+        options: options_of(alloc, matches)?,
+        target: matches.get_str("target"),
+        has_generated: matches.get_count("generated") > 0,
+    })
+}

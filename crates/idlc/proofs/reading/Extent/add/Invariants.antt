@@ -1,8 +1,0 @@
-use Rattle.std.proofs.Common.{◌<◌, ◌++◌, ℕ, List, take}
-use Rattle.idlc.specs.Extent.{Measures}
-use Rattle.idlc.specs.Reading.{ArePastLimits}
-use Rattle.idlc.proofs.reading.Extent.add.Given as goal
-
-abbrev pub invariant-bytes : goal.invariant-bytes
-invariant-bytes l = (before : List ℕ) → Measures before l.fn.self
-    → Measures (before ++ take l.count l.bytes) l.self × ((n : ℕ) → n < l.count → ArePastLimits (before ++ take n l.bytes) → ⊥)

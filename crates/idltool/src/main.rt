@@ -1,0 +1,33 @@
+//! The second program, for people and builds: what rows mean, and what files stand on.
+//!
+//! `idltool explain E35` explains a code, and `idltool deps FILE..` writes rules of make.
+#![tactic(auto)]
+
+use idl_disk::{Disk, StandardOutput, texts, words};
+use idl_program::Status;
+use idl_tool::{Devices, run_tool};
+use std::process::ExitCode;
+
+fn main(rt: HostRuntime) -> ExitCode {
+    match words(&rt) {
+        Ok(words) => ExitCode::from(run(&rt, &words).code()),
+        Err(_) => {
+            // Where standard error can't be written either, the status tells.
+            let _ = rt.eprintln("idltool: bad arguments");
+            ExitCode::from(2)
+        }
+    }
+}
+
+// Does what the words behind the program's name ask for.
+fn run(rt: &HostRuntime, words: &[String]) -> Status {
+    let Ok(texts) = texts(rt.alloc(), words) else {
+        return Status::Failed;
+    };
+    let mut devices = Devices {
+        loader: Disk::new(rt),
+        output: StandardOutput::new(std::io::writer(rt)),
+        errors: StandardOutput::new(rt.stderr()),
+    };
+    run_tool(rt.alloc(), &texts, &mut devices)
+}

@@ -1,0 +1,53 @@
+# What bash completes behind `idlc` and `idltool`: options, names of files, and the codes that `idltool explain` knows.
+
+_idl_files() {
+    compopt -o filenames 2>/dev/null
+    mapfile -t COMPREPLY < <(compgen -f -X '!*.idl' -- "$1"; compgen -d -- "$1")
+}
+
+_idl_directories() {
+    compopt -o filenames 2>/dev/null
+    mapfile -t COMPREPLY < <(compgen -d -- "$1")
+}
+
+_idlc() {
+    local word=${COMP_WORDS[COMP_CWORD]} before=${COMP_WORDS[COMP_CWORD - 1]}
+    case $before in
+        -I) _idl_directories "$word" ;;
+        -D | -U) ;;
+        *)
+            case $word in
+                -*) mapfile -t COMPREPLY < <(compgen -W '-D -U -I -d --listing --session --help --version' -- "$word") ;;
+                *) _idl_files "$word" ;;
+            esac
+            ;;
+    esac
+}
+
+_idltool() {
+    local word=${COMP_WORDS[COMP_CWORD]} before=${COMP_WORDS[COMP_CWORD - 1]}
+    if [ "$COMP_CWORD" = 1 ]; then
+        mapfile -t COMPREPLY < <(compgen -W 'explain deps --help --version' -- "$word")
+        return
+    fi
+    case ${COMP_WORDS[1]} in
+        explain)
+            mapfile -t COMPREPLY < <(compgen -W "$(idltool explain 2>/dev/null | sed 's/^refused //; s/:.*//')" -- "${word^}")
+            ;;
+        deps)
+            case $before in
+                -I) _idl_directories "$word" ;;
+                -D | -U | -t) ;;
+                *)
+                    case $word in
+                        -*) mapfile -t COMPREPLY < <(compgen -W '-D -U -I -t --generated --help' -- "$word") ;;
+                        *) _idl_files "$word" ;;
+                    esac
+                    ;;
+            esac
+            ;;
+    esac
+}
+
+complete -F _idlc idlc
+complete -F _idltool idltool
