@@ -1,12 +1,13 @@
 -- The sites of types, declarators and constructions nest: by their grammar.
-use Rattle.std.proofs.Common.{◌≡◌, ℕ, true, false, List, [], ◌∷◌, ◌++◌, Option, None, Some, append_assoc, flat_map, is_some, map, refl, sym, subst}
+use Rattle.idl_tree.specs.declared.data_type.DataType.TheFolds.{fold-roll-DataType, fold-roll-Sequence}
+use Rattle.std.proofs.Common.{◌≡◌, ℕ, true, false, List, [], ◌∷◌, ◌++◌, Option, None, Some, append_assoc, flat_map, is_some, map, refl, sym, subst, ◌∙◌, ap}
 use Rattle.idl_lex.specs.declared.keyword.Keyword.TheVariants as word
 use Rattle.idl_lex.specs.declared.mark.Mark.TheVariants as mark
 use Rattle.idl_site.proofs.ConstructionEquations.{case_parts-made, construction_parts-enumeration, construction_parts-structure, construction_parts-union, member_parts-made, member_type_parts-construction, member_type_parts-type, structure_parts-made, union_brace, union_parts-made}
 use Rattle.idl_site.specs.ConstructionParts.{case_parts, construction_parts, discriminator_parts, enumeration_parts, label_parts, member_parts, member_type_parts, structure_parts, union_parts}
 use Rattle.idl_site.specs.ExpressionParts.{value_parts}
 use Rattle.idl_site.specs.Part.{Parts, ArrayEnds, Declares, Default, Enumerates, Plain, ScopeBegins, ScopeEnds, TypeEnds, Uses, all_parts, declared, keyword_part, listed, punctuation}
-use Rattle.idl_site.specs.TypeParts.{array_end, bound_parts, constant_type_parts, declarator_parts, length_parts, limit_parts, plain_parts, string_parts, type_parts, type_parts_as}
+use Rattle.idl_site.specs.TypeParts.{array_end, bound_parts, constant_type_parts, declarator_parts, length_parts, limit_parts, plain_parts, string_parts, type_parts, type_parts_as, data_type_step, sequence_step}
 use Rattle.idl_site.specs.declared.site.Declaration.{Declaration}
 use Rattle.idl_site.specs.declared.site.Declaration.TheVariants as declaration
 use Rattle.idl_site.specs.declared.site.Shape.TheVariants.{Basic, Text, Sequence as Elements}
@@ -33,7 +34,7 @@ use Rattle.idl_tree.specs.declared.construction.MemberType.TheVariants.{rolls-Co
 use Rattle.idl_tree.specs.declared.construction.Structure.{Structure, roll-Structure}
 use Rattle.idl_tree.specs.declared.construction.Union.{Union, roll-Union}
 use Rattle.idl_tree.specs.declared.data_type.BasicType.TheVariants.{Discrete}
-use Rattle.idl_tree.specs.declared.data_type.DataType.{DataType, ind-DataType, map-DataType, roll-DataType}
+use Rattle.idl_tree.specs.declared.data_type.DataType.{DataType, ind-DataType, map-DataType, roll-DataType, fold-DataType}
 use Rattle.idl_tree.specs.declared.data_type.DataType.TheOpen.{DataType-F}
 use Rattle.idl_tree.specs.declared.data_type.DataType.TheVariants.{rolls-Plain, rolls-Sequence}
 use Rattle.idl_tree.specs.declared.data_type.DataType.TheVariants as data_type
@@ -46,8 +47,7 @@ use Rattle.idl_tree.specs.declared.expression.Expression.{Expression}
 use Rattle.idl_tree.specs.declared.several.Several.{Several}
 use Rattle.idl_tree.specs.declared.unit.ConstantType.{ConstantType}
 use Rattle.idl_tree.specs.declared.unit.ConstantType.TheVariants as constant
-use Rattle.idl_check.proofs.BracketLemmas.{sequence_rest, type_parts-plain, type_parts-sequence}
-use Rattle.idl_check.proofs.Nesting.{Nests, NestsAt, NestsIn, at_least, before, before_in, carry, declares, discriminated, each, ends, expression, follow, follow_in, label_value, lifted, many, none, one, scope, several, union_scope}
+use Rattle.idl_check.proofs.Nesting.{Gives, Nests, NestsAt, NestsIn, at_least, before, before_in, carry, declares, discriminated, each, ends, expression, follow, follow_in, gives, label_value, lifted, many, none, one, scope, several, union_scope}
 use Rattle.idl_check.proofs.LevelSites.{is_declared_at, is_level_use}
 
 -- ---- types
@@ -60,19 +60,39 @@ limit : (e : Option Expression) → Nests (limit_parts e)
 limit None = none
 limit (Some e) = before (punctuation mark.Comma) (value_parts Bound e) refl (expression Bound e refl)
 
-string : (s : StringType) → Nests (string_parts s)
+string : (s : StringType) → Gives (string_parts s)
 string s =
     let last = TypeEnds (Text s.is_wide (is_some s.bound)) in
-    before (Plain (spell_string_word s.is_wide)) (bound_parts s.bound ++ last ∷ []) refl (ends (bound_parts s.bound) last refl (bound s.bound))
+    gives (Plain (spell_string_word s.is_wide)) (bound_parts s.bound ++ last ∷ []) refl refl (ends (bound_parts s.bound) last refl (bound s.bound))
 
-plain_type : (p : PlainType) (way : Use) → is_level_use way ≡ true → Nests (plain_parts p way)
-plain_type (plain.Basic b) way level = before (Plain (spell_basic b)) (TypeEnds (Basic b) ∷ []) refl (one (TypeEnds (Basic b)) refl)
+plain_type : (p : PlainType) (way : Use) → is_level_use way ≡ true → Gives (plain_parts p way)
+plain_type (plain.Basic b) way level = gives (Plain (spell_basic b)) (TypeEnds (Basic b) ∷ []) refl refl (one (TypeEnds (Basic b)) refl)
 plain_type (plain.String s) way level = string s
-plain_type (plain.Name n) way level = before (Uses way n) [] level none
+plain_type (plain.Name n) way level = gives (Uses way n) [] refl level none
+
+type_parts-plain : (p : PlainType) (way : Use) → type_parts_as (data_type.Plain p) way ≡ plain_parts p way
+unfolding type_parts_as
+type_parts-plain p way = ap (λ (f : Use → Parts). f way)
+    (ap (fold-DataType (Use → Parts) (Use → Parts) data_type_step sequence_step) (sym (rolls-Plain p))
+    ∙ fold-roll-DataType (Use → Parts) (Use → Parts) data_type_step sequence_step (DataType-F.Plain p))
+
+-- behind the first tokens of a sequence
+abbrev sequence_rest : DataType → Option Expression → Parts
+sequence_rest t b = type_parts_as t AsElement ++ (limit_parts b ++ punctuation mark.Greater ∷ TypeEnds (Elements (is_some b)) ∷ [])
+
+type_parts-sequence : (t : DataType) (b : Option Expression) (way : Use)
+    → type_parts_as (made_sequence t b) way ≡ Plain (Word word.Sequence ∷ Punctuation mark.Less ∷ []) ∷ sequence_rest t b
+unfolding type_parts_as
+type_parts-sequence t b way =
+    let s = roll-Sequence (record { element = t; bound = b }) in
+    ap (λ (f : Use → Parts). f way)
+    (ap (fold-DataType (Use → Parts) (Use → Parts) data_type_step sequence_step) (sym (rolls-Sequence s))
+    ∙ fold-roll-DataType (Use → Parts) (Use → Parts) data_type_step sequence_step (DataType-F.Sequence s)
+    ∙ fold-roll-Sequence (Use → Parts) (Use → Parts) data_type_step sequence_step (record { element = t; bound = b }))
 
 -- the claims by which the induction goes
 abbrev Types : DataType → Type 0
-Types t = (way : Use) → is_level_use way ≡ true → Nests (type_parts_as t way)
+Types t = (way : Use) → is_level_use way ≡ true → Gives (type_parts_as t way)
 
 abbrev Sequences : Sequence → Type 0
 Sequences s = Types (data_type.Sequence s)
@@ -83,26 +103,29 @@ Such {X} claim = (x : X) × claim x
 sequence : (t : DataType) (b : Option Expression) → Types t → Types (made_sequence t b)
 sequence t b h way level =
     let last : Parts = punctuation mark.Greater ∷ TypeEnds (Elements (is_some b)) ∷ [] in
-    subst Nests (sym (type_parts-sequence t b way))
-    (before (Plain (Word word.Sequence ∷ Punctuation mark.Less ∷ [])) (sequence_rest t b) refl
-    (follow (type_parts_as t AsElement) (limit_parts b ++ last) (h AsElement refl)
+    subst Gives (sym (type_parts-sequence t b way))
+    (gives (Plain (Word word.Sequence ∷ Punctuation mark.Less ∷ [])) (sequence_rest t b) refl refl
+    (follow (type_parts_as t AsElement) (limit_parts b ++ last) (h AsElement refl).plain
     (follow (limit_parts b) last (limit b) (before (punctuation mark.Greater) (TypeEnds (Elements (is_some b)) ∷ []) refl (one (TypeEnds (Elements (is_some b))) refl)))))
 
 by_type : (y : DataType-F (Such Types) (Such Sequences)) → Types (roll-DataType (map-DataType (Such Types) (Such Sequences) DataType Sequence (λ e. e.0) (λ e. e.0) y))
-by_type (DataType-F.Plain p) = subst Types (sym (rolls-Plain p)) (λ way level. subst Nests (sym (type_parts-plain p way)) (plain_type p way level))
+by_type (DataType-F.Plain p) = subst Types (sym (rolls-Plain p)) (λ way level. subst Gives (sym (type_parts-plain p way)) (plain_type p way level))
 by_type (DataType-F.Sequence s) = subst Types (sym (rolls-Sequence s.0)) s.1
 
-type_nests : (t : DataType) → Types t
-type_nests = ind-DataType Types Sequences
+type_gives : (t : DataType) → Types t
+type_gives = ind-DataType Types Sequences
     (λ x y is. subst (λ z. Types (roll-DataType z)) is (by_type y))
     (λ x y is. subst (λ z. Sequences (roll-Sequence z)) is (sequence y.element.0 y.bound y.element.1))
 
+pub a_result : (t : DataType) → Gives (type_parts t)
+a_result t = type_gives t AsType refl
+
 pub a_type : (t : DataType) → Nests (type_parts t)
-a_type t = type_nests t AsType refl
+a_type t = (a_result t).plain
 
 pub constant_type : (t : ConstantType) → Nests (constant_type_parts t)
 constant_type (constant.Discrete d) = before (Plain (spell_discrete d)) (TypeEnds (Basic (Discrete d)) ∷ []) refl (one (TypeEnds (Basic (Discrete d))) refl)
-constant_type (constant.String s) = string s
+constant_type (constant.String s) = (string s).plain
 constant_type (constant.Name n) = one (Uses AsConstantType n) refl
 
 a_length : (e : Expression) → Nests (length_parts e)

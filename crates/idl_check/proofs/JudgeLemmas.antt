@@ -1,13 +1,13 @@
 -- The three steps of a verdict, run.
-use Rattle.std.proofs.Common.{◌≡◌, ℕ, true, false, cond, List, [], ◌∷◌, ◌++◌, Option, None, Some, Ok, Err, is_some, refl, sym, ap, ◌∙◌, arith, ◌≤◌}
+use Rattle.std.proofs.Common.{◌≡◌, ℕ, true, false, cond, List, [], ◌∷◌, ◌++◌, Option, None, Some, Ok, Err, refl, sym, ap, ◌∙◌, arith, ◌≤◌}
 use Rattle.std.proofs.lemmas.Option.{same_Some}
 use Rattle.std.proofs.lemmas.List.{length-map}
 use Rattle.std.specs.Prelude.{fold, length}
 use Rattle.idl_check.proofs.LeastFault.{least-none}
-use Rattle.idl_memo.specs.Query.{Ask, Done, Tell, and_then, noted}
+use Rattle.idl_memo.specs.Query.{Ask, Done, Tell, and_then}
 use Rattle.idl_memo.proofs.QueryLaws.{run-and_then_at}
 use Rattle.idl_check.proofs.VisitLemmas.{runs_over}
-use Rattle.idl_check.specs.Placing.{faulty_step, opened_kind, opening_faults, step_of}
+use Rattle.idl_check.specs.Placing.{faulty_step, opening_faults, step_of}
 use Rattle.idl_check.specs.Rules.{is_misplaced}
 use Rattle.idl_check.specs.Verdict.{asking, by_names, by_tree, faulty, first_faults, first_part, judged, misplaced, refused, sound, token_verdict, tree_of}
 use Rattle.idl_check.specs.Walk.{Walk, first_walk, walk}
@@ -54,23 +54,6 @@ module _ (bank : Key → Option Answer) (tokens : List Token) where
         | None ↦ Done (faulty fault (faulty_step tokens))
         | Some kind ↦ Ask Nameless (λ count. Done (faulty fault (faulty_step tokens)))
       ]
-
-  by_none : (fault : Fault) (o : Option Kind) (log : List (Key × Option Answer)) → is_some o ≡ false → runs_over bank (refused_by fault o) log ≡ (faulty fault (faulty_step tokens), log)
-  by_none fault None log h = refl
-  by_none fault (Some kind) log h = cc
-
-  by_some : (fault : Fault) (o : Option Kind) (log : List (Key × Option Answer)) → is_some o ≡ true
-      → runs_over bank (refused_by fault o) log ≡ (faulty fault (faulty_step tokens), noted key_eq bank log Nameless)
-  by_some fault None log h = cc
-  by_some fault (Some kind) log h = refl
-
-  pub refused_plain : (fault : Fault) (log : List (Key × Option Answer)) → is_some (opened_kind tokens) ≡ false
-      → runs_over bank (refused tokens fault) log ≡ (faulty fault (faulty_step tokens), log)
-  refused_plain fault log h = by_none fault (opened_kind tokens) log h
-
-  pub refused_opening : (fault : Fault) (log : List (Key × Option Answer)) → is_some (opened_kind tokens) ≡ true
-      → runs_over bank (refused tokens fault) log ≡ (faulty fault (faulty_step tokens), noted key_eq bank log Nameless)
-  refused_opening fault log h = by_some fault (opened_kind tokens) log h
 
 -- the least of faults, with one more
 fold-more : (f g : Fault) (faults : List Fault) → fold lesser_fault f (faults ++ g ∷ []) ≡ lesser_fault (fold lesser_fault f faults) g
@@ -127,11 +110,6 @@ module _ (bank : Key → Option Answer) (turns : ℕ) (tokens : List Token) (sco
   -- what its first token asks
   abbrev first_asks : Option (List ℕ) → Lookup (List Entity)
   first_asks o = elim o [ None ↦ Done [] | Some name ↦ outward turns scopes (folded name) ]
-
-  pub misplaced_plain : (log : List (Key × Option Answer)) → first_part (items (unit_parts tree)) ≡ None
-      → runs_over bank (misplaced turns tokens scopes tree) log ≡ runs_over bank (refused tokens (fault_at 0 MisplacedUnit)) log
-  misplaced_plain log h =
-      ap (λ o. runs_over bank (and_then (first_asks o) (λ found. refused tokens (fault_at 0 MisplacedUnit))) log) h
 
   pub misplaced_asking : (log : List (Key × Option Answer)) (name : List ℕ) (after : List (Key × Option Answer)) → first_part (items (unit_parts tree)) ≡ Some name
       → after ≡ (runs_over bank (outward turns scopes (folded name)) log).1

@@ -44,7 +44,7 @@ use Rattle.idl_unit.specs.declared.fault.Fault.{Fault}
 use Rattle.idl_unit.specs.declared.unit.UnitText.{UnitText}
 use Rattle.idl_unit.specs.declared.unit.UnitText.TheVariants as unit
 use Rattle.idl_check.proofs.AlikeLemmas.{AreAlike, alike-append, alike-led}
-use Rattle.idl_check.proofs.UnitBracketing.{unit-bracketed}
+use Rattle.idl_check.proofs.UnitNesting.{unit-whole}
 use Rattle.idl_check.proofs.FaultOrder.{Leads, leads-later}
 use Rattle.idl_check.proofs.LeastFault.{least-none}
 use Rattle.idl_check.proofs.PartLemmas.{IsUpTo, denoted-IsUpTo}
@@ -74,7 +74,7 @@ module _ (turns : ℕ) (answers : Key → Option Answer) where
   sites-tell : (tokens : List Token) (tree : Tree) → lexemes tokens ≡ spell tree → length tokens < 2 ^ 64 → (scopes : List Scope)
       → AreAlike (visit_faults turns answers (items (unit_parts tree)) (first_walk scopes)) (site_faults turns answers (items (unit_parts tree)) (first_walk scopes))
   sites-tell tokens tree spelled fits scopes =
-      let b = (unit-bracketed tree).is in
+      let b = (unit-whole tree).bracketed in
       let w = first_walk scopes in
       let count : items_length (items (unit_parts tree)) ≡ length tokens = counted (unit_parts tree) ∙ ap length (unit_spells tree) ∙ sym (ap length spelled) ∙ length-map tokens lexeme_of in
       let same : items_length (flat_map section_sites b.sections) ≡ items_length (items (unit_parts tree)) = ap items_length (sym b.are) in

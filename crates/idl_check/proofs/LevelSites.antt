@@ -1,6 +1,7 @@
 -- What stands around a site of a unit: unions, scopes, and the type of constants; and sites that leave it as it is.
 use Rattle.std.proofs.Common.{◌≡◌, ℕ, ◌+◌, ◌-◌, ◌≤◌, Bool, true, false, ◌&&◌, ◌||◌, List, [], ◌∷◌, ◌++◌, refl}
 use Rattle.std.specs.Prelude.{not}
+use Rattle.idl_check.specs.Sections.{is_single}
 use Rattle.idl_check.proofs.Scenes.{AtTop, IsPlaced, Scene, is_operation_way, is_other, scene_after}
 use Rattle.idl_site.specs.Item.{Item}
 use Rattle.idl_site.specs.declared.site.Declaration.{Declaration}
@@ -89,7 +90,7 @@ pub arounds-append : (xs ys : List Item) (a : Around) → arounds (xs ++ ys) a �
 arounds-append [] ys a = refl
 arounds-append (x ∷ xs) ys a = arounds-append xs ys (around_after x a)
 
--- ---- sites at which nothing begins or ends around
+-- ---- sites at which nothing begins or ends
 
 abbrev pub is_level_use : Use → Bool
 is_level_use AsDiscriminator = false
@@ -100,13 +101,20 @@ is_level_value purpose.Constant = false
 is_level_value purpose.Label = false
 is_level_value other = true
 
-abbrev pub is_level : Item → Bool
-is_level (Item.Used way name) = is_level_use way
-is_level (Item.ValueEnds way e) = is_level_value way
-is_level (Item.ScopeBegins way name) = false
-is_level Item.ScopeEnds = false
-is_level (Item.Switches discrete) = false
-is_level other = true
+-- no module and nothing ahead; an operation or attribute only where no scope has begun
+abbrev pub is_declared_at : Bool → Declaration → Bool
+is_declared_at top way = is_other way && (top || not (is_operation_way way))
+
+abbrev pub is_level_at : Bool → Item → Bool
+is_level_at top (Item.Declared way name) = is_declared_at top way
+is_level_at top (Item.Used way name) = is_level_use way
+is_level_at top Item.ValueBegins = false
+is_level_at top (Item.ValueEnds way e) = false
+is_level_at top (Item.ScopeBegins way name) = false
+is_level_at top Item.ScopeEnds = false
+is_level_at top (Item.Switches discrete) = false
+is_level_at top Item.GivesBack = false
+is_level_at top other = true
 
 -- the same unions and scopes
 pub record AreSame (a b : Around) : Type 0 where
@@ -116,7 +124,7 @@ pub record AreSame (a b : Around) : Type 0 where
 pub same-here : (a : Around) → AreSame a a
 same-here a = record { unions = refl; scopes = refl }
 
-pub same-used : (way : Use) (a : Around) → is_level_use way ≡ true → AreSame a (used_around way a)
+same-used : (way : Use) (a : Around) → is_level_use way ≡ true → AreSame a (used_around way a)
 same-used (AsBase is_local) a h = same-here a
 same-used AsType a h = same-here a
 same-used AsElement a h = same-here a
@@ -126,101 +134,40 @@ same-used AsOperand a h = same-here a
 same-used Raised a h = same-here a
 same-used RaisedBySet a h = same-here a
 
-pub same-level : (x : Item) (a : Around) → is_level x ≡ true → AreSame a (around_after x a)
-same-level (Item.Tokens n) a h = same-here a
-same-level (Item.Declared way name) a h = same-here a
-same-level (Item.Used way name) a h = same-used way a h
-same-level (Item.Joined text) a h = same-here a
-same-level Item.ValueBegins a h = same-here a
-same-level (Item.ValueEnds way e) a h = same-here a
-same-level (Item.ScopeBegins way name) a h = cc
-same-level Item.ScopeEnds a h = cc
-same-level (Item.TypeEnds shape) a h = record { unions = refl; scopes = refl }
-same-level Item.ArrayEnds a h = same-here a
-same-level (Item.Enumerates names) a h = same-here a
-same-level (Item.Switches discrete) a h = cc
-same-level Item.Default a h = same-here a
-same-level Item.GivesBack a h = same-here a
-
 pub known-level : (way : Purpose) (a : Around) → is_level_value way ≡ true → IsKnown way a
 known-level purpose.Bound a h = tt
 known-level purpose.Constant a h = cc
 known-level purpose.Length a h = tt
 known-level purpose.Label a h = cc
 
-pub fit-level : (x : Item) (a : Around) → is_level x ≡ true → IsFit x a
-fit-level (Item.Tokens n) a h = tt
-fit-level (Item.Declared way name) a h = tt
-fit-level (Item.Used way name) a h = tt
-fit-level (Item.Joined text) a h = tt
-fit-level Item.ValueBegins a h = tt
-fit-level (Item.ValueEnds way e) a h = known-level way a h
-fit-level (Item.ScopeBegins way name) a h = cc
-fit-level Item.ScopeEnds a h = cc
-fit-level (Item.TypeEnds shape) a h = tt
-fit-level Item.ArrayEnds a h = tt
-fit-level (Item.Enumerates names) a h = tt
-fit-level (Item.Switches discrete) a h = cc
-fit-level Item.Default a h = tt
-fit-level Item.GivesBack a h = tt
-
-abbrev pub is_declared_at : Bool → Declaration → Bool
-is_declared_at top way = is_other way && (top || not (is_operation_way way))
-
-abbrev pub is_level_at : Bool → Item → Bool
-is_level_at top (Item.Declared way name) = is_declared_at top way
-is_level_at top other = is_level other
-
-pub level-at : (top : Bool) (x : Item) → is_level_at top x ≡ true → is_level x ≡ true
-level-at top (Item.Tokens n) h = refl
-level-at top (Item.Declared way name) h = refl
-level-at top (Item.Used way name) h = h
-level-at top (Item.Joined text) h = refl
-level-at top Item.ValueBegins h = refl
-level-at top (Item.ValueEnds way e) h = h
-level-at top (Item.ScopeBegins way name) h = cc
-level-at top Item.ScopeEnds h = cc
-level-at top (Item.TypeEnds shape) h = refl
-level-at top Item.ArrayEnds h = refl
-level-at top (Item.Enumerates names) h = refl
-level-at top (Item.Switches discrete) h = cc
-level-at top Item.Default h = refl
-level-at top Item.GivesBack h = refl
-
-pub at-declared : (top other operation : Bool) → other && (top || not operation) ≡ true → (other ≡ true) × (operation ≡ true → top ≡ true)
+at-declared : (top other operation : Bool) → other && (top || not operation) ≡ true → (other ≡ true) × (operation ≡ true → top ≡ true)
 at-declared top false operation h = cc
 at-declared true true operation h = (refl, λ o. refl)
 at-declared false true true h = cc
 at-declared false true false h = (refl, λ o. cc)
 
-pub placed-level : (top : Bool) (x : Item) (s : Scene) → is_level_at top x ≡ true → AtTop top s → IsPlaced x s
-placed-level top (Item.Tokens n) s h at = tt
-placed-level top (Item.Declared way name) s h at = let parts = at-declared top (is_other way) (is_operation_way way) h in (parts.0, λ o. at (parts.1 o))
-placed-level top (Item.Used way name) s h at = tt
-placed-level top (Item.Joined text) s h at = tt
-placed-level top Item.ValueBegins s h at = tt
-placed-level top (Item.ValueEnds way e) s h at = tt
-placed-level top (Item.ScopeBegins way name) s h at = cc
-placed-level top Item.ScopeEnds s h at = cc
-placed-level top (Item.TypeEnds shape) s h at = tt
-placed-level top Item.ArrayEnds s h at = tt
-placed-level top (Item.Enumerates names) s h at = tt
-placed-level top (Item.Switches discrete) s h at = tt
-placed-level top Item.Default s h at = tt
-placed-level top Item.GivesBack s h at = tt
+-- it is no mark of an expression, fits anywhere, and leaves unions and scopes as they are
+pub record IsLevel (top : Bool) (x : Item) : Type 0 where
+  pub single : is_single x ≡ true
+  pub fit : (a : Around) → IsFit x a
+  pub same : (a : Around) → AreSame a (around_after x a)
+  pub placed : (s : Scene) → AtTop top s → IsPlaced x s
+  pub level : (s : Scene) → (scene_after x s).level ≡ s.level
 
-pub scene-level : (x : Item) (s : Scene) → is_level x ≡ true → (scene_after x s).level ≡ s.level
-scene-level (Item.Tokens n) s h = refl
-scene-level (Item.Declared way name) s h = refl
-scene-level (Item.Used way name) s h = refl
-scene-level (Item.Joined text) s h = refl
-scene-level Item.ValueBegins s h = refl
-scene-level (Item.ValueEnds way e) s h = refl
-scene-level (Item.ScopeBegins way name) s h = cc
-scene-level Item.ScopeEnds s h = cc
-scene-level (Item.TypeEnds shape) s h = refl
-scene-level Item.ArrayEnds s h = refl
-scene-level (Item.Enumerates names) s h = refl
-scene-level (Item.Switches discrete) s h = refl
-scene-level Item.Default s h = refl
-scene-level Item.GivesBack s h = refl
+pub level-site : (top : Bool) (x : Item) → is_level_at top x ≡ true → IsLevel top x
+level-site top (Item.Tokens n) h = record { single = refl; fit = λ a. tt; same = same-here; placed = λ s at. tt; level = λ s. refl }
+level-site top (Item.Declared way name) h =
+    let parts = at-declared top (is_other way) (is_operation_way way) h in
+    record { single = refl; fit = λ a. tt; same = same-here; placed = λ s at. (parts.0, λ o. at (parts.1 o)); level = λ s. refl }
+level-site top (Item.Used way name) h = record { single = refl; fit = λ a. tt; same = λ a. same-used way a h; placed = λ s at. tt; level = λ s. refl }
+level-site top (Item.Joined text) h = record { single = refl; fit = λ a. tt; same = same-here; placed = λ s at. tt; level = λ s. refl }
+level-site top Item.ValueBegins h = cc
+level-site top (Item.ValueEnds way e) h = cc
+level-site top (Item.ScopeBegins way name) h = cc
+level-site top Item.ScopeEnds h = cc
+level-site top (Item.TypeEnds shape) h = record { single = refl; fit = λ a. tt; same = λ a. record { unions = refl; scopes = refl }; placed = λ s at. tt; level = λ s. refl }
+level-site top Item.ArrayEnds h = record { single = refl; fit = λ a. tt; same = same-here; placed = λ s at. tt; level = λ s. refl }
+level-site top (Item.Enumerates names) h = record { single = refl; fit = λ a. tt; same = same-here; placed = λ s at. tt; level = λ s. refl }
+level-site top (Item.Switches discrete) h = cc
+level-site top Item.Default h = record { single = refl; fit = λ a. tt; same = same-here; placed = λ s at. tt; level = λ s. refl }
+level-site top Item.GivesBack h = cc

@@ -32,7 +32,6 @@ mod StandingLemmas
 pub mod StepLaws
 pub mod TableLaws
 mod TypeLemmas
-pub mod UnitBracketing
 mod UnitNesting
 mod ValuedLaws
 mod ReachedLaws

@@ -1,6 +1,6 @@
 -- How many tokens a name is, and the bounds of its parts.
-use Rattle.std.proofs.Common.{◌≡◌, ℕ, suc, ◌+◌, ◌*◌, ◌≤◌, Bool, true, false, cond, List, [], ◌∷◌, ◌++◌, length, flat_map, refl, ap, arith}
-use Rattle.idl_check.specs.Using.{last_at, part_at}
+use Rattle.std.proofs.Common.{◌≡◌, ℕ, suc, ◌+◌, ◌*◌, Bool, true, false, cond, List, [], ◌∷◌, ◌++◌, length, flat_map, refl, ap, arith}
+use Rattle.idl_check.specs.Using.{last_at}
 use Rattle.idl_lex.specs.declared.mark.Mark.TheVariants.{ColonColon}
 use Rattle.idl_tree.specs.Interface.{spell_text}
 use Rattle.idl_tree.specs.Lexeme.{Lexemes, Punctuation, Identifier, Text}
@@ -22,10 +22,6 @@ behind_name at name =
     let all = leading-length name.is_global (Identifier name.first ∷ flat_map (λ part. Punctuation ColonColon ∷ Identifier part ∷ []) name.rest) in
     let rest = parts-length name.rest in
     omega (arith, all, rest)
-
--- no part stands behind the last
-pub part_at-last : (at : ℕ) (name : ScopedName) (part : ℕ) → part ≤ length name.rest → part_at at name part ≤ last_at at name
-part_at-last at name part h = omega arith
 
 singles-length : (pieces : List (List ℕ)) → length (flat_map (λ piece. Text piece ∷ []) pieces) ≡ length pieces
 singles-length [] = refl

@@ -1,32 +1,36 @@
--- How unions and scopes nest in a unit: parts that leave what stands around them as it is.
+-- How expressions, unions and scopes nest in a unit: parts that are bracketed, and leave what stands around them as it is.
+use Rattle.idl_tree.specs.DataType.{spell_discrete}
+use Rattle.idl_check.proofs.BracketLemmas.{bracketed-back, bracketed-before, bracketed-follow, bracketed-none, bracketed-value, value-sites}
+use Rattle.idl_check.specs.Sections.{AreBracketed, is_tokens}
 use Rattle.std.proofs.Common.{◌≡◌, ◌∙◌, ℕ, suc, ◌+◌, ◌-◌, ◌≤◌, Bool, true, false, List, [], ◌∷◌, ◌++◌, Option, None, Some, flat_map, map, refl, sym, ap, subst, arith}
 use Rattle.std.proofs.lemmas.List.{map-append}
 use Rattle.std.proofs.lemmas.List.Elements.{All-head, All-tail}
 use Rattle.std.specs.Prelude.{All}
-use Rattle.idl_check.proofs.Scenes.{ArePlaced, AtTop, IsFrom, Scene, last_named, placed-append, scene_after, scenes, scenes-append}
-use Rattle.idl_check.proofs.LevelSites.{AreFit, AreSame, Around, around_after, arounds, arounds-append, fit-append, fit-level, is_declared_at, is_inside, is_level, is_level_at, is_level_value, level-at, opens_union, placed-level, popped, same-here, same-level, scene-level}
-use Rattle.idl_tree.specs.Lexeme.{Lexemes}
+use Rattle.idl_check.proofs.Scenes.{ArePlaced, AtTop, IsFrom, Scene, last_named, placed-append, scene_after, scenes, scenes-append, IsPlaced}
+use Rattle.idl_check.proofs.LevelSites.{AreFit, AreSame, Around, around_after, arounds, arounds-append, fit-append, is_declared_at, is_inside, is_level_at, is_level_value, opens_union, popped, same-here, IsFit, IsKnown, known-level, level-site}
+use Rattle.idl_tree.specs.Lexeme.{Lexemes, Punctuation}
 use Rattle.idl_lex.specs.declared.mark.Mark.TheVariants as mark
 use Rattle.idl_site.specs.ConstructionParts.{discriminator_parts}
 use Rattle.idl_site.specs.ExpressionParts.{expression_parts, value_parts}
 use Rattle.idl_site.specs.Item.{Item, item_of, items}
-use Rattle.idl_site.specs.Part.{Part, Parts, Declares, Plain, ScopeBegins, ScopeEnds, ValueBegins, ValueEnds, all_parts, if_some, listed, punctuation}
+use Rattle.idl_site.specs.Part.{Part, Parts, Declares, Plain, ScopeBegins, ScopeEnds, ValueEnds, all_parts, if_some, listed, punctuation, GivesBack, Switches, Uses}
 use Rattle.idl_site.proofs.ConstructionEquations.{union_brace}
 use Rattle.idl_site.specs.declared.site.Declaration.{Declaration}
 use Rattle.idl_site.specs.declared.site.Declaration.TheVariants as declaration
 use Rattle.idl_site.specs.declared.site.Target.{Target as Purpose}
 use Rattle.idl_site.specs.declared.site.Target.TheVariants as purpose
-use Rattle.idl_site.specs.declared.site.Use.TheVariants.{AsBase, AsType, AsElement, AsConstantType, AsDiscriminator, AsOperand, Raised, RaisedBySet}
+use Rattle.idl_site.specs.declared.site.Use.TheVariants.{AsDiscriminator}
 use Rattle.idl_tree.specs.declared.construction.Discriminator.{Discriminator}
 use Rattle.idl_tree.specs.declared.construction.Discriminator.TheVariants as discriminator
 use Rattle.idl_tree.specs.declared.expression.Expression.{Expression}
 use Rattle.idl_tree.specs.declared.several.Several.{Several}
-use Rattle.idl_check.proofs.Operands.{is_operand, operand-parts}
+use Rattle.idl_check.proofs.Operands.{is_operand, expression-operands, operand-case}
 
 -- ---- parts, one after another
 
 -- parts that fit where so many unions are open, and leave the unions and scopes around as they are; behind this name, if they need one
 pub record NestsAt (behind : Option (List ℕ)) (top : Bool) (need : ℕ) (p : Parts) : Type 0 where
+  pub bracketed : AreBracketed (items p)
   pub fit : (a : Around) → need ≤ a.unions → AreFit (items p) a
   pub same : (a : Around) → AreSame a (arounds (items p) a)
   pub placed : (s : Scene) → IsFrom behind s → AtTop top s → ArePlaced (items p) s
@@ -40,14 +44,14 @@ Nests p = NestsIn 0 p
 
 -- and so where more are open
 pub lifted : (need : ℕ) (p : Parts) → Nests p → NestsIn need p
-lifted need p n = record { fit = λ a h. n.fit a (omega arith); same = n.same; placed = n.placed; level = n.level }
+lifted need p n = record { bracketed = n.bracketed; fit = λ a h. n.fit a (omega arith); same = n.same; placed = n.placed; level = n.level }
 
 -- and so in no scope
 pub topped : (p : Parts) → Nests p → NestsAt None true 0 p
-topped p n = record { fit = n.fit; same = n.same; placed = λ s from at. n.placed s from (λ h. cc); level = n.level }
+topped p n = record { bracketed = n.bracketed; fit = n.fit; same = n.same; placed = λ s from at. n.placed s from (λ h. cc); level = n.level }
 
 pub none_in : {top : Bool} (need : ℕ) → NestsAt None top need []
-none_in need = record { fit = λ a h. tt; same = same-here; placed = λ s from at. tt; level = λ s. refl }
+none_in need = record { bracketed = bracketed-none; fit = λ a h. tt; same = same-here; placed = λ s from at. tt; level = λ s. refl }
 
 pub none : {top : Bool} → NestsAt None top 0 []
 none = none_in 0
@@ -56,6 +60,7 @@ pub follow_in : {behind : Option (List ℕ)} {top : Bool} (need : ℕ) (p q : Pa
 follow_in need p q m n =
     let sites = map-append item_of p q in
     record {
+      bracketed = bracketed-follow p q m.bracketed n.bracketed;
       fit =
           λ a h. subst (λ xs. AreFit xs a) (sym sites)
           (fit-append (items p) (items q) a (m.fit a h) (n.fit (arounds (items p) a) (let e = (m.same a).unions in omega (arith, e, h))));
@@ -77,14 +82,15 @@ follow p q m n = follow_in 0 p q m n
 pub before_in : {top : Bool} (need : ℕ) (x : Part) (p : Parts) → is_level_at top (item_of x) ≡ true → NestsAt None top need p → NestsAt None top need (x ∷ p)
 before_in {top} need x p at n =
     let site = item_of x in
-    let level = level-at top site at in
+    let flat = level-site top site at in
     record {
-      fit = λ a h. (fit-level site a level, n.fit (around_after site a) (let e = (same-level site a level).unions in omega (arith, e, h)));
+      bracketed = bracketed-before x p flat.single n.bracketed;
+      fit = λ a h. (flat.fit a, n.fit (around_after site a) (let e = (flat.same a).unions in omega (arith, e, h)));
       same =
           λ a. let b = around_after site a in
-          record { unions = (n.same b).unions ∙ (same-level site a level).unions; scopes = (n.same b).scopes ∙ (same-level site a level).scopes };
-      placed = λ s from t. (placed-level top site s at t, n.placed (scene_after site s) tt (λ h. scene-level site s level ∙ t h));
-      level = λ s. n.level (scene_after site s) ∙ scene-level site s level;
+          record { unions = (n.same b).unions ∙ (flat.same a).unions; scopes = (n.same b).scopes ∙ (flat.same a).scopes };
+      placed = λ s from t. (flat.placed s t, n.placed (scene_after site s) tt (λ h. flat.level s ∙ t h));
+      level = λ s. n.level (scene_after site s) ∙ flat.level s;
     }
 
 pub before : {top : Bool} (x : Part) (p : Parts) → is_level_at top (item_of x) ≡ true → NestsAt None top 0 p → NestsAt None top 0 (x ∷ p)
@@ -94,15 +100,22 @@ before x p h n = before_in 0 x p h n
 pub declares : {top : Bool} (way : Declaration) (name : List ℕ) (p : Parts) → is_declared_at top way ≡ true → last_named way name ≡ Some name
     → NestsAt (Some name) top 0 p → NestsAt None top 0 (Declares way name ∷ p)
 declares {top} way name p at last n = record {
+  bracketed = bracketed-before (Declares way name) p refl n.bracketed;
   fit = λ a h. (tt, n.fit a h);
   same = λ a. n.same a;
-  placed = λ s from t. (placed-level top (Item.Declared way name) s at t, n.placed (record s { last = last_named way name }) last t);
+  placed = λ s from t. ((level-site top (Item.Declared way name) at).placed s t, n.placed (record s { last = last_named way name }) last t);
   level = λ s. n.level (record s { last = last_named way name });
 }
 
 -- tokens between a name and what stands behind it
 pub carry : {behind : Option (List ℕ)} {top : Bool} (words : Lexemes) (p : Parts) → NestsAt behind top 0 p → NestsAt behind top 0 (Plain words ∷ p)
-carry words p n = record { fit = λ a h. (tt, n.fit a h); same = λ a. n.same a; placed = λ s from t. (tt, n.placed s from t); level = λ s. n.level s }
+carry words p n = record {
+  bracketed = bracketed-before (Plain words) p refl n.bracketed;
+  fit = λ a h. (tt, n.fit a h);
+  same = λ a. n.same a;
+  placed = λ s from t. (tt, n.placed s from t);
+  level = λ s. n.level s;
+}
 
 pub one : {top : Bool} (x : Part) → is_level_at top (item_of x) ≡ true → NestsAt None top 0 (x ∷ [])
 one x h = before x [] h none
@@ -134,82 +147,35 @@ pub maybe : {X : Type 0} (f : X → Parts) → ((x : X) → Nests (f x)) → (x 
 maybe f n None = none
 maybe f n (Some x) = n x
 
+-- ---- what may be given back
+
+-- parts that nest, and so where they are given back
+pub record Gives (p : Parts) : Type 0 where
+  pub plain : Nests p
+  pub back : Nests (GivesBack ∷ p)
+
+-- the first of them is a site of tokens
+pub gives : (x : Part) (p : Parts) → is_tokens (item_of x) ≡ true → is_level_at false (item_of x) ≡ true → Nests p → Gives (x ∷ p)
+gives x p tokens at n =
+    let m = before x p at n in
+    record {
+      plain = m;
+      back = record {
+        bracketed = bracketed-back x p tokens n.bracketed;
+        fit = λ a h. (tt, m.fit a h);
+        same = λ a. m.same a;
+        placed = λ s from t. (tt, m.placed s from t);
+        level = λ s. m.level s;
+      };
+    }
+
 -- ---- expressions
 
-level-operand : (x : Item) → is_operand x ≡ true → is_level x ≡ true
-level-operand (Item.Tokens n) h = refl
-level-operand (Item.Used AsOperand name) h = refl
-level-operand (Item.Used (AsBase is_local) name) h = refl
-level-operand (Item.Used AsType name) h = refl
-level-operand (Item.Used AsElement name) h = refl
-level-operand (Item.Used AsConstantType name) h = refl
-level-operand (Item.Used AsDiscriminator name) h = cc
-level-operand (Item.Used Raised name) h = refl
-level-operand (Item.Used RaisedBySet name) h = refl
-level-operand (Item.Declared way name) h = cc
-level-operand (Item.Joined text) h = cc
-level-operand Item.ValueBegins h = cc
-level-operand (Item.ValueEnds way e) h = cc
-level-operand (Item.ScopeBegins way name) h = cc
-level-operand Item.ScopeEnds h = cc
-level-operand (Item.TypeEnds shape) h = cc
-level-operand Item.ArrayEnds h = cc
-level-operand (Item.Enumerates names) h = cc
-level-operand (Item.Switches discrete) h = cc
-level-operand Item.Default h = cc
-level-operand Item.GivesBack h = cc
-
-at-operand : (x : Item) → is_operand x ≡ true → is_level_at false x ≡ true
-at-operand (Item.Tokens n) h = refl
-at-operand (Item.Used AsOperand name) h = refl
-at-operand (Item.Used (AsBase is_local) name) h = refl
-at-operand (Item.Used AsType name) h = refl
-at-operand (Item.Used AsElement name) h = refl
-at-operand (Item.Used AsConstantType name) h = refl
-at-operand (Item.Used AsDiscriminator name) h = cc
-at-operand (Item.Used Raised name) h = refl
-at-operand (Item.Used RaisedBySet name) h = refl
-at-operand (Item.Declared way name) h = cc
-at-operand (Item.Joined text) h = cc
-at-operand Item.ValueBegins h = cc
-at-operand (Item.ValueEnds way e) h = cc
-at-operand (Item.ScopeBegins way name) h = cc
-at-operand Item.ScopeEnds h = cc
-at-operand (Item.TypeEnds shape) h = cc
-at-operand Item.ArrayEnds h = cc
-at-operand (Item.Enumerates names) h = cc
-at-operand (Item.Switches discrete) h = cc
-at-operand Item.Default h = cc
-at-operand Item.GivesBack h = cc
-
-operands-nest : (need : ℕ) (p q : Parts) → All (λ x. is_operand (item_of x) ≡ true) p → NestsIn need q → NestsIn need (p ++ q)
-operands-nest need [] q all n = n
-operands-nest need (x ∷ p) q all n =
-    before_in need x (p ++ q) (at-operand (item_of x) (All-head (λ x. is_operand (item_of x) ≡ true) x p all))
-    (operands-nest need p q (All-tail (λ x. is_operand (item_of x) ≡ true) x p all) n)
-
 around-operand : (x : Item) (a : Around) → is_operand x ≡ true → around_after x a ≡ a
-around-operand (Item.Tokens n) a h = refl
-around-operand (Item.Used AsOperand name) a h = refl
-around-operand (Item.Used (AsBase is_local) name) a h = cc
-around-operand (Item.Used AsType name) a h = cc
-around-operand (Item.Used AsElement name) a h = cc
-around-operand (Item.Used AsConstantType name) a h = cc
-around-operand (Item.Used AsDiscriminator name) a h = cc
-around-operand (Item.Used Raised name) a h = cc
-around-operand (Item.Used RaisedBySet name) a h = cc
-around-operand (Item.Declared way name) a h = cc
-around-operand (Item.Joined text) a h = cc
-around-operand Item.ValueBegins a h = cc
-around-operand (Item.ValueEnds way e) a h = cc
-around-operand (Item.ScopeBegins way name) a h = cc
-around-operand Item.ScopeEnds a h = cc
-around-operand (Item.TypeEnds shape) a h = cc
-around-operand Item.ArrayEnds a h = cc
-around-operand (Item.Enumerates names) a h = cc
-around-operand (Item.Switches discrete) a h = cc
-around-operand Item.Default a h = cc
-around-operand Item.GivesBack a h = cc
+around-operand x a = operand-case (λ y. around_after y a ≡ a) (λ n. refl) (λ name. refl) x
+
+scene-operand : (x : Item) (s : Scene) → is_operand x ≡ true → scene_after x s ≡ s
+scene-operand x s = operand-case (λ y. scene_after y s ≡ s) (λ n. refl) (λ name. refl) x
 
 -- nothing around changes over operands
 pub arounds-operands : (xs : List Item) (a : Around) → All (λ x. is_operand x ≡ true) xs → arounds xs a ≡ a
@@ -217,30 +183,59 @@ arounds-operands [] a all = refl
 arounds-operands (x ∷ xs) a all =
     ap (arounds xs) (around-operand x a (All-head (λ x. is_operand x ≡ true) x xs all)) ∙ arounds-operands xs a (All-tail (λ x. is_operand x ≡ true) x xs all)
 
-pub operands-fit : (p q : Parts) → All (λ x. is_operand (item_of x) ≡ true) p → (a : Around) → AreFit (items q) a → AreFit (items (p ++ q)) a
-operands-fit [] q all a h = h
-operands-fit (x ∷ p) q all a h =
-    let operand = All-head (λ x. is_operand (item_of x) ≡ true) x p all in (
-      fit-level (item_of x) a (level-operand (item_of x) operand),
-      subst (AreFit (items (p ++ q))) (sym (around-operand (item_of x) a operand)) (operands-fit p q (All-tail (λ x. is_operand (item_of x) ≡ true) x p all) a h),
+scenes-operands : (xs : List Item) (s : Scene) → All (λ x. is_operand x ≡ true) xs → scenes xs s ≡ s
+scenes-operands [] s all = refl
+scenes-operands (x ∷ xs) s all =
+    ap (scenes xs) (scene-operand x s (All-head (λ x. is_operand x ≡ true) x xs all)) ∙ scenes-operands xs s (All-tail (λ x. is_operand x ≡ true) x xs all)
+
+-- and they fit anywhere
+operands-fit : (xs ys : List Item) (a : Around) → All (λ x. is_operand x ≡ true) xs → AreFit ys a → AreFit (xs ++ ys) a
+operands-fit [] ys a all h = h
+operands-fit (x ∷ xs) ys a all h =
+    let operand = All-head (λ x. is_operand x ≡ true) x xs all in (
+      operand-case (λ y. IsFit y a) (λ n. tt) (λ name. tt) x operand,
+      subst (AreFit (xs ++ ys)) (sym (around-operand x a operand)) (operands-fit xs ys a (All-tail (λ x. is_operand x ≡ true) x xs all) h),
     )
 
-pub operands-placed : (p q : Parts) → All (λ x. is_operand (item_of x) ≡ true) p → (s : Scene) → ((t : Scene) → ArePlaced (items q) t) → ArePlaced (items (p ++ q)) s
-operands-placed [] q all s h = h s
-operands-placed (x ∷ p) q all s h = (
-  placed-level false (item_of x) s (at-operand (item_of x) (All-head (λ x. is_operand (item_of x) ≡ true) x p all)) (λ h. cc),
-  operands-placed p q (All-tail (λ x. is_operand (item_of x) ≡ true) x p all) (scene_after (item_of x) s) h,
-)
+operands-placed : (xs ys : List Item) (s : Scene) → All (λ x. is_operand x ≡ true) xs → ArePlaced ys s → ArePlaced (xs ++ ys) s
+operands-placed [] ys s all h = h
+operands-placed (x ∷ xs) ys s all h =
+    let operand = All-head (λ x. is_operand x ≡ true) x xs all in (
+      operand-case (λ y. IsPlaced y s) (λ n. tt) (λ name. tt) x operand,
+      subst (ArePlaced (xs ++ ys)) (sym (scene-operand x s operand)) (operands-placed xs ys s (All-tail (λ x. is_operand x ≡ true) x xs all) h),
+    )
 
--- a whole one, where its end nests
-valued : (need : ℕ) (way : Purpose) (e : Expression) → NestsIn need (ValueEnds way e ∷ []) → NestsIn need (value_parts way e)
-valued need way e n = before_in need ValueBegins (expression_parts e ++ ValueEnds way e ∷ []) refl (operands-nest need (expression_parts e) (ValueEnds way e ∷ []) (operand-parts e) n)
+-- a whole one, where its type is known
+valued : (need : ℕ) (way : Purpose) (e : Expression) → ((a : Around) → need ≤ a.unions → IsKnown way a) → NestsIn need (value_parts way e)
+valued need way e known =
+    let front = items (expression_parts e) in
+    let last : List Item = Item.ValueEnds way e ∷ [] in
+    let operands = expression-operands e in
+    let sites = map-append item_of (expression_parts e) (ValueEnds way e ∷ []) in
+    record {
+      bracketed = bracketed-value way e;
+      fit = λ a h. (tt, subst (λ xs. AreFit xs a) (sym sites) (operands-fit front last a operands (known a h, tt)));
+      same = λ a. subst (AreSame a) (sym (ap (λ xs. arounds xs a) sites ∙ arounds-append front last a ∙ arounds-operands front a operands)) (same-here a);
+      placed = λ s from at. (tt, subst (λ xs. ArePlaced xs s) (sym sites) (operands-placed front last s operands (tt, tt)));
+      level = λ s. ap (λ xs. (scenes xs s).level) sites ∙ ap (λ (t : Scene). t.level) (scenes-append front last s ∙ scenes-operands front s operands);
+    }
 
 pub expression : (way : Purpose) (e : Expression) → is_level_value way ≡ true → Nests (value_parts way e)
-expression way e h = valued 0 way e (one (ValueEnds way e) h)
+expression way e h = valued 0 way e (λ a n. known-level way a h)
 
 pub label_value : (e : Expression) → NestsIn 1 (value_parts purpose.Label e)
-label_value e = valued 1 purpose.Label e (record { fit = λ a h. (h, tt); same = same-here; placed = λ s from at. (tt, tt); level = λ s. refl })
+label_value e = valued 1 purpose.Label e (λ a h. h)
+
+-- before other parts
+pub value-fits : (way : Purpose) (e : Expression) (q : Parts) (a : Around) → IsKnown way a → AreFit (items q) a → AreFit (items (value_parts way e ++ q)) a
+value-fits way e q a known h =
+    subst (λ xs. AreFit xs a) (sym (map-append item_of (value_parts way e) q ∙ value-sites way e (items q)))
+    (tt, operands-fit (items (expression_parts e)) (Item.ValueEnds way e ∷ items q) a (expression-operands e) (known, h))
+
+pub value-placed : (way : Purpose) (e : Expression) (q : Parts) (s : Scene) → ArePlaced (items q) s → ArePlaced (items (value_parts way e ++ q)) s
+value-placed way e q s h =
+    subst (λ xs. ArePlaced xs s) (sym (map-append item_of (value_parts way e) q ∙ value-sites way e (items q)))
+    (tt, operands-placed (items (expression_parts e)) (Item.ValueEnds way e ∷ items q) s (expression-operands e) (tt, h))
 
 -- ---- scopes
 
@@ -278,6 +273,10 @@ module _ (need : ℕ) (way : Declaration) (name : List ℕ) (p q : Parts) (n : N
     subst (λ xs. AreFit xs (begun a)) (sym (map-append item_of p (ScopeEnds ∷ q)))
         (fit-append (items p) (items (ScopeEnds ∷ q)) (begun a) (n.fit (begun a) h) (ap is_inside (last-scopes a), k)),
   )
+
+  scoped-bracketed : AreBracketed (items q) → AreBracketed (items scoped)
+  scoped-bracketed b =
+      bracketed-before (ScopeBegins way name) (p ++ ScopeEnds ∷ q) refl (bracketed-follow p (ScopeEnds ∷ q) n.bracketed (bracketed-before ScopeEnds q refl b))
 
   scoped-around : (a : Around) → arounds (items scoped) a ≡ arounds (items q) (behind a)
   scoped-around a =
@@ -318,6 +317,7 @@ module _ (need : ℕ) (way : Declaration) (name : List ℕ) (p q : Parts) (n : N
 -- a scope that is no union's
 pub scope : {top : Bool} (way : Declaration) (name : List ℕ) (p q : Parts) → opens_union way ≡ false → Nests p → Nests q → NestsAt (Some name) top 0 (ScopeBegins way name ∷ (p ++ ScopeEnds ∷ q))
 scope way name p q other n m = record {
+  bracketed = scoped-bracketed 0 way name p q n m.bracketed;
   fit = λ a h. scoped-fit 0 way name p q n a h (m.fit (behind 0 way name p q n a) (omega arith));
   same =
       λ a. let b = behind 0 way name p q n a in
@@ -329,6 +329,7 @@ scope way name p q other n m = record {
 
 -- the body of a union, for which one more is open before it
 pub record UnionNests (name : List ℕ) (p : Parts) : Type 0 where
+  pub bracketed : AreBracketed (items p)
   pub placed : (s : Scene) → s.last ≡ Some name → ArePlaced (items p) s
   pub level : (s : Scene) → (scenes (items p) s).level ≡ s.level
   pub fit : (a : Around) → 1 ≤ a.unions → AreFit (items p) a
@@ -337,6 +338,7 @@ pub record UnionNests (name : List ℕ) (p : Parts) : Type 0 where
 
 pub union_scope : (name : List ℕ) (p q : Parts) → NestsIn 1 p → Nests q → UnionNests name (ScopeBegins declaration.Union name ∷ (p ++ ScopeEnds ∷ q))
 union_scope name p q n m = record {
+  bracketed = scoped-bracketed 1 declaration.Union name p q n m.bracketed;
   placed = λ s from. scoped-placed 1 declaration.Union name p q n s from (m.placed (behind_scene 1 declaration.Union name p q n s) tt (λ h. cc));
   level = scoped-level 1 declaration.Union name p q n m.level;
   fit = λ a h. scoped-fit 1 declaration.Union name p q n a h (m.fit (behind 1 declaration.Union name p q n a) (omega arith));
@@ -348,9 +350,15 @@ union_scope name p q n m = record {
       ∙ (m.same (behind 1 declaration.Union name p q n a)).scopes ∙ (behind-union 1 declaration.Union name p q n refl a).1;
 }
 
+brace-bracketed : (name : List ℕ) (p : Parts) → AreBracketed (items (ScopeBegins declaration.Union name ∷ p)) → AreBracketed (items (union_brace name ++ p))
+brace-bracketed name p b = bracketed-before (Plain (Punctuation mark.CloseParenthesis ∷ Punctuation mark.OpenBrace ∷ [])) (ScopeBegins declaration.Union name ∷ p) refl b
+
 -- behind its discriminator
 pub discriminated : (d : Discriminator) (name : List ℕ) (p : Parts) → UnionNests name (ScopeBegins declaration.Union name ∷ p) → NestsAt (Some name) false 0 (discriminator_parts d ++ (union_brace name ++ p))
 discriminated (discriminator.Discrete d) name p u = record {
+  bracketed =
+      bracketed-before (Switches d) (Plain (spell_discrete d) ∷ (union_brace name ++ p)) refl
+      (bracketed-before (Plain (spell_discrete d)) (union_brace name ++ p) refl (brace-bracketed name p u.bracketed));
   placed = λ s from at. (tt, (tt, (tt, u.placed s from)));
   level = λ s. u.level s;
   fit = λ a h. (tt, (tt, (tt, u.fit (record a { unions = a.unions + 1 }) (omega arith))));
@@ -360,6 +368,7 @@ discriminated (discriminator.Discrete d) name p u = record {
   };
 }
 discriminated (discriminator.Name n) name p u = record {
+  bracketed = bracketed-before (Uses AsDiscriminator n) (union_brace name ++ p) refl (brace-bracketed name p u.bracketed);
   placed = λ s from at. (tt, (tt, u.placed s from));
   level = λ s. u.level s;
   fit = λ a h. (tt, (tt, u.fit (record a { unions = a.unions + 1 }) (omega arith)));

@@ -1,5 +1,5 @@
 -- The name that a oneway operation gives back: what is wrong behind its first token doesn't count.
-use Rattle.std.proofs.Common.{◌≡◌, ◌∙◌, ℕ, ◌+◌, ◌<◌, ◌≤◌, Bool, true, false, cond, List, [], ◌∷◌, ◌++◌, length, Option, Result, Ok, Err, refl, sym, ap, subst, arith}
+use Rattle.std.proofs.Common.{◌≡◌, ◌∙◌, ℕ, ◌<◌, ◌≤◌, Bool, true, false, cond, List, [], ◌∷◌, ◌++◌, length, Option, Result, Ok, Err, refl, sym, ap, subst, arith}
 use Rattle.std.proofs.lemmas.List.Elements.{All-cons, All-nil}
 use Rattle.std.specs.Prelude.{All}
 use Rattle.idl_check.specs.Codes.{codes_in}
@@ -12,11 +12,10 @@ use Rattle.idl_memo.proofs.QueryLaws.{outcome-and_then}
 use Rattle.idl_memo.specs.Query.{Done, and_then, outcome}
 use Rattle.idl_scope.proofs.FactsLaws.{outcome-under}
 use Rattle.idl_scope.specs.Facts.{over}
-use Rattle.idl_scope.specs.Lookup.{Lookup, by_result, denoted, found_as, further, has, is_scope, judged, outward, part_of, placed, searched, under}
+use Rattle.idl_scope.specs.Lookup.{Lookup, denoted, found_as, further, has, is_scope, outward, part_of, searched, under}
 use Rattle.idl_scope.specs.declared.answer.Answer.{Answer}
 use Rattle.idl_scope.specs.declared.answer.Scope.{Scope}
 use Rattle.idl_scope.specs.declared.entity.Entity.{Entity}
-use Rattle.idl_scope.specs.declared.fault.NameCode.{NameCode}
 use Rattle.idl_scope.specs.declared.fault.NameCode.TheVariants as why
 use Rattle.idl_scope.specs.declared.fault.NameFault.{NameFault}
 use Rattle.idl_scope.specs.declared.fault.NameFault.TheVariants.{At, Memory}
@@ -28,7 +27,7 @@ use Rattle.idl_unit.specs.TokenRules.{fault_at}
 use Rattle.idl_unit.specs.declared.fault.Fault.{Fault}
 use Rattle.idl_check.proofs.AlikeLemmas.{AreAlike, alike-earlier}
 use Rattle.idl_check.proofs.FaultOrder.{all-at}
-use Rattle.idl_check.proofs.PartLemmas.{IsUpTo, part_of-IsUpTo}
+use Rattle.idl_check.proofs.PartLemmas.{IsUpTo, StandsAt, behind, behind-at, found_as-at, from_first, further-at, part_of-at}
 use Rattle.idl_check.proofs.SiteLaws.{denoted-up, given_by, used_by}
 
 -- ---- faults behind a token
@@ -36,25 +35,14 @@ use Rattle.idl_check.proofs.SiteLaws.{denoted-up, given_by, used_by}
 abbrev pub IsLater : ℕ → List Fault → Type 0
 IsLater at fs = All (λ f. at < f.index) fs
 
--- a fault stands at no earlier part than this one, and is no want of memory
+-- a fault stands at no earlier part than this one
 abbrev pub IsFromPart : {A : Type 0} → ℕ → Result A NameFault → Type 0
-IsFromPart from (Ok a) = Unit {0}
-IsFromPart from (Err Memory) = ⊥
-IsFromPart from (Err (At code part)) = from ≤ part
+IsFromPart from r = StandsAt (λ part. from ≤ part) r
 
 from-first : {A : Type 0} (n : ℕ) (r : Result A NameFault) → IsUpTo n r → IsFromPart 0 r
 from-first n (Ok a) up = tt
 from-first n (Err Memory) up = up
 from-first n (Err (At code part)) up = omega arith
-
-placed-from : (part from : ℕ) (r : Result Entity NameCode) → from ≤ part → IsFromPart from (placed part r)
-placed-from part from (Ok e) h = tt
-placed-from part from (Err code) h = h
-
-found_as-from : (from : ℕ) (name : ScopedName) (cursor : List Scope) (first : Entity) (r : Result Entity NameFault) → IsFromPart from r → IsFromPart from (found_as name cursor first r)
-found_as-from from name cursor first (Ok e) h = tt
-found_as-from from name cursor first (Err Memory) h = h
-found_as-from from name cursor first (Err (At code part)) h = h
 
 -- how many tokens stand before the first part of a name
 abbrev leading : Bool → ℕ
@@ -72,62 +60,31 @@ part-later : (name : ScopedName) (at part : ℕ) → 1 ≤ part → at < part_at
 part-later name at part le = omega (arith, le)
 
 module _ (turns : ℕ) (bank : Key → Option Answer) where
-  part_of-from : (part from : ℕ) (name : List ℕ) (there : Lookup (List Entity)) → from ≤ part → IsFromPart from (outcome (part_of part name there) bank)
-  part_of-from part from name there h =
-      rw (outcome-and_then there (λ found. Done (placed part (judged name found))) bank)
-      (placed-from part from (judged name (outcome there bank)) h)
-
-  -- the rest of a name, behind a part that denotes this or has a fault
-  abbrev rest_of : ℕ → List (List ℕ) → Result Entity NameFault → Lookup (Result Entity NameFault)
-  rest_of part names r = by_result r (λ f. further turns part f names) (λ fault. Done (Err fault))
-
-  rest-from : (part from : ℕ) (names : List (List ℕ)) → ((f : Entity) → IsFromPart from (outcome (further turns part f names) bank))
-      → (r : Result Entity NameFault) → IsFromPart from r → IsFromPart from (outcome (rest_of part names r) bank)
-  rest-from part from names each (Ok f) h = each f
-  rest-from part from names each (Err fault) h = h
-
-  scoped-from : (part from : ℕ) (names : List (List ℕ)) (next : Lookup (Result Entity NameFault))
-      → ((f : Entity) → IsFromPart from (outcome (further turns (part + 1) f names) bank)) → IsFromPart from (outcome next bank) → from ≤ part
-      → (b : Bool) → IsFromPart from (outcome (cond b (and_then next (rest_of (part + 1) names)) (Done (Err (At why.NoScope part)))) bank)
-  scoped-from part from names next each up h true =
-      rw (outcome-and_then next (rest_of (part + 1) names) bank) (rest-from (part + 1) from names each (outcome next bank) up)
-  scoped-from part from names next each up h false = h
-
-  further-from : (part from : ℕ) (e : Entity) (names : List (List ℕ)) → from ≤ part → IsFromPart from (outcome (further turns part e names) bank)
-  further-from part from e [] h = tt
-  further-from part from e (name ∷ names) h =
-      scoped-from part from names (part_of (part + 1) name (has turns e.kind e.path (folded name)))
-      (λ f. further-from (part + 1) from f names (omega (arith, h)))
-      (part_of-from (part + 1) from name (has turns e.kind e.path (folded name)) (omega (arith, h))) h (is_scope e.kind)
-
   -- behind a scope
   inside-from : (names : List (List ℕ)) (next : Lookup (Result Entity NameFault)) → IsFromPart 1 (outcome next bank) → (b : Bool) → b ≡ true
-      → IsFromPart 1 (outcome (cond b (and_then next (rest_of 1 names)) (Done (Err (At why.NoScope 0)))) bank)
+      → IsFromPart 1 (outcome (cond b (and_then next (behind turns bank 1 names)) (Done (Err (At why.NoScope 0)))) bank)
   inside-from names next up true h =
-      rw (outcome-and_then next (rest_of 1 names) bank) (rest-from 1 1 names (λ f. further-from 1 1 f names (omega arith)) (outcome next bank) up)
+      rw (outcome-and_then next (behind turns bank 1 names) bank)
+      (behind-at turns bank (λ part. 1 ≤ part) 1 names (λ f. further-at turns bank (λ part. 1 ≤ part) 1 f names (λ k from to. from)) (outcome next bank) up)
   inside-from names next up false h = cc
 
   scope-from : (e : Entity) (name : List ℕ) (names : List (List ℕ)) → is_scope e.kind ≡ true → IsFromPart 1 (outcome (further turns 0 e (name ∷ names)) bank)
   scope-from e name names h =
-      inside-from names (part_of 1 name (has turns e.kind e.path (folded name))) (part_of-from 1 1 name (has turns e.kind e.path (folded name)) (omega arith)) (is_scope e.kind) h
+      inside-from names (part_of 1 name (has turns e.kind e.path (folded name)))
+      (part_of-at turns bank (λ part. 1 ≤ part) 1 name (has turns e.kind e.path (folded name)) (omega arith)) (is_scope e.kind) h
 
   other-is : (e : Entity) (name : List ℕ) (names : List (List ℕ)) → is_scope e.kind ≡ false → outcome (further turns 0 e (name ∷ names)) bank ≡ Err (At why.NoScope 0)
   other-is e name names h =
-      ap (λ b. outcome (cond b (and_then (part_of 1 name (has turns e.kind e.path (folded name))) (rest_of 1 names)) (Done (Err (At why.NoScope 0)))) bank) h
-
-  -- what a name comes to from its first part
-  abbrev from_first : List Scope → ScopedName → Result Entity NameFault → Lookup (Result Found NameFault)
-  from_first cursor name r =
-      by_result r (λ first. and_then (further turns 0 first name.rest) (λ last. Done (found_as name cursor first last))) (λ fault. Done (Err fault))
+      ap (λ b. outcome (cond b (and_then (part_of 1 name (has turns e.kind e.path (folded name))) (behind turns bank 1 names)) (Done (Err (At why.NoScope 0)))) bank) h
 
   abbrev first_of : List Scope → ScopedName → Result Entity NameFault
   first_of cursor name = outcome (part_of 0 name.first (outward turns (searched name.is_global cursor) (folded name.first))) bank
 
-  denoted-is : (cursor : List Scope) (name : ScopedName) → outcome (denoted turns cursor name) bank ≡ outcome (from_first cursor name (first_of cursor name)) bank
-  denoted-is cursor name = outcome-and_then (part_of 0 name.first (outward turns (searched name.is_global cursor) (folded name.first))) (from_first cursor name) bank
+  denoted-is : (cursor : List Scope) (name : ScopedName) → outcome (denoted turns cursor name) bank ≡ outcome (from_first turns bank cursor name (first_of cursor name)) bank
+  denoted-is cursor name = outcome-and_then (part_of 0 name.first (outward turns (searched name.is_global cursor) (folded name.first))) (from_first turns bank cursor name) bank
 
   first-is : (cursor : List Scope) (name : ScopedName) (e : Entity)
-      → outcome (from_first cursor name (Ok e)) bank ≡ found_as name cursor e (outcome (further turns 0 e name.rest) bank)
+      → outcome (from_first turns bank cursor name (Ok e)) bank ≡ found_as name cursor e (outcome (further turns 0 e name.rest) bank)
   first-is cursor name e = outcome-and_then (further turns 0 e name.rest) (λ last. Done (found_as name cursor e last)) bank
 
 -- ---- the faults of the name, and of its first part
@@ -156,7 +113,7 @@ module _ (turns : ℕ) (answers : Key → Option Answer) (way : Use) (name : Sco
   scoped-alike e part parts local rest true scope o =
       let r = outcome (from_first (turns_at turns w) bank w.cursor name (Ok e)) bank in
       let inside : IsFromPart 1 (outcome (further (turns_at turns w) 0 e name.rest) bank) = subst (λ names. IsFromPart 1 (outcome (further (turns_at turns w) 0 e names) bank)) (sym rest) (scope-from (turns_at turns w) bank e part parts scope) in
-      let up : IsFromPart 1 r = subst (IsFromPart 1) (sym (first-is (turns_at turns w) bank w.cursor name e)) (found_as-from 1 name w.cursor e (outcome (further (turns_at turns w) 0 e name.rest) bank) inside) in
+      let up : IsFromPart 1 r = subst (IsFromPart 1) (sym (first-is (turns_at turns w) bank w.cursor name e)) (found_as-at (λ part. 1 ≤ part) name w.cursor e (outcome (further (turns_at turns w) 0 e name.rest) bank) inside) in
       let some : 1 ≤ length name.rest = omega (arith, ap length rest) in
       sym (alike-earlier given_fault (faults_of r) (faults-later 1 (λ p le. part-later name w.at p le) some r up) o)
   scoped-alike e part parts local rest false scope o =
@@ -189,7 +146,7 @@ module _ (turns : ℕ) (answers : Key → Option Answer) (way : Use) (name : Sco
   given-alike false [] local rest o = ap (λ (v : Visit). noted o v.faults) (outcome-and_then (used turns way name w) (λ v. Done (with_oneway w.at v)) answers)
   given-alike false (part ∷ parts) local rest o =
       let query = under w.own (denoted (turns_at turns w) w.cursor (head_of name)) in
-      let up = part_of-IsUpTo (turns_at turns w) bank 0 0 name.first (outward (turns_at turns w) (searched name.is_global w.cursor) (folded name.first)) (omega arith) in
+      let up = part_of-at (turns_at turns w) bank (λ part. part ≤ 0) 0 name.first (outward (turns_at turns w) (searched name.is_global w.cursor) (folded name.first)) (omega arith) in
       ap (λ (v : Visit). noted o v.faults) (outcome-and_then query (λ r. Done (with_oneway w.at (head_visit name w r))) answers)
       ∙ ap (λ r. noted o (head_faults w.at r ++ given_fault ∷ [])) (outcome-under w.own answers (denoted (turns_at turns w) w.cursor (head_of name)) ∙ denoted-is (turns_at turns w) bank w.cursor (head_of name))
       ∙ parts-alike part parts local rest (first_of (turns_at turns w) bank w.cursor name) up o

@@ -2,9 +2,10 @@
 use Rattle.std.proofs.Common.{◌≡◌, ◌∙◌, ℕ, ◌+◌, Bool, true, false, List, [], ◌∷◌, ◌++◌, length, map, Option, None, Some, refl, sym, ap, subst, arith}
 use Rattle.std.proofs.lemmas.Grind.{flat_map-append}
 use Rattle.std.proofs.lemmas.List.{length-append, map-append}
-use Rattle.std.proofs.lemmas.List.Elements.{All-append, All-cons, All-map, All-nil}
+use Rattle.std.proofs.lemmas.List.Elements.{All-append, All-cons, All-map, All-nil, All-weaker}
 use Rattle.std.specs.Prelude.{All, flat_map}
 use Rattle.idl_check.specs.Judging.{used_name, used_names}
+use Rattle.idl_check.specs.Sections.{is_tokens}
 use Rattle.idl_lex.specs.declared.mark.Mark.{Mark}
 use Rattle.idl_lex.specs.declared.mark.Mark.TheVariants as mark
 use Rattle.idl_site.proofs.ExpressionEquations.{and_parts-made, exclusive_or_parts-made, expression_parts-made, primary_parts-literal, primary_parts-name, primary_parts-parentheses, product_parts-made, shift_parts-made, sum_parts-made, unary_parts-made}
@@ -12,7 +13,7 @@ use Rattle.idl_site.specs.ExpressionParts.{and_parts, exclusive_or_parts, expres
 use Rattle.idl_site.specs.Item.{Item, item_of, items}
 use Rattle.idl_site.specs.Part.{Part, Parts, Plain, Uses, punctuation}
 use Rattle.idl_site.specs.declared.site.Use.{Use}
-use Rattle.idl_site.specs.declared.site.Use.TheVariants.{AsOperand}
+use Rattle.idl_site.specs.declared.site.Use.TheVariants.{AsBase, AsType, AsElement, AsConstantType, AsDiscriminator, AsOperand, Raised, RaisedBySet}
 use Rattle.idl_tree.specs.Expression.{product_mark, shift_mark, spell_literal, spell_unary_operator, sum_mark}
 use Rattle.idl_tree.specs.Lexeme.{Lexemes}
 use Rattle.idl_tree.specs.ReadExpression.{made_and, made_exclusive_or, made_expression, made_product, made_shift, made_sum, made_unary}
@@ -49,6 +50,30 @@ abbrev pub is_operand : Item → Bool
 is_operand (Item.Tokens n) = true
 is_operand (Item.Used way name) = is_operand_use way
 is_operand other = false
+
+-- a claim on each of the two
+pub operand-case : (P : Item → Type 0) → ((n : ℕ) → P (Item.Tokens n)) → ((name : ScopedName) → P (Item.Used AsOperand name)) → (x : Item) → is_operand x ≡ true → P x
+operand-case P tokens used (Item.Tokens n) h = tokens n
+operand-case P tokens used (Item.Used AsOperand name) h = used name
+operand-case P tokens used (Item.Used (AsBase is_local) name) h = cc
+operand-case P tokens used (Item.Used AsType name) h = cc
+operand-case P tokens used (Item.Used AsElement name) h = cc
+operand-case P tokens used (Item.Used AsConstantType name) h = cc
+operand-case P tokens used (Item.Used AsDiscriminator name) h = cc
+operand-case P tokens used (Item.Used Raised name) h = cc
+operand-case P tokens used (Item.Used RaisedBySet name) h = cc
+operand-case P tokens used (Item.Declared way name) h = cc
+operand-case P tokens used (Item.Joined text) h = cc
+operand-case P tokens used Item.ValueBegins h = cc
+operand-case P tokens used (Item.ValueEnds way e) h = cc
+operand-case P tokens used (Item.ScopeBegins way name) h = cc
+operand-case P tokens used Item.ScopeEnds h = cc
+operand-case P tokens used (Item.TypeEnds shape) h = cc
+operand-case P tokens used Item.ArrayEnds h = cc
+operand-case P tokens used (Item.Enumerates names) h = cc
+operand-case P tokens used (Item.Switches discrete) h = cc
+operand-case P tokens used Item.Default h = cc
+operand-case P tokens used Item.GivesBack h = cc
 
 -- how many names sites use
 abbrev pub names_in : List Item → ℕ
@@ -230,11 +255,14 @@ expression-holds = ind-Expression Primaries Ands ExclusiveOrs Expressions Produc
     (λ x y is. subst (λ z. Sums (roll-Sum z)) is (a_sum y.first y.rest))
     (λ x y is. subst (λ z. Unaries (roll-Unary z)) is (a_unary y.operator y.operand.0 y.operand.1))
 
-pub operand-parts : (e : Expression) → All (λ x. is_operand (item_of x) ≡ true) (expression_parts e)
-operand-parts e = (expression-holds e).operands
-
 pub expression-operands : (e : Expression) → All (λ x. is_operand x ≡ true) (items (expression_parts e))
-expression-operands e = All-map (λ x. is_operand x ≡ true) item_of (expression_parts e) (operand-parts e)
+expression-operands e = All-map (λ x. is_operand x ≡ true) item_of (expression_parts e) (expression-holds e).operands
+
+-- and so each is a site of tokens, or a name
+pub expression-items : (e : Expression) → All (λ x. is_tokens x ≡ true) (items (expression_parts e))
+expression-items e =
+    All-weaker (λ x. is_operand x ≡ true) (λ x. is_tokens x ≡ true) (operand-case (λ x. is_tokens x ≡ true) (λ n. refl) (λ name. refl)) (items (expression_parts e))
+    (expression-operands e)
 
 -- as many names as it has
 pub expression-names : (e : Expression) → names_in (items (expression_parts e)) ≡ name_count e

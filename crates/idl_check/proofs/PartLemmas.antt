@@ -20,59 +20,68 @@ use Rattle.idl_scope.specs.Key.{key_eq}
 use Rattle.idl_scope.specs.declared.addition.Addition.{Addition}
 use Rattle.idl_scope.proofs.FactsLaws.{outcome-under}
 
--- a fault stands at no later part than this one, and is no want of memory
-abbrev pub IsUpTo : {A : Type 0} → ℕ → Result A NameFault → Type 0
-IsUpTo last (Ok a) = Unit {0}
-IsUpTo last (Err Memory) = ⊥
-IsUpTo last (Err (At code part)) = part ≤ last
+-- a fault stands at a part of which this holds, and is no want of memory
+abbrev pub StandsAt : {A : Type 0} → (ℕ → Type 0) → Result A NameFault → Type 0
+StandsAt P (Ok a) = Unit {0}
+StandsAt P (Err Memory) = ⊥
+StandsAt P (Err (At code part)) = P part
 
-placed-IsUpTo : (part last : ℕ) (r : Result Entity NameCode) → part ≤ last → IsUpTo last (placed part r)
-placed-IsUpTo part last (Ok e) h = tt
-placed-IsUpTo part last (Err code) h = h
+-- it stands at no later part than this one
+abbrev pub IsUpTo : {A : Type 0} → ℕ → Result A NameFault → Type 0
+IsUpTo last r = StandsAt (λ part. part ≤ last) r
+
+module _ (P : ℕ → Type 0) where
+  placed-at : (part : ℕ) (r : Result Entity NameCode) → P part → StandsAt P (placed part r)
+  placed-at part (Ok e) h = tt
+  placed-at part (Err code) h = h
+
+  pub found_as-at : (name : ScopedName) (cursor : List Scope) (first : Entity) (r : Result Entity NameFault) → StandsAt P r → StandsAt P (found_as name cursor first r)
+  found_as-at name cursor first (Ok e) h = tt
+  found_as-at name cursor first (Err Memory) h = h
+  found_as-at name cursor first (Err (At code part)) h = h
 
 module _ (turns : ℕ) (bank : Key → Option Answer) where
-  pub part_of-IsUpTo : (part last : ℕ) (name : List ℕ) (there : Lookup (List Entity)) → part ≤ last → IsUpTo last (outcome (part_of part name there) bank)
-  part_of-IsUpTo part last name there h =
-      rw (outcome-and_then there (λ found. Done (placed part (judged name found))) bank)
-      (placed-IsUpTo part last (judged name (outcome there bank)) h)
-
   -- the rest of a name, behind a part that denotes this or has a fault
-  abbrev behind : ℕ → List (List ℕ) → Result Entity NameFault → Lookup (Result Entity NameFault)
+  abbrev pub behind : ℕ → List (List ℕ) → Result Entity NameFault → Lookup (Result Entity NameFault)
   behind part names r = by_result r (λ f. further turns part f names) (λ fault. Done (Err fault))
 
-  behind-IsUpTo : (part last : ℕ) (names : List (List ℕ)) → ((f : Entity) → IsUpTo last (outcome (further turns part f names) bank))
-      → (r : Result Entity NameFault) → IsUpTo last r → IsUpTo last (outcome (behind part names r) bank)
-  behind-IsUpTo part last names each (Ok f) h = each f
-  behind-IsUpTo part last names each (Err fault) h = h
-
-  scoped-IsUpTo : (part last : ℕ) (names : List (List ℕ)) (next : Lookup (Result Entity NameFault))
-      → ((f : Entity) → IsUpTo last (outcome (further turns (part + 1) f names) bank)) → IsUpTo last (outcome next bank) → part ≤ last
-      → (b : Bool) → IsUpTo last (outcome (cond b (and_then next (behind (part + 1) names)) (Done (Err (At NoScope part)))) bank)
-  scoped-IsUpTo part last names next each up h true =
-      rw (outcome-and_then next (behind (part + 1) names) bank) (behind-IsUpTo (part + 1) last names each (outcome next bank) up)
-  scoped-IsUpTo part last names next each up h false = h
-
-  further-IsUpTo : (part last : ℕ) (e : Entity) (names : List (List ℕ)) → part + length names ≤ last → IsUpTo last (outcome (further turns part e names) bank)
-  further-IsUpTo part last e [] h = tt
-  further-IsUpTo part last e (name ∷ names) h =
-      scoped-IsUpTo part last names (part_of (part + 1) name (has turns e.kind e.path (folded name)))
-      (λ f. further-IsUpTo (part + 1) last f names (omega arith))
-      (part_of-IsUpTo (part + 1) last name (has turns e.kind e.path (folded name)) (omega arith)) (omega arith) (is_scope e.kind)
-
-  found_as-IsUpTo : (last : ℕ) (name : ScopedName) (cursor : List Scope) (first : Entity) (r : Result Entity NameFault) → IsUpTo last r → IsUpTo last (found_as name cursor first r)
-  found_as-IsUpTo last name cursor first (Ok e) h = tt
-  found_as-IsUpTo last name cursor first (Err Memory) h = h
-  found_as-IsUpTo last name cursor first (Err (At code part)) h = h
-
   -- what a name comes to from its first part
-  abbrev from_first : List Scope → ScopedName → Result Entity NameFault → Lookup (Result Found NameFault)
+  abbrev pub from_first : List Scope → ScopedName → Result Entity NameFault → Lookup (Result Found NameFault)
   from_first cursor name r =
       by_result r (λ first. and_then (further turns 0 first name.rest) (λ last. Done (found_as name cursor first last))) (λ fault. Done (Err fault))
+
+  module _ (P : ℕ → Type 0) where
+    pub part_of-at : (part : ℕ) (name : List ℕ) (there : Lookup (List Entity)) → P part → StandsAt P (outcome (part_of part name there) bank)
+    part_of-at part name there h =
+        rw (outcome-and_then there (λ found. Done (placed part (judged name found))) bank)
+        (placed-at P part (judged name (outcome there bank)) h)
+
+    pub behind-at : (part : ℕ) (names : List (List ℕ)) → ((f : Entity) → StandsAt P (outcome (further turns part f names) bank))
+        → (r : Result Entity NameFault) → StandsAt P r → StandsAt P (outcome (behind part names r) bank)
+    behind-at part names each (Ok f) h = each f
+    behind-at part names each (Err fault) h = h
+
+    scoped-at : (part : ℕ) (names : List (List ℕ)) (next : Lookup (Result Entity NameFault))
+        → ((f : Entity) → StandsAt P (outcome (further turns (part + 1) f names) bank)) → StandsAt P (outcome next bank) → P part
+        → (b : Bool) → StandsAt P (outcome (cond b (and_then next (behind (part + 1) names)) (Done (Err (At NoScope part)))) bank)
+    scoped-at part names next each up h true =
+        rw (outcome-and_then next (behind (part + 1) names) bank) (behind-at (part + 1) names each (outcome next bank) up)
+    scoped-at part names next each up h false = h
+
+    pub further-at : (part : ℕ) (e : Entity) (names : List (List ℕ)) → ((k : ℕ) → part ≤ k → k ≤ part + length names → P k)
+        → StandsAt P (outcome (further turns part e names) bank)
+    further-at part e [] h = tt
+    further-at part e (name ∷ names) h =
+        scoped-at part names (part_of (part + 1) name (has turns e.kind e.path (folded name)))
+        (λ f. further-at (part + 1) f names (λ k from to. h k (omega (arith, from)) (omega (arith, to))))
+        (part_of-at (part + 1) name (has turns e.kind e.path (folded name)) (h (part + 1) (omega arith) (omega arith)))
+        (h part (omega arith) (omega arith)) (is_scope e.kind)
 
   from_first-IsUpTo : (cursor : List Scope) (name : ScopedName) (r : Result Entity NameFault) → IsUpTo 0 r → IsUpTo (length name.rest) (outcome (from_first cursor name r) bank)
   from_first-IsUpTo cursor name (Ok first) h =
       rw (outcome-and_then (further turns 0 first name.rest) (λ last. Done (found_as name cursor first last)) bank)
-      (found_as-IsUpTo (length name.rest) name cursor first (outcome (further turns 0 first name.rest) bank) (further-IsUpTo 0 (length name.rest) first name.rest (omega arith)))
+      (found_as-at (λ part. part ≤ length name.rest) name cursor first (outcome (further turns 0 first name.rest) bank)
+      (further-at (λ part. part ≤ length name.rest) 0 first name.rest (λ k from to. omega (arith, to))))
   from_first-IsUpTo cursor name (Err Memory) h = h
   from_first-IsUpTo cursor name (Err (At code part)) h = omega arith
 
@@ -81,7 +90,8 @@ module _ (turns : ℕ) (bank : Key → Option Answer) where
   denoted-IsUpTo cursor name =
       let first = part_of 0 name.first (outward turns (searched name.is_global cursor) (folded name.first)) in
       rw (outcome-and_then first (from_first cursor name) bank)
-      (from_first-IsUpTo cursor name (outcome first bank) (part_of-IsUpTo 0 0 name.first (outward turns (searched name.is_global cursor) (folded name.first)) (omega arith)))
+      (from_first-IsUpTo cursor name (outcome first bank)
+      (part_of-at (λ part. part ≤ 0) 0 name.first (outward turns (searched name.is_global cursor) (folded name.first)) (omega arith)))
 
 -- the part of a name's fault, as a run of its lookup tells it
 pub part-within : (own : List Addition) (bank : Key → Option Answer) (turns : ℕ) (cursor : List Scope) (name : ScopedName) (log after : List (Key × Option Answer)) (code : NameCode) (part : ℕ)

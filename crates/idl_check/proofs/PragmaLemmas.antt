@@ -8,7 +8,7 @@ use Rattle.idl_check.specs.Held.{said_of, spoken}
 use Rattle.idl_check.specs.Rules.{has_id, is_fixed, is_given, is_id}
 use Rattle.idl_check.specs.Pragmas.{Said, about, about_name, id_faults, refused_for, said, said_by, unnamed_faults, version_faults}
 use Rattle.idl_check.specs.Using.{last_at}
-use Rattle.idl_check.specs.Verdict.{faulty, pragma_judged, pragma_verdict}
+use Rattle.idl_check.specs.Verdict.{faulty, pragma_verdict}
 use Rattle.idl_check.specs.declared.pragmas.Named.{Named}
 use Rattle.idl_check.specs.declared.verdict.Verdict.{Verdict}
 use Rattle.idl_event.specs.declared.code.Code.TheVariants.{BadIdText, NoRepositoryId, RepeatedId, RepeatedVersion}
@@ -29,8 +29,6 @@ use Rattle.idl_scope.specs.declared.identity.FixedIdentity.{FixedIdentity}
 use Rattle.idl_scope.specs.declared.identity.Identity.{Identity}
 use Rattle.idl_scope.specs.declared.key.Key.{Key}
 use Rattle.idl_scope.specs.declared.key.Key.TheVariants.{IdOf}
-use Rattle.idl_syntax.specs.Parse.{pragma_faults}
-use Rattle.idl_tree.specs.Pragma.{pragma_of}
 use Rattle.idl_tree.specs.declared.name.ScopedName.{ScopedName}
 use Rattle.idl_tree.specs.declared.pragma.Pragma.{Pragma}
 use Rattle.idl_unit.specs.Faults.{least_fault}
@@ -147,11 +145,3 @@ judged_by turns tokens scopes o p =
       | Some fault ↦ Done (faulty fault Stays)
       | None ↦ and_then (said_by turns scopes p) (λ s. Done (pragma_verdict s))
     ]
-
-pub pragma-refused : (turns : ℕ) (tokens : List Token) (inside : Bool) (scopes : List Scope) (fault : Fault) → least_fault (pragma_faults tokens inside) ≡ Some fault
-    → pragma_judged turns tokens inside scopes ≡ Done (faulty fault Stays)
-pragma-refused turns tokens inside scopes fault h = ap (λ o. judged_by turns tokens scopes o (pragma_of tokens)) h
-
-pub pragma-spoken : (turns : ℕ) (tokens : List Token) (inside : Bool) (scopes : List Scope) (p : Pragma) → least_fault (pragma_faults tokens inside) ≡ None → pragma_of tokens ≡ Some p
-    → pragma_judged turns tokens inside scopes ≡ spoken turns scopes p
-pragma-spoken turns tokens inside scopes p h is = λ i. judged_by turns tokens scopes (h i) (is i)

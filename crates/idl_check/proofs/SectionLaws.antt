@@ -1,6 +1,5 @@
 -- Over bracketed sites the least of all faults is the least of those to which the walk comes.
-use Rattle.std.proofs.Common.{◌≡◌, ◌∙◌, ℕ, ◌+◌, ◌^◌, ◌<◌, Bool, true, false, cond, List, [], ◌∷◌, ◌++◌, length, Option, None, Some, append_assoc, refl, sym, ap, subst, arith}
-use Rattle.std.proofs.lemmas.List.{map-append}
+use Rattle.std.proofs.Common.{◌≡◌, ◌∙◌, ℕ, ◌+◌, ◌^◌, ◌<◌, Bool, true, false, cond, List, [], ◌∷◌, ◌++◌, length, Option, None, Some, refl, sym, ap, subst, arith}
 use Rattle.std.proofs.lemmas.List.Elements.{All-head, All-tail, All-weaker}
 use Rattle.std.specs.Prelude.{All, flat_map}
 use Rattle.idl_check.specs.AllFaults.{evaluation_faults, site_faults, whole_visit}
@@ -12,8 +11,7 @@ use Rattle.idl_memo.specs.Query.{outcome}
 use Rattle.idl_scope.specs.declared.answer.Answer.{Answer}
 use Rattle.idl_scope.specs.declared.key.Key.{Key}
 use Rattle.idl_site.specs.ExpressionParts.{expression_parts, value_parts}
-use Rattle.idl_site.specs.Item.{Item, item_of, items, items_length, Item as item}
-use Rattle.idl_site.specs.Part.{Part as part}
+use Rattle.idl_site.specs.Item.{Item, items, items_length, Item as item}
 use Rattle.idl_site.specs.declared.site.Target.{Target as Purpose}
 use Rattle.idl_site.specs.declared.site.Target.TheVariants as purpose
 use Rattle.idl_site.specs.declared.site.Use.{Use}
@@ -24,11 +22,12 @@ use Rattle.idl_unit.specs.TokenRules.{fault_at}
 use Rattle.idl_unit.specs.declared.fault.Fault.{Fault}
 use Rattle.idl_value.specs.Evaluation.{Evaluation, Faulty, Valued, first_of}
 use Rattle.idl_check.proofs.AlikeLemmas.{AreAlike, alike-append, alike-behind}
-use Rattle.idl_check.proofs.BracketLemmas.{tokens-single}
-use Rattle.idl_check.proofs.ExpressionFaults.{alike-expression, expression-count, expression-items, for-ordered}
+use Rattle.idl_check.proofs.BracketLemmas.{tokens-case, tokens-single, value-sites}
+use Rattle.idl_check.proofs.ExpressionFaults.{alike-expression, expression-count, for-ordered}
 use Rattle.idl_check.proofs.FaultOrder.{Leads, leads-later}
 use Rattle.idl_check.proofs.NameLemmas.{behind_name}
 use Rattle.idl_check.proofs.OnewayLaws.{given-alike}
+use Rattle.idl_check.proofs.Operands.{expression-items}
 use Rattle.idl_check.proofs.SiteLaws.{IsFrom, IsPlaced, begin_before, faults-from, named_by, named-placed, plain-placed, visit-placed, visited}
 use Rattle.idl_check.proofs.VisitFaults.{visit_faults}
 use Rattle.idl_check.proofs.WholeLaws.{IsCalm, given-begin, given-ends, single-calm, single-same, used-calm, whole-from}
@@ -46,12 +45,6 @@ value-calm w way (Faulty (f ∷ fs)) = (refl, refl)
 count-append : (xs ys : List Item) → items_length (xs ++ ys) ≡ items_length xs + items_length ys
 count-append [] ys = omega arith
 count-append (x ∷ xs) ys = omega (arith, count-append xs ys)
-
--- behind its beginning
-pub value-sites : (way : Purpose) (e : Expression) (sites : List Item) → items (value_parts way e) ++ sites ≡ item.ValueBegins ∷ (items (expression_parts e) ++ item.ValueEnds way e ∷ sites)
-value-sites way e sites =
-    ap (λ (xs : List Item). item.ValueBegins ∷ (xs ++ sites)) (map-append item_of (expression_parts e) (part.ValueEnds way e ∷ []))
-    ∙ ap (λ (xs : List Item). item.ValueBegins ∷ xs) (append_assoc (items (expression_parts e)) (item.ValueEnds way e ∷ []) sites)
 
 -- no expression is open, so what comes stands from the next token on
 begin-none : (o : Option ℕ) (at : ℕ) → o ≡ None → begin_before o at ≡ at
@@ -135,20 +128,9 @@ module _ (turns : ℕ) (answers : Key → Option Answer) where
   returned-told : (site : Item) → is_tokens site ≡ true → (sites : List Item) (w : Walk) → w.gives_back ≡ true → w.values.begin ≡ None
       → ((u : Walk) → u.gives_back ≡ false → u.values.begin ≡ None → IsTold sites u) → IsTold (site ∷ sites) w
   unfolding visit
-  returned-told (item.Tokens n) tokens sites w given none more = one-told (item.Tokens n) sites w refl (more (passed n w) refl none)
-  returned-told (item.Used way name) tokens sites w given none more = given-told way name w sites none w.gives_back given
-  returned-told (item.Declared way name) tokens sites w given none more = cc
-  returned-told (item.Joined text) tokens sites w given none more = cc
-  returned-told item.ValueBegins tokens sites w given none more = cc
-  returned-told (item.ValueEnds way e) tokens sites w given none more = cc
-  returned-told (item.ScopeBegins way name) tokens sites w given none more = cc
-  returned-told item.ScopeEnds tokens sites w given none more = cc
-  returned-told (item.TypeEnds shape) tokens sites w given none more = cc
-  returned-told item.ArrayEnds tokens sites w given none more = cc
-  returned-told (item.Enumerates names) tokens sites w given none more = cc
-  returned-told (item.Switches discrete) tokens sites w given none more = cc
-  returned-told item.Default tokens sites w given none more = cc
-  returned-told item.GivesBack tokens sites w given none more = cc
+  returned-told site tokens sites w given none more =
+      tokens-case (λ x. IsTold (x ∷ sites) w) (λ n. one-told (item.Tokens n) sites w refl (more (passed n w) refl none))
+      (λ way name. given-told way name w sites none w.gives_back given) site tokens
 
   gives-told : (sites : List Item) (w : Walk) → IsTold sites (record w { gives_back = true }) → IsTold (item.GivesBack ∷ sites) w
   unfolding visit

@@ -7,7 +7,7 @@ use Rattle.idl_check.proofs.LoneLaws.{ahead-lone, module-lone}
 use Rattle.idl_check.proofs.SettledLaws.{is_nameless}
 use Rattle.idl_check.proofs.WalkedLaws.{sited-fits}
 use Rattle.idl_check.proofs.Scenes.{ArePlaced, IsPlaced, Scene, scene_after}
-use Rattle.idl_check.proofs.UnitNesting.{is_plain, scene, unit-placed}
+use Rattle.idl_check.proofs.UnitNesting.{is_plain, scene, unit-whole}
 use Rattle.idl_check.proofs.WalkingLaws.{AreSited, IsSited}
 use Rattle.idl_check.proofs.WholeLaws.{whole-none}
 use Rattle.idl_check.specs.AllFaults.{site_faults}
@@ -83,7 +83,7 @@ parts-sited (p ∷ parts) s named h = (site-sited p parts s named h.0, parts-sit
 
 -- so the sites of a unit are as they have to be
 tree-sited : (tokens : List Token) (t : Tree) → lexemes tokens ≡ spell t → is_plain t ≡ true → AreSited (items (unit_parts t)) scene
-tree-sited tokens t spelled plain = parts-sited (unit_parts t) scene (declared-named tokens t spelled) (unit-placed t plain)
+tree-sited tokens t spelled plain = parts-sited (unit_parts t) scene (declared-named tokens t spelled) ((unit-whole t).placed plain)
 
 rest-append : (xs : List ScopedName) (is_local : Bool) (last : Parts) → AreRest (items last)
     → AreRest (items (flat_map (λ name. punctuation mark.Comma ∷ Uses (AsBase is_local) name ∷ []) xs ++ last))

@@ -1,5 +1,5 @@
 -- Runs of what is asked of a name that is declared.
-use Rattle.std.proofs.Common.{◌≡◌, ℕ, Bool, true, false, cond, List, [], Option, is_some, refl, sym, ap, ◌∙◌}
+use Rattle.std.proofs.Common.{◌≡◌, ℕ, Bool, true, cond, List, [], Option, is_some, refl, sym, ap, ◌∙◌}
 use Rattle.std.specs.List.{list_any}
 use Rattle.idl_memo.specs.Query.{Ask, Done, and_then, noted}
 use Rattle.idl_check.specs.Declaring.{inherited, standing}
@@ -32,12 +32,6 @@ module _ (own : List Addition) (bank : Key → Option Answer) where
       runs-and_then own bank q (λ a. g (f a)) log (runs own bank q log).0 (runs own bank q log).1 refl
       ∙ ap (λ (p : B × List (Key × Option Answer)). runs own bank (g p.0) p.1)
       (sym (h ∙ runs-and_then own bank q (λ a. Done (f a)) log (runs own bank q log).0 (runs own bank q log).1 refl))
-
-  -- a scope that inherits nothing
-  pub inherited_none : (turns : ℕ) (s : Scope) (n : List ℕ) (log : List (Key × Option Answer)) → inherits s.kind ≡ false
-      → runs own bank (and_then (inherited turns s n) counted) log ≡ (false, log)
-  inherited_none turns s n log h =
-      ap (λ b. runs own bank (and_then (cond b (Ask (entity_key s.path) (λ scope. reached turns n (bases_of (entity_in scope)))) (Done [])) counted) log) h
 
   -- and one that has what its bases have
   pub inherited_some : (turns : ℕ) (s : Scope) (n : List ℕ) (log : List (Key × Option Answer)) (found : List Entity) (after : List (Key × Option Answer)) → inherits s.kind ≡ true

@@ -1,22 +1,23 @@
--- The sites of each unit nest: by its grammar.
+-- The sites of each unit are bracketed, and nest: by its grammar.
+use Rattle.idl_site.specs.declared.site.Declaration.{Declaration}
 use Rattle.std.proofs.Common.{◌≡◌, ◌∙◌, ℕ, Bool, true, false, List, [], ◌∷◌, ◌++◌, Option, None, Some, append_assoc, flat_map, is_some, refl, sym, ap, subst, arith}
 use Rattle.std.proofs.lemmas.List.{map-append}
 use Rattle.idl_lex.specs.declared.keyword.Keyword.{Keyword}
 use Rattle.idl_lex.specs.declared.keyword.Keyword.TheVariants as word
 use Rattle.idl_lex.specs.declared.mark.Mark.TheVariants as mark
 use Rattle.idl_site.specs.ConstructionParts.{construction_parts, member_parts, member_type_parts}
-use Rattle.idl_site.specs.ExpressionParts.{expression_parts, value_parts}
+use Rattle.idl_site.specs.ExpressionParts.{value_parts}
 use Rattle.idl_site.specs.Item.{item_of, items}
-use Rattle.idl_site.specs.Part.{Part, Parts, Declares, GivesBack, Plain, Says, ScopeBegins, ScopeEnds, TypeEnds, Uses, ValueEnds, declared, if_some, keyword_part, listed, punctuation, raised, used}
+use Rattle.idl_site.specs.Part.{Part, Parts, Declares, Plain, Says, ScopeBegins, ScopeEnds, TypeEnds, Uses, declared, if_some, keyword_part, listed, punctuation, raised, used}
 use Rattle.idl_site.specs.TypeParts.{bound_parts, constant_type_parts, declarator_parts, type_parts}
-use Rattle.idl_site.specs.UnitParts.{attribute_names, attribute_names_parts, attribute_parts, bases_parts, constant_parts, context_parts, direction_parts, exception_parts, exceptions_parts, given_back, interface_parts, native_parts, oneway_parts, operation_parts, parameter_parts, raises_parts, readonly_attribute_parts, readonly_names_parts, result_parts, typedef_parts, unit_parts}
+use Rattle.idl_site.specs.UnitParts.{attribute_names, attribute_names_parts, attribute_parts, bases_parts, constant_parts, context_parts, direction_parts, exception_parts, exceptions_parts, given_back, interface_parts, native_parts, oneway_parts, operation_parts, parameter_parts, raises_parts, readonly_attribute_parts, readonly_names_parts, result_parts, typedef_parts, ended, unit_parts}
 use Rattle.idl_site.specs.declared.site.Declaration.TheVariants as declaration
 use Rattle.idl_site.specs.declared.site.Shape.TheVariants.{Text}
 use Rattle.idl_site.specs.declared.site.Target.TheVariants as purpose
 use Rattle.idl_site.specs.declared.site.Use.{Use}
 use Rattle.idl_site.specs.declared.site.Use.TheVariants.{AsBase, Raised, RaisedBySet}
 use Rattle.idl_tree.specs.Interface.{spell_direction, spell_local}
-use Rattle.idl_tree.specs.Lexeme.{Word, Punctuation}
+use Rattle.idl_tree.specs.Lexeme.{Word, Punctuation, Lexemes}
 use Rattle.idl_tree.specs.declared.attribute.Attribute.{Attribute}
 use Rattle.idl_tree.specs.declared.attribute.AttributeNames.{AttributeNames}
 use Rattle.idl_tree.specs.declared.attribute.AttributeNames.TheVariants as names
@@ -34,7 +35,6 @@ use Rattle.idl_tree.specs.declared.operation.Direction.TheVariants.{In, InOut, O
 use Rattle.idl_tree.specs.declared.operation.Operation.{Operation}
 use Rattle.idl_tree.specs.declared.operation.Parameter.{Parameter}
 use Rattle.idl_tree.specs.declared.several.Several.{Several}
-use Rattle.idl_tree.specs.declared.expression.Expression.{Expression}
 use Rattle.idl_tree.specs.declared.unit.Constant.{Constant}
 use Rattle.idl_tree.specs.declared.unit.ConstantType.{ConstantType}
 use Rattle.idl_tree.specs.declared.unit.ConstantType.TheVariants as constant
@@ -42,11 +42,12 @@ use Rattle.idl_tree.specs.declared.unit.Exception.{Exception}
 use Rattle.idl_tree.specs.declared.unit.Tree.{Tree}
 use Rattle.idl_tree.specs.declared.unit.Tree.TheVariants as tree
 use Rattle.idl_tree.specs.declared.unit.Typedef.{Typedef}
-use Rattle.idl_check.proofs.ConstructionNesting.{a_type, constant_type, construction, declarator, member, member_type}
-use Rattle.idl_check.proofs.Nesting.{Nests, NestsAt, before, carry, declares, each, ends, follow, maybe, none, one, operands-fit, operands-placed, scope, several, topped}
+use Rattle.idl_check.specs.Sections.{AreBracketed}
+use Rattle.idl_check.proofs.BracketLemmas.{bracketed-before, bracketed-follow, bracketed-none, bracketed-value}
+use Rattle.idl_check.proofs.ConstructionNesting.{a_result, a_type, constant_type, construction, declarator, member, member_type}
+use Rattle.idl_check.proofs.Nesting.{Gives, Nests, NestsAt, before, carry, declares, each, ends, follow, gives, maybe, none, one, scope, several, topped, value-fits, value-placed}
 use Rattle.idl_check.proofs.LevelSites.{Around, AreFit, arounds, arounds-append, fit-append, is_level_use}
 use Rattle.idl_check.proofs.Scenes.{ArePlaced, Scene, placed-append, scenes}
-use Rattle.idl_check.proofs.Operands.{operand-parts}
 
 -- ---- interfaces
 
@@ -101,18 +102,18 @@ oneway true = one (keyword_part word.Oneway) refl
 oneway false = none
 
 -- what may be given back
-maybe_given : (is_oneway : Bool) (p : Parts) → Nests p → Nests (given_back is_oneway ++ p)
-maybe_given true p n = before GivesBack p refl n
-maybe_given false p n = n
+maybe_given : (is_oneway : Bool) (p : Parts) → Gives p → Nests (given_back is_oneway ++ p)
+maybe_given true p g = g.back
+maybe_given false p g = g.plain
 
 result : (is_oneway : Bool) (t : Option DataType) → Nests (result_parts is_oneway t)
 result is_oneway None = one (keyword_part word.Void) refl
-result is_oneway (Some t) = maybe_given is_oneway (type_parts t) (a_type t)
+result is_oneway (Some t) = maybe_given is_oneway (type_parts t) (a_result t)
 
 direction : (is_oneway : Bool) (d : Direction) → Nests (direction_parts is_oneway d)
 direction is_oneway In = one (Plain (spell_direction In)) refl
-direction is_oneway Out = maybe_given is_oneway (Plain (spell_direction Out) ∷ []) (before (Plain (spell_direction Out)) [] refl none)
-direction is_oneway InOut = maybe_given is_oneway (Plain (spell_direction InOut) ∷ []) (before (Plain (spell_direction InOut)) [] refl none)
+direction is_oneway Out = maybe_given is_oneway (Plain (spell_direction Out) ∷ []) (gives (Plain (spell_direction Out)) [] refl refl none)
+direction is_oneway InOut = maybe_given is_oneway (Plain (spell_direction InOut) ∷ []) (gives (Plain (spell_direction InOut)) [] refl refl none)
 
 parameter : (is_oneway : Bool) (p : Parameter) → Nests (parameter_parts is_oneway p)
 parameter is_oneway p =
@@ -122,7 +123,7 @@ parameter is_oneway p =
 raises : (is_oneway : Bool) (ns : Several ScopedName) → Nests (raises_parts is_oneway ns)
 raises is_oneway ns =
     maybe_given is_oneway (raised Raised word.Raises ns)
-    (before (keyword_part word.Raises) (punctuation mark.OpenParenthesis ∷ (used Raised ns ++ punctuation mark.CloseParenthesis ∷ [])) refl (raising_rest Raised refl ns))
+    (gives (keyword_part word.Raises) (punctuation mark.OpenParenthesis ∷ (used Raised ns ++ punctuation mark.CloseParenthesis ∷ [])) refl refl (raising_rest Raised refl ns))
 
 context : (texts : Several (Several (List ℕ))) → Nests (context_parts texts)
 context texts =
@@ -181,50 +182,66 @@ type-typed (constant.Discrete d) a = refl
 type-typed (constant.String s) a = text-typed (bound_parts s.bound) s.is_wide (is_some s.bound) a
 type-typed (constant.Name n) a = refl
 
-value-fits : (e : Expression) (q : Parts) (a : Around) → a.is_typed ≡ true → AreFit (items q) a → AreFit (items ((expression_parts e ++ ValueEnds purpose.Constant e ∷ []) ++ q)) a
-value-fits e q a typed h =
-    subst (λ p. AreFit (items p) a) (sym (append_assoc (expression_parts e) (ValueEnds purpose.Constant e ∷ []) q))
-    (operands-fit (expression_parts e) (ValueEnds purpose.Constant e ∷ q) (operand-parts e) a (typed, h))
-
-constant-fits : (c : Constant) (a : Around) → AreFit (items (constant_parts c ++ punctuation mark.Semicolon ∷ [])) a
-constant-fits c a =
-    let q : Parts = punctuation mark.Semicolon ∷ [] in
-    let told : Parts = Declares declaration.Constant c.name ∷ punctuation mark.Equals ∷ value_parts purpose.Constant c.value in
-    let types = constant_type_parts c.kind in
-    let b = arounds (items types) a in
-    let rest : AreFit (items (told ++ q)) b = (tt, (tt, (tt, value-fits c.value q b (type-typed c.kind a) (tt, tt)))) in (
-      tt,
-      subst (λ p. AreFit (items p) a) (sym (append_assoc types told q))
-          (subst (λ xs. AreFit xs a) (sym (map-append item_of types (told ++ q))) (fit-append (items types) (items (told ++ q)) a ((constant_type c.kind).fit a (omega arith)) rest)),
-    )
-
 -- ---- units
 
-semicolon : {top : Bool} (p : Parts) → NestsAt None top 0 p → NestsAt None top 0 (p ++ punctuation mark.Semicolon ∷ [])
-semicolon p n = ends p (punctuation mark.Semicolon) refl n
+-- no scope has begun, and nothing is declared
+abbrev pub scene : Scene
+scene = record { level = 0; last = None }
 
-fits : {top : Bool} (p : Parts) → NestsAt None top 0 p → (a : Around) → AreFit (items p) a
-fits p n a = n.fit a (omega arith)
+-- a unit's parts: whatever stands around, each scope that ends begins in it, and the type of each expression is known; where they are
+-- those of a plain unit, no operation is declared in a scope, and each scope begins behind its own name
+pub record IsWhole (plain : Bool) (p : Parts) : Type 0 where
+  pub bracketed : AreBracketed (items p)
+  pub fit : (a : Around) → AreFit (items p) a
+  pub placed : plain ≡ true → ArePlaced (items p) scene
 
--- whatever stands around, each scope that ends in a unit begins in it, and the type of each expression is known
-pub unit-fits : (t : Tree) (a : Around) → AreFit (items (unit_parts t)) a
-unfolding unit_parts
-unit-fits tree.Closing = fits {top = false} _ (one (Plain (Punctuation mark.CloseBrace ∷ Punctuation mark.Semicolon ∷ [])) refl)
-unit-fits (tree.Module name) = λ a. (tt, (tt, (tt, tt)))
-unit-fits (tree.Interface i) = fits (interface_parts i) (interface i)
-unit-fits (tree.Forward (forward.Interface is_local name)) = λ a. (tt, (tt, (tt, tt)))
-unit-fits (tree.Forward (forward.Structure name)) = λ a. (tt, (tt, (tt, tt)))
-unit-fits (tree.Forward (forward.Union name)) = λ a. (tt, (tt, (tt, tt)))
-unit-fits (tree.Typedef t) = fits _ (semicolon (typedef_parts t) (a_typedef t))
-unit-fits (tree.Construction c) = fits _ (semicolon (construction_parts c) (construction c))
-unit-fits (tree.Native name) = fits {top = false} _ (semicolon (native_parts name) (before (keyword_part word.Native) _ refl (one (Declares declaration.Native name) refl)))
-unit-fits (tree.Constant c) = constant-fits c
-unit-fits (tree.Exception e) = fits _ (semicolon (exception_parts e) (an_exception e))
-unit-fits (tree.ReadonlyAttribute a) = fits _ (semicolon (readonly_attribute_parts a) (readonly_attribute a))
-unit-fits (tree.Attribute a) = fits _ (semicolon (attribute_parts a) (attribute a))
-unit-fits (tree.Operation o) = fits _ (semicolon (operation_parts o) (operation o))
+whole : {top : Bool} (plain : Bool) (p : Parts) → NestsAt None top 0 p → IsWhole plain p
+whole plain p n = record { bracketed = n.bracketed; fit = λ a. n.fit a (omega arith); placed = λ h. n.placed scene tt (λ h. refl) }
 
--- ---- where its names are declared, and its scopes begin
+-- one with its end
+ended_whole : {top : Bool} (plain : Bool) (p : Parts) → NestsAt None top 0 p → IsWhole plain (ended p)
+ended_whole plain p n = whole plain (ended p) (ends p (punctuation mark.Semicolon) refl n)
+
+-- a name between tokens
+named_bracketed : (front back : Lexemes) (way : Declaration) (name : List ℕ) → AreBracketed (items (Plain front ∷ Declares way name ∷ Plain back ∷ []))
+named_bracketed front back way name =
+    bracketed-before (Plain front) (Declares way name ∷ Plain back ∷ []) refl
+    (bracketed-before (Declares way name) (Plain back ∷ []) refl (bracketed-before (Plain back) [] refl bracketed-none))
+
+named_whole : (front back : Lexemes) (way : Declaration) (name : List ℕ) → IsWhole false (Plain front ∷ Declares way name ∷ Plain back ∷ [])
+named_whole front back way name = record { bracketed = named_bracketed front back way name; fit = λ a. (tt, (tt, (tt, tt))); placed = λ h. cc }
+
+constant_whole : (c : Constant) → IsWhole true (ended (constant_parts c))
+constant_whole c =
+    let types = constant_type_parts c.kind in
+    let value = value_parts purpose.Constant c.value in
+    let last : Parts = punctuation mark.Semicolon ∷ [] in
+    let told : Parts = Declares declaration.Constant c.name ∷ punctuation mark.Equals ∷ (value ++ last) in
+    let front = constant_type c.kind in
+    let parts : ended (constant_parts c) ≡ keyword_part word.Const ∷ (types ++ told) = ap (λ (p : Parts). keyword_part word.Const ∷ p) (append_assoc types (Declares declaration.Constant c.name ∷ punctuation mark.Equals ∷ value) last) in
+    let sites = map-append item_of types told in
+    subst (IsWhole true) (sym parts)
+    (record {
+      bracketed =
+          bracketed-before (keyword_part word.Const) (types ++ told) refl
+          (bracketed-follow types told front.bracketed
+          (bracketed-before (Declares declaration.Constant c.name) (punctuation mark.Equals ∷ (value ++ last)) refl
+          (bracketed-before (punctuation mark.Equals) (value ++ last) refl
+          (bracketed-follow value last (bracketed-value purpose.Constant c.value) (bracketed-before (punctuation mark.Semicolon) [] refl bracketed-none)))));
+      fit =
+          λ a. (
+            tt,
+            subst (λ xs. AreFit xs a) (sym sites)
+                (fit-append (items types) (items told) a (front.fit a (omega arith)) (tt, (tt, value-fits purpose.Constant c.value last (arounds (items types) a) (type-typed c.kind a) (tt, tt)))),
+          );
+      placed =
+          λ h. (
+            tt,
+            subst (λ xs. ArePlaced xs scene) (sym sites)
+                (placed-append (items types) (items told) scene (front.placed scene tt (λ h. cc))
+                ((refl, λ o. cc), (tt, value-placed purpose.Constant c.value last (record (scenes (items types) scene) { last = Some c.name }) (tt, tt)))),
+          );
+    })
 
 -- it declares no module, no interface, and nothing ahead
 abbrev pub is_plain : Tree → Bool
@@ -233,43 +250,19 @@ is_plain (tree.Interface i) = false
 is_plain (tree.Forward f) = false
 is_plain other = true
 
-abbrev pub scene : Scene
-scene = record { level = 0; last = None }
-
-value-placed : (e : Expression) (q : Parts) (s : Scene) → ((t : Scene) → ArePlaced (items q) t) → ArePlaced (items ((expression_parts e ++ ValueEnds purpose.Constant e ∷ []) ++ q)) s
-value-placed e q s h =
-    subst (λ p. ArePlaced (items p) s) (sym (append_assoc (expression_parts e) (ValueEnds purpose.Constant e ∷ []) q))
-    (operands-placed (expression_parts e) (ValueEnds purpose.Constant e ∷ q) (operand-parts e) s (λ t. (tt, h t)))
-
-constant-placed : (c : Constant) (s : Scene) → ArePlaced (items (constant_parts c ++ punctuation mark.Semicolon ∷ [])) s
-constant-placed c s =
-    let q : Parts = punctuation mark.Semicolon ∷ [] in
-    let told : Parts = Declares declaration.Constant c.name ∷ punctuation mark.Equals ∷ value_parts purpose.Constant c.value in
-    let types = constant_type_parts c.kind in
-    let behind = scenes (items types) s in
-    let rest : ArePlaced (items (told ++ q)) behind =
-    ((refl, λ o. cc), (tt, (tt, value-placed c.value q (record behind { last = Some c.name }) (λ t. (tt, tt))))) in (
-      tt,
-      subst (λ p. ArePlaced (items p) s) (sym (append_assoc types told q))
-          (subst (λ xs. ArePlaced xs s) (sym (map-append item_of types (told ++ q)))
-          (placed-append (items types) (items (told ++ q)) s ((constant_type c.kind).placed s tt (λ h. cc)) rest)),
-    )
-
-placed : {top : Bool} (p : Parts) → NestsAt None top 0 p → ArePlaced (items p) scene
-placed p n = n.placed scene tt (λ h. refl)
-
--- no operation is declared in a scope of a unit, and each of its scopes begins behind its own name
-pub unit-placed : (t : Tree) → is_plain t ≡ true → ArePlaced (items (unit_parts t)) scene
+pub unit-whole : (t : Tree) → IsWhole (is_plain t) (unit_parts t)
 unfolding unit_parts
-unit-placed tree.Closing h = (tt, tt)
-unit-placed (tree.Module name) h = cc
-unit-placed (tree.Interface i) h = cc
-unit-placed (tree.Forward f) h = cc
-unit-placed (tree.Typedef t) h = placed _ (semicolon (typedef_parts t) (a_typedef t))
-unit-placed (tree.Construction c) h = placed _ (semicolon (construction_parts c) (construction c))
-unit-placed (tree.Native name) h = (tt, ((refl, λ o. cc), (tt, tt)))
-unit-placed (tree.Constant c) h = constant-placed c scene
-unit-placed (tree.Exception e) h = placed _ (semicolon (exception_parts e) (an_exception e))
-unit-placed (tree.ReadonlyAttribute a) h = placed _ (semicolon (readonly_attribute_parts a) (readonly_attribute a))
-unit-placed (tree.Attribute a) h = placed _ (semicolon (attribute_parts a) (attribute a))
-unit-placed (tree.Operation o) h = placed _ (semicolon (operation_parts o) (operation o))
+unit-whole tree.Closing = whole {top = false} true _ (one (Plain (Punctuation mark.CloseBrace ∷ Punctuation mark.Semicolon ∷ [])) refl)
+unit-whole (tree.Module name) = named_whole (Word word.Module ∷ []) (Punctuation mark.OpenBrace ∷ []) declaration.Module name
+unit-whole (tree.Interface i) = whole false (interface_parts i) (interface i)
+unit-whole (tree.Forward (forward.Interface is_local name)) = named_whole (spell_local is_local ++ Word word.Interface ∷ []) (Punctuation mark.Semicolon ∷ []) (declaration.InterfaceAhead is_local) name
+unit-whole (tree.Forward (forward.Structure name)) = named_whole (Word word.Struct ∷ []) (Punctuation mark.Semicolon ∷ []) declaration.StructureAhead name
+unit-whole (tree.Forward (forward.Union name)) = named_whole (Word word.Union ∷ []) (Punctuation mark.Semicolon ∷ []) declaration.UnionAhead name
+unit-whole (tree.Typedef t) = ended_whole true (typedef_parts t) (a_typedef t)
+unit-whole (tree.Construction c) = ended_whole true (construction_parts c) (construction c)
+unit-whole (tree.Native name) = ended_whole {top = false} true (native_parts name) (before (keyword_part word.Native) _ refl (one (Declares declaration.Native name) refl))
+unit-whole (tree.Constant c) = constant_whole c
+unit-whole (tree.Exception e) = ended_whole true (exception_parts e) (an_exception e)
+unit-whole (tree.ReadonlyAttribute a) = ended_whole true (readonly_attribute_parts a) (readonly_attribute a)
+unit-whole (tree.Attribute a) = ended_whole true (attribute_parts a) (attribute a)
+unit-whole (tree.Operation o) = ended_whole true (operation_parts o) (operation o)

@@ -35,7 +35,7 @@ use Rattle.idl_site.specs.declared.site.Declaration.TheVariants as declaration
 use Rattle.idl_site.specs.declared.site.Target.{Target as Purpose}
 use Rattle.idl_site.specs.declared.site.Target.TheVariants as purpose
 use Rattle.idl_site.specs.declared.site.Use.{Use}
-use Rattle.idl_site.specs.declared.site.Use.TheVariants.{AsBase, AsType, AsElement, AsConstantType, AsDiscriminator, AsOperand, Raised, RaisedBySet}
+use Rattle.idl_site.specs.declared.site.Use.TheVariants.{AsOperand}
 use Rattle.idl_tree.specs.declared.expression.Expression.{Expression}
 use Rattle.idl_tree.specs.declared.name.ScopedName.{ScopedName}
 use Rattle.idl_tree.specs.declared.unit.Constant.{Constant}
@@ -49,17 +49,14 @@ use Rattle.idl_value.specs.Names.{AreGiven}
 use Rattle.idl_value.specs.declared.target.Target.{Target}
 use Rattle.idl_value.specs.declared.value.Value.{Value}
 use Rattle.idl_check.proofs.AroundLaws.{IsKept, IsTyped, StandsIn, single-kept, used-kept, used-none, valued-stands}
-use Rattle.idl_check.proofs.BracketLemmas.{tokens-single}
-use Rattle.idl_check.proofs.ExpressionFaults.{expression-items}
+use Rattle.idl_check.proofs.BracketLemmas.{tokens-case, tokens-single, value-sites}
 use Rattle.idl_check.proofs.Nesting.{arounds-operands}
 use Rattle.idl_check.proofs.LevelSites.{AreFit, Around, IsFit, IsKnown, around_after, arounds}
-use Rattle.idl_check.proofs.Operands.{expression-names, expression-operands, is_operand, names_in}
+use Rattle.idl_check.proofs.Operands.{expression-items, expression-names, expression-operands, is_operand, names_in, operand-case}
 use Rattle.idl_check.proofs.PartLemmas.{IsUpTo}
 use Rattle.idl_check.proofs.RowLaws.{no-end}
-use Rattle.idl_check.proofs.SectionLaws.{value-sites}
 use Rattle.idl_check.proofs.SiteLaws.{denoted-up, named_by, used_by, visited}
-use Rattle.idl_check.proofs.UnitBracketing.{unit-bracketed}
-use Rattle.idl_check.proofs.UnitNesting.{unit-fits}
+use Rattle.idl_check.proofs.UnitNesting.{unit-whole}
 use Rattle.idl_check.proofs.VisitFaults.{visit_faults}
 use Rattle.idl_check.proofs.WalkLaws.{none-append}
 use Rattle.idl_check.proofs.WholeLaws.{given-ends, single-calm, used-calm, whole-none}
@@ -120,27 +117,10 @@ module _ (turns : ℕ) (answers : Key → Option Answer) where
   operand-grows : (x : Item) (w : Walk) (a : Around) → is_operand x ≡ true → w.gives_back ≡ false → (visited turns answers x w).faults ≡ [] → StandsIn w a
       → Grows w (visited turns answers x w).after a (length (used_name x))
   unfolding visit
-  operand-grows (item.Tokens n) w a operand given none k = record { kept = record { stands = k; told = refl; constant = refl }; given = refl; count = omega arith; some = λ all. all }
-  operand-grows (item.Used AsOperand name) w a operand given none k = named-grows name w a w.gives_back given none k
-  operand-grows (item.Used (AsBase is_local) name) w a operand given none k = cc
-  operand-grows (item.Used AsType name) w a operand given none k = cc
-  operand-grows (item.Used AsElement name) w a operand given none k = cc
-  operand-grows (item.Used AsConstantType name) w a operand given none k = cc
-  operand-grows (item.Used AsDiscriminator name) w a operand given none k = cc
-  operand-grows (item.Used Raised name) w a operand given none k = cc
-  operand-grows (item.Used RaisedBySet name) w a operand given none k = cc
-  operand-grows (item.Declared way name) w a operand given none k = cc
-  operand-grows (item.Joined text) w a operand given none k = cc
-  operand-grows item.ValueBegins w a operand given none k = cc
-  operand-grows (item.ValueEnds way e) w a operand given none k = cc
-  operand-grows (item.ScopeBegins way name) w a operand given none k = cc
-  operand-grows item.ScopeEnds w a operand given none k = cc
-  operand-grows (item.TypeEnds shape) w a operand given none k = cc
-  operand-grows item.ArrayEnds w a operand given none k = cc
-  operand-grows (item.Enumerates names) w a operand given none k = cc
-  operand-grows (item.Switches discrete) w a operand given none k = cc
-  operand-grows item.Default w a operand given none k = cc
-  operand-grows item.GivesBack w a operand given none k = cc
+  operand-grows x w a operand given none k =
+      operand-case (λ y. (visited turns answers y w).faults ≡ [] → Grows w (visited turns answers y w).after a (length (used_name y)))
+      (λ n h. record { kept = record { stands = k; told = refl; constant = refl }; given = refl; count = omega arith; some = λ all. all })
+      (λ name h. named-grows name w a w.gives_back given h k) x operand none
 
   front-grows : (front : List Item) → All (λ x. is_operand x ≡ true) front → (w : Walk) (a : Around) → w.gives_back ≡ false → visit_faults turns answers front w ≡ [] → StandsIn w a
       → Grows w (walked turns answers front w) a (names_in front)
@@ -264,20 +244,9 @@ module _ (turns : ℕ) (answers : Key → Option Answer) where
 
   back-faulty : (site : Item) (w : Walk) → is_tokens site ≡ true → w.gives_back ≡ true → (visited turns answers site w).faults ≡ [] → ⊥
   unfolding visit
-  back-faulty (item.Tokens n) w tokens given none = one-faulty w.gives_back (fault_at w.at BadOneway) given none
-  back-faulty (item.Used way name) w tokens given none = named-faulty way name w w.gives_back given none
-  back-faulty (item.Declared way name) w tokens given none = cc
-  back-faulty (item.Joined text) w tokens given none = cc
-  back-faulty item.ValueBegins w tokens given none = cc
-  back-faulty (item.ValueEnds way e) w tokens given none = cc
-  back-faulty (item.ScopeBegins way name) w tokens given none = cc
-  back-faulty item.ScopeEnds w tokens given none = cc
-  back-faulty (item.TypeEnds shape) w tokens given none = cc
-  back-faulty item.ArrayEnds w tokens given none = cc
-  back-faulty (item.Enumerates names) w tokens given none = cc
-  back-faulty (item.Switches discrete) w tokens given none = cc
-  back-faulty item.Default w tokens given none = cc
-  back-faulty item.GivesBack w tokens given none = cc
+  back-faulty site w tokens given none =
+      tokens-case (λ x. (visited turns answers x w).faults ≡ [] → ⊥) (λ n h. one-faulty w.gives_back (fault_at w.at BadOneway) given h)
+      (λ way name h. named-faulty way name w w.gives_back given h) site tokens none
 
   returned-faulty : (site : Item) (sections : List Section) (w : Walk) → is_tokens site ≡ true → visit_faults turns answers (flat_map section_sites (Returned site ∷ sections)) w ≡ [] → ⊥
   unfolding visit
@@ -400,14 +369,15 @@ stands-first (s ∷ scopes) = record { count = omega arith; typed = All-nil IsTy
 module _ (turns : ℕ) (answers : Key → Option Answer) (unit : Tree) (scopes : List Scope) (none : site_faults turns answers (items (unit_parts unit)) (first_walk scopes) ≡ []) where
   unit-told : IsTold (expressions (items (unit_parts unit))) (first_walk scopes) (walked turns answers (items (unit_parts unit)) (first_walk scopes))
   unit-told =
-      let b = (unit-bracketed unit).is in
+      let whole = unit-whole unit in
+      let b = whole.bracketed in
       let w = first_walk scopes in
       let sites = items (unit_parts unit) in
       let P : List Item → Type 0 = λ xs. AreFit xs bare → visit_faults turns answers xs w ≡ [] → IsTold (expressions xs) w (walked turns answers xs w) in
       subst P (sym b.are)
       (λ fit no. subst (λ es. IsTold es w (walked turns answers (flat_map section_sites b.sections) w)) (sym (sections-have b.sections b.formed))
       (sections-told turns answers b.sections b.formed w bare refl (stands-first scopes) fit no))
-      (unit-fits unit bare) (whole-none turns answers sites w none)
+      (whole.fit bare) (whole-none turns answers sites w none)
 
   pub unit-values : AreValues (expressions (items (unit_parts unit))) (walked turns answers (items (unit_parts unit)) (first_walk scopes)).values.told
   unit-values = subst (AreValues (expressions (items (unit_parts unit)))) (sym unit-told.told) unit-told.are

@@ -25,7 +25,7 @@ use Rattle.idl_unit.specs.declared.fault.Fault.{Fault}
 use Rattle.idl_scope.specs.Facts.{UnitFacts}
 use Rattle.idl_scope.specs.Turns.{HasTurnsFor, turns_among, turns_for}
 use Rattle.idl_scope.specs.declared.addition.Addition.{Addition}
-use Rattle.idl_check.proofs.NotedLemmas.{noted_in-one_way, noted_in-quiet, one_way}
+use Rattle.idl_check.proofs.NotedLemmas.{noted_in-one_way, one_way}
 
 -- turns for the facts before a unit are, with those for its tokens so far, turns for both
 pub turns-here : (facts : List UnitFacts) (own : List Addition) (turns : ℕ) → turns_for facts ≤ turns → HasTurnsFor facts own (turns + turns_among own)
@@ -53,28 +53,6 @@ module _ (bank : Key → Option Answer) where
   visited_by q g fault log x after h =
       run-and_then_at key_eq (and_then q (λ x. Done (g x))) (λ v. Done (noted_in v fault)) bank log (g x) after
       (sym (run-and_then_at key_eq q (λ x. Done (g x)) bank log x after h))
-
-  -- a site at which nothing is asked
-  pub visited_done : (turns : ℕ) (site : Item) (w : Walk) (v : Visit) (log : List (Key × Option Answer)) → visit turns site w ≡ Done v
-      → runs_over (visited turns site w) log ≡ (noted_in v w.fault, log)
-  visited_done turns site w v log h = ap (λ q. runs_over (and_then q (λ v. Done (noted_in v w.fault))) log) h
-
-  -- and at which nothing is wrong either
-  pub visited_quiet : (turns : ℕ) (site : Item) (w next : Walk) (log : List (Key × Option Answer)) → visit turns site w ≡ Done (quiet next)
-      → runs_over (visited turns site w) log ≡ (record next { fault = w.fault }, log)
-  visited_quiet turns site w next log h = visited_done turns site w (quiet next) log h ∙ ap (λ x. (x, log)) (noted_in-quiet next w.fault)
-
-  -- a name that is declared in no scope
-  pub declared_nowhere : (turns : ℕ) (way : Declaration) (name : List ℕ) (w : Walk) (log : List (Key × Option Answer)) → first w.cursor ≡ None
-      → runs_over (visited turns (item.Declared way name) w) log ≡ (record (passed 1 w) { fault = w.fault }, log)
-  unfolding visit
-  declared_nowhere turns way name w log h =
-      visited_quiet turns (item.Declared way name) w (passed 1 w) log
-      (ap (λ o. elim o [
-        | None ↦ Done (quiet (passed 1 w))
-        | Some s ↦ and_then (under w.own (standing (turns_at turns w) s (entity_of w.written way name s.path)))
-            (λ there. Done (declared_visit w way s (entity_of w.written way name s.path) there))
-      ]) h)
 
   -- and one in a scope, by what stands there under it
   pub declared_in : (turns : ℕ) (way : Declaration) (name : List ℕ) (w : Walk) (log : List (Key × Option Answer)) (s : Scope) (there : Standing) (after : List (Key × Option Answer))

@@ -34,8 +34,8 @@ mod verdict;
 mod walk;
 
 pub use laws::{
-    acceptance, bracketing, denoting, evaluating, fitting, identification, least, more_turns,
-    numbering, questions, refusal, stopping, wording,
+    acceptance, bracketing, denoting, evaluating, fitting, identification, inheriting, least,
+    more_turns, numbering, questions, refusal, stopping, wording,
 };
 pub use scratch::Scratch;
 pub use task::verdict_of;

@@ -3,12 +3,12 @@
 //! What the disk and a terminal hold no clause says. What is read of a file is what a reader of known bytes would give.
 #![tactic(auto)]
 
+mod arguments;
 mod disk;
 mod reading;
 mod standard;
-mod words;
 
+pub use arguments::{texts, words};
 pub use disk::Disk;
 pub use reading::read_file;
 pub use standard::{StandardInput, StandardOutput};
-pub use words::{texts, words};

@@ -51,10 +51,10 @@ static MALFORMED: Explanation = Explanation {
 
 static BAD_NAME: Explanation = Explanation {
     told: Told::Refused(Refusal::BadName),
-    words: Words::Whole("name of a file or directory not allowed"),
+    words: Words::Whole("name not allowed"),
     example: "put a//b.idl 0",
     mended: "put a/b.idl 0",
-    hint: "1 to 255 bytes of 33 to 126, so no blank and no letter beyond ASCII; no empty part, no . or .. inside. For such folders use names from inside.",
+    hint: "A file's or a directory's name has 1 to 255 bytes of 33 to 126, so no blank and no letter beyond ASCII; no empty part, no . or .. inside. For such folders use names from inside.",
 };
 
 static NO_SUCH_FILE: Explanation = Explanation {
@@ -67,7 +67,7 @@ static NO_SUCH_FILE: Explanation = Explanation {
 
 static OUTSIDE_FILE: Explanation = Explanation {
     told: Told::Refused(Refusal::OutsideFile),
-    words: Words::Whole("these lines aren't in the file"),
+    words: Words::Whole("lines outside the file"),
     example: "put a.idl 1\ntypedef long X;\nsplice a.idl 2 1 0",
     mended: "put a.idl 1\ntypedef long X;\nsplice a.idl 1 1 0",
     hint: "The first line is 1; to add behind the last of N lines say N+1 and 0 lines out.",
@@ -83,7 +83,7 @@ static OVER_LIMIT: Explanation = Explanation {
 
 static BAD_MACRO: Explanation = Explanation {
     told: Told::Refused(Refusal::BadMacro),
-    words: Words::Whole("this can be no macro"),
+    words: Words::Whole("macro not allowed"),
     example: "define 1x",
     mended: "define x1",
     hint: "A letter or _, then letters, digits and _; `defined` is none.",
@@ -107,7 +107,7 @@ static ROOT_THERE: Explanation = Explanation {
 
 static NO_MEMORY: Explanation = Explanation {
     told: Told::Refused(Refusal::NoMemory),
-    words: Words::Whole("memory was refused"),
+    words: Words::Whole("no memory"),
     example: "put a.idl 60000\n(60,000 lines typedef long Tn; with ulimit -v 12288)",
     mended: "put a.idl 1\ntypedef long X;",
     hint: "Nothing has changed, and the same edit may be sent again once there is memory: drop roots or files, or raise the limit.",
@@ -115,7 +115,7 @@ static NO_MEMORY: Explanation = Explanation {
 
 static UNFINISHED: Explanation = Explanation {
     told: Told::Refused(Refusal::Unfinished),
-    words: Words::Whole("the input ended inside a command"),
+    words: Words::Whole("input ended inside a command"),
     example: "put a.idl 2\ntypedef long X;",
     mended: "put a.idl 2\ntypedef long X;\ntypedef long Y;",
     hint: "Fewer lines came than were announced.",

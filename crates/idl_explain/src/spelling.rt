@@ -169,12 +169,12 @@ pub static PAST_LIMIT: Explanation = Explanation {
 pub static NO_TREE: Explanation = Explanation {
     told: Told::Row(1, Code::NoTree, ";"),
     words: Words::Around(
-        "the declaration at `",
-        "` is spelled like none of IDL, or it ends too early",
+        "`",
+        "` can't stand here, or the declaration is cut off behind it",
     ),
     example: "typedef long X;;",
     mended: "typedef long X;",
-    hint: "Look for a missing or extra `;`, comma or brace, here, just before and further on; two closing `>` of sequences need a blank between them.",
+    hint: "Look for a missing or extra `;`, comma or brace, here or just before; two closing `>` of sequences need a blank between them.",
 };
 
 pub static LEFT_OUT: Explanation = Explanation {

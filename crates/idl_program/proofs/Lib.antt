@@ -1,4 +1,3 @@
-pub mod EditLemmas
 pub mod FaultLemmas
 pub mod LoadingLemmas
 pub mod OptionLemmas

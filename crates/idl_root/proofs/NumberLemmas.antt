@@ -1,5 +1,5 @@
 -- The events of a root by their numbers: which of them are tokens of its text, and where these stand.
-use Rattle.std.proofs.Common.{◌≡◌, ◌≢◌, ◌⊎◌, inl, inr, ℕ, zero, suc, ◌+◌, ◌-◌, ◌<◌, ◌≤◌, Bool, true, false, cond, ltb, ltb-false, ltb-true, lt-ltb, List, [], ◌∷◌, length, get_or, slice_get, Option, None, Some, refl, sym, ap, subst, ◌∙◌, arith}
+use Rattle.std.proofs.Common.{◌≡◌, ◌≢◌, ◌⊎◌, inl, inr, ℕ, zero, suc, ◌+◌, ◌-◌, ◌<◌, ◌≤◌, Bool, true, false, ltb, ltb-false, ltb-true, lt-ltb, List, [], ◌∷◌, length, get_or, slice_get, Option, None, Some, refl, sym, ap, subst, ◌∙◌, arith}
 use Rattle.std.proofs.lemmas.Bool.{cases_lt, cases_order}
 use Rattle.std.proofs.lemmas.Option.{same_Some}
 use Rattle.std.specs.List.{AllWithin, enumerate_from}
@@ -11,7 +11,6 @@ use Rattle.idl_event.specs.declared.event.Event.TheVariants as event
 use Rattle.idl_event.specs.declared.place.Place.{Place}
 use Rattle.idl_event.specs.declared.site.Site.{Site}
 use Rattle.idl_lex.specs.Tokens.{Token}
-use Rattle.idl_root.specs.Number.{number_of_event, stands_at, tokens_before}
 
 -- ---- where an event is among tokens and others
 
@@ -245,33 +244,6 @@ split-here events n =
     let there = split 0 events n in
     let number : 0 + n ≡ n = omega arith in
     (there.0, subst (λ m. Splits (sites_in (enumerate_from 0 events)) (others_in (enumerate_from 0 events)) there.0 n m (slice_get events n)) number there.1)
-
--- ---- the number of a token in its line
-
-module _ (events : List Event) where
-  -- another event has none
-  pub number-none : (n : ℕ) (found : Option Event) → ((place : Place) (token : Token) → found ≢ Some (event.Emitted place token)) → number_of_event events n found ≡ None
-  number-none n None differs = refl
-  number-none n (Some (event.Emitted place token)) differs = absurd (differs place token refl)
-  number-none n (Some (event.Entered file)) differs = refl
-  number-none n (Some (event.Left file)) differs = refl
-  number-none n (Some (event.Pragma place tokens)) differs = refl
-  number-none n (Some (event.Fault place code text)) differs = refl
-
-  -- a token more before it, and none
-  pub before-more : (place : Place) (n : ℕ) → 0 < n → stands_at place (slice_get events (n - 1)) ≡ true → tokens_before events place n ≡ suc (tokens_before events place (n - 1))
-  before-more place zero some holds = absurd (omega (arith, some))
-  before-more place (suc n) some holds =
-      let index : suc n - 1 ≡ n = omega arith in
-      let here : stands_at place (slice_get events n) ≡ true = ap (λ i. stands_at place (slice_get events i)) (sym index) ∙ holds in
-      ap (λ b. cond b (suc (tokens_before events place n)) 0) here ∙ ap (λ i. suc (tokens_before events place i)) (sym index)
-
-  pub before-none : (place : Place) (n : ℕ) → (0 < n → stands_at place (slice_get events (n - 1)) ≡ false) → tokens_before events place n ≡ 0
-  before-none place zero differs = refl
-  before-none place (suc n) differs =
-      let index : suc n - 1 ≡ n = omega arith in
-      let here : stands_at place (slice_get events n) ≡ false = ap (λ i. stands_at place (slice_get events i)) (sym index) ∙ differs (omega arith) in
-      ap (λ b. cond b (suc (tokens_before events place n)) 0) here
 
 -- what halving the others comes to says where an event is
 pub found-here : (events : List Event) (n p : ℕ) → p ≤ length (others_in (enumerate_from 0 events))

@@ -1,9 +1,9 @@
 -- Findings in the order of their events: a stable sort gives them, since two lists in order are one where each event has the
 -- same findings in both.
-use Rattle.std.proofs.Common.{◌≡◌, ℕ, zero, suc, ◌<◌, ◌≤◌, Bool, true, false, cond, not, ◌&&◌, List, [], ◌∷◌, length, get_or, drop, filter, ◌==◌, Less, Equal, Greater, nat_cmp, is_lt, nat_eq, nat_lt, nat_le, refl, sym, ap, ◌∙◌, arith, tests}
+use Rattle.std.proofs.Common.{◌≡◌, ℕ, zero, suc, ◌<◌, ◌≤◌, Bool, true, false, cond, not, ◌&&◌, List, [], ◌∷◌, None, length, get_or, drop, filter, ◌==◌, Less, Equal, Greater, nat_cmp, is_lt, nat_eq, nat_lt, nat_le, refl, sym, ap, ◌∙◌, arith, tests}
 use Rattle.std.specs.List.Sorted.{IsNonDecreasingBy, IsStableByKey}
 use Rattle.idl_event.specs.declared.code.Code.TheVariants.{OpenScope}
-use Rattle.idl_root.specs.Findings.{among, in_order}
+use Rattle.idl_root.specs.Findings.{among, found_at, in_order}
 use Rattle.idl_root.specs.declared.finding.EventFinding.{EventFinding}
 
 -- those of an event
@@ -166,7 +166,7 @@ in_order-sorted found sorted up stable =
     ordered-once sorted (in_order found) (ordered-all sorted up) (ordered-in_order found) (λ n. kept n sorted found (stable (of n)) ∙ sym (at-in_order n found))
   where
     of : ℕ → EventFinding
-    of n = record { event = n; code = OpenScope; row = [] }
+    of n = found_at n (record { file = []; line = 0 }) OpenScope None
 
     kept : (n : ℕ) (a b : List EventFinding) → filter (λ g. not (is_lt (nat_cmp n g.event)) && not (is_lt (nat_cmp g.event n))) a ≡ filter (λ g. not (is_lt (nat_cmp n g.event)) && not (is_lt (nat_cmp g.event n))) b → at n a ≡ at n b
     kept n a b h = (sym (λ i. filter (λ g. tied n g.event i) a)) ∙ h ∙ (λ i. filter (λ g. tied n g.event i) b)

@@ -1,5 +1,5 @@
 -- The names that a unit declares first, addition by addition.
-use Rattle.std.proofs.Common.{◌≡◌, ◌+◌, ◌<◌, ℕ, false, true, List, [], ◌∷◌, ◌++◌, Option, None, Some, drop, flat_map, get_or, length, map, refl, subst, ap, sym, ◌∙◌, append_assoc}
+use Rattle.std.proofs.Common.{◌≡◌, ◌+◌, ◌<◌, ℕ, true, List, [], ◌∷◌, ◌++◌, Option, None, Some, drop, flat_map, get_or, length, map, refl, subst, ap, sym, ◌∙◌, append_assoc}
 use Rattle.std.specs.Option.{is_some, unwrap_or}
 use Rattle.std.specs.Prelude.{option_to_list, slice_get}
 use Rattle.std.proofs.lemmas.Grind.{flat_map-append}
@@ -25,11 +25,6 @@ first_paths-cons (Declares e) additions = refl
 first_paths-cons (Uses n path body) additions = refl
 first_paths-cons (Appears path prefix) additions = refl
 first_paths-cons (Identifies path identity) additions = refl
-
--- bytes with no row behind them, and with one
-row-none : (row : Option (List ℕ)) (old new : List ℕ) → is_some row ≡ false → new ≡ old ++ unwrap_or row [] → (new ≡ old) × (option_to_list row ≡ [])
-row-none None old new none is = (is ∙ append-nil old, refl)
-row-none (Some row) old new none is = absurd (cc)
 
 row-some : (row : Option (List ℕ)) → is_some row ≡ true → option_to_list row ≡ unwrap_or row [] ∷ []
 row-some None some = absurd (cc)
@@ -64,15 +59,6 @@ pub sought-more : {X : Type 0} (f : Sought → List X) (there : List X) (names :
 sought-more f there names name =
     ap (λ l. there ++ l) (flat_map-append f names (name ∷ []) ∙ ap (λ l. flat_map f names ++ l) (append-nil (f name)))
     ∙ sym (append_assoc there (flat_map f names) (f name))
-
--- rows that stand among bytes, and that of an entry more, if it has one
-pub rows-same : (e : Entry) (pushed : Pushed) (old new : List ℕ) (spans : List Span) → IsPushed e pushed old new → pushed.has_row ≡ false → AreWithin old spans
-    → AreWithin new spans × (pieces new spans ≡ pieces old spans ++ option_to_list e.row)
-rows-same e pushed old new spans is none within =
-    let same = row-none e.row old new (sym is.has_row ∙ none) is.row in (
-      subst (λ bytes. AreWithin bytes spans) (sym same.0) within,
-      ap (λ bytes. pieces bytes spans) same.0 ∙ sym (append-nil (pieces old spans)) ∙ ap (λ rows. pieces old spans ++ rows) (sym same.1),
-    )
 
 pub rows-one : (e : Entry) (pushed : Pushed) (old new : List ℕ) (spans : List Span) (span : Span) → IsPushed e pushed old new → pushed.has_row ≡ true → AreWithin old spans
     → span.from ≡ length old → span.to ≡ length new

@@ -21,5 +21,5 @@ mod reprinting;
 pub use compiled::{Compiled, Recompiled, Row, compile, compile_after};
 pub use finding::Finding;
 pub use kept::KeptUnits;
-pub use laws::{ordering, telling};
+pub use laws::{facts, ordering, telling};
 pub use memory::Memory;

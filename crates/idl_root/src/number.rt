@@ -19,7 +19,8 @@ pub fn token_number(expansion: &Expansion, event: usize) -> Option<usize>
 // How many tokens at this place stand directly before an event.
 fn tokens_before(expansion: &Expansion, event: usize, place: (&FileName, u32)) -> usize
     ensures { result
-        ≡ tokens_before expansion.now (record { file = place.entry.0.now; line = place.entry.1 }) event }
+        ≡ tokens_before expansion.now
+        (record { file = place.entry.0.now; line = place.entry.1 }) event }
 {
     let mut first = event;
     'back: while first > 0 && stands_at(expansion, first - 1, place) {

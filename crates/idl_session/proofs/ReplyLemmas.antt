@@ -37,14 +37,6 @@ part-back w v xs ys part = (
 pub part-after : (w v u : Option (List ℕ)) (xs ys : List ℕ) → v ≡ append w xs → WritesPart v ys u → WritesPart w (xs ++ ys) u
 part-after w v u xs ys written part = part-back w u xs ys (subst (λ o. WritesPart o ys u) written part)
 
--- nothing has gone out
-pub sends-held : (w : Option (List ℕ)) (bytes : List ℕ) → Sends w bytes w bytes
-sends-held w bytes = record { gone = []; written = append-none w; whole = refl }
-
--- the first piece has gone out
-pub sends-front : (w v : Option (List ℕ)) (xs ys : List ℕ) → v ≡ append w xs → Sends w (xs ++ ys) v ys
-sends-front w v xs ys written = record { gone = xs; written = written; whole = refl }
-
 -- all has gone out
 pub sends-all : (w v u : Option (List ℕ)) (xs ys held : List ℕ) → v ≡ append w xs → u ≡ append v ys → held ≡ [] → Sends w (xs ++ ys) u held
 sends-all w v u xs ys held first second none = record {

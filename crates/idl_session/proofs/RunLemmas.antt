@@ -7,7 +7,7 @@ use Rattle.std.proofs.lemmas.Bool.Decides.{nat_tests}
 use Rattle.std.proofs.lemmas.List.{append-nil, take_at, drop_at, take_all, drop_all}
 use Rattle.idl_source.specs.Device.{prepend, append, WritesPart}
 use Rattle.idl_source.proofs.DeviceLemmas.{append-append}
-use Rattle.idl_session.specs.Answers.{Answers, Replies, IsReply}
+use Rattle.idl_session.specs.Answers.{Answers, Replies}
 use Rattle.idl_session.specs.Commands.{Command, Make, Unfinished, command_of, commands_after, commands_of, complete_commands, has_its_lines}
 use Rattle.idl_session.specs.Lines.{lines_of, whole_lines}
 use Rattle.idl_session.specs.Requests.{Request, lines_taken, request_kept, request_of}
@@ -205,23 +205,6 @@ some_front commands taken (Some rest) e = (rest, cc)
 -- where a run begins
 abbrev pub start : Option (List ℕ) → Option (List ℕ) → State → Standing
 start left written state = record { left = left; fed = record { bytes = []; ended = false }; written = written; state = state }
-
-all_taken : (commands taken : List Command) (bytes : Option (List ℕ)) → Some commands ≡ prepend taken (option_map commands_of bytes) → IsOver bytes → taken ≡ commands
-all_taken commands taken None e over = absurd (cc)
-all_taken commands taken (Some bytes) e over =
-    let some : Some commands ≡ Some (taken ++ commands_of bytes) = e in
-    let none : commands_of bytes ≡ [] = ap commands_of over in
-    sym (append-nil taken) ∙ ap (λ (cs : List Command). taken ++ cs) (sym none) ∙ sym (cc)
-
--- all commands were served
-pub replied-all : (left before : Option (List ℕ)) (s : State) (mid : Standing) → Served (start left before s) mid → IsOver (to_come mid).bytes
-    → IfSome left (λ input. (output : List ℕ) × (mid.written ≡ append before output) × IsReply s input output mid.state)
-replied-all None before s mid done over = tt
-replied-all (Some input) before s mid done over = (
-  done.output,
-  done.written,
-  subst (λ (cs : List Command). Replies s cs done.output mid.state) (all_taken (commands_of input) done.commands (to_come mid).bytes done.taken over) done.replies,
-)
 
 -- a read failed after these commands, and what was read of the next one is none
 left_read : (left before : Option (List ℕ)) (s : State) (mid : Standing) (new : Moment) (bytes : List ℕ) → Served (start left before s) mid

@@ -235,13 +235,6 @@ lines-more old mid new xs ys s t = record {
       whole-more old mid new xs ys (s.whole (ap (λ (s : Stream). s.ended) last.taken ∙ going)) last;
 }
 
--- the end came
-pub lines-end : (old mid new : Stream) (xs : List (List ℕ)) → TakesLines old mid xs → new ≡ record mid { ended = true } → TakesLines old new xs
-lines-end old mid new xs s same = record {
-  taken = s.taken ∙ ap (λ (s : Stream). prepend xs (option_map lines_of s.bytes)) (sym same);
-  whole = λ going. absurd (clash new.ended (ap (λ (s : Stream). s.ended) same) going);
-}
-
 -- a read failed after these lines
 pub fails-later : (old mid : Stream) (rest : Option (List ℕ)) (xs : List (List ℕ)) (k n : ℕ) → TakesLines old mid xs → FailsWithin k mid rest → length xs + k ≤ n → FailsWithin n old rest
 fails-later old mid rest xs k n s f within =

@@ -1,23 +1,22 @@
 -- Rules of roots, one after another.
-use Rattle.std.proofs.Common.{◌≡◌, ◌∙◌, ◌+◌, ◌-◌, ◌<◌, ◌++◌, ◌∷◌, [], ℕ, ◌||◌, All, Bool, IsTrue, List, MatchOption, None, Option, Some, ap, codes, drop, filter, flat_map, get_or, length, map, refl, subst, sym, take, unwrap_or, if◌then◌else◌, true, false}
+use Rattle.std.proofs.Common.{◌≡◌, ◌∙◌, ◌+◌, ◌-◌, ◌<◌, ◌++◌, ◌∷◌, [], ℕ, ◌||◌, All, Bool, IsTrue, List, MatchOption, None, Option, Some, ap, ap₂, codes, drop, filter, flat_map, get_or, length, map, refl, sym, take, unwrap_or, if◌then◌else◌, true, false}
 use Rattle.std.specs.Str.{bytes_eq}
-use Rattle.std.proofs.lemmas.List.{take_more}
+use Rattle.std.proofs.lemmas.List.{append-nil, take_more}
 use Rattle.std.proofs.lemmas.List.Concat.{flat_map-append}
-use Rattle.std.proofs.lemmas.List.Elements.{All-append, All-cons, All-filter, All-head, All-nil, All-tail}
+use Rattle.std.proofs.lemmas.List.Elements.{All-cons, All-filter, All-head, All-nil, All-tail}
 use Rattle.std.proofs.lemmas.List.Folds.{flat_map-map}
 use Rattle.clap.proofs.WalkLemmas.{list_any-map}
 use Rattle.idl_make.specs.Make.{IfThere, IsMakeRule, Need, Rule, There, is_make_name, name_in, rule_text, rules_text}
 use Rattle.idl_session.specs.Replies.{whole_line}
-use Rattle.idl_source.specs.Device.{append}
 use Rattle.idl_source.specs.Texts.{Texts}
+use Rattle.idl_workspace.specs.Asked.{asked_over}
+use Rattle.idl_workspace.specs.Bank.{bank_of}
 use Rattle.idl_workspace.specs.Compile.{compiled_root}
 use Rattle.idl_workspace.specs.Project.{Inputs}
 use Rattle.idl_workspace.specs.declared.compile.CompiledRoot.{CompiledRoot}
 use Rattle.idl_program.specs.Compiled.{errors_in, is_faulty, lines_of}
 use Rattle.idl_program.specs.Rows.{are_faulty, lines_with}
-use Rattle.idl_program.specs.declared.failure.Status.{Status}
-use Rattle.idl_program.specs.declared.failure.Status.TheVariants.{Faulty, Sound}
-use Rattle.idl_tool.specs.Deps.{empty_rule, is_other, is_there, need_of, rules_for, stem, target_of}
+use Rattle.idl_tool.specs.Deps.{empty_rule, is_other, is_there, need_of, needs_in, needs_of, rules_for, rules_in, stem, target_of}
 use Rattle.idl_tool.specs.declared.request.Deps.{Deps}
 
 pub rules_text-append : (xs ys : List Rule) → rules_text (xs ++ ys) ≡ rules_text xs ++ rules_text ys
@@ -28,11 +27,7 @@ pub flat_map-next : {X Y : Type 0} (f : X → List Y) (xs : List X) (i : ℕ) (x
     → flat_map f (take (i + 1) xs) ≡ flat_map f (take i xs) ++ f x
 flat_map-next f xs i x within is =
     ap (flat_map f) (take_more xs i x within) ∙ flat_map-append f (take i xs) (get_or xs i x ∷ [])
-    ∙ ap (λ y. flat_map f (take i xs) ++ flat_map f (y ∷ [])) (sym is) ∙ ap (λ l. flat_map f (take i xs) ++ l) (append-none (f x))
-  where
-    append-none : {Y : Type 0} (l : List Y) → l ++ [] ≡ l
-    append-none [] = refl
-    append-none (y ∷ l) = ap (λ m. y ∷ m) (append-none l)
+    ∙ ap (λ y. flat_map f (take i xs) ++ flat_map f (y ∷ [])) (sym is) ∙ ap (λ l. flat_map f (take i xs) ++ l) (append-nil (f x))
 
 -- what is told of compiled roots is what is told of the roots
 pub told-of : (inputs : Inputs) (roots : List (List ℕ)) (compiled : List CompiledRoot) → compiled ≡ map (compiled_root inputs) roots
@@ -77,3 +72,21 @@ rules-readable deps files root names target are =
     All-cons IsMakeRule (record { target = target_of deps root; needs = map (need_of deps.has_generated files) names }) (map empty_rule (filter (is_other files root) names))
     (record { target = target; needs = needs-readable deps.has_generated files names are })
     (empties-readable (filter (is_other files root) names) (All-filter (is_other files root) Readable names are))
+
+-- ---- what rules stand on
+
+needs_of-empties : (names : List (List ℕ)) → needs_of (map empty_rule names) ≡ []
+needs_of-empties [] = refl
+needs_of-empties (name ∷ names) = needs_of-empties names
+
+needs_of-rules : (deps : Deps) (inputs : Inputs) (root : List ℕ) → needs_of (rules_in deps inputs root) ≡ needs_in deps inputs root
+needs_of-rules deps inputs root =
+    let others = filter (is_other inputs.files root) (asked_over (bank_of inputs) root) in
+    ap (λ (needs : List Need). needs_in deps inputs root ++ needs) (needs_of-empties others) ∙ append-nil (needs_in deps inputs root)
+
+-- it is what the roots ask for
+pub needs_of-roots : (deps : Deps) (inputs : Inputs) (roots : List (List ℕ)) → needs_of (flat_map (rules_in deps inputs) roots) ≡ flat_map (needs_in deps inputs) roots
+needs_of-roots deps inputs [] = refl
+needs_of-roots deps inputs (root ∷ roots) =
+    flat_map-append (λ (rule : Rule). rule.needs) (rules_in deps inputs root) (flat_map (rules_in deps inputs) roots)
+    ∙ ap₂ (λ (xs ys : List Need). xs ++ ys) (needs_of-rules deps inputs root) (needs_of-roots deps inputs roots)

@@ -1,5 +1,5 @@
 -- What the program's words are to clap.
-use Rattle.std.proofs.Common.{◌≡◌, ◌∙◌, ◌||◌, ◌⊎◌, Bool, true, false, List, [], Result, ap, inl, inr, refl, subst, sym}
+use Rattle.std.proofs.Common.{◌≡◌, ◌∙◌, ◌||◌, ◌⊎◌, Bool, true, false, List, Result, ap, inl, inr, refl, subst}
 use Rattle.clap.specs.Words.{App, FailsBy, HasMatchesOf, IsAmong, Text, fault_of, is_simple, is_simple_and_free, subcommand_of, subcommand_rows_of}
 use Rattle.clap.specs.Simple.{Shape}
 use Rattle.clap.specs.declared.builder.arg.Arg.{Arg}
@@ -9,7 +9,7 @@ use Rattle.clap.specs.declared.error.Error.{Error}
 use Rattle.clap.specs.declared.error.kind.ErrorKind.{ErrorKind}
 use Rattle.clap.specs.declared.error.kind.ErrorKind.TheVariants.{OutOfMemory}
 use Rattle.clap.specs.declared.parser.matches.ArgMatches.{ArgMatches}
-use Rattle.idl_tool.specs.Words.{AreWrong, IsDisplay, IsFaultBy, IsRefusal, Tells, entered_in, faults_in, idltool}
+use Rattle.idl_tool.specs.Words.{AreWrong, IsDisplay, IsFaultBy, Tells, entered_in, faults_in, idltool}
 use Rattle.idl_tool.specs.declared.request.WordsFault.{WordsFault}
 use Rattle.idl_tool.specs.declared.request.WordsFault.TheVariants.{Wrong, NoMemory}
 

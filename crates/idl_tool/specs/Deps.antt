@@ -7,7 +7,9 @@ use Rattle.idl_source.specs.Device.{append}
 use Rattle.idl_source.specs.Texts.{Texts}
 use Rattle.idl_workspace.specs.Asked.{asked_over}
 use Rattle.idl_workspace.specs.Bank.{bank_of}
+use Rattle.idl_workspace.specs.Made.{rootless}
 use Rattle.idl_workspace.specs.Project.{Inputs}
+use Rattle.idl_workspace.specs.WellFormed.{IsWellFormed}
 use Rattle.idl_program.specs.Compiled.{Written, errors_in, is_faulty, lines_of}
 use Rattle.idl_program.specs.Holding.{Holding}
 use Rattle.idl_program.specs.Loading.{AreLoaded, AreComplete}
@@ -25,7 +27,8 @@ stem name =
 
 -- the target of a root's rule: the one that is given, or the root's listing
 abbrev pub target_of : Deps → List ℕ → List ℕ
-target_of deps root = elim deps.target [ None ↦ stem root ++ codes ".listing" | Some word ↦ word.now ]
+target_of deps root =
+    elim deps.target [ None ↦ stem root ++ codes ".listing" | Some word ↦ word.now ]
 
 abbrev pub is_there : Texts → List ℕ → Bool
 is_there files name = is_some (finite.get files name)
@@ -53,20 +56,32 @@ rules_for deps files root asked =
 abbrev pub rules_in : Deps → Inputs → List ℕ → List Rule
 rules_in deps inputs root = rules_for deps inputs.files root (asked_over (bank_of inputs) root)
 
+-- what rules stand on, one after the other
+abbrev pub needs_of : List Rule → List Need
+needs_of rules = flat_map (λ rule. rule.needs) rules
+
+-- what compiling a root asks for, in order: files that have to be there, and files that count if
+-- they are
+abbrev pub needs_in : Deps → Inputs → List ℕ → List Need
+needs_in deps inputs root =
+    map (need_of deps.has_generated inputs.files) (asked_over (bank_of inputs) root)
+
 -- what went out of the roots over these inputs, and how the program ends
 pub record AreRuled (deps : Deps) (inputs : Inputs) (roots : List (List ℕ))
     (before after : Written) (status : Status) : Type 0 where
   pub errors : after.errors ≡ append before.errors (lines_of (errors_in inputs) roots)
-  pub output : after.output ≡ append before.output (rules_text (flat_map (rules_in deps inputs) roots))
+  pub output : after.output
+      ≡ append before.output (rules_text (flat_map (rules_in deps inputs) roots))
   pub readable : All IsMakeRule (flat_map (rules_in deps inputs) roots)
   pub ending : status ≡ (if is_faulty inputs roots then Faulty else Sound)
 
--- the options are served, over the files that the loader tells of
+-- the options are served, over the files that the loader tells of and within the limits
 pub record IsServed (told : List ℕ → Holding) (deps : Deps) (before after : Written)
     (status : Status) : Type 0 where
   pub inputs : Inputs
   pub roots : List (List ℕ)
   pub asked : AreAsked deps.options inputs roots
+  pub formed : IsWellFormed (rootless inputs)
   pub loaded : AreLoaded told inputs.files
   pub complete : AreComplete told inputs roots
   pub ruled : AreRuled deps inputs roots before after status

@@ -6,7 +6,9 @@
 mod deps;
 mod explain;
 mod failure;
+mod laws;
 mod program;
 mod request;
 
+pub use laws::rules_tell_what_is_asked;
 pub use program::{Devices, run_tool};

@@ -139,6 +139,7 @@ fn explain_command<'a>(alloc: Global) -> Result<Command<'a>, AllocError>
 {
     Command::new(alloc, "explain")
         .about("Explains the code of a row, or a refusal, with an example")
+        .override_usage("idltool explain [CODE|NUMBER]")
         .arg(word(alloc))
 }
 
@@ -146,9 +147,9 @@ fn deps_command<'a>(alloc: Global) -> Result<Command<'a>, AllocError>
     ensures shape { IfOk result (λ command. shape_of command ≡ deps_shape) }
     ensures local { IfOk result (λ command. (fields_of command).has_globals ≡ false) }
 {
-    let command = Command::new(alloc, "deps").about(
-        "Writes a rule of make for each FILE: what the FILE stands on",
-    );
+    let command = Command::new(alloc, "deps")
+        .about("Writes a rule of make for each FILE: what the FILE stands on")
+        .override_usage("idltool deps [OPTIONS] FILE..");
     with_options(alloc, command)?
         .arg(target(alloc))?
         .arg(generated(alloc))?
@@ -183,7 +184,7 @@ fn generated<'a>(alloc: Global) -> Arg<'a>
     Arg::new(alloc, "generated")
         .long("generated")
         .action(ArgAction::Count)
-        .help("Has each file that isn't there be made by another rule")
+        .help("Takes each file that isn't there for one that another rule makes")
 }
 
 fn file<'a>(alloc: Global) -> Arg<'a>

@@ -3,10 +3,11 @@
 ghost use Rattle.idl_program.specs.Holding.{Untold};
 
 use super::support::{Files, told};
-use idl_explain::{Told, Topic, all_codes, all_refusals, explanation_of};
+use idl_explain::{Explanation, Told, Topic, all_codes, all_refusals, explanation_of};
 use idl_program::{Loaded, Loader};
 use idl_source::{Name, Refusal};
-use std::alloc::{AllocError, Global};
+use std::alloc::{AllocError, AllocGlobal, Global};
+use std::process::Abort;
 use std::test::Fail;
 
 // An example is `a.idl`, and beside it there is `b.idl`.
@@ -56,15 +57,23 @@ fn row(alloc: Global, told: Told) -> Result<String, AllocError> {
 #[test]
 fn each_example_has_its_row(rt: HostRuntime) -> Result<(), Fail> {
     for topic in all_codes() {
-        let explanation = explanation_of(*topic);
-        let row = row(rt.alloc(), explanation.told)?;
-        let status = if row.contains(": W") { 0 } else { 1 };
-        let want = format!(in rt.alloc(); "{status} err {row} /")?;
-        let got = compiled(rt.alloc(), explanation.example)?;
-        assert_eq!(rt; got.as_str(), want.as_str());
-        let got = compiled(rt.alloc(), explanation.mended)?;
-        assert_eq!(rt; got.as_str(), "0", "{row} mended");
+        has_its_row(&rt, explanation_of(*topic))?;
     }
+    Ok(())
+}
+
+fn has_its_row(rt: &(impl Abort + AllocGlobal), explanation: &Explanation) -> Result<(), Fail> {
+    let row = row(rt.alloc(), explanation.told)?;
+    let status = if row.contains(": W") { 0 } else { 1 };
+    let want = format!(in rt.alloc(); "{status} err {row} /")?;
+    is_told(rt, explanation.example, want.as_str())?;
+    is_told(rt, explanation.mended, "0")
+}
+
+// What the program gives of a file with this text.
+fn is_told(rt: &(impl Abort + AllocGlobal), text: &str, want: &str) -> Result<(), Fail> {
+    let got = compiled(rt.alloc(), text)?;
+    assert_eq!(rt; got.as_str(), want, "{text}");
     Ok(())
 }
 
@@ -72,20 +81,23 @@ fn each_example_has_its_row(rt: HostRuntime) -> Result<(), Fail> {
 fn each_example_is_refused(rt: HostRuntime) -> Result<(), Fail> {
     for topic in all_refusals() {
         // These two take more than a few lines.
-        if matches!(
+        if !matches!(
             topic,
             Topic::Refusal(Refusal::OverLimit) | Topic::Refusal(Refusal::NoMemory)
         ) {
-            continue;
+            is_refused(&rt, explanation_of(*topic))?;
         }
-        let explanation = explanation_of(*topic);
-        let row = row(rt.alloc(), explanation.told)?;
-        let want = format!(in rt.alloc(); "{row} /")?;
-        let got = replies(rt.alloc(), explanation.example)?;
-        assert!(rt; got.ends_with(want.as_str()), "{row}: {got}");
-        let got = replies(rt.alloc(), explanation.mended)?;
-        assert!(rt; !got.contains("refused"), "{row} mended: {got}");
     }
+    Ok(())
+}
+
+fn is_refused(rt: &(impl Abort + AllocGlobal), explanation: &Explanation) -> Result<(), Fail> {
+    let row = row(rt.alloc(), explanation.told)?;
+    let want = format!(in rt.alloc(); "{row} /")?;
+    let got = replies(rt.alloc(), explanation.example)?;
+    assert!(rt; got.ends_with(want.as_str()), "{row}: {got}");
+    let got = replies(rt.alloc(), explanation.mended)?;
+    assert!(rt; !got.contains("refused"), "{row} mended: {got}");
     Ok(())
 }
 
@@ -100,5 +112,26 @@ fn so_many_directories_are_over_a_limit(rt: HostRuntime) -> Result<(), Fail> {
     command.push_str(" d256")?;
     let got = replies(rt.alloc(), &command)?;
     assert_eq!(rt; got.as_str(), "0 out refused 5 /");
+    Ok(())
+}
+
+// The text of a refusal itself and the one that explains it are alike.
+#[test]
+fn a_refusal_says_what_explains_it(rt: HostRuntime) -> Result<(), Fail> {
+    for topic in all_refusals() {
+        if let Topic::Refusal(refusal) = *topic {
+            says_what_explains_it(&rt, refusal)?;
+        }
+    }
+    Ok(())
+}
+
+fn says_what_explains_it(rt: &(impl Abort + AllocGlobal), refusal: Refusal) -> Result<(), Fail> {
+    let mut words = Vec::new(rt.alloc());
+    explanation_of(Topic::Refusal(refusal))
+        .words
+        .push(b"", &mut words)?;
+    let said = format!(in rt.alloc(); "{refusal}")?;
+    assert_eq!(rt; said.as_bytes(), words.as_slice());
     Ok(())
 }

@@ -4,6 +4,8 @@ use super::support::{Files, are_tool_given, tool_given};
 use idl_program::Status;
 use idl_session::BufferSink;
 use idl_tool::{Devices, run_tool};
+use std::alloc::AllocGlobal;
+use std::process::Abort;
 use std::test::Fail;
 
 const E35: &str =
@@ -56,7 +58,7 @@ fn all_are_told_without_a_word(rt: HostRuntime) -> Result<(), Fail> {
     assert!(rt;
         got.starts_with("0 out E01: `TOKEN` begins no token of IDL /E02: the literal TOKEN ")
     );
-    assert!(rt; got.ends_with(" /refused 10: the input ended inside a command /"));
+    assert!(rt; got.ends_with(" /refused 10: input ended inside a command /"));
     Ok(())
 }
 
@@ -71,34 +73,41 @@ fn wrong_words_are_told(rt: HostRuntime) -> Result<(), Fail> {
         "E35",
         "deps --session a.idl",
     ] {
-        let got = tool_given(rt.alloc(), words, "a.idl: typedef long T;")?;
-        assert!(rt; got.starts_with("2 err "), "{words}: {got}");
-        assert!(rt; got.contains("Usage: "), "{words}: {got}");
+        tells_its_usage(&rt, words, "2 err ")?;
     }
     for words in ["--help", "-h", "explain --help", "deps --help"] {
-        let got = tool_given(rt.alloc(), words, "")?;
-        assert!(rt; got.starts_with("0 out "), "{words}: {got}");
-        assert!(rt; got.contains("Usage: "), "{words}: {got}");
+        tells_its_usage(&rt, words, "0 out ")?;
     }
-    let got = tool_given(rt.alloc(), "--version", "")?;
-    assert_eq!(rt; got.as_str(), "0 out idltool 0.1.0 /");
+    are_tool_given(&rt, &[("--version", "", "0 out idltool 0.1.0 /")])
+}
+
+// What is given begins so, and tells how the program is used.
+fn tells_its_usage(rt: &(impl Abort + AllocGlobal), words: &str, begin: &str) -> Result<(), Fail> {
+    let got = tool_given(rt.alloc(), words, "a.idl: typedef long T;")?;
+    assert!(rt; got.starts_with(begin), "{words}: {got}");
+    assert!(rt; got.contains("Usage: idltool"), "{words}: {got}");
     Ok(())
 }
 
 #[test]
 fn a_closed_output_is_told(rt: HostRuntime) -> Result<(), Fail> {
+    tells_a_closed_output(&rt, &["explain", "E35"])?;
+    tells_a_closed_output(&rt, &["deps", "a.idl"])?;
+    tells_a_closed_output(&rt, &["deps", "-h"])
+}
+
+// Where the output takes no more, the program fails, and says so.
+fn tells_a_closed_output(rt: &(impl Abort + AllocGlobal), words: &[&str]) -> Result<(), Fail> {
     let mut devices = Devices {
         loader: Files::new(rt.alloc(), "a.idl: typedef long T;"),
-        output: BufferSink::new(rt.alloc(), 40)?,
+        output: BufferSink::new(rt.alloc(), 4)?,
         errors: BufferSink::new(rt.alloc(), 100)?,
     };
-    for words in [["explain", "E35"], ["deps", "a.idl"], ["deps", "-h"]] {
-        let status = run_tool(rt.alloc(), &words, &mut devices);
-        assert!(rt; matches!(status, Status::Failed));
-    }
+    let status = run_tool(rt.alloc(), words, &mut devices);
+    assert!(rt; matches!(status, Status::Failed));
     assert_eq!(rt;
         devices.errors.as_bytes(),
-        b"idltool: write failed\nidltool: write failed\nidltool: write failed\n".as_slice()
+        b"idltool: write failed\n".as_slice()
     );
     Ok(())
 }

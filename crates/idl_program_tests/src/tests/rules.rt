@@ -1,9 +1,11 @@
 //! What `idltool deps` answers: rules of make, by the files that roots ask for.
 
-use super::support::{are_tool_given, tool_given};
+use super::support::are_tool_given;
+use std::alloc::{AllocError, AllocGlobal, Global};
+use std::process::Abort;
 use std::test::Fail;
 
-static ROWS: [(&str, &str, &str); 12] = [
+static ROWS: [(&str, &str, &str); 13] = [
     // A file that isn't found in the first directory counts once it is there.
     (
         "deps -Iinc -Itypes shop.idl",
@@ -56,6 +58,7 @@ static ROWS: [(&str, &str, &str); 12] = [
         "a$#%.idl: #include \"h%\" ¶ h%",
         "0 out a$$\\#\\%.listing: a$$\\#%.idl h% /h\\%: /",
     ),
+    ("deps .A.idl", ".A.idl", "0 out .A.listing: .A.idl /"),
     // Trouble with a file or a word ends the program, and no rule goes out.
     (
         "deps b.idl a.idl",
@@ -65,12 +68,12 @@ static ROWS: [(&str, &str, &str); 12] = [
     (
         "deps -U1x a.idl",
         "a.idl",
-        "2 err idltool: 1x: refused 6: this can be no macro /",
+        "2 err idltool: 1x: refused 6: macro not allowed /",
     ),
     (
         "deps a//../..//. a.idl",
         "a.idl",
-        "2 err idltool: a//../..//.: refused 2: name of a file or directory not allowed /",
+        "2 err idltool: a//../..//.: refused 2: name not allowed /",
     ),
 ];
 
@@ -79,80 +82,108 @@ fn rules_are_told(rt: HostRuntime) -> Result<(), Fail> {
     are_tool_given(&rt, &ROWS)
 }
 
+// Names of which make would read something else; those of the second list no include can have.
+static OTHERS: [&str; 16] = [
+    "a:b",
+    "a=b",
+    "a;b",
+    "a(b",
+    "a)b",
+    "a*b",
+    "a?b",
+    "a|b",
+    "a\\b",
+    "a&b",
+    "a'b",
+    "a[b",
+    "~a",
+    "~/a",
+    ".PHONY",
+    ".ONE_SHELL",
+];
+
+static QUOTES: [&str; 2] = ["a<b", "a\"b"];
+
+static TAKEN: [&str; 11] = [
+    "a_b", "a.b", "a/b", "a+b", "a-b", "a,b", "a@b", "a!b", "a~b", ".a", "-a",
+];
+
+// What is given for words and files, in which `@` stands for a name.
+const TROUBLE: &str = "2 err idltool: @: no name for make /";
+
 #[test]
 fn names_that_make_can_not_take_are_trouble(rt: HostRuntime) -> Result<(), Fail> {
-    for name in [
-        "a:b",
-        "a=b",
-        "a;b",
-        "a(b",
-        "a)b",
-        "a*b",
-        "a?b",
-        "a|b",
-        "a\\b",
-        "a&b",
-        "a\"b",
-        "a'b",
-        "a<b",
-        "a[b",
-        "~a",
-        "~/a",
-        ".PHONY",
-        ".ONE_SHELL",
-    ] {
-        let want = format!(in rt.alloc(); "2 err idltool: {name}: no name for make /")?;
-        let words = format!(in rt.alloc(); "deps {name}")?;
-        let got = tool_given(rt.alloc(), &words, name)?;
-        assert_eq!(rt; got.as_str(), want.as_str());
-        let words = format!(in rt.alloc(); "deps -t {name} h")?;
-        let got = tool_given(rt.alloc(), &words, "h")?;
-        assert_eq!(rt; got.as_str(), want.as_str());
-        let files = format!(in rt.alloc(); "r: #include <{name}> ¶ {name}")?;
-        if name != "a<b" && name != "a\"b" {
-            let got = tool_given(rt.alloc(), "deps -I. r", &files)?;
-            assert_eq!(rt; got.as_str(), want.as_str());
-        }
+    for row in [("deps @", "@", TROUBLE), ("deps -t @ h", "h", TROUBLE)] {
+        are_given_so(&rt, &OTHERS, row)?;
+        are_given_so(&rt, &QUOTES, row)?;
     }
-    for name in [
-        "a_b", "a.b", "a/b", "a+b", "a-b", "a,b", "a@b", "a!b", "a~b", ".a", ".A.idl", "-a",
-    ] {
-        let want = format!(in rt.alloc(); "0 out {name}.listing: {name} /")?;
-        let words = format!(in rt.alloc(); "deps -- {name}")?;
-        let got = tool_given(rt.alloc(), &words, name)?;
-        if name != ".A.idl" {
-            assert_eq!(rt; got.as_str(), want.as_str());
-        }
+    are_given_so(&rt, &OTHERS, ("deps -I. r", "r: #include <@> ¶ @", TROUBLE))?;
+    are_given_so(&rt, &TAKEN, ("deps -- @", "@", "0 out @.listing: @ /"))
+}
+
+// The row for each of the names.
+fn are_given_so(
+    rt: &(impl Abort + AllocGlobal),
+    names: &[&str],
+    row: (&str, &str, &str),
+) -> Result<(), Fail> {
+    for name in names {
+        is_given_so(rt, name, row)?;
     }
     Ok(())
 }
 
+fn is_given_so(
+    rt: &(impl Abort + AllocGlobal),
+    name: &str,
+    row: (&str, &str, &str),
+) -> Result<(), Fail> {
+    let words = filled(rt.alloc(), row.0, name)?;
+    let files = filled(rt.alloc(), row.1, name)?;
+    let want = filled(rt.alloc(), row.2, name)?;
+    are_tool_given(rt, &[(words.as_str(), files.as_str(), want.as_str())])
+}
+
+// The text with a name for each `@`.
+fn filled(alloc: Global, text: &str, name: &str) -> Result<String, AllocError> {
+    let mut full = String::new(alloc);
+    for (i, part) in text.split('@').enumerate() {
+        if i > 0 {
+            full.push_str(name)?;
+        }
+        full.push_str(part)?;
+    }
+    Ok(full)
+}
+
 #[test]
 fn three_hundred_files_are_told(rt: HostRuntime) -> Result<(), Fail> {
-    let mut files = format!(in rt.alloc(); "r.idl:")?;
-    let mut want = format!(in rt.alloc(); "0 out r.listing: r.idl")?;
+    let includes = many(rt.alloc(), " | #include \"h@\"")?;
+    let headers = many(rt.alloc(), " ¶ h@")?;
+    let names = many(rt.alloc(), " h@")?;
+    let rules = many(rt.alloc(), "h@: /")?;
+    let files = format!(in rt.alloc(); "r.idl: {includes}{headers}")?;
+    let want = format!(in rt.alloc(); "0 out r.listing: r.idl{names} /{rules}")?;
+    let words = format!(in rt.alloc(); "deps{names}")?;
+    are_tool_given(
+        &rt,
+        &[
+            ("deps r.idl", files.as_str(), want.as_str()),
+            (
+                words.as_str(),
+                files.as_str(),
+                "2 err idltool: h256: refused 5: over a limit /",
+            ),
+        ],
+    )
+}
+
+// The text three hundred times, with a number for each `@`.
+fn many(alloc: Global, text: &str) -> Result<String, AllocError> {
+    let mut all = String::new(alloc);
     for i in 0..300 {
-        if i > 0 {
-            files.push_str(" |")?;
-        }
-        files.push_str(&format!(in rt.alloc(); " #include \"h{i}\"")?)?;
-        want.push_str(&format!(in rt.alloc(); " h{i}")?)?;
+        let number = format!(in alloc; "{i}")?;
+        all.push_str(&filled(alloc, text, &number)?)?;
     }
-    want.push_str(" /")?;
-    for i in 0..300 {
-        files.push_str(&format!(in rt.alloc(); " ¶ h{i}")?)?;
-        want.push_str(&format!(in rt.alloc(); "h{i}: /")?)?;
-    }
-    let got = tool_given(rt.alloc(), "deps r.idl", &files)?;
-    assert_eq!(rt; got.as_str(), want.as_str());
-    let mut words = format!(in rt.alloc(); "deps")?;
-    for i in 0..300 {
-        words.push_str(&format!(in rt.alloc(); " h{i}")?)?;
-    }
-    let got = tool_given(rt.alloc(), &words, &files)?;
-    assert_eq!(rt;
-        got.as_str(),
-        "2 err idltool: h256: refused 5: over a limit /"
-    );
-    Ok(())
+    Ok(all)
 }

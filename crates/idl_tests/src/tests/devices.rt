@@ -182,19 +182,13 @@ static SCRIPTS: [&str; 3] = [
      dump a.idl\n=>refused 7\n|\n=>refused 1\n|put a//b 1\nroot c.idl\n=>refused 2\n|define R\n=>ok\n|=>",
 ];
 
+// Over one byte a call, and over all bytes at once.
 #[test]
-fn runs_over_one_byte_a_call_stop_where_a_call_fails(rt: HostRuntime) -> Result<(), Fail> {
-    all_have_stops(rt.alloc(), 1)
-}
-
-#[test]
-fn runs_over_all_bytes_at_once_stop_where_a_call_fails(rt: HostRuntime) -> Result<(), Fail> {
-    all_have_stops(rt.alloc(), 4096)
-}
-
-fn all_have_stops(alloc: Global, most: usize) -> Result<(), Fail> {
-    for text in &SCRIPTS {
-        have_stops(alloc, text, most)?;
+fn runs_stop_where_a_call_fails(rt: HostRuntime) -> Result<(), Fail> {
+    for most in [1, 4096] {
+        for text in &SCRIPTS {
+            have_stops(rt.alloc(), text, most)?;
+        }
     }
     Ok(())
 }

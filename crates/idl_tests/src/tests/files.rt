@@ -3,9 +3,8 @@
 use super::support::have_replies;
 use std::test::Fail;
 
-static FILES: [&str; 12] = [
-    // Replacements that stand in one another, and a file that includes itself.
-    "put p.idl 3\n#define A A B\n#define B A\nA\n=ok\nroot p.idl\n=ok\ndiagnostics p.idl\n=rows 1\n=p.idl:3: E20 A",
+static FILES: [&str; 11] = [
+    // A file that includes itself.
     "put l.idl 1\n#include \"l.idl\"\n=ok\nroot l.idl\n=ok\ndiagnostics l.idl\n=rows 1\n=l.idl:1: E19 ¶ put a/r 1\n\
      #include \"../b\"\n=ok\nroot a/r\n=ok\ndiagnostics a/r\n=rows 1\n=a/r:1: E10 \"../b\"\nabsent a/r\n=rows 1\n=b",
     // Directories: the first that has the file.

@@ -62,11 +62,6 @@ static KINDS: [&str; 15] = [
     "18446744073709551615 · 01777777777777777777777 => Integer 18446744073709551615",
 ];
 
-#[test]
-fn spellings_have_these_kinds(rt: HostRuntime) -> Result<(), Fail> {
-    are_told::<Shown>(&rt, &KINDS)
-}
-
 // Of a literal its value.
 struct Decoded;
 
@@ -87,6 +82,7 @@ static VALUES: [&str; 4] = [
 ];
 
 #[test]
-fn literals_have_these_values(rt: HostRuntime) -> Result<(), Fail> {
+fn spellings_have_these_kinds_and_values(rt: HostRuntime) -> Result<(), Fail> {
+    are_told::<Shown>(&rt, &KINDS)?;
     are_told::<Decoded>(&rt, &VALUES)
 }

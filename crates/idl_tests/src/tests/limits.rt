@@ -6,12 +6,9 @@ use super::support::{answers, have_replies, have_rows};
 use idl_session::Session;
 use std::test::Fail;
 
-static LINES: [&str; 2] = [
+static COMMANDS: [&str; 9] = [
     "put a.idl 200000`200000×\n`\n=ok ¶ put a.idl 200001`200001×\n`\n=refused 5",
     "put a//b 200001`200001×\n`\n=refused 2 ¶ splice a.idl 1 0 200001`200001×\n`\n=refused 3",
-];
-
-static COMMANDS: [&str; 7] = [
     "put a.idl 1\n`4096×x`\n=ok ¶ put a.idl 1\n`4097×x`\n=refused 5 ¶ put a.idl 2\n`4097×x`\n=refused 10",
     "define X `4096×x`\n=ok ¶ define X `4097×x`\n=refused 5 ¶ define 1x `4097×x`\n=refused 5",
     "search`256× d`\n=ok ¶ search`257× d`\n=refused 5 ¶ search`257× d` a//b\n=refused 2",
@@ -48,12 +45,7 @@ static DEPTHS: [&str; 2] = [
 ];
 
 #[test]
-fn the_lines_of_a_file_are_bounded(rt: HostRuntime) -> Result<(), Fail> {
-    have_replies(&rt, &LINES)
-}
-
-#[test]
-fn commands_and_projects_are_bounded(rt: HostRuntime) -> Result<(), Fail> {
+fn files_commands_and_projects_are_bounded(rt: HostRuntime) -> Result<(), Fail> {
     have_replies(&rt, &COMMANDS)
 }
 

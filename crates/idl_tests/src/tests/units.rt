@@ -2,34 +2,31 @@
 
 use super::expansions::expansion_of;
 use super::support::{Telling, are_told};
-use idl_event::Expansion;
 use idl_syntax::{SyntaxFault, UnitTree, parse};
 use idl_tree::{Pragma, ScopedName};
 use idl_unit::{Unit, UnitText, split};
 use std::alloc::{AllocError, Global};
 use std::test::Fail;
 
-// Of each unit that it is a tree, a pragma, or a fault with the number of its token; once where some in a row are alike.
+// Of each unit that it is a tree, a pragma, or a fault, that of a rule with the number of its token; once where some in a row
+// are alike. The places of E20 are in the rows.
 struct Units;
 
 impl Telling for Units {
     fn told(alloc: Global, text: &str) -> Result<String, AllocError> {
-        told_of(alloc, &expansion_of(alloc, text)?)
-    }
-}
-
-fn told_of(alloc: Global, expansion: &Expansion) -> Result<String, AllocError> {
-    let mut said = String::new(alloc);
-    for unit in split(alloc, expansion)?.as_slice() {
-        if let Unit::Spelled(unit, _sites) = unit {
-            say_unit(alloc, &mut said, unit)?;
+        let expansion = expansion_of(alloc, text)?;
+        let mut said = String::new(alloc);
+        for unit in split(alloc, &expansion)?.as_slice() {
+            if let Unit::Spelled(unit, _sites) = unit {
+                say_unit(alloc, &mut said, unit)?;
+            }
         }
+        Ok(said)
     }
-    Ok(said)
 }
 
 fn say_unit(alloc: Global, said: &mut String, unit: &UnitText) -> Result<(), AllocError> {
-    let word = word_of(alloc, unit, &parse(alloc, unit))?;
+    let word = word_of(alloc, &parse(alloc, unit))?;
     let last = said.as_str().rsplit(" / ").next();
     if last == Some(word.as_str()) {
         return Ok(());
@@ -38,29 +35,15 @@ fn say_unit(alloc: Global, said: &mut String, unit: &UnitText) -> Result<(), All
     write!(said, "{between}{word}")
 }
 
-fn word_of(
-    alloc: Global,
-    unit: &UnitText,
-    parsed: &Result<UnitTree, SyntaxFault>,
-) -> Result<String, AllocError> {
+fn word_of(alloc: Global, parsed: &Result<UnitTree, SyntaxFault>) -> Result<String, AllocError> {
     match parsed {
         Ok(UnitTree::Tokens(_tree)) => String::from_str(alloc, "tree"),
         Ok(UnitTree::Pragma(pragma)) => pragma_word(alloc, pragma),
         Err(SyntaxFault::Rule(fault)) => {
             format!(in alloc; "E{:02} {}", fault.code.number(), fault.index)
         }
-        Err(SyntaxFault::NoTree(left)) => {
-            format!(in alloc; "E20 {}", count_of(unit).saturating_sub(*left))
-        }
+        Err(SyntaxFault::NoTree(_left)) => String::from_str(alloc, "E20"),
         Err(SyntaxFault::Memory) => Err(AllocError),
-    }
-}
-
-// How many tokens a unit has.
-fn count_of(unit: &UnitText) -> usize {
-    match unit {
-        UnitText::Tokens(run) => run.as_slice().len(),
-        UnitText::Pragma(tokens, _inside) => tokens.as_slice().len(),
     }
 }
 
@@ -117,18 +100,14 @@ static LONG: [&str; 4] = [
     "`64×struct S {`A`64× a; }`; => tree ¶ `65×struct S {`A`65× a; }`; => E24 194",
     "typedef `64×sequence<`A`64×> `T; => tree ¶ typedef `65×sequence<`A`65×> `T; => E24 130",
     "`65×module M { ` => tree ¶ const A K = 1`99999×\n+ 1`; => tree ¶ typedef A B`10000×,\nC`; => tree",
-    "typedef A B`10000×\n[1]`; => tree ¶ struct S {`10000×A a;\n` => E20 30002",
+    "typedef A B`10000×\n[1]`; => tree ¶ struct S {`10000×A a;\n` => E20",
 ];
 
-static FAULTS: [&str; 12] = [
+static FAULTS: [&str; 9] = [
     // The first of several faults, before a tree that isn't there.
     "typedef Boolean 08; => E36 1",
-    // The first token through which the unit is no beginning of a tree, or its last.
-    "typedef long X Y; => E20 3 ¶ typedef long X => E20 2 ¶ struct S { long a short b; }; => E20 5",
-    "const long K = 1 + ; => E20 6 ¶ const long K = --1; => E20 5 ¶ typedef sequence<sequence<long>> Q; => E20 6",
-    "module M { typedef long X }; => tree / E20 2 / tree ¶ struct S { long a; => E20 5",
-    "A A => E20 1 ¶ x x x x => E20 2 ¶ struct S { }; => E20 3 ¶ void f() context (L\"a\"); => E20 6",
-    "} typedef A X; => E20 0 / tree ¶ #pragma prefix \"P\" => prefix 1",
+    "A A · x x x x · struct S { }; · void f() context (L\"a\"); => E20",
+    "} typedef A X; => E20 / tree ¶ #pragma prefix \"P\" => prefix 1",
     "#pragma ID ::A::_b \"x\" => ID global name of parts 1 ¶ #pragma ID Boolean \"\" => ID name 0",
     "#pragma version A::B 02.4 => version name of parts 2 4",
     "#pragma version A 65535.65535 => version name 65535 65535 ¶ A\n#pragma prefix \"P\"\nf(); => tree / E25 0",

@@ -1,6 +1,5 @@
-use Rattle.std.proofs.Common.{◌≡◌, rules}
+use Rattle.std.proofs.Common.{rules}
 use Rattle.std.proofs.lemmas.List.Sorted.{IsNonDecreasingBy-from_sort_by_key, answers_always}
-use Rattle.idl_root.specs.Findings.{in_order}
 use Rattle.idl_root.proofs.OrderLemmas.{in_order-sorted}
 use Rattle.idl_root.proofs.finding.in_order.Goals as goal
 

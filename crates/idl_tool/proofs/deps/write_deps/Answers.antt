@@ -23,6 +23,7 @@ returns-clause-served g c =
       inputs = inputs;
       roots = roots;
       asked = asked;
+      formed = are.formed;
       loaded = are.loaded;
       complete = are.complete;
       ruled = record {

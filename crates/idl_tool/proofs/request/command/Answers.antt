@@ -1,7 +1,7 @@
-use Rattle.std.proofs.Common.{◌≡◌, ◌∙◌, ap, ap₂}
+use Rattle.std.proofs.Common.{◌≡◌, ◌∙◌, ap₂}
 use Rattle.std.proofs.lemmas.Result.{IfOk-weaker}
 use Rattle.clap.specs.Words.{app_of, with_subcommand}
-use Rattle.idl_tool.specs.Words.{bare, deps_shape, explain_shape, idltool}
+use Rattle.idl_tool.specs.Words.{bare, explain_shape, idltool}
 use Rattle.idl_tool.proofs.request.command.Goals as goal
 
 pub returns : goal.returns

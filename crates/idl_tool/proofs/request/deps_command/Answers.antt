@@ -1,22 +1,23 @@
-use Rattle.std.proofs.Common.{◌≡◌, ◌∙◌, ap, ap₂, codes, false}
+use Rattle.std.proofs.Common.{◌≡◌, ◌∙◌, ap, ap₂, codes}
 use Rattle.std.proofs.lemmas.Result.{IfOk-weaker}
 use Rattle.clap.specs.Words.{App, app_of, new_app, with_rule}
-use Rattle.clap.specs.Simple.{Shape, app_of_fields}
+use Rattle.clap.specs.Simple.{app_of_fields}
 use Rattle.idl_program.specs.Words.{option_rules, with_rules}
 use Rattle.idl_tool.proofs.RequestLemmas.{has_globals_of, local-more, top_of}
 use Rattle.idl_tool.proofs.request.deps_command.Goals as goal
 
 pub returns-clause-shape : goal.returns-clause-shape
 returns-clause-shape c =
-    let named : app_of c.about-command.result ≡ new_app (codes "deps") = ap app_of_fields c.about-command.ensures ∙ c.new.ensures.app in
-    let options = c.in_ok-with_options.ensures.rules ∙ ap (λ (a : App). with_rules a option_rules) named in
+    let named : app_of c.about.result ≡ new_app (codes "deps") = ap app_of_fields c.about.ensures ∙ c.new.ensures.app in
+    let used : app_of c.override_usage-command.result ≡ new_app (codes "deps") = ap app_of_fields c.override_usage-command.ensures ∙ named in
+    let options = c.in_ok-with_options.ensures.rules ∙ ap (λ (a : App). with_rules a option_rules) used in
     let target = c.in_ok-arg.ensures.shape c.target.ensures.global ∙ ap₂ with_rule options c.target.ensures.rule in
     let generated = c.in_ok-arg-2.ensures.shape c.generated.ensures.global ∙ ap₂ with_rule target c.generated.ensures.rule in
     IfOk-weaker c.arg-3.result _ _ (λ r adds. ap top_of (adds.shape c.file.ensures.global ∙ ap₂ with_rule generated c.file.ensures.rule)) c.arg-3.ensures
 
 pub returns-clause-local : goal.returns-clause-local
 returns-clause-local c =
-    let local = ap has_globals_of c.about-command.ensures ∙ c.new.ensures.local in
+    let local = ap has_globals_of c.override_usage-command.ensures ∙ (ap has_globals_of c.about.ensures ∙ c.new.ensures.local) in
     let options = c.in_ok-with_options.ensures.local ∙ local in
     let target = c.in_ok-arg.ensures.globals ∙ local-more _ _ options c.target.ensures.global in
     let generated = c.in_ok-arg-2.ensures.globals ∙ local-more _ _ target c.generated.ensures.global in

@@ -1,7 +1,6 @@
-use Rattle.std.proofs.Common.{◌≡◌, ◌∙◌, Bool, Some, ap, codes, false}
+use Rattle.std.proofs.Common.{◌≡◌, ◌∙◌, Some, ap, codes}
 use Rattle.clap.specs.Words.{Rule, new_rule, rule_of}
 use Rattle.clap.specs.declared.builder.action.ArgAction.TheVariants.{Set}
-use Rattle.clap.specs.declared.builder.arg.Arg.{Arg}
 use Rattle.idl_tool.proofs.RequestLemmas.{is_global}
 use Rattle.idl_tool.proofs.request.word.Goals as goal
 
