@@ -118,7 +118,7 @@ pub static INHERITED_TWICE: Explanation = Explanation {
     ),
     example: "interface A { void f(); };\ninterface B { void f(); };\ninterface C : A, B { };",
     mended: "interface A { void f(); };\ninterface B { void g(); };\ninterface C : A, B { };",
-    hint: "Operations and attributes of all bases need names of their own. If a base is named, it brings the second one.",
+    hint: "Operations and attributes of all bases need names of their own; upper and lower case make no difference. If a base is named, it brings the second one.",
 };
 
 pub static LOCAL_BASE: Explanation = Explanation {
