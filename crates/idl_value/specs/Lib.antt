@@ -7,6 +7,7 @@ pub mod Operate
 pub mod Order
 pub mod SameInteger
 pub mod Spelled
+pub mod Standing
 pub mod Target
 pub mod Term
 pub mod Walk

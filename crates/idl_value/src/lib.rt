@@ -18,7 +18,7 @@ mod whole;
 
 pub use constant::{evaluate, evaluate_bound, literal_value};
 pub use integer::IntegerKind;
-pub use laws::{ascending, counting, deciding};
+pub use laws::{ascending, counting, deciding, standing};
 pub use operator::Operator;
 pub use outcome::{Code, Fault, Outcome};
 pub use spelling::{push_name, push_value};
