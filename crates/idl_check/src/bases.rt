@@ -28,12 +28,22 @@ pub struct Bases {
 
 // The paths of the bases, and those of the operations and attributes that they bring, by the folded
 // names: those of the last two bases wait, as the lists that the bases have, until a third is named.
-#[derive(Drop)]
 struct Named {
     paths: Table<Path, ()>,
     operations: Table<Spelling, Path>,
     before_last: SharedList<Path>,
     last: SharedList<Path>,
+}
+
+impl Drop for Named {
+    fn drop(self) {
+        let Named {
+            paths: _paths,
+            operations: _operations,
+            before_last: _before_last,
+            last: _last,
+        } = self;
+    }
 }
 
 impl Model for Bases {

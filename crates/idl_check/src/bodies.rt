@@ -25,7 +25,6 @@ pub struct Clauses {
 }
 
 // The same of a unit that has some.
-#[derive(Drop)]
 struct Told {
     /// The paths of the exceptions that are raised.
     raised: Vec<Path>,
@@ -35,8 +34,17 @@ struct Told {
     contexts: Vec<Seq<u16>>,
 }
 
+impl Drop for Told {
+    fn drop(self) {
+        let Told {
+            raised: _raised,
+            raised_by_set: _raised_by_set,
+            contexts: _contexts,
+        } = self;
+    }
+}
+
 /// A scope that begins and ends in a unit.
-#[derive(Drop)]
 pub struct Body {
     /// What it is of.
     entity: Option<Shared<Entity>>,
@@ -48,13 +56,32 @@ pub struct Body {
     labels: Vec<Option<Value>>,
 }
 
+impl Drop for Body {
+    fn drop(self) {
+        let Body {
+            entity: _entity,
+            data_type: _data_type,
+            members: _members,
+            labels: _labels,
+        } = self;
+    }
+}
+
 /// The scopes of a unit around the walk, the innermost first. That one stands in place: most units
 /// begin one at a time, which then takes no memory.
-#[derive(Drop)]
 pub struct Nest {
     innermost: Option<Body>,
     /// Those around the innermost, if there is one.
     around: Vec<Body>,
+}
+
+impl Drop for Nest {
+    fn drop(self) {
+        let Nest {
+            innermost: _innermost,
+            around: _around,
+        } = self;
+    }
 }
 
 impl Model for Nest {

@@ -20,7 +20,8 @@ use idl_base::Seq;
 use idl_event::Code;
 use idl_lex::Spelling;
 use idl_scope::{
-    Addition, DataType, Element, Entity, Facts, Kind, Nature, Path, Scope, Shared, Stage,
+    Addition, DataType, Element, Entity, EntityParts, Facts, Kind, Nature, Path, Scope, Shared,
+    Stage,
 };
 use idl_site::Declaration;
 use idl_value::{Target, Value};
@@ -124,7 +125,6 @@ pub struct Ending<'a> {
 }
 
 /// What the names that are declared next are declared with.
-#[derive(Drop)]
 pub struct Written {
     /// The type that was written last.
     pub data_type: LastType,
@@ -134,6 +134,17 @@ pub struct Written {
     pub enumeration: Seq<Spelling>,
     /// The enumerators of the next enum.
     pub enumerators: Seq<Spelling>,
+}
+
+impl Drop for Written {
+    fn drop(self) {
+        let Written {
+            data_type: _data_type,
+            constants: _constants,
+            enumeration: _enumeration,
+            enumerators: _enumerators,
+        } = self;
+    }
 }
 
 impl Written {
@@ -301,24 +312,36 @@ pub fn finished(
         return begun.clone();
     }
     let mut parts = begun.get().parts(alloc)?;
-    match begun.get().kind() {
-        Kind::Interface => {
-            parts.stage = Stage::Open;
-            parts.bases = ending.bases.clone()?;
-        }
-        Kind::Attribute => {
-            let members = Vec::new(alloc);
-            parts.signature = Some(ending.clauses.signature(alloc, members)?);
-        }
-        _ => {
-            parts.stage = Stage::Complete;
-            parts.value = match ending.value {
-                Some(value) => Some(Shared::new(alloc, value.clone()?)?),
-                None => None,
-            };
-        }
-    }
+    finish(alloc, ending, &mut parts)?;
     Shared::new(alloc, parts.into_entity(alloc)?)
+}
+
+// The same of its parts.
+fn finish(alloc: Global, ending: Ending<'_>, parts: &mut EntityParts) -> Result<(), AllocError>
+    ensures { OnOk result (parts.new
+        ≡ finished ending.entry.bases.now ending.entry.value.now ending.entry.clauses.now
+        parts.old) }
+{
+    if parts.kind == Kind::Interface {
+        parts.stage = Stage::Open;
+        parts.bases = ending.bases.clone()?;
+    } else if parts.kind == Kind::Attribute {
+        parts.signature = Some(ending.clauses.signature(alloc, Vec::new(alloc))?);
+    } else {
+        parts.stage = Stage::Complete;
+        parts.value = shared_value(alloc, ending.value)?;
+    }
+    Ok(())
+}
+
+// The value, if there is one, which can be shared.
+fn shared_value(alloc: Global, value: &Option<Value>) -> Result<Option<Shared<Value>>, AllocError>
+    ensures { IfOk result (λ shared. shared ≡ value.now) }
+{
+    match value {
+        Some(value) => Ok(Some(Shared::new(alloc, value.clone()?)?)),
+        None => Ok(None),
+    }
 }
 
 // Whether the end of its unit leaves it as it is, so that it can be shared.

@@ -10,10 +10,18 @@ use std::slice::from_ref;
 
 /// Values in order, of which most units have one at most: one alone stands in place and takes no
 /// memory, and more stand in a list.
-#[derive(Drop)]
 pub struct Few<T> {
     one: Option<T>,
     more: Vec<T>,
+}
+
+impl<T: Drop> Drop for Few<T> {
+    fn drop(self) {
+        let Few {
+            one: _one,
+            more: _more,
+        } = self;
+    }
 }
 
 impl<T> Model for Few<T> {

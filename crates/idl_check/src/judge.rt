@@ -266,7 +266,6 @@ impl<'t> Sited<'t> {
             (held walker.old)))
             (answers self.entry.judge.env.now) log.old) }
     {
-        let alloc = self.judge.env.alloc();
         let rest = Rest {
             tokens: self.judge.tokens,
             found: walker.found.as_slice(),
@@ -279,18 +278,26 @@ impl<'t> Sited<'t> {
             self.sites,
             rest,
         )?;
-        let row = SharedText::from_slice(alloc, scratch.row.as_slice())?;
-        let around = path_around(self.judge.scopes)?;
-        let step = step_of(alloc, &walker.own, self.tree, &around)?;
+        let step = self.step(&walker.own)?;
         self.judge.ask_step(log, &step)?;
         walker.finish_facts(step)?;
         let writes = scratch.room.hold(&mut walker.own)?;
         scratch.types = walker.types.take();
+        let row = SharedText::from_slice(self.judge.env.alloc(), scratch.row.as_slice())?;
         Ok(Verdict {
             fault: None,
             writes,
             row: Some(row),
         })
+    }
+
+    // What the unit does to the open scopes, where it adds this.
+    fn step(self, own: &Facts) -> Result<Step, AllocError>
+        ensures { IfOk result (λ step. step
+            ≡ step_of self.entry.tree.now (path_around self.entry.judge.scopes.now)) }
+    {
+        let around = path_around(self.judge.scopes)?;
+        step_of(self.judge.env.alloc(), own, self.tree, &around)
     }
 }
 

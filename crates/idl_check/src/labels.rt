@@ -11,7 +11,6 @@ use std::alloc::{AllocError, Global};
 use std::marker::Model;
 
 /// The labels of a union so far.
-#[derive(Drop)]
 pub struct Labels {
     /// The type of the discriminator, if it may be one.
     target: Option<Target>,
@@ -19,6 +18,17 @@ pub struct Labels {
     enumerators: u64,
     values: Table<Value, ()>,
     has_default: bool,
+}
+
+impl Drop for Labels {
+    fn drop(self) {
+        let Labels {
+            target: _target,
+            enumerators: _enumerators,
+            values: _values,
+            has_default: _has_default,
+        } = self;
+    }
 }
 
 impl Model for Labels {

@@ -19,7 +19,6 @@ use idl_scope::{Entity, Env, LentKey, Path, Scope, Shared, View};
 use std::alloc::AllocError;
 
 /// What stands under a folded name in the scope in which it is declared.
-#[derive(Drop)]
 pub struct Standing {
     /// What it is declared as already.
     pub there: Option<Shared<Entity>>,
@@ -29,6 +28,17 @@ pub struct Standing {
     pub is_inherited: bool,
     /// What is told of its id, if it has one.
     pub ids: Option<Ids>,
+}
+
+impl Drop for Standing {
+    fn drop(self) {
+        let Standing {
+            there: _there,
+            is_used: _is_used,
+            is_inherited: _is_inherited,
+            ids: _ids,
+        } = self;
+    }
 }
 
 /// What stands under the name of an entity in the scope in which it is declared.

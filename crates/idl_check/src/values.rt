@@ -17,7 +17,6 @@ use std::marker::Model;
 use std::mem::replace;
 
 /// How far the expressions of a unit have come. Most units have none, which takes no memory.
-#[derive(Drop)]
 pub struct Values {
     alloc: Global,
     /// Inside one, the number of its first token.
@@ -30,8 +29,19 @@ pub struct Values {
     pub kept: Option<Box<Kept>>,
 }
 
+impl Drop for Values {
+    fn drop(self) {
+        let Values {
+            alloc: _alloc,
+            begin: _begin,
+            bound: _bound,
+            constant: _constant,
+            kept: _kept,
+        } = self;
+    }
+}
+
 /// What is kept of the expressions of a unit that has some.
-#[derive(Drop)]
 pub struct Kept {
     /// The values of the names of the last so far.
     operands: Vec<Option<Value>>,
@@ -39,6 +49,16 @@ pub struct Kept {
     told: Vec<Value>,
     /// The lengths of an array so far.
     lengths: Vec<u32>,
+}
+
+impl Drop for Kept {
+    fn drop(self) {
+        let Kept {
+            operands: _operands,
+            told: _told,
+            lengths: _lengths,
+        } = self;
+    }
 }
 
 impl Model for Kept {

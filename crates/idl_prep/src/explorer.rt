@@ -63,12 +63,29 @@ impl OpenFile {
         bank: &B,
     ) -> Result<Option<OpenFile>, AllocError> {
         let name = FileName::new(alloc, name)?;
-        let mut progress = Progress::new(alloc, Log::new(alloc));
-        let Some(file) = file_named(&name, bank, &mut progress)? else {
-            return Ok(None);
-        };
-        let file = file.clone()?;
-        Ok(Some(OpenFile { name, file }))
+        match shared_file(alloc, &name, bank)? {
+            Some(file) => Ok(Some(OpenFile { name, file })),
+            None => Ok(None),
+        }
+    }
+}
+
+// The file of a name, which is shared with the bank, if it is there.
+fn shared_file<B: RootBank>(
+    alloc: Global,
+    name: &FileName,
+    bank: &B,
+) -> Result<Option<LexedFile>, AllocError> {
+    let mut progress = Progress::new(alloc, Log::new(alloc));
+    let file = file_named(name, bank, &mut progress)?;
+    copied(file)
+}
+
+// The file, if there is one.
+fn copied(file: Option<&LexedFile>) -> Result<Option<LexedFile>, AllocError> {
+    match file {
+        Some(file) => Ok(Some(file.clone()?)),
+        None => Ok(None),
     }
 }
 
@@ -114,28 +131,48 @@ impl<'f> FileWalk<'f> {
         ensures { IfOk result (λ next. StopsAt (B.at bank.now) next) }
     {
         let root = &mut explorer.root;
-        let file = self.name;
-        let site = Site { file, bank };
-        if let Some(operand) = self.waiting.take() {
-            if let Some(open) = entered(root, ask(root, &site, &operand)?.found)? {
-                return Ok(Next::Entered(open));
-            }
+        let site = Site {
+            file: self.name,
+            bank,
+        };
+        if let Some(open) = self.brought(root, &site)? {
+            return Ok(Next::Entered(open));
         }
-        let mut asking = past_limits(root.allocator(), file)?;
+        let mut asking = past_limits(root.allocator(), self.name)?;
+        self.walk_lines(root, &site, &mut asking)
+    }
+
+    // The file that the waiting include enters, whose files may have been brought since it was told.
+    fn brought<B: RootBank>(
+        &mut self,
+        root: &Root<B>,
+        site: &Site<'_, B>,
+    ) -> Result<Option<OpenFile>, AllocError> {
+        match self.waiting.take() {
+            Some(operand) => entered_by(root, site, &operand),
+            None => Ok(None),
+        }
+    }
+
+    // Walks lines to the next include that stops, or to the end.
+    fn walk_lines<B: RootBank>(
+        &mut self,
+        root: &mut Root<B>,
+        site: &Site<'_, B>,
+        asking: &mut Progress<B>,
+    ) -> Result<Next, AllocError>
+        ensures { IfOk result (λ next. StopsAt (B.at site.now.bank.now) next) }
+    {
         'lines: while !self.left.is_empty() {
             if root.is_over() {
                 return Ok(Next::End);
             }
-            let Some(operand) = self.walk_on(root, &site, &mut asking)? else {
+            let Some(operand) = self.walk_on(root, site, asking)? else {
                 continue;
             };
-            let asked = ask(root, &site, &operand)?;
-            if !asked.absent.is_empty() {
-                self.waiting = Some(operand);
-                return Ok(Next::Absent(asked.absent));
-            }
-            if let Some(open) = entered(root, asked.found)? {
-                return Ok(Next::Entered(open));
+            match stop_at(root, site, operand, &mut self.waiting)? {
+                Next::End => {}
+                next => return Ok(next),
             }
         }
         Ok(Next::End)
@@ -163,6 +200,37 @@ impl<'f> FileWalk<'f> {
         let operand = walk_one(root, &mut self.groups, site, &line)?;
         self.left = jump(root, &self.groups, site.file, rest)?;
         Ok(operand)
+    }
+}
+
+// The file that an include of this operand enters, if it is there.
+fn entered_by<B: RootBank>(
+    root: &Root<B>,
+    site: &Site<'_, B>,
+    operand: &Operand,
+) -> Result<Option<OpenFile>, AllocError> {
+    let asked = ask(root, site, operand)?;
+    entered(root, asked.found)
+}
+
+// Where an include of this operand stops: at the files that it asks for, if they aren't there, and it waits for them; or at the
+// one that it enters.
+fn stop_at<B: RootBank>(
+    root: &Root<B>,
+    site: &Site<'_, B>,
+    operand: Operand,
+    waiting: &mut Option<Operand>,
+) -> Result<Next, AllocError>
+    ensures { IfOk result (λ next. StopsAt (B.at site.now.bank.now) next) }
+{
+    let asked = ask(root, site, &operand)?;
+    if !asked.absent.is_empty() {
+        *waiting = Some(operand);
+        return Ok(Next::Absent(asked.absent));
+    }
+    match entered(root, asked.found)? {
+        Some(open) => Ok(Next::Entered(open)),
+        None => Ok(Next::End),
     }
 }
 

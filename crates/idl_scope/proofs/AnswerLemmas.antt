@@ -1,8 +1,6 @@
 -- Answers at their keys.
-use Rattle.std.proofs.Common.{◌≡◌, ℕ, zero, suc, Bool, true, false, cond, List, [], ◌∷◌, ◌++◌, Option, Some, None, map, refl, sym, ap, subst, ◌∙◌}
+use Rattle.std.proofs.Common.{◌≡◌, Bool, true, false, cond, List, [], ◌∷◌, ◌++◌, Option, Some, None, map, refl, sym, ap, ◌∙◌}
 use Rattle.std.specs.Map.{lookup}
-use Rattle.std.specs.Prelude.{slice_get}
-use Rattle.std.proofs.lemmas.Option.{same_Some}
 use Rattle.idl_base.specs.Table.{insert_entry}
 use Rattle.idl_scope.specs.Facts.{addition_at, answer_of, key_of, over, with_addition}
 use Rattle.idl_scope.specs.Held.{HaveOwnKeys}
@@ -41,12 +39,6 @@ own_more e entries a h rest false t = (h.0, rest)
 pub HaveOwnKeys-insert_entry : (entries : List (Key × Addition)) (a : Addition) → HaveOwnKeys entries → HaveOwnKeys (insert_entry key_eq entries (key_of a) a)
 HaveOwnKeys-insert_entry [] a h = (refl, tt)
 HaveOwnKeys-insert_entry (e ∷ entries) a h = own_more e entries a h (HaveOwnKeys-insert_entry entries a h.1) (key_eq (key_of a) e.0) refl
-
--- the entry at a place has its own key
-pub own_key-at : (entries : List (Key × Addition)) (i : ℕ) (e : Key × Addition) → HaveOwnKeys entries → slice_get entries i ≡ Some e → e.0 ≡ key_of e.1
-own_key-at [] i e h at = cc
-own_key-at (f ∷ entries) zero e h at = subst (λ (x : Key × Addition). x.0 ≡ key_of x.1) (same_Some f e at) h.0
-own_key-at (f ∷ entries) (suc i) e h at = own_key-at entries i e h.1 at
 
 -- the answer over additions of which this is the first
 pub over-cons : (a : Addition) (additions : List Addition) (k : Key) (before : Option Answer) → over (a ∷ additions) k before ≡ cond (key_eq k (key_of a)) (Some (answer_of a)) (over additions k before)

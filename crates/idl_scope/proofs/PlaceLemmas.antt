@@ -1,5 +1,5 @@
 -- The items of a list by their places.
-use Rattle.std.proofs.Common.{◌≡◌, ℕ, zero, suc, ◌+◌, ◌-◌, ◌<◌, ◌≤◌, List, [], ◌∷◌, Some, None, length, take, drop, get_or, map, sym, ap, ◌∙◌, arith, add-one, length-drop}
+use Rattle.std.proofs.Common.{◌≡◌, ℕ, zero, suc, ◌+◌, ◌-◌, ◌<◌, List, [], ◌∷◌, Some, length, take, drop, get_or, map, sym, ap, ◌∙◌, arith, add-one, length-drop}
 use Rattle.std.specs.Prelude.{slice_get}
 use Rattle.std.proofs.Math.Seq.{drop-cons}
 use Rattle.std.proofs.lemmas.List.{take_all}
@@ -15,18 +15,9 @@ module _ {A : Type 0} where
   pub drop-at1 : (xs : List A) (i : ℕ) (x : A) → slice_get xs i ≡ Some x → drop i xs ≡ x ∷ drop (i + 1) xs
   drop-at1 xs i x h = rw add-one (drop-at xs i x h)
 
-  -- and where none stands there
-  pub past-end : (xs : List A) (i : ℕ) → slice_get xs i ≡ None → length xs ≤ i
-  past-end [] i h = omega arith
-  past-end (y ∷ ys) zero h = cc
-  past-end (y ∷ ys) (suc i) h = let rest = past-end ys i h in omega arith
-
   -- the rest of a list from one of its items on
   pub from_here : (xs : List A) (i : ℕ) (x : A) → i < length xs → x ≡ get_or xs i x → drop i xs ≡ x ∷ drop (i + 1) xs
   from_here xs i x h e = rw add-one (drop-cons xs i x h ∙ ap (λ y. y ∷ drop (suc i) xs) (sym e))
-
-  pub from_here_at : (xs : List A) (i : ℕ) (d : A) → i < length xs → drop i xs ≡ get_or xs i d ∷ drop (i + 1) xs
-  from_here_at xs i d h = rw add-one (drop-cons xs i d h)
 
   -- all behind the first
   pub behind_first : (xs : List A) → take (length xs - 1) (drop 1 xs) ≡ drop 1 xs

@@ -1,10 +1,9 @@
 -- Queues of paths.
-use Rattle.std.proofs.Common.{◌≡◌, ◌<◌, ℕ, zero, suc, Bool, true, false, append_assoc, cond, List, [], ◌∷◌, ◌++◌, get_or, is_some, length, refl, sym, ap, ◌∙◌, arith}
-use Rattle.std.specs.Prelude.{slice_get, ◌||◌}
+use Rattle.std.proofs.Common.{◌≡◌, ◌<◌, ℕ, zero, suc, Bool, true, false, cond, List, [], ◌∷◌, ◌++◌, get_or, is_some, length, refl, sym, ap, ◌∙◌, arith}
+use Rattle.std.specs.Prelude.{◌||◌}
 use Rattle.std.specs.List.{list_any}
 use Rattle.std.specs.Cmp.Lexicographic.{bytes_decides, pointwise_decides}
 use Rattle.std.specs.Map.{keys_of, lookup}
-use Rattle.std.specs.Option.{option_map}
 use Rattle.std.proofs.lemmas.List.Folds.{list_any-append}
 use Rattle.std.proofs.lemmas.Map.Made.{is_some-lookup}
 use Rattle.idl_scope.specs.Facts.{joined}
@@ -26,36 +25,6 @@ joined-there found p paths h = ap (λ b. joined (cond b found (found ++ p ∷ []
 -- and another is put last
 pub joined-new : (found : List (List (List ℕ))) (p : List (List ℕ)) (paths : List (List (List ℕ))) → list_any (path_eq p) found ≡ false → joined found (p ∷ paths) ≡ joined (found ++ p ∷ []) paths
 joined-new found p paths h = ap (λ b. joined (cond b found (found ++ p ∷ [])) paths) h
-
-or_true : (a : Bool) → (a || true) ≡ true
-or_true true = refl
-or_true false = refl
-
-module _ (p : List (List ℕ)) (first others : List (List (List ℕ))) where
-  -- one that is among the first, or among the others, is not put in again
-  pub joined-among_first : list_any (path_eq p) first ≡ true → joined (first ++ others) (p ∷ []) ≡ first ++ others
-  joined-among_first h = joined-there (first ++ others) p [] (list_any-append (path_eq p) first others ∙ ap (λ a. a || list_any (path_eq p) others) h)
-
-  pub joined-among_others : list_any (path_eq p) others ≡ true → joined (first ++ others) (p ∷ []) ≡ first ++ others
-  joined-among_others h = joined-there (first ++ others) p [] (list_any-append (path_eq p) first others ∙ ap (λ b. list_any (path_eq p) first || b) h ∙ or_true (list_any (path_eq p) first))
-
-  -- and one that is in neither is put last
-  pub joined-in_neither : list_any (path_eq p) first ≡ false → list_any (path_eq p) others ≡ false → joined (first ++ others) (p ∷ []) ≡ (first ++ others) ++ p ∷ []
-  joined-in_neither h g = joined-new (first ++ others) p [] (list_any-append (path_eq p) first others ∙ ap (λ a. a || list_any (path_eq p) others) h ∙ g)
-
-  -- behind the first ones it is put among the others
-  pub joined-behind : list_any (path_eq p) first ≡ false → joined (first ++ others) (p ∷ []) ≡ first ++ joined others (p ∷ [])
-  joined-behind h = by_test (list_any (path_eq p) others) refl
-    where
-      by_test : (b : Bool) → list_any (path_eq p) others ≡ b → joined (first ++ others) (p ∷ []) ≡ first ++ joined others (p ∷ [])
-      by_test true there = joined-among_others there ∙ ap (λ l. first ++ l) (sym (joined-there others p [] there))
-      by_test false new = joined-in_neither h new ∙ append_assoc first others (p ∷ []) ∙ ap (λ l. first ++ l) (sym (joined-new others p [] new))
-
--- the path at a place of a queue
-pub slice_get-keys_of : (queue : List (List (List ℕ) × Unit {0})) (i : ℕ) → slice_get (keys_of queue) i ≡ option_map (λ e. e.0) (slice_get queue i)
-slice_get-keys_of [] i = refl
-slice_get-keys_of (e ∷ queue) zero = refl
-slice_get-keys_of (e ∷ queue) (suc i) = slice_get-keys_of queue i
 
 or_none : (a : Bool) → (a || false) ≡ a
 or_none true = refl

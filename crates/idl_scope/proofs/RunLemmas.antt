@@ -1,11 +1,11 @@
 -- Runs of lookups over a bank, under what a unit's earlier tokens add.
 use Rattle.std.proofs.Common.{◌≡◌, ℕ, zero, suc, ◌+◌, true, false, cond, List, [], ◌∷◌, ◌++◌, Option, Some, None, Result, Err, refl, sym, ap, ◌∙◌}
 use Rattle.std.specs.Prelude.{option_to_list, slice_get}
-use Rattle.idl_memo.specs.Query.{Done, Ask, Tell, and_then, run, noted}
+use Rattle.idl_memo.specs.Query.{Done, Ask, Tell, and_then, run}
 use Rattle.idl_memo.proofs.QueryLaws.{run-and_then_at}
-use Rattle.idl_scope.specs.Facts.{entity_in, entity_key, joined, over}
+use Rattle.idl_scope.specs.Facts.{joined, over}
 use Rattle.idl_scope.specs.Key.{key_eq}
-use Rattle.idl_scope.specs.Lookup.{Lookup, bases_of, by_result, choose, denoted, entered, found_as, further, has, inherits, is_nothing, is_scope, judged, outward, part_of, placed, reached, searched, under, walk}
+use Rattle.idl_scope.specs.Lookup.{Lookup, by_result, denoted, entered, found_as, further, has, is_nothing, is_scope, judged, outward, part_of, placed, searched, under, walk}
 use Rattle.idl_lex.specs.Keywords.{folded}
 use Rattle.idl_tree.specs.declared.name.ScopedName.{ScopedName}
 use Rattle.idl_scope.specs.declared.found.Found.{Found}
@@ -17,8 +17,6 @@ use Rattle.idl_scope.specs.declared.fault.NameCode.TheVariants.{NoScope}
 use Rattle.idl_scope.specs.declared.fault.NameFault.{NameFault}
 use Rattle.idl_scope.specs.declared.fault.NameFault.TheVariants.{At}
 use Rattle.idl_scope.specs.declared.key.Key.{Key}
-use Rattle.idl_scope.specs.declared.key.Key.TheVariants.{Declared}
-use Rattle.idl_scope.specs.declared.kind.Kind.{Kind}
 
 -- one query after another, under additions
 pub under-and_then : {A B : Type 0} (own : List Addition) (q : Lookup A) (f : A → Lookup B) → under own (and_then q f) ≡ and_then (under own q) (λ a. under own (f a))
@@ -37,16 +35,6 @@ module _ (own : List Addition) (bank : Key → Option Answer) where
 
   pub runs-and_then : {A B : Type 0} (q : Lookup A) (f : A → Lookup B) (log : List (Key × Option Answer)) (a : A) (after : List (Key × Option Answer)) → (a, after) ≡ runs q log → runs (and_then q f) log ≡ runs (f a) after
   runs-and_then q f log a after h = ap (λ r. run key_eq r bank log) (under-and_then own q f) ∙ run-and_then_at key_eq (under own q) (λ a. under own (f a)) bank log a after h
-
-  -- a base that itself declares the name
-  pub entered_own : (n : List ℕ) (b : List (List ℕ)) (e : Entity) (log : List (Key × Option Answer)) → entity_in (seen_at (Declared n b)) ≡ Some e
-      → runs (entered n b) log ≡ ((Some e, []), noted key_eq bank log (Declared n b))
-  entered_own n b e log h = ap (λ o. runs (choose o (Ask (entity_key b) (λ base. Done (None, bases_of (entity_in base)))) (λ e. Done (Some e, []))) (noted key_eq bank log (Declared n b))) h
-
-  -- and one that does not
-  pub entered_up : (n : List ℕ) (b : List (List ℕ)) (log : List (Key × Option Answer)) → entity_in (seen_at (Declared n b)) ≡ None
-      → runs (entered n b) log ≡ ((None, bases_of (entity_in (seen_at (entity_key b)))), noted key_eq bank (noted key_eq bank log (Declared n b)) (entity_key b))
-  entered_up n b log h = ap (λ o. runs (choose o (Ask (entity_key b) (λ base. Done (None, bases_of (entity_in base)))) (λ e. Done (Some e, []))) (noted key_eq bank log (Declared n b))) h
 
   -- a walk at the end of its queue is done
   pub walk_end : (turns : ℕ) (n : List ℕ) (at : ℕ) (queue : List (List (List ℕ))) (found : List Entity) (log : List (Key × Option Answer)) → slice_get queue at ≡ None → runs (walk turns n at queue found) log ≡ (found, log)
@@ -67,26 +55,6 @@ module _ (own : List Addition) (bank : Key → Option Answer) where
   walk_on turns n at queue found log b r after h gives =
       ap (λ o. runs (elim o [ None ↦ Done found | Some b ↦ and_then (entered n b) (λ r. walk turns n (at + 1) (joined queue r.1) (found ++ option_to_list r.0)) ]) log) h
       ∙ runs-and_then (entered n b) (λ r. walk turns n (at + 1) (joined queue r.1) (found ++ option_to_list r.0)) log r after gives
-
-  -- what a scope has that has no bases
-  pub has_plain : (turns : ℕ) (kind : Kind) (path : List (List ℕ)) (n : List ℕ) (log : List (Key × Option Answer)) → inherits kind ≡ false
-      → runs (has turns kind path n) log ≡ (option_to_list (entity_in (seen_at (Declared n path))), noted key_eq bank log (Declared n path))
-  has_plain turns kind path n log h =
-      ap (λ b. runs (cond b (Ask (entity_key path) (λ scope. choose (entity_in (seen_at (Declared n path))) (reached turns n (bases_of (entity_in scope))) (λ e. Done (e ∷ [])))) (Done (option_to_list (entity_in (seen_at (Declared n path)))))) (noted key_eq bank log (Declared n path))) h
-
-  -- and one that has, by its own declaration
-  pub has_own : (turns : ℕ) (kind : Kind) (path : List (List ℕ)) (n : List ℕ) (log : List (Key × Option Answer)) (e : Entity) → inherits kind ≡ true → entity_in (seen_at (Declared n path)) ≡ Some e
-      → runs (has turns kind path n) log ≡ (e ∷ [], noted key_eq bank (noted key_eq bank log (Declared n path)) (entity_key path))
-  has_own turns kind path n log e h own_is =
-      ap (λ b. runs (cond b (Ask (entity_key path) (λ scope. choose (entity_in (seen_at (Declared n path))) (reached turns n (bases_of (entity_in scope))) (λ e. Done (e ∷ [])))) (Done (option_to_list (entity_in (seen_at (Declared n path)))))) (noted key_eq bank log (Declared n path))) h
-      ∙ ap (λ o. runs (choose o (reached turns n (bases_of (entity_in (seen_at (entity_key path))))) (λ e. Done (e ∷ []))) (noted key_eq bank (noted key_eq bank log (Declared n path)) (entity_key path))) own_is
-
-  -- or through its bases
-  pub has_up : (turns : ℕ) (kind : Kind) (path : List (List ℕ)) (n : List ℕ) (log : List (Key × Option Answer)) → inherits kind ≡ true → entity_in (seen_at (Declared n path)) ≡ None
-      → runs (has turns kind path n) log ≡ runs (reached turns n (bases_of (entity_in (seen_at (entity_key path))))) (noted key_eq bank (noted key_eq bank log (Declared n path)) (entity_key path))
-  has_up turns kind path n log h own_is =
-      ap (λ b. runs (cond b (Ask (entity_key path) (λ scope. choose (entity_in (seen_at (Declared n path))) (reached turns n (bases_of (entity_in scope))) (λ e. Done (e ∷ [])))) (Done (option_to_list (entity_in (seen_at (Declared n path)))))) (noted key_eq bank log (Declared n path))) h
-      ∙ ap (λ o. runs (choose o (reached turns n (bases_of (entity_in (seen_at (entity_key path))))) (λ e. Done (e ∷ []))) (noted key_eq bank (noted key_eq bank log (Declared n path)) (entity_key path))) own_is
 
   -- the innermost scope that has the name
   pub outward_found : (turns : ℕ) (s : Scope) (scopes : List Scope) (n : List ℕ) (log : List (Key × Option Answer)) (found : List Entity) (after : List (Key × Option Answer))
@@ -112,12 +80,6 @@ module _ (own : List Addition) (bank : Key → Option Answer) where
   pub part_on : (part : ℕ) (name : List ℕ) (there : Lookup (List Entity)) (log : List (Key × Option Answer)) (found : List Entity) (after : List (Key × Option Answer))
       → (found, after) ≡ runs there log → runs (part_of part name there) log ≡ (placed part (judged name found), after)
   part_on part name there log found after h = runs-and_then there (λ found. Done (placed part (judged name found))) log found after h
-
-  -- a further part of what is no scope
-  pub further_no_scope : (turns part : ℕ) (e : Entity) (name : List ℕ) (names : List (List ℕ)) (log : List (Key × Option Answer)) → is_scope e.kind ≡ false
-      → runs (further turns part e (name ∷ names)) log ≡ (Err (At NoScope part), log)
-  further_no_scope turns part e name names log h =
-      ap (λ b. runs (cond b (and_then (part_of (part + 1) name (has turns e.kind e.path (folded name))) (λ r. by_result r (λ f. further turns (part + 1) f names) (λ fault. Done (Err fault)))) (Done (Err (At NoScope part)))) log) h
 
   -- and of what is one
   pub further_on : (turns part : ℕ) (e : Entity) (name : List ℕ) (names : List (List ℕ)) (log : List (Key × Option Answer)) (r : Result Entity NameFault) (after : List (Key × Option Answer)) → is_scope e.kind ≡ true

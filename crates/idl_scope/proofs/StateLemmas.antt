@@ -22,14 +22,6 @@ use Rattle.idl_scope.specs.declared.state.State.{State}
 abbrev pub kept : List (Key × Answer) → Key → Option Answer
 kept entries k = lookup (key_eq k) entries
 
--- worlds are one where their answers are, what is inside is, and the prefixes that come back are
-pub world_is : (w v : World) → w.answers ≡ v.answers → w.inside ≡ v.inside → w.before ≡ v.before → w ≡ v
-world_is w v h g f = λ i. record { answers = h i; inside = g i; before = f i }
-
--- what is kept comes to one world where its parts are the same
-pub held_is : (state other : State) → kept state.answers ≡ kept other.answers → state.inside.items ≡ other.inside.items → state.opened ≡ other.opened → state.entered ≡ other.entered → held state ≡ held other
-held_is state other h g f e = λ i. record { answers = h i; inside = reverse (g i); before = record { opened = reverse (f i); entered = reverse (e i) } }
-
 -- scopes that are open, the innermost first, with one more, and which is the innermost of them
 pub reverse-push : {A : Type 0} (outer : List A) (own : A) → reverse (outer ++ own ∷ []) ≡ own ∷ reverse outer
 reverse-push outer own = reverse-append outer (own ∷ [])
@@ -103,12 +95,6 @@ pub closing_is : (w : World) (s : Scope) (e : Entity) → inherits s.kind ≡ tr
 closing_is w s e h is =
     ap (λ b. cond b (elim (entity_in (w.answers (entity_key s.path))) [ None ↦ [] | Some e ↦ Declares (closed w e) ∷ [] ]) []) h
     ∙ ap (λ o. elim o [ None ↦ [] | Some e ↦ Declares (closed w e) ∷ [] ]) is
-
--- after a closing, by what can be closed
-pub after_closing-none : (w : World) (scopes : List Scope) → closable scopes ≡ None → after_closing w scopes ≡ w
-after_closing-none w [] h = refl
-after_closing-none w (s ∷ []) h = refl
-after_closing-none w (s ∷ t ∷ outer) h = cc
 
 pub after_closing-some : (w : World) (scopes : List Scope) (s : Scope) (outer : List Scope) → closable scopes ≡ Some (s, outer)
     → after_closing w scopes

@@ -2,6 +2,7 @@
 use Rattle.std.specs.Prelude.{◌≡◌, ℕ, Bool, true, refl}
 use Rattle.std.specs.Cmp.Lexicographic.{bytes_decides}
 use Rattle.std.proofs.Common.{ap}
+use Rattle.std.proofs.lemmas.Bool.{false≢true}
 use Rattle.idl_base.specs.Exact.{both, same_number}
 use Rattle.idl_base.specs.Digest.{mixed, with_bytes}
 use Rattle.idl_scope.specs.Digest.{behind, path_digest, under}
@@ -17,58 +18,58 @@ key_eq = ghosts.eq
 -- keys that are found equal are one
 pub same_key : (key other : Key) → key_eq key other ≡ true → key ≡ other
 same_key Cursor Cursor h = refl
-same_key Cursor (Declared m q) h = cc
-same_key Cursor (Introduced m q b) h = cc
-same_key Cursor (Opened q) h = cc
-same_key Cursor Nameless h = cc
-same_key Cursor Prefix h = cc
-same_key Cursor (IdOf q) h = cc
-same_key (Declared n p) Cursor h = cc
+same_key Cursor (Declared m q) h = absurd (false≢true h)
+same_key Cursor (Introduced m q b) h = absurd (false≢true h)
+same_key Cursor (Opened q) h = absurd (false≢true h)
+same_key Cursor Nameless h = absurd (false≢true h)
+same_key Cursor Prefix h = absurd (false≢true h)
+same_key Cursor (IdOf q) h = absurd (false≢true h)
+same_key (Declared n p) Cursor h = absurd (false≢true h)
 same_key (Declared n p) (Declared m q) h =
     let parts = both _ _ h in
     λ i. Declared ((bytes_decides n m).0 parts.0 i) (same_path p q parts.1 i)
-same_key (Declared n p) (Introduced m q b) h = cc
-same_key (Declared n p) (Opened q) h = cc
-same_key (Declared n p) Nameless h = cc
-same_key (Declared n p) Prefix h = cc
-same_key (Declared n p) (IdOf q) h = cc
-same_key (Introduced n p a) Cursor h = cc
-same_key (Introduced n p a) (Declared m q) h = cc
+same_key (Declared n p) (Introduced m q b) h = absurd (false≢true h)
+same_key (Declared n p) (Opened q) h = absurd (false≢true h)
+same_key (Declared n p) Nameless h = absurd (false≢true h)
+same_key (Declared n p) Prefix h = absurd (false≢true h)
+same_key (Declared n p) (IdOf q) h = absurd (false≢true h)
+same_key (Introduced n p a) Cursor h = absurd (false≢true h)
+same_key (Introduced n p a) (Declared m q) h = absurd (false≢true h)
 same_key (Introduced n p a) (Introduced m q b) h =
     let parts = both _ _ h in
     let rest = both _ _ parts.1 in
     λ i. Introduced ((bytes_decides n m).0 parts.0 i) (same_path p q rest.0 i) (same_number a b rest.1 i)
-same_key (Introduced n p a) (Opened q) h = cc
-same_key (Introduced n p a) Nameless h = cc
-same_key (Introduced n p a) Prefix h = cc
-same_key (Introduced n p a) (IdOf q) h = cc
-same_key (Opened p) Cursor h = cc
-same_key (Opened p) (Declared m q) h = cc
-same_key (Opened p) (Introduced m q b) h = cc
+same_key (Introduced n p a) (Opened q) h = absurd (false≢true h)
+same_key (Introduced n p a) Nameless h = absurd (false≢true h)
+same_key (Introduced n p a) Prefix h = absurd (false≢true h)
+same_key (Introduced n p a) (IdOf q) h = absurd (false≢true h)
+same_key (Opened p) Cursor h = absurd (false≢true h)
+same_key (Opened p) (Declared m q) h = absurd (false≢true h)
+same_key (Opened p) (Introduced m q b) h = absurd (false≢true h)
 same_key (Opened p) (Opened q) h = ap Opened (same_path p q h)
-same_key (Opened p) Nameless h = cc
-same_key (Opened p) Prefix h = cc
-same_key (Opened p) (IdOf q) h = cc
-same_key Nameless Cursor h = cc
-same_key Nameless (Declared m q) h = cc
-same_key Nameless (Introduced m q b) h = cc
-same_key Nameless (Opened q) h = cc
+same_key (Opened p) Nameless h = absurd (false≢true h)
+same_key (Opened p) Prefix h = absurd (false≢true h)
+same_key (Opened p) (IdOf q) h = absurd (false≢true h)
+same_key Nameless Cursor h = absurd (false≢true h)
+same_key Nameless (Declared m q) h = absurd (false≢true h)
+same_key Nameless (Introduced m q b) h = absurd (false≢true h)
+same_key Nameless (Opened q) h = absurd (false≢true h)
 same_key Nameless Nameless h = refl
-same_key Nameless Prefix h = cc
-same_key Nameless (IdOf q) h = cc
-same_key Prefix Cursor h = cc
-same_key Prefix (Declared m q) h = cc
-same_key Prefix (Introduced m q b) h = cc
-same_key Prefix (Opened q) h = cc
-same_key Prefix Nameless h = cc
+same_key Nameless Prefix h = absurd (false≢true h)
+same_key Nameless (IdOf q) h = absurd (false≢true h)
+same_key Prefix Cursor h = absurd (false≢true h)
+same_key Prefix (Declared m q) h = absurd (false≢true h)
+same_key Prefix (Introduced m q b) h = absurd (false≢true h)
+same_key Prefix (Opened q) h = absurd (false≢true h)
+same_key Prefix Nameless h = absurd (false≢true h)
 same_key Prefix Prefix h = refl
-same_key Prefix (IdOf q) h = cc
-same_key (IdOf p) Cursor h = cc
-same_key (IdOf p) (Declared m q) h = cc
-same_key (IdOf p) (Introduced m q b) h = cc
-same_key (IdOf p) (Opened q) h = cc
-same_key (IdOf p) Nameless h = cc
-same_key (IdOf p) Prefix h = cc
+same_key Prefix (IdOf q) h = absurd (false≢true h)
+same_key (IdOf p) Cursor h = absurd (false≢true h)
+same_key (IdOf p) (Declared m q) h = absurd (false≢true h)
+same_key (IdOf p) (Introduced m q b) h = absurd (false≢true h)
+same_key (IdOf p) (Opened q) h = absurd (false≢true h)
+same_key (IdOf p) Nameless h = absurd (false≢true h)
+same_key (IdOf p) Prefix h = absurd (false≢true h)
 same_key (IdOf p) (IdOf q) h = ap IdOf (same_path p q h)
 
 -- a copied key is its source, by the copies of its parts

@@ -10,11 +10,6 @@ use Rattle.idl_tree.specs.declared.unit.Tree.{Tree}
 enough : (tokens : List (List ℕ)) → length (lexemes tokens) < length tokens + 1
 enough tokens = omega (arith, length-map tokens lexeme_of)
 
-pub tree_found : ((n : ℕ) (tokens : Lexemes) (tree : Tree) → length tokens < n → unit_at n tokens ≡ Ok (tree, []) → tokens ≡ spell tree)
-    → (tokens rest : List (List ℕ)) (tree : Tree) → unit_at (length tokens + 1) (lexemes tokens) ≡ Ok (tree, lexemes rest) → length rest ≡ 0 → lexemes tokens ≡ spell tree
-tree_found found tokens [] tree read none = found (length tokens + 1) (lexemes tokens) tree (enough tokens) read
-tree_found found tokens (t ∷ rest) tree read none = absurd (omega (arith, none))
-
 pub fault_found : ((n : ℕ) (tokens : Lexemes) (left : ℕ) → length tokens < n → unit_at n tokens ≡ Err left → IsFaultAt spell tokens left)
     → (tokens : List (List ℕ)) (left : ℕ) → unit_at (length tokens + 1) (lexemes tokens) ≡ Err left → IsFaultAt spell (lexemes tokens) left
 fault_found law tokens left read = law (length tokens + 1) (lexemes tokens) left (enough tokens) read

@@ -13,10 +13,6 @@ Parts = Option (List (List ℕ) × Token)
 abbrev pub behind_parts : List (List ℕ) → Parts → Parts
 behind_parts parts read = option_map (λ r. (parts ++ r.0, r.1)) read
 
-pub no_parts : (read : Parts) → behind_parts [] read ≡ read
-no_parts None = refl
-no_parts (Some r) = refl
-
 pub part_more : (parts : List (List ℕ)) (part : List ℕ) (read : Parts)
     → behind_parts parts (with_part (Some part) read) ≡ behind_parts (parts ++ part ∷ []) read
 part_more parts part None = refl

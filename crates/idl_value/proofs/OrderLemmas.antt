@@ -15,10 +15,6 @@ use Rattle.idl_value.specs.declared.value.Value.{Value}
 use Rattle.idl_value.specs.declared.walk.Place.{Place}
 use Rattle.idl_value.proofs.SizeLemmas.{size, links_size, expression_term-size, literal-length}
 
-ascending-spans : (from to : ℕ) (fs : List Fault) → IsAscending from fs to → from ≤ to
-ascending-spans from to [] h = h
-ascending-spans from to (f ∷ fs) h = let k = ascending-spans (f.token + 1) to fs h.1 in omega (arith, h.0, k)
-
 earlier : (low from to : ℕ) (fs : List Fault) → low ≤ from → IsAscending from fs to → IsAscending low fs to
 earlier low from to [] l h = omega (arith, l, h)
 earlier low from to (f ∷ fs) l h = (omega (arith, l, h.0), h.1)

@@ -1,12 +1,11 @@
 -- A walk from the left comes to the first fault, and to the value.
 use Rattle.std.proofs.Common.{◌≡◌, ◌∙◌, ℕ, ◌+◌, ◌<◌, ◌≤◌, suc, List, [], ◌∷◌, Option, None, Some, Result, Ok, Err, length, drop, get_or, add-one, zero, pos, negsuc, true, false, if◌then◌else◌, refl, sym, ap, arith}
 use Rattle.std.proofs.Math.Seq.{drop-cons}
-use Rattle.std.proofs.lemmas.List.{drop_all}
 use Rattle.idl_tree.specs.Expression.{spell_literal}
 use Rattle.idl_tree.specs.declared.expression.Expression.{Expression}
 use Rattle.idl_tree.specs.declared.expression.UnaryOperator.{UnaryOperator}
 use Rattle.idl_value.specs.Evaluation.{Evaluation, Faulty, Operands, Read, Valued, admitted, ahead, at_token, behind, bound_of, fault, first_of, in_target, is_held, positive, start, value_of, literal_value, named, operand_at, operated, read_links, read_operator, read_term, signed_at}
-use Rattle.idl_value.specs.Term.{Term, Named, Literally, Parenthesised, Signed, Chain, Links, End, Link, links, expression_term}
+use Rattle.idl_value.specs.Term.{Term, Named, Literally, Parenthesised, Signed, Chain, Links, End, Link, expression_term}
 use Rattle.idl_value.specs.Walk.{Walked, held_outcome, named_outcome, positive_outcome, operated_outcome, outcome_at, signed_outcome, walk_links, walk_operator, walk_parenthesis, walk_sign, walk_term}
 use Rattle.idl_value.specs.declared.operator.Operator.{Operator}
 use Rattle.idl_value.specs.declared.integer.IntegerKind.TheVariants.{UnsignedLong}
@@ -21,18 +20,6 @@ use Rattle.idl_value.specs.declared.walk.Place.{Place}
 
 from_here : {X : Type 0} (xs : List X) (i : ℕ) (x : X) → i < length xs → x ≡ get_or xs i x → drop i xs ≡ x ∷ drop (i + 1) xs
 from_here xs i x h e = rw add-one (drop-cons xs i x h ∙ ap (λ y. y ∷ drop (suc i) xs) (sym e))
-
--- the next operand of a rank
-pub walk-turn : {X : Type 0} (op : X → Operator) (term : X → Term) (xs : List X) (i : ℕ) (x : X) (t : Target) (os : Operands) (left : Walked)
-    → i < length xs → x ≡ get_or xs i x
-    → walk_links t os (walk_operator t (op x) left (walk_term t os (behind left.place 1 0) (term x))) (links op term (drop (i + 1) xs))
-    ≡ walk_links t os left (links op term (drop i xs))
-walk-turn op term xs i x t os left h e = sym (ap (λ ys. walk_links t os left (links op term ys)) (from_here xs i x h e))
-
--- no operand more
-pub walk-end : {X : Type 0} (op : X → Operator) (term : X → Term) (xs : List X) (i : ℕ) (t : Target) (os : Operands) (left : Walked)
-    → length xs ≤ i → walk_links t os left (links op term (drop i xs)) ≡ left
-walk-end op term xs i t os left h = ap (λ ys. walk_links t os left (links op term ys)) (drop_all i xs h)
 
 -- what is told, and the place
 abbrev pub first_read : Read → Walked

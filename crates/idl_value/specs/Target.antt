@@ -27,16 +27,6 @@ target_of discrete.WideChar = target.WideCharacter
 target_of discrete.Boolean = target.Boolean
 target_of discrete.Octet = target.Integer Octet
 
--- an octet is no discriminator
-abbrev pub is_octet : IntegerKind → Bool
-is_octet Octet = true
-is_octet Short = false
-is_octet UnsignedShort = false
-is_octet Long = false
-is_octet UnsignedLong = false
-is_octet LongLong = false
-is_octet UnsignedLongLong = false
-
 -- a union may have a discriminator of the type
 abbrev pub discriminates : Target → Bool
 discriminates (target.Integer Octet) = false
