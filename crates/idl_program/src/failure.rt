@@ -33,6 +33,24 @@ impl Status {
     }
 }
 
+/// Why options can't be taken.
+#[derive(Drop)]
+pub enum OptionsFault<'a> {
+    /// The body of the macro that this word defines is no line: there is a newline in it.
+    NoLine(&'a str),
+    /// What this word asks for is refused.
+    Refused(&'a str, Refusal),
+}
+
+/// Why roots can't be compiled.
+#[derive(Drop)]
+pub enum CompileFault {
+    /// A file is refused.
+    Refused(Name, Refusal),
+    /// A file is there and can't be read.
+    CannotRead(Name),
+}
+
 /// What a refusal is about.
 #[derive(Drop)]
 pub enum Subject<'a> {
@@ -95,6 +113,24 @@ fn tell_refusal<K: Sink>(errors: &mut K, word: &[u8], refusal: Refusal) -> Resul
 impl<'a> From<WordsFault> for Failure<'a> {
     fn from(_fault: WordsFault) -> Failure<'a> {
         Failure::BadArguments
+    }
+}
+
+impl<'a> From<OptionsFault<'a>> for Failure<'a> {
+    fn from(fault: OptionsFault<'a>) -> Failure<'a> {
+        match fault {
+            OptionsFault::NoLine(_word) => Failure::BadArguments,
+            OptionsFault::Refused(word, refusal) => Failure::Refused(Subject::Word(word), refusal),
+        }
+    }
+}
+
+impl<'a> From<CompileFault> for Failure<'a> {
+    fn from(fault: CompileFault) -> Failure<'a> {
+        match fault {
+            CompileFault::Refused(name, refusal) => Failure::Refused(Subject::File(name), refusal),
+            CompileFault::CannotRead(name) => Failure::CannotRead(name),
+        }
     }
 }
 

@@ -11,7 +11,7 @@ mod preparing;
 mod program;
 mod request;
 
-pub use failure::{Failure, Status, Subject};
+pub use failure::{CompileFault, OptionsFault, Status, Subject};
 pub use laws::{single_fault, worked_words};
 pub use loader::{Loaded, Loader};
 pub use loading::compile_all;

@@ -7,7 +7,7 @@ ghost use Rattle.idl_workspace.specs.Compile.{compiled_root};
 ghost use Rattle.idl_program.specs.Loading.{AreCompiled};
 ghost use Rattle.idl_program.specs.Tried.{AreMissing, IsLoading};
 
-use crate::failure::{Failure, Subject};
+use crate::failure::CompileFault;
 use crate::loader::{Loaded, Loader};
 use idl_prep::{Explorer, FileWalk, MAX_DEPTH, Next, OpenFile};
 use idl_source::{Name, Refusal, cut};
@@ -20,16 +20,17 @@ use std::alloc::AllocError;
 /// The roots are explored in their order, and a name is tried when it is asked for, so that each is tried once in all, and trouble
 /// with one ends the program as the first that there is. No promise rests on the exploration: what the compiled roots have absent
 /// is looked at, and a name among it that wasn't tried would be loaded, and the roots compiled again.
-pub fn compile_all<'a, L: Loader>(
+pub fn compile_all<L: Loader>(
     sources: Sources,
     roots: &[Name],
     loader: &mut L,
-) -> Result<(Sources, Vec<CompiledRoot>), Failure<'a>>
+) -> Result<(Sources, Vec<CompiledRoot>), CompileFault>
     requires { sources.files ≡ finite.empty }
     ensures { IfOk result (λ p. AreCompiled (L.told loader.old) sources p.0 roots.now p.1.items) }
 {
     let mut loading = Loading::new(sources);
-    'rounds: for _ in 0..u64::MAX {
+    let mut rounds_left = u64::MAX;
+    'rounds: loop {
         loading.explore_all(roots, loader)?;
         let compiled = compile_each(&mut loading.sources, roots)?;
         let Some(name) = loading.untried(&compiled) else {
@@ -37,12 +38,12 @@ pub fn compile_all<'a, L: Loader>(
             sources.keeps_form();
             return Ok((sources, compiled));
         };
+        if rounds_left == 0 {
+            // So many names nobody asks for.
+            return Err(refused(name, Refusal::OverLimit));
+        }
+        rounds_left -= 1;
         loading.load(name, loader)?;
-    }
-    // So many names nobody asks for.
-    match roots.first() {
-        Some(root) => Err(refused(root, Refusal::OverLimit)),
-        None => Err(Failure::BadArguments),
     }
 }
 
@@ -70,11 +71,7 @@ impl Loading {
 
     // Loads what the roots ask for.
     #[inline(never)]
-    fn explore_all<'a, L: Loader>(
-        &mut self,
-        roots: &[Name],
-        loader: &mut L,
-    ) -> Result<(), Failure<'a>>
+    fn explore_all<L: Loader>(&mut self, roots: &[Name], loader: &mut L) -> Result<(), CompileFault>
         ensures { OnOk result (IsLoading (L.told loader.old) (L.told loader.new) self.old self.new) }
     {
         'roots: for root in roots {
@@ -87,11 +84,11 @@ impl Loading {
     }
 
     // The file of a root, which is loaded if it wasn't.
-    fn own_file<'a, L: Loader>(
+    fn own_file<L: Loader>(
         &mut self,
         root: &Name,
         loader: &mut L,
-    ) -> Result<Option<OpenFile>, Failure<'a>>
+    ) -> Result<Option<OpenFile>, CompileFault>
         ensures { OnOk result (IsLoading (L.told loader.old) (L.told loader.new) self.old self.new) }
     {
         if let Some(file) = self.opened(root)? {
@@ -102,18 +99,18 @@ impl Loading {
     }
 
     // The file of this name, if it is there.
-    fn opened<'a>(&self, name: &Name) -> Result<Option<OpenFile>, Failure<'a>> {
+    fn opened(&self, name: &Name) -> Result<Option<OpenFile>, CompileFault> {
         OpenFile::of(self.sources.allocator(), name, &self.sources).map_err(|_| no_memory(name))
     }
 
     // Loads what a file asks for, inside which so many may still be entered inside one another.
     #[cycle(files)]
-    fn explore<'a, L: Loader>(
+    fn explore<L: Loader>(
         &mut self,
         loader: &mut L,
         room: usize,
         file: &OpenFile,
-    ) -> Result<(), Failure<'a>>
+    ) -> Result<(), CompileFault>
         ensures { OnOk result (IsLoading (L.told loader.old) (L.told loader.new) self.old self.new) }
     {
         let mut walk = FileWalk::new(self.sources.allocator(), file);
@@ -128,7 +125,7 @@ impl Loading {
     }
 
     // How the exploration of a file goes on.
-    fn advance<'a>(&mut self, walk: &mut FileWalk<'_>, file: &OpenFile) -> Result<Next, Failure<'a>>
+    fn advance(&mut self, walk: &mut FileWalk<'_>, file: &OpenFile) -> Result<Next, CompileFault>
         ensures sources { OnOk result (self.new.sources ≡ self.old.sources) }
         ensures missing { OnOk result (self.new.missing.keys ≡ self.old.missing.keys) }
     {
@@ -138,12 +135,12 @@ impl Loading {
 
     // Loads what a file asks for, unless it is too deep.
     #[cycle(files)]
-    fn enter<'a, L: Loader>(
+    fn enter<L: Loader>(
         &mut self,
         loader: &mut L,
         room: usize,
         file: &OpenFile,
-    ) -> Result<(), Failure<'a>>
+    ) -> Result<(), CompileFault>
         ensures { OnOk result (IsLoading (L.told loader.old) (L.told loader.new) self.old self.new) }
     {
         if room == 0 {
@@ -156,11 +153,7 @@ impl Loading {
     }
 
     // Loads the first of these names that there is.
-    fn load_first<'a, L: Loader>(
-        &mut self,
-        names: &[Name],
-        loader: &mut L,
-    ) -> Result<(), Failure<'a>>
+    fn load_first<L: Loader>(&mut self, names: &[Name], loader: &mut L) -> Result<(), CompileFault>
         ensures { OnOk result (IsLoading (L.told loader.old) (L.told loader.new) self.old self.new) }
     {
         'names: for name in names {
@@ -173,7 +166,7 @@ impl Loading {
 
     // Loads the file of this name, unless it is known to be missing, and tells whether it is there.
     #[inline(never)]
-    fn load<'a, L: Loader>(&mut self, name: &Name, loader: &mut L) -> Result<bool, Failure<'a>>
+    fn load<L: Loader>(&mut self, name: &Name, loader: &mut L) -> Result<bool, CompileFault>
         ensures { OnOk result (IsLoading (L.told loader.old) (L.told loader.new) self.old self.new) }
     {
         if self.missing.contains(name) {
@@ -188,7 +181,7 @@ impl Loading {
                 Ok(_) => Ok(false),
                 Err(_) => Err(no_memory(name)),
             },
-            Loaded::Failed => Err(Failure::CannotRead(name.copied())),
+            Loaded::Failed => Err(CompileFault::CannotRead(name.copied())),
             Loaded::NoMemory => Err(no_memory(name)),
         }
     }
@@ -229,7 +222,7 @@ fn put(sources: &mut Sources, name: &Name, bytes: &[u8]) -> Result<(), Refusal>
 }
 
 // What each of the roots compiles to.
-fn compile_each<'a>(sources: &mut Sources, roots: &[Name]) -> Result<Vec<CompiledRoot>, Failure<'a>>
+fn compile_each(sources: &mut Sources, roots: &[Name]) -> Result<Vec<CompiledRoot>, CompileFault>
     ensures rows { IfOk result (λ compiled.
         compiled.items ≡ map (compiled_root sources.old) roots.now) }
     ensures same { OnOk result (sources.new ≡ sources.old) }
@@ -256,10 +249,10 @@ fn compile(
     Ok(())
 }
 
-fn no_memory<'a>(name: &Name) -> Failure<'a> {
+fn no_memory(name: &Name) -> CompileFault {
     refused(name, Refusal::NoMemory)
 }
 
-fn refused<'a>(name: &Name, refusal: Refusal) -> Failure<'a> {
-    Failure::Refused(Subject::File(name.copied()), refusal)
+fn refused(name: &Name, refusal: Refusal) -> CompileFault {
+    CompileFault::Refused(name.copied(), refusal)
 }

@@ -4,7 +4,7 @@ ghost use Rattle.std.specs.Prelude.{◌≡◌, ◌∷◌, [], Some, map, IfOk, O
 ghost use Rattle.std.specs.FinMap as finite;
 ghost use Rattle.idl_program.specs.Options.{AreAsked, before_equals, defined_by, macro_body, named_by, searched_by, undefined_by};
 
-use crate::failure::{Failure, Subject};
+use crate::failure::OptionsFault;
 use crate::request::Options;
 use idl_source::{Directory, Line, Name, Refusal, directory_at, first_part, join};
 use idl_workspace::{MAX_ROOTS, Sources};
@@ -16,7 +16,7 @@ use std::alloc::{AllocError, Global};
 pub fn prepared<'a>(
     alloc: Global,
     options: &Options<'a>,
-) -> Result<(Sources, IndexSet<Name>), Failure<'a>>
+) -> Result<(Sources, IndexSet<Name>), OptionsFault<'a>>
     ensures asked { IfOk result (λ p. AreAsked options.now p.0 p.1.keys) }
     ensures files { IfOk result (λ p. p.0.files ≡ finite.empty) }
 {
@@ -29,7 +29,7 @@ pub fn prepared<'a>(
 }
 
 // Defines each macro, the last of one name in place of those before it.
-fn define_all<'a>(sources: &mut Sources, words: &[&'a str]) -> Result<(), Failure<'a>>
+fn define_all<'a>(sources: &mut Sources, words: &[&'a str]) -> Result<(), OptionsFault<'a>>
     ensures { let texts = map (λ w. w.now) words.entry.now in OnOk result
         (sources.new ≡ record sources.old { macros = defined_by sources.old.macros texts }) }
 {
@@ -40,14 +40,14 @@ fn define_all<'a>(sources: &mut Sources, words: &[&'a str]) -> Result<(), Failur
 }
 
 // Defines `NAME`, whose body is `1`, or `NAME=BODY`.
-fn define<'a>(sources: &mut Sources, word: &'a str) -> Result<(), Failure<'a>>
+fn define<'a>(sources: &mut Sources, word: &'a str) -> Result<(), OptionsFault<'a>>
     ensures { let macros = defined_by sources.old.macros (word.entry.now ∷ []) in
         OnOk result (sources.new ≡ record sources.old { macros = macros }) }
 {
     let (name, body) = macro_of(word.as_bytes());
     let line = match Line::new(sources.allocator(), body) {
         Ok(Some(line)) => line,
-        Ok(None) => return Err(Failure::BadArguments),
+        Ok(None) => return Err(OptionsFault::NoLine(word)),
         Err(_) => return Err(refused(word, Refusal::NoMemory)),
     };
     match sources.define(name, line) {
@@ -69,7 +69,7 @@ fn macro_of(word: &[u8]) -> (&[u8], &[u8])
 }
 
 // Takes the macro of each name out.
-fn undefine_all<'a>(sources: &mut Sources, words: &[&'a str]) -> Result<(), Failure<'a>>
+fn undefine_all<'a>(sources: &mut Sources, words: &[&'a str]) -> Result<(), OptionsFault<'a>>
     ensures { let texts = map (λ w. w.now) words.entry.now in OnOk result
         (sources.new ≡ record sources.old { macros = undefined_by sources.old.macros texts }) }
 {
@@ -80,7 +80,7 @@ fn undefine_all<'a>(sources: &mut Sources, words: &[&'a str]) -> Result<(), Fail
 }
 
 // Takes the macro of a name out, if there is one.
-fn undefine<'a>(sources: &mut Sources, word: &'a str) -> Result<(), Failure<'a>>
+fn undefine<'a>(sources: &mut Sources, word: &'a str) -> Result<(), OptionsFault<'a>>
     ensures { let macros = undefined_by sources.old.macros (word.entry.now ∷ []) in
         OnOk result (sources.new ≡ record sources.old { macros = macros }) }
 {
@@ -91,7 +91,7 @@ fn undefine<'a>(sources: &mut Sources, word: &'a str) -> Result<(), Failure<'a>>
 }
 
 // Has included files searched in each of these directories, too.
-fn search_all<'a>(sources: &mut Sources, words: &[&'a str]) -> Result<(), Failure<'a>>
+fn search_all<'a>(sources: &mut Sources, words: &[&'a str]) -> Result<(), OptionsFault<'a>>
     requires { sources.old.search ≡ [] }
     ensures searched { OnOk result
         (searched_by [] (map (λ w. w.now) words.entry.now) ≡ Some sources.new.search) }
@@ -135,7 +135,7 @@ fn texts<'d>(alloc: Global, directories: &'d [Directory]) -> Result<Vec<&'d [u8]
 }
 
 // The names that these words lead to, each once.
-fn roots_of<'a>(alloc: Global, words: &[&'a str]) -> Result<IndexSet<Name>, Failure<'a>>
+fn roots_of<'a>(alloc: Global, words: &[&'a str]) -> Result<IndexSet<Name>, OptionsFault<'a>>
     ensures { IfOk result (λ roots.
         named_by [] (map (λ w. w.now) words.entry.now) ≡ Some roots.keys) }
 {
@@ -158,6 +158,6 @@ fn add(roots: &mut IndexSet<Name>, word: &[u8]) -> Result<(), Refusal>
     Ok(())
 }
 
-fn refused<'a>(word: &'a str, refusal: Refusal) -> Failure<'a> {
-    Failure::Refused(Subject::Word(word), refusal)
+fn refused<'a>(word: &'a str, refusal: Refusal) -> OptionsFault<'a> {
+    OptionsFault::Refused(word, refusal)
 }

@@ -6,8 +6,10 @@ use Rattle.idl_explain.specs.declared.explanation.Explanation.{Explanation}
 use Rattle.idl_explain.specs.declared.explanation.Topic.TheVariants as topic
 use Rattle.idl_session.specs.Replies.{whole_line}
 use Rattle.idl_source.specs.declared.refusal.Refusal.{Refusal}
-use Rattle.idl_program.specs.declared.failure.Failure.{Failure as CompilingFailure}
-use Rattle.idl_program.specs.declared.failure.Failure.TheVariants as compiling
+use Rattle.idl_program.specs.declared.failure.CompileFault.{CompileFault}
+use Rattle.idl_program.specs.declared.failure.CompileFault.TheVariants as compile
+use Rattle.idl_program.specs.declared.failure.OptionsFault.{OptionsFault}
+use Rattle.idl_program.specs.declared.failure.OptionsFault.TheVariants as options
 use Rattle.idl_program.specs.declared.failure.Subject.{Subject}
 use Rattle.idl_program.specs.declared.failure.Subject.TheVariants.{Word, File}
 use Rattle.idl_tool.specs.declared.failure.Failure.{Failure}
@@ -31,13 +33,13 @@ IsRefusedMessage name refusal text =
     (explanation : Explanation) × (topic_of explanation.told ≡ topic.Refusal refusal)
     × (text ≡ codes "idltool: " ++ name ++ codes ": " ++ headline explanation [])
 
-abbrev pub IsCompilingMessage : CompilingFailure → List ℕ → Type 0
-IsCompilingMessage compiling.BadArguments text = text ≡ line_of (codes "bad arguments")
-IsCompilingMessage (compiling.Refused subject refusal) text =
-    IsRefusedMessage (name_of subject) refusal text
-IsCompilingMessage (compiling.CannotRead name) text = text ≡ named_line name (codes "cannot read")
-IsCompilingMessage compiling.ReadFailed text = text ≡ line_of (codes "read failed")
-IsCompilingMessage compiling.WriteFailed text = text ≡ line_of (codes "write failed")
+abbrev pub IsOptionsMessage : OptionsFault → List ℕ → Type 0
+IsOptionsMessage (options.NoLine word) text = text ≡ line_of (codes "bad arguments")
+IsOptionsMessage (options.Refused word refusal) text = IsRefusedMessage word.now refusal text
+
+abbrev pub IsCompileMessage : CompileFault → List ℕ → Type 0
+IsCompileMessage (compile.Refused name refusal) text = IsRefusedMessage name refusal text
+IsCompileMessage (compile.CannotRead name) text = text ≡ named_line name (codes "cannot read")
 
 abbrev pub IsMessage : Failure → List ℕ → Type 0
 IsMessage (failure.Words told) text = text ≡ string_bytes told
@@ -45,6 +47,7 @@ IsMessage (failure.NoTopic word) text =
     text ≡ named_line word.now (codes "no code and no refusal")
 IsMessage (failure.NoMakeName subject) text =
     text ≡ named_line (name_of subject) (codes "no name for make")
-IsMessage (failure.Compiling failure) text = IsCompilingMessage failure text
+IsMessage (failure.Options fault) text = IsOptionsMessage fault text
+IsMessage (failure.Compile fault) text = IsCompileMessage fault text
 IsMessage failure.NoMemory text = text ≡ line_of (codes "no memory")
 IsMessage failure.WriteFailed text = text ≡ line_of (codes "write failed")

@@ -1,11 +1,11 @@
 //! How the program fails, and what it tells of that.
 
 ghost use Rattle.std.specs.Prelude.{◌≡◌, IfOk};
-ghost use Rattle.idl_tool.specs.Messages.{IsMessage, IsCompilingMessage, IsRefusedMessage, line_of, name_of, named_line};
+ghost use Rattle.idl_tool.specs.Messages.{IsCompileMessage, IsMessage, IsOptionsMessage, IsRefusedMessage, line_of, name_of, named_line};
 
 use crate::request::WordsFault;
 use idl_explain::{Topic, explanation_of};
-use idl_program::{Failure as CompilingFailure, Subject};
+use idl_program::{CompileFault, OptionsFault, Subject};
 use idl_session::WriteFailed;
 use idl_source::Refusal;
 use std::alloc::{AllocError, Global};
@@ -19,8 +19,8 @@ pub enum Failure<'a> {
     NoTopic(&'a str),
     /// No rule of make can have this name in it.
     NoMakeName(Subject<'a>),
-    /// The options and the files, as `idlc` fails over them.
-    Compiling(CompilingFailure<'a>),
+    Options(OptionsFault<'a>),
+    Compile(CompileFault),
     NoMemory,
     WriteFailed,
 }
@@ -38,24 +38,30 @@ impl<'a> Failure<'a> {
             Failure::NoMakeName(subject) => {
                 named_line(alloc, name_of(subject), b"no name for make")
             }
-            Failure::Compiling(failure) => compiling_message(alloc, failure),
+            Failure::Options(fault) => options_message(alloc, fault),
+            Failure::Compile(fault) => compile_message(alloc, fault),
             Failure::NoMemory => line_of(alloc, b"no memory"),
             Failure::WriteFailed => line_of(alloc, b"write failed"),
         }
     }
 }
 
-fn compiling_message(alloc: Global, failure: &CompilingFailure<'_>) -> Result<Vec<u8>, AllocError>
-    ensures { IfOk result (λ text. IsCompilingMessage failure.now text.items) }
+// As `idlc` tells it: a word with a newline in it would take two lines.
+fn options_message(alloc: Global, fault: &OptionsFault<'_>) -> Result<Vec<u8>, AllocError>
+    ensures { IfOk result (λ text. IsOptionsMessage fault.now text.items) }
 {
-    match failure {
-        CompilingFailure::BadArguments => line_of(alloc, b"bad arguments"),
-        CompilingFailure::Refused(subject, refusal) => {
-            refused_message(alloc, name_of(subject), *refusal)
-        }
-        CompilingFailure::CannotRead(name) => named_line(alloc, name.as_bytes(), b"cannot read"),
-        CompilingFailure::ReadFailed => line_of(alloc, b"read failed"),
-        CompilingFailure::WriteFailed => line_of(alloc, b"write failed"),
+    match fault {
+        OptionsFault::NoLine(_word) => line_of(alloc, b"bad arguments"),
+        OptionsFault::Refused(word, refusal) => refused_message(alloc, word.as_bytes(), *refusal),
+    }
+}
+
+fn compile_message(alloc: Global, fault: &CompileFault) -> Result<Vec<u8>, AllocError>
+    ensures { IfOk result (λ text. IsCompileMessage fault.now text.items) }
+{
+    match fault {
+        CompileFault::Refused(name, refusal) => refused_message(alloc, name.as_bytes(), *refusal),
+        CompileFault::CannotRead(name) => named_line(alloc, name.as_bytes(), b"cannot read"),
     }
 }
 
@@ -110,9 +116,15 @@ impl<'a> From<WordsFault> for Failure<'a> {
     }
 }
 
-impl<'a> From<CompilingFailure<'a>> for Failure<'a> {
-    fn from(failure: CompilingFailure<'a>) -> Failure<'a> {
-        Failure::Compiling(failure)
+impl<'a> From<OptionsFault<'a>> for Failure<'a> {
+    fn from(fault: OptionsFault<'a>) -> Failure<'a> {
+        Failure::Options(fault)
+    }
+}
+
+impl<'a> From<CompileFault> for Failure<'a> {
+    fn from(fault: CompileFault) -> Failure<'a> {
+        Failure::Compile(fault)
     }
 }
 

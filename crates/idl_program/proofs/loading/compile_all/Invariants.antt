@@ -9,3 +9,6 @@ invariant-rounds g l = record {
   is_true : IsTrue (g.L.Loader.told l.fn.loader) l.loading.sources l.loading.missing.keys;
   stays : StaysAsked l.fn.sources l.loading.sources;
 }
+
+abbrev pub decreases-rounds : goal.decreases-rounds
+decreases-rounds g l = l.rounds_left
