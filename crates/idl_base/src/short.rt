@@ -23,20 +23,6 @@ impl<const N: usize> Model for Short<N> {
 }
 
 impl<const N: usize> Short<N> {
-    /// These few bytes.
-    pub fn of(bytes: &[u8]) -> Short<N>
-        requires few { length bytes.now ≤ N }
-        requires counted { N < 256 }
-        ensures { result ≡ bytes.now }
-    {
-        let mut array = [0; N];
-        array[..bytes.len()].copy_from_slice(bytes);
-        Short {
-            count: bytes.len() as u8,
-            bytes: array,
-        }
-    }
-
     /// No bytes.
     pub fn blank() -> Short<N>
         ensures { result ≡ [] }

@@ -9,7 +9,7 @@ ghost use Rattle.idl_scope.specs.Facts.{answers};
 ghost use Rattle.idl_scope.specs.Key.{key_eq};
 ghost use Rattle.idl_scope.specs.Lookup.{under};
 
-use idl_base::InlineText;
+use idl_base::SharedText;
 use idl_lex::Spelling;
 use idl_memo::Journal;
 use idl_scope::{
@@ -119,7 +119,7 @@ pub fn versioned(
     Shared::new(
         alloc,
         FixedIdentity {
-            id: InlineText::from_slice(alloc, id.as_slice())?,
+            id: SharedText::from_slice(alloc, id.as_slice())?,
             prefix: before.prefix.clone()?,
             by: Fixed::Version,
         },
@@ -147,7 +147,7 @@ pub fn given(
     Shared::new(
         alloc,
         FixedIdentity {
-            id: InlineText::from_slice(alloc, id.as_bytes())?,
+            id: SharedText::from_slice(alloc, id.as_bytes())?,
             prefix,
             by: Fixed::Id,
         },

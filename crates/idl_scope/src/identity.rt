@@ -10,7 +10,7 @@ use crate::name::shared_name;
 use crate::names::Names;
 use crate::path::Path;
 use crate::shared::Shared;
-use idl_base::{Datum, InlineText};
+use idl_base::{Datum, SharedText};
 use idl_lex::Spelling;
 use std::alloc::{AllocError, Global};
 
@@ -30,8 +30,7 @@ pub enum Fixed {
 
 /// The repository id of a declared name.
 pub struct Identity {
-    /// Most ids stand in place.
-    pub id: InlineText<38>,
+    pub id: SharedText,
     /// The text of the prefix that was in force where the name was declared first.
     pub prefix: Spelling,
     /// The pragma that fixed it, if one did so far.
@@ -41,7 +40,7 @@ pub struct Identity {
 /// A repository id that a pragma fixed.
 #[derive(Clone, PartialEq, Eq)]
 pub struct FixedIdentity {
-    pub id: InlineText<38>,
+    pub id: SharedText,
     /// The text of the prefix that was in force where the name was declared first.
     pub prefix: Spelling,
     pub by: Fixed,
@@ -165,7 +164,7 @@ impl Identity {
     {
         let mut id = Vec::new(alloc);
         prefix.push_id(&mut id, path)?;
-        let id = InlineText::from_slice(alloc, id.as_slice())?;
+        let id = SharedText::from_slice(alloc, id.as_slice())?;
         let prefix = prefix.text.clone()?;
         Shared::new(
             alloc,
