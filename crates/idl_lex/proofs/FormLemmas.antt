@@ -54,13 +54,3 @@ all-by_ends bytes front rest back count within all first last =
     take-put_mid at (length bytes - at) (front ++ rest) back (length bytes) (omega (arith, back-length, within)) (omega (arith, front-length, all, length-append front rest))
     ∙ (λ i. before i ++ last i)
     ∙ take-append-drop at bytes
-
--- the last bytes of eight that end at a place
-pub last-of_eight : (bytes : List ℕ) (from to count : ℕ) → count ≤ 8 → 8 ≤ to → from + count ≡ to
-    → drop (8 - count) (take 8 (drop (to - 8) bytes)) ≡ take count (drop from bytes)
-last-of_eight bytes from to count most eight ends =
-    let whole : 8 ≡ (8 - count) + count = omega (arith, most) in
-    let begin : (to - 8) + (8 - count) ≡ from = omega (arith, most, eight, ends) in
-    ap (λ n. drop (8 - count) (take n (drop (to - 8) bytes))) whole
-    ∙ drop-take (8 - count) count (drop (to - 8) bytes)
-    ∙ ap (take count) (drop-drop (8 - count) (to - 8) bytes ∙ ap (λ n. drop n bytes) begin)

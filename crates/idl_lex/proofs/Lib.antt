@@ -16,7 +16,6 @@ pub mod MovedLemmas
 pub mod NumberLemmas
 pub mod PartLemmas
 pub mod PieceLemmas
-pub mod ShiftLemmas
 pub mod TableLemmas
 pub mod TextLemmas
 pub mod TokensLemmas

@@ -1,6 +1,6 @@
 //! The forms in which the bytes of a spelling are held: few in place, and more in shared bytes.
 
-ghost use Rattle.std.specs.Prelude.{◌≡◌, ◌≤◌, ◌<◌, ◌∷◌, ◌↔◌, ◌*◌, ◌++◌, ◌+◌, ◌-◌, [], IfNone, IfOk, IfSome, IsTrue, drop, length, slice_range, take, ℕ};
+ghost use Rattle.std.specs.Prelude.{◌≡◌, ◌≤◌, ◌<◌, ◌∷◌, ◌↔◌, ◌*◌, [], IfNone, IfOk, IfSome, IsTrue, drop, length, slice_range, take};
 ghost use Rattle.std.specs.Int.{to_le_bytes, w64};
 ghost use Rattle.std.specs.Rc.{rc_slice_items};
 ghost use Rattle.idl_lex.specs.Form.{IsWithin, form_bytes};
@@ -129,43 +129,6 @@ impl Short {
         Some(Short::of(bytes))
     }
 
-    /// The bytes from one place up to another, if they are few, but some, and end at the eighth byte or behind it: they are read
-    /// as numbers of eight bytes.
-    #[inline(always)]
-    pub fn cut(bytes: &[u8], from: usize, to: usize) -> Option<Short>
-        requires order { from ≤ to }
-        requires within { to ≤ length bytes.now }
-        ensures { IfSome result (λ short. short ≡ slice_range bytes.now from to) }
-    {
-        let count = to - from;
-        if count == 0 || count > MOST || to < 8 {
-            return None;
-        }
-        let last = eight_from(bytes, to - 8);
-        if count <= 6 {
-            let front = last_of(last, count).to_le_bytes();
-            return Some(Short::joined(count, front.first_chunk::<6>().unwrap(), 0));
-        }
-        let front = bytes[from..].first_chunk::<6>().unwrap();
-        Some(Short::joined(count, front, last_of(last, count - 6)))
-    }
-
-    // So many bytes: six of them, and then those of a number.
-    #[inline(always)]
-    fn joined(count: usize, front: &[u8; 6], back: u64) -> Short
-        requires { count ≤ 14 }
-        ensures { result ≡ take count (front.now ++ to_le_bytes w64 back) }
-    {
-        Short {
-            count: count as u8,
-            bytes: by_pieces(
-                front.first_chunk::<2>().unwrap(),
-                front.last_chunk::<4>().unwrap(),
-                &back.to_le_bytes(),
-            ),
-        }
-    }
-
     /// This byte.
     pub fn of_byte(b: u8) -> Short
         ensures { result ≡ b ∷ [] }
@@ -242,28 +205,6 @@ impl Short {
     }
 }
 
-// An array by its pieces, each as large as a register can be, and at a multiple of its size in a form. So it is moved from
-// register to register, where an array that is copied whole goes through memory.
-#[inline(always)]
-fn by_pieces(front: &[u8; 2], middle: &[u8; 4], back: &[u8; 8]) -> [u8; MOST]
-    ensures { result ≡ front.now ++ middle.now ++ back.now }
-{
-    let mut bytes = [0; MOST];
-    put_piece(&mut bytes, 0, front);
-    put_piece(&mut bytes, 2, middle);
-    put_piece(&mut bytes, 6, back);
-    bytes
-}
-
-// Puts in a piece at a place, behind those before it.
-#[inline(always)]
-fn put_piece(array: &mut [u8; MOST], at: usize, piece: &[u8])
-    requires { at + length piece.now ≤ 14 }
-    ensures { take (at + length piece.now) array.new ≡ take at array.old ++ piece.now }
-{
-    array[at..at + piece.len()].copy_from_slice(piece);
-}
-
 // Puts in few bytes: so many of the first ones, and so many of the last ones, which are all of them.
 fn put_ends(array: &mut [u8; MOST], bytes: &[u8], count: usize)
     requires few { length bytes.now ≤ 14 }
@@ -274,25 +215,6 @@ fn put_ends(array: &mut [u8; MOST], bytes: &[u8], count: usize)
     let len = bytes.len();
     array[..count].copy_from_slice(&bytes[..count]);
     array[len - count..len].copy_from_slice(&bytes[len - count..]);
-}
-
-// The eight bytes from a place on, as a number.
-#[inline(always)]
-fn eight_from(bytes: &[u8], from: usize) -> u64
-    requires { from + 8 ≤ length bytes.now }
-    ensures { to_le_bytes w64 result ≡ take 8 (drop from bytes.now) }
-{
-    word(bytes[from..].first_chunk::<8>().unwrap())
-}
-
-// The last so many bytes of a number, and zeros behind them.
-#[inline(always)]
-fn last_of(number: u64, count: usize) -> u64
-    requires some { 0 < count }
-    requires most { count ≤ 8 }
-    ensures { take count (to_le_bytes w64 result) ≡ drop (8 - count) (to_le_bytes w64 number) }
-{
-    number >> (8 * (8 - count))
 }
 
 // Whether these are the same bytes: the first eight are, and the last eight.

@@ -58,13 +58,10 @@ impl Spelling {
         requires within { to ≤ length bytes.now }
         ensures { IfOk result (λ spelling. spelling ≡ slice_range bytes.now from to) }
     {
-        let (block, begin, _end) = bytes.parts();
-        if let Some(short) = Short::cut(block.as_slice(), begin + from, begin + to) {
-            return Ok(Spelling::short(short));
+        match Short::new(&bytes.as_bytes()[from..to]) {
+            Some(short) => Ok(Spelling::short(short)),
+            None => Spelling::part(alloc, bytes, from, to),
         }
-        // Handed on as a local: as the last expression it would have few bytes go through memory too.
-        let spelling = Spelling::apart(alloc, bytes, from, to)?;
-        Ok(spelling)
     }
 
     /// This byte.
@@ -156,20 +153,8 @@ impl Spelling {
         Spelling::from_vec(bytes.to_ascii_lowercase(alloc)?)
     }
 
-    // The bytes from one place up to another, however many they are.
-    #[inline(never)]
-    fn apart(alloc: Global, bytes: &Excerpt, from: usize, to: usize) -> Result<Spelling, AllocError>
-        requires order { from ≤ to }
-        requires within { to ≤ length bytes.now }
-        ensures { IfOk result (λ spelling. spelling ≡ slice_range bytes.now from to) }
-    {
-        match Short::new(&bytes.as_bytes()[from..to]) {
-            Some(short) => Ok(Spelling::short(short)),
-            None => Spelling::part(alloc, bytes, from, to),
-        }
-    }
-
     // Shared bytes of an excerpt, from one place up to another.
+    #[inline(never)]
     fn part(alloc: Global, bytes: &Excerpt, from: usize, to: usize) -> Result<Spelling, AllocError>
         requires order { from ≤ to }
         requires within { to ≤ length bytes.now }
