@@ -17,7 +17,6 @@ pub mod Meaning
 pub mod OpenScopes
 pub mod Outline
 pub mod Outside
-pub mod Past
 pub mod Path
 pub mod Question
 pub mod Queue

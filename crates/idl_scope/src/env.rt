@@ -12,11 +12,11 @@ use crate::data_type::{DataType, Element};
 use crate::digested::DigestedKey;
 use crate::facts::Facts;
 use crate::key::Key;
-use crate::past::Past;
 use crate::plain::PlainTypes;
 use crate::room::{Room, Writes};
 use crate::shared::Shared;
 use crate::state::State;
+use idl_base::GhostList;
 use idl_map::Lent;
 use idl_memo::Bank;
 use std::alloc::{AllocError, Global};
@@ -26,7 +26,7 @@ use std::marker::Model;
 /// kept once it is answered by.
 pub struct Env {
     alloc: Global,
-    facts: Past<Facts>,
+    facts: GhostList<Facts>,
     // No fewer than the facts and what they declare, since no count among the answers is larger, and no chain of typedefs longer.
     count: usize,
     // It stands apart, since an environment is handed on with each unit.
@@ -70,7 +70,7 @@ impl Env {
         let plain = PlainTypes::new(alloc)?;
         Ok(Env {
             alloc,
-            facts: Past::new(),
+            facts: GhostList::new(),
             count: 0,
             state,
             plain,

@@ -38,7 +38,6 @@ mod operations;
 mod outline;
 mod own_name;
 mod parts;
-mod past;
 mod path;
 mod plain;
 mod queue;

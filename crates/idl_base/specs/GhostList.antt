@@ -1,4 +1,4 @@
--- Items that are told, and not kept.
+-- A list of which contracts alone know.
 use Rattle.std.specs.Prelude.{List, [], ◌++◌, ◌∷◌, Option, None, Some}
 use Rattle.std.specs.declared.snapshot.Snapshot.{Snapshot}
 

@@ -1,4 +1,4 @@
-//! Items that are told, and not kept.
+//! A list of which contracts alone know.
 
 ghost use Rattle.std.specs.Prelude.{◌≡◌, ◌++◌, ◌∷◌, []};
 
@@ -7,17 +7,17 @@ use std::snapshot::Snapshot;
 
 /// Items in order, of which contracts alone know. To every contract it is the list of them, and no byte of any is kept.
 #[derive(Drop)]
-pub struct Past<T> {
-    last: Option<(Snapshot<Past<T>>, Snapshot<T>)>,
+pub struct GhostList<T> {
+    last: Option<(Snapshot<GhostList<T>>, Snapshot<T>)>,
 }
 
-impl<T> Model for Past<T> {
+impl<T> Model for GhostList<T> {
     ghost use Rattle.std.specs.Prelude.{List, length};
-    ghost use Rattle.idl_scope.specs.Past.{items_of};
+    ghost use Rattle.idl_base.specs.GhostList.{items_of};
 
     ghost Value = { List T };
 
-    ghost view = { λ past. items_of past.last };
+    ghost view = { λ list. items_of list.last };
 
     ghost size = { length };
 
@@ -26,19 +26,19 @@ impl<T> Model for Past<T> {
     ghost size_decreases = { λ a h. Prim.grind (arith, length-append) };
 }
 
-impl<T> Past<T> {
+impl<T> GhostList<T> {
     /// No items.
-    pub fn new() -> Past<T>
+    pub fn new() -> GhostList<T>
         ensures { result ≡ [] }
     {
-        Past { last: None }
+        GhostList { last: None }
     }
 
     /// The items, and this one behind them.
-    pub fn and(&self, item: &T) -> Past<T>
+    pub fn and(&self, item: &T) -> GhostList<T>
         ensures { result ≡ self.now ++ item.now ∷ [] }
     {
-        Past {
+        GhostList {
             last: Some((Snapshot::of(self), Snapshot::of(item))),
         }
     }
