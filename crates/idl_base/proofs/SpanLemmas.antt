@@ -7,13 +7,13 @@ use Rattle.idl_base.specs.Spans.{AreWithin, piece, pieces}
 use Rattle.idl_base.specs.declared.texts.Span.{Span}
 
 -- what stands up to a place stays with more bytes behind
-slice_range-more : (xs ys : List ℕ) (from to : ℕ) → from ≤ to → to ≤ length xs → slice_range (xs ++ ys) from to ≡ slice_range xs from to
+pub slice_range-more : (xs ys : List ℕ) (from to : ℕ) → from ≤ to → to ≤ length xs → slice_range (xs ++ ys) from to ≡ slice_range xs from to
 slice_range-more xs ys from to order within =
     ap (take (to - from)) (drop-append-le from xs ys (omega (arith, order, within)))
     ∙ take-append-le (to - from) (drop from xs) ys (omega (arith, order, within, length-drop from xs))
 
 -- the bytes behind others
-slice_range-behind : (xs ys : List ℕ) → slice_range (xs ++ ys) (length xs) (length (xs ++ ys)) ≡ ys
+pub slice_range-behind : (xs ys : List ℕ) → slice_range (xs ++ ys) (length xs) (length (xs ++ ys)) ≡ ys
 slice_range-behind xs ys =
     let count : length (xs ++ ys) - length xs ≡ length ys = omega (arith, length-append xs ys) in
     ap (take (length (xs ++ ys) - length xs)) (drop-append_seam xs ys) ∙ ap (λ n. take n ys) count ∙ take-length ys

@@ -12,9 +12,8 @@ ghost use Rattle.idl_scope.specs.Path.{path_eq};
 ghost use Rattle.idl_unit.specs.TokenRules.{first};
 
 use crate::codes::first_code;
-use idl_base::{Seq, Table};
+use idl_base::{Bytes, Seq, Table};
 use idl_event::Code;
-use idl_lex::Spelling;
 use idl_map::SharedList;
 use idl_scope::{Entity, Path, Stage};
 use std::alloc::{AllocError, Global};
@@ -30,7 +29,7 @@ pub struct Bases {
 // names: those of the last two bases wait, as the lists that the bases have, until a third is named.
 struct Named {
     paths: Table<Path, ()>,
-    operations: Table<Spelling, Path>,
+    operations: Table<Bytes, Path>,
     before_last: SharedList<Path>,
     last: SharedList<Path>,
 }
@@ -195,7 +194,7 @@ impl Named {
 // Puts those that wait into the table.
 fn bring(
     alloc: Global,
-    operations: &mut Table<Spelling, Path>,
+    operations: &mut Table<Bytes, Path>,
     waiting: &mut SharedList<Path>,
 ) -> Result<(), AllocError>
     ensures operations { OnOk result
@@ -231,7 +230,7 @@ fn brings_beside(
 // others: so the fewer ones are held in a table, and the more are looked up in it.
 fn add_near(
     alloc: Global,
-    operations: &mut Table<Spelling, Path>,
+    operations: &mut Table<Bytes, Path>,
     paths: &[Path],
     others: &[Path],
 ) -> Result<(), AllocError>
@@ -253,8 +252,8 @@ fn add_near(
 // Those of the operations and attributes at these paths are brought too whose names are asked for.
 fn add_asked(
     alloc: Global,
-    operations: &mut Table<Spelling, Path>,
-    asked: &Table<Spelling, Path>,
+    operations: &mut Table<Bytes, Path>,
+    asked: &Table<Bytes, Path>,
     paths: &[Path],
 ) -> Result<(), AllocError>
     ensures { OnOk result
@@ -274,7 +273,7 @@ fn add_asked(
 // Whether one of these stands beside another operation or attribute.
 fn any_another(
     alloc: Global,
-    operations: &Table<Spelling, Path>,
+    operations: &Table<Bytes, Path>,
     paths: &[Path],
 ) -> Result<bool, AllocError>
     ensures { IfOk result (λ b. b ≡ list_any (is_another operations.now) paths.now) }
@@ -290,7 +289,7 @@ fn any_another(
 // Whether another operation or attribute was brought under the name of this one.
 fn is_another(
     alloc: Global,
-    operations: &Table<Spelling, Path>,
+    operations: &Table<Bytes, Path>,
     path: &Path,
 ) -> Result<bool, AllocError>
     ensures { IfOk result (λ b. b ≡ is_another operations.now path.now) }
@@ -333,7 +332,7 @@ fn listed(alloc: Global, table: &Table<Path, ()>) -> Result<Vec<Path>, AllocErro
 // The operations and attributes at these paths are brought too.
 fn add_operations(
     alloc: Global,
-    operations: &mut Table<Spelling, Path>,
+    operations: &mut Table<Bytes, Path>,
     paths: &[Path],
 ) -> Result<(), AllocError>
     ensures { OnOk result (operations.new ≡ fold with_operation operations.old paths.now) }

@@ -16,9 +16,8 @@ use crate::identifying::{is_of_other_prefix, may_be_ahead};
 use crate::last_type::LastType;
 use crate::standing::Standing;
 use crate::types::names_of;
-use idl_base::Seq;
+use idl_base::{Bytes, Seq};
 use idl_event::Code;
-use idl_lex::Spelling;
 use idl_scope::{
     Addition, DataType, Element, Entity, EntityParts, Facts, Kind, Nature, Path, Scope, Shared,
     Stage,
@@ -131,9 +130,9 @@ pub struct Written {
     /// The type that the next constant is to have a value of, if constants may be of it.
     pub constants: Option<Target>,
     /// The path of the enum that was declared last.
-    pub enumeration: Seq<Spelling>,
+    pub enumeration: Seq<Bytes>,
     /// The enumerators of the next enum.
-    pub enumerators: Seq<Spelling>,
+    pub enumerators: Seq<Bytes>,
 }
 
 impl Drop for Written {
@@ -190,7 +189,7 @@ impl Written {
         &self,
         alloc: Global,
         way: Declaration,
-        name: &Spelling,
+        name: &Bytes,
     ) -> Result<Option<Shared<Value>>, AllocError>
         ensures { IfOk result (λ value. value ≡ value_in (held_written self.now) way name.now) }
     {
@@ -209,7 +208,7 @@ impl Written {
         &self,
         alloc: Global,
         way: Declaration,
-        name: &Spelling,
+        name: &Bytes,
         scope: &Path,
     ) -> Result<Shared<Entity>, AllocError>
         ensures { IfOk result (λ entity.
@@ -267,12 +266,7 @@ impl Written {
 
 /// The path of a name in the scope with this path: that of what was added last, if this is declared
 /// so, and else a new one.
-pub fn path_in(
-    alloc: Global,
-    own: &Facts,
-    name: &Spelling,
-    scope: &Path,
-) -> Result<Path, AllocError>
+pub fn path_in(alloc: Global, own: &Facts, name: &Bytes, scope: &Path) -> Result<Path, AllocError>
     ensures { IfOk result (λ path. path ≡ name.now ∷ scope.now) }
 {
     if let Some(path) = declared_path(own, name.as_bytes(), scope) {

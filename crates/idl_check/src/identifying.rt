@@ -9,8 +9,7 @@ ghost use Rattle.idl_scope.specs.Facts.{answers};
 ghost use Rattle.idl_scope.specs.Key.{key_eq};
 ghost use Rattle.idl_scope.specs.Lookup.{under};
 
-use idl_base::SharedText;
-use idl_lex::Spelling;
+use idl_base::Bytes;
 use idl_memo::Journal;
 use idl_scope::{
     Entity, Env, Fixed, FixedIdentity, Identity, Kind, Prefix, Shared, View, shared_name,
@@ -119,7 +118,7 @@ pub fn versioned(
     Shared::new(
         alloc,
         FixedIdentity {
-            id: SharedText::from_slice(alloc, id.as_slice())?,
+            id: Bytes::from_slice(alloc, id.as_slice())?,
             prefix: before.prefix.clone()?,
             by: Fixed::Version,
         },
@@ -139,7 +138,7 @@ fn push_number(id: &mut Vec<u8>, number: u16) -> Result<(), AllocError>
 pub fn given(
     alloc: Global,
     before: &Identity,
-    id: Spelling,
+    id: Bytes,
 ) -> Result<Shared<FixedIdentity>, AllocError>
     ensures { IfOk result (λ d. d ≡ given id before.now) }
 {
@@ -147,7 +146,7 @@ pub fn given(
     Shared::new(
         alloc,
         FixedIdentity {
-            id: SharedText::from_slice(alloc, id.as_bytes())?,
+            id: Bytes::from_slice(alloc, id.as_bytes())?,
             prefix,
             by: Fixed::Id,
         },
@@ -190,7 +189,7 @@ pub fn is_fixed(before: &Identity) -> bool
 }
 
 /// The bytes of a text of visible characters.
-pub fn visible(alloc: Global, text: &[u16]) -> Result<Option<Spelling>, AllocError>
+pub fn visible(alloc: Global, text: &[u16]) -> Result<Option<Bytes>, AllocError>
     ensures { IfOk result (λ spelled.
         spelled ≡ (if is_visible text.now then Some text.now else None)) }
 {
@@ -205,7 +204,7 @@ pub fn visible(alloc: Global, text: &[u16]) -> Result<Option<Spelling>, AllocErr
 }
 
 /// The bytes of a text that may be an id.
-pub fn id_text(alloc: Global, text: &[u16]) -> Result<Option<Spelling>, AllocError>
+pub fn id_text(alloc: Global, text: &[u16]) -> Result<Option<Bytes>, AllocError>
     ensures { IfOk result (λ spelled.
         spelled ≡ (if is_id text.now then Some text.now else None)) }
 {

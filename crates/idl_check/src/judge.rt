@@ -31,7 +31,7 @@ use crate::row::{Rest, write_row};
 use crate::scratch::Scratch;
 use crate::verdict::{Verdict, adding};
 use crate::walk::Walker;
-use idl_base::SharedText;
+use idl_base::Bytes;
 use idl_event::Code;
 use idl_lex::Token;
 use idl_memo::Journal;
@@ -283,7 +283,7 @@ impl<'t> Sited<'t> {
         walker.finish_facts(step)?;
         let writes = scratch.room.hold(&mut walker.own)?;
         scratch.types = walker.types.take();
-        let row = SharedText::from_slice(self.judge.env.alloc(), scratch.row.as_slice())?;
+        let row = Bytes::from_slice(self.judge.env.alloc(), scratch.row.as_slice())?;
         Ok(Verdict {
             fault: None,
             writes,

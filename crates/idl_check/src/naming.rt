@@ -31,9 +31,8 @@ use crate::standing::{Standing, standing_of};
 use crate::types::{constants_of, looked_through};
 use crate::using::{Denoted, Denoting, introduce, last_at, name_code, part_at, used_code};
 use crate::walk::Walker;
-use idl_base::Seq;
+use idl_base::{Bytes, Seq};
 use idl_event::Code;
-use idl_lex::Spelling;
 use idl_memo::Journal;
 use idl_scope::{
     Addition, Entity, Env, Facts, Found, Kind, NameCode, NameFault, Path, Shared, Stage,
@@ -51,7 +50,7 @@ impl<'a> Walker<'a> {
         &mut self,
         log: &mut Journal<Env>,
         way: Declaration,
-        name: &Spelling,
+        name: &Bytes,
     ) -> Result<(), AllocError>
         requires { HasRoomFor (held self.old) (item.Declared way name.now ∷ []) }
         ensures visited { OnOk result ((turns : ℕ) → turns_for self.old.env.now ≤ turns →

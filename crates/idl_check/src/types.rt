@@ -13,8 +13,7 @@ ghost use Rattle.idl_scope.specs.Turns.{HasTurnsFor};
 ghost use Rattle.idl_scope.specs.declared.data_type.Layer.TheVariants.{Sequence};
 
 use crate::last_type::LastType;
-use idl_base::Seq;
-use idl_lex::Spelling;
+use idl_base::{Bytes, Seq};
 use idl_memo::Journal;
 use idl_scope::{DataType, Element, Entity, Env, Kind, Layer, Path, Shared, Stage, Unvalued, View};
 use idl_site::{Shape, Use};
@@ -119,7 +118,7 @@ pub fn target_in(data_type: &DataType) -> Result<Option<Target>, AllocError>
 }
 
 /// The names of a path.
-pub fn names_of(alloc: Global, path: &Path) -> Result<Seq<Spelling>, AllocError>
+pub fn names_of(alloc: Global, path: &Path) -> Result<Seq<Bytes>, AllocError>
     ensures { IfOk result (λ names. names ≡ path.now) }
 {
     Ok(Seq::from_vec(path.names(alloc)?))

@@ -23,9 +23,8 @@ use crate::last_type::LastType;
 use crate::types::{target_in, written_as};
 use crate::values::{Types, code_of};
 use crate::walk::Walker;
-use idl_base::Seq;
+use idl_base::{Bytes, Seq};
 use idl_event::Code;
-use idl_lex::Spelling;
 use idl_scope::{Addition, Element};
 use idl_site::{Shape, Target as Purpose};
 use idl_tree::{DiscreteType, Expression, Several};
@@ -198,7 +197,7 @@ impl<'a> Walker<'a> {
     }
 
     /// The enum that is declared next has these enumerators.
-    pub fn enumerate(&mut self, names: &Several<Spelling>) -> Result<(), AllocError>
+    pub fn enumerate(&mut self, names: &Several<Bytes>) -> Result<(), AllocError>
         ensures visit { OnOk result
             (held self.new
             ≡ record (held self.old) {
@@ -269,7 +268,7 @@ impl<'a> Walker<'a> {
 }
 
 // Names as they are spelled.
-fn spelled(alloc: Global, names: &Several<Spelling>) -> Result<Seq<Spelling>, AllocError>
+fn spelled(alloc: Global, names: &Several<Bytes>) -> Result<Seq<Bytes>, AllocError>
     ensures { IfOk result (λ spelled. spelled ≡ names.now.first ∷ names.now.rest) }
 {
     let mut spelled = Vec::new(alloc);
@@ -279,7 +278,7 @@ fn spelled(alloc: Global, names: &Several<Spelling>) -> Result<Seq<Spelling>, Al
 }
 
 // Names more as they are spelled.
-fn spell_each(spelled: &mut Vec<Spelling>, names: &[Spelling]) -> Result<(), AllocError>
+fn spell_each(spelled: &mut Vec<Bytes>, names: &[Bytes]) -> Result<(), AllocError>
     ensures { OnOk result (spelled.new.items ≡ spelled.old.items ++ names.now) }
 {
     for name in names {

@@ -2,7 +2,7 @@
 
 ghost use Rattle.std.specs.Prelude.{◌≡◌, [], IfOk, None};
 
-use idl_base::SharedText;
+use idl_base::Bytes;
 use idl_scope::{Facts, Step, Writes};
 use idl_unit::Fault;
 use std::alloc::{AllocError, Global};
@@ -14,7 +14,7 @@ pub struct Verdict {
     /// What it adds: names only where there is no fault.
     pub writes: Writes,
     /// Its row in the dump, which a faulty unit and a pragma have not.
-    pub row: Option<SharedText>,
+    pub row: Option<Bytes>,
 }
 
 impl Drop for Verdict {

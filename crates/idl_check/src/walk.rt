@@ -25,9 +25,8 @@ use crate::labels::Labels;
 use crate::named_types::NamedTypes;
 use crate::scratch::Scratch;
 use crate::values::Values;
-use idl_base::Seq;
+use idl_base::{Bytes, Seq};
 use idl_event::Code;
-use idl_lex::Spelling;
 use idl_memo::Journal;
 use idl_scope::{Addition, Entity, Env, Facts, Kind, OpenScopes, Path, Scope, Shared, Step, View};
 use idl_site::{Declaration, Site};
@@ -243,7 +242,7 @@ impl<'a> Walker<'a> {
     }
 
     // The scope of what is declared so begins.
-    fn begin_scope(&mut self, way: Declaration, name: &Spelling) -> Result<(), AllocError>
+    fn begin_scope(&mut self, way: Declaration, name: &Bytes) -> Result<(), AllocError>
         ensures walk { OnOk result
             (held self.new
             ≡ record (held self.old) {

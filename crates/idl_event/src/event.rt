@@ -6,7 +6,8 @@ ghost use Rattle.idl_event.specs.Items.{event_of, last, place_of, place_of_event
 use crate::code::Code;
 use crate::file_name::FileName;
 use crate::place::Place;
-use idl_lex::{Spelling, Token, TokenRange};
+use idl_base::Bytes;
+use idl_lex::{Token, TokenRange};
 
 /// What is kept of the expansion of a root.
 #[derive(Drop)]
@@ -20,7 +21,7 @@ pub enum Event {
     /// A `pragma` that means something to IDL: the place of that word, and the tokens from it on.
     Pragma(Place, TokenRange),
     /// A fault, with the text that its row shows, if it has one.
-    Fault(Place, Code, Option<Spelling>),
+    Fault(Place, Code, Option<Bytes>),
 }
 
 /// What happens next when a root is expanded.

@@ -9,7 +9,7 @@ ghost use Rattle.idl_memo.specs.Query.{is_logged, noted};
 use crate::hints::Hints;
 use crate::key::{Answer, Key};
 use crate::root_bank::RootBank;
-use idl_lex::Spelling;
+use idl_base::Bytes;
 use idl_memo::{Bank, Log};
 use std::alloc::{AllocError, Global};
 use std::marker::Model;
@@ -63,7 +63,7 @@ impl<B: RootBank> HintedLog<B> {
     /// comes with the same: then no key is made. With another one the answer is no other.
     pub fn ask_word<'b>(
         &mut self,
-        word: &Spelling,
+        word: &Bytes,
         digest: u64,
         bank: &'b B,
     ) -> Result<Option<&'b Answer>, AllocError>
@@ -82,7 +82,7 @@ impl<B: RootBank> HintedLog<B> {
     #[inline(never)]
     fn ask_further<'b>(
         &mut self,
-        word: &Spelling,
+        word: &Bytes,
         digest: u64,
         bank: &'b B,
     ) -> Result<Option<&'b Answer>, AllocError>
@@ -105,7 +105,7 @@ impl<B: RootBank> HintedLog<B> {
 
 // The key at a place of a log, if it is that of a word.
 #[inline(always)]
-fn word_at<'a, B: RootBank>(log: &'a Log<B>, place: u32, word: &Spelling) -> Option<&'a Key>
+fn word_at<'a, B: RootBank>(log: &'a Log<B>, place: u32, word: &Bytes) -> Option<&'a Key>
     ensures { IfSome result (λ key. (key.now ≡ Macro word.now)
         × (is_logged key_eq log.now (Macro word.now) ≡ true)) }
 {

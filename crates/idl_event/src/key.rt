@@ -8,8 +8,7 @@ ghost use Rattle.idl_event.specs.Key.{key_cmp, key_code, key_eq};
 use crate::file_name::FileName;
 use crate::lexed_file::LexedFile;
 use crate::lexed_line::LexedLine;
-use idl_base::{Datum, Seq, mixed, with_bytes};
-use idl_lex::Spelling;
+use idl_base::{Bytes, Datum, Seq, mixed, with_bytes};
 use idl_map::Digest;
 use idl_source::Directory;
 use std::cmp::Ordering;
@@ -18,7 +17,7 @@ use std::cmp::Ordering;
 #[derive(Clone, Drop)]
 pub enum Key {
     /// The body of the session's macro with this word.
-    Macro(Spelling),
+    Macro(Bytes),
     /// The file with this name.
     File(FileName),
     /// The directories in which included files are searched.

@@ -20,7 +20,8 @@ use crate::hinted_log::HintedLog;
 use crate::key::{Answer, Key};
 use crate::place::Place;
 use crate::root_bank::RootBank;
-use idl_lex::{FileTokens, Spelling, Token};
+use idl_base::Bytes;
+use idl_lex::{FileTokens, Token};
 use idl_memo::{Bank, Log};
 use std::alloc::{AllocError, Global};
 use std::marker::Model;
@@ -163,7 +164,7 @@ impl<B: RootBank> Progress<B> {
     /// comes with the same, and with another one the answer is no other.
     pub fn ask_word<'b>(
         &mut self,
-        word: &Spelling,
+        word: &Bytes,
         digest: u64,
         bank: &'b B,
     ) -> Result<Option<&'b Answer>, AllocError>
@@ -180,10 +181,7 @@ impl<B: RootBank> Progress<B> {
 
 // The bank's answer at the key of a macro's word.
 #[inline(never)]
-fn answer_at<'b, B: RootBank>(
-    word: &Spelling,
-    bank: &'b B,
-) -> Result<Option<&'b Answer>, AllocError>
+fn answer_at<'b, B: RootBank>(word: &Bytes, bank: &'b B) -> Result<Option<&'b Answer>, AllocError>
     ensures { IfOk result (λ answer. option_copied answer ≡ B.at bank.now (Macro word.now)) }
 {
     Ok(bank.answer(&Key::Macro(word.clone()?)))

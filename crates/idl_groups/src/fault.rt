@@ -4,7 +4,7 @@ ghost use Rattle.std.specs.Prelude.{◌≡◌, IfOk};
 ghost use Rattle.idl_groups.specs.Jump.{fault_at};
 
 use crate::directive::Directive;
-use idl_lex::Spelling;
+use idl_base::Bytes;
 use std::alloc::AllocError;
 
 /// What is wrong with a directive of a group.
@@ -21,7 +21,7 @@ pub enum Misplaced {
 pub struct GroupFault {
     pub what: Misplaced,
     pub line: u32,
-    pub word: Spelling,
+    pub word: Bytes,
 }
 
 impl GroupFault {

@@ -1,15 +1,16 @@
 -- A word's kind is told without a look at what else might begin as it does.
-use Rattle.std.proofs.Common.{◌≡◌, ◌≢◌, ◌∙◌, ◌<◌, ℕ, nat_eq, Bool, true, false, ◌&&◌, ◌||◌, if◌then◌else◌, List, [], ◌∷◌, get_or, length, Some, refl, sym, ap, arith}
+use Rattle.std.proofs.Common.{◌≡◌, ◌≢◌, ◌∙◌, ◌<◌, ℕ, nat_eq, Bool, true, false, ◌&&◌, ◌||◌, if◌then◌else◌, List, [], ◌∷◌, get_or, length, None, Some, slice_range, refl, sym, ap, arith}
 use Rattle.std.proofs.lemmas.Bool.{false≢true}
 use Rattle.std.specs.Cmp.Lexicographic.{bytes_decides}
 use Rattle.std.specs.List.{list_all}
 use Rattle.std.specs.Str.{bytes_eq}
+use Rattle.idl_base.proofs.PartLemmas.{part-rest}
 use Rattle.idl_lex.proofs.CountLemmas.{eq-false}
 use Rattle.idl_lex.proofs.TableLemmas.{if_alike-same}
 use Rattle.idl_lex.specs.Byte.{is_digit, is_letter, is_quote, is_word_byte, is_word_start}
 use Rattle.idl_lex.specs.Keywords.{folded}
 use Rattle.idl_lex.specs.KeywordTable.{if_alike}
-use Rattle.idl_lex.specs.Kind.{escaped_kind, kind_beside, kind_of, letter_kind, other_kind, word_kind}
+use Rattle.idl_lex.specs.Kind.{escaped_kind, kind_beside, kind_of, letter_kind, other_kind, unescaped, word_kind}
 use Rattle.idl_lex.specs.Literal.{literal_kind}
 use Rattle.idl_lex.specs.Number.{number_kind}
 use Rattle.idl_lex.specs.Word.{is_word}
@@ -67,3 +68,12 @@ pub kind-alike : (word : List ℕ) (k : List ℕ × Kind) → bytes_eq k.0 word 
 kind-alike word k other alike =
     ap (kind_beside word) (if_alike-same word k alike)
     ∙ ap (λ b. if b then k.1 else Miscased) other
+
+-- of no bytes nothing is left, and of others what stands behind the first one
+pub unescaped-none : (bytes : List ℕ) → length bytes ≡ 0 → None ≡ unescaped bytes
+unescaped-none [] h = refl
+unescaped-none (b ∷ bytes) h = absurd (omega (arith, h))
+
+pub unescaped-behind : (bytes : List ℕ) → length bytes ≢ 0 → Some (slice_range bytes 1 (length bytes)) ≡ unescaped bytes
+unescaped-behind [] h = absurd (h refl)
+unescaped-behind (b ∷ bytes) h = ap Some (part-rest (b ∷ bytes) 1)

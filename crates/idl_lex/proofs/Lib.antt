@@ -4,7 +4,6 @@ pub mod BlockLemmas
 pub mod ByteLemmas
 pub mod CountLemmas
 pub mod CutLemmas
-pub mod FormLemmas
 pub mod HeaderLemmas
 pub mod KindLemmas
 pub mod LineLemmas
@@ -14,7 +13,6 @@ pub mod LoneLemmas
 pub mod MarkLemmas
 pub mod MovedLemmas
 pub mod NumberLemmas
-pub mod PartLemmas
 pub mod PieceLemmas
 pub mod TableLemmas
 pub mod TextLemmas

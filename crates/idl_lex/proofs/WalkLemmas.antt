@@ -11,7 +11,7 @@ use Rattle.std.specs.Option.{option_map}
 use Rattle.std.specs.List.Sorted.{IsNonDecreasingBy}
 use Rattle.idl_source.specs.Line.{newline}
 use Rattle.idl_lex.proofs.BlockLemmas.{AreBlocks-at, tokens_in-all, tokens_in-more}
-use Rattle.idl_lex.proofs.PartLemmas.{length-part, part-map}
+use Rattle.idl_base.proofs.PartLemmas.{length-part, part-map}
 use Rattle.idl_lex.proofs.TokensLemmas.{after_gap, after_token, lines_of-first}
 use Rattle.idl_lex.specs.Block.{AreBlocks, AreBlocksOf, AreOfSomeFile, IsPlace, tokens_in_blocks, tokens_there}
 use Rattle.idl_lex.specs.Context.{context_after, is_gap, is_newline, is_nothing, line_start}

@@ -2,7 +2,6 @@ pub mod Byte
 pub mod ByteTable
 pub mod Word
 pub mod WordTable
-pub mod Form
 pub mod Keywords
 pub mod KeywordTable
 pub mod Marks

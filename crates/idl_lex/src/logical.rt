@@ -4,8 +4,7 @@ ghost use Rattle.std.specs.Prelude.{◌≡◌, ◌≤◌, ◌<◌, ◌+◌, ◌+
 ghost use Rattle.idl_lex.specs.Text.{is_continued, front};
 ghost use Rattle.idl_lex.specs.Logical.{joined_count, continued};
 
-use crate::spelling::Spelling;
-use idl_base::Excerpt;
+use idl_base::Bytes;
 use idl_source::Line;
 use std::alloc::{AllocError, Global};
 use std::marker::Model;
@@ -13,7 +12,7 @@ use std::marker::Model;
 /// Bytes of a text without the newline that ends them, each with the number of its line. The bytes of one line of a file are shared with it.
 #[derive(Drop)]
 pub struct Logical {
-    bytes: Excerpt,
+    bytes: Bytes,
     // The numbers of the first bytes' lines; all further bytes stand on the last line.
     numbers: Vec<u32>,
     last: u32,
@@ -70,13 +69,13 @@ impl Logical {
 
     /// The bytes from one place up to another, shared.
     #[inline(always)]
-    pub fn spelling(&self, from: usize, to: usize) -> Result<Spelling, AllocError>
+    pub fn spelling(&self, from: usize, to: usize) -> Result<Bytes, AllocError>
         requires order { from ≤ to }
         requires within { to ≤ length self.now }
         ensures { IfOk result
             (λ spelling. spelling ≡ take (to - from) (drop from (bytes_of self.now))) }
     {
-        Spelling::new(*self.numbers.allocator(), &self.bytes, from, to)
+        self.bytes.part(from, to)
     }
 }
 
@@ -112,7 +111,7 @@ fn join(alloc: Global, lines: &[Line], number: usize) -> Result<Logical, AllocEr
     }
     bytes.extend_from_slice(lines[i].as_bytes())?;
     Ok(Logical {
-        bytes: Excerpt::from_vec(bytes)?,
+        bytes: Bytes::from_vec(bytes)?,
         numbers,
         last: (number + i) as u32,
     })

@@ -7,7 +7,7 @@ ghost use Rattle.std.specs.Hash as fed;
 ghost use Rattle.std.specs.Option.{option_copied};
 ghost use Rattle.std.specs.Str.{bytes_eq};
 ghost use Rattle.std.proofs.Common.{ap};
-ghost use Rattle.idl_lex.specs.Kind.{kind_of, name_of};
+ghost use Rattle.idl_lex.specs.Kind.{kind_of, name_of, unescaped};
 ghost use Rattle.idl_lex.specs.Marks.{is_lone_mark};
 ghost use Rattle.idl_lex.specs.Tokens.{token_of};
 ghost use Rattle.idl_lex.specs.Word.{is_word};
@@ -15,9 +15,8 @@ ghost use Rattle.idl_lex.specs.Word.{is_word};
 use crate::context::Context;
 use crate::kind::{Kind, kind_of};
 use crate::mark_table::lone_kind;
-use crate::spelling::Spelling;
 use crate::word::is_word;
-use idl_base::Datum;
+use idl_base::{Bytes, Datum};
 use std::alloc::AllocError;
 use std::hash::{Hash, Hasher};
 use std::marker::Model;
@@ -26,7 +25,7 @@ use std::marker::Model;
 /// and two are equal where these are. A clone shares them.
 #[derive(Drop)]
 pub struct Token {
-    spelling: Spelling,
+    spelling: Bytes,
     kind: Kind,
     // Whether it is a word.
     word: bool,
@@ -46,7 +45,7 @@ impl Model for Token {
 
 impl Token {
     /// The token with this spelling.
-    pub fn new(spelling: Spelling) -> Token
+    pub fn new(spelling: Bytes) -> Token
         ensures { result ≡ spelling }
     {
         Token {
@@ -57,7 +56,7 @@ impl Token {
     }
 
     /// The token that a word is, which is of this kind.
-    pub(crate) fn word(spelling: Spelling, kind: Kind) -> Token
+    pub(crate) fn word(spelling: Bytes, kind: Kind) -> Token
         requires word { is_word spelling ≡ true }
         requires kind { kind ≡ kind_of spelling }
         ensures { result ≡ spelling }
@@ -77,7 +76,7 @@ impl Token {
         Token {
             kind: lone_kind(b),
             word: false,
-            spelling: Spelling::of_byte(b),
+            spelling: Bytes::of_byte(b),
         }
     }
 
@@ -96,7 +95,7 @@ impl Token {
     }
 
     /// Its bytes as written, shared.
-    pub fn spelling(&self) -> &Spelling
+    pub fn spelling(&self) -> &Bytes
         ensures { result.now ≡ self.now }
     {
         &self.spelling
@@ -110,12 +109,12 @@ impl Token {
     }
 
     /// Its name, as `name` gives it, shared.
-    pub fn shared_name(&self) -> Result<Option<Spelling>, AllocError>
+    pub fn shared_name(&self) -> Result<Option<Bytes>, AllocError>
         ensures { IfOk result (λ name. name ≡ name_of self.now) }
     {
         match self.kind {
             Kind::Identifier => Ok(Some(self.spelling.clone()?)),
-            Kind::Escaped => self.spelling.unescaped(),
+            Kind::Escaped => unescaped(&self.spelling),
             _ => Ok(None),
         }
     }
@@ -133,6 +132,17 @@ impl Token {
             _ => None,
         }
     }
+}
+
+// What stands behind the first byte, if there is one.
+fn unescaped(spelling: &Bytes) -> Result<Option<Bytes>, AllocError>
+    ensures { IfOk result (λ name. name ≡ unescaped spelling.now) }
+{
+    let end = spelling.len();
+    if end == 0 {
+        return Ok(None);
+    }
+    Ok(Some(spelling.part(1, end)?))
 }
 
 impl Clone for Token {
@@ -200,14 +210,14 @@ const _: () = prove!(size_of::<PlacedToken>() <= 32);
 
 impl PlacedToken {
     /// The token with this spelling, on this line.
-    pub fn new(context: Context, spelling: Spelling, line: u32) -> PlacedToken
+    pub fn new(context: Context, spelling: Bytes, line: u32) -> PlacedToken
         ensures { result ≡ token_of context spelling line }
     {
         PlacedToken::placed(context, Token::new(spelling), line)
     }
 
     /// The token that a word is, which is of this kind, on this line.
-    pub(crate) fn word(context: Context, spelling: Spelling, kind: Kind, line: u32) -> PlacedToken
+    pub(crate) fn word(context: Context, spelling: Bytes, kind: Kind, line: u32) -> PlacedToken
         requires word { is_word spelling ≡ true }
         requires kind { kind ≡ kind_of spelling }
         ensures { result ≡ token_of context spelling line }

@@ -15,9 +15,10 @@ ghost use Rattle.idl_macro.specs.Condition.{condition, defined_at, defined_read,
 use crate::definitions::Macros;
 use crate::directive::Directive;
 use crate::replacement::replace_operand;
+use idl_base::Bytes;
 use idl_condition::{Symbol, evaluate};
 use idl_event::{Code, Event, Item, Progress, RootBank};
-use idl_lex::{Spelling, Token};
+use idl_lex::Token;
 use std::alloc::{AllocError, Global};
 
 /// `if` and `elif`: whether the condition of the tokens after the directive's word holds.
@@ -77,7 +78,7 @@ fn read_defined<B: RootBank>(
 
 // The name that is asked for where a token and the rest of the tokens are a `defined X`, and what
 // follows it.
-fn defined_at<'a>(first: &Token, rest: &'a [Token]) -> Option<(&'a Spelling, &'a [Token])>
+fn defined_at<'a>(first: &Token, rest: &'a [Token]) -> Option<(&'a Bytes, &'a [Token])>
     ensures { option_map (λ d. (d.0.now, d.1.now)) result
         ≡ option_map {U = Token × List Token} (λ d. (d.0, drop d.1 rest.entry.now))
         (defined_at first.now rest.entry.now) }
@@ -100,7 +101,7 @@ fn truth_at(alloc: Global, is_there: bool) -> Result<Token, AllocError>
     ensures { IfOk result (λ token. token ≡ truth is_there) }
 {
     let digit = if is_there { b"1" } else { b"0" };
-    Ok(Token::new(Spelling::from_slice(alloc, digit)?))
+    Ok(Token::new(Bytes::from_slice(alloc, digit)?))
 }
 
 // The value of the tokens of a condition, if it has one.

@@ -11,9 +11,9 @@ ghost use Rattle.idl_macro.specs.Digest.{digest_of};
 ghost use Rattle.idl_macro.specs.Macros.{body_in, macro_of};
 
 use crate::digest::digest_of;
-use idl_base::{Marks, Table};
+use idl_base::{Bytes, Marks, Table};
 use idl_event::{Answer, Progress, RootBank};
-use idl_lex::{Spelling, Token, TokenRange};
+use idl_lex::{Token, TokenRange};
 use std::alloc::{AllocError, Global};
 use std::marker::Model;
 
@@ -25,7 +25,7 @@ const WORDS: usize = 16;
 /// Of most words nothing is said, and those are mostly found by the marks of those that something was said of.
 #[derive(Drop)]
 pub struct Definitions {
-    entries: Table<Spelling, Option<TokenRange>>,
+    entries: Table<Bytes, Option<TokenRange>>,
     marks: Marks<WORDS>,
 }
 
@@ -67,7 +67,7 @@ impl Definitions {
     #[inline(always)]
     pub fn macro_of<'a, B: RootBank>(
         &'a self,
-        word: &Spelling,
+        word: &Bytes,
         bank: &'a B,
         progress: &mut Progress<B>,
     ) -> Result<Option<&'a [Token]>, AllocError>
@@ -86,7 +86,7 @@ impl Definitions {
     }
 
     // What was said of a word with this digest, if anything was.
-    fn said_of(&self, word: &Spelling, digest: u64) -> Option<&Option<TokenRange>>
+    fn said_of(&self, word: &Bytes, digest: u64) -> Option<&Option<TokenRange>>
         requires { digest ≡ digest_of word.now }
         ensures { option_copied result ≡ lookup (bytes_eq word.now) self.now }
     {
@@ -98,7 +98,7 @@ impl Definitions {
 
     /// The macro with this word has this body from now on, whatever was said of the word. Want of
     /// memory leaves what was said as it was.
-    pub fn define(&mut self, word: &Spelling, body: TokenRange) -> Result<(), AllocError>
+    pub fn define(&mut self, word: &Bytes, body: TokenRange) -> Result<(), AllocError>
         ensures ok { OnOk result (self.new ≡ insert_entry bytes_eq self.old word.now (Some body)) }
         ensures err { OnErr result (self.new ≡ self.old) }
     {
@@ -106,7 +106,7 @@ impl Definitions {
     }
 
     /// There is no macro with this word from now on. Want of memory leaves what was said as it was.
-    pub fn remove(&mut self, word: &Spelling) -> Result<(), AllocError>
+    pub fn remove(&mut self, word: &Bytes) -> Result<(), AllocError>
         ensures ok { OnOk result (self.new ≡ insert_entry bytes_eq self.old word.now None) }
         ensures err { OnErr result (self.new ≡ self.old) }
     {
@@ -114,7 +114,7 @@ impl Definitions {
     }
 
     // This is said of the word from now on.
-    fn say(&mut self, word: &Spelling, body: Option<TokenRange>) -> Result<(), AllocError>
+    fn say(&mut self, word: &Bytes, body: Option<TokenRange>) -> Result<(), AllocError>
         ensures ok { OnOk result (self.new ≡ insert_entry bytes_eq self.old word.now body) }
         ensures err { OnErr result (self.new ≡ self.old) }
     {

@@ -13,15 +13,16 @@ ghost use Rattle.idl_macro.specs.Directives.{define, undef, ifdef, ifndef, is_ma
 
 use crate::definitions::{Definitions, Macros};
 use crate::word::is_macro_word;
+use idl_base::Bytes;
 use idl_event::{Answer, Code, Event, Item, Key, Place, Progress, RootBank};
-use idl_lex::{FileToken, FileTokens, Spelling, Token};
+use idl_lex::{FileToken, FileTokens, Token};
 use std::alloc::AllocError;
 
 /// A directive where it stands: its word, and the tokens after that.
 #[derive(Drop)]
 pub struct Directive<'a> {
     pub place: Place,
-    pub word: &'a Spelling,
+    pub word: &'a Bytes,
     pub operands: FileTokens<'a>,
 }
 
@@ -146,7 +147,7 @@ fn malformed<B: RootBank>(
 // A macro with this word is there with other tokens.
 fn other_definition<B: RootBank>(
     directive: &Directive<'_>,
-    word: &Spelling,
+    word: &Bytes,
     progress: &mut Progress<B>,
 ) -> Result<(), AllocError>
     ensures { OnOk result (progress.new
@@ -159,7 +160,7 @@ fn other_definition<B: RootBank>(
 }
 
 // The word at which the operands begin, if they do.
-fn first_word<'a>(operands: &FileTokens<'a>) -> Option<&'a Spelling>
+fn first_word<'a>(operands: &FileTokens<'a>) -> Option<&'a Bytes>
     ensures { option_copied result ≡ first_word operands.now }
 {
     let (first, _rest) = operands.split_first()?;
@@ -170,7 +171,7 @@ fn first_word<'a>(operands: &FileTokens<'a>) -> Option<&'a Spelling>
 }
 
 // The word and the body of a well-formed definition.
-fn definition_in<'a>(operands: &FileTokens<'a>) -> Option<(&'a Spelling, FileTokens<'a>)>
+fn definition_in<'a>(operands: &FileTokens<'a>) -> Option<(&'a Bytes, FileTokens<'a>)>
     ensures { option_map (λ d. (d.0.now, tokens_in d.1)) result ≡ definition_in operands.now }
 {
     let (first, body) = operands.split_first()?;

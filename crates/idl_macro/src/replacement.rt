@@ -17,9 +17,9 @@ ghost use Rattle.idl_macro.specs.declared.replacement.Output.TheVariants.{Text};
 ghost use Rattle.idl_macro.specs.Replace.{operand, replaced, replaced_at, replacement, text};
 
 use crate::definitions::{Definitions, Macros};
-use idl_base::Table;
+use idl_base::{Bytes, Table};
 use idl_event::{Answer, FileName, Item, Key, Place, Progress, RootBank};
-use idl_lex::{FileTokens, Spelling, Token};
+use idl_lex::{FileTokens, Token};
 use std::alloc::{AllocError, Global};
 use std::slice::from_ref;
 
@@ -181,7 +181,7 @@ fn replace<B: RootBank>(
         macros.now.definitions.now
         source.entry.tokens.now) (B.at macros.now.bank.now))) }
 {
-    let mut stack: Table<Spelling, &[Token]> = Table::new(progress.allocator());
+    let mut stack: Table<Bytes, &[Token]> = Table::new(progress.allocator());
     let mut left = source.tokens;
     'steps: while !progress.is_over() {
         match left.split_first() {
@@ -208,7 +208,7 @@ fn replace<B: RootBank>(
 // The body that a token is replaced by: its macro's, if it is a word and doesn't stand in its own
 // replacement.
 fn replacement<'a, B: RootBank>(
-    stack: &Table<Spelling, &'a [Token]>,
+    stack: &Table<Bytes, &'a [Token]>,
     macros: &Macros<'a, B>,
     token: &Token,
     progress: &mut Progress<B>,

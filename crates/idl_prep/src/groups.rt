@@ -6,7 +6,7 @@ ghost use Rattle.idl_prep.specs.Pass.{innermost, is_walked};
 ghost use Rattle.idl_prep.specs.Walk.{opener_of};
 
 use crate::line::Directive;
-use idl_lex::Spelling;
+use idl_base::Bytes;
 use std::alloc::{AllocError, Global};
 use std::marker::Model;
 
@@ -14,7 +14,7 @@ use std::marker::Model;
 #[derive(Drop)]
 pub struct Opener {
     pub line: u32,
-    pub word: Spelling,
+    pub word: Bytes,
 }
 
 impl Opener {

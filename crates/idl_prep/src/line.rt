@@ -8,9 +8,10 @@ ghost use Rattle.idl_groups.specs.Line.{after_hash, read};
 ghost use Rattle.idl_prep.specs.Place.{place_in};
 ghost use Rattle.idl_prep.specs.Read.{line_of};
 
+use idl_base::Bytes;
 use idl_event::{FileName, Place};
 use idl_groups::DirectiveKind;
-use idl_lex::{FileToken, FileTokens, Spelling, Token};
+use idl_lex::{FileToken, FileTokens, Token};
 use std::alloc::AllocError;
 use std::marker::Model;
 
@@ -42,7 +43,7 @@ impl<'t> Model for Directive<'t> {
 
 impl<'t> Directive<'t> {
     /// Its word.
-    pub fn word(&self) -> &'t Spelling
+    pub fn word(&self) -> &'t Bytes
         ensures { result.now ≡ self.now.word.token }
     {
         self.word.token().spelling()

@@ -3,14 +3,15 @@
 ghost use Rattle.std.specs.Prelude.{◌≡◌, IfOk};
 ghost use Rattle.idl_prep.specs.Include.{begins_quoted, inner, is_closed, is_header_kind, is_string, operand_given, operand_in};
 
-use idl_lex::{Defect, Kind, Spelling, Token};
+use idl_base::Bytes;
+use idl_lex::{Defect, Kind, Token};
 use std::alloc::AllocError;
 use std::marker::Model;
 
 /// An operand: how it is spelled, with its delimiters, and whether these are quotes.
 #[derive(Drop)]
 pub struct Operand {
-    pub spelling: Spelling,
+    pub spelling: Bytes,
     pub is_quoted: bool,
 }
 
@@ -35,7 +36,7 @@ impl Operand {
     }
 
     /// How it is spelled, with its delimiters.
-    pub fn spelling(&self) -> &Spelling
+    pub fn spelling(&self) -> &Bytes
         ensures { result.now ≡ self.now.spelling }
     {
         &self.spelling

@@ -8,8 +8,9 @@ ghost use Rattle.idl_prep.specs.State.{ended, onward};
 
 use crate::line::Directive;
 use crate::root::Root;
+use idl_base::Bytes;
 use idl_event::{Answer, Event, FileName, Item, Key, RootBank};
-use idl_lex::{FileTokens, Spelling};
+use idl_lex::FileTokens;
 use std::alloc::AllocError;
 
 /// `pragma`: `once` says that the file isn't to be entered again, and those that mean something to IDL are told.
@@ -38,7 +39,7 @@ pub fn pragma<B: RootBank>(
 }
 
 // How the first of the tokens is spelled.
-fn first_spelling<'t>(tokens: &FileTokens<'t>) -> Option<&'t Spelling>
+fn first_spelling<'t>(tokens: &FileTokens<'t>) -> Option<&'t Bytes>
     ensures { option_copied result ≡ first_spelling tokens.now }
 {
     let (first, _rest) = tokens.split_first()?;

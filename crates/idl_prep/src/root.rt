@@ -26,12 +26,13 @@ use crate::line::Directive;
 use crate::operand::Operand;
 use crate::replaced_operand::operand_of;
 use crate::site::Site;
+use idl_base::Bytes;
 use idl_event::{
     Answer, Code, Event, ExpansionBuilder, FileName, Item, Key, LexedFile, Place, Progress,
     RootBank,
 };
 use idl_groups::Test;
-use idl_lex::{FileTokens, Spelling};
+use idl_lex::FileTokens;
 use idl_macro::{Definitions, Macros, condition, define, ifdef, ifndef, replace_text, undef};
 use idl_memo::Log;
 use indexmap::IndexSet;
@@ -136,7 +137,7 @@ impl<B: RootBank> Root<B> {
     }
 
     /// A fault, with the spelling at which it is decided.
-    pub fn fault(&mut self, place: Place, code: Code, text: &Spelling) -> Result<(), AllocError>
+    pub fn fault(&mut self, place: Place, code: Code, text: &Bytes) -> Result<(), AllocError>
         ensures { let fault = Fault place code (Some text.now) in
             OnOk result (self.new ≡ telling (Kept fault) self.old) }
     {

@@ -8,7 +8,7 @@ ghost use Rattle.idl_scope.specs.Facts.{answers, entity_in};
 ghost use Rattle.idl_scope.specs.Key.{key_eq};
 
 use crate::row::push_row;
-use idl_base::SharedText;
+use idl_base::Bytes;
 use idl_event::Code;
 use idl_memo::{Journal, Log, Task, TaskKind};
 use idl_scope::{Answer, Entity, Env, Kind, LentKey, Path, Stage, entity_in};
@@ -26,7 +26,7 @@ pub struct EntryTask {
 /// What comes of it at the root's end.
 pub struct Entry {
     /// The row of a listing.
-    pub row: Option<SharedText>,
+    pub row: Option<Bytes>,
     /// A struct, union or interface that is never defined.
     pub fault: Option<Code>,
 }
@@ -59,7 +59,7 @@ impl Pushed {
             fault: self.fault,
         };
         if self.has_row {
-            entry.row = Some(SharedText::from_slice(alloc, row)?);
+            entry.row = Some(Bytes::from_slice(alloc, row)?);
         }
         Ok(entry)
     }

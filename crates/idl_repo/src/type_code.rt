@@ -7,7 +7,7 @@ ghost use Rattle.idl_repo.specs.TypeCode.{code_head, code_word, default_at, defa
 ghost use Rattle.idl_scope.specs.Facts.{answers, id_at};
 
 use crate::piece::{push_id, push_listed, push_number};
-use idl_lex::Spelling;
+use idl_base::Bytes;
 use idl_memo::Journal;
 use idl_scope::{
     Answer, DataType, Element, Entity, Env, Kind, Layer, Member, Path, Shared, Signature, Unvalued,
@@ -270,7 +270,7 @@ fn push_label(text: &mut Vec<u8>, label: &Option<Value>) -> Result<(), AllocErro
 }
 
 // Each enumerator, with a comma before it.
-fn push_enumerators(text: &mut Vec<u8>, names: &[Spelling]) -> Result<(), AllocError>
+fn push_enumerators(text: &mut Vec<u8>, names: &[Bytes]) -> Result<(), AllocError>
     ensures { OnOk result
         (text.new.items
         ≡ text.old.items ++ flat_map enumerator_word names.now) }

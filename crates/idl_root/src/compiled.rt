@@ -11,13 +11,13 @@ use crate::keeping::Keeping;
 use crate::kept::KeptUnits;
 use crate::memory::Memory;
 use crate::printing::Printed;
-use idl_base::{Seq, SharedText};
+use idl_base::{Bytes, Seq};
 use idl_event::{Code, Expansion, Place};
 use idl_unit::split;
 use std::alloc::{AllocError, Global};
 
 /// A row of diagnostics, of a listing or of a dump, whose bytes are shared: a line of text without its newline.
-pub type Row = SharedText;
+pub type Row = Bytes;
 
 /// What compiling a root gives: what is found in it, a row of its diagnostics each, and the rows of its listing and its dump, which
 /// are empty where an error is among that.

@@ -7,7 +7,7 @@ ghost use Rattle.idl_root.specs.Compile.{has_error};
 ghost use Rattle.idl_root.specs.Findings.{event_finding, fault_finding, finding_at, finding_row, in_order, numbered, site_of, tokens_of};
 
 use crate::number::token_number;
-use idl_base::SharedText;
+use idl_base::Bytes;
 use idl_event::{Code, Event, Expansion, Place, Site, diagnostic_row};
 use idl_unit::{Fault, SiteRun, UnitText};
 use std::alloc::{AllocError, Global};
@@ -18,7 +18,7 @@ pub struct Finding {
     pub place: Place,
     pub code: Code,
     /// What the row shows behind the code, if it does: most often the token at which the fault is decided.
-    pub text: Option<SharedText>,
+    pub text: Option<Bytes>,
     /// The number of that token among those of its line that stand together, from 0.
     pub number: Option<usize>,
 }
@@ -29,7 +29,7 @@ pub struct EventFinding {
     pub event: usize,
     pub place: Place,
     pub code: Code,
-    pub text: Option<SharedText>,
+    pub text: Option<Bytes>,
 }
 
 /// A unit with tokens: its text, and where each token stands, or of a pragma its first word.
@@ -76,11 +76,11 @@ fn push_event(
 }
 
 // A text of these bytes, if there are any.
-fn shared_text(alloc: Global, bytes: Option<&[u8]>) -> Result<Option<SharedText>, AllocError>
+fn shared_text(alloc: Global, bytes: Option<&[u8]>) -> Result<Option<Bytes>, AllocError>
     ensures { IfOk result (λ text. text ≡ option_copied bytes.entry) }
 {
     match bytes {
-        Some(bytes) => Ok(Some(SharedText::from_slice(alloc, bytes)?)),
+        Some(bytes) => Ok(Some(Bytes::from_slice(alloc, bytes)?)),
         None => Ok(None),
     }
 }
@@ -209,7 +209,7 @@ fn numbered(
 }
 
 /// The rows of what is found.
-pub fn rows_of(alloc: Global, findings: &[Finding]) -> Result<Vec<SharedText>, AllocError>
+pub fn rows_of(alloc: Global, findings: &[Finding]) -> Result<Vec<Bytes>, AllocError>
     ensures { IfOk result (λ rows. rows.items ≡ map finding_row findings.now) }
 {
     let mut rows = Vec::with_capacity(alloc, findings.len())?;
@@ -221,11 +221,11 @@ pub fn rows_of(alloc: Global, findings: &[Finding]) -> Result<Vec<SharedText>, A
 
 impl Finding {
     // Its row.
-    fn row(&self, alloc: Global) -> Result<SharedText, AllocError>
+    fn row(&self, alloc: Global) -> Result<Bytes, AllocError>
         ensures { IfOk result (λ row. row ≡ finding_row self.now) }
     {
         let text = self.text.as_ref().map(|text| text.as_bytes());
         let row = diagnostic_row(alloc, &self.place, self.code, text)?;
-        SharedText::from_slice(alloc, row.as_bytes())
+        Bytes::from_slice(alloc, row.as_bytes())
     }
 }

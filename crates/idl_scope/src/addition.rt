@@ -15,7 +15,7 @@ use crate::kind::Kind;
 use crate::own_name::OwnName;
 use crate::path::Path;
 use crate::shared::Shared;
-use idl_lex::Spelling;
+use idl_base::Bytes;
 use idl_map::Digest;
 use std::alloc::{AllocError, Global};
 
@@ -44,7 +44,7 @@ pub enum Step {
     /// The innermost scope is closed.
     Closes,
     /// This prefix is in force from now on, met in the innermost open scope.
-    Prefixes(Spelling),
+    Prefixes(Bytes),
     /// A file is entered.
     Enters,
     /// The file that was entered last is left.

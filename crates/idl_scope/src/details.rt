@@ -9,8 +9,7 @@ ghost use Rattle.idl_scope.specs.Path.{path_eq};
 use crate::path::Path;
 use crate::shared::Shared;
 use crate::signature::Signature;
-use idl_base::{Datum, Seq};
-use idl_lex::Spelling;
+use idl_base::{Bytes, Datum, Seq};
 use idl_map::SharedList;
 use idl_value::Value;
 use std::alloc::{AllocError, Global};
@@ -29,7 +28,7 @@ pub struct Rare {
     pub bases: Seq<Path>,
     pub operations: SharedList<Path>,
     pub value: Option<Shared<Value>>,
-    pub enumerators: Seq<Spelling>,
+    pub enumerators: Seq<Bytes>,
     pub signature: Option<Shared<Signature>>,
 }
 
@@ -112,7 +111,7 @@ impl Details {
     }
 
     /// The names of the enumerators.
-    pub fn enumerators(&self) -> &[Spelling]
+    pub fn enumerators(&self) -> &[Bytes]
         ensures { result.now ≡ (rare_in self.now).enumerators }
     {
         match self {

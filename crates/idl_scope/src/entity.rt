@@ -12,8 +12,7 @@ use crate::parts::EntityParts;
 use crate::path::Path;
 use crate::shared::{Shared, copied_of};
 use crate::signature::Signature;
-use idl_base::{Datum, Seq};
-use idl_lex::Spelling;
+use idl_base::{Bytes, Datum, Seq};
 use idl_map::SharedList;
 use idl_value::Value;
 use std::alloc::{AllocError, Global};
@@ -189,11 +188,7 @@ impl Entity {
     }
 
     /// It with these enumerators.
-    pub fn with_enumerators(
-        &self,
-        alloc: Global,
-        names: Seq<Spelling>,
-    ) -> Result<Entity, AllocError>
+    pub fn with_enumerators(&self, alloc: Global, names: Seq<Bytes>) -> Result<Entity, AllocError>
         ensures { IfOk result (λ entity. entity ≡ record self.now { enumerators = names }) }
     {
         let mut parts = self.parts(alloc)?;
@@ -299,7 +294,7 @@ impl Entity {
     }
 
     /// The names of the enumerators of an enum, in order.
-    pub fn enumerators(&self) -> &[Spelling]
+    pub fn enumerators(&self) -> &[Bytes]
         ensures { result.now ≡ self.now.enumerators }
     {
         self.details.enumerators()

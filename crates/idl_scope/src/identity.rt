@@ -10,14 +10,13 @@ use crate::name::shared_name;
 use crate::names::Names;
 use crate::path::Path;
 use crate::shared::Shared;
-use idl_base::{Datum, SharedText};
-use idl_lex::Spelling;
+use idl_base::{Bytes, Datum};
 use std::alloc::{AllocError, Global};
 
 /// A prefix of repository ids: its text, and the path of the scope in which it was met.
 #[derive(Clone, PartialEq, Eq)]
 pub struct Prefix {
-    pub text: Spelling,
+    pub text: Bytes,
     pub scope: Path,
 }
 
@@ -30,9 +29,9 @@ pub enum Fixed {
 
 /// The repository id of a declared name.
 pub struct Identity {
-    pub id: SharedText,
+    pub id: Bytes,
     /// The text of the prefix that was in force where the name was declared first.
-    pub prefix: Spelling,
+    pub prefix: Bytes,
     /// The pragma that fixed it, if one did so far.
     pub fixed: Option<Fixed>,
 }
@@ -40,9 +39,9 @@ pub struct Identity {
 /// A repository id that a pragma fixed.
 #[derive(Clone, PartialEq, Eq)]
 pub struct FixedIdentity {
-    pub id: SharedText,
+    pub id: Bytes,
     /// The text of the prefix that was in force where the name was declared first.
-    pub prefix: Spelling,
+    pub prefix: Bytes,
     pub by: Fixed,
 }
 
@@ -164,7 +163,7 @@ impl Identity {
     {
         let mut id = Vec::new(alloc);
         prefix.push_id(&mut id, path)?;
-        let id = SharedText::from_slice(alloc, id.as_slice())?;
+        let id = Bytes::from_slice(alloc, id.as_slice())?;
         let prefix = prefix.text.clone()?;
         Shared::new(
             alloc,

@@ -7,8 +7,7 @@ use crate::digest::{identified, introduced, opened, under};
 use crate::digested::DigestedKey;
 use crate::held_key::HeldKey;
 use crate::path::Path;
-use idl_base::Datum;
-use idl_lex::Spelling;
+use idl_base::{Bytes, Datum};
 use idl_map::Digest;
 use std::alloc::{AllocError, Global};
 
@@ -18,9 +17,9 @@ pub enum Key {
     /// The open scopes.
     Cursor,
     /// What a folded name is declared as in the scope at a path.
-    Declared(Spelling, Path),
+    Declared(Bytes, Path),
     /// Whether a folded name was introduced into the body with this number of the scope at a path.
-    Introduced(Spelling, Path, usize),
+    Introduced(Bytes, Path, usize),
     /// How many bodies of the scope at a path were opened.
     Opened(Path),
     /// How many nameless scopes were opened.

@@ -15,7 +15,7 @@ use crate::held_key::HeldKey;
 use crate::key::Key;
 use crate::own_name::OwnName;
 use crate::path::Path;
-use idl_lex::Spelling;
+use idl_base::Bytes;
 use idl_map::{Digest, Lent};
 use std::alloc::{AllocError, Global};
 use std::marker::Model;
@@ -30,7 +30,7 @@ pub struct LentKey<'a> {
 // What is asked, by names and paths that are lent.
 enum Parts<'a> {
     // What a folded name is declared as in the scope at a path.
-    Declared(&'a Spelling, &'a Path),
+    Declared(&'a Bytes, &'a Path),
     // The same of the own name of what stands at a path, in the scope around.
     Entity(&'a Path),
     // Whether the own name of what stands at a path was introduced into the body with this number of the scope at another.
@@ -76,7 +76,7 @@ impl<'a> Model for LentKey<'a> {
 impl<'a> LentKey<'a> {
     /// What a folded name is declared as in the scope at a path.
     #[tactic(auto, unfolding(crate::specs::Key::key_digest))]
-    pub fn declared(alloc: Global, name: &'a Spelling, scope: &'a Path) -> LentKey<'a>
+    pub fn declared(alloc: Global, name: &'a Bytes, scope: &'a Path) -> LentKey<'a>
         ensures { result ≡ keys.Declared name.now scope.now }
     {
         let digest = under(scope.digest(), name.as_bytes());

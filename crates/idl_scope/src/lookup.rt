@@ -24,7 +24,7 @@ use crate::lent_key::LentKey;
 use crate::open_scopes::OpenScopes;
 use crate::path::Path;
 use crate::shared::Shared;
-use idl_lex::Spelling;
+use idl_base::Bytes;
 use idl_memo::Journal;
 use std::alloc::AllocError;
 
@@ -121,7 +121,7 @@ impl<'a> View<'a> {
         self,
         log: &mut Journal<Env>,
         path: &Path,
-        name: &Spelling,
+        name: &Bytes,
     ) -> Result<Option<&'a Shared<Entity>>, AllocError>
         ensures entity { IfOk result (λ e.
             option_copied e
@@ -156,7 +156,7 @@ impl<'a> View<'a> {
     fn enter(
         self,
         log: &mut Journal<Env>,
-        name: &Spelling,
+        name: &Bytes,
         base: &Path,
     ) -> Result<(Option<&'a Shared<Entity>>, &'a [Path]), AllocError>
         ensures { IfOk result (λ r.
@@ -175,7 +175,7 @@ impl<'a> View<'a> {
     pub fn reached(
         self,
         log: &mut Journal<Env>,
-        name: &Spelling,
+        name: &Bytes,
         bases: &[Path],
     ) -> Result<Vec<&'a Shared<Entity>>, AllocError>
         ensures { IfOk result (λ es.
@@ -206,7 +206,7 @@ impl<'a> View<'a> {
         self,
         log: &mut Journal<Env>,
         place: Place<'_>,
-        name: &Spelling,
+        name: &Bytes,
     ) -> Result<Vec<&'a Shared<Entity>>, AllocError>
         ensures { IfOk result (λ es.
             (turns : ℕ) → HasTurnsFor self.entry.env.now self.entry.own.now.additions turns →
@@ -225,7 +225,7 @@ impl<'a> View<'a> {
         self,
         log: &mut Journal<Env>,
         scopes: &OpenScopes,
-        name: &Spelling,
+        name: &Bytes,
     ) -> Result<Vec<&'a Shared<Entity>>, AllocError>
         ensures { IfOk result (λ es.
             (turns : ℕ) → HasTurnsFor self.entry.env.now self.entry.own.now.additions turns →
@@ -243,7 +243,7 @@ impl<'a> View<'a> {
         self,
         log: &mut Journal<Env>,
         place: Place<'_>,
-        name: &Spelling,
+        name: &Bytes,
     ) -> Result<Finds<'a>, AllocError>
         ensures { IfOk result (λ found.
             (turns : ℕ) → usize.MAX ≤ turns →
@@ -269,7 +269,7 @@ impl<'a> View<'a> {
         self,
         log: &mut Journal<Env>,
         scopes: &OpenScopes,
-        name: &Spelling,
+        name: &Bytes,
     ) -> Result<Finds<'a>, AllocError>
         ensures { IfOk result (λ found.
             (turns : ℕ) → usize.MAX ≤ turns →

@@ -3,19 +3,19 @@
 ghost use Rattle.std.specs.Prelude.{◌≡◌, IfOk};
 ghost use Rattle.idl_lex.specs.Keywords.{folded};
 
-use idl_lex::Spelling;
+use idl_base::Bytes;
 use std::alloc::{AllocError, Global};
 
 /// A name, from now on shared.
-pub fn shared_name(alloc: Global, name: &[u8]) -> Result<Spelling, AllocError>
+pub fn shared_name(alloc: Global, name: &[u8]) -> Result<Bytes, AllocError>
     ensures { IfOk result (λ shared. shared ≡ name.now) }
 {
-    Spelling::from_slice(alloc, name)
+    Bytes::from_slice(alloc, name)
 }
 
 /// The folded form of a name: names that differ in the case of letters alone have one.
-pub fn folded_name(alloc: Global, name: &[u8]) -> Result<Spelling, AllocError>
+pub fn folded_name(alloc: Global, name: &[u8]) -> Result<Bytes, AllocError>
     ensures { IfOk result (λ shared. shared ≡ folded name.now) }
 {
-    Spelling::folded(alloc, name)
+    Bytes::folded(alloc, name)
 }

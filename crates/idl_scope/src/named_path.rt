@@ -7,7 +7,7 @@ ghost use Rattle.idl_scope.specs.Path.{name_of, path_eq, scope_of};
 
 use crate::names::Names;
 use crate::path::{Part, Path, are_alike};
-use idl_lex::Spelling;
+use idl_base::Bytes;
 use std::alloc::{AllocError, Global};
 use std::marker::Model;
 use std::rc::Rc;
@@ -35,11 +35,7 @@ impl NamedPath {
     }
 
     /// The path of a name in the scope with this path.
-    pub(crate) fn child(
-        alloc: Global,
-        scope: &Path,
-        name: &Spelling,
-    ) -> Result<NamedPath, AllocError>
+    pub(crate) fn child(alloc: Global, scope: &Path, name: &Bytes) -> Result<NamedPath, AllocError>
         ensures { IfOk result (λ path. path ≡ name.now ∷ scope.now) }
     {
         let part = Rc::new(alloc, scope.part_for(alloc, name)?)?;
@@ -54,7 +50,7 @@ impl NamedPath {
     }
 
     /// Its own name, folded.
-    pub(crate) fn folded_name(&self) -> &Spelling
+    pub(crate) fn folded_name(&self) -> &Bytes
         ensures { result.now ≡ folded (name_of self.now) }
     {
         self.part.folded_name()
@@ -85,7 +81,7 @@ impl NamedPath {
     }
 
     /// Whether what stands there is found under this folded name in the scope with that path.
-    pub(crate) fn is_found_at(&self, name: &Spelling, scope: &Path) -> bool
+    pub(crate) fn is_found_at(&self, name: &Bytes, scope: &Path) -> bool
         ensures { result
             ≡ bytes_eq name.now (folded (name_of self.now))
             && path_eq scope.now (scope_of self.now) }

@@ -21,7 +21,7 @@ use crate::lookup::{Place, View};
 use crate::open_scopes::OpenScopes;
 use crate::path::Path;
 use crate::shared::Shared;
-use idl_lex::Spelling;
+use idl_base::Bytes;
 use idl_memo::Journal;
 use idl_tree::ScopedName;
 use std::alloc::AllocError;
@@ -146,7 +146,7 @@ impl<'a> View<'a> {
         log: &mut Journal<Env>,
         before: &Entity,
         part: usize,
-        name: &Spelling,
+        name: &Bytes,
     ) -> Result<Result<&'a Shared<Entity>, NameFault>, AllocError>
         ensures { IfOk result (λ r.
             (turns : ℕ) → usize.MAX ≤ turns →
@@ -169,7 +169,7 @@ impl<'a> View<'a> {
         self,
         log: &mut Journal<Env>,
         first: &'a Shared<Entity>,
-        names: &[Spelling],
+        names: &[Bytes],
     ) -> Result<Result<&'a Shared<Entity>, NameFault>, AllocError>
         ensures { IfOk result (λ r.
             (turns : ℕ) → usize.MAX ≤ turns →

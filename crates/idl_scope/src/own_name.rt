@@ -7,7 +7,7 @@ ghost use Rattle.idl_scope.specs.Path.{name_of};
 
 use crate::named_path::NamedPath;
 use crate::path::Path;
-use idl_lex::Spelling;
+use idl_base::Bytes;
 use std::alloc::{AllocError, Global};
 use std::marker::Model;
 
@@ -29,7 +29,7 @@ impl Model for OwnName {
 
 impl OwnName {
     /// This name, folded. It is shared with a path, if one of the names of the path is spelled so.
-    pub fn within(alloc: Global, path: &Path, name: &Spelling) -> Result<OwnName, AllocError>
+    pub fn within(alloc: Global, path: &Path, name: &Bytes) -> Result<OwnName, AllocError>
         ensures { IfOk result (λ own. own ≡ folded name.now) }
     {
         match path.ending_in(name)? {
@@ -39,7 +39,7 @@ impl OwnName {
     }
 
     // This name, folded.
-    fn new(alloc: Global, name: &Spelling) -> Result<OwnName, AllocError>
+    fn new(alloc: Global, name: &Bytes) -> Result<OwnName, AllocError>
         ensures { IfOk result (λ own. own ≡ folded name.now) }
     {
         let path = NamedPath::child(alloc, &Path::global(), name)?;
@@ -57,7 +57,7 @@ impl OwnName {
     }
 
     /// The name.
-    pub fn spelling(&self) -> &Spelling
+    pub fn spelling(&self) -> &Bytes
         ensures { result.now ≡ self.now }
     {
         self.path.folded_name()

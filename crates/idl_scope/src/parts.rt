@@ -9,8 +9,7 @@ use crate::kind::{Kind, Stage};
 use crate::path::Path;
 use crate::shared::Shared;
 use crate::signature::Signature;
-use idl_base::Seq;
-use idl_lex::Spelling;
+use idl_base::{Bytes, Seq};
 use idl_map::SharedList;
 use idl_value::Value;
 use std::alloc::{AllocError, Global};
@@ -38,7 +37,7 @@ pub struct EntityParts {
     /// The value of a constant, once it is told, and of an enumerator.
     pub value: Option<Shared<Value>>,
     /// The names of the enumerators of an enum, in order.
-    pub enumerators: Seq<Spelling>,
+    pub enumerators: Seq<Bytes>,
     /// What it shows behind its name, once that is told.
     pub signature: Option<Shared<Signature>>,
 }

@@ -15,8 +15,7 @@ use crate::digest::under;
 use crate::name::shared_name;
 use crate::named_path::NamedPath;
 use crate::names::Names;
-use idl_base::Datum;
-use idl_lex::Spelling;
+use idl_base::{Bytes, Datum};
 use idl_map::Digest;
 use std::alloc::{AllocError, Global};
 use std::cmp::Ordering;
@@ -45,8 +44,8 @@ impl Model for Path {
 
 /// A name of a path with the path around, and beside it its folded form and the digest of the path from there on.
 pub(crate) struct Part {
-    name: Spelling,
-    folded_name: Spelling,
+    name: Bytes,
+    folded_name: Bytes,
     digest: u64,
     around: Option<Rc<Part>>,
 }
@@ -87,14 +86,14 @@ impl Drop for Part {
 
 impl Part {
     /// The name.
-    pub(crate) fn name(&self) -> &Spelling
+    pub(crate) fn name(&self) -> &Bytes
         ensures { result.now ≡ self.now.0 }
     {
         &self.name
     }
 
     /// The name, folded.
-    pub(crate) fn folded_name(&self) -> &Spelling
+    pub(crate) fn folded_name(&self) -> &Bytes
         ensures { result.now ≡ folded self.now.0 }
     {
         &self.folded_name
@@ -131,7 +130,7 @@ impl Path {
 
     /// The path of a name in the scope with this path.
     #[inline(always)]
-    pub fn child(&self, alloc: Global, name: &Spelling) -> Result<Path, AllocError>
+    pub fn child(&self, alloc: Global, name: &Bytes) -> Result<Path, AllocError>
         ensures { IfOk result (λ path. path ≡ name.now ∷ self.now) }
     {
         let part = self.part_for(alloc, name)?;
@@ -142,7 +141,7 @@ impl Path {
     /// The part of a name in the scope with this path.
     #[inline(always)]
     #[tactic(auto, unfolding(crate::specs::Digest::path_digest))]
-    pub(crate) fn part_for(&self, alloc: Global, name: &Spelling) -> Result<Part, AllocError>
+    pub(crate) fn part_for(&self, alloc: Global, name: &Bytes) -> Result<Part, AllocError>
         ensures { IfOk result (λ part. part ≡ (name.now, self.now)) }
     {
         let folded_name = name.to_folded(alloc)?;
@@ -158,7 +157,7 @@ impl Path {
     }
 
     /// The names, the innermost first.
-    pub fn names(&self, alloc: Global) -> Result<Vec<Spelling>, AllocError>
+    pub fn names(&self, alloc: Global) -> Result<Vec<Bytes>, AllocError>
         ensures { IfOk result (λ names. names.items ≡ self.now) }
     {
         let mut names = Vec::new(alloc);
@@ -196,7 +195,7 @@ impl Path {
     }
 
     /// The path to the innermost of its names that is spelled so, if one is.
-    pub(crate) fn ending_in(&self, name: &Spelling) -> Result<Option<NamedPath>, AllocError>
+    pub(crate) fn ending_in(&self, name: &Bytes) -> Result<Option<NamedPath>, AllocError>
         ensures { IfOk result (λ named. IfSome named (λ path. name_of path ≡ name.now)) }
     {
         let mut link = &self.innermost;
@@ -233,7 +232,7 @@ impl Path {
     }
 
     /// The name of what stands there, folded.
-    pub fn folded(&self, alloc: Global) -> Result<Spelling, AllocError>
+    pub fn folded(&self, alloc: Global) -> Result<Bytes, AllocError>
         ensures { IfOk result (λ name. name ≡ folded (name_of self.now)) }
     {
         match &self.innermost {
@@ -243,7 +242,7 @@ impl Path {
     }
 
     /// The name of what stands there, shared.
-    pub fn spelling(&self, alloc: Global) -> Result<Spelling, AllocError>
+    pub fn spelling(&self, alloc: Global) -> Result<Bytes, AllocError>
         ensures { IfOk result (λ name. name ≡ name_of self.now) }
     {
         match &self.innermost {
@@ -323,7 +322,7 @@ impl Path {
 
 impl Path {
     /// Whether what stands there is found under this folded name in the scope with that path.
-    pub(crate) fn is_found_at(&self, name: &Spelling, scope: &Path) -> bool
+    pub(crate) fn is_found_at(&self, name: &Bytes, scope: &Path) -> bool
         ensures { result
             ≡ bytes_eq name.now (folded (name_of self.now))
             && path_eq scope.now (scope_of self.now) }
@@ -336,7 +335,7 @@ impl Path {
 
     /// Whether this is its own name, folded.
     #[inline(always)]
-    pub(crate) fn has_folded(&self, name: &Spelling) -> bool
+    pub(crate) fn has_folded(&self, name: &Bytes) -> bool
         ensures { result ≡ bytes_eq (folded (name_of self.now)) name.now }
     {
         match &self.innermost {

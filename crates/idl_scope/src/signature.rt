@@ -5,15 +5,14 @@ ghost use Rattle.std.specs.Prelude.{◌≡◌};
 use crate::data_type::DataType;
 use crate::path::Path;
 use crate::shared::{Shared, copied};
-use idl_base::{Datum, Seq};
-use idl_lex::Spelling;
+use idl_base::{Bytes, Datum, Seq};
 use idl_value::Value;
 use std::alloc::AllocError;
 
 /// A member, or a parameter of an operation.
 #[derive(PartialEq, Eq)]
 pub struct Member {
-    pub name: Spelling,
+    pub name: Bytes,
     pub data_type: Option<Shared<DataType>>,
     /// The labels of a union's member in order: their values, and nothing for `default`.
     pub labels: Seq<Option<Value>>,

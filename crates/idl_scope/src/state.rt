@@ -29,8 +29,7 @@ use crate::open_scopes::OpenScopes;
 use crate::operations::{add_inside, inherited, innermost, leave, put_last};
 use crate::path::Path;
 use crate::shared::{Shared, copied};
-use idl_base::Seq;
-use idl_lex::Spelling;
+use idl_base::{Bytes, Seq};
 use idl_map::SharedList;
 use itoa::Buffer;
 use std::alloc::{AllocError, Global};
@@ -208,7 +207,7 @@ impl State {
     }
 
     // What it comes to with a prefix pragma.
-    fn put_prefix(&mut self, alloc: Global, text: &Spelling) -> Result<(), AllocError>
+    fn put_prefix(&mut self, alloc: Global, text: &Bytes) -> Result<(), AllocError>
         ensures { OnOk result (held self.new ≡ after_step (held self.old) (Prefixes text.now)) }
     {
         let text = text.clone()?;
@@ -394,7 +393,7 @@ fn path_of_first(scopes: &OpenScopes) -> Result<Path, AllocError>
 }
 
 // The name of the nameless scope with this number.
-fn nameless_name(alloc: Global, number: usize) -> Result<Spelling, AllocError>
+fn nameless_name(alloc: Global, number: usize) -> Result<Bytes, AllocError>
     ensures { IfOk result (λ name. name ≡ nameless number) }
 {
     let mut buffer = Buffer::new();

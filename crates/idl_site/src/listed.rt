@@ -6,7 +6,7 @@ ghost use Rattle.idl_site.specs.Item.{Pushes};
 ghost use Rattle.idl_site.specs.Part.{declared, listed, raised, used};
 
 use crate::site::{Declaration, Site, Use};
-use idl_lex::Spelling;
+use idl_base::Bytes;
 use idl_tree::{ScopedName, Several};
 use std::alloc::AllocError;
 
@@ -14,7 +14,7 @@ use std::alloc::AllocError;
 pub fn push_declared<'a>(
     sites: &mut Vec<Site<'a>>,
     declaration: Declaration,
-    names: &'a Several<Spelling>,
+    names: &'a Several<Bytes>,
 ) -> Result<(), AllocError>
     ensures { OnOk result
         (Pushes sites.old.items sites.new.items (listed (declared declaration) names.now)) }

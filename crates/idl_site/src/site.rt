@@ -1,7 +1,6 @@
 //! Sites.
 
-use idl_base::Seq;
-use idl_lex::Spelling;
+use idl_base::{Bytes, Seq};
 use idl_tree::{BasicType, Direction, DiscreteType, Expression, ScopedName, Several};
 
 /// What a name is declared as.
@@ -81,7 +80,7 @@ pub enum Site<'a> {
     /// So many tokens that declare and use nothing.
     Tokens(usize),
     /// A name that is declared.
-    Declared(Declaration, &'a Spelling),
+    Declared(Declaration, &'a Bytes),
     /// A name that is used.
     Used(Use, &'a ScopedName),
     /// String literals that are joined.
@@ -91,7 +90,7 @@ pub enum Site<'a> {
     /// That expression ends: what it is for, and its tree.
     ValueEnds(Target, &'a Expression),
     /// The scope of what is declared so, by this name, begins.
-    ScopeBegins(Declaration, &'a Spelling),
+    ScopeBegins(Declaration, &'a Bytes),
     /// That scope ends.
     ScopeEnds,
     /// A type ends that is no name.
@@ -99,7 +98,7 @@ pub enum Site<'a> {
     /// The lengths of the array that was declared last are told.
     ArrayEnds,
     /// The enum that is declared next has these enumerators.
-    Enumerates(&'a Several<Spelling>),
+    Enumerates(&'a Several<Bytes>),
     /// The discriminator of a union is this type, whose keywords follow.
     Switches(DiscreteType),
     /// The label `default` follows.

@@ -11,7 +11,7 @@ use crate::interface::{
     push_attribute, push_forward, push_interface, push_operation, push_readonly_attribute,
 };
 use crate::site::{Declaration, Site, Target};
-use idl_lex::Spelling;
+use idl_base::Bytes;
 use idl_tree::{Constant, Exception, Tree, Typedef};
 use std::alloc::{AllocError, Global};
 
@@ -55,7 +55,7 @@ fn push_unit<'a>(sites: &mut Vec<Site<'a>>, tree: &'a Tree) -> Result<(), AllocE
 }
 
 /// The opening of a module.
-fn push_module<'a>(sites: &mut Vec<Site<'a>>, name: &'a Spelling) -> Result<(), AllocError>
+fn push_module<'a>(sites: &mut Vec<Site<'a>>, name: &'a Bytes) -> Result<(), AllocError>
     ensures { OnOk result (Pushes sites.old.items sites.new.items (module_parts name.now)) }
 {
     sites.push(Site::Tokens(1))?;
@@ -65,7 +65,7 @@ fn push_module<'a>(sites: &mut Vec<Site<'a>>, name: &'a Spelling) -> Result<(), 
 }
 
 /// A native type.
-fn push_native<'a>(sites: &mut Vec<Site<'a>>, name: &'a Spelling) -> Result<(), AllocError>
+fn push_native<'a>(sites: &mut Vec<Site<'a>>, name: &'a Bytes) -> Result<(), AllocError>
     ensures { OnOk result (Pushes sites.old.items sites.new.items (native_parts name.now)) }
 {
     sites.push(Site::Tokens(1))?;

@@ -5,7 +5,7 @@ ghost use Rattle.std.specs.Cmp.{partial_equiv_from_equiv};
 ghost use Rattle.std.specs.Cmp.Lexicographic.{bytes_decides, nat_list_eq_equiv};
 ghost use Rattle.std.specs.Str.{bytes_eq};
 
-use idl_base::{Datum, Excerpt};
+use idl_base::{Bytes, Datum};
 use std::alloc::{AllocError, Global};
 use std::marker::Model;
 
@@ -15,7 +15,7 @@ pub const NEWLINE: u8 = b'\n';
 /// A line of a file: bytes without newline. A clone shares the bytes.
 #[derive(Drop)]
 pub struct Line {
-    bytes: Excerpt,
+    bytes: Bytes,
 }
 
 impl Model for Line {
@@ -49,12 +49,12 @@ impl Line {
         ensures { IfOk result (λ line. line ≡ bytes.now) }
     {
         Ok(Line {
-            bytes: Excerpt::from_slice(alloc, bytes)?,
+            bytes: Bytes::from_slice(alloc, bytes)?,
         })
     }
 
     /// The line of these bytes.
-    pub(crate) fn of(bytes: Excerpt) -> Line
+    pub(crate) fn of(bytes: Bytes) -> Line
         requires { IsLine bytes }
         ensures { result ≡ bytes }
     {
@@ -70,7 +70,7 @@ impl Line {
     }
 
     /// The bytes, shared: no byte is copied.
-    pub fn shared(&self) -> Result<Excerpt, AllocError>
+    pub fn shared(&self) -> Result<Bytes, AllocError>
         ensures { IfOk result (λ bytes. bytes ≡ self.now) }
     {
         self.bytes.clone()

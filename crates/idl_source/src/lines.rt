@@ -1,12 +1,12 @@
 //! Lines that are gathered.
 
-ghost use Rattle.std.specs.Prelude.{◌≡◌, ◌∷◌, ◌++◌, [], IfOk, OnOk, length};
-ghost use Rattle.std.specs.Rc.{rc_slice_items};
+ghost use Rattle.std.specs.Prelude.{◌≡◌, ◌∷◌, ◌++◌, [], IfOk, OnOk};
 ghost use Rattle.idl_source.specs.Line.{IsLine};
-ghost use Rattle.idl_source.specs.Lines.{AreLines, pieces};
+ghost use Rattle.idl_base.specs.Spans.{pieces};
+ghost use Rattle.idl_source.specs.Lines.{AreLines};
 
 use crate::line::Line;
-use idl_base::Excerpt;
+use idl_base::{Bytes, Span};
 use std::alloc::{AllocError, Global};
 use std::marker::Model;
 use std::rc::RcSlice;
@@ -14,31 +14,26 @@ use std::rc::RcSlice;
 // So many bytes stand in one block, unless a line alone has more.
 const TOGETHER: usize = 256;
 
-/// Lines that are gathered, one after another. The bytes of many stand together in a block of memory, which these lines share.
+/// Lines that are gathered, one after another. The bytes of many stand together in a block of memory, which these
+/// lines share.
 #[derive(Drop)]
 pub struct Lines {
     lines: Vec<Line>,
     // The bytes of the last lines, and where among them each of these stands.
     bytes: Vec<u8>,
-    spots: Vec<Spot>,
-}
-
-// Where a line stands among bytes.
-#[derive(Clone, Copy)]
-struct Spot {
-    from: u32,
-    to: u32,
+    spans: Vec<Span>,
 }
 
 impl Model for Lines {
     ghost use Rattle.std.specs.Prelude.{List, ℕ, ◌++◌};
-    ghost use Rattle.idl_source.specs.Lines.{pieces, AreLines};
+    ghost use Rattle.idl_base.specs.Spans.{pieces};
+    ghost use Rattle.idl_source.specs.Lines.{AreLines};
 
     ghost Value = { List (List ℕ) };
 
-    ghost view = { λ it. it.lines.items ++ pieces it.bytes.items it.spots.items };
+    ghost view = { λ it. it.lines.items ++ pieces it.bytes.items it.spans.items };
 
-    ghost invariant = { λ it. AreLines it.bytes.items it.spots.items };
+    ghost invariant = { λ it. AreLines it.bytes.items it.spans.items };
 }
 
 impl Lines {
@@ -49,7 +44,7 @@ impl Lines {
         Lines {
             lines: Vec::new(alloc),
             bytes: Vec::new(alloc),
-            spots: Vec::new(alloc),
+            spans: Vec::new(alloc),
         }
     }
 
@@ -69,10 +64,10 @@ impl Lines {
         requires { IsLine line.now }
         ensures { OnOk result (self.new ≡ self.old ++ line.now ∷ []) }
     {
-        let from = counted(&self.bytes)?;
+        let from = self.bytes.len();
         self.bytes.extend_from_slice(line)?;
-        let to = counted(&self.bytes)?;
-        self.spots.push(Spot { from, to })?;
+        let to = self.bytes.len();
+        self.spans.push(Span { from, to })?;
         Ok(())
     }
 
@@ -80,7 +75,7 @@ impl Lines {
     pub fn into_vec(mut self) -> Result<Vec<Line>, AllocError>
         ensures { IfOk result (λ lines. lines.items ≡ self) }
     {
-        push_pieces(&mut self.lines, &self.bytes, &self.spots)?;
+        push_pieces(&mut self.lines, &self.bytes, &self.spans)?;
         Ok(self.lines)
     }
 
@@ -93,31 +88,22 @@ impl Lines {
     fn close(&mut self) -> Result<(), AllocError>
         ensures { OnOk result (self.new ≡ self.old) }
     {
-        push_pieces(&mut self.lines, &self.bytes, &self.spots)?;
+        push_pieces(&mut self.lines, &self.bytes, &self.spans)?;
         self.bytes.clear();
-        self.spots.clear();
+        self.spans.clear();
         Ok(())
     }
 }
 
-// How many bytes these are, or want of memory where they are too many.
-fn counted(bytes: &[u8]) -> Result<u32, AllocError>
-    ensures { IfOk result (λ count. count ≡ length bytes.now) }
+// Puts in the lines that stand among these bytes, which all but the short ones share from now on.
+fn push_pieces(lines: &mut Vec<Line>, bytes: &[u8], spans: &[Span]) -> Result<(), AllocError>
+    requires { AreLines bytes.now spans.now }
+    ensures { OnOk result (lines.new.items ≡ lines.old.items ++ pieces bytes.now spans.now) }
 {
-    match u32::try_from(bytes.len()) {
-        Ok(count) => Ok(count),
-        Err(_too_many) => Err(AllocError),
-    }
-}
-
-// Puts in the lines that stand among these bytes, which they share from now on.
-fn push_pieces(lines: &mut Vec<Line>, bytes: &[u8], spots: &[Spot]) -> Result<(), AllocError>
-    requires { AreLines bytes.now spots.now }
-    ensures { OnOk result (lines.new.items ≡ lines.old.items ++ pieces bytes.now spots.now) }
-{
-    let block = RcSlice::from_slice(*lines.allocator(), bytes)?;
-    for spot in spots {
-        let piece = Excerpt::new(block.clone()?, spot.from, spot.to);
+    let alloc = *lines.allocator();
+    let block = RcSlice::from_slice(alloc, bytes)?;
+    for span in spans {
+        let piece = Bytes::of_block(alloc, &block, span.from, span.to)?;
         lines.push(Line::of(piece))?;
     }
     Ok(())

@@ -10,7 +10,8 @@ use crate::cursor::{behind_word, identifier, is_at_word, keyword};
 use crate::data_type::data_type;
 use crate::fault::SyntaxFault;
 use crate::name::{more_identifiers, raises, raises_if};
-use idl_lex::{Keyword, Spelling, Token};
+use idl_base::Bytes;
+use idl_lex::{Keyword, Token};
 use idl_tree::{
     Attribute, AttributeNames, AttributeRaises, ReadonlyAttribute, ReadonlyNames, Several,
 };
@@ -47,7 +48,7 @@ fn readonly_names(alloc: Global, tokens: &[Token]) -> Result<(ReadonlyNames, &[T
 #[tactic(auto, unfolding(idl_tree::specs::ReadInterface::readonly_rest))]
 fn readonly_names_rest(
     alloc: Global,
-    name: Spelling,
+    name: Bytes,
     tokens: &[Token],
 ) -> Result<(ReadonlyNames, &[Token]), SyntaxFault>
     ensures reads { Reads (readonly_rest name) tokens.now result }
@@ -98,7 +99,7 @@ fn attribute_names(
 /// What stands behind its first name.
 fn attribute_names_rest(
     alloc: Global,
-    name: Spelling,
+    name: Bytes,
     tokens: &[Token],
 ) -> Result<(AttributeNames, &[Token]), SyntaxFault>
     ensures reads { Reads (λ ts. attribute_by name (keyword_of (first ts)) ts) tokens.now result }

@@ -15,8 +15,8 @@ use crate::declarator::{declarator, declarators};
 use crate::expression::expression;
 use crate::fault::SyntaxFault;
 use crate::name::{identifiers, scoped_name};
-use idl_base::{Boxed, Seq};
-use idl_lex::{Keyword, Mark, Spelling, Token};
+use idl_base::{Boxed, Bytes, Seq};
+use idl_lex::{Keyword, Mark, Token};
 use idl_tree::{
     Case, Construction, Discriminator, Enumeration, Label, Member, MemberType, Several, Structure,
     Union,
@@ -249,7 +249,7 @@ fn structure(
 pub fn structure_rest(
     alloc: Global,
     depth: usize,
-    name: Spelling,
+    name: Bytes,
     tokens: &[Token],
 ) -> Result<(Boxed<Structure>, &[Token]), SyntaxFault>
     ensures reads { Reads (nested structure_rest_with depth name) tokens.now result }
@@ -289,7 +289,7 @@ fn union_type(
 pub fn union_rest(
     alloc: Global,
     depth: usize,
-    name: Spelling,
+    name: Bytes,
     tokens: &[Token],
 ) -> Result<(Boxed<Union>, &[Token]), SyntaxFault>
     ensures reads { Reads (nested union_rest_with depth name) tokens.now result }
@@ -309,7 +309,7 @@ pub fn union_rest(
 fn union_cases(
     alloc: Global,
     depth: usize,
-    head: (Spelling, Discriminator),
+    head: (Bytes, Discriminator),
     tokens: &[Token],
 ) -> Result<(Boxed<Union>, &[Token]), SyntaxFault>
     ensures reads { Reads (nested cases_with depth head.0 head.1) tokens.now result }

@@ -9,7 +9,8 @@ ghost use Rattle.idl_syntax.specs.Gives.{Advances, Passes, Reads};
 ghost use Rattle.idl_syntax.specs.Next.{closed_with, mark_of, named_with};
 
 use crate::fault::SyntaxFault;
-use idl_lex::{Keyword, Kind, Mark, Spelling, Token};
+use idl_base::Bytes;
+use idl_lex::{Keyword, Kind, Mark, Token};
 use std::alloc::AllocError;
 
 /// The mark that the next token is.
@@ -73,7 +74,7 @@ pub fn behind(tokens: &[Token], mark: Mark) -> Result<&[Token], SyntaxFault>
 }
 
 /// What was read, with an identifier behind it.
-pub fn named<T: Drop>(read: T, tokens: &[Token]) -> Result<((T, Spelling), &[Token]), SyntaxFault>
+pub fn named<T: Drop>(read: T, tokens: &[Token]) -> Result<((T, Bytes), &[Token]), SyntaxFault>
     ensures reads { Reads (named_with read) tokens.now result }
     ensures shorter { Advances tokens.now result }
 {
@@ -128,7 +129,7 @@ pub fn name(tokens: &[Token]) -> Option<&[u8]>
 
 /// The same, shared with the token.
 #[tactic(auto, unfolding(idl_tree::specs::Lexeme::lexeme_of))]
-fn shared_name(tokens: &[Token]) -> Result<Option<Spelling>, AllocError>
+fn shared_name(tokens: &[Token]) -> Result<Option<Bytes>, AllocError>
     ensures { IfOk result (λ name. name ≡ identifier_of (first (lexemes tokens.now))) }
 {
     match tokens {
@@ -138,7 +139,7 @@ fn shared_name(tokens: &[Token]) -> Result<Option<Spelling>, AllocError>
 }
 
 /// An identifier.
-pub fn identifier(tokens: &[Token]) -> Result<(Spelling, &[Token]), SyntaxFault>
+pub fn identifier(tokens: &[Token]) -> Result<(Bytes, &[Token]), SyntaxFault>
     ensures reads { Reads identifier_at tokens.now result }
     ensures shorter { Advances tokens.now result }
 {

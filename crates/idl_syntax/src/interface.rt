@@ -6,7 +6,8 @@ ghost use Rattle.idl_syntax.specs.Gives.{Advances, Reads, Remains};
 use crate::cursor::{behind, behind_word, closed, identifier, is_at, is_at_word};
 use crate::fault::SyntaxFault;
 use crate::name::scoped_names;
-use idl_lex::{Keyword, Mark, Spelling, Token};
+use idl_base::Bytes;
+use idl_lex::{Keyword, Mark, Token};
 use idl_tree::{Forward, Interface, ScopedName, Several, Tree};
 use std::alloc::Global;
 
@@ -50,7 +51,7 @@ pub fn interface(alloc: Global, tokens: &[Token]) -> Result<(Tree, &[Token]), Sy
 fn interface_rest(
     alloc: Global,
     is_local: bool,
-    name: Spelling,
+    name: Bytes,
     tokens: &[Token],
 ) -> Result<(Tree, &[Token]), SyntaxFault>
     ensures reads { Reads (interface_rest is_local name) tokens.now result }

@@ -11,8 +11,8 @@ ghost use Rattle.idl_syntax.specs.Gives.{Advances, Reads, Remains};
 
 use crate::cursor::{behind, behind_word, closed, identifier, is_at, is_at_word};
 use crate::fault::SyntaxFault;
-use idl_base::Seq;
-use idl_lex::{Keyword, Mark, Spelling, Token};
+use idl_base::{Bytes, Seq};
+use idl_lex::{Keyword, Mark, Token};
 use idl_tree::{ScopedName, Several};
 use std::alloc::Global;
 
@@ -36,7 +36,7 @@ pub fn scoped_name(alloc: Global, tokens: &[Token]) -> Result<(ScopedName, &[Tok
 
 /// A further part of a name.
 #[tactic(auto, unfolding(idl_tree::specs::ReadName::part_at))]
-fn part(tokens: &[Token]) -> Result<(Spelling, &[Token]), SyntaxFault>
+fn part(tokens: &[Token]) -> Result<(Bytes, &[Token]), SyntaxFault>
     ensures reads { Reads part_at tokens.now result }
     ensures shorter { Advances tokens.now result }
 {
@@ -45,7 +45,7 @@ fn part(tokens: &[Token]) -> Result<(Spelling, &[Token]), SyntaxFault>
 }
 
 /// The further parts of a name.
-fn parts(alloc: Global, tokens: &[Token]) -> Result<(Seq<Spelling>, &[Token]), SyntaxFault>
+fn parts(alloc: Global, tokens: &[Token]) -> Result<(Seq<Bytes>, &[Token]), SyntaxFault>
     ensures reads { Reads parts_at tokens.now result }
     ensures within { Remains tokens.now result }
 {
@@ -96,7 +96,7 @@ fn more_scoped_names(
 pub fn identifiers(
     alloc: Global,
     tokens: &[Token],
-) -> Result<(Several<Spelling>, &[Token]), SyntaxFault>
+) -> Result<(Several<Bytes>, &[Token]), SyntaxFault>
     ensures reads { Reads (listed_with identifier_at) tokens.now result }
     ensures shorter { Advances tokens.now result }
 {
@@ -109,7 +109,7 @@ pub fn identifiers(
 pub fn more_identifiers(
     alloc: Global,
     tokens: &[Token],
-) -> Result<(Seq<Spelling>, &[Token]), SyntaxFault>
+) -> Result<(Seq<Bytes>, &[Token]), SyntaxFault>
     ensures reads { Reads more_names_at tokens.now result }
     ensures within { Remains tokens.now result }
 {

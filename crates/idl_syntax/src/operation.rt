@@ -16,8 +16,8 @@ use crate::data_type::data_type;
 use crate::fault::SyntaxFault;
 use crate::literal::text;
 use crate::name::raises_if;
-use idl_base::{Boxed, Seq};
-use idl_lex::{Keyword, Mark, Spelling, Token};
+use idl_base::{Boxed, Bytes, Seq};
+use idl_lex::{Keyword, Mark, Token};
 use idl_tree::{DataType, Direction, Operation, Parameter, ScopedName, Several};
 use std::alloc::Global;
 
@@ -213,7 +213,7 @@ pub fn operation(
 fn operation_rest(
     alloc: Global,
     depth: usize,
-    head: ((bool, Option<DataType>), Spelling),
+    head: ((bool, Option<DataType>), Bytes),
     tokens: &[Token],
 ) -> Result<(Operation, &[Token]), SyntaxFault>
     ensures reads { Reads (operation_rest_with (type_at depth) head.0.0 head.0.1 head.1)

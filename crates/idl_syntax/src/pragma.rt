@@ -10,8 +10,8 @@ ghost use Rattle.idl_tree.specs.Pragma.{further_parts, id_of, is_separator, name
 ghost use Rattle.idl_syntax.specs.Behind.{behind_view};
 
 use crate::version::version;
-use idl_base::Seq;
-use idl_lex::{Kind, Mark, Spelling, Token, decode};
+use idl_base::{Bytes, Seq};
+use idl_lex::{Kind, Mark, Token, decode};
 use idl_tree::{Pragma, ScopedName};
 use std::alloc::{AllocError, Global};
 
@@ -116,7 +116,7 @@ fn name_from(
 fn further_parts(
     alloc: Global,
     tokens: &[Token],
-) -> Result<Option<(Seq<Spelling>, &Token)>, AllocError>
+) -> Result<Option<(Seq<Bytes>, &Token)>, AllocError>
     ensures { IfOk result (λ read. behind_view read ≡ further_parts tokens.now) }
 {
     let mut parts = Vec::new(alloc);
@@ -138,7 +138,7 @@ fn further_parts(
 }
 
 /// The name that a token is, without an escape, shared with it.
-fn part(token: &Token) -> Result<Option<Spelling>, AllocError>
+fn part(token: &Token) -> Result<Option<Bytes>, AllocError>
     ensures { IfOk result (λ part. part ≡ part_of token.now) }
 {
     match token.kind() {

@@ -22,7 +22,8 @@ use crate::fault::SyntaxFault;
 use crate::interface::{closing, interface, module};
 use crate::name::scoped_name;
 use crate::operation::operation;
-use idl_lex::{Keyword, Mark, Spelling, Token};
+use idl_base::Bytes;
+use idl_lex::{Keyword, Mark, Token};
 use idl_tree::{Constant, ConstantType, Construction, Exception, Forward, Tree, Typedef};
 use std::alloc::Global;
 
@@ -150,7 +151,7 @@ fn typedef_unit(
 
 /// `native` and a name, without the `;`.
 #[tactic(auto, unfolding(idl_tree::specs::ReadUnit::native_at))]
-fn native(tokens: &[Token]) -> Result<(Spelling, &[Token]), SyntaxFault>
+fn native(tokens: &[Token]) -> Result<(Bytes, &[Token]), SyntaxFault>
     ensures reads { Reads native_at tokens.now result }
     ensures shorter { Advances tokens.now result }
 {

@@ -3,7 +3,7 @@
 use crate::data_type::DataType;
 use crate::name::ScopedName;
 use crate::several::Several;
-use idl_lex::Spelling;
+use idl_base::Bytes;
 
 /// An attribute that is read alone.
 pub struct ReadonlyAttribute {
@@ -22,8 +22,8 @@ impl Drop for ReadonlyAttribute {
 
 /// One name with what reading it raises, or one name or more.
 pub enum ReadonlyNames {
-    Raising(Spelling, Several<ScopedName>),
-    Plain(Several<Spelling>),
+    Raising(Bytes, Several<ScopedName>),
+    Plain(Several<Bytes>),
 }
 
 impl Drop for ReadonlyNames {
@@ -52,8 +52,8 @@ impl Drop for Attribute {
 
 /// One name with what reading and writing it raise, or one name or more.
 pub enum AttributeNames {
-    Raising(Spelling, AttributeRaises),
-    Plain(Several<Spelling>),
+    Raising(Bytes, AttributeRaises),
+    Plain(Several<Bytes>),
 }
 
 impl Drop for AttributeNames {

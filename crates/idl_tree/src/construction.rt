@@ -5,13 +5,12 @@ use crate::declarator::Declarator;
 use crate::expression::Expression;
 use crate::name::ScopedName;
 use crate::several::Several;
-use idl_base::{Boxed, Seq};
-use idl_lex::Spelling;
+use idl_base::{Boxed, Bytes, Seq};
 
 /// An enum, with its enumerators.
 pub struct Enumeration {
-    pub name: Spelling,
-    pub enumerators: Several<Spelling>,
+    pub name: Bytes,
+    pub enumerators: Several<Bytes>,
 }
 
 impl Drop for Enumeration {
@@ -74,7 +73,7 @@ pub enum Construction {
 #[cycle(construction)]
 #[derive(Drop)]
 pub struct Structure {
-    pub name: Spelling,
+    pub name: Bytes,
     pub first: Member,
     pub rest: Seq<Member>,
 }
@@ -91,7 +90,7 @@ pub struct Member {
 #[cycle(construction)]
 #[derive(Drop)]
 pub struct Union {
-    pub name: Spelling,
+    pub name: Bytes,
     pub discriminator: Discriminator,
     pub first: Case,
     pub rest: Seq<Case>,

@@ -1,12 +1,11 @@
 //! Declared names.
 
 use crate::expression::Expression;
-use idl_base::Seq;
-use idl_lex::Spelling;
+use idl_base::{Bytes, Seq};
 
 /// A declared name, and the lengths of its array if it is one.
 pub struct Declarator {
-    pub name: Spelling,
+    pub name: Bytes,
     pub lengths: Seq<Expression>,
 }
 

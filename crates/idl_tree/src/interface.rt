@@ -2,12 +2,12 @@
 
 use crate::name::ScopedName;
 use crate::several::Several;
-use idl_lex::Spelling;
+use idl_base::Bytes;
 
 /// The opening of an interface.
 pub struct Interface {
     pub is_local: bool,
-    pub name: Spelling,
+    pub name: Bytes,
     pub bases: Option<Several<ScopedName>>,
 }
 
@@ -23,9 +23,9 @@ impl Drop for Interface {
 
 /// A forward declaration.
 pub enum Forward {
-    Interface(bool, Spelling),
-    Structure(Spelling),
-    Union(Spelling),
+    Interface(bool, Bytes),
+    Structure(Bytes),
+    Union(Bytes),
 }
 
 impl Drop for Forward {

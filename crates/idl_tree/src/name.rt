@@ -1,13 +1,12 @@
 //! Scoped names.
 
-use idl_base::Seq;
-use idl_lex::Spelling;
+use idl_base::{Bytes, Seq};
 
 /// A scoped name: `["::"] ID ( "::" ID )*`, each part without an escape.
 pub struct ScopedName {
     pub is_global: bool,
-    pub first: Spelling,
-    pub rest: Seq<Spelling>,
+    pub first: Bytes,
+    pub rest: Seq<Bytes>,
 }
 
 impl Drop for ScopedName {

@@ -3,8 +3,7 @@
 use crate::data_type::DataType;
 use crate::name::ScopedName;
 use crate::several::Several;
-use idl_base::{Boxed, Seq};
-use idl_lex::Spelling;
+use idl_base::{Boxed, Bytes, Seq};
 
 /// `in`, `out` or `inout`.
 #[derive(Clone, Copy)]
@@ -18,7 +17,7 @@ pub enum Direction {
 pub struct Parameter {
     pub direction: Direction,
     pub kind: DataType,
-    pub name: Spelling,
+    pub name: Bytes,
 }
 
 impl Drop for Parameter {
@@ -35,7 +34,7 @@ impl Drop for Parameter {
 pub struct Operation {
     pub is_oneway: bool,
     pub result: Option<DataType>,
-    pub name: Spelling,
+    pub name: Bytes,
     pub parameters: Option<Several<Parameter>>,
     pub raises: Option<Several<ScopedName>>,
     pub context: Option<Boxed<Several<Several<Seq<u16>>>>>,

@@ -9,8 +9,7 @@ use crate::interface::{Forward, Interface};
 use crate::name::ScopedName;
 use crate::operation::Operation;
 use crate::several::Several;
-use idl_base::Seq;
-use idl_lex::Spelling;
+use idl_base::{Bytes, Seq};
 
 /// A typedef.
 pub struct Typedef {
@@ -47,7 +46,7 @@ impl Drop for ConstantType {
 /// A constant.
 pub struct Constant {
     pub kind: ConstantType,
-    pub name: Spelling,
+    pub name: Bytes,
     pub value: Expression,
 }
 
@@ -63,7 +62,7 @@ impl Drop for Constant {
 
 /// An exception, with its members.
 pub struct Exception {
-    pub name: Spelling,
+    pub name: Bytes,
     pub members: Seq<Member>,
 }
 
@@ -79,12 +78,12 @@ impl Drop for Exception {
 /// What a unit is.
 pub enum Tree {
     Closing,
-    Module(Spelling),
+    Module(Bytes),
     Interface(Interface),
     Forward(Forward),
     Typedef(Typedef),
     Construction(Construction),
-    Native(Spelling),
+    Native(Bytes),
     Constant(Constant),
     Exception(Exception),
     ReadonlyAttribute(ReadonlyAttribute),

@@ -5,7 +5,8 @@ ghost use Rattle.std.specs.Fmt.{signed_decimal};
 ghost use Rattle.idl_value.specs.Spelled.{character_text, escaped, hexadecimal, numbered, octal, path_word, quoted, scope_of, truth_word, value_word};
 
 use crate::value::Value;
-use idl_lex::{Spelling, is_like_keyword};
+use idl_base::Bytes;
+use idl_lex::is_like_keyword;
 use itoa::Buffer;
 use std::alloc::AllocError;
 
@@ -131,7 +132,7 @@ fn hexadecimal(number: u16) -> u8
 }
 
 // The path of the scope around.
-fn behind_first(path: &[Spelling]) -> &[Spelling]
+fn behind_first(path: &[Bytes]) -> &[Bytes]
     ensures { result.now ≡ scope_of path.entry.now }
 {
     match path {
@@ -141,7 +142,7 @@ fn behind_first(path: &[Spelling]) -> &[Spelling]
 }
 
 // A path, from the global scope on.
-fn push_path(text: &mut Vec<u8>, path: &[Spelling]) -> Result<(), AllocError>
+fn push_path(text: &mut Vec<u8>, path: &[Bytes]) -> Result<(), AllocError>
     ensures { OnOk result (text.new.items ≡ text.old.items ++ path_word path.now) }
 {
     let count = path.len();

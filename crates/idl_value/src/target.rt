@@ -5,8 +5,7 @@ ghost use Rattle.idl_value.specs.Evaluation.{kind_in};
 ghost use Rattle.idl_value.specs.Target.{discriminates, integer_of, target_of, value_count};
 
 use crate::integer::IntegerKind;
-use idl_base::{Datum, Seq};
-use idl_lex::Spelling;
+use idl_base::{Bytes, Datum, Seq};
 use idl_tree::{DiscreteType, IntegerSize};
 use std::alloc::AllocError;
 
@@ -22,7 +21,7 @@ pub enum Target {
     /// `wstring`, with its bound if it has one.
     WideText(Option<u32>),
     /// The enum at this path, the innermost name first.
-    Enumeration(Seq<Spelling>),
+    Enumeration(Seq<Bytes>),
 }
 
 impl Drop for Target {

@@ -1,7 +1,6 @@
 //! Values.
 
-use idl_base::{Datum, Seq};
-use idl_lex::Spelling;
+use idl_base::{Bytes, Datum, Seq};
 
 /// The value of a constant, of a label or of an expression, with its kind. Two labels of one union are the same where their values
 /// are equal; the order has no meaning, and lets values be looked up.
@@ -17,7 +16,7 @@ pub enum Value {
     WideText(Seq<u16>),
     /// The path of an enum, the innermost name first; and the name of one of its enumerators, which is declared in the scope
     /// around the enum.
-    Enumerator(Seq<Spelling>, Spelling),
+    Enumerator(Seq<Bytes>, Bytes),
 }
 
 impl Drop for Value {

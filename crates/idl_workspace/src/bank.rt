@@ -20,9 +20,8 @@ ghost use Rattle.idl_workspace.specs.Project.{Inputs, is_defined, no_inputs};
 
 use crate::macro_body::MacroBody;
 use crate::{MAX_BODY, MAX_MACROS};
-use idl_base::Seq;
+use idl_base::{Bytes, Seq};
 use idl_event::{Answer, FileName, Key, LexedFile};
-use idl_lex::Spelling;
 use idl_macro::is_macro_word;
 use idl_memo::Bank;
 use idl_source::{Files, Line, Refusal};
@@ -34,7 +33,7 @@ use std::marker::Model;
 pub struct SessionBank {
     files: Files,
     texts: IndexMap<FileName, Answer>,
-    macros: IndexMap<Spelling, MacroBody>,
+    macros: IndexMap<Bytes, MacroBody>,
     search: Answer,
 }
 
@@ -96,7 +95,7 @@ impl SessionBank {
     }
 
     // Whether there are as many macros as there may be, and none with this word.
-    fn is_full_for(&self, word: &Spelling) -> bool
+    fn is_full_for(&self, word: &Bytes) -> bool
         ensures { let macros = self.now.macros in
             result ≡ (nat_le most_macros (length macros) && not (is_defined macros word.now)) }
     {
@@ -104,7 +103,7 @@ impl SessionBank {
     }
 
     /// Why a macro with this word and this body isn't defined.
-    pub fn refusal_of_define(&self, word: &Spelling, body: &Line) -> Option<Refusal>
+    pub fn refusal_of_define(&self, word: &Bytes, body: &Line) -> Option<Refusal>
         ensures { result ≡ result_err (macros_with self.now.macros word.now body.now) }
     {
         if body.len() > MAX_BODY || self.is_full_for(word) {
@@ -164,7 +163,7 @@ impl SessionBank {
     }
 
     /// Gives the macro with this word this body, as the last one if it is new.
-    pub fn define(&mut self, word: Spelling, body: MacroBody) -> Result<(), AllocError>
+    pub fn define(&mut self, word: Bytes, body: MacroBody) -> Result<(), AllocError>
         ensures ok { let macros = insert_entry bytes_eq self.old.macros word body in
             OnOk result (self.new ≡ record self.old { macros = macros }) }
         ensures bank { OnOk result (bank_of self.new
@@ -176,7 +175,7 @@ impl SessionBank {
     }
 
     /// Takes the macro with this word out, if there is one.
-    pub fn undef(&mut self, word: &Spelling)
+    pub fn undef(&mut self, word: &Bytes)
         ensures left { let macros = remove_entry (bytes_eq word.now) self.old.macros in
             self.new ≡ record self.old { macros = macros } }
         ensures bank { bank_of self.new ≡ changed key_eq (bank_of self.old) (keys.Macro word.now) None }

@@ -23,9 +23,8 @@ use crate::macro_body::MacroBody;
 use crate::root_table::RootTable;
 use crate::word::spelled;
 use crate::work::Work;
-use idl_base::Seq;
+use idl_base::{Bytes, Seq};
 use idl_event::{Answer, FileName, Key};
-use idl_lex::Spelling;
 use idl_macro::is_macro_word;
 use idl_memo::{Edited, Meter, freshness};
 use idl_prep::RootTask;
@@ -378,7 +377,7 @@ impl Session {
     // All roots as they are once the macro of this word has another answer, and the work of that.
     fn renewed_with_macro(
         &mut self,
-        word: &Spelling,
+        word: &Bytes,
         answer: Option<&Answer>,
     ) -> Result<(RootTable, Work), AllocError>
         ensures renewed { IfOk result

@@ -2,12 +2,12 @@
 
 ghost use Rattle.std.specs.Prelude.{◌≡◌, IfOk};
 
-use idl_lex::Spelling;
+use idl_base::Bytes;
 use std::alloc::{AllocError, Global};
 
 /// A copy of the bytes of a word.
-pub fn spelled(alloc: Global, word: &[u8]) -> Result<Spelling, AllocError>
+pub fn spelled(alloc: Global, word: &[u8]) -> Result<Bytes, AllocError>
     ensures { IfOk result (λ spelling. spelling ≡ word.now) }
 {
-    Spelling::from_slice(alloc, word)
+    Bytes::from_slice(alloc, word)
 }

@@ -3,7 +3,7 @@ use Rattle.std.specs.List.{slice_range}
 use Rattle.idl_lex.specs.Tokens.{tokens_in}
 use Rattle.idl_lex.specs.declared.token.PlacedToken.{PlacedToken}
 use Rattle.idl_lex.proofs.MovedLemmas.{tokens_in-moved}
-use Rattle.idl_lex.proofs.PartLemmas.{part-map}
+use Rattle.idl_base.proofs.PartLemmas.{part-map}
 use Rattle.idl_lex.proofs.file_tokens.FileTokens.as_slice.Goals as goal
 
 pub returns : goal.returns

@@ -4,7 +4,7 @@ use Rattle.std.specs.List.{drop-map, slice_range}
 use Rattle.idl_lex.specs.Apart.{place_of}
 use Rattle.idl_lex.specs.Moved.{moved_token, moved_tokens}
 use Rattle.idl_lex.specs.Tokens.{followers_on_line}
-use Rattle.idl_lex.proofs.PartLemmas.{length-part, part-drop}
+use Rattle.idl_base.proofs.PartLemmas.{length-part, part-drop}
 use Rattle.idl_lex.proofs.WalkLemmas.{followers-range}
 use Rattle.idl_lex.proofs.file_tokens.FileTokens.first_line_len.Goals as goal
 

@@ -2,7 +2,7 @@ use Rattle.std.proofs.Common.{ap, arith, length}
 use Rattle.std.specs.List.{slice_range}
 use Rattle.std.proofs.lemmas.List.{length-map}
 use Rattle.idl_lex.specs.Moved.{moved_token}
-use Rattle.idl_lex.proofs.PartLemmas.{length-part}
+use Rattle.idl_base.proofs.PartLemmas.{length-part}
 use Rattle.idl_lex.proofs.file_tokens.FileTokens.len.Goals as goal
 
 pub returns : goal.returns

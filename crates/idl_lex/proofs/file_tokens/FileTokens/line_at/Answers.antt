@@ -6,7 +6,7 @@ use Rattle.idl_lex.specs.Apart.{place_of, placed_at}
 use Rattle.idl_lex.specs.Moved.{moved_token}
 use Rattle.idl_lex.specs.declared.block_tokens.TokenPlace.{TokenPlace}
 use Rattle.idl_lex.specs.declared.token.PlacedToken.{PlacedToken}
-use Rattle.idl_lex.proofs.PartLemmas.{length-part}
+use Rattle.idl_base.proofs.PartLemmas.{length-part}
 use Rattle.idl_lex.proofs.WalkLemmas.{line-read}
 use Rattle.idl_lex.proofs.file_tokens.FileTokens.line_at.Goals as goal
 

@@ -2,7 +2,7 @@ use Rattle.std.proofs.Common.{◌∙◌, ap, drop}
 use Rattle.std.specs.List.{slice_range}
 use Rattle.idl_lex.specs.Moved.{moved_tokens}
 use Rattle.idl_lex.specs.declared.block.Block.{Block}
-use Rattle.idl_lex.proofs.PartLemmas.{part-rest}
+use Rattle.idl_base.proofs.PartLemmas.{part-rest}
 use Rattle.idl_lex.proofs.file_tokens.FileTokens.new.Goals as goal
 
 pub returns : goal.returns

@@ -2,7 +2,7 @@ use Rattle.std.proofs.Common.{◌∙◌, ◌+◌, ◌≤◌, ap, arith, drop, le
 use Rattle.std.proofs.lemmas.List.{length-map, take-map}
 use Rattle.std.specs.List.{drop-map, slice_range}
 use Rattle.idl_lex.specs.Moved.{moved_token, moved_tokens}
-use Rattle.idl_lex.proofs.PartLemmas.{length-part, part-drop, part-take}
+use Rattle.idl_base.proofs.PartLemmas.{length-part, part-drop, part-take}
 use Rattle.idl_lex.proofs.file_tokens.FileTokens.split_at.Goals as goal
 
 pub returns-clause-front : goal.returns-clause-front

@@ -8,7 +8,7 @@ use Rattle.idl_lex.specs.Tokens.{tokens_in}
 use Rattle.idl_lex.specs.declared.block_tokens.TokenPlace.{TokenPlace}
 use Rattle.idl_lex.specs.declared.token.PlacedToken.{PlacedToken}
 use Rattle.idl_lex.proofs.ApartLemmas.{placed_at-read}
-use Rattle.idl_lex.proofs.PartLemmas.{part-first}
+use Rattle.idl_base.proofs.PartLemmas.{part-first}
 use Rattle.idl_lex.proofs.file_tokens.FileTokens.split_first.Goals as goal
 
 abbrev nowhere : TokenPlace

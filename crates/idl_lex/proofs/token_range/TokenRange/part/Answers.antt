@@ -1,6 +1,6 @@
 use Rattle.std.proofs.Common.{◌≡◌, ◌∙◌, ◌+◌, ◌≤◌, ap, arith, length, subst, sym, IfOk}
 use Rattle.std.specs.List.{slice_range}
-use Rattle.idl_lex.proofs.PartLemmas.{length-part, part-part}
+use Rattle.idl_base.proofs.PartLemmas.{length-part, part-part}
 use Rattle.idl_lex.proofs.token_range.TokenRange.part.Goals as goal
 
 pub returns : goal.returns
