@@ -2,7 +2,7 @@
 use Rattle.std.specs.Prelude.{ℕ, ◌+◌, ◌≤◌, List, [], ◌∷◌, Option, None, Some, Result, Ok, Err, if◌then◌else◌}
 use Rattle.idl_check.specs.Declaring.{Written}
 use Rattle.idl_check.specs.Pragmas.{Said, refused_for, said}
-use Rattle.idl_check.specs.Few.{boxed_or}
+use Rattle.idl_check.specs.Apart.{boxed_or}
 use Rattle.idl_check.specs.Values.{Values, nothing_kept}
 use Rattle.idl_check.specs.Walk.{turns_at, Walk, past_name, head_of, head_visit, noted_in, used, visit}
 use Rattle.idl_check.specs.declared.declaring.Written.{Written as LastWritten}

@@ -6,7 +6,7 @@ pub mod Valued
 pub mod Values
 pub mod Rules
 pub mod Declaring
-pub mod Few
+pub mod Apart
 pub mod Identifying
 pub mod Pragmas
 pub mod Using

@@ -46,7 +46,7 @@ impl Drop for Named {
 }
 
 impl Model for Bases {
-    ghost use Rattle.idl_check.specs.Few.{boxed_or};
+    ghost use Rattle.idl_check.specs.Apart.{boxed_or};
     ghost use Rattle.idl_check.specs.Using.{Bases as NamedBases, no_bases};
 
     ghost Value = { NamedBases };

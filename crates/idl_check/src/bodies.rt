@@ -5,7 +5,6 @@ ghost use Rattle.idl_scope.specs.Kind.{kind_eq};
 ghost use Rattle.idl_scope.specs.declared.kind.Kind.TheVariants.{Attribute};
 ghost use Rattle.idl_check.specs.Bodies.{begun_body, comes_out, goes_in, is_member, is_nothing, joined_text, nested, no_clauses, raises, raising, signature_of, told_body, told_innermost, with_array_body, with_array_type, with_body_label, with_context, with_last_type, with_member, with_name, with_next_label, with_raised};
 
-use crate::few::Few;
 use crate::last_type::LastType;
 use idl_base::Seq;
 use idl_scope::{DataType, Entity, Kind, Member, Path, Shared, Signature, Stage};
@@ -95,7 +94,7 @@ impl Model for Nest {
 
 impl Model for Clauses {
     ghost use Rattle.idl_check.specs.Bodies.{Clauses as ToldClauses, no_clauses};
-    ghost use Rattle.idl_check.specs.Few.{boxed_or};
+    ghost use Rattle.idl_check.specs.Apart.{boxed_or};
 
     ghost Value = { ToldClauses };
 
@@ -191,7 +190,7 @@ impl Clauses {
     /// Puts in the attribute that was declared last, if it raises something.
     pub fn add_raising(
         &self,
-        begun: &mut Few<Shared<Entity>>,
+        begun: &mut Seq<Shared<Entity>>,
         last: &Option<Shared<Entity>>,
     ) -> Result<(), AllocError>
         ensures { OnOk result (begun.new ≡ begun.old ++ raising last.now self.now) }
@@ -445,7 +444,7 @@ pub fn end_innermost(
     alloc: Global,
     bodies: &mut Nest,
     clauses: &Clauses,
-    begun: &mut Few<Shared<Entity>>,
+    begun: &mut Seq<Shared<Entity>>,
 ) -> Result<(), AllocError>
     ensures begun { OnOk result
         (begun.new ≡ begun.old ++ told_innermost clauses.now bodies.old) }

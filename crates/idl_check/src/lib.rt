@@ -11,7 +11,6 @@ mod bodies;
 mod codes;
 mod cursor;
 mod declaring;
-mod few;
 mod identifying;
 mod judge;
 mod labels;

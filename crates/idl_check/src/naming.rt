@@ -23,7 +23,6 @@ ghost use Rattle.idl_unit.specs.TokenRules.{fault_at, first};
 use crate::bases::Bases;
 use crate::bodies::declare_member;
 use crate::declaring::{declared_code, stays};
-use crate::few::Few;
 use crate::labels::Labels;
 use crate::last_type::LastType;
 use crate::named_types::NamedTypes;
@@ -393,7 +392,7 @@ fn is_begun(entity: &Entity) -> bool
 }
 
 // Those that have begun, with one more if it has.
-fn keep_begun(begun: &mut Few<Shared<Entity>>, entity: &Shared<Entity>) -> Result<(), AllocError>
+fn keep_begun(begun: &mut Seq<Shared<Entity>>, entity: &Shared<Entity>) -> Result<(), AllocError>
     ensures { OnOk result
         (begun.new
         ≡ begun.old ++ (if is_begun entity.now then entity.now ∷ [] else [])) }

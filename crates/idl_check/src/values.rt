@@ -3,7 +3,7 @@
 ghost use Rattle.std.specs.Prelude.{◌≡◌, ◌∷◌, ◌++◌, [], IfOk, None, OnOk};
 ghost use Rattle.std.specs.Option.{option_copied};
 ghost use Rattle.idl_check.specs.Held.{held_values};
-ghost use Rattle.idl_check.specs.Few.{boxed_or};
+ghost use Rattle.idl_check.specs.Apart.{boxed_or};
 ghost use Rattle.idl_check.specs.Values.{begun_at, code_of, evaluation_for, evaluation_in, no_values, nothing_kept, number_of, with_operand, with_value};
 ghost use Rattle.idl_value.specs.Evaluation.{first_of};
 

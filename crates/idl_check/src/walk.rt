@@ -20,7 +20,6 @@ use crate::bodies::{Body, Clauses, Nest, end_innermost};
 use crate::codes::lesser;
 use crate::cursor::Cursor;
 use crate::declaring::{Ending, Written, finished, kind_of, path_in};
-use crate::few::Few;
 use crate::labels::Labels;
 use crate::named_types::NamedTypes;
 use crate::scratch::Scratch;
@@ -45,7 +44,7 @@ pub struct Walker<'a> {
     /// What the tokens before it add.
     pub own: Facts,
     /// Those of the declared names that the unit's end finishes.
-    pub begun: Few<Shared<Entity>>,
+    pub begun: Seq<Shared<Entity>>,
     pub bases: Bases,
     /// What the next names are declared with.
     pub written: Written,
@@ -59,7 +58,7 @@ pub struct Walker<'a> {
     /// Whether what the next token begins is given back by a oneway operation.
     pub gives_back: bool,
     /// The paths of what the used names denote, in order.
-    pub found: Few<Path>,
+    pub found: Seq<Path>,
     pub values: Values,
     /// The types by name that were told last, if there are any.
     pub types: Option<Box<NamedTypes>>,
@@ -79,7 +78,7 @@ impl<'a> Walker<'a> {
             at: 0,
             cursor: Cursor::new(scopes),
             own: Facts::within(alloc, &mut scratch.room),
-            begun: Few::new(alloc),
+            begun: Seq::new(alloc),
             bases: Bases::new(),
             written: Written::new(alloc),
             last: None,
@@ -87,7 +86,7 @@ impl<'a> Walker<'a> {
             clauses: Clauses::new(alloc),
             unions: Vec::new(alloc),
             gives_back: false,
-            found: Few::new(alloc),
+            found: Seq::new(alloc),
             values: Values::new(alloc),
             types: scratch.types.take(),
             fault: None,

@@ -19,7 +19,6 @@ pub mod Outline
 pub mod Outside
 pub mod Path
 pub mod Question
-pub mod Queue
 pub mod Scope
 pub mod Signature
 pub mod Stretch

@@ -8,7 +8,6 @@ mod addition;
 mod answer;
 mod answers;
 mod apart;
-mod base_queue;
 mod count;
 mod data_type;
 mod details;

@@ -12,7 +12,6 @@ ghost use Rattle.idl_scope.specs.declared.key.Key.TheVariants.{Declared, IdOf, P
 
 use crate::addition::Addition;
 use crate::answer::{Answer, entity_in, identity_at, prefix_in};
-use crate::base_queue::BaseQueue;
 use crate::digested::DigestedKey;
 use crate::entity::Entity;
 use crate::env::Env;
@@ -23,6 +22,7 @@ use crate::kind::Kind;
 use crate::lent_key::LentKey;
 use crate::open_scopes::OpenScopes;
 use crate::path::Path;
+use crate::queue::BaseQueue;
 use crate::shared::Shared;
 use idl_base::Bytes;
 use idl_memo::Journal;
