@@ -5,7 +5,7 @@ use Rattle.std.specs.Cmp.Lexicographic.{bytes_decides}
 use Rattle.std.specs.List.{list_any}
 use Rattle.std.specs.Map.{lookup}
 use Rattle.std.specs.Str.{bytes_eq}
-use Rattle.idl_base.proofs.TableLemmas.{lookup-insert_entry}
+use Rattle.idl_map.proofs.TableLemmas.{lookup-insert_entry}
 use Rattle.idl_check.specs.Using.{with_operation}
 use Rattle.idl_check.specs.Rules.{is_another}
 use Rattle.idl_lex.specs.Keywords.{folded}

@@ -1,7 +1,7 @@
 -- Used names: what they may denote where they stand, and what bases bring.
 use Rattle.std.specs.Prelude.{ℕ, ◌+◌, ◌*◌, Bool, true, false, List, [], ◌∷◌, fold, length, map, Option, Some, if◌then◌else◌}
 use Rattle.std.specs.Str.{bytes_eq}
-use Rattle.idl_base.specs.Table.{insert_entry}
+use Rattle.idl_map.specs.Table.{insert_entry}
 use Rattle.idl_check.specs.Codes.{Table}
 use Rattle.idl_check.specs.Labels.{Labels, no_labels}
 use Rattle.idl_check.specs.Types.{constants_of}

@@ -12,9 +12,9 @@ ghost use Rattle.idl_scope.specs.Path.{path_eq};
 ghost use Rattle.idl_unit.specs.TokenRules.{first};
 
 use crate::codes::first_code;
-use idl_base::{Bytes, Seq, Table};
+use idl_base::{Bytes, Seq};
 use idl_event::Code;
-use idl_map::SharedList;
+use idl_map::{SharedList, Table};
 use idl_scope::{Entity, Path, Stage};
 use std::alloc::{AllocError, Global};
 use std::marker::Model;

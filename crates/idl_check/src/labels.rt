@@ -5,7 +5,7 @@ ghost use Rattle.std.specs.Option.{option_copied};
 ghost use Rattle.std.specs.Map.{keys_of};
 ghost use Rattle.idl_check.specs.Labels.{count_of, is_among, is_idle, is_labelled, no_labels, with_default, with_label, with_one};
 
-use idl_base::Table;
+use idl_map::Table;
 use idl_value::{Target, Value};
 use std::alloc::{AllocError, Global};
 use std::marker::Model;

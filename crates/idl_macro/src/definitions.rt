@@ -4,16 +4,17 @@ ghost use Rattle.std.specs.Prelude.{◌≡◌, [], Some, None, IfOk, OnOk, OnErr
 ghost use Rattle.std.specs.Map.{lookup};
 ghost use Rattle.std.specs.Option.{option_copied, option_map};
 ghost use Rattle.std.specs.Str.{bytes_eq};
-ghost use Rattle.idl_base.specs.Table.{insert_entry};
+ghost use Rattle.idl_map.specs.Table.{insert_entry};
 ghost use Rattle.idl_event.specs.Expanding.{arrival, arrived};
 ghost use Rattle.idl_lex.specs.Tokens.{tokens_in};
 ghost use Rattle.idl_macro.specs.Digest.{digest_of};
 ghost use Rattle.idl_macro.specs.Macros.{body_in, macro_of};
 
 use crate::digest::digest_of;
-use idl_base::{Bytes, Marks, Table};
+use idl_base::{Bytes, Marks};
 use idl_event::{Answer, Progress, RootBank};
 use idl_lex::{Token, TokenRange};
+use idl_map::Table;
 use std::alloc::{AllocError, Global};
 use std::marker::Model;
 

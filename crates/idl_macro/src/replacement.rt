@@ -17,9 +17,10 @@ ghost use Rattle.idl_macro.specs.declared.replacement.Output.TheVariants.{Text};
 ghost use Rattle.idl_macro.specs.Replace.{operand, replaced, replaced_at, replacement, text};
 
 use crate::definitions::{Definitions, Macros};
-use idl_base::{Bytes, Table};
+use idl_base::Bytes;
 use idl_event::{Answer, FileName, Item, Key, Place, Progress, RootBank};
 use idl_lex::{FileTokens, Token};
+use idl_map::Table;
 use std::alloc::{AllocError, Global};
 use std::slice::from_ref;
 

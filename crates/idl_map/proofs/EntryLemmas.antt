@@ -1,10 +1,13 @@
 -- What keys have in entries, and in the rest behind them.
 use Rattle.std.proofs.Common.{◌≡◌, ◌≢◌, ℕ, Bool, true, false, cond, List, [], ◌∷◌, ◌++◌, Option, None, Some, slice_get, slice_index_or, slice_set, refl, sym, ap, ◌∙◌}
+use Rattle.std.specs.BTreeMap.{is_at}
 use Rattle.std.specs.Cmp.{IsEquivalence}
 use Rattle.std.specs.Map.{keys_of, lookup}
-use Rattle.idl_base.specs.Table.{AreDistinct, insert_entry}
+use Rattle.std.specs.Ordering.{eq_by_cmp}
+use Rattle.std.specs.declared.cmp.Ordering.{Ordering}
+use Rattle.idl_map.specs.Table.{AreDistinct, insert_entry}
 use Rattle.idl_base.proofs.Exactness.{Decides-eq}
-use Rattle.idl_base.proofs.TableLemmas.{insert_entry-at, insert_entry-new, lookup-at, lookup-insert_entry, lookup-nowhere}
+use Rattle.idl_map.proofs.TableLemmas.{insert_entry-at, insert_entry-new, lookup-at, lookup-insert_entry, lookup-nowhere}
 
 module _ {V : Type 0} where
   -- one answer, or else another
@@ -64,10 +67,21 @@ module _ {K V : Type 0} (eq : K → K → Bool) (laws : IsEquivalence eq) (same 
         ap (λ fs. lookup (eq q) (fs ++ rest)) (sym (insert_entry-new eq (Decides-eq eq laws same) es key v absent)) ∙ put_first es rest
 
     -- or into the rest
-    pub lookup-rest : (es rest : List (K × V)) → lookup (eq key) es ≡ None
-        → lookup (eq q) (es ++ insert_entry eq rest key v) ≡ cond (eq q key) (Some v) (lookup (eq q) (es ++ rest))
-    lookup-rest es rest absent =
-        lookup-append (eq q) es (insert_entry eq rest key v)
-        ∙ ap (otherwise (lookup (eq q) es)) (lookup-insert_entry eq same key v q rest)
+    pub lookup-rest : (es rest more : List (K × V)) → lookup (eq key) es ≡ None → lookup (eq q) more ≡ cond (eq q key) (Some v) (lookup (eq q) rest)
+        → lookup (eq q) (es ++ more) ≡ cond (eq q key) (Some v) (lookup (eq q) (es ++ rest))
+    lookup-rest es rest more absent put =
+        lookup-append (eq q) es more
+        ∙ ap (otherwise (lookup (eq q) es)) put
         ∙ otherwise-last (eq q key) v (lookup (eq q) es) (lookup (eq q) rest) (λ there. ap (λ k. lookup (eq k) es) (same q key there) ∙ absent)
         ∙ ap (cond (eq q key) (Some v)) (sym (lookup-append (eq q) es rest))
+
+module _ {K V : Type 0} (eq : K → K → Bool) (cmp : K → K → Ordering) (ties : (x y : K) → eq x y ≡ eq_by_cmp cmp x y) where
+  -- a look-up by order is one by equality
+  pub lookup-by_order : (es : List (K × V)) (k : K) → lookup (is_at (cmp k)) es ≡ lookup (eq k) es
+  lookup-by_order es k = sym (λ i. lookup (λ q. ties k q i) es)
+
+  -- so it is behind a put
+  pub lookup-put_by_order : IsEquivalence eq → (es more : List (K × V)) (key : K) (v : V) (q : K) → lookup (is_at (cmp q)) more ≡ cond (is_at (cmp key) q) (Some v) (lookup (is_at (cmp q)) es)
+      → lookup (eq q) more ≡ cond (eq q key) (Some v) (lookup (eq q) es)
+  lookup-put_by_order laws es more key v q put =
+      sym (lookup-by_order more q) ∙ put ∙ (λ i. cond ((sym (ties key q) ∙ laws.symm key q) i) (Some v) (lookup-by_order es q i))

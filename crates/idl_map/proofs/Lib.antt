@@ -5,3 +5,4 @@ pub mod LaneLemmas
 pub mod BucketLemmas
 pub mod ItemLemmas
 pub mod EntryLemmas
+pub mod TableLemmas

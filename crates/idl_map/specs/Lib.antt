@@ -1,4 +1,4 @@
 pub mod Buckets
-pub mod DigestTable
 pub mod Entries
 pub mod Items
+pub mod Table

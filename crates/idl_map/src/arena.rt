@@ -9,8 +9,9 @@ ghost use Rattle.idl_map.specs.Entries.{IsSound, entries_of};
 use crate::bits::{lowest, without};
 use crate::index::{Index, Spot};
 use crate::{Digest, Lent};
-use idl_base::{Datum, Table};
+use idl_base::Datum;
 use std::alloc::{AllocError, Global};
+use std::collections::BTreeMap;
 
 /// Entries, the index of the digests of their keys, and the rest, which has the entries for which the index had no room.
 ///
@@ -18,7 +19,7 @@ use std::alloc::{AllocError, Global};
 pub struct Arena<K: Digest + Ord, V: Datum> {
     index: Index,
     entries: Vec<(K, V)>,
-    rest: Table<K, V>,
+    rest: BTreeMap<K, V>,
 }
 
 impl<K: Digest + Ord, V: Datum> Drop for Arena<K, V> {
@@ -64,7 +65,7 @@ impl<K: Digest + Ord, V: Datum> Arena<K, V> {
         Ok(Arena {
             index: Index::new(alloc)?,
             entries: Vec::new(alloc),
-            rest: Table::new(alloc),
+            rest: BTreeMap::new(alloc),
         })
     }
 
@@ -95,7 +96,7 @@ impl<K: Digest + Ord, V: Datum> Arena<K, V> {
     #[inline]
     fn lent_among_rest<L: Lent<K>>(&self, key: &L) -> Result<Option<&V>, AllocError>
         ensures { IfOk result (λ value.
-            option_copied value ≡ lookup (K.eq (L.key key.now)) self.now.rest) }
+            option_copied value ≡ lookup (K.eq (L.key key.now)) self.now.rest.entries) }
     {
         if self.rest.is_empty() {
             return Ok(None);
@@ -107,15 +108,15 @@ impl<K: Digest + Ord, V: Datum> Arena<K, V> {
     #[inline(never)]
     fn made_among_rest<L: Lent<K>>(&self, key: &L) -> Result<Option<&V>, AllocError>
         ensures { IfOk result (λ value.
-            option_copied value ≡ lookup (K.eq (L.key key.now)) self.now.rest) }
+            option_copied value ≡ lookup (K.eq (L.key key.now)) self.now.rest.entries) }
     {
         let key = key.owned()?;
-        Ok(self.rest.get(&key))
+        Ok(self.among_rest(&key))
     }
 
     // The value that the rest has at a key. It is empty but where many digests choose one bucket.
     fn among_rest(&self, key: &K) -> Option<&V>
-        ensures { option_copied result ≡ lookup (K.eq key.now) self.now.rest }
+        ensures { option_copied result ≡ lookup (K.eq key.now) self.now.rest.entries }
     {
         if self.rest.is_empty() {
             return None;
@@ -226,6 +227,7 @@ impl<K: Digest + Ord, V: Datum> Arena<K, V> {
             self.entries.push((key, value))?;
             return Ok(());
         }
-        self.rest.insert(key, value)
+        self.rest.insert(key, value)?;
+        Ok(())
     }
 }

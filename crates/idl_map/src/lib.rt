@@ -5,14 +5,14 @@ mod arena;
 mod bits;
 mod buckets;
 mod digest;
-mod digest_table;
 mod index;
 mod lent;
 mod list;
 mod map;
+mod table;
 
 pub use digest::Digest;
-pub use digest_table::DigestTable;
 pub use lent::Lent;
 pub use list::SharedList;
 pub use map::Map;
+pub use table::Table;

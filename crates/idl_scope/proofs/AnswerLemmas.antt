@@ -1,7 +1,7 @@
 -- Answers at their keys.
 use Rattle.std.proofs.Common.{◌≡◌, Bool, true, false, cond, List, [], ◌∷◌, ◌++◌, Option, Some, None, map, refl, sym, ap, ◌∙◌}
 use Rattle.std.specs.Map.{lookup}
-use Rattle.idl_base.specs.Table.{insert_entry}
+use Rattle.idl_map.specs.Table.{insert_entry}
 use Rattle.idl_scope.specs.Facts.{addition_at, answer_of, key_of, over, with_addition}
 use Rattle.idl_scope.specs.Held.{HaveOwnKeys}
 use Rattle.idl_scope.specs.Key.{key_eq, same_key}

@@ -3,8 +3,8 @@ use Rattle.std.proofs.Common.{◌≡◌, ◌<◌, ℕ, zero, suc, Bool, true, fa
 use Rattle.std.specs.Map.{lookup}
 use Rattle.std.specs.Prelude.{get_or, slice_get, slice_set}
 use Rattle.std.proofs.lemmas.List.Quantifiers.{position-Some}
-use Rattle.idl_base.specs.Table.{insert_entry}
-use Rattle.idl_base.proofs.TableLemmas.{cond-apart, cond-twice}
+use Rattle.idl_map.specs.Table.{insert_entry}
+use Rattle.idl_map.proofs.TableLemmas.{cond-apart, cond-twice}
 use Rattle.std.specs.List.{find, list_any, position, position_or_len}
 use Rattle.std.specs.Option.{option_or}
 use Rattle.std.proofs.lemmas.Bool.{eqb-false, ltb-false}

@@ -16,8 +16,8 @@ use crate::digested_addition::{
 };
 use crate::lent_key::LentKey;
 use crate::room::Room;
-use idl_base::{Marks, Table};
-use idl_map::Lent;
+use idl_base::Marks;
+use idl_map::{Lent, Table};
 use std::alloc::{AllocError, Global};
 use std::marker::Model;
 use std::mem::replace;

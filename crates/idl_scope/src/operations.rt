@@ -16,7 +16,7 @@ use crate::lent_key::LentKey;
 use crate::path::Path;
 use crate::queue::{join, join_one};
 use idl_base::Seq;
-use idl_map::{DigestTable, SharedList};
+use idl_map::{SharedList, Table};
 use std::alloc::{AllocError, Global};
 
 /// What an interface with these bases inherits: the list of the first base, shared with it, and behind it those of the
@@ -58,7 +58,7 @@ fn gathered(
         paths ≡ gathered (λ k. lookup (key_eq k) answers.now) found bases.now) }
 {
     let mut found = found;
-    let mut there = DigestTable::new(alloc);
+    let mut there = Table::new(alloc);
     join(&mut there, found.to_vec(alloc)?.as_slice())?;
     for base in bases {
         let paths = operations_at(alloc, answers, base)?.to_vec(alloc)?;
@@ -76,7 +76,7 @@ fn joined(
     ensures { IfOk result (λ paths. paths ≡ joined found others.now) }
 {
     let mut found = found;
-    let mut there = DigestTable::new(alloc);
+    let mut there = Table::new(alloc);
     put_there(alloc, &mut there, found.to_vec(alloc)?.as_slice(), others)?;
     join_new(alloc, &mut found, &mut there, others)?;
     Ok(found)
@@ -86,7 +86,7 @@ fn joined(
 // are held in a table, and the more are looked up in it.
 fn put_there(
     alloc: Global,
-    there: &mut DigestTable<Path, ()>,
+    there: &mut Table<Path, ()>,
     found: &[Path],
     others: &[Path],
 ) -> Result<(), AllocError>
@@ -99,7 +99,7 @@ fn put_there(
         join(there, found)?;
         return Ok(());
     }
-    let mut asked = DigestTable::new(alloc);
+    let mut asked = Table::new(alloc);
     join(&mut asked, others)?;
     join_asked(there, &asked, found)?;
     Ok(())
@@ -107,8 +107,8 @@ fn put_there(
 
 // Puts those of the paths last that are asked for and not yet there.
 fn join_asked(
-    there: &mut DigestTable<Path, ()>,
-    asked: &DigestTable<Path, ()>,
+    there: &mut Table<Path, ()>,
+    asked: &Table<Path, ()>,
     paths: &[Path],
 ) -> Result<(), AllocError>
     ensures { OnOk result
@@ -144,7 +144,7 @@ fn operations_at(
 fn join_new(
     alloc: Global,
     found: &mut SharedList<Path>,
-    there: &mut DigestTable<Path, ()>,
+    there: &mut Table<Path, ()>,
     paths: &[Path],
 ) -> Result<(), AllocError>
     requires { (p : List (List ℕ)) → list_any (path_eq p) paths.now ≡ true
@@ -164,7 +164,7 @@ fn join_new(
 fn join_one_new(
     alloc: Global,
     found: &mut SharedList<Path>,
-    there: &mut DigestTable<Path, ()>,
+    there: &mut Table<Path, ()>,
     path: &Path,
 ) -> Result<(), AllocError>
     requires { list_any (path_eq path.now) (keys_of there.old) ≡ list_any (path_eq path.now) found.old }

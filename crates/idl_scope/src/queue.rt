@@ -6,14 +6,14 @@ ghost use Rattle.std.specs.Option.{option_copied};
 ghost use Rattle.idl_scope.specs.Facts.{joined};
 
 use crate::path::Path;
-use idl_map::DigestTable;
+use idl_map::Table;
 use std::alloc::{AllocError, Global};
 use std::marker::Model;
 
 /// The bases that a walk enters, in the order in which they were put in, each once. To every contract it is the list of them.
 #[derive(Drop)]
 pub struct BaseQueue {
-    paths: DigestTable<Path, ()>,
+    paths: Table<Path, ()>,
 }
 
 impl Model for BaseQueue {
@@ -31,7 +31,7 @@ impl BaseQueue {
         ensures { result ≡ [] }
     {
         BaseQueue {
-            paths: DigestTable::new(alloc),
+            paths: Table::new(alloc),
         }
     }
 
@@ -52,7 +52,7 @@ impl BaseQueue {
 }
 
 // The path at a place of a table, or nothing past the last.
-fn path_at(paths: &DigestTable<Path, ()>, place: usize) -> Option<&Path>
+fn path_at(paths: &Table<Path, ()>, place: usize) -> Option<&Path>
     ensures path { option_copied result ≡ slice_get (keys_of paths.now) place }
     ensures counted { IsSome result → place < usize.MAX }
 {
@@ -64,7 +64,7 @@ fn path_at(paths: &DigestTable<Path, ()>, place: usize) -> Option<&Path>
 }
 
 /// Puts those of the paths last that are not yet there.
-pub fn join(queue: &mut DigestTable<Path, ()>, paths: &[Path]) -> Result<(), AllocError>
+pub fn join(queue: &mut Table<Path, ()>, paths: &[Path]) -> Result<(), AllocError>
     ensures { OnOk result (keys_of queue.new ≡ joined (keys_of queue.old) paths.now) }
 {
     for path in paths {
@@ -74,7 +74,7 @@ pub fn join(queue: &mut DigestTable<Path, ()>, paths: &[Path]) -> Result<(), All
 }
 
 /// Puts the path last, unless it is there.
-pub fn join_one(queue: &mut DigestTable<Path, ()>, path: &Path) -> Result<(), AllocError>
+pub fn join_one(queue: &mut Table<Path, ()>, path: &Path) -> Result<(), AllocError>
     ensures { OnOk result (keys_of queue.new ≡ joined (keys_of queue.old) (path.now ∷ [])) }
 {
     if queue.contains(path) {

@@ -1,4 +1,5 @@
 pub mod Bits
+pub mod Digest
 pub mod Evaluation
 pub mod Exact
 pub mod Integer

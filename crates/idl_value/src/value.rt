@@ -1,6 +1,7 @@
 //! Values.
 
-use idl_base::{Bytes, Datum, Seq};
+use idl_base::{Bytes, Datum, Seq, mixed, with_bytes};
+use idl_map::Digest;
 
 /// The value of a constant, of a label or of an expression, with its kind. Two labels of one union are the same where their values
 /// are equal; the order has no meaning, and lets values be looked up.
@@ -36,4 +37,23 @@ impl Datum for Value {
     ghost same = { same_value };
 
     ghost copy = { copied_value };
+}
+
+impl Digest for Value {
+    ghost use Rattle.idl_value.specs.Digest.{value_digest};
+
+    ghost digest_of = { value_digest };
+
+    #[tactic(auto, unfolding(crate::specs::Digest::value_digest))]
+    fn digest(&self) -> u64 {
+        match self {
+            Value::Integer(number) => with_bytes(0, &number.to_le_bytes()),
+            Value::Boolean(_) => 1,
+            Value::Character(c) => mixed(2, u64::from(*c)),
+            Value::WideCharacter(c) => mixed(3, u64::from(*c)),
+            Value::Text(_) => 4,
+            Value::WideText(_) => 5,
+            Value::Enumerator(_, name) => with_bytes(6, name.as_bytes()),
+        }
+    }
 }

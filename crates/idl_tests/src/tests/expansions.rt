@@ -1,9 +1,9 @@
 //! What roots emit: C's own examples of macros that are scanned again.
 
 use super::support::{Telling, are_told, file_of};
-use idl_base::Table;
 use idl_event::{Answer, Expansion, ExpansionBuilder, FileName, Key, LexedFile, Told};
 use idl_lex::Token;
+use idl_map::Table;
 use idl_memo::{Bank, Log, Task};
 use idl_prep::RootTask;
 use idl_source::Name;

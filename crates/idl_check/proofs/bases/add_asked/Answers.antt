@@ -2,7 +2,7 @@ use Rattle.std.proofs.Common.{◌+◌, is_some, ap, drop, sym, ◌∙◌}
 use Rattle.std.specs.Prelude.{fold}
 use Rattle.std.specs.Map.{lookup}
 use Rattle.std.specs.Str.{bytes_eq}
-use Rattle.idl_base.specs.Table.{insert_entry}
+use Rattle.idl_map.specs.Table.{insert_entry}
 use Rattle.idl_check.specs.Using.{with_operation}
 use Rattle.idl_scope.proofs.PlaceLemmas.{from_here}
 use Rattle.idl_check.proofs.BaseLemmas.{unasked-more}

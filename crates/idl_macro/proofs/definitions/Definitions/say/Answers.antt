@@ -4,7 +4,7 @@ use Rattle.std.specs.Map.{lookup}
 use Rattle.std.specs.Str.{bytes_eq}
 use Rattle.idl_base.specs.Marks.{is_marked}
 use Rattle.idl_base.proofs.MarkLemmas.{AreMarked-more, AreMarked-put}
-use Rattle.idl_base.proofs.TableLemmas.{lookup-insert_entry}
+use Rattle.idl_map.proofs.TableLemmas.{lookup-insert_entry}
 use Rattle.idl_macro.specs.Digest.{digest_of}
 use Rattle.idl_macro.proofs.definitions.Definitions.say.Goals as goal
 

@@ -15,11 +15,11 @@ pub returns-in-Some : goal.returns-in-Some
 returns-in-Some g c =
     let arena = c.args.self.now in
     let at : slice_get (keys_of arena.entries.items) c.in-Some.place ≡ Some c.args.key.now = (c.place_of.ensures c.in-Some.place).0 c.in-Some.is in
-    sym (lookup-present g.K.PartialEq.eq g.met.K.Eq.laws g.met.K.Datum.same arena.entries.items arena.rest c.args.key.now c.in-Some.place c.index.result.now c.requires.distinct at c.index.ensures)
+    sym (lookup-present g.K.PartialEq.eq g.met.K.Eq.laws g.met.K.Datum.same arena.entries.items arena.rest.entries c.args.key.now c.in-Some.place c.index.result.now c.requires.distinct at c.index.ensures)
 
 pub returns-in-None : goal.returns-in-None
 returns-in-None g c =
     let arena = c.args.self.now in
-    let absent = lookup-absent g.K.PartialEq.eq g.met.K.Eq.laws g.met.K.Datum.same arena.entries.items arena.rest c.args.key.now
+    let absent = lookup-absent g.K.PartialEq.eq g.met.K.Eq.laws g.met.K.Datum.same arena.entries.items arena.rest.entries c.args.key.now
     (λ i at. none-some i (sym c.in-None.is ∙ (c.place_of.ensures i).1 at)) in
-    ◌∙◌ {b = lookup (g.K.PartialEq.eq c.args.key.now) arena.rest} c.among_rest.ensures (sym absent)
+    ◌∙◌ {b = lookup (g.K.PartialEq.eq c.args.key.now) arena.rest.entries} c.among_rest.ensures (sym absent)

@@ -3,7 +3,7 @@ use Rattle.std.specs.Map.{keys_of}
 use Rattle.std.specs.Int.{bit_at}
 use Rattle.std.proofs.lemmas.Nat.Bits.{bit_at-zero}
 use Rattle.idl_base.proofs.Exactness.{Decides-eq}
-use Rattle.idl_base.proofs.TableLemmas.{lookup-nowhere}
+use Rattle.idl_map.proofs.TableLemmas.{lookup-nowhere}
 use Rattle.idl_map.proofs.BucketLemmas.{spot-stands}
 use Rattle.idl_map.proofs.PlaceLemmas.{digest-at}
 use Rattle.idl_map.proofs.arena.Arena.insert.Goals as goal

@@ -1,11 +1,10 @@
 use Rattle.std.proofs.Common.{◌≡◌, ◌++◌, [], ◌∷◌, map, sym, ap, subst, ◌∙◌}
 use Rattle.std.proofs.lemmas.List.{map-append}
-use Rattle.std.proofs.lemmas.Result.{on_ok_weaker}
 use Rattle.std.specs.Map.{keys_of, lookup}
-use Rattle.idl_base.specs.Table.{AreDistinct, insert_entry}
+use Rattle.idl_map.specs.Table.{AreDistinct}
 use Rattle.idl_base.proofs.Exactness.{Decides-eq}
-use Rattle.idl_base.proofs.TableLemmas.{AreDistinct-push, keys_of-push, nowhere-lookup}
-use Rattle.idl_map.proofs.EntryLemmas.{lookup-push, lookup-rest}
+use Rattle.idl_map.proofs.TableLemmas.{AreDistinct-push, keys_of-push, nowhere-lookup}
+use Rattle.idl_map.proofs.EntryLemmas.{lookup-push, lookup-put_by_order, lookup-rest}
 use Rattle.idl_map.proofs.arena.Arena.push.Goals as goal
 
 pub returns-then-branch-clause-sound : goal.returns-then-branch-clause-sound
@@ -32,7 +31,7 @@ pub returns-then-branch-clause-each_key : goal.returns-then-branch-clause-each_k
 returns-then-branch-clause-each_key g c k =
     let eq = g.K.PartialEq.eq in
     let es = c.args.self.now.entries.items in
-    let rest = c.args.self.now.rest in
+    let rest = c.args.self.now.rest.entries in
     let grown : c.push-then-branch.new.self.items ≡ es ++ (c.args.key, c.args.value) ∷ [] =
     c.in_ok-push-2.ensures.items ∙ ap (λ fs. fs ++ (c.args.key, c.args.value) ∷ []) c.in_ok-reserve.ensures.items in
     ap (λ fs. lookup (eq k) (fs ++ rest)) grown
@@ -42,10 +41,9 @@ pub returns-clause-each_key : goal.returns-clause-each_key
 returns-clause-each_key g c =
     let eq = g.K.PartialEq.eq in
     let es = c.args.self.now.entries.items in
-    let rest = c.args.self.now.rest in
-    on_ok_weaker c.insert.result
-    (λ put k.
-    ap (λ fs. lookup (eq k) (c.reserve.new.self.items ++ fs)) put
-    ∙ ap (λ fs. lookup (eq k) (fs ++ insert_entry eq rest c.args.key c.args.value)) c.in_ok-reserve.ensures.items
-    ∙ lookup-rest eq g.met.K.Eq.laws g.met.K.Datum.same c.args.key c.args.value k es rest c.requires.absent)
-    c.insert.ensures.entries
+    let rest = c.args.self.now.rest.entries in
+    λ k.
+    let more = c.insert.new.self.entries in
+    let put = lookup-put_by_order eq g.K.Ord.cmp g.met.K.Ord.matches_eq g.met.K.Eq.laws rest more c.args.key c.args.value k (c.in_ok-insert.ensures.updates.0 k) in
+    ap (λ fs. lookup (eq k) (fs ++ more)) c.in_ok-reserve.ensures.items
+    ∙ lookup-rest eq g.met.K.Eq.laws g.met.K.Datum.same c.args.key c.args.value k es rest more c.requires.absent put

@@ -3,9 +3,9 @@ use Rattle.std.specs.Prelude.{slice_set}
 use Rattle.std.specs.Map.{keys_of, lookup}
 use Rattle.std.proofs.lemmas.Map.Entries.{length-keys_of}
 use Rattle.std.proofs.lemmas.Option.{none-some, slice_get_within}
-use Rattle.idl_base.specs.Table.{AreDistinct}
+use Rattle.idl_map.specs.Table.{AreDistinct}
 use Rattle.idl_base.proofs.Exactness.{Decides-eq}
-use Rattle.idl_base.proofs.TableLemmas.{key-at, keys_of-slice_set, lookup-nowhere}
+use Rattle.idl_map.proofs.TableLemmas.{key-at, keys_of-slice_set, lookup-nowhere}
 use Rattle.idl_map.proofs.EntryLemmas.{lookup-replace}
 use Rattle.idl_map.proofs.arena.Arena.put.Goals as goal
 
@@ -33,7 +33,7 @@ pub returns-in-Some-clause-each_key : goal.returns-in-Some-clause-each_key
 returns-in-Some-clause-each_key g c k =
     let eq = g.K.PartialEq.eq in
     let es = c.args.self.now.entries.items in
-    let rest = c.args.self.now.rest in
+    let rest = c.args.self.now.rest.entries in
     let place = c.in-Some.place in
     let entry = c.index_mut-entry.result.now in
     let at : slice_get (keys_of es) place ≡ Some c.args.key = (c.place_at.ensures place).0 c.in-Some.is in

@@ -1,5 +1,5 @@
 use Rattle.std.proofs.Common.{◌≡◌, ◌%◌, ℕ, inl, inr, length, sym, ap, subst, ◌∙◌, arith, slice_get}
-use Rattle.idl_base.proofs.TableLemmas.{slice_get-push}
+use Rattle.idl_map.proofs.TableLemmas.{slice_get-push}
 use Rattle.idl_map.specs.Buckets.{FindsIn, IsIndexed}
 use Rattle.idl_map.proofs.index.Index.push.Goals as goal
 use Rattle.idl_map.proofs.index.Index.push.Goals.{then-place-via-then-place, then-place-via-else-place+in_ok-find_room+then-not-branch}

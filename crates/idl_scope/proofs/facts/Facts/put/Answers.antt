@@ -3,7 +3,7 @@ use Rattle.std.specs.List.{position}
 use Rattle.std.proofs.lemmas.List.{length-set}
 use Rattle.std.specs.Map.{lookup}
 use Rattle.idl_base.specs.Marks.{is_marked}
-use Rattle.idl_base.specs.Table.{insert_entry}
+use Rattle.idl_map.specs.Table.{insert_entry}
 use Rattle.idl_scope.specs.Facts.{UnitFacts, key_of, with_addition}
 use Rattle.idl_scope.specs.Held.{HaveOwnKeys}
 use Rattle.idl_scope.specs.Key.{key_eq}
