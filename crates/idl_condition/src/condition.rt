@@ -9,8 +9,9 @@ ghost use Rattle.idl_condition.specs.declared.symbol.Symbol.{Symbol};
 
 use crate::arithmetic::signed;
 use crate::operator::{Operator, Sign};
-use crate::stack::{Entry, Stack};
+use crate::stack::Entry;
 use crate::symbol::Symbol;
+use idl_base::Stack;
 use std::alloc::{AllocError, Global};
 
 /// Where the reading of a condition stands.
@@ -61,7 +62,7 @@ pub fn grammar()
 {}
 
 // A symbol where an operand has to follow.
-fn operand(stack: &mut Stack, symbol: Symbol) -> Result<Place, AllocError>
+fn operand(stack: &mut Stack<Entry>, symbol: Symbol) -> Result<Place, AllocError>
     requires { IsSound Place.BeforeOperand stack.old }
     ensures sound { IfOk result (λ place. IsSound place stack.new) }
     ensures meaning { IfOk result (λ place. (rest : List Symbol) →
@@ -91,7 +92,11 @@ fn operand(stack: &mut Stack, symbol: Symbol) -> Result<Place, AllocError>
 }
 
 // A symbol after an operand with this value.
-fn operator(stack: &mut Stack, value: Option<i64>, symbol: Symbol) -> Result<Place, AllocError>
+fn operator(
+    stack: &mut Stack<Entry>,
+    value: Option<i64>,
+    symbol: Symbol,
+) -> Result<Place, AllocError>
     requires { IsSound (Place.AfterOperand value) stack.old }
     ensures sound { IfOk result (λ place. IsSound place stack.new) }
     ensures meaning { IfOk result (λ place. (rest : List Symbol) →
@@ -109,7 +114,7 @@ fn operator(stack: &mut Stack, value: Option<i64>, symbol: Symbol) -> Result<Pla
 }
 
 // A closing parenthesis after an operand with this value.
-fn close(stack: &mut Stack, value: Option<i64>) -> Result<Place, AllocError>
+fn close(stack: &mut Stack<Entry>, value: Option<i64>) -> Result<Place, AllocError>
     requires { IsSound (Place.AfterOperand value) stack.old }
     ensures sound { IfOk result (λ place. IsSound place stack.new) }
     ensures meaning { IfOk result (λ place. (rest : List Symbol) →
@@ -129,7 +134,7 @@ fn close(stack: &mut Stack, value: Option<i64>) -> Result<Place, AllocError>
 }
 
 // The operand with this value, together with the operators that stand right before it.
-fn complete(stack: &mut Stack, operand: Option<i64>) -> Result<Option<i64>, AllocError>
+fn complete(stack: &mut Stack<Entry>, operand: Option<i64>) -> Result<Option<i64>, AllocError>
     requires { IsRising stack.old }
     ensures meaning { IfOk result (λ value. (c : Chain) (t : Tail) →
         meaning stack.new value c t ≡ meaning stack.old operand c t) }
@@ -151,7 +156,11 @@ fn complete(stack: &mut Stack, operand: Option<i64>) -> Result<Option<i64>, Allo
 
 // The operand with this value, together with the operators before it that are of this rank or of a higher one, and with
 // their left operands.
-fn settle(stack: &mut Stack, operand: Option<i64>, floor: u8) -> Result<Option<i64>, AllocError>
+fn settle(
+    stack: &mut Stack<Entry>,
+    operand: Option<i64>,
+    floor: u8,
+) -> Result<Option<i64>, AllocError>
     requires rising { IsRising stack.old }
     requires complete { IsComplete stack.old }
     ensures meaning { IfOk result (λ value. (c : Chain) (t : Tail) → IsBelow c floor →

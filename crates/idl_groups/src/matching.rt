@@ -10,16 +10,17 @@ ghost use Rattle.idl_groups.specs.declared.fault.Misplaced.TheVariants.{OutOfPla
 ghost use Rattle.idl_groups.specs.declared.kind.DirectiveKind.TheVariants.{Endif, Opening};
 ghost use Rattle.idl_groups.specs.declared.kind.Test.{Test};
 
-use crate::branch::{BranchSpan, OpenBranch, OpenBranches};
+use crate::branch::{BranchSpan, OpenBranch};
 use crate::directive::Directive;
 use crate::fault::{GroupFault, Misplaced};
 use crate::kind::DirectiveKind;
 use crate::table::BranchTable;
+use idl_base::Stack;
 use std::alloc::{AllocError, Global};
 
 /// The branches that are open, those whose end has come, and the faults so far.
 pub struct Matching {
-    branches: OpenBranches,
+    branches: Stack<OpenBranch>,
     spans: Vec<BranchSpan>,
     faults: Vec<GroupFault>,
 }
@@ -40,7 +41,7 @@ impl Matching {
         ensures { (lines : ℕ → List Line) → IsMatchedBy lines 0 result }
     {
         Matching {
-            branches: OpenBranches::new(alloc),
+            branches: Stack::new(alloc),
             spans: Vec::new(alloc),
             faults: Vec::new(alloc),
         }

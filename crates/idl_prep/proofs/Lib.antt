@@ -2,6 +2,7 @@ pub mod CandidateLemmas
 pub mod DirectiveLemmas
 pub mod ExploreLemmas
 pub mod FileLemmas
+pub mod GroupLemmas
 pub mod IncludeLemmas
 pub mod JumpLemmas
 pub mod PassLemmas

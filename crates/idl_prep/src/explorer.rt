@@ -10,7 +10,7 @@ ghost use Rattle.idl_event.specs.declared.key.Key.TheVariants.{File};
 ghost use Rattle.idl_prep.specs.Explore.{StopsAt};
 
 use crate::find::{Found, file_named, find};
-use crate::groups::Groups;
+use crate::groups::{Group, is_walked};
 use crate::jump::jump;
 use crate::line::{Directive, Line, read};
 use crate::operand::Operand;
@@ -18,6 +18,7 @@ use crate::pass::walk_line;
 use crate::root::Root;
 use crate::root_task::absent;
 use crate::site::Site;
+use idl_base::Stack;
 use idl_event::{FileName, Item, LexedFile, Place, Progress, RootBank};
 use idl_groups::{DirectiveKind, LinesLeft, Plain};
 use idl_lex::FileTokens;
@@ -106,7 +107,7 @@ pub enum Next {
 pub struct FileWalk<'f> {
     name: &'f FileName,
     left: LinesLeft<'f>,
-    groups: Groups,
+    groups: Stack<Group>,
     waiting: Option<Operand>,
 }
 
@@ -116,7 +117,7 @@ impl<'f> FileWalk<'f> {
         FileWalk {
             name: &open.name,
             left: open.file.lines(),
-            groups: Groups::new(alloc),
+            groups: Stack::new(alloc),
             waiting: None,
         }
     }
@@ -190,7 +191,7 @@ impl<'f> FileWalk<'f> {
     {
         let (text, behind) = self.left.first_text();
         if !text.is_empty() {
-            if self.groups.is_walked() {
+            if is_walked(&self.groups) {
                 root.emit_unlogged(site, &text, asking)?;
             }
             self.left = jump(root, &self.groups, site.file, behind)?;
@@ -248,12 +249,12 @@ fn past_limits<B: RootBank>(alloc: Global, file: &FileName) -> Result<Progress<B
 // A line that is no text: gives the operand of the include that it is, if it is one that isn't skipped.
 fn walk_one<B: RootBank>(
     root: &mut Root<B>,
-    groups: &mut Groups,
+    groups: &mut Stack<Group>,
     site: &Site<'_, B>,
     tokens: &FileTokens<'_>,
 ) -> Result<Option<Operand>, AllocError> {
     match read(tokens) {
-        Line::Directed(directive) if is_include(&directive) && groups.is_walked() => {
+        Line::Directed(directive) if is_include(&directive) && is_walked(groups) => {
             root.turn(site.file, &directive)?;
             let operand = root.operand_of(site, &directive)?;
             if root.is_over() {

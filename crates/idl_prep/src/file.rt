@@ -5,12 +5,12 @@ ghost use Rattle.idl_prep.specs.Pass.{entered};
 ghost use Rattle.idl_prep.specs.Root.{enter, walk_file};
 ghost use Rattle.idl_prep.specs.State.{ended, onward};
 
-use crate::groups::Groups;
 use crate::inclusion::Inclusion;
 use crate::jump::jump;
 use crate::pass::{end_file, walk_line, walk_texts};
 use crate::root::Root;
 use crate::site::Site;
+use idl_base::Stack;
 use idl_event::{Event, Item, LexedFile, RootBank};
 use std::alloc::AllocError;
 
@@ -25,7 +25,7 @@ pub fn walk_file<B: RootBank>(
     ensures { let walk = walk_file (enter room) site.now.file.now file.now in
         OnOk result (ended root.new ≡ onward (B.at site.now.bank.now) walk root.old) }
 {
-    let mut groups = Groups::new(root.allocator());
+    let mut groups = Stack::new(root.allocator());
     let mut left = file.lines();
     'lines: while !left.is_empty() {
         if root.is_over() {

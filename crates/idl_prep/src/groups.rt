@@ -1,14 +1,13 @@
 //! The groups of a file that are open.
 
-ghost use Rattle.std.specs.Prelude.{◌≡◌, ◌∷◌, [], IfOk, OnOk, MatchOption};
+ghost use Rattle.std.specs.Prelude.{◌≡◌, IfOk};
 ghost use Rattle.std.specs.Option.{option_copied};
 ghost use Rattle.idl_prep.specs.Pass.{innermost, is_walked};
 ghost use Rattle.idl_prep.specs.Walk.{opener_of};
 
 use crate::line::Directive;
-use idl_base::Bytes;
-use std::alloc::{AllocError, Global};
-use std::marker::Model;
+use idl_base::{Bytes, Stack};
+use std::alloc::AllocError;
 
 /// The directive that opened a group: the number of its line, and its word.
 #[derive(Drop)]
@@ -43,62 +42,19 @@ pub struct Group {
     pub has_else: bool,
 }
 
-/// The groups that are open. Contracts see them as a list, the innermost first.
-#[derive(Drop)]
-pub struct Groups {
-    open: Vec<Group>,
+/// Whether a line in these groups is walked, and not skipped.
+pub fn is_walked(groups: &Stack<Group>) -> bool
+    ensures { result ≡ is_walked groups.now }
+{
+    match groups.top() {
+        None => true,
+        Some(group) => group.is_active,
+    }
 }
 
-impl Model for Groups {
-    ghost use Rattle.std.specs.Prelude.{List, reverse};
-    ghost use Rattle.idl_prep.specs.declared.groups.Group.{Group};
-
-    ghost Value = { List Group };
-
-    ghost view = { λ groups. reverse groups.open.items };
-}
-
-impl Groups {
-    /// No group is open. It takes no memory.
-    pub fn new(alloc: Global) -> Groups
-        ensures { result ≡ [] }
-    {
-        Groups {
-            open: Vec::new(alloc),
-        }
-    }
-
-    /// Whether a line here is walked, and not skipped.
-    pub fn is_walked(&self) -> bool
-        ensures { result ≡ is_walked self.now }
-    {
-        match self.open.last() {
-            None => true,
-            Some(group) => group.is_active,
-        }
-    }
-
-    /// The innermost group.
-    pub fn innermost(&self) -> Option<&Group>
-        ensures { option_copied result ≡ innermost self.now }
-    {
-        self.open.last()
-    }
-
-    /// A group is opened inside the others.
-    pub fn push(&mut self, group: Group) -> Result<(), AllocError>
-        ensures { OnOk result (self.new ≡ group ∷ self.old) }
-    {
-        self.open.push(group)?;
-        Ok(())
-    }
-
-    /// Takes the innermost group.
-    pub fn pop(&mut self) -> Option<Group>
-        ensures { MatchOption result
-            ((self.old ≡ []) × (self.new ≡ []))
-            (λ group. self.old ≡ group ∷ self.new) }
-    {
-        self.open.pop()
-    }
+/// The innermost of these groups.
+pub fn innermost(groups: &Stack<Group>) -> Option<&Group>
+    ensures { option_copied result ≡ innermost groups.now }
+{
+    groups.top()
 }

@@ -7,8 +7,9 @@ ghost use Rattle.idl_prep.specs.Pass.{to_come};
 ghost use Rattle.idl_prep.specs.State.{ended, onward};
 ghost use Rattle.idl_prep.specs.Told.{code_of, told};
 
-use crate::groups::Groups;
+use crate::groups::{Group, innermost, is_walked};
 use crate::root::Root;
+use idl_base::Stack;
 use idl_event::{Answer, Code, FileName, Key, Place, RootBank};
 use idl_groups::{GroupFault, LinesLeft, Misplaced};
 use std::alloc::AllocError;
@@ -17,7 +18,7 @@ use std::alloc::AllocError;
 /// the faults of groups alone are told.
 pub fn jump<'t, B: RootBank>(
     root: &mut Root<B>,
-    groups: &Groups,
+    groups: &Stack<Group>,
     file: &FileName,
     left: LinesLeft<'t>,
 ) -> Result<LinesLeft<'t>, AllocError>
@@ -27,7 +28,7 @@ pub fn jump<'t, B: RootBank>(
         ≡ to_come bank enter file groups (lines_from left.entry) root.old) }
     ensures shorter { IfOk result (λ rest. length rest ≤ length left.entry) }
 {
-    if groups.is_walked() {
+    if is_walked(groups) {
         return Ok(left);
     }
     jump_over(root, groups, file, left)
@@ -37,7 +38,7 @@ pub fn jump<'t, B: RootBank>(
 #[inline(never)]
 fn jump_over<'t, B: RootBank>(
     root: &mut Root<B>,
-    groups: &Groups,
+    groups: &Stack<Group>,
     file: &FileName,
     left: LinesLeft<'t>,
 ) -> Result<LinesLeft<'t>, AllocError>
@@ -47,7 +48,7 @@ fn jump_over<'t, B: RootBank>(
         ≡ to_come bank enter file groups (lines_from left.entry) root.old) }
     ensures shorter { IfOk result (λ rest. length rest ≤ length left.entry) }
 {
-    let Some(group) = groups.innermost() else {
+    let Some(group) = innermost(groups) else {
         return Ok(left);
     };
     if group.is_active {

@@ -12,13 +12,14 @@ ghost use Rattle.idl_prep.specs.Pass.{coming, entered, to_come};
 ghost use Rattle.idl_prep.specs.State.{ended, onward};
 
 use crate::branch::{begin_branch, begin_group, end_group, skip_group};
-use crate::groups::Groups;
+use crate::groups::{Group, is_walked};
 use crate::inclusion::Inclusion;
 use crate::line::{Directive, Line, read};
 use crate::perform::{act_bare, act_directive, act_text};
 use crate::root::Root;
 use crate::site::Site;
 use crate::stray::{stray_inside, stray_outside};
+use idl_base::Stack;
 use idl_event::{Answer, Code, FileName, Key, Place, RootBank};
 use idl_groups::DirectiveKind;
 use idl_lex::FileTokens;
@@ -27,7 +28,7 @@ use std::alloc::AllocError;
 /// The next line of a file: gives the file that is to be entered, if there is one.
 pub fn walk_line<'b, B: RootBank>(
     root: &mut Root<B>,
-    groups: &mut Groups,
+    groups: &mut Stack<Group>,
     site: &Site<'b, B>,
     tokens: &FileTokens<'_>,
 ) -> Result<Option<Inclusion<'b>>, AllocError>
@@ -53,7 +54,7 @@ pub fn walk_line<'b, B: RootBank>(
 /// Lines of text, one after another.
 pub fn walk_texts<B: RootBank>(
     root: &mut Root<B>,
-    groups: &Groups,
+    groups: &Stack<Group>,
     site: &Site<'_, B>,
     tokens: &FileTokens<'_>,
 ) -> Result<(), AllocError>
@@ -62,7 +63,7 @@ pub fn walk_texts<B: RootBank>(
         → to_come bank enter file groups.now lines root.new
         ≡ to_come bank enter file groups.now (map Text (lines_of tokens.now) ++ lines) root.old) }
 {
-    if !groups.is_walked() {
+    if !is_walked(groups) {
         return Ok(());
     }
     root.emit(site, tokens)?;
@@ -72,7 +73,7 @@ pub fn walk_texts<B: RootBank>(
 // A line of text.
 fn walk_text<B: RootBank>(
     root: &mut Root<B>,
-    groups: &Groups,
+    groups: &Stack<Group>,
     site: &Site<'_, B>,
     tokens: &FileTokens<'_>,
 ) -> Result<(), AllocError>
@@ -81,7 +82,7 @@ fn walk_text<B: RootBank>(
         → to_come bank enter file groups.now lines root.new
         ≡ to_come bank enter file groups.now (Text tokens.now ∷ lines) root.old) }
 {
-    if !groups.is_walked() {
+    if !is_walked(groups) {
         return Ok(());
     }
     act_text(root, site, tokens)?;
@@ -91,7 +92,7 @@ fn walk_text<B: RootBank>(
 // A `#` alone.
 fn walk_bare<B: RootBank>(
     root: &mut Root<B>,
-    groups: &Groups,
+    groups: &Stack<Group>,
     file: &FileName,
     line: u32,
 ) -> Result<(), AllocError>
@@ -99,7 +100,7 @@ fn walk_bare<B: RootBank>(
         → to_come bank enter file.now groups.now lines root.new
         ≡ to_come bank enter file.now groups.now (NullDirective line ∷ lines) root.old) }
 {
-    if !groups.is_walked() {
+    if !is_walked(groups) {
         return Ok(());
     }
     act_bare(root, file, line)?;
@@ -109,7 +110,7 @@ fn walk_bare<B: RootBank>(
 // A directive.
 fn walk_directive<'b, B: RootBank>(
     root: &mut Root<B>,
-    groups: &mut Groups,
+    groups: &mut Stack<Group>,
     site: &Site<'b, B>,
     directive: &Directive<'_>,
 ) -> Result<Option<Inclusion<'b>>, AllocError>
@@ -120,11 +121,11 @@ fn walk_directive<'b, B: RootBank>(
         ≡ to_come bank enter file groups.old (Directed directive.now ∷ lines) root.old) }
 {
     match directive.kind {
-        DirectiveKind::Alone(what) if groups.is_walked() => Ok(act_directive(
+        DirectiveKind::Alone(what) if is_walked(groups) => Ok(act_directive(
             root, site, directive, what,
         )?),
         DirectiveKind::Alone(_) => Ok(None),
-        DirectiveKind::Opening(what) if groups.is_walked() => {
+        DirectiveKind::Opening(what) if is_walked(groups) => {
             let group = begin_group(root, site, directive, what)?;
             groups.push(group)?;
             Ok(None)
@@ -147,7 +148,7 @@ fn walk_directive<'b, B: RootBank>(
 // An `elif` or `else`: the innermost group goes on with another branch, if one is open.
 fn walk_branch<B: RootBank>(
     root: &mut Root<B>,
-    groups: &mut Groups,
+    groups: &mut Stack<Group>,
     site: &Site<'_, B>,
     directive: &Directive<'_>,
 ) -> Result<(), AllocError>
@@ -178,7 +179,7 @@ fn walk_branch<B: RootBank>(
 // An `endif`: the innermost group ends, if one is open.
 fn walk_endif<B: RootBank>(
     root: &mut Root<B>,
-    groups: &mut Groups,
+    groups: &mut Stack<Group>,
     file: &FileName,
     directive: &Directive<'_>,
 ) -> Result<(), AllocError>
@@ -202,7 +203,7 @@ fn walk_endif<B: RootBank>(
 /// The end of a file: the groups that are open are not closed, the innermost first.
 pub fn end_file<B: RootBank>(
     root: &mut Root<B>,
-    mut groups: Groups,
+    mut groups: Stack<Group>,
     file: &FileName,
 ) -> Result<(), AllocError>
     ensures { OnOk result ((enter : Enter) (bank : Key → Option Answer)
