@@ -11,10 +11,10 @@ ghost use Rattle.idl_macro.specs.Digest.{digest_of};
 ghost use Rattle.idl_macro.specs.Macros.{body_in, macro_of};
 
 use crate::digest::digest_of;
-use idl_base::{Bytes, Marks};
+use idl_base::Bytes;
 use idl_event::{Answer, Progress, RootBank};
 use idl_lex::{Token, TokenRange};
-use idl_map::Table;
+use idl_map::{Marks, Table};
 use std::alloc::{AllocError, Global};
 use std::marker::Model;
 
@@ -34,7 +34,7 @@ impl Model for Definitions {
     ghost use Rattle.std.specs.Prelude.{List, ℕ, Option};
     ghost use Rattle.std.specs.Map.{lookup};
     ghost use Rattle.std.specs.Str.{bytes_eq};
-    ghost use Rattle.idl_base.specs.Marks.{AreMarked};
+    ghost use Rattle.idl_map.specs.Marks.{AreMarked};
     ghost use Rattle.idl_lex.specs.Tokens.{Token};
     ghost use Rattle.idl_macro.specs.Digest.{digest_of};
 

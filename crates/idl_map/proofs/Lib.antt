@@ -4,5 +4,6 @@ pub mod BitLemmas
 pub mod LaneLemmas
 pub mod BucketLemmas
 pub mod ItemLemmas
+pub mod MarkLemmas
 pub mod EntryLemmas
 pub mod TableLemmas

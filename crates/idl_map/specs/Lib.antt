@@ -1,4 +1,5 @@
 pub mod Buckets
 pub mod Entries
 pub mod Items
+pub mod Marks
 pub mod Table

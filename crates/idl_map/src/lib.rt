@@ -1,4 +1,5 @@
-//! Collections: a map by the digests of its keys, a table with such a map as its index, and a list whose copies share items.
+//! Collections: a map by the digests of its keys, a table with such a map as its index, marks of digests, and a list whose
+//! copies share items.
 #![tactic(auto)]
 
 mod arena;
@@ -9,10 +10,12 @@ mod index;
 mod lent;
 mod list;
 mod map;
+mod marks;
 mod table;
 
 pub use digest::Digest;
 pub use lent::Lent;
 pub use list::SharedList;
 pub use map::Map;
+pub use marks::Marks;
 pub use table::Table;

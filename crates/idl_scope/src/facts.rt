@@ -3,7 +3,7 @@
 ghost use Rattle.std.specs.Prelude.{◌≡◌, ◌<◌, ◌++◌, ◌∷◌, [], IfOk, IfSome, IsFalse, IsNone, IsTrue, None, OnErr, OnOk, length, slice_get};
 ghost use Rattle.std.specs.Map.{lookup};
 ghost use Rattle.std.specs.Option.{option_copied};
-ghost use Rattle.idl_base.specs.Marks.{AreMarked};
+ghost use Rattle.idl_map.specs.Marks.{AreMarked};
 ghost use Rattle.idl_scope.specs.Facts.{addition_at, key_of, operations_among, with_addition};
 ghost use Rattle.idl_scope.specs.Key.{key_digest, key_eq};
 ghost use Rattle.idl_scope.specs.declared.addition.Step.TheVariants.{Stays};
@@ -16,8 +16,7 @@ use crate::digested_addition::{
 };
 use crate::lent_key::LentKey;
 use crate::room::Room;
-use idl_base::Marks;
-use idl_map::{Lent, Table};
+use idl_map::{Lent, Marks, Table};
 use std::alloc::{AllocError, Global};
 use std::marker::Model;
 use std::mem::replace;
@@ -45,7 +44,7 @@ pub struct Facts {
 
 impl Model for Facts {
     ghost use Rattle.std.specs.Prelude.{◌≡◌, ◌+◌, ◌++◌, length, map};
-    ghost use Rattle.idl_base.specs.Marks.{AreMarked};
+    ghost use Rattle.idl_map.specs.Marks.{AreMarked};
     ghost use Rattle.idl_scope.specs.Facts.{UnitFacts, addition_at};
     ghost use Rattle.idl_scope.specs.Held.{HaveOwnKeys};
     ghost use Rattle.idl_scope.specs.Key.{key_digest};

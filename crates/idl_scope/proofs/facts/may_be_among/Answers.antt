@@ -1,5 +1,5 @@
 use Rattle.std.proofs.Common.{sym, ap, ◌∙◌}
-use Rattle.idl_base.specs.Marks.{is_marked}
+use Rattle.idl_map.specs.Marks.{is_marked}
 use Rattle.idl_scope.specs.Facts.{key_of}
 use Rattle.idl_scope.proofs.FirstLemmas.{unlike}
 use Rattle.idl_scope.proofs.facts.may_be_among.Goals as goal

@@ -1,7 +1,7 @@
 use Rattle.std.proofs.Common.{sym, ap, ◌∙◌}
 use Rattle.std.specs.Map.{lookup}
 use Rattle.std.specs.Str.{bytes_eq}
-use Rattle.idl_base.specs.Marks.{is_marked}
+use Rattle.idl_map.specs.Marks.{is_marked}
 use Rattle.idl_macro.proofs.definitions.Definitions.said_of.Goals as goal
 
 pub returns-then-not-has : goal.returns-then-not-has

@@ -2,8 +2,8 @@ use Rattle.std.proofs.Common.{◌≡◌, ℕ, List, true, sym, ap, ◌∙◌}
 use Rattle.std.specs.Cmp.Lexicographic.{bytes_decides}
 use Rattle.std.specs.Map.{lookup}
 use Rattle.std.specs.Str.{bytes_eq}
-use Rattle.idl_base.specs.Marks.{is_marked}
-use Rattle.idl_base.proofs.MarkLemmas.{AreMarked-more, AreMarked-put}
+use Rattle.idl_map.specs.Marks.{is_marked}
+use Rattle.idl_map.proofs.MarkLemmas.{AreMarked-more, AreMarked-put}
 use Rattle.idl_map.proofs.TableLemmas.{lookup-insert_entry}
 use Rattle.idl_macro.specs.Digest.{digest_of}
 use Rattle.idl_macro.proofs.definitions.Definitions.say.Goals as goal

@@ -1,6 +1,6 @@
 use Rattle.std.proofs.Common.{◌≡◌, ◌++◌, ◌∷◌, [], None, refl, sym, ap, ◌∙◌, map, length, length-append, arith}
 use Rattle.std.proofs.lemmas.List.{append-nil}
-use Rattle.idl_base.specs.Marks.{is_marked}
+use Rattle.idl_map.specs.Marks.{is_marked}
 use Rattle.idl_scope.specs.Facts.{UnitFacts, addition_at, key_of, with_addition}
 use Rattle.idl_scope.specs.Key.{key_digest}
 use Rattle.idl_scope.proofs.FirstLemmas.{with_addition-last}

@@ -1,5 +1,5 @@
 use Rattle.std.proofs.Common.{sym, ap, ◌∙◌}
-use Rattle.idl_base.specs.Marks.{is_marked}
+use Rattle.idl_map.specs.Marks.{is_marked}
 use Rattle.idl_scope.specs.Facts.{UnitFacts, addition_at}
 use Rattle.idl_scope.proofs.facts.Facts.get.Goals as goal
 

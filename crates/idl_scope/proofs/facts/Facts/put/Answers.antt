@@ -2,7 +2,7 @@ use Rattle.std.proofs.Common.{◌≡◌, ◌++◌, [], suc, refl, cond, false, t
 use Rattle.std.specs.List.{position}
 use Rattle.std.proofs.lemmas.List.{length-set}
 use Rattle.std.specs.Map.{lookup}
-use Rattle.idl_base.specs.Marks.{is_marked}
+use Rattle.idl_map.specs.Marks.{is_marked}
 use Rattle.idl_map.specs.Table.{insert_entry}
 use Rattle.idl_scope.specs.Facts.{UnitFacts, key_of, with_addition}
 use Rattle.idl_scope.specs.Held.{HaveOwnKeys}

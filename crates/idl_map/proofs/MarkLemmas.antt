@@ -4,7 +4,7 @@ use Rattle.std.specs.Prelude.{bit_or, slice_index_or, slice_set}
 use Rattle.std.proofs.lemmas.Bool.{eqb-false, eqb-true}
 use Rattle.std.proofs.lemmas.List.{get_or-set_other, get_or-set_same, length-set}
 use Rattle.std.proofs.lemmas.Nat.{and_or_apart, and_or_self, pow_apart, pow_pos}
-use Rattle.idl_base.specs.Marks.{AreMarked, bit_of, has_bit, is_marked, word_of}
+use Rattle.idl_map.specs.Marks.{AreMarked, bit_of, has_bit, is_marked, word_of}
 
 -- a bit that is put to a word is set
 bit-own : (word n : ℕ) → has_bit (bit_or word (2 ^ n)) n ≡ true

@@ -1,7 +1,7 @@
 //! Marks of digests, by which most of what isn't among something is told at once.
 
 ghost use Rattle.std.specs.Prelude.{◌≡◌, ◌<◌, ◌^◌, ℕ, false, true};
-ghost use Rattle.idl_base.specs.Marks.{bit_of, is_marked, word_of};
+ghost use Rattle.idl_map.specs.Marks.{bit_of, is_marked, word_of};
 
 use std::marker::Model;
 

@@ -1,7 +1,7 @@
 use Rattle.std.proofs.Common.{ap, ◌∙◌}
-use Rattle.idl_base.specs.Marks.{is_marked}
-use Rattle.idl_base.proofs.MarkLemmas.{mark-kept, mark-own}
-use Rattle.idl_base.proofs.marks.Marks.mark.Goals as goal
+use Rattle.idl_map.specs.Marks.{is_marked}
+use Rattle.idl_map.proofs.MarkLemmas.{mark-kept, mark-own}
+use Rattle.idl_map.proofs.marks.Marks.mark.Goals as goal
 
 pub returns-clause-marked : goal.returns-clause-marked
 returns-clause-marked g c =
