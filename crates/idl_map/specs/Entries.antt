@@ -1,5 +1,5 @@
 -- The entries of a map.
-use Rattle.std.specs.Prelude.{◌≡◌, ℕ, List, [], ◌++◌, Option, None, Some, map}
+use Rattle.std.specs.Prelude.{◌≡◌, ℕ, List, ◌++◌, map}
 use Rattle.std.specs.Map.{keys_of}
 use Rattle.idl_map.specs.Table.{AreDistinct}
 use Rattle.idl_map.specs.Buckets.{IsIndexed}
@@ -14,12 +14,3 @@ pub record IsSound {K V : Type 0} (digest_of : K → ℕ) (arena : Arena K V) : 
   pub distinct : AreDistinct (keys_of arena.entries.items)
   pub digests : arena.index.digests.items ≡ map digest_of (keys_of arena.entries.items)
   pub indexed : IsIndexed arena.index
-
--- the entries of a map, which has an arena once anything was put in
-abbrev pub map_entries : {K V : Type 0} → Option (Arena K V) → List (K × V)
-map_entries None = []
-map_entries (Some arena) = entries_of arena
-
-abbrev pub IsSoundMap : {K V : Type 0} → (K → ℕ) → Option (Arena K V) → Type 0
-IsSoundMap digest_of None = Unit {0}
-IsSoundMap digest_of (Some arena) = IsSound digest_of arena

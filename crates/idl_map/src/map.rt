@@ -16,7 +16,7 @@ use std::marker::Model;
 /// mostly where the key has no value, and else with one. Where many keys choose one bucket, it compares the key with
 /// logarithmically many besides, whatever they are.
 pub struct Map<K: Digest + Ord, V: Datum> {
-    arena: Option<Arena<K, V>>,
+    arena: Arena<K, V>,
 }
 
 impl<K: Digest + Ord, V: Datum> Model for Map<K, V> {
@@ -24,11 +24,11 @@ impl<K: Digest + Ord, V: Datum> Model for Map<K, V> {
 
     ghost Value = { List (K × V) };
 
-    ghost use Rattle.idl_map.specs.Entries.{IsSoundMap, map_entries};
+    ghost use Rattle.idl_map.specs.Entries.{IsSound, entries_of};
 
-    ghost view = { λ map. map_entries map.arena };
+    ghost view = { λ map. entries_of map.arena };
 
-    ghost invariant = { λ map. IsSoundMap K.digest_of map.arena };
+    ghost invariant = { λ map. IsSound K.digest_of map.arena };
 }
 
 impl<K: Digest + Ord, V: Datum> Drop for Map<K, V> {
@@ -38,55 +38,36 @@ impl<K: Digest + Ord, V: Datum> Drop for Map<K, V> {
 }
 
 impl<K: Digest + Ord, V: Datum> Map<K, V> {
-    /// The map without entries. It takes no memory.
-    pub fn new() -> Map<K, V>
-        ensures { result ≡ [] }
+    /// The map without entries.
+    pub fn new(alloc: Global) -> Result<Map<K, V>, AllocError>
+        ensures { IfOk result (λ map. map ≡ []) }
     {
-        Map { arena: None }
+        let arena = Arena::new(alloc)?;
+        Ok(Map { arena })
     }
 
     /// The value at a key, or nothing.
     pub fn get(&self, key: &K) -> Option<&V>
         ensures { option_copied result ≡ lookup (K.eq key.now) self.now }
     {
-        match &self.arena {
-            Some(arena) => arena.get(key),
-            None => None,
-        }
+        self.arena.get(key)
     }
 
     /// The value at a key that is lent, or nothing. It takes memory only where many keys choose one bucket, to make the key.
     pub fn get_lent<L: Lent<K>>(&self, key: &L) -> Result<Option<&V>, AllocError>
         ensures { IfOk result (λ value. option_copied value ≡ lookup (K.eq (L.key key.now)) self.now) }
     {
-        match &self.arena {
-            Some(arena) => arena.get_lent(key),
-            None => Ok(None),
-        }
+        self.arena.get_lent(key)
     }
 
     /// Puts a value in at a key. Want of memory leaves what each key has.
-    pub fn insert(&mut self, alloc: Global, key: K, value: V) -> Result<(), AllocError>
+    pub fn insert(&mut self, key: K, value: V) -> Result<(), AllocError>
         ensures each_key { OnOk result
             ((k : K)
             → lookup (K.eq k) self.new ≡ (if K.eq k key then Some value else lookup (K.eq k) self.old)) }
         ensures err { OnErr result
             ((k : K) → lookup (K.eq k) self.new ≡ lookup (K.eq k) self.old) }
     {
-        self.prepare(alloc)?;
-        match &mut self.arena {
-            Some(arena) => arena.insert(key, value),
-            None => Err(AllocError),
-        }
-    }
-
-    // Makes an arena, unless there is one.
-    fn prepare(&mut self, alloc: Global) -> Result<(), AllocError>
-        ensures { self.new ≡ self.old }
-    {
-        if self.arena.is_none() {
-            self.arena = Some(Arena::new(alloc)?);
-        }
-        Ok(())
+        self.arena.insert(key, value)
     }
 }

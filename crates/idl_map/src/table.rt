@@ -121,10 +121,9 @@ impl<K: Digest + Ord, V: Drop> Table<K, V> {
         ensures err { OnErr result (self.new ≡ self.old) }
     {
         self.index_many()?;
-        let alloc = *self.entries.allocator();
         let place = self.entries.len();
         if let Some(places) = &mut self.index {
-            places.insert(alloc, key.clone()?, place)?;
+            places.insert(key.clone()?, place)?;
         }
         self.entries.push((key, value))?;
         Ok(())
@@ -203,9 +202,9 @@ fn index_of<K: Digest + Ord, V>(
     requires { AreDistinct (keys_of entries.now) }
     ensures { IfOk result (λ places. IsIndexOf (places_in K.eq places) (keys_of entries.now)) }
 {
-    let mut places = Map::new();
+    let mut places = Map::new(alloc)?;
     for (place, entry) in entries.iter().enumerate() {
-        places.insert(alloc, entry.0.clone()?, place)?;
+        places.insert(entry.0.clone()?, place)?;
     }
     Ok(places)
 }

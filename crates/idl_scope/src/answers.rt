@@ -51,14 +51,15 @@ impl Drop for Answers {
 
 impl Answers {
     /// These scopes are open and this prefix is in force, and there are no other answers.
-    pub fn new(cursor: Answer, prefix: Answer) -> Answers
-        ensures { result ≡ (Cursor, cursor) ∷ (Prefix, prefix) ∷ [] }
+    pub fn new(alloc: Global, cursor: Answer, prefix: Answer) -> Result<Answers, AllocError>
+        ensures { IfOk result (λ answers. answers ≡ (Cursor, cursor) ∷ (Prefix, prefix) ∷ []) }
     {
-        Answers {
+        let others = Map::new(alloc)?;
+        Ok(Answers {
             cursor,
             prefix,
-            others: Map::new(),
-        }
+            others,
+        })
     }
 
     /// The open scopes.
@@ -134,18 +135,13 @@ impl Answers {
 
     /// Puts an answer in at another key than these two.
     #[inline]
-    pub fn insert(
-        &mut self,
-        alloc: Global,
-        key: DigestedKey,
-        answer: Answer,
-    ) -> Result<(), AllocError>
+    pub fn insert(&mut self, key: DigestedKey, answer: Answer) -> Result<(), AllocError>
         requires { IsAmongOthers key }
         ensures { OnOk result
             ((k : Key)
             → lookup (key_eq k) self.new
             ≡ (if key_eq k key then Some answer else lookup (key_eq k) self.old)) }
     {
-        self.others.insert(alloc, key, answer)
+        self.others.insert(key, answer)
     }
 }

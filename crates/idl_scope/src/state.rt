@@ -63,8 +63,9 @@ impl State {
         let prefix = Answer::InForce(Prefix::none(alloc)?);
         let mut inside = Vec::new(alloc);
         inside.push(Seq::new(alloc))?;
+        let answers = Answers::new(alloc, Answer::Open(scopes), prefix)?;
         Ok(State {
-            answers: Answers::new(Answer::Open(scopes), prefix),
+            answers,
             inside,
             opened: SharedList::new(),
             entered: SharedList::new(),
@@ -137,7 +138,7 @@ impl State {
         let none = OpenScopes::none();
         let scopes = self.cursor(&none).with(alloc, scope)?;
         let prefix = self.prefix(alloc)?;
-        self.answers.insert(alloc, key, Answer::Count(body))?;
+        self.answers.insert(key, Answer::Count(body))?;
         self.answers.put_cursor(Answer::Open(scopes));
         self.inside.push(Seq::new(alloc))?;
         self.opened.push(alloc, prefix)?;
@@ -172,7 +173,7 @@ impl State {
         let name = nameless_name(alloc, number)?;
         let none = OpenScopes::none();
         let path = path_of_first(self.cursor(&none))?.child(alloc, &name)?;
-        self.answers.insert(alloc, key, Answer::Count(number + 1))?;
+        self.answers.insert(key, Answer::Count(number + 1))?;
         self.open(alloc, &path, kind)
     }
 
@@ -295,7 +296,7 @@ fn put_closing(
     };
     let key = Key::of_entity(alloc, entity.get().path())?;
     let entity = entity.clone()?;
-    answers.insert(alloc, key, Answer::Known(entity))?;
+    answers.insert(key, Answer::Known(entity))?;
     Ok(())
 }
 
@@ -343,7 +344,7 @@ fn put_all(alloc: Global, answers: &mut Answers, facts: &Facts) -> Result<(), Al
         };
         let key = addition.key(alloc)?;
         let answer = addition.addition().answer(alloc)?;
-        answers.insert(alloc, key, answer)?;
+        answers.insert(key, answer)?;
     }
     Ok(())
 }
@@ -377,7 +378,7 @@ fn put_few(
     let mut additions = additions;
     'additions: while let Some(addition) = additions.pop() {
         let (key, answer) = addition.into_entry(alloc)?;
-        answers.insert(alloc, key, answer)?;
+        answers.insert(key, answer)?;
     }
     Ok(additions)
 }
