@@ -4,6 +4,7 @@ use Rattle.std.proofs.lemmas.Bool.{false≢true}
 use Rattle.std.specs.Cmp.Lexicographic.{bytes_decides}
 use Rattle.std.specs.List.{list_all}
 use Rattle.std.specs.Str.{bytes_eq}
+use Rattle.idl_base.specs.Exact.{both}
 use Rattle.idl_base.proofs.PartLemmas.{part-rest}
 use Rattle.idl_lex.proofs.CountLemmas.{eq-false}
 use Rattle.idl_lex.proofs.TableLemmas.{if_alike-same}
@@ -16,10 +17,6 @@ use Rattle.idl_lex.specs.Number.{number_kind}
 use Rattle.idl_lex.specs.Word.{is_word}
 use Rattle.idl_lex.specs.declared.kind.Kind.{Kind}
 use Rattle.idl_lex.specs.declared.kind.Kind.TheVariants.{Miscased}
-
-both : (a b : Bool) → a && b ≡ true → (a ≡ true) × (b ≡ true)
-both true b h = (refl, h)
-both false b h = absurd (false≢true h)
 
 left : (a b : Bool) → a || b ≡ true → b ≡ false → a ≡ true
 left true b h none = refl

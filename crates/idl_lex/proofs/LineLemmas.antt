@@ -2,6 +2,7 @@
 use Rattle.std.proofs.Common.{◌≡◌, ◌∙◌, ◌+◌, ◌++◌, ℕ, suc, nat_eq, Bool, true, false, not, ◌&&◌, ◌||◌, if◌then◌else◌, List, [], ◌∷◌, length, take, Option, None, Some, refl, sym, ap, subst, arith}
 use Rattle.std.proofs.lemmas.Bool.{eqb-true, false≢true}
 use Rattle.std.specs.Option.{option_map}
+use Rattle.idl_base.proofs.Bools.{and-false, not-true}
 use Rattle.idl_source.specs.Line.{newline}
 use Rattle.idl_lex.specs.Byte.{is_digit, is_word_start, is_word_byte, is_quote, is_x, is_e, is_sign}
 use Rattle.idl_lex.specs.Context.{ends_block}
@@ -113,10 +114,6 @@ open_after-closed s [] e = is_block-closed s e
 open_after-closed s (b ∷ bs) e = open_after-step (step_of s b) bs (λ t h. open_after-closed t bs h) (leads-closed s b e)
 
 -- no piece but a comment goes on over a newline
-and-false : (c : Bool) → (c && false) ≡ false
-and-false true = refl
-and-false false = refl
-
 number-newline : (h e : Bool) → number_step h e newline ≡ None
 number-newline h true = refl
 number-newline h false = refl
@@ -298,10 +295,6 @@ pub record Opened (b : ℕ) (bs : List ℕ) : Type 0 where
   pub slash : b ≡ 47
   pub star : bs ≡ 42 ∷ rest
   pub unclosed : ends_block false rest ≡ false
-
-not-true : (c : Bool) → not c ≡ true → c ≡ false
-not-true true e = cc
-not-true false e = refl
 
 Opened-star : (line block : Bool) (c : ℕ) (cs : List ℕ) → nat_eq c 42 ≡ block
     → (elim (if line then Some Line else (if block then Some (Block false) else None)) [ None ↦ false | Some t ↦ open_after t cs ]) ≡ true → Opened 47 (c ∷ cs)

@@ -1,10 +1,11 @@
 -- No mark has more than two bytes, and none has no byte.
-use Rattle.std.proofs.Common.{◌≡◌, ◌∙◌, ◌<◌, ◌≤◌, ℕ, Bool, true, false, ◌&&◌, ltb, cond, List, [], ◌∷◌, find, length, None, Some, refl, sym, ap, arith}
-use Rattle.std.proofs.lemmas.Bool.{false≢true, ltb-true}
+use Rattle.std.proofs.Common.{◌≡◌, ◌∙◌, ◌<◌, ◌≤◌, ℕ, Bool, true, false, ltb, cond, List, [], ◌∷◌, find, length, None, Some, refl, sym, ap, arith}
+use Rattle.std.proofs.lemmas.Bool.{ltb-true}
 use Rattle.std.specs.Cmp.Lexicographic.{bytes_decides}
 use Rattle.std.specs.List.{list_all}
 use Rattle.std.specs.Option.{option_map}
 use Rattle.std.specs.Str.{bytes_eq}
+use Rattle.idl_base.specs.Exact.{both}
 use Rattle.idl_lex.specs.Marks.{marks, mark_kind}
 use Rattle.idl_lex.specs.WordTable.{value_of}
 use Rattle.idl_lex.specs.declared.kind.Kind.{Kind}
@@ -17,10 +18,6 @@ mark_kind-empty (b ∷ word) h = absurd (omega (arith, h))
 are_short : list_all (λ k. ltb (length k.0) 3) marks ≡ true
 unfolding marks
 are_short = refl
-
-both : (a b : Bool) → a && b ≡ true → (a ≡ true) × (b ≡ true)
-both true b h = (refl, h)
-both false b h = absurd (false≢true h)
 
 differs : (a word : List ℕ) (same : Bool) → length a < 3 → 3 ≤ length word → bytes_eq a word ≡ same → same ≡ false
 differs a word true short long e = absurd (omega (arith, short, long, ap length ((bytes_decides a word).0 e)))

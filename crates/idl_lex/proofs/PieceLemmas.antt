@@ -5,6 +5,7 @@ use Rattle.std.proofs.lemmas.List.{drop_more, drop_all}
 use Rattle.std.specs.Prelude.{⊤}
 use Rattle.std.specs.List.{list_all}
 use Rattle.std.specs.Option.{option_map}
+use Rattle.idl_base.proofs.Bools.{or-false, or-true}
 use Rattle.idl_source.specs.Line.{newline}
 use Rattle.idl_lex.proofs.CountLemmas.{eq-true, eq-false, eq-suc}
 use Rattle.idl_lex.specs.Byte.{is_digit, is_word_start, is_word_byte, is_quote, is_x, is_e, is_sign}
@@ -251,14 +252,6 @@ record Ends (c : Bool) (b : ℕ) (bs : List ℕ) (k : ℕ) : Type 0 where
   within : k ≤ length bs
   is : (begins b (take k bs) || (c && header_rest (take k bs))) ≡ true
   no_longer : (j : ℕ) → k < j → j ≤ length bs → (begins b (take j bs) || (c && header_rest (take j bs))) ≡ false
-
-or-false : (x : Bool) → (x || false) ≡ x
-or-false true = refl
-or-false false = refl
-
-or-true : (x : Bool) → (x || true) ≡ true
-or-true true = refl
-or-true false = refl
 
 nat_eq-same : (n : ℕ) → nat_eq n n ≡ true
 nat_eq-same n = eq-true n n refl

@@ -1,5 +1,5 @@
 -- The table of keywords: the place that a word tells has the one keyword that it can be.
-use Rattle.std.proofs.Common.{◌≡◌, ◌≢◌, ◌∙◌, ◌<◌, ◌≤◌, ◌+◌, ◌-◌, ◌*◌, ◌%◌, drop, ℕ, suc, zero, Bool, true, false, ◌&&◌, ◌||◌, if◌then◌else◌, nat_lt, ltb, cond, List, [], ◌∷◌, map, length, find, Option, Some, None, refl, sym, ap, subst, arith}
+use Rattle.std.proofs.Common.{◌≡◌, ◌≢◌, ◌∙◌, ◌<◌, ◌≤◌, ◌+◌, ◌-◌, ◌*◌, ◌%◌, drop, ℕ, suc, zero, Bool, true, false, ◌||◌, if◌then◌else◌, nat_lt, ltb, cond, List, [], ◌∷◌, map, length, find, Option, Some, None, refl, sym, ap, subst, arith}
 use Rattle.std.proofs.Math.ListN.{get_or, get_or-map}
 use Rattle.std.proofs.lemmas.Bool.{false≢true, le-ltb, ltb-true}
 use Rattle.std.proofs.lemmas.List.{length-map, get_or-map as get_or-map-within}
@@ -8,6 +8,7 @@ use Rattle.std.specs.Char.{to_ascii_lowercase}
 use Rattle.std.specs.Cmp.Lexicographic.{bytes_decides}
 use Rattle.std.specs.List.{list_all}
 use Rattle.std.specs.Str.{bytes_eq}
+use Rattle.idl_base.specs.Exact.{both}
 use Rattle.idl_lex.specs.Keywords.{folded, keywords, like_keyword}
 use Rattle.idl_lex.specs.KeywordTable.{if_alike, letter, place, places}
 use Rattle.idl_lex.specs.WordTable.{entry_of}
@@ -36,10 +37,6 @@ stand_at_home = refl
 have_home : list_all (λ k. ltb (home k) 64) keywords ≡ true
 unfolding keywords places home
 have_home = refl
-
-both : (a b : Bool) → a && b ≡ true → (a ≡ true) × (b ≡ true)
-both true b h = (refl, h)
-both false b h = absurd (false≢true h)
 
 is_there : Option Keyed → Bool
 is_there None = false

@@ -5,6 +5,7 @@ use Rattle.std.proofs.lemmas.Bool.Decides.{eqb_tells}
 use Rattle.std.proofs.lemmas.List.{drop_more, length-drop, take_rest}
 use Rattle.std.specs.Prelude.{nat_le}
 use Rattle.std.specs.List.{list_all}
+use Rattle.idl_base.specs.Exact.{both}
 use Rattle.idl_lex.proofs.CountLemmas.{eq-false}
 use Rattle.idl_lex.proofs.PieceLemmas.{accepts, accepts-taken, accepts-word, taken-more, taken-stop, taken-end, taken-le, taken-whole}
 use Rattle.idl_lex.proofs.TokensLemmas.{EndsAt, bytes_of-drop, length-bytes_of, piece_of, piece_of-cons, tokens_after-piece_of}
@@ -46,10 +47,6 @@ pub taken-word-stop : (bs : List ℕ) (i : ℕ) → i < length bs → is_word_by
 taken-word-stop bs i lt e = taken-stop Word bs i 0 lt (ap (λ c. if c then Some Word else None) e)
 
 -- ---- white space
-
-both : (a b : Bool) → a && b ≡ true → (a ≡ true) × (b ≡ true)
-both true b h = (refl, h)
-both false b h = absurd (false≢true h)
 
 white-cases : (b : ℕ) (blank : Bool) → nat_eq b 32 ≡ blank → (blank || (nat_le 9 b && nat_le b 13)) ≡ true → (b ≡ 32) ⊎ ((9 ≤ b) × (b ≤ 13))
 white-cases b true e h = inl (eqb-true b 32 e)

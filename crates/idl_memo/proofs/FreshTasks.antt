@@ -6,6 +6,7 @@ use Rattle.std.proofs.lemmas.List.Folds.{list_any-append, list_any_at}
 use Rattle.std.proofs.lemmas.Map.Keys.{IsDistinct-head, IsDistinct-tail}
 use Rattle.std.specs.List.{list_all, list_any, AllByRecursion, IsDistinct}
 use Rattle.std.specs.Option.{option_eq}
+use Rattle.idl_base.proofs.Bools.{or-false}
 use Rattle.idl_base.specs.Exact.{both}
 use Rattle.idl_memo.specs.Query.{Query, asked, is_logged, noted, noted_all, Agree}
 use Rattle.idl_memo.specs.Fresh.{is_alike, fresh_behind, fresh_among, stale_among, asked_at, compared_among, asked_among, alike_among}
@@ -14,10 +15,6 @@ use Rattle.idl_memo.specs.Fresh.{is_alike, fresh_behind, fresh_among, stale_amon
 pub option_eq-itself : {X : Type 0} (eq : X → X → Bool) → ((x : X) → eq x x ≡ true) → (o : Option X) → option_eq eq o o ≡ true
 option_eq-itself eq itself None = refl
 option_eq-itself eq itself (Some x) = itself x
-
-or_false : (b : Bool) → (b || false) ≡ b
-or_false true = refl
-or_false false = refl
 
 absorbed : (a b : Bool) → (a || (b && a)) ≡ a
 absorbed true b = refl
@@ -97,7 +94,7 @@ module _ {K V X T O : Type 0} (text_eq : T → T → Bool) (text_itself : (x : T
     fresh_behind-without earlier (here ∷ places) distinct =
         let before = any_alike new new here earlier ∙ ap (λ b. b && answers new new here) (not_before earlier here places distinct) in
         let test : (list_any (is_alike text_eq answer_eq query old new here) tasks || list_any (is_alike text_eq answer_eq query new new here) earlier) ≡ (list_any (text_eq here) tasks && answers old new here) =
-        ap (λ b. list_any (is_alike text_eq answer_eq query old new here) tasks || b) before ∙ or_false (list_any (is_alike text_eq answer_eq query old new here) tasks) ∙ any_alike old new here tasks in
+        ap (λ b. list_any (is_alike text_eq answer_eq query old new here) tasks || b) before ∙ or-false (list_any (is_alike text_eq answer_eq query old new here) tasks) ∙ any_alike old new here tasks in
         let later = fresh_behind-without (earlier ++ here ∷ []) places (rw append_assoc distinct) in
         λ i. (if test i then 0 else 1) + later i
 

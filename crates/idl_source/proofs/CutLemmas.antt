@@ -6,6 +6,7 @@ use Rattle.std.specs.List.{All}
 use Rattle.std.proofs.lemmas.List.Elements.{All-nil, All-cons, All-head, All-same, All-tail}
 use Rattle.bstr.specs.Text.{line_len, lines_of, no_cr, without_terminator}
 use Rattle.bstr.proofs.lemmas.LineLemmas.{lines-nil, lines-step}
+use Rattle.idl_base.proofs.Bools.{and-false}
 use Rattle.idl_source.specs.Cut.{begun_with, cut_lines, is_at_newline}
 use Rattle.idl_source.specs.Line.{IsLine}
 
@@ -87,10 +88,6 @@ cut-begun : (b : ℕ) (r : List ℕ) → b ≢ 10
     → cut_lines (b ∷ r) ≡ if b == 13 && is_at_newline r then cut_lines r else begun_with b (cut_lines r)
 cut-begun b r other =
     ap (λ t. if t then [] ∷ cut_lines r else if b == 13 && is_at_newline r then cut_lines r else begun_with b (cut_lines r)) (ne_eqb b 10 other)
-
-and-false : (t : Bool) → (t && false) ≡ false
-and-false true = refl
-and-false false = refl
 
 abbrev lines : List ℕ → List (List ℕ)
 lines bytes = map without_terminator (lines_of bytes)
