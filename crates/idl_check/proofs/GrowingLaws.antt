@@ -6,7 +6,8 @@ use Rattle.idl_check.proofs.SettledLaws.{AreAdded, IsAdded, IsFound, IsNamed, Is
 use Rattle.idl_lex.specs.Keywords.{folded}
 use Rattle.idl_scope.specs.Digested.{key_equiv}
 use Rattle.idl_scope.specs.Facts.{addition_at, answer_of, entity_in, entity_key, is_operation, key_of, path_around, with_addition}
-use Rattle.idl_scope.specs.Key.{key_eq, same_key}
+use Rattle.idl_scope.specs.Key.{key_eq}
+use Rattle.idl_scope.specs.SameKey.{same_key}
 use Rattle.idl_scope.specs.Meaning.{Through, bases_of}
 use Rattle.idl_scope.specs.Path.{name_of, scope_of}
 use Rattle.idl_scope.specs.declared.addition.Addition.{Addition}

@@ -8,7 +8,8 @@ use Rattle.idl_scope.proofs.Membership.{IsIn, IsIn-left, IsIn-right, IsIn-split}
 use Rattle.idl_scope.specs.Digested.{key_equiv}
 use Rattle.idl_scope.specs.Facts.{addition_at, answer_of, entity_in, entity_key, is_operation, key_of, more_inside, operations_among, path_around}
 use Rattle.idl_scope.specs.Facts.{over as answer_over}
-use Rattle.idl_scope.specs.Key.{key_eq, same_key}
+use Rattle.idl_scope.specs.Key.{key_eq}
+use Rattle.idl_scope.specs.SameKey.{same_key}
 use Rattle.idl_scope.specs.Meaning.{Through, bases_of}
 use Rattle.idl_scope.specs.Path.{name_of, scope_of}
 use Rattle.idl_scope.specs.declared.addition.Addition.{Addition}

@@ -4,7 +4,8 @@ use Rattle.std.specs.Map.{lookup}
 use Rattle.idl_map.specs.Table.{insert_entry}
 use Rattle.idl_scope.specs.Facts.{addition_at, answer_of, key_of, over, with_addition}
 use Rattle.idl_scope.specs.Held.{HaveOwnKeys}
-use Rattle.idl_scope.specs.Key.{key_eq, same_key}
+use Rattle.idl_scope.specs.Key.{key_eq}
+use Rattle.idl_scope.specs.SameKey.{same_key}
 use Rattle.idl_scope.specs.declared.addition.Addition.{Addition}
 use Rattle.idl_scope.specs.declared.addition.Addition.TheVariants.{Declares, Uses, Appears, Identifies}
 use Rattle.idl_scope.specs.declared.answer.Answer.{Answer}

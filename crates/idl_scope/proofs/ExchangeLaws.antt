@@ -2,7 +2,8 @@
 use Rattle.std.proofs.Common.{◌≡◌, Bool, true, false, cond, List, [], ◌∷◌, ◌++◌, map, Option, Some, None, refl, sym, ap, ◌∙◌, subst, inl, inr}
 use Rattle.std.specs.Prelude.{Contains}
 use Rattle.idl_scope.specs.Facts.{UnitFacts, World, after, after_step, answer_of, count_in, entity_in, entity_key, key_of, more_inside, nameless, operations_among, over, path_around, scopes_in, with_additions}
-use Rattle.idl_scope.specs.Key.{key_eq, same_key}
+use Rattle.idl_scope.specs.Key.{key_eq}
+use Rattle.idl_scope.specs.SameKey.{same_key}
 use Rattle.idl_scope.specs.Kind.{kind_eq}
 use Rattle.idl_scope.specs.Outside.{AgreeOutside, AreApart, WorldsAgreeOutside, gathered_at, looked_at, looked_at_by}
 use Rattle.idl_scope.specs.declared.addition.Addition.{Addition}

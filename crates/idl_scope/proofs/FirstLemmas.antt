@@ -11,7 +11,8 @@ use Rattle.std.proofs.lemmas.Bool.{eqb-false, ltb-false}
 use Rattle.std.proofs.lemmas.List.Folds.{find_at}
 use Rattle.std.proofs.lemmas.Option.{same_Some, slice_get_past}
 use Rattle.idl_scope.specs.Facts.{addition_at, key_of, with_addition}
-use Rattle.idl_scope.specs.Key.{key_digest, key_eq, same_key}
+use Rattle.idl_scope.specs.Key.{key_digest, key_eq}
+use Rattle.idl_scope.specs.SameKey.{same_key}
 use Rattle.idl_scope.specs.declared.addition.Addition.{Addition}
 use Rattle.idl_scope.specs.declared.key.Key.{Key}
 

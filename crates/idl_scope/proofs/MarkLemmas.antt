@@ -3,7 +3,8 @@ use Rattle.std.proofs.Common.{◌≡◌, ℕ, true, List, ap, ◌∙◌}
 use Rattle.idl_map.specs.Marks.{AreMarked, is_marked}
 use Rattle.idl_map.proofs.MarkLemmas.{AreMarked-put}
 use Rattle.idl_scope.specs.Facts.{addition_at, key_of, with_addition}
-use Rattle.idl_scope.specs.Key.{key_digest, key_eq, same_key}
+use Rattle.idl_scope.specs.Key.{key_digest, key_eq}
+use Rattle.idl_scope.specs.SameKey.{same_key}
 use Rattle.idl_scope.specs.declared.addition.Addition.{Addition}
 use Rattle.idl_scope.proofs.FirstLemmas.{addition_at-with_addition}
 

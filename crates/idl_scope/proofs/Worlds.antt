@@ -6,7 +6,8 @@ use Rattle.idl_lex.specs.Keywords.{folded}
 use Rattle.idl_scope.specs.Turns.{bases_in, bases_among, bases_named, declared_in, declared_among, declared_named}
 use Rattle.idl_scope.specs.Facts.{UnitFacts, World, entity_key, entity_in, scopes_in, key_of, answer_of, addition_at, over, with_answer, with_additions, first_answer, first_world, given_back, no_prefix, with_prefix, closed, closing, after_closing, after_opening, after_nameless, after_step, after, after_all, world, answers}
 use Rattle.idl_scope.specs.Identity.{prefix_for}
-use Rattle.idl_scope.specs.Key.{key_eq, same_key}
+use Rattle.idl_scope.specs.Key.{key_eq}
+use Rattle.idl_scope.specs.SameKey.{same_key}
 use Rattle.idl_scope.specs.Kind.{kind_eq}
 use Rattle.idl_scope.specs.Lookup.{bases_of, has_bases}
 use Rattle.idl_scope.specs.Meaning.{own_at, bases_at}

@@ -54,14 +54,9 @@ element_eq = element_ghosts.eq
 
 pub same_element : (e f : Element) → element_eq e f ≡ true → e ≡ f
 same_element (Constants t) (Constants u) h = ap Constants (same_target t u h)
-same_element (Constants t) (Named q) h = cc
-same_element (Constants t) (Other y) h = cc
-same_element (Named p) (Constants u) h = cc
 same_element (Named p) (Named q) h = ap Named (same_path p q h)
-same_element (Named p) (Other y) h = cc
-same_element (Other x) (Constants u) h = cc
-same_element (Other x) (Named q) h = cc
 same_element (Other x) (Other y) h = ap Other (same_unvalued x y h)
+same_element e f h = cc
 
 -- whether two layers are one
 abbrev pub layer_eq : Layer → Layer → Bool
@@ -69,9 +64,8 @@ layer_eq = layer_ghosts.eq
 
 pub same_layer : (k l : Layer) → layer_eq k l ≡ true → k ≡ l
 same_layer (Sequence m) (Sequence n) h = ap Sequence (same_number m n h)
-same_layer (Sequence m) (Array n) h = cc
-same_layer (Array m) (Sequence n) h = cc
 same_layer (Array m) (Array n) h = ap Array (same_number m n h)
+same_layer k l h = cc
 
 -- whether two types are one
 abbrev pub data_type_eq : DataType → DataType → Bool

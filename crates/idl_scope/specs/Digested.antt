@@ -6,7 +6,8 @@ use Rattle.std.specs.Cmp.{partial_order_from_agreeing_total, unsigned_ties}
 use Rattle.std.specs.Ordering.{eq_by_cmp, nat_cmp, ordering_then}
 use Rattle.std.specs.declared.cmp.Ordering.{Ordering}
 use Rattle.std.proofs.Common.{ap, sym, ◌∙◌}
-use Rattle.idl_scope.specs.Key.{key_digest, key_eq, same_key}
+use Rattle.idl_scope.specs.Key.{key_digest, key_eq}
+use Rattle.idl_scope.specs.SameKey.{same_key}
 use Rattle.idl_scope.specs.contracts.key.KeyEq.TheImpl.Laws.{laws-law as equivalence}
 use Rattle.idl_scope.specs.contracts.key.KeyOrd.TheImpl.{ghosts as own_order}
 use Rattle.idl_scope.specs.contracts.key.KeyOrd.TheImpl.Laws.{matches_eq-law, total-law}

@@ -13,7 +13,8 @@ use Rattle.idl_scope.specs.Signature.{same_signature, signature_eq}
 use Rattle.idl_scope.specs.contracts.parts.EntityPartsEq.TheImpl.Laws.{laws-law as equivalence}
 use Rattle.idl_scope.specs.contracts.parts.EntityPartsPartialEq.TheImpl.Laws.{laws-law as partial_equivalence}
 use Rattle.idl_scope.specs.declared.parts.EntityParts.{EntityParts}
-use Rattle.idl_value.specs.Exact.{same_value, value_eq}
+use Rattle.idl_value.specs.Equal.{value_eq}
+use Rattle.idl_value.specs.Exact.{same_value}
 
 -- whether what two entities are declared with is one
 abbrev pub declared_eq : EntityParts → EntityParts → Bool

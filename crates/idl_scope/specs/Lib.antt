@@ -1,4 +1,3 @@
-pub mod Answer
 pub mod DataType
 pub mod Details
 pub mod Digest
@@ -19,6 +18,8 @@ pub mod Outline
 pub mod Outside
 pub mod Path
 pub mod Question
+pub mod SameAnswer
+pub mod SameKey
 pub mod Scope
 pub mod Signature
 pub mod Stretch

@@ -1,15 +1,16 @@
 -- When two members, or two signatures, are one.
-use Rattle.std.specs.Prelude.{◌≡◌, ℕ, Bool, true, List, ◌&&◌, nat_eq}
+use Rattle.std.specs.Prelude.{◌≡◌, Bool, true, ◌&&◌}
 use Rattle.std.specs.Bool.{beq}
 use Rattle.std.specs.Cmp.Lexicographic.{bytes_decides, pointwise}
 use Rattle.std.specs.Option.{option_eq}
 use Rattle.std.specs.Str.{bytes_eq}
-use Rattle.idl_base.specs.Exact.{both, same_bool, same_list, same_number, same_option}
+use Rattle.idl_base.specs.Exact.{both, same_bool, same_list, same_option}
 use Rattle.idl_scope.specs.DataType.{data_type_eq, same_data_type}
 use Rattle.idl_scope.specs.Path.{path_eq, same_path}
 use Rattle.idl_scope.specs.declared.signature.Member.{Member}
 use Rattle.idl_scope.specs.declared.signature.Signature.{Signature}
-use Rattle.idl_value.specs.Exact.{same_value, value_eq}
+use Rattle.idl_value.specs.Equal.{text_eq, value_eq}
+use Rattle.idl_value.specs.Exact.{same_text, same_value}
 
 -- whether two members are one
 abbrev pub member_eq : Member → Member → Bool
@@ -40,10 +41,6 @@ same_member m n h =
       comes_out = comes_out i;
     }
 
--- whether two texts are one
-abbrev pub text_eq : List ℕ → List ℕ → Bool
-text_eq = pointwise nat_eq
-
 -- whether two signatures are one
 abbrev pub signature_eq : Signature → Signature → Bool
 signature_eq s t =
@@ -60,9 +57,7 @@ same_signature s t h =
     let members = same_list member_eq same_member s.members t.members a.0 in
     let raised = same_list path_eq same_path s.raised t.raised b.0 in
     let raised_by_set = same_list path_eq same_path s.raised_by_set t.raised_by_set c.0 in
-    let contexts =
-    same_list text_eq (same_list nat_eq same_number) s.contexts t.contexts c.1
-    in
+    let contexts = same_list text_eq same_text s.contexts t.contexts c.1 in
     λ i. record {
       members = members i;
       raised = raised i;

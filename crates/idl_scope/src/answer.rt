@@ -77,7 +77,7 @@ impl Datum for Scope {
 }
 
 impl Datum for Answer {
-    ghost use Rattle.idl_scope.specs.Answer.{same_answer, copied_answer};
+    ghost use Rattle.idl_scope.specs.SameAnswer.{same_answer, copied_answer};
 
     ghost same = { same_answer };
 

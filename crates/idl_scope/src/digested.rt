@@ -3,7 +3,8 @@
 ghost use Rattle.std.specs.Prelude.{◌≡◌, IfOk, Some, refl};
 ghost use Rattle.idl_scope.specs.Digested.{key_cmp, key_cmp_po, key_cmp_ties, key_cmp_total, key_equiv, key_per};
 ghost use Rattle.idl_scope.specs.HeldKey.{key_in};
-ghost use Rattle.idl_scope.specs.Key.{key_digest, key_eq, same_key};
+ghost use Rattle.idl_scope.specs.Key.{key_digest, key_eq};
+ghost use Rattle.idl_scope.specs.SameKey.{same_key};
 ghost use Rattle.idl_scope.specs.contracts.key.KeyOrd.TheImpl.{ghosts as own_order};
 ghost use Rattle.idl_scope.specs.declared.key.Key.TheVariants as keys;
 

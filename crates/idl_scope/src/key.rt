@@ -43,7 +43,7 @@ impl Drop for Key {
 }
 
 impl Datum for Key {
-    ghost use Rattle.idl_scope.specs.Key.{same_key, copied_key};
+    ghost use Rattle.idl_scope.specs.SameKey.{same_key, copied_key};
 
     ghost same = { same_key };
 

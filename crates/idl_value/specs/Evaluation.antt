@@ -6,7 +6,7 @@ use Rattle.idl_tree.specs.declared.expression.UnaryOperator.{UnaryOperator}
 use Rattle.idl_tree.specs.declared.literal.Literal.{Literal}
 use Rattle.idl_tree.specs.declared.literal.Literal.TheVariants as literal
 use Rattle.idl_tree.specs.declared.several.Several.{Several}
-use Rattle.idl_value.specs.Exact.{path_eq}
+use Rattle.idl_value.specs.Equal.{path_eq}
 use Rattle.idl_value.specs.Integer.{holds}
 use Rattle.idl_value.specs.Operate.{in_parts, operate, operate_sign}
 use Rattle.idl_value.specs.Term.{Term, Named, Literally, Parenthesised, Signed, Chain, Links, End, Link, expression_term}

@@ -1,5 +1,6 @@
 pub mod Bits
 pub mod Digest
+pub mod Equal
 pub mod Evaluation
 pub mod Exact
 pub mod Integer

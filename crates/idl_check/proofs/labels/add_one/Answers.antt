@@ -2,7 +2,8 @@ use Rattle.std.proofs.Common.{◌∙◌, ◌++◌, ◌∷◌, [], ap, cond, sym}
 use Rattle.std.proofs.lemmas.Map.Made.{is_some-lookup}
 use Rattle.std.specs.Map.{keys_of}
 use Rattle.idl_map.proofs.TableLemmas.{keys_of-push}
-use Rattle.idl_value.specs.Exact.{copied_value, value_eq}
+use Rattle.idl_value.specs.Equal.{value_eq}
+use Rattle.idl_value.specs.Exact.{copied_value}
 use Rattle.idl_check.proofs.labels.add_one.Goals as goal
 
 pub returns-then-contains : goal.returns-then-contains

@@ -1,6 +1,6 @@
 use Rattle.std.proofs.Common.{◌∙◌}
 use Rattle.std.proofs.lemmas.Map.Made.{is_some-lookup}
-use Rattle.idl_value.specs.Exact.{value_eq}
+use Rattle.idl_value.specs.Equal.{value_eq}
 use Rattle.idl_check.proofs.labels.is_among.Goals as goal
 
 pub returns : goal.returns

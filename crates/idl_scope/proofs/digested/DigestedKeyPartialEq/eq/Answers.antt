@@ -1,7 +1,8 @@
 use Rattle.std.proofs.Common.{sym, ap, ◌∙◌}
 use Rattle.std.specs.Cmp.{both_ways}
 use Rattle.idl_base.specs.Exact.{same_number}
-use Rattle.idl_scope.specs.Key.{key_digest, same_key}
+use Rattle.idl_scope.specs.Key.{key_digest}
+use Rattle.idl_scope.specs.SameKey.{same_key}
 use Rattle.idl_scope.proofs.digested.DigestedKeyPartialEq.eq.Goals as goal
 
 pub returns-else-self-other : goal.returns-else-self-other

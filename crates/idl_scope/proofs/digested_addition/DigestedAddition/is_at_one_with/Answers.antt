@@ -2,7 +2,8 @@ use Rattle.std.proofs.Common.{sym, ap, ◌∙◌}
 use Rattle.std.specs.Cmp.{both_ways}
 use Rattle.idl_base.specs.Exact.{same_number}
 use Rattle.idl_scope.specs.Facts.{key_of}
-use Rattle.idl_scope.specs.Key.{key_digest, same_key}
+use Rattle.idl_scope.specs.Key.{key_digest}
+use Rattle.idl_scope.specs.SameKey.{same_key}
 use Rattle.idl_scope.proofs.digested_addition.DigestedAddition.is_at_one_with.Goals as goal
 
 pub returns-else-self-digest : goal.returns-else-self-digest
