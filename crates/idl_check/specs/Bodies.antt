@@ -1,6 +1,6 @@
 -- What is told inside a unit of what it declares: members with their labels, parameters, exceptions
 -- that are raised, and contexts.
-use Rattle.std.specs.Prelude.{ℕ, Bool, true, false, ◌&&◌, ◌||◌, List, [], ◌∷◌, ◌++◌, flat_map, not, Option, None, Some, if◌then◌else◌}
+use Rattle.std.specs.Prelude.{ℕ, Bool, true, false, ◌&&◌, ◌||◌, List, [], ◌∷◌, ◌++◌, not, Option, None, Some, if◌then◌else◌}
 use Rattle.idl_scope.specs.DataType.{with_arrays}
 use Rattle.idl_scope.specs.Kind.{kind_eq}
 use Rattle.idl_scope.specs.Path.{name_of}
@@ -17,6 +17,7 @@ use Rattle.idl_site.specs.declared.site.Use.{Use}
 use Rattle.idl_site.specs.declared.site.Use.TheVariants.{Raised, RaisedBySet}
 use Rattle.idl_tree.specs.declared.operation.Direction.TheVariants.{In, Out}
 use Rattle.idl_tree.specs.declared.several.Several.{Several}
+use Rattle.idl_value.specs.Evaluation.{joined}
 use Rattle.idl_value.specs.declared.value.Value.{Value}
 
 -- what the clauses behind an operation or an attribute say: the paths of the exceptions that it
@@ -37,12 +38,9 @@ with_raised RaisedBySet path clauses =
 with_raised other path clauses = clauses
 
 -- with string literals, which are joined
-abbrev pub joined_text : Several (List ℕ) → List ℕ
-joined_text text = text.first ++ flat_map (λ piece. piece) text.rest
-
 abbrev pub with_context : Several (List ℕ) → Clauses → Clauses
 with_context text clauses =
-    record clauses { contexts = clauses.contexts ++ joined_text text ∷ [] }
+    record clauses { contexts = clauses.contexts ++ joined text ∷ [] }
 
 abbrev pub is_nothing : List (List (List ℕ)) → Bool
 is_nothing [] = true

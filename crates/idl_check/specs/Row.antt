@@ -1,40 +1,18 @@
 -- The row of a unit in the dump.
-use Rattle.std.specs.Prelude.{ℕ, ◌+◌, ◌/◌, ◌%◌, Bool, true, false, ◌&&◌, ◌||◌, List, [], ◌∷◌, ◌++◌, codes, drop, flat_map, nat_eq, nat_le, take, if◌then◌else◌}
+use Rattle.std.specs.Prelude.{ℕ, Bool, true, false, ◌||◌, List, [], ◌∷◌, ◌++◌, codes, drop, flat_map, take, if◌then◌else◌}
 use Rattle.std.specs.List.{repeat}
 use Rattle.std.specs.Str.{bytes_eq}
-use Rattle.idl_lex.specs.Kind.{is_like_keyword}
 use Rattle.idl_lex.specs.Tokens.{Token}
 use Rattle.idl_site.specs.Item.{Item, item_length, Item as item}
 use Rattle.idl_tree.specs.declared.several.Several.{Several}
-use Rattle.idl_value.specs.Spelled.{value_word}
+use Rattle.idl_value.specs.Evaluation.{joined}
+use Rattle.idl_value.specs.Spelled.{escaped, path_word, value_word}
 use Rattle.idl_value.specs.declared.value.Value.{Value}
-
--- a name, with `_` before it where it is a keyword but for the case of letters
-abbrev pub escaped : List ℕ → List ℕ
-escaped name = if is_like_keyword name then codes "_" ++ name else name
-
--- a path, from the global scope on: `::` before each name
-abbrev pub path_word : List (List ℕ) → List ℕ
-path_word [] = []
-path_word (name ∷ scope) = path_word scope ++ (codes "::" ++ escaped name)
-
--- the last octal digit of a number
-abbrev pub octal : ℕ → ℕ
-octal n = 48 + n % 8
-
--- a character of a narrow string literal: as it stands, with `\` before it, or `\` and three octal
--- digits
-abbrev pub character : ℕ → List ℕ
-character c =
-    if nat_eq c 34 || nat_eq c 92 then 92 ∷ c ∷ []
-    else if nat_le 32 c && nat_le c 126 then c ∷ []
-    else 92 ∷ octal (c / 64) ∷ octal (c / 8) ∷ octal c ∷ []
+use Rattle.idl_value.specs.declared.value.Value.TheVariants.{Text}
 
 -- string literals as one
 abbrev pub text_word : Several (List ℕ) → List ℕ
-text_word text =
-    codes "\"" ++ (flat_map character (text.first ++ flat_map (λ piece. piece) text.rest)
-    ++ codes "\"")
+text_word text = value_word (Text (joined text))
 
 -- a word, with a blank before it
 abbrev pub spaced : List ℕ → List ℕ

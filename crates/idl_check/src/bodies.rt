@@ -1,16 +1,16 @@
 //! What is told inside a unit of what it declares: the members of scopes, and what clauses say.
 
-ghost use Rattle.std.specs.Prelude.{◌≡◌, ◌∷◌, ◌++◌, ◌&&◌, [], IfNone, IfOk, OnOk, drop, flat_map, option_to_list};
+ghost use Rattle.std.specs.Prelude.{◌≡◌, ◌∷◌, ◌++◌, ◌&&◌, [], IfNone, IfOk, OnOk, drop, option_to_list};
 ghost use Rattle.idl_scope.specs.Kind.{kind_eq};
 ghost use Rattle.idl_scope.specs.declared.kind.Kind.TheVariants.{Attribute};
-ghost use Rattle.idl_check.specs.Bodies.{begun_body, comes_out, goes_in, is_member, is_nothing, joined_text, nested, no_clauses, raises, raising, signature_of, told_body, told_innermost, with_array_body, with_array_type, with_body_label, with_context, with_last_type, with_member, with_name, with_next_label, with_raised};
+ghost use Rattle.idl_check.specs.Bodies.{begun_body, comes_out, goes_in, is_member, is_nothing, nested, no_clauses, raises, raising, signature_of, told_body, told_innermost, with_array_body, with_array_type, with_body_label, with_context, with_last_type, with_member, with_name, with_next_label, with_raised};
 
 use crate::last_type::LastType;
 use idl_base::Seq;
 use idl_scope::{DataType, Entity, Kind, Member, Path, Shared, Signature, Stage};
 use idl_site::{Declaration, Use};
 use idl_tree::{Direction, Several};
-use idl_value::Value;
+use idl_value::{Value, joined};
 use std::alloc::{AllocError, Global};
 use std::marker::Model;
 use std::mem::replace;
@@ -154,7 +154,7 @@ impl Clauses {
         ensures { OnOk result (self.new ≡ with_context text.now self.old) }
     {
         let mut told = self.take()?;
-        told.contexts.push(joined_text(alloc, text)?)?;
+        told.contexts.push(joined(alloc, text)?)?;
         self.told = Some(told);
         Ok(())
     }
@@ -516,24 +516,4 @@ fn comes_out(way: Declaration) -> bool
         Declaration::Parameter(Direction::Out) | Declaration::Parameter(Direction::InOut) => true,
         _ => false,
     }
-}
-
-// String literals as one.
-fn joined_text(alloc: Global, text: &Several<Seq<u16>>) -> Result<Seq<u16>, AllocError>
-    ensures { IfOk result (λ joined. joined ≡ joined_text text.now) }
-{
-    let mut joined = Vec::from_slice(alloc, text.first.as_slice())?;
-    join_each(&mut joined, text.rest.as_slice())?;
-    Ok(Seq::from_vec(joined))
-}
-
-// String literals more.
-fn join_each(joined: &mut Vec<u16>, pieces: &[Seq<u16>]) -> Result<(), AllocError>
-    ensures { OnOk result
-        (joined.new.items ≡ joined.old.items ++ flat_map (λ piece. piece) pieces.now) }
-{
-    for piece in pieces {
-        joined.extend_from_slice(piece.as_slice())?;
-    }
-    Ok(())
 }

@@ -3,19 +3,20 @@
 ghost use Rattle.std.specs.Prelude.{◌≡◌, ◌≤◌, ◌+◌, ◌∷◌, ◌++◌, ◌||◌, [], codes, false, OnOk, drop, flat_map, length, map, take, if◌then◌else◌};
 ghost use Rattle.std.specs.List.{repeat};
 ghost use Rattle.std.specs.Str.{bytes_eq};
-ghost use Rattle.idl_check.specs.Row.{behind_site, character, escaped, next_path, next_value, octal, path_word, row_of, site_text, spaced, text_word, token_text, unit_text};
+ghost use Rattle.idl_check.specs.Row.{behind_site, next_path, next_value, row_of, site_text, spaced, text_word, token_text, unit_text};
 ghost use Rattle.idl_check.specs.HeldRow.{rest_at};
 ghost use Rattle.idl_site.specs.Item.{item_at, item_length, items_length};
 ghost use Rattle.idl_tree.specs.Name.{spell_name};
+ghost use Rattle.idl_value.specs.Spelled.{escaped, path_word};
 
 use crate::part::{behind, front};
 use crate::using::name_length;
 use idl_base::Seq;
-use idl_lex::{Token, is_like_keyword};
+use idl_lex::Token;
 use idl_scope::{Names, Path};
 use idl_site::Site;
 use idl_tree::{ScopedName, Several};
-use idl_value::{Value, push_value};
+use idl_value::{Value, joined, push_name, push_part, push_value};
 use std::alloc::AllocError;
 
 /// What a row is still to be made of: tokens, and the paths of what the names among them denote.
@@ -256,20 +257,6 @@ fn push_declared(text: &mut Vec<u8>, name: &[u8]) -> Result<(), AllocError>
     push_name(text, name)
 }
 
-// A name, escaped where it is like a keyword.
-#[inline(always)]
-fn push_name(text: &mut Vec<u8>, name: &[u8]) -> Result<(), AllocError>
-    ensures { OnOk result (text.new.items ≡ text.old.items ++ escaped name.now) }
-{
-    if is_like_keyword(name) {
-        text.push(b'_')?;
-        text.extend_from_slice(name)?;
-        return Ok(());
-    }
-    text.extend_from_slice(name)?;
-    Ok(())
-}
-
 // A path, from the global scope on.
 fn push_path(text: &mut Vec<u8>, path: &Path) -> Result<(), AllocError>
     ensures { OnOk result (text.new.items ≡ text.old.items ++ spaced (path_word path.now)) }
@@ -286,63 +273,14 @@ fn push_names(text: &mut Vec<u8>, names: Names<'_>) -> Result<(), AllocError>
         return Ok(());
     };
     push_names(text, outer)?;
-    text.push(b':')?;
-    text.push(b':')?;
-    push_name(text, name)
+    push_part(text, name)
 }
 
 // String literals as one.
 fn push_joined(text: &mut Vec<u8>, pieces: &Several<Seq<u16>>) -> Result<(), AllocError>
     ensures { OnOk result (text.new.items ≡ text.old.items ++ spaced (text_word pieces.now)) }
 {
-    text.extend_from_slice(b" \"")?;
-    push_characters(text, pieces.first.as_slice())?;
-    push_pieces(text, pieces.rest.as_slice())?;
-    text.push(b'"')?;
-    Ok(())
-}
-
-// The characters of pieces.
-fn push_pieces(text: &mut Vec<u8>, pieces: &[Seq<u16>]) -> Result<(), AllocError>
-    ensures { OnOk result
-        (text.new.items
-        ≡ text.old.items ++ flat_map character (flat_map (λ piece. piece) pieces.now)) }
-{
-    for piece in pieces {
-        push_characters(text, piece.as_slice())?;
-    }
-    Ok(())
-}
-
-// The characters of a narrow string literal.
-fn push_characters(text: &mut Vec<u8>, characters: &[u16]) -> Result<(), AllocError>
-    ensures { OnOk result (text.new.items ≡ text.old.items ++ flat_map character characters.now) }
-{
-    for c in characters {
-        push_character(text, *c)?;
-    }
-    Ok(())
-}
-
-// A character of a narrow string literal.
-fn push_character(text: &mut Vec<u8>, c: u16) -> Result<(), AllocError>
-    ensures { OnOk result (text.new.items ≡ text.old.items ++ character c) }
-{
-    if c == 34 || c == 92 {
-        text.extend_from_slice(&[92, c as u8])?;
-        return Ok(());
-    }
-    if 32 <= c && c <= 126 {
-        text.push(c as u8)?;
-        return Ok(());
-    }
-    text.extend_from_slice(&[92, octal(c / 64), octal(c / 8), octal(c)])?;
-    Ok(())
-}
-
-// The last octal digit of a number.
-fn octal(n: u16) -> u8
-    ensures { result ≡ octal n }
-{
-    48 + (n % 8) as u8
+    let characters = joined(*text.allocator(), pieces)?;
+    text.push(b' ')?;
+    push_value(text, &Value::Text(characters))
 }

@@ -141,8 +141,8 @@ pub fn literal_value(alloc: Global, literal: &Literal) -> Result<Value, AllocErr
     })
 }
 
-// String literals as one.
-fn joined(alloc: Global, pieces: &Several<Seq<u16>>) -> Result<Seq<u16>, AllocError>
+/// String literals as one.
+pub fn joined(alloc: Global, pieces: &Several<Seq<u16>>) -> Result<Seq<u16>, AllocError>
     ensures { IfOk result (λ text. text ≡ joined pieces.now) }
 {
     let mut text = Vec::from_slice(alloc, pieces.first.as_slice())?;

@@ -16,11 +16,11 @@ mod value;
 mod walk;
 mod whole;
 
-pub use constant::{evaluate, evaluate_bound, literal_value};
+pub use constant::{evaluate, evaluate_bound, joined, literal_value};
 pub use integer::IntegerKind;
 pub use laws::{ascending, counting, deciding, standing};
 pub use operator::Operator;
 pub use outcome::{Code, Fault, Outcome};
-pub use spelling::{push_name, push_value};
+pub use spelling::{push_name, push_part, push_value};
 pub use target::Target;
 pub use value::Value;

@@ -152,8 +152,8 @@ fn push_path(text: &mut Vec<u8>, path: &[Bytes]) -> Result<(), AllocError>
     Ok(())
 }
 
-// A name of a path, with `::` before it.
-fn push_part(text: &mut Vec<u8>, name: &[u8]) -> Result<(), AllocError>
+/// Puts a name of a path behind a text, with `::` before it.
+pub fn push_part(text: &mut Vec<u8>, name: &[u8]) -> Result<(), AllocError>
     ensures { OnOk result (text.new.items ≡ text.old.items ++ (codes "::" ++ escaped name.now)) }
 {
     text.extend_from_slice(b"::")?;
