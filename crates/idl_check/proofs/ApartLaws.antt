@@ -14,7 +14,8 @@ use Rattle.idl_scope.specs.declared.fault.NameFault.TheVariants.{At, Memory}
 use Rattle.idl_scope.specs.declared.found.Found.{Found}
 use Rattle.idl_scope.specs.declared.key.Key.{Key}
 use Rattle.idl_scope.specs.declared.kind.Kind.TheVariants.{Union}
-use Rattle.idl_site.specs.Item.{Item, Item as item}
+use Rattle.idl_site.specs.Item.{Item}
+use Rattle.idl_site.specs.Part.{Part as item}
 use Rattle.idl_site.specs.declared.site.Declaration.{Declaration}
 use Rattle.idl_site.specs.declared.site.Target.{Target as Purpose}
 use Rattle.idl_site.specs.declared.site.Target.TheVariants as purpose
@@ -98,10 +99,10 @@ module _ (turns : ℕ) (answers : Key → Option Answer) where
 
   pub visit-apart : (f : Option Fault) (site : Item) (w : Walk) → visited turns answers site (with_fault f w) ≡ with_fault_after f (visited turns answers site w)
   unfolding visit
-  visit-apart f (item.Tokens n) w = refl
-  visit-apart f (item.Declared way name) w = declared-apart f way name w (first w.cursor)
-  visit-apart f (item.Used way name) w = named-apart f way name w w.gives_back
-  visit-apart f (item.Joined text) w = refl
+  visit-apart f (item.Plain n) w = refl
+  visit-apart f (item.Declares way name) w = declared-apart f way name w (first w.cursor)
+  visit-apart f (item.Uses way name) w = named-apart f way name w w.gives_back
+  visit-apart f (item.Says text) w = refl
   visit-apart f item.ValueBegins w = refl
   visit-apart f (item.ValueEnds way e) w = value-apart f w way (outcome_at w way e)
   visit-apart f (item.ScopeBegins way name) w = refl

@@ -30,7 +30,8 @@ use Rattle.idl_scope.specs.declared.fault.NameFault.TheVariants.{At, Memory}
 use Rattle.idl_scope.specs.declared.found.Found.{Found}
 use Rattle.idl_scope.specs.declared.key.Key.{Key}
 use Rattle.idl_scope.specs.declared.kind.Kind.TheVariants.{Enumeration, Union}
-use Rattle.idl_site.specs.Item.{Item, Item as item}
+use Rattle.idl_site.specs.Item.{Item}
+use Rattle.idl_site.specs.Part.{Part as item}
 use Rattle.idl_site.specs.declared.site.Declaration.{Declaration}
 use Rattle.idl_site.specs.declared.site.Declaration.TheVariants as declaration
 use Rattle.idl_site.specs.declared.site.Shape.{Shape}
@@ -309,10 +310,10 @@ module _ (turns : ℕ) (answers : Key → Option Answer) where
   pub single-kept : (site : Item) (w : Walk) (a : Around) → is_single site ≡ true → w.gives_back ≡ false → (site ≡ item.ScopeEnds → is_inside a.scopes ≡ true)
       → (visited turns answers site w).faults ≡ [] → StandsIn w a → IsKept w (visited turns answers site w).after (around_after site a)
   unfolding visit
-  single-kept (item.Tokens n) w a single given inside none k = record { stands = k; told = refl; constant = refl }
-  single-kept (item.Declared way name) w a single given inside none k = declared-kept turns answers way name w a (first w.cursor) k
-  single-kept (item.Used way name) w a single given inside none k = named-kept turns answers way name w a w.gives_back given none k
-  single-kept (item.Joined text) w a single given inside none k = record { stands = k; told = refl; constant = refl }
+  single-kept (item.Plain n) w a single given inside none k = record { stands = k; told = refl; constant = refl }
+  single-kept (item.Declares way name) w a single given inside none k = declared-kept turns answers way name w a (first w.cursor) k
+  single-kept (item.Uses way name) w a single given inside none k = named-kept turns answers way name w a w.gives_back given none k
+  single-kept (item.Says text) w a single given inside none k = record { stands = k; told = refl; constant = refl }
   single-kept item.ValueBegins w a single given inside none k = cc
   single-kept (item.ValueEnds way e) w a single given inside none k = cc
   single-kept (item.ScopeBegins way name) w a single given inside none k = record {

@@ -6,9 +6,10 @@ use Rattle.std.proofs.lemmas.List.Elements.{All-append, All-cons, All-nil}
 use Rattle.idl_check.specs.Sections.{AreBracketed, IsFormed, Single, Returned, Whole, is_single, is_tokens, section_sites}
 use Rattle.idl_site.specs.ExpressionParts.{expression_parts, value_parts}
 use Rattle.idl_site.specs.Item.{Item, item_of, items}
-use Rattle.idl_site.specs.Part.{Part, Parts, GivesBack, ValueEnds}
+use Rattle.idl_site.specs.Part.{Part, Parts, GivesBack, ValueEnds, Part as item}
 use Rattle.idl_site.specs.declared.site.Target.{Target as Purpose}
 use Rattle.idl_site.specs.declared.site.Use.{Use}
+use Rattle.idl_tree.specs.Lexeme.{Lexemes}
 use Rattle.idl_tree.specs.declared.expression.Expression.{Expression}
 use Rattle.idl_tree.specs.declared.name.ScopedName.{ScopedName}
 
@@ -27,14 +28,14 @@ bracketed-follow p q a b =
           ∙ sym (flat_map-append section_sites s t);
     }
 
-pub bracketed-before : (x : Part) (p : Parts) → is_single (item_of x) ≡ true → AreBracketed (items p) → AreBracketed (items (x ∷ p))
+pub bracketed-before : (x : Part Lexemes) (p : Parts) → is_single (item_of x) ≡ true → AreBracketed (items p) → AreBracketed (items (x ∷ p))
 bracketed-before x p h b = record {
   sections = Single (item_of x) ∷ b.sections;
   formed = All-cons IsFormed (Single (item_of x)) b.sections h b.formed;
   are = ap (λ (xs : List Item). item_of x ∷ xs) b.are;
 }
 
-pub bracketed-back : (x : Part) (p : Parts) → is_tokens (item_of x) ≡ true → AreBracketed (items p) → AreBracketed (items (GivesBack ∷ x ∷ p))
+pub bracketed-back : (x : Part Lexemes) (p : Parts) → is_tokens (item_of x) ≡ true → AreBracketed (items p) → AreBracketed (items (GivesBack ∷ x ∷ p))
 bracketed-back x p h b = record {
   sections = Returned (item_of x) ∷ b.sections;
   formed = All-cons IsFormed (Returned (item_of x)) b.sections h b.formed;
@@ -51,21 +52,21 @@ bracketed-value way e = record {
 -- ---- sites of tokens
 
 -- a claim on each of the two sites that are such
-pub tokens-case : (P : Item → Type 0) → ((n : ℕ) → P (Item.Tokens n)) → ((way : Use) (name : ScopedName) → P (Item.Used way name)) → (x : Item) → is_tokens x ≡ true → P x
-tokens-case P tokens used (Item.Tokens n) h = tokens n
-tokens-case P tokens used (Item.Declared way name) h = cc
-tokens-case P tokens used (Item.Used way name) h = used way name
-tokens-case P tokens used (Item.Joined text) h = cc
-tokens-case P tokens used Item.ValueBegins h = cc
-tokens-case P tokens used (Item.ValueEnds way e) h = cc
-tokens-case P tokens used (Item.ScopeBegins way name) h = cc
-tokens-case P tokens used Item.ScopeEnds h = cc
-tokens-case P tokens used (Item.TypeEnds shape) h = cc
-tokens-case P tokens used Item.ArrayEnds h = cc
-tokens-case P tokens used (Item.Enumerates names) h = cc
-tokens-case P tokens used (Item.Switches discrete) h = cc
-tokens-case P tokens used Item.Default h = cc
-tokens-case P tokens used Item.GivesBack h = cc
+pub tokens-case : (P : Item → Type 0) → ((n : ℕ) → P (item.Plain n)) → ((way : Use) (name : ScopedName) → P (item.Uses way name)) → (x : Item) → is_tokens x ≡ true → P x
+tokens-case P tokens used (item.Plain n) h = tokens n
+tokens-case P tokens used (item.Declares way name) h = cc
+tokens-case P tokens used (item.Uses way name) h = used way name
+tokens-case P tokens used (item.Says text) h = cc
+tokens-case P tokens used item.ValueBegins h = cc
+tokens-case P tokens used (item.ValueEnds way e) h = cc
+tokens-case P tokens used (item.ScopeBegins way name) h = cc
+tokens-case P tokens used item.ScopeEnds h = cc
+tokens-case P tokens used (item.TypeEnds shape) h = cc
+tokens-case P tokens used item.ArrayEnds h = cc
+tokens-case P tokens used (item.Enumerates names) h = cc
+tokens-case P tokens used (item.Switches discrete) h = cc
+tokens-case P tokens used item.Default h = cc
+tokens-case P tokens used item.GivesBack h = cc
 
 pub tokens-single : (x : Item) → is_tokens x ≡ true → is_single x ≡ true
 tokens-single = tokens-case (λ x. is_single x ≡ true) (λ n. refl) (λ way name. refl)
@@ -73,7 +74,7 @@ tokens-single = tokens-case (λ x. is_single x ≡ true) (λ n. refl) (λ way na
 -- ---- the sites of an expression
 
 -- behind its beginning
-pub value-sites : (way : Purpose) (e : Expression) (sites : List Item) → items (value_parts way e) ++ sites ≡ Item.ValueBegins ∷ (items (expression_parts e) ++ Item.ValueEnds way e ∷ sites)
+pub value-sites : (way : Purpose) (e : Expression) (sites : List Item) → items (value_parts way e) ++ sites ≡ item.ValueBegins ∷ (items (expression_parts e) ++ item.ValueEnds way e ∷ sites)
 value-sites way e sites =
-    ap (λ (xs : List Item). Item.ValueBegins ∷ (xs ++ sites)) (map-append item_of (expression_parts e) (ValueEnds way e ∷ []))
-    ∙ ap (λ (xs : List Item). Item.ValueBegins ∷ xs) (append_assoc (items (expression_parts e)) (Item.ValueEnds way e ∷ []) sites)
+    ap (λ (xs : List Item). item.ValueBegins ∷ (xs ++ sites)) (map-append item_of (expression_parts e) (ValueEnds way e ∷ []))
+    ∙ ap (λ (xs : List Item). item.ValueBegins ∷ xs) (append_assoc (items (expression_parts e)) (item.ValueEnds way e ∷ []) sites)

@@ -6,7 +6,7 @@ use Rattle.idl_lex.specs.declared.mark.Mark.TheVariants as mark
 use Rattle.idl_site.proofs.ConstructionEquations.{case_parts-made, construction_parts-enumeration, construction_parts-structure, construction_parts-union, member_parts-made, member_type_parts-construction, member_type_parts-type, structure_parts-made, union_brace, union_parts-made}
 use Rattle.idl_site.specs.ConstructionParts.{case_parts, construction_parts, discriminator_parts, enumeration_parts, label_parts, member_parts, member_type_parts, structure_parts, union_parts}
 use Rattle.idl_site.specs.ExpressionParts.{value_parts}
-use Rattle.idl_site.specs.Part.{Parts, ArrayEnds, Declares, Default, Enumerates, Plain, ScopeBegins, ScopeEnds, TypeEnds, Uses, all_parts, declared, keyword_part, listed, punctuation}
+use Rattle.idl_site.specs.Part.{Part, Parts, ArrayEnds, Declares, Default, Enumerates, Plain, ScopeBegins, ScopeEnds, TypeEnds, Uses, all_parts, declared, keyword_part, listed, punctuation}
 use Rattle.idl_site.specs.TypeParts.{array_end, bound_parts, constant_type_parts, declarator_parts, length_parts, limit_parts, plain_parts, string_parts, type_parts, type_parts_as, data_type_step, sequence_step}
 use Rattle.idl_site.specs.declared.site.Declaration.{Declaration}
 use Rattle.idl_site.specs.declared.site.Declaration.TheVariants as declaration
@@ -16,7 +16,7 @@ use Rattle.idl_site.specs.declared.site.Target.TheVariants as purpose
 use Rattle.idl_site.specs.declared.site.Use.{Use}
 use Rattle.idl_site.specs.declared.site.Use.TheVariants.{AsConstantType, AsElement, AsType}
 use Rattle.idl_tree.specs.DataType.{spell_basic, spell_discrete, spell_string_word}
-use Rattle.idl_tree.specs.Lexeme.{Word, Punctuation}
+use Rattle.idl_tree.specs.Lexeme.{Lexemes, Word, Punctuation}
 use Rattle.idl_tree.specs.ReadConstruction.{made_case, made_member, made_structure, made_union}
 use Rattle.idl_tree.specs.ReadType.{made_sequence}
 use Rattle.idl_tree.specs.declared.construction.Case.{Case, roll-Case}
@@ -62,7 +62,7 @@ limit (Some e) = before (punctuation mark.Comma) (value_parts Bound e) refl (exp
 
 string : (s : StringType) → Gives (string_parts s)
 string s =
-    let last = TypeEnds (Text s.is_wide (is_some s.bound)) in
+    let last : Part Lexemes = TypeEnds (Text s.is_wide (is_some s.bound)) in
     gives (Plain (spell_string_word s.is_wide)) (bound_parts s.bound ++ last ∷ []) refl refl (ends (bound_parts s.bound) last refl (bound s.bound))
 
 plain_type : (p : PlainType) (way : Use) → is_level_use way ≡ true → Gives (plain_parts p way)

@@ -4,6 +4,7 @@ use Rattle.std.specs.Prelude.{not}
 use Rattle.idl_check.specs.Sections.{is_single}
 use Rattle.idl_check.proofs.Scenes.{AtTop, IsPlaced, Scene, is_operation_way, is_other, scene_after}
 use Rattle.idl_site.specs.Item.{Item}
+use Rattle.idl_site.specs.Part.{Part as item}
 use Rattle.idl_site.specs.declared.site.Declaration.{Declaration}
 use Rattle.idl_site.specs.declared.site.Declaration.TheVariants as declaration
 use Rattle.idl_site.specs.declared.site.Shape.{Shape}
@@ -55,11 +56,11 @@ used_around AsConstantType a = record a { is_typed = true }
 used_around other a = a
 
 abbrev pub around_after : Item → Around → Around
-around_after (Item.Used way name) a = used_around way a
-around_after (Item.ScopeBegins way name) a = record a { scopes = opens_union way ∷ a.scopes }
-around_after Item.ScopeEnds a = popped a.scopes a
-around_after (Item.TypeEnds shape) a = record a { is_typed = has_constants shape }
-around_after (Item.Switches discrete) a = record a { unions = a.unions + 1 }
+around_after (item.Uses way name) a = used_around way a
+around_after (item.ScopeBegins way name) a = record a { scopes = opens_union way ∷ a.scopes }
+around_after item.ScopeEnds a = popped a.scopes a
+around_after (item.TypeEnds shape) a = record a { is_typed = has_constants shape }
+around_after (item.Switches discrete) a = record a { unions = a.unions + 1 }
 around_after other a = a
 
 -- the type is known of an expression that is for this
@@ -70,8 +71,8 @@ IsKnown other a = Unit {0}
 
 -- it is so at the end of each expression, and the scope that ends has begun
 abbrev pub IsFit : Item → Around → Type 0
-IsFit (Item.ValueEnds way e) a = IsKnown way a
-IsFit Item.ScopeEnds a = is_inside a.scopes ≡ true
+IsFit (item.ValueEnds way e) a = IsKnown way a
+IsFit item.ScopeEnds a = is_inside a.scopes ≡ true
 IsFit other a = Unit {0}
 
 abbrev pub AreFit : List Item → Around → Type 0
@@ -106,14 +107,14 @@ abbrev pub is_declared_at : Bool → Declaration → Bool
 is_declared_at top way = is_other way && (top || not (is_operation_way way))
 
 abbrev pub is_level_at : Bool → Item → Bool
-is_level_at top (Item.Declared way name) = is_declared_at top way
-is_level_at top (Item.Used way name) = is_level_use way
-is_level_at top Item.ValueBegins = false
-is_level_at top (Item.ValueEnds way e) = false
-is_level_at top (Item.ScopeBegins way name) = false
-is_level_at top Item.ScopeEnds = false
-is_level_at top (Item.Switches discrete) = false
-is_level_at top Item.GivesBack = false
+is_level_at top (item.Declares way name) = is_declared_at top way
+is_level_at top (item.Uses way name) = is_level_use way
+is_level_at top item.ValueBegins = false
+is_level_at top (item.ValueEnds way e) = false
+is_level_at top (item.ScopeBegins way name) = false
+is_level_at top item.ScopeEnds = false
+is_level_at top (item.Switches discrete) = false
+is_level_at top item.GivesBack = false
 is_level_at top other = true
 
 -- the same unions and scopes
@@ -155,19 +156,19 @@ pub record IsLevel (top : Bool) (x : Item) : Type 0 where
   pub level : (s : Scene) → (scene_after x s).level ≡ s.level
 
 pub level-site : (top : Bool) (x : Item) → is_level_at top x ≡ true → IsLevel top x
-level-site top (Item.Tokens n) h = record { single = refl; fit = λ a. tt; same = same-here; placed = λ s at. tt; level = λ s. refl }
-level-site top (Item.Declared way name) h =
+level-site top (item.Plain n) h = record { single = refl; fit = λ a. tt; same = same-here; placed = λ s at. tt; level = λ s. refl }
+level-site top (item.Declares way name) h =
     let parts = at-declared top (is_other way) (is_operation_way way) h in
     record { single = refl; fit = λ a. tt; same = same-here; placed = λ s at. (parts.0, λ o. at (parts.1 o)); level = λ s. refl }
-level-site top (Item.Used way name) h = record { single = refl; fit = λ a. tt; same = λ a. same-used way a h; placed = λ s at. tt; level = λ s. refl }
-level-site top (Item.Joined text) h = record { single = refl; fit = λ a. tt; same = same-here; placed = λ s at. tt; level = λ s. refl }
-level-site top Item.ValueBegins h = cc
-level-site top (Item.ValueEnds way e) h = cc
-level-site top (Item.ScopeBegins way name) h = cc
-level-site top Item.ScopeEnds h = cc
-level-site top (Item.TypeEnds shape) h = record { single = refl; fit = λ a. tt; same = λ a. record { unions = refl; scopes = refl }; placed = λ s at. tt; level = λ s. refl }
-level-site top Item.ArrayEnds h = record { single = refl; fit = λ a. tt; same = same-here; placed = λ s at. tt; level = λ s. refl }
-level-site top (Item.Enumerates names) h = record { single = refl; fit = λ a. tt; same = same-here; placed = λ s at. tt; level = λ s. refl }
-level-site top (Item.Switches discrete) h = cc
-level-site top Item.Default h = record { single = refl; fit = λ a. tt; same = same-here; placed = λ s at. tt; level = λ s. refl }
-level-site top Item.GivesBack h = cc
+level-site top (item.Uses way name) h = record { single = refl; fit = λ a. tt; same = λ a. same-used way a h; placed = λ s at. tt; level = λ s. refl }
+level-site top (item.Says text) h = record { single = refl; fit = λ a. tt; same = same-here; placed = λ s at. tt; level = λ s. refl }
+level-site top item.ValueBegins h = cc
+level-site top (item.ValueEnds way e) h = cc
+level-site top (item.ScopeBegins way name) h = cc
+level-site top item.ScopeEnds h = cc
+level-site top (item.TypeEnds shape) h = record { single = refl; fit = λ a. tt; same = λ a. record { unions = refl; scopes = refl }; placed = λ s at. tt; level = λ s. refl }
+level-site top item.ArrayEnds h = record { single = refl; fit = λ a. tt; same = same-here; placed = λ s at. tt; level = λ s. refl }
+level-site top (item.Enumerates names) h = record { single = refl; fit = λ a. tt; same = same-here; placed = λ s at. tt; level = λ s. refl }
+level-site top (item.Switches discrete) h = cc
+level-site top item.Default h = record { single = refl; fit = λ a. tt; same = same-here; placed = λ s at. tt; level = λ s. refl }
+level-site top item.GivesBack h = cc

@@ -42,7 +42,7 @@ use Rattle.idl_scope.specs.declared.entity.Entity.{Entity}
 use Rattle.idl_scope.specs.declared.key.Key.TheVariants.{Cursor}
 use Rattle.idl_scope.specs.declared.kind.Kind.TheVariants as kind
 use Rattle.idl_scope.specs.declared.kind.Stage.TheVariants.{Ahead, Complete}
-use Rattle.idl_site.specs.Item.{Item as item}
+use Rattle.idl_site.specs.Part.{Part as item}
 use Rattle.idl_site.specs.declared.site.Declaration.{Declaration}
 use Rattle.idl_unit.specs.TokenRules.{first}
 
@@ -163,15 +163,15 @@ module _ (facts : List UnitFacts) (k : IsSettled (world facts)) (turns : ℕ) (e
         ap (λ ss. outcome (declared_by turns (answers facts) way name w (first ss)) (answers facts)) is
         ∙ outcome-and_then (under w.own (standing (turns_at turns w) s e)) (λ there. Done (declared_visit w way s e there)) (answers facts)
 
-    module _ (m : ℕ) (none : visit_faults turns (answers facts) (item.Tokens n ∷ item.Declared way name ∷ item.Tokens m ∷ []) (first_walk around) ≡ []) where
+    module _ (m : ℕ) (none : visit_faults turns (answers facts) (item.Plain n ∷ item.Declares way name ∷ item.Plain m ∷ []) (first_walk around) ≡ []) where
       abbrev end : Walk
-      end = walked turns (answers facts) (item.Tokens n ∷ item.Declared way name ∷ item.Tokens m ∷ []) (first_walk around)
+      end = walked turns (answers facts) (item.Plain n ∷ item.Declares way name ∷ item.Plain m ∷ []) (first_walk around)
 
       is-allowed : IsAllowed s st e
       unfolding visit
       is-allowed =
-          let v = visited turns (answers facts) (item.Declared way name) w in
-          allowed w.at s st e (ap (λ (u : Visit). u.faults) (sym here) ∙ (none-append v.faults (visit_faults turns (answers facts) (item.Tokens m ∷ []) v.after) none).0)
+          let v = visited turns (answers facts) (item.Declares way name) w in
+          allowed w.at s st e (ap (λ (u : Visit). u.faults) (sym here) ∙ (none-append v.faults (visit_faults turns (answers facts) (item.Plain m ∷ []) v.after) none).0)
 
       ends : additions_of facts k turns enough end ≡ all st.there st.ids
       unfolding visit

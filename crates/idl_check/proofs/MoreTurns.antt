@@ -34,7 +34,8 @@ use Rattle.idl_scope.specs.declared.fault.NameFault.{NameFault}
 use Rattle.idl_scope.specs.declared.found.Found.{Found}
 use Rattle.idl_scope.specs.declared.key.Key.{Key}
 use Rattle.idl_scope.specs.declared.key.Key.TheVariants.{Cursor, Declared, Introduced}
-use Rattle.idl_site.specs.Item.{Item, items, Item as item}
+use Rattle.idl_site.specs.Item.{Item, items}
+use Rattle.idl_site.specs.Part.{Part as item}
 use Rattle.idl_site.specs.UnitParts.{unit_parts}
 use Rattle.idl_site.specs.declared.site.Declaration.{Declaration}
 use Rattle.idl_site.specs.declared.site.Use.{Use}
@@ -159,7 +160,7 @@ module _ (facts : List UnitFacts) (turns : ℕ) (enough : turns_for facts ≤ tu
         by_global true = refl
         by_global false = by_parts name.rest log
 
-    declared_at : (way : Declaration) (name : List ℕ) → Same (visit (turns + extra) (item.Declared way name) w) (visit turns (item.Declared way name) w)
+    declared_at : (way : Declaration) (name : List ℕ) → Same (visit (turns + extra) (item.Declares way name) w) (visit turns (item.Declares way name) w)
     unfolding visit
     declared_at way name log = by_first (first w.cursor)
       where
@@ -178,7 +179,7 @@ module _ (facts : List UnitFacts) (turns : ℕ) (enough : turns_for facts ≤ tu
             (λ there. Done (declared_visit w way s e there)) (λ there. Done (declared_visit w way s e there))
             (standing_at s e) (λ there log. refl) log
 
-    used_name_at : (way : Use) (name : ScopedName) → Same (visit (turns + extra) (item.Used way name) w) (visit turns (item.Used way name) w)
+    used_name_at : (way : Use) (name : ScopedName) → Same (visit (turns + extra) (item.Uses way name) w) (visit turns (item.Uses way name) w)
     unfolding visit
     used_name_at way name log = by_given w.gives_back
       where
@@ -189,8 +190,8 @@ module _ (facts : List UnitFacts) (turns : ℕ) (enough : turns_for facts ≤ tu
 
     pub visit-same : (site : Item) → Same (visit (turns + extra) site w) (visit turns site w)
     unfolding visit
-    visit-same (item.Declared way name) = declared_at way name
-    visit-same (item.Used way name) = used_name_at way name
+    visit-same (item.Declares way name) = declared_at way name
+    visit-same (item.Uses way name) = used_name_at way name
     visit-same (item.ScopeBegins way name) = λ log. refl
     visit-same item.ScopeEnds = λ log. refl
     visit-same item.ValueBegins = λ log. refl
@@ -201,8 +202,8 @@ module _ (facts : List UnitFacts) (turns : ℕ) (enough : turns_for facts ≤ tu
     visit-same (item.Switches discrete) = λ log. refl
     visit-same item.Default = λ log. refl
     visit-same item.GivesBack = λ log. refl
-    visit-same (item.Tokens n) = λ log. refl
-    visit-same (item.Joined text) = λ log. refl
+    visit-same (item.Plain n) = λ log. refl
+    visit-same (item.Says text) = λ log. refl
 
   -- ---- a unit
 

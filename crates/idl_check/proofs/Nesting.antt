@@ -13,7 +13,7 @@ use Rattle.idl_lex.specs.declared.mark.Mark.TheVariants as mark
 use Rattle.idl_site.specs.ConstructionParts.{discriminator_parts}
 use Rattle.idl_site.specs.ExpressionParts.{expression_parts, value_parts}
 use Rattle.idl_site.specs.Item.{Item, item_of, items}
-use Rattle.idl_site.specs.Part.{Part, Parts, Declares, Plain, ScopeBegins, ScopeEnds, ValueEnds, all_parts, if_some, listed, punctuation, GivesBack, Switches, Uses}
+use Rattle.idl_site.specs.Part.{Part, Parts, Declares, Plain, ScopeBegins, ScopeEnds, ValueEnds, all_parts, if_some, listed, punctuation, GivesBack, Switches, Uses, Part as item}
 use Rattle.idl_site.proofs.ConstructionEquations.{union_brace}
 use Rattle.idl_site.specs.declared.site.Declaration.{Declaration}
 use Rattle.idl_site.specs.declared.site.Declaration.TheVariants as declaration
@@ -79,7 +79,7 @@ follow_in need p q m n =
 pub follow : {behind : Option (List ℕ)} {top : Bool} (p q : Parts) → NestsAt behind top 0 p → NestsAt None top 0 q → NestsAt behind top 0 (p ++ q)
 follow p q m n = follow_in 0 p q m n
 
-pub before_in : {top : Bool} (need : ℕ) (x : Part) (p : Parts) → is_level_at top (item_of x) ≡ true → NestsAt None top need p → NestsAt None top need (x ∷ p)
+pub before_in : {top : Bool} (need : ℕ) (x : Part Lexemes) (p : Parts) → is_level_at top (item_of x) ≡ true → NestsAt None top need p → NestsAt None top need (x ∷ p)
 before_in {top} need x p at n =
     let site = item_of x in
     let flat = level-site top site at in
@@ -93,7 +93,7 @@ before_in {top} need x p at n =
       level = λ s. n.level (scene_after site s) ∙ flat.level s;
     }
 
-pub before : {top : Bool} (x : Part) (p : Parts) → is_level_at top (item_of x) ≡ true → NestsAt None top 0 p → NestsAt None top 0 (x ∷ p)
+pub before : {top : Bool} (x : Part Lexemes) (p : Parts) → is_level_at top (item_of x) ≡ true → NestsAt None top 0 p → NestsAt None top 0 (x ∷ p)
 before x p h n = before_in 0 x p h n
 
 -- a name, before what stands behind it
@@ -103,7 +103,7 @@ declares {top} way name p at last n = record {
   bracketed = bracketed-before (Declares way name) p refl n.bracketed;
   fit = λ a h. (tt, n.fit a h);
   same = λ a. n.same a;
-  placed = λ s from t. ((level-site top (Item.Declared way name) at).placed s t, n.placed (record s { last = last_named way name }) last t);
+  placed = λ s from t. ((level-site top (item.Declares way name) at).placed s t, n.placed (record s { last = last_named way name }) last t);
   level = λ s. n.level (record s { last = last_named way name });
 }
 
@@ -117,10 +117,10 @@ carry words p n = record {
   level = λ s. n.level s;
 }
 
-pub one : {top : Bool} (x : Part) → is_level_at top (item_of x) ≡ true → NestsAt None top 0 (x ∷ [])
+pub one : {top : Bool} (x : Part Lexemes) → is_level_at top (item_of x) ≡ true → NestsAt None top 0 (x ∷ [])
 one x h = before x [] h none
 
-pub ends : {behind : Option (List ℕ)} {top : Bool} (p : Parts) (x : Part) → is_level_at top (item_of x) ≡ true → NestsAt behind top 0 p → NestsAt behind top 0 (p ++ x ∷ [])
+pub ends : {behind : Option (List ℕ)} {top : Bool} (p : Parts) (x : Part Lexemes) → is_level_at top (item_of x) ≡ true → NestsAt behind top 0 p → NestsAt behind top 0 (p ++ x ∷ [])
 ends p x h n = follow p (x ∷ []) n (one x h)
 
 pub each : {top : Bool} {X : Type 0} (f : X → Parts) → ((x : X) → NestsAt None top 0 (f x)) → (xs : List X) → NestsAt None top 0 (flat_map f xs)
@@ -155,7 +155,7 @@ pub record Gives (p : Parts) : Type 0 where
   pub back : Nests (GivesBack ∷ p)
 
 -- the first of them is a site of tokens
-pub gives : (x : Part) (p : Parts) → is_tokens (item_of x) ≡ true → is_level_at false (item_of x) ≡ true → Nests p → Gives (x ∷ p)
+pub gives : (x : Part Lexemes) (p : Parts) → is_tokens (item_of x) ≡ true → is_level_at false (item_of x) ≡ true → Nests p → Gives (x ∷ p)
 gives x p tokens at n =
     let m = before x p at n in
     record {
@@ -209,7 +209,7 @@ operands-placed (x ∷ xs) ys s all h =
 valued : (need : ℕ) (way : Purpose) (e : Expression) → ((a : Around) → need ≤ a.unions → IsKnown way a) → NestsIn need (value_parts way e)
 valued need way e known =
     let front = items (expression_parts e) in
-    let last : List Item = Item.ValueEnds way e ∷ [] in
+    let last : List Item = item.ValueEnds way e ∷ [] in
     let operands = expression-operands e in
     let sites = map-append item_of (expression_parts e) (ValueEnds way e ∷ []) in
     record {
@@ -230,12 +230,12 @@ label_value e = valued 1 purpose.Label e (λ a h. h)
 pub value-fits : (way : Purpose) (e : Expression) (q : Parts) (a : Around) → IsKnown way a → AreFit (items q) a → AreFit (items (value_parts way e ++ q)) a
 value-fits way e q a known h =
     subst (λ xs. AreFit xs a) (sym (map-append item_of (value_parts way e) q ∙ value-sites way e (items q)))
-    (tt, operands-fit (items (expression_parts e)) (Item.ValueEnds way e ∷ items q) a (expression-operands e) (known, h))
+    (tt, operands-fit (items (expression_parts e)) (item.ValueEnds way e ∷ items q) a (expression-operands e) (known, h))
 
 pub value-placed : (way : Purpose) (e : Expression) (q : Parts) (s : Scene) → ArePlaced (items q) s → ArePlaced (items (value_parts way e ++ q)) s
 value-placed way e q s h =
     subst (λ xs. ArePlaced xs s) (sym (map-append item_of (value_parts way e) q ∙ value-sites way e (items q)))
-    (tt, operands-placed (items (expression_parts e)) (Item.ValueEnds way e ∷ items q) s (expression-operands e) (tt, h))
+    (tt, operands-placed (items (expression_parts e)) (item.ValueEnds way e ∷ items q) s (expression-operands e) (tt, h))
 
 -- ---- scopes
 

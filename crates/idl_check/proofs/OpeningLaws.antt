@@ -44,7 +44,8 @@ use Rattle.idl_scope.specs.declared.found.Found.{Found}
 use Rattle.idl_scope.specs.declared.key.Key.TheVariants.{Cursor}
 use Rattle.idl_scope.specs.declared.kind.Kind.TheVariants.{Interface}
 use Rattle.idl_scope.specs.declared.kind.Stage.TheVariants.{Open}
-use Rattle.idl_site.specs.Item.{Item, Item as item}
+use Rattle.idl_site.specs.Item.{Item}
+use Rattle.idl_site.specs.Part.{Part as item}
 use Rattle.idl_site.specs.declared.site.Declaration.TheVariants as declaration
 use Rattle.idl_site.specs.declared.site.Use.{Use}
 use Rattle.idl_tree.specs.declared.name.ScopedName.{ScopedName}
@@ -55,16 +56,16 @@ use Rattle.idl_unit.specs.TokenRules.{first}
 -- tokens and used names
 abbrev pub AreRest : List Item → Type 0
 AreRest [] = Unit {0}
-AreRest (item.Tokens n ∷ sites) = AreRest sites
-AreRest (item.Used way name ∷ sites) = AreRest sites
+AreRest (item.Plain n ∷ sites) = AreRest sites
+AreRest (item.Uses way name ∷ sites) = AreRest sites
 AreRest (other ∷ sites) = ⊥
 
 rest-sited : (sites : List Item) (s : Scene) → AreRest sites → AreSited sites s
 rest-sited [] s h = tt
-rest-sited (item.Tokens n ∷ sites) s h = (tt, rest-sited sites s h)
-rest-sited (item.Used way name ∷ sites) s h = (tt, rest-sited sites s h)
-rest-sited (item.Declared way name ∷ sites) s h = absurd h
-rest-sited (item.Joined text ∷ sites) s h = absurd h
+rest-sited (item.Plain n ∷ sites) s h = (tt, rest-sited sites s h)
+rest-sited (item.Uses way name ∷ sites) s h = (tt, rest-sited sites s h)
+rest-sited (item.Declares way name ∷ sites) s h = absurd h
+rest-sited (item.Says text ∷ sites) s h = absurd h
 rest-sited (item.ValueBegins ∷ sites) s h = absurd h
 rest-sited (item.ValueEnds way e ∷ sites) s h = absurd h
 rest-sited (item.ScopeBegins way name ∷ sites) s h = absurd h
@@ -123,16 +124,16 @@ module _ (facts : List UnitFacts) (k : IsSettled (world facts)) (turns : ℕ) (e
   sites-rest : (sites : List Item) (w : Walk) → AreRest sites → visit_faults turns (answers facts) sites w ≡ [] → IsRest w (walked turns (answers facts) sites w)
   unfolding visit
   sites-rest [] w h none = record { begun = refl; last = refl; found = λ x f. f }
-  sites-rest (item.Tokens n ∷ sites) w h none =
-      let v = visited turns (answers facts) (item.Tokens n) w in
+  sites-rest (item.Plain n ∷ sites) w h none =
+      let v = visited turns (answers facts) (item.Plain n) w in
       let parts = none-append v.faults (visit_faults turns (answers facts) sites v.after) none in
       rest-on w (passed n w) (walked turns (answers facts) sites (passed n w)) (record { begun = refl; last = refl; found = λ x f. f }) (sites-rest sites (passed n w) h parts.1)
-  sites-rest (item.Used way name ∷ sites) w h none =
-      let v = visited turns (answers facts) (item.Used way name) w in
+  sites-rest (item.Uses way name ∷ sites) w h none =
+      let v = visited turns (answers facts) (item.Uses way name) w in
       let parts = none-append v.faults (visit_faults turns (answers facts) sites v.after) none in
       rest-on w v.after (walked turns (answers facts) sites v.after) (named-rest way name w w.gives_back parts.0) (sites-rest sites v.after h parts.1)
-  sites-rest (item.Declared way name ∷ sites) w h none = absurd h
-  sites-rest (item.Joined text ∷ sites) w h none = absurd h
+  sites-rest (item.Declares way name ∷ sites) w h none = absurd h
+  sites-rest (item.Says text ∷ sites) w h none = absurd h
   sites-rest (item.ValueBegins ∷ sites) w h none = absurd h
   sites-rest (item.ValueEnds way e ∷ sites) w h none = absurd h
   sites-rest (item.ScopeBegins way name ∷ sites) w h none = absurd h
@@ -189,9 +190,9 @@ module _ (facts : List UnitFacts) (k : IsSettled (world facts)) (turns : ℕ) (e
       subst (λ (v : Visit). HasBegun v.after e) (sym here) (record { begun = refl; last = refl; found = one-found (outcome query (answers facts)) e })
 
   module _ (n : ℕ) (is_local : Bool) (name : List ℕ) (rest : List Item) (plain : AreRest rest) (named : is_nameless name ≡ false) (s : Scope) (outer : List Scope) (is : around ≡ s ∷ outer)
-      (none : visit_faults turns (answers facts) (item.Tokens n ∷ item.Declared (declaration.Interface is_local) name ∷ rest) (first_walk around) ≡ []) where
+      (none : visit_faults turns (answers facts) (item.Plain n ∷ item.Declares (declaration.Interface is_local) name ∷ rest) (first_walk around) ≡ []) where
     abbrev sites : List Item
-    sites = item.Tokens n ∷ item.Declared (declaration.Interface is_local) name ∷ rest
+    sites = item.Plain n ∷ item.Declares (declaration.Interface is_local) name ∷ rest
 
     abbrev w : Walk
     w = walked turns (answers facts) sites (first_walk around)
@@ -205,7 +206,7 @@ module _ (facts : List UnitFacts) (k : IsSettled (world facts)) (turns : ℕ) (e
     behind : HasBegun w e
     unfolding visit
     behind =
-        let u = visited turns (answers facts) (item.Declared (declaration.Interface is_local) name) (passed n (first_walk around)) in
+        let u = visited turns (answers facts) (item.Declares (declaration.Interface is_local) name) (passed n (first_walk around)) in
         let b = has-begun n is_local name s outer is in
         let r = sites-rest rest u.after plain (none-append u.faults (visit_faults turns (answers facts) rest u.after) none).1 in
         record { begun = r.begun ∙ b.begun; last = r.last ∙ b.last; found = λ x h. b.found x (r.found x h) }

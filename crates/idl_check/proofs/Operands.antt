@@ -11,7 +11,7 @@ use Rattle.idl_lex.specs.declared.mark.Mark.TheVariants as mark
 use Rattle.idl_site.proofs.ExpressionEquations.{and_parts-made, exclusive_or_parts-made, expression_parts-made, primary_parts-literal, primary_parts-name, primary_parts-parentheses, product_parts-made, shift_parts-made, sum_parts-made, unary_parts-made}
 use Rattle.idl_site.specs.ExpressionParts.{and_parts, exclusive_or_parts, expression_parts, operator_parts, primary_parts, product_parts, shift_parts, sum_parts, unary_parts}
 use Rattle.idl_site.specs.Item.{Item, item_of, items}
-use Rattle.idl_site.specs.Part.{Part, Parts, Plain, Uses, punctuation}
+use Rattle.idl_site.specs.Part.{Part, Parts, Plain, Uses, punctuation, Part as item}
 use Rattle.idl_site.specs.declared.site.Use.{Use}
 use Rattle.idl_site.specs.declared.site.Use.TheVariants.{AsBase, AsType, AsElement, AsConstantType, AsDiscriminator, AsOperand, Raised, RaisedBySet}
 use Rattle.idl_tree.specs.Expression.{product_mark, shift_mark, spell_literal, spell_unary_operator, sum_mark}
@@ -47,33 +47,33 @@ is_operand_use other = false
 
 -- a site of tokens, or an operand
 abbrev pub is_operand : Item → Bool
-is_operand (Item.Tokens n) = true
-is_operand (Item.Used way name) = is_operand_use way
+is_operand (item.Plain n) = true
+is_operand (item.Uses way name) = is_operand_use way
 is_operand other = false
 
 -- a claim on each of the two
-pub operand-case : (P : Item → Type 0) → ((n : ℕ) → P (Item.Tokens n)) → ((name : ScopedName) → P (Item.Used AsOperand name)) → (x : Item) → is_operand x ≡ true → P x
-operand-case P tokens used (Item.Tokens n) h = tokens n
-operand-case P tokens used (Item.Used AsOperand name) h = used name
-operand-case P tokens used (Item.Used (AsBase is_local) name) h = cc
-operand-case P tokens used (Item.Used AsType name) h = cc
-operand-case P tokens used (Item.Used AsElement name) h = cc
-operand-case P tokens used (Item.Used AsConstantType name) h = cc
-operand-case P tokens used (Item.Used AsDiscriminator name) h = cc
-operand-case P tokens used (Item.Used Raised name) h = cc
-operand-case P tokens used (Item.Used RaisedBySet name) h = cc
-operand-case P tokens used (Item.Declared way name) h = cc
-operand-case P tokens used (Item.Joined text) h = cc
-operand-case P tokens used Item.ValueBegins h = cc
-operand-case P tokens used (Item.ValueEnds way e) h = cc
-operand-case P tokens used (Item.ScopeBegins way name) h = cc
-operand-case P tokens used Item.ScopeEnds h = cc
-operand-case P tokens used (Item.TypeEnds shape) h = cc
-operand-case P tokens used Item.ArrayEnds h = cc
-operand-case P tokens used (Item.Enumerates names) h = cc
-operand-case P tokens used (Item.Switches discrete) h = cc
-operand-case P tokens used Item.Default h = cc
-operand-case P tokens used Item.GivesBack h = cc
+pub operand-case : (P : Item → Type 0) → ((n : ℕ) → P (item.Plain n)) → ((name : ScopedName) → P (item.Uses AsOperand name)) → (x : Item) → is_operand x ≡ true → P x
+operand-case P tokens used (item.Plain n) h = tokens n
+operand-case P tokens used (item.Uses AsOperand name) h = used name
+operand-case P tokens used (item.Uses (AsBase is_local) name) h = cc
+operand-case P tokens used (item.Uses AsType name) h = cc
+operand-case P tokens used (item.Uses AsElement name) h = cc
+operand-case P tokens used (item.Uses AsConstantType name) h = cc
+operand-case P tokens used (item.Uses AsDiscriminator name) h = cc
+operand-case P tokens used (item.Uses Raised name) h = cc
+operand-case P tokens used (item.Uses RaisedBySet name) h = cc
+operand-case P tokens used (item.Declares way name) h = cc
+operand-case P tokens used (item.Says text) h = cc
+operand-case P tokens used item.ValueBegins h = cc
+operand-case P tokens used (item.ValueEnds way e) h = cc
+operand-case P tokens used (item.ScopeBegins way name) h = cc
+operand-case P tokens used item.ScopeEnds h = cc
+operand-case P tokens used (item.TypeEnds shape) h = cc
+operand-case P tokens used item.ArrayEnds h = cc
+operand-case P tokens used (item.Enumerates names) h = cc
+operand-case P tokens used (item.Switches discrete) h = cc
+operand-case P tokens used item.Default h = cc
+operand-case P tokens used item.GivesBack h = cc
 
 -- how many names sites use
 abbrev pub names_in : List Item → ℕ
@@ -84,7 +84,7 @@ names_in-append xs ys = ap length (flat_map-append used_name xs ys) ∙ length-a
 
 -- ---- parts with so many names, each an operand
 
-abbrev IsOperand : Part → Type 0
+abbrev IsOperand : Part Lexemes → Type 0
 IsOperand x = is_operand (item_of x) ≡ true
 
 record Holds (p : Parts) (n : ℕ) : Type 0 where

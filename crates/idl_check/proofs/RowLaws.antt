@@ -27,9 +27,9 @@ use Rattle.idl_scope.specs.declared.fault.NameFault.TheVariants.{At, Memory}
 use Rattle.idl_scope.specs.declared.found.Found.{Found}
 use Rattle.idl_scope.specs.declared.key.Key.{Key}
 use Rattle.idl_scope.specs.declared.kind.Kind.TheVariants.{Union as UnionKind}
-use Rattle.idl_site.specs.Item.{Item, items, Item as item}
+use Rattle.idl_site.specs.Item.{Item, items}
 use Rattle.idl_site.specs.ConstructionParts.{case_step, construction_parts, construction_step, member_step, member_type_step, structure_step, union_step}
-use Rattle.idl_site.specs.Part.{Part, Parts, if_some, listed, punctuation, spell_parts}
+use Rattle.idl_site.specs.Part.{Part, Parts, if_some, listed, punctuation, spell_parts, Part as item}
 use Rattle.idl_site.specs.TypeParts.{bound_parts, data_type_step, plain_parts, sequence_step, type_parts, type_parts_as}
 use Rattle.idl_site.specs.UnitParts.{bases_parts, context_parts, oneway_parts, operation_parts, parameter_parts, raises_parts, result_parts, unit_parts}
 use Rattle.idl_site.proofs.UnitSpelling.{unit_spells}
@@ -165,7 +165,7 @@ module _ (turns : ℕ) (answers : Key → Option Answer) where
       ∙ ap (λ (v : Visit). v.after.found) (outcome-and_then (under w.own (looked_through (turns_at turns w) way found.entity)) (λ behind. Done (used_visit w way name found behind)) answers)
 
   pub used-path : (way : Use) (name : ScopedName) (w : Walk) (found : Found) → w.gives_back ≡ false → outcome (under w.own (denoted (turns_at turns w) w.cursor name)) answers ≡ Ok found
-      → (visited turns answers (item.Used way name) w).after.found ≡ w.found ++ found.entity.path ∷ []
+      → (visited turns answers (item.Uses way name) w).after.found ≡ w.found ++ found.entity.path ∷ []
   unfolding visit
   used-path way name w found given is =
       ap (λ b. (outcome (named_by turns answers way name w b) answers).after.found) given
@@ -174,10 +174,10 @@ module _ (turns : ℕ) (answers : Key → Option Answer) where
   visit-found : (site : Item) (w : Walk) → (visited turns answers site w).faults ≡ []
       → length (visited turns answers site w).after.found ≡ length w.found + length (used_name site)
   unfolding visit
-  visit-found (item.Tokens n) w h = none-more (length w.found)
-  visit-found (item.Declared way name) w h = ap length (declared-found way name w (first_of w.cursor)) ∙ none-more (length w.found)
-  visit-found (item.Used way name) w h = named-found way name w w.gives_back h
-  visit-found (item.Joined text) w h = none-more (length w.found)
+  visit-found (item.Plain n) w h = none-more (length w.found)
+  visit-found (item.Declares way name) w h = ap length (declared-found way name w (first_of w.cursor)) ∙ none-more (length w.found)
+  visit-found (item.Uses way name) w h = named-found way name w w.gives_back h
+  visit-found (item.Says text) w h = none-more (length w.found)
   visit-found item.ValueBegins w h = none-more (length w.found)
   visit-found (item.ValueEnds way e) w h = ap length (valued-found w way (outcome_at w way e)) ∙ none-more (length w.found)
   visit-found (item.ScopeBegins way name) w h = none-more (length w.found)

@@ -4,6 +4,7 @@ use Rattle.idl_check.specs.Declaring.{kind_of}
 use Rattle.idl_scope.specs.Kind.{kind_eq}
 use Rattle.idl_scope.specs.declared.kind.Kind.TheVariants as kind
 use Rattle.idl_site.specs.Item.{Item}
+use Rattle.idl_site.specs.Part.{Part as item}
 use Rattle.idl_site.specs.declared.site.Declaration.{Declaration}
 use Rattle.idl_site.specs.declared.site.Declaration.TheVariants as declaration
 
@@ -17,9 +18,9 @@ abbrev pub last_named : Declaration → List ℕ → Option (List ℕ)
 last_named way name = cond (kind_eq (kind_of way) kind.Interface) None (Some name)
 
 abbrev pub scene_after : Item → Scene → Scene
-scene_after (Item.Declared way name) s = record s { last = last_named way name }
-scene_after (Item.ScopeBegins way name) s = record { level = suc s.level; last = None }
-scene_after Item.ScopeEnds s = record { level = s.level - 1; last = None }
+scene_after (item.Declares way name) s = record s { last = last_named way name }
+scene_after (item.ScopeBegins way name) s = record { level = suc s.level; last = None }
+scene_after item.ScopeEnds s = record { level = s.level - 1; last = None }
 scene_after other s = s
 
 -- what is no module, and isn't declared ahead
@@ -39,9 +40,9 @@ is_operation_way way = false
 
 -- no name of a module or ahead, none of an operation within a scope; a scope begins behind its own name
 abbrev pub IsPlaced : Item → Scene → Type 0
-IsPlaced (Item.Declared way name) s = (is_other way ≡ true) × (is_operation_way way ≡ true → s.level ≡ 0)
-IsPlaced (Item.ScopeBegins way name) s = s.last ≡ Some name
-IsPlaced Item.ScopeEnds s = 1 ≤ s.level
+IsPlaced (item.Declares way name) s = (is_other way ≡ true) × (is_operation_way way ≡ true → s.level ≡ 0)
+IsPlaced (item.ScopeBegins way name) s = s.last ≡ Some name
+IsPlaced item.ScopeEnds s = 1 ≤ s.level
 IsPlaced other s = Unit {0}
 
 abbrev pub ArePlaced : List Item → Scene → Type 0

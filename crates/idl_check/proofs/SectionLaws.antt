@@ -11,7 +11,8 @@ use Rattle.idl_memo.specs.Query.{outcome}
 use Rattle.idl_scope.specs.declared.answer.Answer.{Answer}
 use Rattle.idl_scope.specs.declared.key.Key.{Key}
 use Rattle.idl_site.specs.ExpressionParts.{expression_parts, value_parts}
-use Rattle.idl_site.specs.Item.{Item, items, items_length, Item as item}
+use Rattle.idl_site.specs.Item.{Item, items, items_length}
+use Rattle.idl_site.specs.Part.{Part as item}
 use Rattle.idl_site.specs.declared.site.Target.{Target as Purpose}
 use Rattle.idl_site.specs.declared.site.Target.TheVariants as purpose
 use Rattle.idl_site.specs.declared.site.Use.{Use}
@@ -96,7 +97,7 @@ module _ (turns : ℕ) (answers : Key → Option Answer) where
     abbrev full : Bool → Visit
     full b = cond b (with_oneway w.at named) named
 
-    past : (v : Visit) → IsPlaced (item.Used way name) w v → w.at < v.after.at
+    past : (v : Visit) → IsPlaced (item.Uses way name) w v → w.at < v.after.at
     past v p = omega (arith, p.passes, behind_name w.at name)
 
     short-begin : (short true).after.values.begin ≡ w.values.begin
@@ -129,7 +130,7 @@ module _ (turns : ℕ) (answers : Key → Option Answer) where
       → ((u : Walk) → u.gives_back ≡ false → u.values.begin ≡ None → IsTold sites u) → IsTold (site ∷ sites) w
   unfolding visit
   returned-told site tokens sites w given none more =
-      tokens-case (λ x. IsTold (x ∷ sites) w) (λ n. one-told (item.Tokens n) sites w refl (more (passed n w) refl none))
+      tokens-case (λ x. IsTold (x ∷ sites) w) (λ n. one-told (item.Plain n) sites w refl (more (passed n w) refl none))
       (λ way name. given-told way name w sites none w.gives_back given) site tokens
 
   gives-told : (sites : List Item) (w : Walk) → IsTold sites (record w { gives_back = true }) → IsTold (item.GivesBack ∷ sites) w

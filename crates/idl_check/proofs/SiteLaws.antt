@@ -32,7 +32,8 @@ use Rattle.idl_scope.specs.declared.fault.NameFault.TheVariants.{At, Memory}
 use Rattle.idl_scope.specs.declared.found.Found.{Found}
 use Rattle.idl_scope.specs.declared.key.Key.{Key}
 use Rattle.idl_scope.specs.declared.kind.Kind.TheVariants.{Union}
-use Rattle.idl_site.specs.Item.{Item, item_length, items_length, Item as item}
+use Rattle.idl_site.specs.Item.{Item, item_length, items_length}
+use Rattle.idl_site.specs.Part.{Part as item}
 use Rattle.idl_site.specs.declared.site.Declaration.{Declaration}
 use Rattle.idl_site.specs.declared.site.Target.{Target as Purpose}
 use Rattle.idl_site.specs.declared.site.Target.TheVariants as purpose
@@ -99,10 +100,10 @@ pub record IsPlaced (site : Item) (w : Walk) (v : Visit) : Type 0 where
 
 -- a site speaks of nothing before the expression around it
 pub spoken-begin : (site : Item) (w : Walk) → begin_of w ≤ spoken_from site w
-spoken-begin (item.Tokens n) w = begin-at w
-spoken-begin (item.Declared way name) w = begin-at w
-spoken-begin (item.Used way name) w = begin-at w
-spoken-begin (item.Joined text) w = begin-at w
+spoken-begin (item.Plain n) w = begin-at w
+spoken-begin (item.Declares way name) w = begin-at w
+spoken-begin (item.Uses way name) w = begin-at w
+spoken-begin (item.Says text) w = begin-at w
 spoken-begin item.ValueBegins w = begin-at w
 spoken-begin (item.ValueEnds way expression) w = omega arith
 spoken-begin (item.ScopeBegins way name) w = begin-at w
@@ -154,25 +155,25 @@ begin-values AsOperand v values = refl
 begin-values Raised v values = refl
 begin-values RaisedBySet v values = refl
 
-used-placed : (w : Walk) (way : Use) (name : ScopedName) (found : Found) (behind : Entity) → IsPlaced (item.Used way name) w (used_visit w way name found behind)
+used-placed : (w : Walk) (way : Use) (name : ScopedName) (found : Found) (behind : Entity) → IsPlaced (item.Uses way name) w (used_visit w way name found behind)
 used-placed w way name found behind =
-    let past : last_at w.at name + 1 ≡ w.at + item_length (item.Used way name) = behind_name w.at name in
+    let past : last_at w.at name + 1 ≡ w.at + item_length (item.Uses way name) = behind_name w.at name in
     record {
       passes = past;
       begins = begin-kept w (used_after w way name found behind) (begin-values way found.entity.value w.values) (omega arith);
       within =
-          table-within w.at (spoken_till (item.Used way name) w) (last_at w.at name) (used_table way w.bases found.entity behind) (used-up way w.bases found.entity behind) (omega arith)
-          (till-own (item.Used way name) w (last_at w.at name) (omega (arith, past)));
+          table-within w.at (spoken_till (item.Uses way name) w) (last_at w.at name) (used_table way w.bases found.entity behind) (used-up way w.bases found.entity behind) (omega arith)
+          (till-own (item.Uses way name) w (last_at w.at name) (omega (arith, past)));
       keeps = refl;
     }
 
-unfound-placed : (w : Walk) (way : Use) (name : ScopedName) (fault : NameFault) → IsUpTo {A = Found} (length name.rest) (Err fault) → IsPlaced (item.Used way name) w (unfound_visit w way name fault)
+unfound-placed : (w : Walk) (way : Use) (name : ScopedName) (fault : NameFault) → IsUpTo {A = Found} (length name.rest) (Err fault) → IsPlaced (item.Uses way name) w (unfound_visit w way name fault)
 unfound-placed w way name (At why part) up =
-    let past : last_at w.at name + 1 ≡ w.at + item_length (item.Used way name) = behind_name w.at name in
+    let past : last_at w.at name + 1 ≡ w.at + item_length (item.Uses way name) = behind_name w.at name in
     record {
       passes = past;
       begins = begin-kept w (unfound_visit w way name (At why part)).after (begin-values way None w.values) (omega arith);
-      within = one-within w.at (spoken_till (item.Used way name) w) (part_at w.at name part) (name_code why) (name-number why) (omega arith) (till-own (item.Used way name) w (part_at w.at name part) (omega (arith, up, past)));
+      within = one-within w.at (spoken_till (item.Uses way name) w) (part_at w.at name part) (name_code why) (name-number why) (omega arith) (till-own (item.Uses way name) w (part_at w.at name part) (omega (arith, up, past)));
       keeps = refl;
     }
 unfound-placed w way name Memory up = absurd up
@@ -188,22 +189,22 @@ oneway-placed site w v from p = record {
   keeps = p.keeps;
 }
 
-past-placed : (w : Walk) (way : Use) (name : ScopedName) (faults : List Fault) → All (Within w.at (spoken_till (item.Used way name) w)) faults
-    → IsPlaced (item.Used way name) w (record { faults = faults; after = past_name name w })
+past-placed : (w : Walk) (way : Use) (name : ScopedName) (faults : List Fault) → All (Within w.at (spoken_till (item.Uses way name) w)) faults
+    → IsPlaced (item.Uses way name) w (record { faults = faults; after = past_name name w })
 past-placed w way name faults within =
-    let past : last_at w.at name + 1 ≡ w.at + item_length (item.Used way name) = behind_name w.at name in
+    let past : last_at w.at name + 1 ≡ w.at + item_length (item.Uses way name) = behind_name w.at name in
     record { passes = past; begins = begin-kept w (past_name name w) refl (omega arith); within = within; keeps = refl }
 
 all-no : (b : Bool) (P : Fault → Type 0) (f : Fault) → P f → All P (cond b [] (f ∷ []))
 all-no true P f here = All-nil P
 all-no false P f here = All-cons P f [] here (All-nil P)
 
-head-placed : (w : Walk) (way : Use) (name : ScopedName) (r : Result Found NameFault) → IsUpTo 0 r → IsPlaced (item.Used way name) w (head_visit name w r)
+head-placed : (w : Walk) (way : Use) (name : ScopedName) (r : Result Found NameFault) → IsUpTo 0 r → IsPlaced (item.Uses way name) w (head_visit name w r)
 head-placed w way name (Ok found) up =
     past-placed w way name (head_faults w.at (Ok found))
-    (all-no (is_scope found.entity.kind) (Within w.at (spoken_till (item.Used way name) w)) (fault_at w.at NoScope) (omega arith, till-next (item.Used way name) w, omega arith))
+    (all-no (is_scope found.entity.kind) (Within w.at (spoken_till (item.Uses way name) w)) (fault_at w.at NoScope) (omega arith, till-next (item.Uses way name) w, omega arith))
 head-placed w way name (Err (At why part)) up =
-    past-placed w way name (head_faults w.at (Err (At why part))) (one-within w.at (spoken_till (item.Used way name) w) w.at (name_code why) (name-number why) (omega arith) (till-next (item.Used way name) w))
+    past-placed w way name (head_faults w.at (Err (At why part))) (one-within w.at (spoken_till (item.Uses way name) w) w.at (name_code why) (name-number why) (omega arith) (till-next (item.Uses way name) w))
 head-placed w way name (Err Memory) up = absurd up
 
 -- ---- other sites
@@ -222,13 +223,13 @@ faulty-placed site w u b c number from passes same keeps = record {
   keeps = keeps;
 }
 
-declared-placed : (way : Declaration) (name : List ℕ) (w : Walk) (s : Scope) (e : Entity) (there : Standing) → IsPlaced (item.Declared way name) w (declared_visit w way s e there)
+declared-placed : (way : Declaration) (name : List ℕ) (w : Walk) (s : Scope) (e : Entity) (there : Standing) → IsPlaced (item.Declares way name) w (declared_visit w way s e there)
 declared-placed way name w s e there =
     let u = (declared_visit w way s e there).after in
     record {
       passes = refl;
       begins = begin-kept w u refl (omega arith);
-      within = table-within w.at (spoken_till (item.Declared way name) w) w.at (declared_table s there e) (declared-up s there e) (omega arith) (till-next (item.Declared way name) w);
+      within = table-within w.at (spoken_till (item.Declares way name) w) w.at (declared_table s there e) (declared-up s there e) (omega arith) (till-next (item.Declares way name) w);
       keeps = refl;
     }
 
@@ -346,48 +347,48 @@ module _ (turns : ℕ) (answers : Key → Option Answer) where
 
   -- ---- the faults of a site are placed
 
-  declared-by-placed : (way : Declaration) (name : List ℕ) (w : Walk) (o : Option Scope) → IsPlaced (item.Declared way name) w (outcome (declared_by way name w o) answers)
-  declared-by-placed way name w None = quiet-placed (item.Declared way name) w (passed 1 w) refl refl refl
+  declared-by-placed : (way : Declaration) (name : List ℕ) (w : Walk) (o : Option Scope) → IsPlaced (item.Declares way name) w (outcome (declared_by way name w o) answers)
+  declared-by-placed way name w None = quiet-placed (item.Declares way name) w (passed 1 w) refl refl refl
   declared-by-placed way name w (Some s) =
       let e = entity_of w.written way name s.path in
       let query = under w.own (standing (turns_at turns w) s e) in
-      subst (IsPlaced (item.Declared way name) w) (sym (outcome-and_then query (λ there. Done (declared_visit w way s e there)) answers)) (declared-placed way name w s e (outcome query answers))
+      subst (IsPlaced (item.Declares way name) w) (sym (outcome-and_then query (λ there. Done (declared_visit w way s e there)) answers)) (declared-placed way name w s e (outcome query answers))
 
-  used-by-placed : (way : Use) (name : ScopedName) (w : Walk) (r : Result Found NameFault) → IsUpTo (length name.rest) r → IsPlaced (item.Used way name) w (outcome (used_by way name w r) answers)
+  used-by-placed : (way : Use) (name : ScopedName) (w : Walk) (r : Result Found NameFault) → IsUpTo (length name.rest) r → IsPlaced (item.Uses way name) w (outcome (used_by way name w r) answers)
   used-by-placed way name w (Ok found) up =
       let query = under w.own (looked_through (turns_at turns w) way found.entity) in
-      subst (IsPlaced (item.Used way name) w) (sym (outcome-and_then query (λ behind. Done (used_visit w way name found behind)) answers)) (used-placed w way name found (outcome query answers))
+      subst (IsPlaced (item.Uses way name) w) (sym (outcome-and_then query (λ behind. Done (used_visit w way name found behind)) answers)) (used-placed w way name found (outcome query answers))
   used-by-placed way name w (Err fault) up = unfound-placed w way name fault up
 
-  pub plain-placed : (way : Use) (name : ScopedName) (w : Walk) → IsPlaced (item.Used way name) w (outcome (used turns way name w) answers)
+  pub plain-placed : (way : Use) (name : ScopedName) (w : Walk) → IsPlaced (item.Uses way name) w (outcome (used turns way name w) answers)
   unfolding used
   plain-placed way name w =
       let query = under w.own (denoted (turns_at turns w) w.cursor name) in
-      subst (IsPlaced (item.Used way name) w) (sym (outcome-and_then query (used_by way name w) answers)) (used-by-placed way name w (outcome query answers) (denoted-up name w))
+      subst (IsPlaced (item.Uses way name) w) (sym (outcome-and_then query (used_by way name w) answers)) (used-by-placed way name w (outcome query answers) (denoted-up name w))
 
-  given-by-placed : (way : Use) (name : ScopedName) (w : Walk) (is_global : Bool) (parts : List (List ℕ)) → IsPlaced (item.Used way name) w (outcome (given_by way name w is_global parts) answers)
+  given-by-placed : (way : Use) (name : ScopedName) (w : Walk) (is_global : Bool) (parts : List (List ℕ)) → IsPlaced (item.Uses way name) w (outcome (given_by way name w is_global parts) answers)
   given-by-placed way name w true parts =
-      oneway-placed (item.Used way name) w (quiet (past_name name w)) (omega arith) (past-placed w way name [] (none-within (item.Used way name) w))
+      oneway-placed (item.Uses way name) w (quiet (past_name name w)) (omega arith) (past-placed w way name [] (none-within (item.Uses way name) w))
   given-by-placed way name w false [] =
-      subst (IsPlaced (item.Used way name) w) (sym (outcome-and_then (used turns way name w) (λ v. Done (with_oneway w.at v)) answers))
-      (oneway-placed (item.Used way name) w (outcome (used turns way name w) answers) (omega arith) (plain-placed way name w))
+      subst (IsPlaced (item.Uses way name) w) (sym (outcome-and_then (used turns way name w) (λ v. Done (with_oneway w.at v)) answers))
+      (oneway-placed (item.Uses way name) w (outcome (used turns way name w) answers) (omega arith) (plain-placed way name w))
   given-by-placed way name w false (part ∷ parts) =
       let query = under w.own (denoted (turns_at turns w) w.cursor (head_of name)) in
-      subst (IsPlaced (item.Used way name) w) (sym (outcome-and_then query (λ r. Done (with_oneway w.at (head_visit name w r))) answers))
-      (oneway-placed (item.Used way name) w (head_visit name w (outcome query answers)) (omega arith) (head-placed w way name (outcome query answers) (denoted-up (head_of name) w)))
+      subst (IsPlaced (item.Uses way name) w) (sym (outcome-and_then query (λ r. Done (with_oneway w.at (head_visit name w r))) answers))
+      (oneway-placed (item.Uses way name) w (head_visit name w (outcome query answers)) (omega arith) (head-placed w way name (outcome query answers) (denoted-up (head_of name) w)))
 
-  pub named-placed : (way : Use) (name : ScopedName) (w : Walk) (b : Bool) → IsPlaced (item.Used way name) w (outcome (named_by way name w b) answers)
+  pub named-placed : (way : Use) (name : ScopedName) (w : Walk) (b : Bool) → IsPlaced (item.Uses way name) w (outcome (named_by way name w b) answers)
   unfolding given_back
   named-placed way name w true = given-by-placed way name w name.is_global name.rest
   named-placed way name w false = plain-placed way name w
 
   pub visit-placed : (site : Item) (w : Walk) → IsPlaced site w (visited site w)
   unfolding visit
-  visit-placed (item.Tokens n) w = faulty-placed (item.Tokens n) w (passed n w) w.gives_back BadOneway (omega arith) (omega arith) refl refl refl
-  visit-placed (item.Declared way name) w = declared-by-placed way name w (first w.cursor)
-  visit-placed (item.Used way name) w = named-placed way name w w.gives_back
-  visit-placed (item.Joined text) w =
-      faulty-placed (item.Joined text) w (record (passed (item_length (item.Joined text)) w) { clauses = with_context text w.clauses }) w.gives_back BadOneway (omega arith) (omega arith) refl refl refl
+  visit-placed (item.Plain n) w = faulty-placed (item.Plain n) w (passed n w) w.gives_back BadOneway (omega arith) (omega arith) refl refl refl
+  visit-placed (item.Declares way name) w = declared-by-placed way name w (first w.cursor)
+  visit-placed (item.Uses way name) w = named-placed way name w w.gives_back
+  visit-placed (item.Says text) w =
+      faulty-placed (item.Says text) w (record (passed (item_length (item.Says text)) w) { clauses = with_context text w.clauses }) w.gives_back BadOneway (omega arith) (omega arith) refl refl refl
   visit-placed item.ValueBegins w =
       let u : Walk = record w { values = begun_at w.at w.values } in
       record { passes = omega arith; begins = omega (arith, begin-at w); within = none-within item.ValueBegins w; keeps = refl }

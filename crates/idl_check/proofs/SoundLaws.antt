@@ -30,7 +30,7 @@ use Rattle.idl_site.proofs.UnitSpelling.{unit_spells}
 use Rattle.idl_site.specs.declared.site.Declaration.{Declaration}
 use Rattle.idl_site.specs.declared.site.Declaration.TheVariants as declaration
 use Rattle.idl_site.specs.declared.site.Use.TheVariants.{AsBase}
-use Rattle.idl_tree.specs.Lexeme.{Identifier, lexemes}
+use Rattle.idl_tree.specs.Lexeme.{Lexemes, Identifier, lexemes}
 use Rattle.idl_tree.specs.Unit.{spell}
 use Rattle.idl_tree.specs.declared.interface.Forward.{Forward}
 use Rattle.idl_tree.specs.declared.interface.Forward.TheVariants as forward
@@ -61,21 +61,11 @@ declared-named tokens t spelled way name i =
 abbrev IsNamed : Parts → Type 0
 IsNamed parts = (way : Declaration) (name : List ℕ) → IsIn (Declares way name) parts → is_nameless name ≡ false
 
-site-sited : (p : Part) (parts : Parts) (s : Scene) → IsNamed (p ∷ parts) → IsPlaced (item_of p) s → IsSited (item_of p) s
-site-sited (Part.Plain words) parts s named h = tt
-site-sited (Part.Uses way n) parts s named h = tt
-site-sited (Part.Says text) parts s named h = tt
-site-sited Part.ValueBegins parts s named h = tt
-site-sited (Part.ValueEnds way e) parts s named h = tt
+site-sited : (p : Part Lexemes) (parts : Parts) (s : Scene) → IsNamed (p ∷ parts) → IsPlaced (item_of p) s → IsSited (item_of p) s
+site-sited (Part.Declares way name) parts s named h = (h.0, (named way name (inl refl), h.1))
 site-sited Part.ScopeEnds parts s named h = h
 site-sited (Part.ScopeBegins way n) parts s named h = h
-site-sited (Part.TypeEnds shape) parts s named h = tt
-site-sited Part.ArrayEnds parts s named h = tt
-site-sited (Part.Enumerates names) parts s named h = tt
-site-sited (Part.Switches d) parts s named h = tt
-site-sited Part.Default parts s named h = tt
-site-sited Part.GivesBack parts s named h = tt
-site-sited (Part.Declares way name) parts s named h = (h.0, (named way name (inl refl), h.1))
+site-sited other parts s named h = tt
 
 parts-sited : (parts : Parts) (s : Scene) → IsNamed parts → ArePlaced (items parts) s → AreSited (items parts) s
 parts-sited [] s named h = tt

@@ -117,7 +117,7 @@ direction is_oneway InOut = maybe_given is_oneway (Plain (spell_direction InOut)
 
 parameter : (is_oneway : Bool) (p : Parameter) → Nests (parameter_parts is_oneway p)
 parameter is_oneway p =
-    let name = Declares (declaration.Parameter p.direction) p.name in
+    let name : Part Lexemes = Declares (declaration.Parameter p.direction) p.name in
     follow (direction_parts is_oneway p.direction) (type_parts p.kind ++ name ∷ []) (direction is_oneway p.direction) (ends (type_parts p.kind) name refl (a_type p.kind))
 
 raises : (is_oneway : Bool) (ns : Several ScopedName) → Nests (raises_parts is_oneway ns)
@@ -131,7 +131,7 @@ context texts =
     (ends (listed (λ text. Says text ∷ []) texts) (punctuation mark.CloseParenthesis) refl (several (λ text. Says text ∷ []) (λ text. one (Says text) refl) texts))
 
 -- the parameters and what stands behind them are what stands inside an operation
-inside : (parameters exceptions contexts : Parts) (x y : Part)
+inside : (parameters exceptions contexts : Parts) (x y : Part Lexemes)
     → (parameters ++ x ∷ (exceptions ++ contexts)) ++ y ∷ [] ≡ parameters ++ x ∷ (exceptions ++ (contexts ++ y ∷ []))
 inside parameters exceptions contexts x y =
     append_assoc parameters (x ∷ (exceptions ++ contexts)) (y ∷ [])

@@ -27,8 +27,8 @@ use Rattle.idl_scope.specs.declared.fault.NameFault.TheVariants.{At, Memory}
 use Rattle.idl_scope.specs.declared.found.Found.{Found}
 use Rattle.idl_scope.specs.declared.key.Key.{Key}
 use Rattle.idl_site.specs.ExpressionParts.{expression_parts, value_parts}
-use Rattle.idl_site.specs.Item.{Item, item_of, items, Item as item}
-use Rattle.idl_site.specs.Part.{Parts, Declares, ValueEnds, punctuation}
+use Rattle.idl_site.specs.Item.{Item, item_of, items}
+use Rattle.idl_site.specs.Part.{Parts, Declares, ValueEnds, punctuation, Part as item}
 use Rattle.idl_site.specs.TypeParts.{constant_type_parts}
 use Rattle.idl_site.specs.UnitParts.{unit_parts}
 use Rattle.idl_site.specs.declared.site.Declaration.TheVariants as declaration
@@ -322,10 +322,10 @@ module _ (turns : ℕ) (answers : Key → Option Answer) where
 -- ---- units
 
 single-none : (x : Item) → is_single x ≡ true → expression_at x ≡ []
-single-none (item.Tokens n) h = refl
-single-none (item.Declared way name) h = refl
-single-none (item.Used way name) h = refl
-single-none (item.Joined text) h = refl
+single-none (item.Plain n) h = refl
+single-none (item.Declares way name) h = refl
+single-none (item.Uses way name) h = refl
+single-none (item.Says text) h = refl
 single-none item.ValueBegins h = refl
 single-none (item.ValueEnds way e) h = cc
 single-none (item.ScopeBegins way name) h = refl

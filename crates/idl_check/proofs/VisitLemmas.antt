@@ -16,7 +16,8 @@ use Rattle.idl_scope.specs.declared.entity.Entity.{Entity}
 use Rattle.idl_scope.specs.declared.fault.NameFault.{NameFault}
 use Rattle.idl_scope.specs.declared.found.Found.{Found}
 use Rattle.idl_scope.specs.declared.key.Key.{Key}
-use Rattle.idl_site.specs.Item.{Item, Item as item}
+use Rattle.idl_site.specs.Item.{Item}
+use Rattle.idl_site.specs.Part.{Part as item}
 use Rattle.idl_site.specs.declared.site.Declaration.{Declaration}
 use Rattle.idl_site.specs.declared.site.Use.{Use}
 use Rattle.idl_tree.specs.declared.name.ScopedName.{ScopedName}
@@ -57,7 +58,7 @@ module _ (bank : Key → Option Answer) where
   -- and one in a scope, by what stands there under it
   pub declared_in : (turns : ℕ) (way : Declaration) (name : List ℕ) (w : Walk) (log : List (Key × Option Answer)) (s : Scope) (there : Standing) (after : List (Key × Option Answer))
       → first w.cursor ≡ Some s → (there, after) ≡ runs_over (under w.own (standing (turns_at turns w) s (entity_of w.written way name s.path))) log
-      → runs_over (visited turns (item.Declared way name) w) log ≡ (noted_in (declared_visit w way s (entity_of w.written way name s.path) there) w.fault, after)
+      → runs_over (visited turns (item.Declares way name) w) log ≡ (noted_in (declared_visit w way s (entity_of w.written way name s.path) there) w.fault, after)
   unfolding visit
   declared_in turns way name w log s there after h gives =
       ap (λ o. runs_over (and_then (elim o [
@@ -98,7 +99,7 @@ module _ (bank : Key → Option Answer) where
 
   -- one that isn't given back by a oneway operation
   pub named_plain : (turns : ℕ) (way : Use) (name : ScopedName) (w : Walk) (log : List (Key × Option Answer)) → w.gives_back ≡ false
-      → runs_over (visited turns (item.Used way name) w) log ≡ runs_over (used_noted turns way name w) log
+      → runs_over (visited turns (item.Uses way name) w) log ≡ runs_over (used_noted turns way name w) log
   unfolding visit
   named_plain turns way name w log h = ap (λ b. runs_over (and_then (cond b (given_back turns way name w) (used turns way name w)) (λ v. Done (noted_in v w.fault))) log) h
 
@@ -136,7 +137,7 @@ module _ (bank : Key → Option Answer) where
   -- a name that is given back
   pub given_by : (turns : ℕ) (way : Use) (name : ScopedName) (w : Walk) (log : List (Key × Option Answer)) (next : Walk) (after : List (Key × Option Answer))
       → w.gives_back ≡ true → (next, after) ≡ runs_over (given_noted turns way name w) log
-      → runs_over (visited turns (item.Used way name) w) log ≡ (one_way w.at next, after)
+      → runs_over (visited turns (item.Uses way name) w) log ≡ (one_way w.at next, after)
   unfolding visit given_back
   given_by turns way name w log next after gives h =
       ap (λ b. runs_over (and_then (cond b (given_back turns way name w) (used turns way name w)) (λ v. Done (noted_in v w.fault))) log) gives

@@ -54,7 +54,8 @@ use Rattle.idl_scope.specs.declared.fault.NameFault.{NameFault}
 use Rattle.idl_scope.specs.declared.fault.NameFault.TheVariants.{At as Faulty, Memory}
 use Rattle.idl_scope.specs.declared.found.Found.{Found}
 use Rattle.idl_scope.specs.declared.kind.Stage.TheVariants.{Complete, Open}
-use Rattle.idl_site.specs.Item.{Item, items, Item as item}
+use Rattle.idl_site.specs.Item.{Item, items}
+use Rattle.idl_site.specs.Part.{Part as item}
 use Rattle.idl_site.specs.UnitParts.{unit_parts}
 use Rattle.idl_site.specs.declared.site.Declaration.{Declaration}
 use Rattle.idl_site.specs.declared.site.Target.{Target as Purpose}
@@ -188,8 +189,8 @@ module _ (facts : List UnitFacts) (k : IsSettled (world facts)) (turns : ℕ) (e
       by_kind true is g = absurd (none-some g)
       by_kind false is g = (some_one g, λ same. let z : true ≡ false = sym (ap (λ q. kind_eq q kind.Interface) same) ∙ is in cc)
 
-  walks-declared : (way : Declaration) (name : List ℕ) (w : Walk) (s : Scene) → At w s → IsSited (item.Declared way name) s → (cursor : List Scope) → w.cursor ≡ cursor
-      → (outcome (declared_by turns (answers facts) way name w (first cursor)) (answers facts)).faults ≡ [] → At (outcome (declared_by turns (answers facts) way name w (first cursor)) (answers facts)).after (scene_after (item.Declared way name) s)
+  walks-declared : (way : Declaration) (name : List ℕ) (w : Walk) (s : Scene) → At w s → IsSited (item.Declares way name) s → (cursor : List Scope) → w.cursor ≡ cursor
+      → (outcome (declared_by turns (answers facts) way name w (first cursor)) (answers facts)).faults ≡ [] → At (outcome (declared_by turns (answers facts) way name w (first cursor)) (answers facts)).after (scene_after (item.Declares way name) s)
   walks-declared way name w s h sited [] is none = absurd (cursor-some w.own s.level (subst (IsCursor facts k turns enough w.own s.level) is h.cursor))
   walks-declared way name w s h sited (t ∷ rest) is none =
       let e = entity_of w.written way name t.path in
@@ -200,7 +201,7 @@ module _ (facts : List UnitFacts) (k : IsSettled (world facts)) (turns : ℕ) (e
       let g = declared-grows facts k turns enough w s h t rest is way name sited ok in
       let fresh = fresh-way w way name t.path sited.0 in
       let mine : Mine (declared_visit w way t e st).after.own e = ((fresh.ahead, fresh.unclosed), (e, g.1, refl, refl)) in
-      subst (λ (v : Visit). At v.after (scene_after (item.Declared way name) s)) (sym same)
+      subst (λ (v : Visit). At v.after (scene_after (item.Declares way name) s)) (sym same)
       (record {
         grown = g.0.grown;
         begun = λ x i. elim (IsIn-split x w.begun (cond (is_begun e) (e ∷ []) []) i) as (λ _. Mine (declared_visit w way t e st).after.own x) [
@@ -398,10 +399,10 @@ module _ (facts : List UnitFacts) (k : IsSettled (world facts)) (turns : ℕ) (e
 
   pub site-walks : (site : Item) (w : Walk) (s : Scene) → At w s → IsSited site s → (visited turns (answers facts) site w).faults ≡ [] → At (visited turns (answers facts) site w).after (scene_after site s)
   unfolding visit
-  site-walks (item.Tokens n) w s h sited none = calm w (passed n w) s h refl refl refl refl refl refl
-  site-walks (item.Declared way name) w s h sited none = walks-declared way name w s h sited w.cursor refl none
-  site-walks (item.Used way name) w s h sited none = named-walks way name w s w.gives_back none h
-  site-walks (item.Joined text) w s h sited none = calm w (visited turns (answers facts) (item.Joined text) w).after s h refl refl refl refl refl refl
+  site-walks (item.Plain n) w s h sited none = calm w (passed n w) s h refl refl refl refl refl refl
+  site-walks (item.Declares way name) w s h sited none = walks-declared way name w s h sited w.cursor refl none
+  site-walks (item.Uses way name) w s h sited none = named-walks way name w s w.gives_back none h
+  site-walks (item.Says text) w s h sited none = calm w (visited turns (answers facts) (item.Says text) w).after s h refl refl refl refl refl refl
   site-walks item.ValueBegins w s h sited none = calm w (visited turns (answers facts) item.ValueBegins w).after s h refl refl refl refl refl refl
   site-walks (item.ValueEnds way e) w s h sited none = valued-walks w s way (outcome_at w way e) h
   site-walks (item.ScopeBegins way name) w s h sited none = begins way name w s h sited w.cursor refl

@@ -40,7 +40,8 @@ use Rattle.idl_scope.specs.declared.key.Key.TheVariants.{Cursor, Declared, Intro
 use Rattle.idl_scope.specs.declared.kind.Kind.{Kind}
 use Rattle.idl_scope.specs.declared.kind.Kind.TheVariants as kind
 use Rattle.idl_scope.specs.declared.kind.Stage.TheVariants.{Ahead, Open, Complete}
-use Rattle.idl_site.specs.Item.{Item, Item as item}
+use Rattle.idl_site.specs.Item.{Item}
+use Rattle.idl_site.specs.Part.{Part as item}
 use Rattle.idl_site.specs.declared.site.Declaration.{Declaration}
 use Rattle.idl_site.specs.declared.site.Declaration.TheVariants as declaration
 use Rattle.idl_unit.specs.TokenRules.{fault_at}
@@ -49,7 +50,7 @@ use Rattle.idl_unit.specs.TokenRules.{fault_at}
 
 -- such names alone are declared, operations and attributes in no scope that has begun, and a scope begins behind its own name
 abbrev pub IsSited : Item → Scene → Type 0
-IsSited (item.Declared way name) s = (is_other way ≡ true) × ((is_nameless name ≡ false) × (is_operation_way way ≡ true → s.level ≡ 0))
+IsSited (item.Declares way name) s = (is_other way ≡ true) × ((is_nameless name ≡ false) × (is_operation_way way ≡ true → s.level ≡ 0))
 IsSited (item.ScopeBegins way name) s = s.last ≡ Some name
 IsSited item.ScopeEnds s = 1 ≤ s.level
 IsSited other s = Unit {0}
@@ -272,7 +273,7 @@ module _ (facts : List UnitFacts) (k : IsSettled (world facts)) (turns : ℕ) (e
         let yes : is_inherited st ≡ true = (standing-inherited facts turns w s e enough).1 (y, all) in
         let z : true ≡ false = sym yes ∙ inherited_no in cc
 
-    module _ (sited : IsSited (item.Declared way name) scene) (ok : IsAllowed s st e) where
+    module _ (sited : IsSited (item.Declares way name) scene) (ok : IsAllowed s st e) where
       fresh : IsFresh e way
       fresh = fresh-way w way name s.path sited.0
 

@@ -20,7 +20,8 @@ use Rattle.idl_scope.specs.declared.fault.NameFault.TheVariants.{At, Memory}
 use Rattle.idl_scope.specs.declared.found.Found.{Found}
 use Rattle.idl_scope.specs.declared.key.Key.{Key}
 use Rattle.idl_scope.specs.declared.kind.Kind.TheVariants.{Union}
-use Rattle.idl_site.specs.Item.{Item, Item as item}
+use Rattle.idl_site.specs.Item.{Item}
+use Rattle.idl_site.specs.Part.{Part as item}
 use Rattle.idl_site.specs.declared.site.Declaration.{Declaration}
 use Rattle.idl_site.specs.declared.site.Target.{Target as Purpose}
 use Rattle.idl_site.specs.declared.site.Use.{Use}
@@ -95,10 +96,10 @@ module _ (turns : ℕ) (answers : Key → Option Answer) where
 
   pub single-calm : (site : Item) (w : Walk) → is_single site ≡ true → w.gives_back ≡ false → IsCalm w (visited turns answers site w)
   unfolding visit
-  single-calm (item.Tokens n) w single h = record { begin = refl; given = refl }
-  single-calm (item.Declared way name) w single h = declared-calm way name w (first w.cursor) h
-  single-calm (item.Used way name) w single h = named-calm way name w w.gives_back h
-  single-calm (item.Joined text) w single h = record { begin = refl; given = refl }
+  single-calm (item.Plain n) w single h = record { begin = refl; given = refl }
+  single-calm (item.Declares way name) w single h = declared-calm way name w (first w.cursor) h
+  single-calm (item.Uses way name) w single h = named-calm way name w w.gives_back h
+  single-calm (item.Says text) w single h = record { begin = refl; given = refl }
   single-calm item.ValueBegins w single h = cc
   single-calm (item.ValueEnds way e) w single h = cc
   single-calm (item.ScopeBegins way name) w single h = record { begin = refl; given = h }
@@ -119,10 +120,10 @@ module _ (turns : ℕ) (answers : Key → Option Answer) where
 
   pub single-same : (site : Item) (w : Walk) → is_single site ≡ true → w.gives_back ≡ false → whole_visit turns answers site w ≡ visited turns answers site w
   unfolding visit
-  single-same (item.Tokens n) w single h = refl
-  single-same (item.Declared way name) w single h = refl
-  single-same (item.Used way name) w single h = named-same way name w w.gives_back h
-  single-same (item.Joined text) w single h = refl
+  single-same (item.Plain n) w single h = refl
+  single-same (item.Declares way name) w single h = refl
+  single-same (item.Uses way name) w single h = named-same way name w w.gives_back h
+  single-same (item.Says text) w single h = refl
   single-same item.ValueBegins w single h = refl
   single-same (item.ValueEnds way e) w single h = cc
   single-same (item.ScopeBegins way name) w single h = refl
@@ -166,17 +167,17 @@ module _ (turns : ℕ) (answers : Key → Option Answer) where
   name-behind : (way : Use) (name : ScopedName) (w : Walk) (b : Bool) → IsBehind w (cond b (with_oneway w.at (outcome (used turns way name w) answers)) (outcome (used turns way name w) answers))
   name-behind way name w true =
       let v = outcome (used turns way name w) answers in
-      placed-behind (item.Used way name) w (with_oneway w.at v) (oneway-placed (item.Used way name) w v (omega arith) (plain-placed turns answers way name w))
-  name-behind way name w false = placed-behind (item.Used way name) w (outcome (used turns way name w) answers) (plain-placed turns answers way name w)
+      placed-behind (item.Uses way name) w (with_oneway w.at v) (oneway-placed (item.Uses way name) w v (omega arith) (plain-placed turns answers way name w))
+  name-behind way name w false = placed-behind (item.Uses way name) w (outcome (used turns way name w) answers) (plain-placed turns answers way name w)
 
   by-visit : (site : Item) (w : Walk) → IsBehind w (visited turns answers site w)
   by-visit site w = placed-behind site w (visited turns answers site w) (visit-placed turns answers site w)
 
   whole-behind : (site : Item) (w : Walk) → IsBehind w (whole_visit turns answers site w)
-  whole-behind (item.Tokens n) w = by-visit (item.Tokens n) w
-  whole-behind (item.Declared way name) w = by-visit (item.Declared way name) w
-  whole-behind (item.Used way name) w = name-behind way name w w.gives_back
-  whole-behind (item.Joined text) w = by-visit (item.Joined text) w
+  whole-behind (item.Plain n) w = by-visit (item.Plain n) w
+  whole-behind (item.Declares way name) w = by-visit (item.Declares way name) w
+  whole-behind (item.Uses way name) w = name-behind way name w w.gives_back
+  whole-behind (item.Says text) w = by-visit (item.Says text) w
   whole-behind item.ValueBegins w = by-visit item.ValueBegins w
   whole-behind (item.ValueEnds way e) w =
       record { begins = (by-visit (item.ValueEnds way e) w).begins; from = evaluation-from w way (evaluation_at w way e) }
@@ -239,10 +240,10 @@ module _ (turns : ℕ) (answers : Key → Option Answer) where
 
   site-even : (site : Item) (w : Walk) → IsEven (visited turns answers site w) (whole_visit turns answers site w)
   unfolding visit
-  site-even (item.Tokens n) w = even-same (visited turns answers (item.Tokens n) w) (visited turns answers (item.Tokens n) w) refl
-  site-even (item.Declared way name) w = even-same (visited turns answers (item.Declared way name) w) (visited turns answers (item.Declared way name) w) refl
-  site-even (item.Used way name) w = named-even way name w w.gives_back
-  site-even (item.Joined text) w = even-same (visited turns answers (item.Joined text) w) (visited turns answers (item.Joined text) w) refl
+  site-even (item.Plain n) w = even-same (visited turns answers (item.Plain n) w) (visited turns answers (item.Plain n) w) refl
+  site-even (item.Declares way name) w = even-same (visited turns answers (item.Declares way name) w) (visited turns answers (item.Declares way name) w) refl
+  site-even (item.Uses way name) w = named-even way name w w.gives_back
+  site-even (item.Says text) w = even-same (visited turns answers (item.Says text) w) (visited turns answers (item.Says text) w) refl
   site-even item.ValueBegins w = even-same (visited turns answers item.ValueBegins w) (visited turns answers item.ValueBegins w) refl
   site-even (item.ValueEnds way e) w = value-even w way (evaluation_at w way e)
   site-even (item.ScopeBegins way name) w = even-same (visited turns answers (item.ScopeBegins way name) w) (visited turns answers (item.ScopeBegins way name) w) refl

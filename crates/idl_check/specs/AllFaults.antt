@@ -20,7 +20,8 @@ use Rattle.idl_scope.specs.declared.fault.NameFault.{NameFault}
 use Rattle.idl_scope.specs.declared.found.Found.{Found}
 use Rattle.idl_scope.specs.declared.key.Key.{Key}
 use Rattle.idl_scope.specs.declared.key.Key.TheVariants.{Cursor}
-use Rattle.idl_site.specs.Item.{Item, items, Item as item}
+use Rattle.idl_site.specs.Item.{Item, items}
+use Rattle.idl_site.specs.Part.{Part as item}
 use Rattle.idl_site.specs.UnitParts.{unit_parts}
 use Rattle.idl_site.specs.declared.site.Target.{Target as Purpose}
 use Rattle.idl_site.specs.declared.site.Use.{Use}
@@ -60,7 +61,7 @@ module _ (turns : ℕ) (answers : Key → Option Answer) where
 
   -- all that comes of a site
   abbrev pub whole_visit : Item → Walk → Visit
-  whole_visit (item.Used way name) w = name_visit way name w
+  whole_visit (item.Uses way name) w = name_visit way name w
   whole_visit (item.ValueEnds way e) w = record {
     faults = evaluation_faults w way (evaluation_at w way e);
     after = (outcome (visit turns (item.ValueEnds way e) w) answers).after;

@@ -17,7 +17,8 @@ use Rattle.idl_scope.specs.declared.answer.Answer.{Answer}
 use Rattle.idl_scope.specs.declared.answer.Scope.{Scope}
 use Rattle.idl_scope.specs.declared.key.Key.{Key}
 use Rattle.idl_scope.specs.declared.key.Key.TheVariants.{Cursor, Nameless}
-use Rattle.idl_site.specs.Item.{Item, item_length, items, Item as item}
+use Rattle.idl_site.specs.Item.{Item, item_length, items}
+use Rattle.idl_site.specs.Part.{Part as item}
 use Rattle.idl_site.specs.UnitParts.{unit_parts}
 use Rattle.idl_tree.specs.Lexeme.{lexemes}
 use Rattle.idl_tree.specs.Pragma.{pragma_of}
@@ -67,7 +68,7 @@ spoken_till site w = w.at + max 1 (item_length site)
 
 -- the name that a site uses, if it does
 abbrev pub used_name : Item → List ScopedName
-used_name (item.Used way name) = name ∷ []
+used_name (item.Uses way name) = name ∷ []
 used_name other = []
 
 -- the names that these sites use, in order

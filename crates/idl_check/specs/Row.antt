@@ -3,7 +3,8 @@ use Rattle.std.specs.Prelude.{ℕ, Bool, true, false, ◌||◌, List, [], ◌∷
 use Rattle.std.specs.List.{repeat}
 use Rattle.std.specs.Str.{bytes_eq}
 use Rattle.idl_lex.specs.Tokens.{Token}
-use Rattle.idl_site.specs.Item.{Item, item_length, Item as item}
+use Rattle.idl_site.specs.Item.{Item, item_length}
+use Rattle.idl_site.specs.Part.{Part as item}
 use Rattle.idl_tree.specs.declared.several.Several.{Several}
 use Rattle.idl_value.specs.Evaluation.{joined}
 use Rattle.idl_value.specs.Spelled.{escaped, path_word, value_word}
@@ -42,11 +43,11 @@ next_value (v ∷ values) = spaced (value_word v)
 -- The words of a site: a used name is its path, joined literals are one, and an expression is its
 -- value, which stands where it ends.
 abbrev pub site_text : Rest → Item → List ℕ
-site_text rest (item.Tokens n) =
+site_text rest (item.Plain n) =
     if rest.in_value then [] else flat_map token_text (take n rest.tokens)
-site_text rest (item.Declared way name) = spaced (escaped name)
-site_text rest (item.Used way name) = if rest.in_value then [] else next_path rest.found
-site_text rest (item.Joined text) = spaced (text_word text)
+site_text rest (item.Declares way name) = spaced (escaped name)
+site_text rest (item.Uses way name) = if rest.in_value then [] else next_path rest.found
+site_text rest (item.Says text) = spaced (text_word text)
 site_text rest (item.ValueEnds way expression) = next_value rest.values
 site_text rest other = []
 
@@ -55,8 +56,8 @@ abbrev pub behind_tokens : Rest → Item → Rest
 behind_tokens rest site = record rest { tokens = drop (item_length site) rest.tokens }
 
 abbrev pub behind_site : Rest → Item → Rest
-behind_site rest (item.Used way name) =
-    record (behind_tokens rest (item.Used way name)) { found = drop 1 rest.found }
+behind_site rest (item.Uses way name) =
+    record (behind_tokens rest (item.Uses way name)) { found = drop 1 rest.found }
 behind_site rest item.ValueBegins = record rest { in_value = true }
 behind_site rest (item.ValueEnds way expression) =
     record rest { values = drop 1 rest.values; in_value = false }

@@ -2,7 +2,8 @@
 -- end, and between them stand the names of the expression and the tokens around them.
 use Rattle.std.specs.Prelude.{◌≡◌, Bool, true, false, List, [], ◌∷◌, All, flat_map}
 use Rattle.idl_site.specs.ExpressionParts.{value_parts}
-use Rattle.idl_site.specs.Item.{Item, items, Item as item}
+use Rattle.idl_site.specs.Item.{Item, items}
+use Rattle.idl_site.specs.Part.{Part as item}
 use Rattle.idl_site.specs.declared.site.Target.{Target as Purpose}
 use Rattle.idl_tree.specs.declared.expression.Expression.{Expression}
 
@@ -27,8 +28,8 @@ is_single other = true
 
 -- a site of tokens, or a name that is used
 abbrev pub is_tokens : Item → Bool
-is_tokens (item.Tokens n) = true
-is_tokens (item.Used way name) = true
+is_tokens (item.Plain n) = true
+is_tokens (item.Uses way name) = true
 is_tokens other = false
 
 abbrev pub IsFormed : Section → Type 0

@@ -19,7 +19,8 @@ use Rattle.idl_scope.specs.declared.addition.Step.{Step}
 use Rattle.idl_scope.specs.declared.addition.Step.TheVariants.{Stays, Opens}
 use Rattle.idl_scope.specs.declared.answer.Scope.{Scope}
 use Rattle.idl_scope.specs.declared.key.Key.TheVariants.{Cursor, Opened, Nameless}
-use Rattle.idl_site.specs.Item.{Item, items, Item as item}
+use Rattle.idl_site.specs.Item.{Item, items}
+use Rattle.idl_site.specs.Part.{Part as item}
 use Rattle.idl_site.specs.UnitParts.{unit_parts}
 use Rattle.idl_syntax.specs.Parse.{pragma_faults}
 use Rattle.idl_tree.specs.Lexeme.{Lexeme, lexemes}
@@ -87,7 +88,7 @@ judged tokens scopes tree w =
 
 -- the part of a name with which the sites begin, if they do
 abbrev pub first_part : List Item → Option (List ℕ)
-first_part (item.Used way name ∷ sites) = if name.is_global then None else Some name.first
+first_part (item.Uses way name ∷ sites) = if name.is_global then None else Some name.first
 first_part others = None
 
 -- a unit that its scope doesn't hold: what its first token asks is asked, and no more

@@ -29,7 +29,8 @@ use Rattle.idl_scope.specs.declared.fault.NameFault.TheVariants.{At, Memory}
 use Rattle.idl_scope.specs.declared.found.Found.{Found}
 use Rattle.idl_scope.specs.declared.kind.Kind.TheVariants.{Constant, Interface, Union}
 use Rattle.idl_scope.specs.declared.kind.Stage.TheVariants.{Begun}
-use Rattle.idl_site.specs.Item.{Item, item_length, Item as item}
+use Rattle.idl_site.specs.Item.{Item, item_length}
+use Rattle.idl_site.specs.Part.{Part as item}
 use Rattle.idl_site.specs.declared.site.Declaration.{Declaration}
 use Rattle.idl_site.specs.declared.site.Target.{Target as Purpose}
 use Rattle.idl_site.specs.declared.site.Target.TheVariants as purpose
@@ -309,14 +310,14 @@ outcome_at w way e = first_of (evaluation_at w way e)
 
 -- a site
 unfoldable pub visit : ℕ → Item → Walk → Lookup Visit
-visit turns (item.Declared way name) w =
+visit turns (item.Declares way name) w =
     elim (first w.cursor) [
       | None ↦ Done (quiet (passed 1 w))
       | Some s ↦ let e = entity_of w.written way name s.path in
           and_then (under w.own (standing (turns_at turns w) s e))
           (λ there. Done (declared_visit w way s e there))
     ]
-visit turns (item.Used way name) w =
+visit turns (item.Uses way name) w =
     if w.gives_back then given_back turns way name w else used turns way name w
 visit turns (item.ScopeBegins way name) w =
     Done (quiet (record w {
@@ -351,11 +352,11 @@ visit turns item.Default w =
       bodies = with_body_label None w.bodies;
     }))
 visit turns item.GivesBack w = Done (quiet (record w { gives_back = true }))
-visit turns (item.Tokens n) w =
+visit turns (item.Plain n) w =
     Done (faulty_if w.gives_back code.BadOneway w (passed n w))
-visit turns (item.Joined text) w =
+visit turns (item.Says text) w =
     Done (faulty_if w.gives_back code.BadOneway w
-    (record (passed (item_length (item.Joined text)) w) {
+    (record (passed (item_length (item.Says text)) w) {
       clauses = with_context text w.clauses;
     }))
 

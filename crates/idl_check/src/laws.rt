@@ -28,7 +28,7 @@ ghost use Rattle.idl_scope.specs.Meaning.{Denotes, InheritsOperation, Reaches, e
 ghost use Rattle.idl_scope.specs.Path.{name_of, scope_of};
 ghost use Rattle.idl_scope.specs.Turns.{turns_for};
 ghost use Rattle.idl_scope.specs.declared.found.Found.{Found};
-ghost use Rattle.idl_site.specs.Item.{Item as item};
+ghost use Rattle.idl_site.specs.Part.{Part as item};
 ghost use Rattle.idl_site.specs.declared.site.Use.{Use};
 ghost use Rattle.idl_tree.specs.declared.expression.Expression.{Expression};
 ghost use Rattle.idl_tree.specs.declared.name.ScopedName.{ScopedName};
@@ -269,7 +269,7 @@ pub fn denoting()
         → w.gives_back ≡ false
         → let query = under w.own (denoted (turns_at turns w) w.cursor name) in
         outcome query (answers facts) ≡ Ok found
-        → (outcome (visit turns (item.Used way name) w) (answers facts)).after.found
+        → (outcome (visit turns (item.Uses way name) w) (answers facts)).after.found
         ≡ w.found ++ found.entity.path ∷ [] }
     ensures pragma { (facts : List UnitFacts) (turns : ℕ) (scopes : List Scope)
         (name : ScopedName)

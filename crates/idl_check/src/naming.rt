@@ -17,7 +17,7 @@ ghost use Rattle.idl_scope.specs.DataType.{plain_type};
 ghost use Rattle.idl_scope.specs.declared.data_type.Element.TheVariants.{Named};
 ghost use Rattle.idl_scope.specs.Turns.{turns_for};
 ghost use Rattle.idl_site.specs.Item.{item_length};
-ghost use Rattle.idl_site.specs.Item.{Item as item};
+ghost use Rattle.idl_site.specs.Part.{Part as item};
 ghost use Rattle.idl_unit.specs.TokenRules.{fault_at, first};
 
 use crate::bases::Bases;
@@ -51,10 +51,10 @@ impl<'a> Walker<'a> {
         way: Declaration,
         name: &Bytes,
     ) -> Result<(), AllocError>
-        requires { HasRoomFor (held self.old) (item.Declared way name.now ∷ []) }
+        requires { HasRoomFor (held self.old) (item.Declares way name.now ∷ []) }
         ensures visited { OnOk result ((turns : ℕ) → turns_for self.old.env.now ≤ turns →
             (held self.new, log.new)
-            ≡ run key_eq (visited turns (item.Declared way name.now) (held self.old))
+            ≡ run key_eq (visited turns (item.Declares way name.now) (held self.old))
             (answers self.old.env.now) log.old) }
         ensures at { OnOk result (self.new.at ≡ self.old.at + 1) }
         ensures env { OnOk result (self.new.env.now ≡ self.old.env.now) }
@@ -111,13 +111,13 @@ impl<'a> Walker<'a> {
         way: Use,
         name: &ScopedName,
     ) -> Result<(), AllocError>
-        requires { HasRoomFor (held self.old) (item.Used way name.now ∷ []) }
+        requires { HasRoomFor (held self.old) (item.Uses way name.now ∷ []) }
         ensures visited { OnOk result ((turns : ℕ) → turns_for self.old.env.now ≤ turns →
             (held self.new, log.new)
-            ≡ run key_eq (visited turns (item.Used way name.now) (held self.old))
+            ≡ run key_eq (visited turns (item.Uses way name.now) (held self.old))
             (answers self.old.env.now) log.old) }
         ensures at { OnOk result
-            (self.new.at ≡ self.old.at + item_length (item.Used way name.now)) }
+            (self.new.at ≡ self.old.at + item_length (item.Uses way name.now)) }
         ensures env { OnOk result (self.new.env.now ≡ self.old.env.now) }
     {
         if self.gives_back {

@@ -12,7 +12,8 @@ ghost use Rattle.idl_memo.specs.Query.{run};
 ghost use Rattle.idl_scope.specs.Facts.{answers};
 ghost use Rattle.idl_scope.specs.Key.{key_eq};
 ghost use Rattle.idl_scope.specs.Turns.{turns_for};
-ghost use Rattle.idl_site.specs.Item.{Item as item, item_at, item_length};
+ghost use Rattle.idl_site.specs.Item.{item_at, item_length};
+ghost use Rattle.idl_site.specs.Part.{Part as item};
 ghost use Rattle.idl_unit.specs.TokenRules.{fault_at};
 
 use crate::bases::Bases;
@@ -205,16 +206,16 @@ impl<'a> Walker<'a> {
 
     // String literals, which are joined: a text of a context.
     fn join(&mut self, text: &Several<Seq<u16>>) -> Result<(), AllocError>
-        requires { HasRoomFor (held self.old) (item.Joined text.now ∷ []) }
+        requires { HasRoomFor (held self.old) (item.Says text.now ∷ []) }
         ensures visit { OnOk result
             (held self.new
             ≡ noted_in
             (faulty_if self.old.gives_back BadOneway (held self.old)
-            (record (passed (item_length (item.Joined text.now)) (held self.old)) {
+            (record (passed (item_length (item.Says text.now)) (held self.old)) {
               clauses = with_context text.now self.old.clauses;
             })) self.old.fault) }
         ensures at { OnOk result
-            (self.new.at ≡ self.old.at + item_length (item.Joined text.now)) }
+            (self.new.at ≡ self.old.at + item_length (item.Says text.now)) }
         ensures env { OnOk result (self.new.env.now ≡ self.old.env.now) }
     {
         self.clauses.add_context(self.env.alloc(), text)?;

@@ -5,6 +5,7 @@ use Rattle.std.proofs.lemmas.List.{flat_map_more, map-append, take_more, take_al
 use Rattle.idl_site.specs.Item.{Pushes, item_at, item_of, items}
 use Rattle.idl_site.specs.Part.{Part, Parts}
 use Rattle.idl_site.specs.declared.site.Site.{Site}
+use Rattle.idl_tree.specs.Lexeme.{Lexemes}
 
 -- some parts, and then others
 pub pushes-append : (a b c : List Site) (p q : Parts) → Pushes a b p → Pushes b c q → Pushes a c (p ++ q)
@@ -27,7 +28,7 @@ pub pushes-end : {X : Type 0} (f : X → Parts) (xs : List X) (i : ℕ) (a b : L
 pushes-end f xs i a b p le h = h ∙ ap (λ ys. map item_at a ++ items (p ++ flat_map f ys)) (take_all i xs le)
 
 -- one more site
-pub pushes-one : (a b : List Site) (site : Site) (part : Part) → b ≡ a ++ site ∷ [] → item_at site ≡ item_of part → Pushes a b (part ∷ [])
+pub pushes-one : (a b : List Site) (site : Site) (part : Part Lexemes) → b ≡ a ++ site ∷ [] → item_at site ≡ item_of part → Pushes a b (part ∷ [])
 pushes-one a b site part h e = ap (λ sites. map item_at sites) h ∙ map-append item_at a (site ∷ []) ∙ ap (λ item. map item_at a ++ item ∷ []) e
 
 -- an item more, which the loop has found there

@@ -69,21 +69,9 @@ unit_spells (tree.Operation o) = ended_spells (operation_parts o) (spell_operati
 
 -- ---- counts
 
-spell_part-length : (p : Part) → length (spell_part p) ≡ item_length (item_of p)
+spell_part-length : (p : Part Lexemes) → length (spell_part p) ≡ item_length (item_of p)
 spell_part-length (Part.Plain lexemes) = refl
-spell_part-length (Part.Declares declaration name) = refl
-spell_part-length (Part.Uses way name) = refl
-spell_part-length (Part.Says text) = refl
-spell_part-length Part.ValueBegins = refl
-spell_part-length (Part.ValueEnds target expression) = refl
-spell_part-length (Part.ScopeBegins declaration name) = refl
-spell_part-length Part.ScopeEnds = refl
-spell_part-length (Part.TypeEnds shape) = refl
-spell_part-length Part.ArrayEnds = refl
-spell_part-length (Part.Enumerates names) = refl
-spell_part-length (Part.Switches discrete) = refl
-spell_part-length Part.Default = refl
-spell_part-length Part.GivesBack = refl
+spell_part-length mark = refl
 
 pub counted : (ps : Parts) → items_length (items ps) ≡ length (spell_parts ps)
 counted [] = refl

@@ -1,5 +1,6 @@
--- A unit as a list of its parts: names that are declared and used, the tokens between them, and
--- where expressions and scopes begin and end.
+-- A unit as a list of its parts: names that are declared and used, what stands between them, and
+-- where expressions and scopes begin and end. What stands between is told by its tokens, or by their
+-- number alone.
 use Rattle.std.specs.Prelude.{ℕ, List, [], ◌∷◌, ◌++◌, flat_map, Option, None, Some}
 use Rattle.idl_lex.specs.declared.keyword.Keyword.{Keyword}
 use Rattle.idl_lex.specs.declared.mark.Mark.{Mark}
@@ -16,37 +17,37 @@ use Rattle.idl_tree.specs.declared.expression.Expression.{Expression}
 use Rattle.idl_tree.specs.declared.name.ScopedName.{ScopedName}
 use Rattle.idl_tree.specs.declared.several.Several.{Several}
 
-pub data Part : Type 0 where
+pub data Part (P : Type 0) : Type 0 where
   -- tokens that declare and use nothing
-  Plain : Lexemes → Part
-  Declares : Declaration → List ℕ → Part
-  Uses : Use → ScopedName → Part
+  Plain : P → Part P
+  Declares : Declaration → List ℕ → Part P
+  Uses : Use → ScopedName → Part P
   -- string literals that are joined
-  Says : Several (List ℕ) → Part
+  Says : Several (List ℕ) → Part P
   -- an expression begins, or ends
-  ValueBegins : Part
-  ValueEnds : Target → Expression → Part
+  ValueBegins : Part P
+  ValueEnds : Target → Expression → Part P
   -- the scope of what is declared so begins, or ends
-  ScopeBegins : Declaration → List ℕ → Part
-  ScopeEnds : Part
+  ScopeBegins : Declaration → List ℕ → Part P
+  ScopeEnds : Part P
   -- a type ends that is no name
-  TypeEnds : Shape → Part
+  TypeEnds : Shape → Part P
   -- the lengths of the array that was declared last are told
-  ArrayEnds : Part
+  ArrayEnds : Part P
   -- the enum that is declared next has these enumerators
-  Enumerates : Several (List ℕ) → Part
+  Enumerates : Several (List ℕ) → Part P
   -- a discriminator of keywords follows
-  Switches : DiscreteType → Part
+  Switches : DiscreteType → Part P
   -- the label `default` follows
-  Default : Part
+  Default : Part P
   -- what a `oneway` operation gives back follows
-  GivesBack : Part
+  GivesBack : Part P
 
 abbrev pub Parts : Type 0
-Parts = List Part
+Parts = List (Part Lexemes)
 
 -- how a part is spelled
-abbrev pub spell_part : Part → Lexemes
+abbrev pub spell_part : Part Lexemes → Lexemes
 spell_part (Plain lexemes) = lexemes
 spell_part (Declares declaration name) = Identifier name ∷ []
 spell_part (Uses way name) = spell_name name
@@ -56,10 +57,10 @@ spell_part mark = []
 abbrev pub spell_parts : Parts → Lexemes
 spell_parts parts = flat_map spell_part parts
 
-abbrev pub keyword_part : Keyword → Part
+abbrev pub keyword_part : Keyword → Part Lexemes
 keyword_part keyword = Plain (Word keyword ∷ [])
 
-abbrev pub punctuation : Mark → Part
+abbrev pub punctuation : Mark → Part Lexemes
 punctuation mark = Plain (Punctuation mark ∷ [])
 
 -- x/","
