@@ -8,7 +8,7 @@ use Rattle.idl_event.specs.declared.code.Code.{Code}
 use Rattle.idl_repo.proofs.ReferredLemmas.{ids-row}
 use Rattle.idl_repo.proofs.WriteLemmas.{asked-by-written, written-over}
 use Rattle.idl_repo.specs.Entry.{IsPushed, closing_fault, declared_entry, entry, entry_in, no_entry, pushed_entry, told_entry}
-use Rattle.idl_repo.specs.Pieces.{Writes, ids_in, text_over, written}
+use Rattle.idl_repo.specs.Pieces.{ids_in, text_over, written}
 use Rattle.idl_repo.specs.Referred.{referred}
 use Rattle.idl_repo.specs.Row.{row_pieces}
 use Rattle.idl_repo.specs.declared.entry.Entry.{Entry}
@@ -44,15 +44,15 @@ abbrev pub told_row : Option Code → Pushed
 told_row fault = record { has_row = true; fault = fault }
 
 -- a row is written as its entry's query runs, once it is answered what is declared there
-pub entry-pushed : {start text : List ℕ} {before after : List (Key × Option Answer)} (answered : Option ScopeEntity) (bank : Key → Option Answer) (e there : ScopeEntity) (fault : Option Code) → answered ≡ Some e → there ≡ e → Writes bank (row_pieces there) (start, before) (text, after) → fault ≡ closing_fault e → IsPushed (outcome (entry_in answered) bank) (told_row fault) start text
-entry-pushed {start} {text} {before} {after} answered bank e there fault is same h fault_is =
+pub entry-pushed : {start text : List ℕ} (answered : Option ScopeEntity) (bank : Key → Option Answer) (e there : ScopeEntity) (fault : Option Code) → answered ≡ Some e → there ≡ e → text ≡ start ++ text_over bank (row_pieces there) → fault ≡ closing_fault e → IsPushed (outcome (entry_in answered) bank) (told_row fault) start text
+entry-pushed {start} {text} answered bank e there fault is same h fault_is =
     let told : told_entry e (text_over bank (row_pieces e)) ≡ outcome (entry_in answered) bank = sym (ap (λ a. outcome (entry_in a) bank) is ∙ declared-outcome e bank) in
-    let row : text ≡ start ++ text_over bank (row_pieces e) = h.text ∙ ap (λ (x : ScopeEntity). start ++ text_over bank (row_pieces x)) same in
+    let row : text ≡ start ++ text_over bank (row_pieces e) = h ∙ ap (λ (x : ScopeEntity). start ++ text_over bank (row_pieces x)) same in
     subst (λ x. IsPushed x (told_row fault) start text) told (record { row = row; has_row = refl; fault = fault_is })
 
-pub entry-noted : {start text : List ℕ} {before after : List (Key × Option Answer)} (answered : Option ScopeEntity) (bank : Key → Option Answer) (e there : ScopeEntity) → answered ≡ Some e → there ≡ e → Writes bank (row_pieces there) (start, before) (text, after) → after ≡ (run key_eq (entry_in answered) bank before).1
-entry-noted {start} {text} {before} {after} answered bank e there is same h =
-    h.log
+pub entry-noted : {before after : List (Key × Option Answer)} (answered : Option ScopeEntity) (bank : Key → Option Answer) (e there : ScopeEntity) → answered ≡ Some e → there ≡ e → after ≡ noted_all key_eq bank before (ids_in (row_pieces there)) → after ≡ (run key_eq (entry_in answered) bank before).1
+entry-noted {before} {after} answered bank e there is same h =
+    h
     ∙ ap (λ (x : ScopeEntity). noted_all key_eq bank before (ids_in (row_pieces x))) same
     ∙ ap (noted_all key_eq bank before) (sym (declared-asked e bank))
     ∙ sym (ap (λ a. noted_all key_eq bank before (asked (entry_in a) bank)) is)

@@ -2,12 +2,12 @@
 use Rattle.std.proofs.Common.{◌≡◌, ◌≢◌, ◌∙◌, ℕ, Bool, List, [], ◌∷◌, ◌++◌, Option, Some, None, refl, sym, ap, append_assoc, codes}
 use Rattle.std.specs.Prelude.{if◌then◌else◌}
 use Rattle.idl_memo.specs.Query.{noted}
-use Rattle.idl_repo.proofs.WriteLemmas.{State, id-then, says-then, writes-as, writes-known}
-use Rattle.idl_repo.specs.Pieces.{Pieces, Says, Writes}
+use Rattle.idl_repo.proofs.WriteLemmas.{grows-as, grows-known, id-then, says-then}
+use Rattle.idl_repo.specs.Pieces.{Grows, Pieces, Says, State}
 use Rattle.idl_repo.specs.Row.{attribute_pieces, bases_pieces, behind_id, coded_pieces, constant_pieces, operation_pieces}
 use Rattle.idl_repo.specs.TypeCode.{code_head, code_kind, code_pieces, code_word, kind_in, rest_pieces}
 use Rattle.idl_repo.specs.declared.type_code.TypeCodeKind.{TypeCodeKind}
-use Rattle.idl_scope.specs.Facts.{id_at}
+use Rattle.idl_scope.specs.Facts.{UnitFacts, answers, id_at}
 use Rattle.idl_scope.specs.Key.{key_eq}
 use Rattle.idl_scope.specs.Kind.{kind_eq}
 use Rattle.idl_scope.specs.declared.answer.Answer.{Answer}
@@ -19,52 +19,32 @@ use Rattle.idl_scope.specs.declared.kind.Kind.TheVariants as kind
 
 -- what has a TypeCode is no constant, attribute or operation
 by-kind : (k : Kind) (is_local : Bool) (code : TypeCodeKind) (a b c d : Pieces) → code_kind k is_local ≡ Some code → (if kind_eq k kind.Constant then a else if kind_eq k kind.Attribute then b else if kind_eq k kind.Operation then c else d) ≡ d
-by-kind kind.Module is_local code a b c d h = refl
-by-kind kind.Interface is_local code a b c d h = refl
-by-kind kind.Structure is_local code a b c d h = refl
-by-kind kind.Union is_local code a b c d h = refl
-by-kind kind.Exception is_local code a b c d h = refl
-by-kind kind.Enumeration is_local code a b c d h = refl
-by-kind kind.Alias is_local code a b c d h = refl
-by-kind kind.Native is_local code a b c d h = refl
 by-kind kind.Constant is_local code a b c d h = cc
 by-kind kind.Attribute is_local code a b c d h = cc
 by-kind kind.Operation is_local code a b c d h = cc
-by-kind kind.Enumerator is_local code a b c d h = refl
-by-kind kind.Parameter is_local code a b c d h = refl
-by-kind kind.Member is_local code a b c d h = refl
+by-kind other is_local code a b c d h = refl
 
 behind-coded : (e : Entity) (code : TypeCodeKind) → kind_in e ≡ Some code → behind_id e ≡ coded_pieces e
 behind-coded e code h = by-kind e.kind e.is_local code (constant_pieces e) (attribute_pieces e) (operation_pieces e) (coded_pieces e) h
 
 -- its TypeCode begins with the id that was asked already, and goes on with the rest
-pub head-then : {bank : Key → Option Answer} {id old new : List ℕ} {after : List (Key × Option Answer)} {u : State} (log : List (Key × Option Answer)) (e : Entity) (code : TypeCodeKind) → kind_in e ≡ Some code → id ≡ id_at e.path (bank (key.IdOf e.path)) → after ≡ noted key_eq bank log (key.IdOf e.path) → new ≡ old ++ code_head code id → Writes bank (rest_pieces code e ++ bases_pieces e) (new, after) u → Writes bank (behind_id e) (old, after) u
-head-then {bank} {id} {old} {new} {after} {u} log e code known is noted_before head rest =
+pub head-then : {facts : List UnitFacts} {id old new : List ℕ} {after : List (Key × Option Answer)} {u : State} (log : List (Key × Option Answer)) (e : Entity) (code : TypeCodeKind) → kind_in e ≡ Some code → id ≡ id_at e.path (answers facts (key.IdOf e.path)) → after ≡ noted key_eq (answers facts) log (key.IdOf e.path) → new ≡ old ++ code_head code id → Grows (rest_pieces code e ++ bases_pieces e) (facts, (new, after)) u → Grows (behind_id e) (facts, (old, after)) u
+head-then {facts} {id} {old} {new} {after} {u} log e code known is noted_before head rest =
     let word = code_word code in
     let blank = old ++ codes " " in
     let begun = (blank ++ word) ++ codes "(" in
     let whole : new ≡ begun ++ id = head ∙ sym (append_assoc old (codes " ") (word ++ (codes "(" ++ id))) ∙ sym (append_assoc blank word (codes "(" ++ id)) ∙ sym (append_assoc (blank ++ word) (codes "(") id) in
-    let there : Writes bank (Says (codes " ") ∷ (code_pieces code e ++ bases_pieces e)) (old, after) u =
-    says-then refl (says-then refl (says-then refl (id-then (writes-known log whole is noted_before) rest))) in
+    let there : Grows (Says (codes " ") ∷ (code_pieces code e ++ bases_pieces e)) (facts, (old, after)) u =
+    says-then refl (says-then refl (says-then refl (id-then (grows-known log whole is noted_before) rest))) in
     let coded : Says (codes " ") ∷ (code_pieces code e ++ bases_pieces e) ≡ coded_pieces e = ap (λ (k : Option TypeCodeKind). elim k [ None ↦ [] | Some c ↦ Says (codes " ") ∷ (code_pieces c e ++ bases_pieces e) ]) (sym known) in
-    writes-as (coded ∙ sym (behind-coded e code known)) there
+    grows-as (coded ∙ sym (behind-coded e code known)) there
 
 -- what has none, and is no constant, attribute or operation, shows nothing behind its id
 by-other : (k : Kind) (a b c d : Pieces) → k ≢ kind.Constant → k ≢ kind.Attribute → k ≢ kind.Operation → (if kind_eq k kind.Constant then a else if kind_eq k kind.Attribute then b else if kind_eq k kind.Operation then c else d) ≡ d
-by-other kind.Module a b c d x y z = refl
-by-other kind.Interface a b c d x y z = refl
-by-other kind.Structure a b c d x y z = refl
-by-other kind.Union a b c d x y z = refl
-by-other kind.Exception a b c d x y z = refl
-by-other kind.Enumeration a b c d x y z = refl
-by-other kind.Alias a b c d x y z = refl
-by-other kind.Native a b c d x y z = refl
 by-other kind.Constant a b c d x y z = absurd (x refl)
 by-other kind.Attribute a b c d x y z = absurd (y refl)
 by-other kind.Operation a b c d x y z = absurd (z refl)
-by-other kind.Enumerator a b c d x y z = refl
-by-other kind.Parameter a b c d x y z = refl
-by-other kind.Member a b c d x y z = refl
+by-other other a b c d x y z = refl
 
 pub behind-nothing : (e : Entity) → kind_in e ≡ None → e.kind ≢ kind.Constant → e.kind ≢ kind.Attribute → e.kind ≢ kind.Operation → [] ≡ behind_id e
 behind-nothing e none x y z =

@@ -1,7 +1,8 @@
 -- Texts in which ids stand: each id is asked where it is told.
 use Rattle.std.specs.Prelude.{◌≡◌, ℕ, List, [], ◌∷◌, ◌++◌, codes, flat_map, Option}
 use Rattle.idl_memo.specs.Query.{Done, Ask, noted_all}
-use Rattle.idl_scope.specs.Facts.{id_at}
+use Rattle.idl_repo.specs.declared.row_writer.RowWriter.{RowWriter}
+use Rattle.idl_scope.specs.Facts.{UnitFacts, answers, id_at}
 use Rattle.idl_scope.specs.Key.{key_eq}
 use Rattle.idl_scope.specs.Lookup.{Lookup}
 use Rattle.idl_scope.specs.declared.answer.Answer.{Answer}
@@ -38,11 +39,22 @@ ids_in [] = []
 ids_in (Says text ∷ pieces) = ids_in pieces
 ids_in (IdOf path ∷ pieces) = key.IdOf path ∷ ids_in pieces
 
--- pieces are written behind a text, and the ids that they tell are noted in a log
-pub record Writes (bank : Key → Option Answer) (pieces : Pieces)
-    (old new : List ℕ × List (Key × Option Answer)) : Type 0 where
-  pub text : new.0 ≡ old.0 ++ text_over bank pieces
-  pub log : new.1 ≡ noted_all key_eq bank old.1 (ids_in pieces)
+-- facts, a text, and what was asked of the facts
+abbrev pub State : Type 0
+State = List UnitFacts × (List ℕ × List (Key × Option Answer))
+
+-- pieces stand behind the text, as the facts answer, and the ids that they tell were asked
+pub record Grows (pieces : Pieces) (old new : State) : Type 0 where
+  pub facts : new.0 ≡ old.0
+  pub text : new.1.0 ≡ old.1.0 ++ text_over (answers old.0) pieces
+  pub log : new.1.1 ≡ noted_all key_eq (answers old.0) old.1.1 (ids_in pieces)
+
+abbrev pub state : RowWriter → State
+state row = (row.env.now, (row.text.items, row.log))
+
+-- pieces are written in a row
+abbrev pub Writes : Pieces → RowWriter → RowWriter → Type 0
+Writes pieces old new = Grows pieces (state old) (state new)
 
 -- the pieces of each, with commas between
 abbrev pub commas : {X : Type 0} → (X → Pieces) → List X → Pieces

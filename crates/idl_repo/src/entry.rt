@@ -7,7 +7,7 @@ ghost use Rattle.idl_repo.specs.Entry.{IsPushed, closing_fault, entry, entry_in,
 ghost use Rattle.idl_scope.specs.Facts.{answers, entity_in};
 ghost use Rattle.idl_scope.specs.Key.{key_eq};
 
-use crate::row::push_row;
+use crate::row_writer::RowWriter;
 use idl_base::Bytes;
 use idl_event::Code;
 use idl_memo::{Journal, Log, Task, TaskKind};
@@ -86,33 +86,20 @@ impl Task<Env> for EntryTask {
     }
 
     fn run(&self, alloc: Global, bank: &Env, log: &mut Log<Env>) -> Result<Entry, AllocError> {
+        let mut buffer = Vec::with_capacity(alloc, USUAL)?;
         let mut journal = Journal::taking(alloc, log);
-        let entry = entry_of(alloc, bank, &mut journal, &self.path);
+        let entry = entry_at(&mut buffer, bank, &mut journal, &self.path);
         journal.give_back(log)?;
         entry
     }
 }
 
-/// The entry of the name at a path. What it asks goes into the journal, behind what is there.
+/// The entry of the name at a path. Its row is written in a buffer before it is copied: what stands there is given up, and many
+/// entries may be written in one. What it asks goes into the journal, behind what is there.
 ///
-/// After want of memory nothing is said of the journal.
-pub fn entry_of(
-    alloc: Global,
-    env: &Env,
-    log: &mut Journal<Env>,
-    path: &Path,
-) -> Result<Entry, AllocError>
-    ensures { IfOk result (λ e.
-        (e, log.new) ≡ run key_eq (entry path.now) (answers env.now) log.old) }
-{
-    let mut buffer = Vec::with_capacity(alloc, USUAL)?;
-    entry_by(&mut buffer, env, log, path)
-}
-
-/// The same, where the row is written in a buffer before it is copied. What stands in the buffer is given up, and many entries
-/// may be written in one.
+/// After want of memory nothing is said of the journal, nor of the buffer.
 #[tactic(auto, unfolding(crate::specs::Entry::entry))]
-pub fn entry_by(
+pub fn entry_at(
     buffer: &mut Vec<u8>,
     env: &Env,
     log: &mut Journal<Env>,
@@ -123,27 +110,13 @@ pub fn entry_by(
 {
     let key = LentKey::of_entity(env.alloc(), path);
     let answer = log.ask_lent(&key, env)?;
-    entry_with(buffer, env, log, answer)
-}
-
-/// The same, where this is answered of what is declared there.
-pub fn entry_with(
-    buffer: &mut Vec<u8>,
-    env: &Env,
-    log: &mut Journal<Env>,
-    answer: Option<&Answer>,
-) -> Result<Entry, AllocError>
-    ensures { IfOk result (λ e.
-        (e, log.new)
-        ≡ run key_eq (entry_in (entity_in (option_copied answer.entry))) (answers env.now) log.old) }
-{
     buffer.clear();
     let pushed = push_entry(buffer, env, log, answer)?;
     let entry = pushed.entry(env.alloc(), buffer.as_slice())?;
     Ok(entry)
 }
 
-/// The same, where the row is written behind what stands in a buffer, and is not copied.
+/// The entry of what this is answered of. Its row is written behind what stands in a buffer, and is not copied.
 pub fn push_entry(
     buffer: &mut Vec<u8>,
     env: &Env,
@@ -164,7 +137,9 @@ pub fn push_entry(
             fault: None,
         });
     };
-    push_row(buffer, env, log, entity.get())?;
+    let mut row = RowWriter::taking(buffer, env, log);
+    row.push_row(entity.get())?;
+    row.give_back(buffer, log);
     Ok(Pushed {
         has_row: true,
         fault: closing_fault(entity.get()),

@@ -10,9 +10,11 @@ mod entry;
 mod laws;
 mod piece;
 mod row;
+mod row_writer;
 mod type_code;
 
 pub use answered::Answered;
-pub use entry::{Entry, EntryTask, Pushed, entry_by, entry_of};
+pub use entry::{Entry, EntryTask, Pushed, entry_at};
 pub use laws::{asked_ids, listed_row, nesting, references};
+pub use row_writer::RowWriter;
 pub use type_code::{TypeCode, TypeCodeKind};

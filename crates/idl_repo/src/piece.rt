@@ -1,16 +1,15 @@
-//! What rows are made of: numbers, values, and repository ids, each of which is asked where it is told.
+//! What rows are made of: numbers, values, and what is answered of repository ids.
 
-ghost use Rattle.std.specs.Prelude.{◌≡◌, ◌∷◌, ◌++◌, [], IfOk, OnOk, decimal};
+ghost use Rattle.std.specs.Prelude.{◌≡◌, ◌++◌, IfOk, OnOk, decimal};
 ghost use Rattle.std.specs.Option.{option_copied};
 ghost use Rattle.idl_memo.specs.Query.{noted};
-ghost use Rattle.idl_repo.specs.Pieces.{IdOf, Writes};
 ghost use Rattle.idl_repo.specs.TypeCode.{listed_value};
 ghost use Rattle.idl_scope.specs.Facts.{answers};
 ghost use Rattle.idl_scope.specs.Key.{key_eq};
 ghost use Rattle.idl_scope.specs.declared.key.Key.TheVariants as key;
 
 use idl_memo::Journal;
-use idl_scope::{Answer, Env, LentKey, Path, push_id_at};
+use idl_scope::{Answer, Env, LentKey, Path};
 use idl_value::{Value, push_value};
 use itoa::Buffer;
 use std::alloc::AllocError;
@@ -47,20 +46,4 @@ pub fn id_of<'e>(
 {
     let key = LentKey::id_of(env.alloc(), path);
     log.ask_lent(&key, env)
-}
-
-/// The same, written.
-pub fn push_id(
-    text: &mut Vec<u8>,
-    env: &Env,
-    log: &mut Journal<Env>,
-    path: &Path,
-) -> Result<(), AllocError>
-    ensures { OnOk result
-        (Writes (answers env.now) (IdOf path.now ∷ [])
-        (text.old.items, log.old) (text.new.items, log.new)) }
-{
-    let answer = id_of(env, log, path)?;
-    push_id_at(text, path, answer)?;
-    Ok(())
 }

@@ -4,41 +4,145 @@ ghost use Rattle.std.specs.Prelude.{◌≡◌, ◌++◌, None, OnOk, codes};
 ghost use Rattle.idl_repo.specs.Pieces.{Writes, commas};
 ghost use Rattle.idl_repo.specs.Row.{attribute_pieces, bases_pieces, behind_id, constant_pieces, context_word, contexts_of, contexts_word, direction_word, flag, kind_word, operation_pieces, parameter_pieces, path_text, raised_by_set_of, raised_of, references, row_pieces};
 ghost use Rattle.idl_repo.specs.TypeCode.{kind_in};
-ghost use Rattle.idl_scope.specs.Facts.{answers};
 
 use crate::piece::{id_of, push_listed};
-use crate::type_code::{TypeCode, members_of, push_reference, push_type, push_typed, signature_of};
+use crate::row_writer::RowWriter;
+use crate::type_code::{TypeCode, members_of, signature_of};
 use idl_base::Seq;
-use idl_memo::Journal;
-use idl_scope::{Entity, Env, Kind, Member, Names, Path, push_id_at};
+use idl_scope::{Entity, Kind, Member, Names, Path, push_id_at};
 use idl_value::Value;
 use std::alloc::AllocError;
 
-/// Writes the row of what is declared so, which has an id.
-pub fn push_row(
-    text: &mut Vec<u8>,
-    env: &Env,
-    log: &mut Journal<Env>,
-    entity: &Entity,
-) -> Result<(), AllocError>
-    ensures { OnOk result
-        (Writes (answers env.now) (row_pieces entity.now)
-        (text.old.items, log.old) (text.new.items, log.new)) }
-{
-    text.extend_from_slice(kind_head(entity.kind()))?;
-    push_path(text, entity.path().lent())?;
-    text.extend_from_slice(b" ")?;
-    let answer = id_of(env, log, entity.path())?;
-    push_id_at(text, entity.path(), answer)?;
-    match TypeCode::of(entity) {
-        Some(code) => {
-            code.push_head(text, answer)?;
-            code.push_rest(text, env, log)?;
-            push_bases(text, env, log, entity)?;
+impl<'a> RowWriter<'a> {
+    /// Writes the row of what is declared so, which has an id.
+    pub fn push_row(&mut self, entity: &Entity) -> Result<(), AllocError>
+        ensures { OnOk result (Writes (row_pieces entity.now) self.old self.new) }
+    {
+        self.text.extend_from_slice(kind_head(entity.kind()))?;
+        push_path(&mut self.text, entity.path().lent())?;
+        self.text.extend_from_slice(b" ")?;
+        let answer = id_of(self.env, &mut self.log, entity.path())?;
+        push_id_at(&mut self.text, entity.path(), answer)?;
+        match TypeCode::of(entity) {
+            Some(code) => {
+                code.push_head(&mut self.text, answer)?;
+                self.push_rest(code)?;
+                self.push_bases(entity)?;
+            }
+            None => self.push_uncoded(entity)?,
         }
-        None => push_uncoded(text, env, log, entity)?,
+        Ok(())
     }
-    Ok(())
+
+    // What stands behind the id of a name that has no TypeCode.
+    fn push_uncoded(&mut self, entity: &Entity) -> Result<(), AllocError>
+        requires { kind_in entity.now ≡ None }
+        ensures { OnOk result (Writes (behind_id entity.now) self.old self.new) }
+    {
+        match entity.kind() {
+            Kind::Constant => self.push_constant(entity),
+            Kind::Attribute => self.push_attribute(entity),
+            Kind::Operation => self.push_operation(entity),
+            _ => Ok(()),
+        }
+    }
+
+    // Behind the TypeCode of an interface its bases.
+    fn push_bases(&mut self, entity: &Entity) -> Result<(), AllocError>
+        ensures { OnOk result (Writes (bases_pieces entity.now) self.old self.new) }
+    {
+        if entity.kind() == Kind::Interface {
+            self.text.extend_from_slice(b" bases(")?;
+            self.push_references(entity.bases())?;
+            self.text.extend_from_slice(b")")?;
+        }
+        Ok(())
+    }
+
+    // A constant: its type, and its value.
+    fn push_constant(&mut self, entity: &Entity) -> Result<(), AllocError>
+        ensures { OnOk result (Writes (constant_pieces entity.now) self.old self.new) }
+    {
+        self.text.extend_from_slice(b" ")?;
+        self.push_type(entity.data_type())?;
+        self.text.extend_from_slice(b" ")?;
+        if let Some(value) = entity.value() {
+            push_listed(&mut self.text, value.get())?;
+        }
+        Ok(())
+    }
+
+    // An attribute: its type, and what reading and writing it raise.
+    fn push_attribute(&mut self, entity: &Entity) -> Result<(), AllocError>
+        ensures { OnOk result (Writes (attribute_pieces entity.now) self.old self.new) }
+    {
+        self.text
+            .extend_from_slice(flag(entity.is_readonly(), b" readonly "))?;
+        self.push_type(entity.data_type())?;
+        self.text.extend_from_slice(b" get(")?;
+        self.push_references(raised_of(entity))?;
+        self.text.extend_from_slice(b") set(")?;
+        self.push_references(raised_by_set_of(entity))?;
+        self.text.extend_from_slice(b")")?;
+        Ok(())
+    }
+
+    // An operation: what it gives back, its parameters, what it raises, and its context.
+    fn push_operation(&mut self, entity: &Entity) -> Result<(), AllocError>
+        ensures { OnOk result (Writes (operation_pieces entity.now) self.old self.new) }
+    {
+        self.text
+            .extend_from_slice(flag(entity.is_oneway(), b" oneway "))?;
+        self.push_type(entity.data_type())?;
+        self.text.extend_from_slice(b" (")?;
+        self.push_parameters(members_of(entity))?;
+        self.text.extend_from_slice(b") raises(")?;
+        self.push_references(raised_of(entity))?;
+        self.text.extend_from_slice(b") context(")?;
+        push_contexts(&mut self.text, contexts_of(entity))?;
+        self.text.extend_from_slice(b")")?;
+        Ok(())
+    }
+
+    // References, with commas between them.
+    fn push_references(&mut self, paths: &[Path]) -> Result<(), AllocError>
+        ensures { OnOk result (Writes (references paths.now) self.old self.new) }
+    {
+        let [first, rest @ ..] = paths else {
+            return Ok(());
+        };
+        self.push_reference(first)?;
+        for path in rest {
+            self.text.extend_from_slice(b",")?;
+            self.push_reference(path)?;
+        }
+        Ok(())
+    }
+
+    // Parameters, with commas between them.
+    fn push_parameters(&mut self, parameters: &[Member]) -> Result<(), AllocError>
+        ensures { OnOk result (Writes (commas parameter_pieces parameters.now) self.old self.new) }
+    {
+        let [first, rest @ ..] = parameters else {
+            return Ok(());
+        };
+        self.push_parameter(first)?;
+        for parameter in rest {
+            self.text.extend_from_slice(b",")?;
+            self.push_parameter(parameter)?;
+        }
+        Ok(())
+    }
+
+    // A parameter.
+    fn push_parameter(&mut self, parameter: &Member) -> Result<(), AllocError>
+        ensures { OnOk result (Writes (parameter_pieces parameter.now) self.old self.new) }
+    {
+        self.text
+            .extend_from_slice(direction_head(parameter.goes_in, parameter.comes_out))?;
+        self.push_typed(parameter)?;
+        Ok(())
+    }
 }
 
 /// The word of a row, with a blank behind it.
@@ -73,109 +177,6 @@ fn push_path(text: &mut Vec<u8>, names: Names<'_>) -> Result<(), AllocError>
         text.extend_from_slice(b"::")?;
     }
     text.extend_from_slice(name)?;
-    Ok(())
-}
-
-// What stands behind the id of a name that has no TypeCode.
-fn push_uncoded(
-    text: &mut Vec<u8>,
-    env: &Env,
-    log: &mut Journal<Env>,
-    entity: &Entity,
-) -> Result<(), AllocError>
-    requires { kind_in entity.now ≡ None }
-    ensures { OnOk result
-        (Writes (answers env.now) (behind_id entity.now)
-        (text.old.items, log.old) (text.new.items, log.new)) }
-{
-    match entity.kind() {
-        Kind::Constant => push_constant(text, env, log, entity),
-        Kind::Attribute => push_attribute(text, env, log, entity),
-        Kind::Operation => push_operation(text, env, log, entity),
-        _ => Ok(()),
-    }
-}
-
-// Behind the TypeCode of an interface its bases.
-fn push_bases(
-    text: &mut Vec<u8>,
-    env: &Env,
-    log: &mut Journal<Env>,
-    entity: &Entity,
-) -> Result<(), AllocError>
-    ensures { OnOk result
-        (Writes (answers env.now) (bases_pieces entity.now)
-        (text.old.items, log.old) (text.new.items, log.new)) }
-{
-    if entity.kind() == Kind::Interface {
-        text.extend_from_slice(b" bases(")?;
-        push_references(text, env, log, entity.bases())?;
-        text.extend_from_slice(b")")?;
-    }
-    Ok(())
-}
-
-// A constant: its type, and its value.
-fn push_constant(
-    text: &mut Vec<u8>,
-    env: &Env,
-    log: &mut Journal<Env>,
-    entity: &Entity,
-) -> Result<(), AllocError>
-    ensures { OnOk result
-        (Writes (answers env.now) (constant_pieces entity.now)
-        (text.old.items, log.old) (text.new.items, log.new)) }
-{
-    text.extend_from_slice(b" ")?;
-    push_type(text, env, log, entity.data_type())?;
-    text.extend_from_slice(b" ")?;
-    if let Some(value) = entity.value() {
-        push_listed(text, value.get())?;
-    }
-    Ok(())
-}
-
-// An attribute: its type, and what reading and writing it raise.
-fn push_attribute(
-    text: &mut Vec<u8>,
-    env: &Env,
-    log: &mut Journal<Env>,
-    entity: &Entity,
-) -> Result<(), AllocError>
-    ensures { OnOk result
-        (Writes (answers env.now) (attribute_pieces entity.now)
-        (text.old.items, log.old) (text.new.items, log.new)) }
-{
-    text.extend_from_slice(flag(entity.is_readonly(), b" readonly "))?;
-    push_type(text, env, log, entity.data_type())?;
-    text.extend_from_slice(b" get(")?;
-    push_references(text, env, log, raised_of(entity))?;
-    text.extend_from_slice(b") set(")?;
-    push_references(text, env, log, raised_by_set_of(entity))?;
-    text.extend_from_slice(b")")?;
-    Ok(())
-}
-
-// An operation: what it gives back, its parameters, what it raises, and its context.
-fn push_operation(
-    text: &mut Vec<u8>,
-    env: &Env,
-    log: &mut Journal<Env>,
-    entity: &Entity,
-) -> Result<(), AllocError>
-    ensures { OnOk result
-        (Writes (answers env.now) (operation_pieces entity.now)
-        (text.old.items, log.old) (text.new.items, log.new)) }
-{
-    text.extend_from_slice(flag(entity.is_oneway(), b" oneway "))?;
-    push_type(text, env, log, entity.data_type())?;
-    text.extend_from_slice(b" (")?;
-    push_parameters(text, env, log, members_of(entity))?;
-    text.extend_from_slice(b") raises(")?;
-    push_references(text, env, log, raised_of(entity))?;
-    text.extend_from_slice(b") context(")?;
-    push_contexts(text, contexts_of(entity))?;
-    text.extend_from_slice(b")")?;
     Ok(())
 }
 
@@ -214,66 +215,6 @@ fn contexts_of(entity: &Entity) -> &[Seq<u16>]
         Some(signature) => signature.contexts.as_slice(),
         None => &[],
     }
-}
-
-// References, with commas between them.
-fn push_references(
-    text: &mut Vec<u8>,
-    env: &Env,
-    log: &mut Journal<Env>,
-    paths: &[Path],
-) -> Result<(), AllocError>
-    ensures { OnOk result
-        (Writes (answers env.now) (references paths.now)
-        (text.old.items, log.old) (text.new.items, log.new)) }
-{
-    let [first, rest @ ..] = paths else {
-        return Ok(());
-    };
-    push_reference(text, env, log, first)?;
-    for path in rest {
-        text.extend_from_slice(b",")?;
-        push_reference(text, env, log, path)?;
-    }
-    Ok(())
-}
-
-// Parameters, with commas between them.
-fn push_parameters(
-    text: &mut Vec<u8>,
-    env: &Env,
-    log: &mut Journal<Env>,
-    parameters: &[Member],
-) -> Result<(), AllocError>
-    ensures { OnOk result
-        (Writes (answers env.now) (commas parameter_pieces parameters.now)
-        (text.old.items, log.old) (text.new.items, log.new)) }
-{
-    let [first, rest @ ..] = parameters else {
-        return Ok(());
-    };
-    push_parameter(text, env, log, first)?;
-    for parameter in rest {
-        text.extend_from_slice(b",")?;
-        push_parameter(text, env, log, parameter)?;
-    }
-    Ok(())
-}
-
-// A parameter.
-fn push_parameter(
-    text: &mut Vec<u8>,
-    env: &Env,
-    log: &mut Journal<Env>,
-    parameter: &Member,
-) -> Result<(), AllocError>
-    ensures { OnOk result
-        (Writes (answers env.now) (parameter_pieces parameter.now)
-        (text.old.items, log.old) (text.new.items, log.new)) }
-{
-    text.extend_from_slice(direction_head(parameter.goes_in, parameter.comes_out))?;
-    push_typed(text, env, log, parameter)?;
-    Ok(())
 }
 
 // Where a parameter goes, with a blank behind it.

@@ -4,13 +4,13 @@ ghost use Rattle.std.specs.Prelude.{◌≡◌, ◌++◌, IfOk, IfSome, OnOk, cod
 ghost use Rattle.std.specs.Option.{option_copied, option_map};
 ghost use Rattle.idl_repo.specs.Pieces.{Writes};
 ghost use Rattle.idl_repo.specs.TypeCode.{code_head, code_word, default_at, default_word, element_pieces, entries_of, enumerator_word, integer_word, kind_in, label_word, labelled_pieces, layer_end, layer_word, layers_begin, member_pieces, members_of, part_pieces, reference, rest_pieces, size_of, string_word, target_word, type_behind, type_pieces, typed_pieces, unvalued_word};
-ghost use Rattle.idl_scope.specs.Facts.{answers, id_at};
+ghost use Rattle.idl_scope.specs.Facts.{id_at};
 
-use crate::piece::{push_id, push_listed, push_number};
+use crate::piece::{push_listed, push_number};
+use crate::row_writer::RowWriter;
 use idl_base::Bytes;
-use idl_memo::Journal;
 use idl_scope::{
-    Answer, DataType, Element, Entity, Env, Kind, Layer, Member, Path, Shared, Signature, Unvalued,
+    Answer, DataType, Element, Entity, Kind, Layer, Member, Path, Shared, Signature, Unvalued,
     push_id_at,
 };
 use idl_value::{IntegerKind, Target, Value};
@@ -86,50 +86,132 @@ impl<'a> TypeCode<'a> {
         push_id_at(text, self.entity.path(), answer)?;
         Ok(())
     }
+}
 
-    /// Writes what stands behind its id: its name and its parts.
-    pub fn push_rest(
-        self,
-        text: &mut Vec<u8>,
-        env: &Env,
-        log: &mut Journal<Env>,
-    ) -> Result<(), AllocError>
+impl<'a> RowWriter<'a> {
+    /// Writes what stands behind the id of a TypeCode: its name and its parts.
+    pub fn push_rest(&mut self, code: TypeCode<'_>) -> Result<(), AllocError>
         ensures { OnOk result
-            (Writes (answers env.now) (rest_pieces self.entry.kind self.entry.entity.now)
-            (text.old.items, log.old) (text.new.items, log.new)) }
+            (Writes (rest_pieces code.entry.kind code.entry.entity.now) self.old self.new) }
     {
-        text.extend_from_slice(b",")?;
-        text.extend_from_slice(self.entity.path().name())?;
-        self.push_parts(text, env, log)?;
-        text.extend_from_slice(b")")?;
+        self.text.extend_from_slice(b",")?;
+        self.text.extend_from_slice(code.entity.path().name())?;
+        self.push_parts(code)?;
+        self.text.extend_from_slice(b")")?;
         Ok(())
     }
 
     // What stands behind the name.
-    fn push_parts(
-        self,
-        text: &mut Vec<u8>,
-        env: &Env,
-        log: &mut Journal<Env>,
-    ) -> Result<(), AllocError>
+    fn push_parts(&mut self, code: TypeCode<'_>) -> Result<(), AllocError>
         ensures { OnOk result
-            (Writes (answers env.now) (part_pieces self.entry.kind self.entry.entity.now)
-            (text.old.items, log.old) (text.new.items, log.new)) }
+            (Writes (part_pieces code.entry.kind code.entry.entity.now) self.old self.new) }
     {
-        match self.kind {
+        match code.kind {
             TypeCodeKind::ObjectReference | TypeCodeKind::LocalInterface | TypeCodeKind::Native =>
                 Ok(()),
             TypeCodeKind::Structure | TypeCodeKind::Exception => {
-                push_members(text, env, log, members_of(self.entity))
+                self.push_members(members_of(code.entity))
             }
             TypeCodeKind::Union => {
-                push_type_behind(text, env, log, self.entity.data_type())?;
-                push_entries(text, env, log, members_of(self.entity))?;
+                self.push_type_behind(code.entity.data_type())?;
+                self.push_entries(members_of(code.entity))?;
                 Ok(())
             }
-            TypeCodeKind::Enumeration => { push_enumerators(text, self.entity.enumerators()) }
-            TypeCodeKind::Alias => push_type_behind(text, env, log, self.entity.data_type()),
+            TypeCodeKind::Enumeration => {
+                push_enumerators(&mut self.text, code.entity.enumerators())
+            }
+            TypeCodeKind::Alias => self.push_type_behind(code.entity.data_type()),
         }
+    }
+
+    // Each member, with a comma before it.
+    fn push_members(&mut self, members: &[Member]) -> Result<(), AllocError>
+        ensures { OnOk result (Writes (flat_map member_pieces members.now) self.old self.new) }
+    {
+        for member in members {
+            self.text.extend_from_slice(b",")?;
+            self.push_typed(member)?;
+        }
+        Ok(())
+    }
+
+    /// The name of a member or parameter, and its type.
+    pub fn push_typed(&mut self, member: &Member) -> Result<(), AllocError>
+        ensures { OnOk result (Writes (typed_pieces member.now) self.old self.new) }
+    {
+        self.text.extend_from_slice(member.name.as_bytes())?;
+        self.text.extend_from_slice(b":")?;
+        self.push_type(&member.data_type)?;
+        Ok(())
+    }
+
+    // The number of the entry of `default`, and an entry for each label of each member.
+    fn push_entries(&mut self, members: &[Member]) -> Result<(), AllocError>
+        ensures { OnOk result (Writes (entries_of members.now) self.old self.new) }
+    {
+        self.text.extend_from_slice(b",")?;
+        let number = default_at(members)?;
+        push_default(&mut self.text, number)?;
+        for member in members {
+            self.push_labelled(member)?;
+        }
+        Ok(())
+    }
+
+    // An entry for each label of a member.
+    fn push_labelled(&mut self, member: &Member) -> Result<(), AllocError>
+        ensures { OnOk result (Writes (labelled_pieces member.now) self.old self.new) }
+    {
+        for label in member.labels.as_slice() {
+            self.text.extend_from_slice(b",")?;
+            push_label(&mut self.text, label)?;
+            self.text.extend_from_slice(b":")?;
+            self.push_typed(member)?;
+        }
+        Ok(())
+    }
+
+    // A type, with a comma before it.
+    fn push_type_behind(&mut self, data_type: &Option<Shared<DataType>>) -> Result<(), AllocError>
+        ensures { OnOk result (Writes (type_behind data_type.now) self.old self.new) }
+    {
+        self.text.extend_from_slice(b",")?;
+        self.push_type(data_type)?;
+        Ok(())
+    }
+
+    /// A type: a named one is told by its id, and another one is written in place.
+    pub fn push_type(&mut self, data_type: &Option<Shared<DataType>>) -> Result<(), AllocError>
+        ensures { OnOk result (Writes (type_pieces data_type.now) self.old self.new) }
+    {
+        let Some(data_type) = data_type else {
+            return self.text.extend_from_slice(b"tk_void");
+        };
+        let DataType { element, layers } = data_type.get();
+        begin_layers(&mut self.text, layers.as_slice())?;
+        self.push_element(element)?;
+        end_layers(&mut self.text, layers.as_slice())?;
+        Ok(())
+    }
+
+    // What a type is of.
+    fn push_element(&mut self, element: &Element) -> Result<(), AllocError>
+        ensures { OnOk result (Writes (element_pieces element.now) self.old self.new) }
+    {
+        match element {
+            Element::Constants(target) => push_target(&mut self.text, target),
+            Element::Named(path) => self.push_reference(path),
+            Element::Unvalued(kind) => self.text.extend_from_slice(unvalued_word(*kind)),
+        }
+    }
+
+    /// A reference to what is declared at a path.
+    pub fn push_reference(&mut self, path: &Path) -> Result<(), AllocError>
+        ensures { OnOk result (Writes (reference path.now) self.old self.new) }
+    {
+        self.text.extend_from_slice(b"@")?;
+        self.push_id(path)?;
+        Ok(())
     }
 }
 
@@ -151,61 +233,6 @@ pub fn signature_of(entity: &Entity) -> Option<&Signature>
         Some(signature) => Some(signature.get()),
         None => None,
     }
-}
-
-// Each member, with a comma before it.
-fn push_members(
-    text: &mut Vec<u8>,
-    env: &Env,
-    log: &mut Journal<Env>,
-    members: &[Member],
-) -> Result<(), AllocError>
-    ensures { OnOk result
-        (Writes (answers env.now) (flat_map member_pieces members.now)
-        (text.old.items, log.old) (text.new.items, log.new)) }
-{
-    for member in members {
-        text.extend_from_slice(b",")?;
-        push_typed(text, env, log, member)?;
-    }
-    Ok(())
-}
-
-/// The name of a member or parameter, and its type.
-pub fn push_typed(
-    text: &mut Vec<u8>,
-    env: &Env,
-    log: &mut Journal<Env>,
-    member: &Member,
-) -> Result<(), AllocError>
-    ensures { OnOk result
-        (Writes (answers env.now) (typed_pieces member.now)
-        (text.old.items, log.old) (text.new.items, log.new)) }
-{
-    text.extend_from_slice(member.name.as_bytes())?;
-    text.extend_from_slice(b":")?;
-    push_type(text, env, log, &member.data_type)?;
-    Ok(())
-}
-
-// The number of the entry of `default`, and an entry for each label of each member.
-fn push_entries(
-    text: &mut Vec<u8>,
-    env: &Env,
-    log: &mut Journal<Env>,
-    members: &[Member],
-) -> Result<(), AllocError>
-    ensures { OnOk result
-        (Writes (answers env.now) (entries_of members.now)
-        (text.old.items, log.old) (text.new.items, log.new)) }
-{
-    text.extend_from_slice(b",")?;
-    let number = default_at(members)?;
-    push_default(text, number)?;
-    for member in members {
-        push_labelled(text, env, log, member)?;
-    }
-    Ok(())
 }
 
 // The number of the entry of `default`, or -1.
@@ -238,26 +265,6 @@ fn default_at(members: &[Member]) -> Result<Option<usize>, AllocError>
     Ok(None)
 }
 
-// An entry for each label of a member.
-fn push_labelled(
-    text: &mut Vec<u8>,
-    env: &Env,
-    log: &mut Journal<Env>,
-    member: &Member,
-) -> Result<(), AllocError>
-    ensures { OnOk result
-        (Writes (answers env.now) (labelled_pieces member.now)
-        (text.old.items, log.old) (text.new.items, log.new)) }
-{
-    for label in member.labels.as_slice() {
-        text.extend_from_slice(b",")?;
-        push_label(text, label)?;
-        text.extend_from_slice(b":")?;
-        push_typed(text, env, log, member)?;
-    }
-    Ok(())
-}
-
 // A label.
 fn push_label(text: &mut Vec<u8>, label: &Option<Value>) -> Result<(), AllocError>
     ensures { OnOk result
@@ -279,43 +286,6 @@ fn push_enumerators(text: &mut Vec<u8>, names: &[Bytes]) -> Result<(), AllocErro
         text.extend_from_slice(b",")?;
         text.extend_from_slice(name.as_bytes())?;
     }
-    Ok(())
-}
-
-// A type, with a comma before it.
-fn push_type_behind(
-    text: &mut Vec<u8>,
-    env: &Env,
-    log: &mut Journal<Env>,
-    data_type: &Option<Shared<DataType>>,
-) -> Result<(), AllocError>
-    ensures { OnOk result
-        (Writes (answers env.now) (type_behind data_type.now)
-        (text.old.items, log.old) (text.new.items, log.new)) }
-{
-    text.extend_from_slice(b",")?;
-    push_type(text, env, log, data_type)?;
-    Ok(())
-}
-
-/// A type: a named one is told by its id, and another one is written in place.
-pub fn push_type(
-    text: &mut Vec<u8>,
-    env: &Env,
-    log: &mut Journal<Env>,
-    data_type: &Option<Shared<DataType>>,
-) -> Result<(), AllocError>
-    ensures { OnOk result
-        (Writes (answers env.now) (type_pieces data_type.now)
-        (text.old.items, log.old) (text.new.items, log.new)) }
-{
-    let Some(data_type) = data_type else {
-        return text.extend_from_slice(b"tk_void");
-    };
-    let DataType { element, layers } = data_type.get();
-    begin_layers(text, layers.as_slice())?;
-    push_element(text, env, log, element)?;
-    end_layers(text, layers.as_slice())?;
     Ok(())
 }
 
@@ -362,40 +332,6 @@ fn size_of(layer: Layer) -> u32
         Layer::Sequence(bound) => bound,
         Layer::Array(length) => length,
     }
-}
-
-// What a type is of.
-fn push_element(
-    text: &mut Vec<u8>,
-    env: &Env,
-    log: &mut Journal<Env>,
-    element: &Element,
-) -> Result<(), AllocError>
-    ensures { OnOk result
-        (Writes (answers env.now) (element_pieces element.now)
-        (text.old.items, log.old) (text.new.items, log.new)) }
-{
-    match element {
-        Element::Constants(target) => push_target(text, target),
-        Element::Named(path) => push_reference(text, env, log, path),
-        Element::Unvalued(kind) => text.extend_from_slice(unvalued_word(*kind)),
-    }
-}
-
-/// A reference to what is declared at a path.
-pub fn push_reference(
-    text: &mut Vec<u8>,
-    env: &Env,
-    log: &mut Journal<Env>,
-    path: &Path,
-) -> Result<(), AllocError>
-    ensures { OnOk result
-        (Writes (answers env.now) (reference path.now)
-        (text.old.items, log.old) (text.new.items, log.new)) }
-{
-    text.extend_from_slice(b"@")?;
-    push_id(text, env, log, path)?;
-    Ok(())
 }
 
 // A type of keywords of which there are constants. An enum has a name.

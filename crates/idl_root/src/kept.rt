@@ -12,7 +12,7 @@ ghost use Rattle.idl_scope.specs.Turns.{turns_for};
 
 use idl_check::{Scratch, Verdict, verdict_of};
 use idl_memo::{Journal, logging, reliance};
-use idl_repo::{Entry, EntryTask, entry_by};
+use idl_repo::{Entry, EntryTask, entry_at};
 use idl_scope::{Answer, DigestedKey, Env, Path, Shared};
 use idl_unit::UnitText;
 use std::alloc::{AllocError, Global};
@@ -194,7 +194,7 @@ fn noted_entry(
 {
     reliance::<Env, EntryTask>();
     let mut journal = Journal::noting(alloc);
-    let entry = entry_by(buffer, env, &mut journal, path)?;
+    let entry = entry_at(buffer, env, &mut journal, path)?;
     let Some(digests) = journal.digests() else {
         return Err(AllocError);
     };

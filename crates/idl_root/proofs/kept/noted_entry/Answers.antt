@@ -14,8 +14,8 @@ returns-clause-noted c =
     let query = entry c.args.path.now in
     let bank = answers c.args.env.now in
     let log : List (Key × Option Answer) = (run key_eq query bank []).1 in
-    let told : c.entry_by.new.log ≡ log =
+    let told : c.entry_at.new.log ≡ log =
     ap (λ p. p.1) c.in_ok-entry.ensures ∙ ap (λ (l : List (Key × Option Answer)). (run key_eq query bank l).1) c.noting-journal.ensures in
     let digests = c.in-Some.digests.items in
-    let noted : All (λ e. Contains digests (key_digest e.0)) c.entry_by.new.log = c.in-Some.ensures in
+    let noted : All (λ e. Contains digests (key_digest e.0)) c.entry_at.new.log = c.in-Some.ensures in
     keys-noted digests log (asked query bank) (subst (All (λ e. Contains digests (key_digest e.0))) told noted) (c.reliance.ensures.log c.args.path.now bank).whole

@@ -1,7 +1,0 @@
-use Rattle.std.proofs.Common.{ap}
-use Rattle.idl_repo.proofs.WriteLemmas.{writes-id-as}
-use Rattle.idl_scope.specs.Facts.{id_at}
-use Rattle.idl_repo.proofs.piece.push_id.Goals as goal
-
-pub returns : goal.returns
-returns c = writes-id-as c.in_ok-push_id_at.ensures (ap (id_at c.args.path.now) c.in_ok-answer.ensures.answer) c.in_ok-answer.ensures.logged
