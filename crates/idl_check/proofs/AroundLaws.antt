@@ -1,5 +1,5 @@
 -- A walk without fault knows what stands around each site: as many unions as are open, each with a type of labels, and the type of the next constant.
-use Rattle.std.proofs.Common.{◌≡◌, ◌∙◌, ℕ, ◌≤◌, Bool, true, false, cond, List, [], ◌∷◌, drop, length, map, Option, None, Some, Result, Ok, Err, refl, sym, ap, subst, arith}
+use Rattle.std.proofs.Common.{◌≡◌, ◌∙◌, ℕ, ◌≤◌, Bool, true, false, cond, List, [], ◌∷◌, drop, length, Option, None, Some, Result, Ok, Err, refl, sym, ap, subst, arith}
 use Rattle.std.proofs.lemmas.List.{length-drop}
 use Rattle.std.proofs.lemmas.List.Elements.{All-cons, All-drop, All-head, All-tail}
 use Rattle.std.specs.Option.{IsSome}
@@ -42,12 +42,13 @@ use Rattle.idl_site.specs.declared.site.Use.{Use}
 use Rattle.idl_site.specs.declared.site.Use.TheVariants.{AsBase, AsType, AsElement, AsConstantType, AsDiscriminator, AsOperand, Raised, RaisedBySet}
 use Rattle.idl_tree.specs.declared.data_type.BasicType.TheVariants as basic
 use Rattle.idl_tree.specs.declared.name.ScopedName.{ScopedName}
-use Rattle.idl_unit.specs.TokenRules.{fault_at, first}
+use Rattle.idl_unit.specs.TokenRules.{first}
 use Rattle.idl_value.specs.declared.target.Target.{Target}
 use Rattle.idl_value.specs.declared.value.Value.{Value}
 use Rattle.idl_check.proofs.LevelSites.{Around, around_after, has_constants, is_inside, opens_union, popped, used_around}
 use Rattle.idl_check.proofs.PartLemmas.{IsUpTo}
 use Rattle.idl_check.proofs.SiteLaws.{declared_by, denoted-up, end_visit, named_by, union_visit, used_by, visited}
+use Rattle.idl_check.proofs.TableLaws.{no-codes, no-row}
 
 abbrev pub IsTyped : Labels → Type 0
 IsTyped labels = IsSome labels.target
@@ -75,14 +76,6 @@ pub record IsKept (w : Walk) (u : Walk) (a : Around) : Type 0 where
   pub constant : u.values.constant ≡ w.values.constant
 
 -- ---- tables without fault
-
-no-codes : (n : ℕ) (cs : List Code) → map (fault_at n) cs ≡ [] → cs ≡ []
-no-codes n [] h = refl
-no-codes n (c ∷ cs) h = cc
-
-no-row : (b : Bool) (c : Code) (cs : List Code) → cond b (c ∷ cs) cs ≡ [] → (b ≡ false) × (cs ≡ [])
-no-row true c cs h = cc
-no-row false c cs h = (refl, h)
 
 suits-none : (b : Bool) (table : Table) → codes_in (cond b table ((true, code.WrongKind) ∷ [])) ≡ [] → (b ≡ true) × (codes_in table ≡ [])
 suits-none true table h = (refl, h)

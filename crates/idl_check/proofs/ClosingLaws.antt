@@ -3,13 +3,14 @@ use Rattle.std.proofs.Common.{◌≡◌, ◌⊎◌, ◌∙◌, ℕ, ◌+◌, Boo
 use Rattle.std.proofs.lemmas.List.{append-nil}
 use Rattle.std.specs.Prelude.{Contains, drop, nat_eq, nat_lt}
 use Rattle.idl_base.specs.Exact.{same_number}
-use Rattle.idl_check.proofs.ReachedLaws.{Names, Place, names_in, some_one, there}
-use Rattle.idl_check.proofs.SettledLaws.{AreAdded, IsKept, IsNamed, IsNameless, IsOpened, IsPlace, IsUnder, Once, added-kept, named-nameless, none-some, over}
+use Rattle.idl_check.proofs.ReachedLaws.{Names, Place, names_in, there}
+use Rattle.idl_check.proofs.SettledLaws.{AreAdded, IsKept, IsNamed, IsNameless, IsOpened, IsPlace, IsUnder, Once, added-kept, named-nameless, over}
 use Rattle.idl_check.proofs.TurnedLaws.{inherited-in, inherited-out, turned-kept}
 use Rattle.idl_check.specs.Closing.{AreTold, Entered, IsTold, Left, Unit as OfUnit}
 use Rattle.idl_check.specs.Verdict.{verdict}
 use Rattle.idl_lex.specs.Keywords.{folded}
 use Rattle.idl_memo.specs.Query.{outcome}
+use Rattle.idl_scope.proofs.Constructors.{some_same, none_some}
 use Rattle.idl_scope.proofs.FactsLaws.{world-append}
 use Rattle.idl_scope.proofs.Membership.{Contains-IsIn, IsIn, IsIn-Contains, IsIn-left, IsIn-right, IsIn-split}
 use Rattle.std.specs.Char.{to_ascii_lowercase}
@@ -55,7 +56,7 @@ place-entity : (D : Names) (path : Place) (name : List ℕ) (scope : Place) → 
     → IsNamed e.path → folded (name_of path) ≡ folded (name_of e.path) → e.path ≡ path
 place-entity D path name scope is (inl global) e h named same = let z : [] ≡ name ∷ scope = sym global ∙ is in cc
 place-entity D path name scope is (inr (inl nameless)) e h named same = absurd (nameless-folded path e.path nameless named same)
-place-entity D path name scope is (inr (inr y)) e h named same = ap (λ (z : Entity). z.path) (sym (some_one (sym y.1 ∙ h))) ∙ y.2
+place-entity D path name scope is (inr (inr y)) e h named same = ap (λ (z : Entity). z.path) (sym (some_same (sym y.1 ∙ h))) ∙ y.2
 
 module _ (w : World) (s t : Scope) (outer : List Scope) where
   abbrev D : Names
@@ -162,12 +163,12 @@ unit-settled w f k fits =
 
 first-settled : IsSettled first_world
 first-settled = record {
-  named = λ n path x h. absurd (none-some h);
-  placed = λ n path x h. absurd (none-some h);
-  whole = λ e c. absurd (none-some c.stands);
-  opened = (record { place = inl refl; kind = λ e h is. absurd (none-some h); held = λ e h is interface. absurd (none-some h) }, (tt, tt));
+  named = λ n path x h. absurd (none_some h);
+  placed = λ n path x h. absurd (none_some h);
+  whole = λ e c. absurd (none_some c.stands);
+  opened = (record { place = inl refl; kind = λ e h is. absurd (none_some h); held = λ e h is interface. absurd (none_some h) }, (tt, tt));
   some = λ z. cc;
-  modules = λ n path x h. absurd (none-some h);
+  modules = λ n path x h. absurd (none_some h);
 }
 
 -- what verdicts tell is kept, where a unit's verdict fits
@@ -180,7 +181,7 @@ told-settled fits facts told = on [] facts refl first
     first = first-settled
 
     no-addition : (w : World) (step : Step) → StepFits (with_additions [] w) step → IsFitting w (record { additions = []; step = step })
-    no-addition w step s = record { once = tt; added = λ x i. absurd (none-some i); step = s }
+    no-addition w step s = record { once = tt; added = λ x i. absurd (none_some i); step = s }
 
     one : (front : List UnitFacts) (f : UnitFacts) → IsTold front f → IsSettled (world front) → IsFitting (world front) f
     one front f (OfUnit text is) k = subst (IsFitting (world front)) (sym is) (fits front text k)

@@ -4,6 +4,7 @@ use Rattle.std.proofs.Common.{◌≡◌, ℕ, true, false, List, [], ◌∷◌, 
 use Rattle.idl_lex.specs.declared.keyword.Keyword.TheVariants as word
 use Rattle.idl_lex.specs.declared.mark.Mark.TheVariants as mark
 use Rattle.idl_site.proofs.ConstructionEquations.{case_parts-made, construction_parts-enumeration, construction_parts-structure, construction_parts-union, member_parts-made, member_type_parts-construction, member_type_parts-type, structure_parts-made, union_brace, union_parts-made}
+use Rattle.idl_site.proofs.Such.{Such}
 use Rattle.idl_site.specs.ConstructionParts.{case_parts, construction_parts, discriminator_parts, enumeration_parts, label_parts, member_parts, member_type_parts, structure_parts, union_parts}
 use Rattle.idl_site.specs.ExpressionParts.{value_parts}
 use Rattle.idl_site.specs.Part.{Part, Parts, ArrayEnds, Declares, Default, Enumerates, Plain, ScopeBegins, ScopeEnds, TypeEnds, Uses, all_parts, declared, keyword_part, listed, punctuation}
@@ -96,9 +97,6 @@ Types t = (way : Use) → is_level_use way ≡ true → Gives (type_parts_as t w
 
 abbrev Sequences : Sequence → Type 0
 Sequences s = Types (data_type.Sequence s)
-
-abbrev Such : {X : Type 0} → (X → Type 0) → Type 0
-Such {X} claim = (x : X) × claim x
 
 sequence : (t : DataType) (b : Option Expression) → Types t → Types (made_sequence t b)
 sequence t b h way level =

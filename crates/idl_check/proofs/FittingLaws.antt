@@ -3,7 +3,7 @@ use Rattle.std.proofs.Common.{◌≡◌, ℕ, Bool, true, false, cond, List, [],
 use Rattle.idl_check.proofs.ClosingLaws.{IsFitting, IsSettled, StepFits}
 use Rattle.idl_check.proofs.PragmaLaws.{faulty-pragma, spoken-pragma}
 use Rattle.idl_check.proofs.VerdictLaws.{faulty-is, sound-is}
-use Rattle.idl_check.proofs.SettledLaws.{Once, found-in}
+use Rattle.idl_check.proofs.SettledLaws.{Once}
 use Rattle.idl_check.specs.Identifying.{given, versioned}
 use Rattle.idl_check.specs.Judging.{IsSound}
 use Rattle.idl_check.specs.Placing.{faulty_step, is_closing_by, opened_kind}
@@ -18,6 +18,7 @@ use Rattle.idl_lex.specs.Tokens.{Token}
 use Rattle.idl_memo.proofs.QueryLaws.{outcome-and_then}
 use Rattle.idl_memo.specs.Query.{Ask, Done, outcome}
 use Rattle.idl_scope.proofs.Membership.{IsIn}
+use Rattle.idl_scope.proofs.Worlds.{addition_at-Some}
 use Rattle.idl_scope.specs.Facts.{UnitFacts, World, answers, entity_key, identity_at, scopes_in, world, with_additions}
 use Rattle.idl_scope.specs.Lookup.{Lookup, by_result, denoted}
 use Rattle.idl_scope.specs.Turns.{turns_for}
@@ -50,7 +51,7 @@ pub record IsCalm (f : UnitFacts) : Type 0 where
   pub step : (w : World) → StepFits w f.step
 
 pub calm-fits : (w : World) (f : UnitFacts) → IsCalm f → IsFitting w f
-calm-fits w f c = record { once = c.once; added = λ x i. absurd (c.nothing x (found-in f.additions (entity_key x.path) (Declares x) i).0); step = c.step (with_additions f.additions w) }
+calm-fits w f c = record { once = c.once; added = λ x i. absurd (c.nothing x (addition_at-Some f.additions (entity_key x.path) (Declares x) i).0); step = c.step (with_additions f.additions w) }
 
 calm-closing : (b : Bool) → (w : World) → StepFits w (cond b Closes Stays)
 calm-closing true w = tt

@@ -4,6 +4,7 @@ use Rattle.std.specs.Prelude.{◌≢◌}
 use Rattle.idl_check.proofs.ReachedLaws.{Names, Place, own, only, there}
 use Rattle.idl_check.proofs.SettledLaws.{AreAdded, IsAdded, IsFound, IsNamed, IsOpen, IsPlace, Once, over}
 use Rattle.idl_lex.specs.Keywords.{folded}
+use Rattle.idl_scope.proofs.FirstLemmas.{addition_at-with_addition}
 use Rattle.idl_scope.specs.Digested.{key_equiv}
 use Rattle.idl_scope.specs.Facts.{addition_at, answer_of, entity_in, entity_key, is_operation, key_of, path_around, with_addition}
 use Rattle.idl_scope.specs.Key.{key_eq}
@@ -22,33 +23,6 @@ use Rattle.idl_scope.specs.declared.kind.Stage.TheVariants.{Ahead}
 
 -- ---- one more addition
 
--- it is found at its key, and nothing else is found otherwise
-pub at-with : (additions : List Addition) (a : Addition) (k : Key) → addition_at (with_addition additions a) k ≡ cond (key_eq k (key_of a)) (Some a) (addition_at additions k)
-at-with [] a k = refl
-at-with (b ∷ additions) a k = by_place (at-with additions a k) (key_eq (key_of a) (key_of b)) refl
-  where
-    rest : Option Addition
-    rest = addition_at additions k
-
-    there_is : key_eq (key_of a) (key_of b) ≡ true → (t : Bool) → key_eq k (key_of a) ≡ t → cond t (Some a) rest ≡ cond t (Some a) (cond (key_eq k (key_of b)) (Some b) rest)
-    there_is same true h = refl
-    there_is same false h = ap (λ t. cond t (Some b) rest) (sym (ap (key_eq k) (sym (same_key (key_of a) (key_of b) same)) ∙ h))
-
-    apart : key_eq (key_of a) (key_of b) ≡ false → (t u : Bool) → key_eq k (key_of a) ≡ t → key_eq k (key_of b) ≡ u
-        → cond u (Some b) (cond t (Some a) rest) ≡ cond t (Some a) (cond u (Some b) rest)
-    apart other true true h g =
-        let same : key_of a ≡ key_of b = sym (same_key k (key_of a) h) ∙ same_key k (key_of b) g in
-        let z : true ≡ false = sym (key_equiv.refl (key_of b)) ∙ ap (λ q. key_eq q (key_of b)) (sym same) ∙ other in cc
-    apart other true false h g = refl
-    apart other false true h g = refl
-    apart other false false h g = refl
-
-    by_place : addition_at (with_addition additions a) k ≡ cond (key_eq k (key_of a)) (Some a) rest
-        → (t : Bool) → key_eq (key_of a) (key_of b) ≡ t → addition_at (cond t (a ∷ additions) (b ∷ with_addition additions a)) k ≡ cond (key_eq k (key_of a)) (Some a) (cond (key_eq k (key_of b)) (Some b) rest)
-    by_place later true same = there_is same (key_eq k (key_of a)) refl
-    by_place later false other =
-        ap (λ o. cond (key_eq k (key_of b)) (Some b) o) later ∙ apart other (key_eq k (key_of a)) (key_eq k (key_of b)) refl refl
-
 pub once-with : (additions : List Addition) (a : Addition) → Once additions → Once (with_addition additions a)
 once-with [] a once = (refl, tt)
 once-with (b ∷ additions) a once = by_place (once-with additions a once.1) (key_eq (key_of a) (key_of b)) refl
@@ -56,11 +30,11 @@ once-with (b ∷ additions) a once = by_place (once-with additions a once.1) (ke
     by_place : Once (with_addition additions a) → (t : Bool) → key_eq (key_of a) (key_of b) ≡ t → Once (cond t (a ∷ additions) (b ∷ with_addition additions a))
     by_place later true same = (ap (addition_at additions) (same_key (key_of a) (key_of b) same) ∙ once.0, once.1)
     by_place later false other = (
-      at-with additions a (key_of b) ∙ ap (λ t. cond t (Some a) (addition_at additions (key_of b))) (key_equiv.symm (key_of b) (key_of a) ∙ other) ∙ once.0,
+      addition_at-with_addition additions a (key_of b) ∙ ap (λ t. cond t (Some a) (addition_at additions (key_of b))) (key_equiv.symm (key_of b) (key_of a) ∙ other) ∙ once.0,
       later,
     )
 
-declares-one : (x y : Entity) → Some (Declares x) ≡ Some (Declares y) → x ≡ y
+pub declares-one : (x y : Entity) → Some (Declares x) ≡ Some (Declares y) → x ≡ y
 declares-one x y h = cc
 
 -- ---- what tokens have added to names, in scopes
@@ -113,7 +87,7 @@ module _ (D : Names) (scopes : List Scope) where
     at_name n q = by_test (key_eq (Declared n q) (entity_key z.path)) refl
       where
         here : own (over more D) n q ≡ told n q (cond (key_eq (Declared n q) (entity_key z.path)) (Some (Declares z)) (addition_at additions (Declared n q)))
-        here = ap (told n q) (at-with additions (Declares z) (Declared n q))
+        here = ap (told n q) (addition_at-with_addition additions (Declares z) (Declared n q))
 
         by_test : (t : Bool) → key_eq (Declared n q) (entity_key z.path) ≡ t → ((Declared n q ≡ entity_key z.path) × (own (over more D) n q ≡ Some z)) ⊎ (own (over more D) n q ≡ own (over additions D) n q)
         by_test true same = inl (same_key (Declared n q) (entity_key z.path) same, here ∙ ap (λ t. told n q (cond t (Some (Declares z)) (addition_at additions (Declared n q)))) same)
@@ -140,7 +114,7 @@ module _ (D : Names) (scopes : List Scope) where
 
     -- what is found is the new one, or was found
     found-with : (x : Entity) → IsFound more x → (z ≡ x) ⊎ IsFound additions x
-    found-with x h = by_test (key_eq (entity_key x.path) (entity_key z.path)) (sym (at-with additions (Declares z) (entity_key x.path)) ∙ h)
+    found-with x h = by_test (key_eq (entity_key x.path) (entity_key z.path)) (sym (addition_at-with_addition additions (Declares z) (entity_key x.path)) ∙ h)
       where
         by_test : (t : Bool) → cond t (Some (Declares z)) (addition_at additions (entity_key x.path)) ≡ Some (Declares x) → (z ≡ x) ⊎ IsFound additions x
         by_test true e = inl (declares-one z x e)
@@ -175,7 +149,7 @@ module _ (D : Names) (scopes : List Scope) where
     other-with x h = elim (found-with x h) as (λ _. IsOpen x) [ inl same ↦ subst IsOpen same new.other | inr old ↦ g.other x old ]
 
     pub found-new : IsFound more z
-    found-new = at-with additions (Declares z) (entity_key z.path) ∙ ap (λ t. cond t (Some (Declares z)) (addition_at additions (entity_key z.path))) (key_equiv.refl (entity_key z.path))
+    found-new = addition_at-with_addition additions (Declares z) (entity_key z.path) ∙ ap (λ t. cond t (Some (Declares z)) (addition_at additions (entity_key z.path))) (key_equiv.refl (entity_key z.path))
 
     mine-with : (e : Entity) → IsMine additions e → IsMine more e
     mine-with e m = by_test (key_eq (entity_key m.1.0.path) (entity_key z.path)) refl
@@ -188,7 +162,7 @@ module _ (D : Names) (scopes : List Scope) where
             let r = new.replaces m.1.0 there_z (g.other m.1.0 m.1.1).0 in
             (m.0, (z, found-new, sym r.0 ∙ m.1.2, sym r.1 ∙ m.1.3))
         by_test false other =
-            (m.0, (m.1.0, at-with additions (Declares z) (entity_key m.1.0.path) ∙ ap (λ t. cond t (Some (Declares z)) (addition_at additions (entity_key m.1.0.path))) other ∙ m.1.1, m.1.2, m.1.3))
+            (m.0, (m.1.0, addition_at-with_addition additions (Declares z) (entity_key m.1.0.path) ∙ ap (λ t. cond t (Some (Declares z)) (addition_at additions (entity_key m.1.0.path))) other ∙ m.1.1, m.1.2, m.1.3))
 
     -- a new name, or one that takes the place of its own, lets it grow
     pub grows-with : Grows additions more
@@ -205,7 +179,7 @@ module _ (D : Names) (scopes : List Scope) where
     with_it = with_addition additions a
 
     same-found : (n : List ℕ) (q : Place) → addition_at with_it (Declared n q) ≡ addition_at additions (Declared n q)
-    same-found n q = at-with additions a (Declared n q) ∙ ap (λ t. cond t (Some a) (addition_at additions (Declared n q))) (apart n q)
+    same-found n q = addition_at-with_addition additions a (Declared n q) ∙ ap (λ t. cond t (Some a) (addition_at additions (Declared n q))) (apart n q)
 
     pub same-names : over additions D ≡ over with_it D
     same-names = λ i n q. elim (sym (same-found n q) i) as (λ _. Option Answer) [ None ↦ D n q | Some b ↦ Some (answer_of b) ]

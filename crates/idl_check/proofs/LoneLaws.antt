@@ -2,10 +2,10 @@
 use Rattle.std.proofs.Common.{◌≡◌, ◌∙◌, ℕ, ◌≤◌, Bool, true, false, cond, List, [], ◌∷◌, ◌++◌, Option, Some, None, refl, sym, ap, subst, inl, inr}
 use Rattle.std.specs.Prelude.{◌≢◌, ◌&&◌, ◌||◌}
 use Rattle.idl_check.proofs.ClosingLaws.{IsFitting, IsSettled, cursor-kept, under-around}
-use Rattle.idl_check.proofs.GrowingLaws.{at-with, once-with}
-use Rattle.idl_check.proofs.OpeningLaws.{declares-one, identity-found}
-use Rattle.idl_check.proofs.ReachedLaws.{Names, Place, own, some_one, there}
-use Rattle.idl_check.proofs.SettledLaws.{Added, AreAdded, IsAdded, IsFound, IsNamed, IsOpened, IsPlace, IsUnder, Once, Stood, Was, is_nameless, none-some, over, path_same, name_same, stood}
+use Rattle.idl_check.proofs.GrowingLaws.{once-with, declares-one}
+use Rattle.idl_check.proofs.OpeningLaws.{identity-found}
+use Rattle.idl_check.proofs.ReachedLaws.{Names, Place, own, there}
+use Rattle.idl_check.proofs.SettledLaws.{Added, AreAdded, IsAdded, IsFound, IsNamed, IsOpened, IsPlace, IsUnder, Once, Stood, Was, is_nameless, over, path_same, name_same, stood}
 use Rattle.idl_check.proofs.SiteLaws.{declared_by, visited}
 use Rattle.idl_check.proofs.VisitFaults.{visit_faults}
 use Rattle.idl_check.proofs.WalkLaws.{none-append}
@@ -26,6 +26,8 @@ use Rattle.idl_check.specs.declared.standing.Standing.{Standing}
 use Rattle.idl_lex.specs.Keywords.{folded}
 use Rattle.idl_memo.proofs.QueryLaws.{outcome-and_then}
 use Rattle.idl_memo.specs.Query.{Done, outcome}
+use Rattle.idl_scope.proofs.Constructors.{some_same, none_some}
+use Rattle.idl_scope.proofs.FirstLemmas.{addition_at-with_addition}
 use Rattle.idl_scope.specs.Facts.{UnitFacts, addition_at, answer_of, answers, entity_in, entity_key, is_operation, next_body, path_around, scopes_in, with_addition, with_additions, world}
 use Rattle.idl_scope.specs.Key.{key_eq}
 use Rattle.idl_scope.specs.Digested.{key_equiv}
@@ -112,9 +114,9 @@ module _ (facts : List UnitFacts) (k : IsSettled (world facts)) (turns : ℕ) (e
     module _ (ok : IsAllowed s st e) where
       -- a new one
       new-added : (ids : Option Ids) → there names e.path ≡ None → AreAdded names around (with_addition (xs None ids) (Declares e))
-      new-added ids nothing x h = subst (IsAdded names around (with_addition (xs None ids) (Declares e))) (by_key (key_eq (entity_key x.path) (entity_key e.path)) (sym (at-with (xs None ids) (Declares e) (entity_key x.path)) ∙ h)) (record {
+      new-added ids nothing x h = subst (IsAdded names around (with_addition (xs None ids) (Declares e))) (by_key (key_eq (entity_key x.path) (entity_key e.path)) (sym (addition_at-with_addition (xs None ids) (Declares e) (entity_key x.path)) ∙ h)) (record {
         named = named;
-        fresh = λ y g. absurd (none-some (sym nothing ∙ g));
+        fresh = λ y g. absurd (none_some (sym nothing ∙ g));
         unclosed = lone.unclosed;
         module_there = lone.module_there;
         place = by_place (place-here facts k turns enough w scene (begin-walks n) s outer is way name (at_scope facts k turns enough w scene (begin-walks n) s outer is way name));
@@ -124,14 +126,14 @@ module _ (facts : List UnitFacts) (k : IsSettled (world facts)) (turns : ℕ) (e
       })
         where
           by_key : (t : Bool) → cond t (Some (Declares e)) (addition_at (with_identity None ids e []) (entity_key x.path)) ≡ Some (Declares x) → e ≡ x
-          by_key true g = declares-one facts k turns enough e x g
+          by_key true g = declares-one e x g
           by_key false g = absurd (identity-found facts k turns enough None ids e x g)
 
           by_other : (y : Entity) → IsFound (with_addition (with_identity None ids e []) (Declares e)) y → e ≡ y
-          by_other y f = at_key (key_eq (entity_key y.path) (entity_key e.path)) (sym (at-with (with_identity None ids e []) (Declares e) (entity_key y.path)) ∙ f)
+          by_other y f = at_key (key_eq (entity_key y.path) (entity_key e.path)) (sym (addition_at-with_addition (with_identity None ids e []) (Declares e) (entity_key y.path)) ∙ f)
             where
               at_key : (t : Bool) → cond t (Some (Declares e)) (addition_at (with_identity None ids e []) (entity_key y.path)) ≡ Some (Declares y) → e ≡ y
-              at_key true g = declares-one facts k turns enough e y g
+              at_key true g = declares-one e y g
               at_key false g = absurd (identity-found facts k turns enough None ids e y g)
 
           by_place : IsPlace names s.path → IsPlace (over (with_addition (with_identity None ids e []) (Declares e)) names) s.path
@@ -146,7 +148,7 @@ module _ (facts : List UnitFacts) (k : IsSettled (world facts)) (turns : ℕ) (e
                   let n_is = name_same (folded (name_of s.path)) (folded (name_of z.path)) (scope_of s.path) (scope_of z.path) key in
                   let p_is = path_same (folded (name_of s.path)) (folded (name_of z.path)) (scope_of s.path) (scope_of z.path) key in
                   let at_z : there names s.path ≡ there names z.path = λ i. own names (n_is i) (p_is i) in
-                  absurd (none-some (sym nothing ∙ ap (λ (q : Entity). there names q.path) one ∙ sym at_z ∙ y.1))
+                  absurd (none_some (sym nothing ∙ ap (λ (q : Entity). there names q.path) one ∙ sym at_z ∙ y.1))
 
       new-once : (ids : Option Ids) → Once (with_addition (xs None ids) (Declares e))
       new-once None = once-with [] (Declares e) tt
@@ -156,7 +158,7 @@ module _ (facts : List UnitFacts) (k : IsSettled (world facts)) (turns : ℕ) (e
       lone-added None ids h = (new-added ids (sym there-is ∙ h), new-once ids)
       lone-added (Some old) ids h =
           let kept : stays (Some old) e ≡ true = and-true (may_follow old e) (kind_eq e.kind kind.Module || is_ahead e) (there-follows st.there e old ok.declared h) lone.stays_where in
-          subst (λ b. AreAdded names around (cond b [] (with_addition [] (Declares e))) × Once (cond b [] (with_addition [] (Declares e)))) (sym kept) (λ x g. absurd (none-some g), tt)
+          subst (λ b. AreAdded names around (cond b [] (with_addition [] (Declares e))) × Once (cond b [] (with_addition [] (Declares e)))) (sym kept) (λ x g. absurd (none_some g), tt)
 
     here : outcome (declared_by turns (answers facts) way name w (first around)) (answers facts) ≡ declared_visit w way s e st
     here =
@@ -217,7 +219,7 @@ module _ (facts : List UnitFacts) (k : IsSettled (world facts)) (turns : ℕ) (e
         module-there None h = (
           e,
           ap (λ x. entity_in (elim x as (λ _. Option Answer) [ None ↦ names (folded name) s.path | Some a ↦ Some (answer_of a) ]))
-              (at-with (xs None st.ids) (Declares e) (entity_key e.path) ∙ ap (λ t. cond t (Some (Declares e)) (addition_at (xs None st.ids) (entity_key e.path))) (key_equiv.refl (entity_key e.path))),
+              (addition_at-with_addition (xs None st.ids) (Declares e) (entity_key e.path) ∙ ap (λ t. cond t (Some (Declares e)) (addition_at (xs None st.ids) (entity_key e.path))) (key_equiv.refl (entity_key e.path))),
           refl,
           of_module,
           lone.module_there of_module,
@@ -236,8 +238,8 @@ module _ (facts : List UnitFacts) (k : IsSettled (world facts)) (turns : ℕ) (e
             let y = module-there st.there refl in
             record {
               place = inr (inr (y.0, y.1, y.2, (y.4, λ interface. let z : kind.Module ≡ kind.Interface = sym y.3 ∙ interface in cc)));
-              kind = λ g h at. ap (λ (x : Entity). x.kind) (sym (some_one (sym y.1 ∙ h))) ∙ y.3;
-              held = λ g h at interface. absurd (let z : kind.Module ≡ kind.Interface = sym y.3 ∙ ap (λ (x : Entity). x.kind) (some_one (sym y.1 ∙ h)) ∙ interface in cc);
+              kind = λ g h at. ap (λ (x : Entity). x.kind) (sym (some_same (sym y.1 ∙ h))) ∙ y.3;
+              held = λ g h at interface. absurd (let z : kind.Module ≡ kind.Interface = sym y.3 ∙ ap (λ (x : Entity). x.kind) (some_same (sym y.1 ∙ h)) ∙ interface in cc);
             }
 
         pub module-lone : IsFitting (world facts) (record { additions = additions_of facts k turns enough end; step = Opens (name ∷ path_around around) kind.Module })

@@ -1,8 +1,7 @@
 -- No name that a token is, is that of a nameless scope.
 use Rattle.std.proofs.Common.{◌≡◌, ◌∙◌, ℕ, Bool, true, false, ◌&&◌, cond, if◌then◌else◌, List, [], ◌∷◌, find, Option, None, Some, refl, sym, ap}
-use Rattle.std.proofs.lemmas.Bool.{false≢true}
-use Rattle.idl_base.specs.Exact.{same_number}
-use Rattle.idl_check.proofs.ReachedLaws.{some_one}
+use Rattle.std.proofs.lemmas.Bool.{false≢true, not-true}
+use Rattle.idl_base.specs.Exact.{same_number, both}
 use Rattle.idl_check.proofs.SettledLaws.{is_nameless}
 use Rattle.idl_lex.specs.Byte.{is_digit, is_letter, is_quote}
 use Rattle.idl_lex.specs.Keywords.{folded, keywords}
@@ -13,6 +12,7 @@ use Rattle.idl_lex.specs.Number.{are_digits, based, integer_value, is_floating, 
 use Rattle.idl_lex.specs.declared.kind.Defect.TheVariants.{BadEscape, FloatingLiteral, MalformedInteger, UnclosedComment, UnknownByte}
 use Rattle.idl_lex.specs.declared.kind.Kind.{Kind}
 use Rattle.idl_lex.specs.declared.kind.Kind.TheVariants as token
+use Rattle.idl_scope.proofs.Constructors.{some_same}
 use Rattle.idl_tree.specs.Lexeme.{Lexeme, Character, Identifier, Integer, Text, WideCharacter, WideText, lexeme_by, lexeme_of, one_character, valued}
 use Rattle.std.specs.List.{list_all}
 use Rattle.std.specs.Option.{option_map}
@@ -43,14 +43,6 @@ either : (b : Bool) (x y : Kind) → is_escaped x ≡ false → is_escaped y ≡
 either true x y h g = h
 either false x y h g = g
 
-both : (a b : Bool) → a && b ≡ true → (a ≡ true) × (b ≡ true)
-both true b h = (refl, h)
-both false b h = cc
-
-not-false : (b : Bool) → not b ≡ true → b ≡ false
-not-false true h = cc
-not-false false h = refl
-
 -- none of these is
 abbrev are_others : List (List ℕ × Kind) → Bool
 are_others ks = list_all (λ k. not (is_escaped k.1)) ks
@@ -69,7 +61,7 @@ found : (kind : Option (List ℕ × Kind) → Kind) → is_escaped (kind None) �
 found kind none some test [] all = none
 found kind none some test (k ∷ ks) all =
     let parts = both (not (is_escaped k.1)) (are_others ks) all in
-    chosen (test k) (some k (not-false (is_escaped k.1) parts.0)) (found kind none some test ks parts.1)
+    chosen (test k) (some k (not-true (is_escaped k.1) parts.0)) (found kind none some test ks parts.1)
   where
     chosen : (b : Bool) → is_escaped (kind (Some k)) ≡ false → is_escaped (kind (find test ks)) ≡ false → is_escaped (kind (cond b (Some k) (find test ks))) ≡ false
     chosen true h g = h
@@ -139,8 +131,8 @@ question-escaped b rest =
 -- behind the `_` of an escaped identifier stands a letter
 escaped-named : (t name : List ℕ) → kind_of t ≡ token.Escaped → unescaped t ≡ Some name → is_nameless name ≡ false
 escaped-named [] name h is = cc
-escaped-named (b ∷ []) name h is = ap is_nameless (sym (some_one is))
-escaped-named (b ∷ c ∷ rest) name h is = ap is_nameless (sym (some_one is)) ∙ by_mark (nat_eq c 63) refl
+escaped-named (b ∷ []) name h is = ap is_nameless (sym (some_same is))
+escaped-named (b ∷ c ∷ rest) name h is = ap is_nameless (sym (some_same is)) ∙ by_mark (nat_eq c 63) refl
   where
     by_mark : (m : Bool) → nat_eq c 63 ≡ m → m ≡ false
     by_mark true same = absurd (false≢true (sym (ap (λ c. is_escaped (kind_of (b ∷ c ∷ rest))) (same_number c 63 same) ∙ question-escaped b rest) ∙ ap is_escaped h))
@@ -159,7 +151,7 @@ by-kind (token.Accepted keyword) t name is h = cc
 by-kind token.Refused t name is h = cc
 by-kind token.Miscased t name is h = cc
 by-kind token.Identifier t name is h =
-    let same : t ≡ name = some_one (sym (ap (λ k. name_by k t) is) ∙ some-name (name_of t) name h) in
+    let same : t ≡ name = some_same (sym (ap (λ k. name_by k t) is) ∙ some-name (name_of t) name h) in
     ap is_nameless (sym same) ∙ identifier-named t is
 by-kind token.Escaped t name is h = escaped-named t name is (sym (ap (λ k. name_by k t) is) ∙ some-name (name_of t) name h)
 by-kind token.Integer t name is h = absurd (no-name Integer name (λ a g. cc) (integer_value t) h)

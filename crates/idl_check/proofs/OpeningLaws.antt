@@ -2,10 +2,10 @@
 use Rattle.std.proofs.Common.{◌≡◌, ◌∙◌, ℕ, ◌≤◌, Bool, true, false, cond, List, [], ◌∷◌, ◌++◌, length, Option, Some, None, Result, Ok, Err, refl, sym, ap, subst, arith, inl, inr}
 use Rattle.std.specs.Prelude.{take}
 use Rattle.idl_check.proofs.ClosingLaws.{IsFitting, IsSettled, cursor-kept, under-around}
-use Rattle.idl_check.proofs.GrowingLaws.{IsGrown, at-with}
+use Rattle.idl_check.proofs.GrowingLaws.{IsGrown, declares-one}
 use Rattle.idl_check.proofs.PartLemmas.{IsUpTo}
-use Rattle.idl_check.proofs.ReachedLaws.{Names, kept-at, own, some_one, there}
-use Rattle.idl_check.proofs.SettledLaws.{Added, IsFound, IsHeld, IsOpened, IsScope, IsDefined, IsUnder, Stood, Was, closed-keeps, is_nameless, none-some, over, path_same, stood}
+use Rattle.idl_check.proofs.ReachedLaws.{Names, kept-at, own, there}
+use Rattle.idl_check.proofs.SettledLaws.{Added, IsFound, IsHeld, IsOpened, IsScope, IsDefined, IsUnder, Stood, Was, closed-keeps, is_nameless, over, path_same, stood}
 use Rattle.idl_check.proofs.SiteLaws.{declared_by, denoted-up, named_by, used_by, visited}
 use Rattle.idl_check.proofs.VisitFaults.{visit_faults}
 use Rattle.idl_check.proofs.WalkLaws.{none-append}
@@ -25,6 +25,8 @@ use Rattle.idl_check.specs.declared.standing.Standing.{Standing}
 use Rattle.idl_lex.specs.Keywords.{folded}
 use Rattle.idl_memo.proofs.QueryLaws.{outcome-and_then}
 use Rattle.idl_memo.specs.Query.{Done, outcome}
+use Rattle.idl_scope.proofs.Constructors.{some_same, none_some}
+use Rattle.idl_scope.proofs.FirstLemmas.{addition_at-with_addition}
 use Rattle.idl_scope.proofs.Membership.{IsIn-Contains}
 use Rattle.idl_scope.specs.Digested.{key_equiv}
 use Rattle.idl_scope.specs.Facts.{UnitFacts, addition_at, answer_of, answers, entity_in, entity_key, next_body, path_around, scopes_in, with_addition, with_additions, world}
@@ -86,7 +88,7 @@ pub record IsRest (w v : Walk) : Type 0 where
 uses-found : (n : List ℕ) (ss : List Scope) (additions : List Addition) (x : Entity) → IsFound (with_uses n ss additions) x → IsFound additions x
 uses-found n [] additions x h = h
 uses-found n (s ∷ ss) additions x h =
-    sym (at-with additions (Uses n s.path s.body) (entity_key x.path)) ∙ uses-found n ss (with_addition additions (Uses n s.path s.body)) x h
+    sym (addition_at-with_addition additions (Uses n s.path s.body) (entity_key x.path)) ∙ uses-found n ss (with_addition additions (Uses n s.path s.body)) x h
 
 module _ (facts : List UnitFacts) (k : IsSettled (world facts)) (turns : ℕ) (enough : turns_for facts ≤ turns) where
   abbrev names : Names
@@ -148,12 +150,9 @@ module _ (facts : List UnitFacts) (k : IsSettled (world facts)) (turns : ℕ) (e
   -- ---- the name of the interface
 
   pub identity-found : (o : Option Entity) (ids : Option Ids) (e x : Entity) → IsFound (with_identity o ids e []) x → ⊥
-  identity-found (Some old) ids e x h = none-some h
-  identity-found None None e x h = none-some h
-  identity-found None (Some ids) e x h = none-some h
-
-  pub declares-one : (e x : Entity) → Some (Declares e) ≡ Some (Declares x) → e ≡ x
-  declares-one e x h = cc
+  identity-found (Some old) ids e x h = none_some h
+  identity-found None None e x h = none_some h
+  identity-found None (Some ids) e x h = none_some h
 
   one-found : (st : Standing) (e x : Entity) → IsFound (with_declared st e []) x → e ≡ x
   one-found st e x h = by_stays (stays st.there e) h
@@ -168,7 +167,7 @@ module _ (facts : List UnitFacts) (k : IsSettled (world facts)) (turns : ℕ) (e
       by_stays : (b : Bool) → IsFound (cond b (with_identity st.there st.ids e []) (with_addition (with_identity st.there st.ids e []) (Declares e))) x → e ≡ x
       by_stays true g = absurd (identity-found st.there st.ids e x g)
       by_stays false g =
-          by_key (key_eq (entity_key x.path) (entity_key e.path)) (sym (at-with (with_identity st.there st.ids e []) (Declares e) (entity_key x.path)) ∙ g)
+          by_key (key_eq (entity_key x.path) (entity_key e.path)) (sym (addition_at-with_addition (with_identity st.there st.ids e []) (Declares e) (entity_key x.path)) ∙ g)
 
   -- behind it that one alone is declared, and has begun
   record HasBegun (v : Walk) (e : Entity) : Type 0 where
@@ -228,10 +227,10 @@ module _ (facts : List UnitFacts) (k : IsSettled (world facts)) (turns : ℕ) (e
     grown = subst (IsGrown names around) is-additions (ends-grown facts k turns enough w walks.0 walks.1)
 
     found-f : IsFound xs f
-    found-f = at-with w.own (Declares f) (entity_key f.path) ∙ ap (λ t. cond t (Some (Declares f)) (addition_at w.own (entity_key f.path))) (key_equiv.refl (entity_key f.path))
+    found-f = addition_at-with_addition w.own (Declares f) (entity_key f.path) ∙ ap (λ t. cond t (Some (Declares f)) (addition_at w.own (entity_key f.path))) (key_equiv.refl (entity_key f.path))
 
     in-scope : (x : Entity) → IsFound xs x → x.path ≡ name ∷ s.path
-    in-scope x h = by_key (key_eq (entity_key x.path) (entity_key f.path)) (sym (at-with w.own (Declares f) (entity_key x.path)) ∙ h)
+    in-scope x h = by_key (key_eq (entity_key x.path) (entity_key f.path)) (sym (addition_at-with_addition w.own (Declares f) (entity_key x.path)) ∙ h)
       where
         by_key : (t : Bool) → cond t (Some (Declares f)) (addition_at w.own (entity_key x.path)) ≡ Some (Declares x) → x.path ≡ name ∷ s.path
         by_key true g = ap (λ (z : Entity). z.path) (sym (declares-one f x g))
@@ -268,10 +267,10 @@ module _ (facts : List UnitFacts) (k : IsSettled (world facts)) (turns : ℕ) (e
     opened : (body : ℕ) → IsOpened after (record { path = name ∷ s.path; kind = Interface; body = body }) []
     opened body = record {
       place = inr (inr (f, there-f, refl, (λ z. cc, λ interface z. cc)));
-      kind = λ g h at. ap (λ (z : Entity). z.kind) (sym (some_one (sym there-f ∙ h)));
-      held = λ g h at interface. subst (λ z. IsHeld after z []) (some_one (sym there-f ∙ h)) (record {
+      kind = λ g h at. ap (λ (z : Entity). z.kind) (sym (some_same (sym there-f ∙ h)));
+      held = λ g h at interface. subst (λ z. IsHeld after z []) (some_same (sym there-f ∙ h)) (record {
         stage = refl;
-        mine = λ m x there operation. absurd (none-some (sym (own-none m) ∙ there));
+        mine = λ m x there operation. absurd (none_some (sym (own-none m) ∙ there));
         base = λ b i. kept-at names after (closed-keeps names around (world facts).inside xs k grown.added grown.once) b (walks.1.bases b (IsIn-Contains b w.bases.paths i));
         told = λ q i. absurd i;
         apart = λ m x t operation. own-none m;

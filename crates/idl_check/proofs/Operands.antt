@@ -9,6 +9,7 @@ use Rattle.idl_check.specs.Sections.{is_tokens}
 use Rattle.idl_lex.specs.declared.mark.Mark.{Mark}
 use Rattle.idl_lex.specs.declared.mark.Mark.TheVariants as mark
 use Rattle.idl_site.proofs.ExpressionEquations.{and_parts-made, exclusive_or_parts-made, expression_parts-made, primary_parts-literal, primary_parts-name, primary_parts-parentheses, product_parts-made, shift_parts-made, sum_parts-made, unary_parts-made}
+use Rattle.idl_site.proofs.Such.{Such}
 use Rattle.idl_site.specs.ExpressionParts.{and_parts, exclusive_or_parts, expression_parts, operator_parts, primary_parts, product_parts, shift_parts, sum_parts, unary_parts}
 use Rattle.idl_site.specs.Item.{Item, item_of, items}
 use Rattle.idl_site.specs.Part.{Part, Parts, Plain, Uses, punctuation, Part as item}
@@ -152,9 +153,6 @@ Sums x = Holds (sum_parts x) (term_names (sum_term x))
 
 abbrev Unaries : Unary → Type 0
 Unaries x = Holds (unary_parts x) (term_names (unary_term x))
-
-abbrev Such : {X : Type 0} → (X → Type 0) → Type 0
-Such {X} claim = (x : X) × claim x
 
 -- an operand behind a mark
 marked : (m : Mark) (p : Parts) (n : ℕ) → Holds p n → Holds (punctuation m ∷ p) n

@@ -42,17 +42,10 @@ use Rattle.idl_unit.specs.declared.unit.UnitText.TheVariants as unit
 use Rattle.idl_check.proofs.FaultOrder.{least-in}
 use Rattle.idl_check.proofs.LeastFault.{least-none}
 use Rattle.idl_check.proofs.PartLemmas.{IsUpTo, denoted-IsUpTo}
+use Rattle.idl_check.proofs.PragmaLemmas.{verdict_by}
 use Rattle.idl_check.proofs.PragmaTokens.{end_of, pragma-length}
 use Rattle.idl_check.proofs.VerdictLaws.{least-tokens}
 use Rattle.idl_check.proofs.VisitFaults.{visit_unit_faults}
-
--- the verdict of what is said, by its least fault
-abbrev verdict_by : Said → Option Fault → Verdict
-verdict_by s o =
-    elim o [
-      | Some fault ↦ faulty fault Stays
-      | None ↦ record { fault = None; writes = record { additions = s.additions; step = s.step }; row = None }
-    ]
 
 fault-by : (s : Said) (o : Option Fault) → (verdict_by s o).fault ≡ o
 fault-by s None = refl

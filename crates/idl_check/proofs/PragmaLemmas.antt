@@ -73,7 +73,7 @@ pub version-sound : (at : ℕ) (d : Identity) → is_fixed d ≡ false → least
 version-sound at d h = ap (λ b. least_fault (faults_by at ((b, RepeatedVersion) ∷ []))) h
 
 -- the verdict of what is said, by its least fault
-abbrev verdict_by : Said → Option Fault → Verdict
+abbrev pub verdict_by : Said → Option Fault → Verdict
 verdict_by s o =
     elim o [
       | Some fault ↦ faulty fault Stays

@@ -3,6 +3,7 @@ use Rattle.std.proofs.Common.{◌≡◌, ◌∙◌, ℕ, true, cond, List, [], �
 use Rattle.std.specs.Prelude.{◌↔◌, Contains}
 use Rattle.idl_check.specs.Closing.{HasOperation}
 use Rattle.idl_lex.specs.Keywords.{folded}
+use Rattle.idl_scope.proofs.Constructors.{some_same}
 use Rattle.idl_scope.proofs.Membership.{IsIn-Contains, IsIn-one}
 use Rattle.idl_scope.specs.Facts.{entity_in, is_operation}
 use Rattle.idl_scope.specs.Meaning.{Own, Through, Up, bases_at, bases_of, has_bases, own_at}
@@ -80,12 +81,9 @@ pub record IsWhole (D : Names) (e : Entity) : Type 0 where
 abbrev pub AreWhole : Names → Type 0
 AreWhole D = (e : Entity) → IsClosed D e → IsWhole D e
 
-pub some_one : {A : Type 0} {x y : A} → Some x ≡ Some y → x ≡ y
-some_one h = cc
-
 -- one entity stands at a path
 pub closed-one : (D : Names) (e f : Entity) → there D e.path ≡ Some e → there D f.path ≡ Some f → f.path ≡ e.path → f ≡ e
-closed-one D e f he hf path = some_one (sym hf ∙ ap (there D) path ∙ he)
+closed-one D e f he hf path = some_same (sym hf ∙ ap (there D) path ∙ he)
 
 pub closed-bases : (D : Names) (f : Entity) → IsClosed D f → bases_at (only D) f.path ≡ f.bases
 closed-bases D f c = ap bases_of c.stands ∙ ap (λ s. cond (has_bases s) f.bases []) c.stage

@@ -2,9 +2,11 @@
 use Rattle.std.proofs.Common.{◌≡◌, ◌⊎◌, ◌∙◌, ℕ, ◌≤◌, ◌<◌, suc, Bool, true, false, cond, List, [], ◌∷◌, ◌++◌, length, Option, Some, None, refl, sym, ap, subst, arith, inl, inr}
 use Rattle.std.proofs.lemmas.List.{append-nil}
 use Rattle.std.specs.Prelude.{◌≢◌, Contains, nat_eq}
-use Rattle.idl_check.proofs.ReachedLaws.{AreWhole, IsClosed, IsClosedAt, Keeps, Names, Place, kept-at, kept-whole, only, own, some_one, there, through-back}
+use Rattle.idl_check.proofs.ReachedLaws.{AreWhole, IsClosed, IsClosedAt, Keeps, Names, Place, kept-at, kept-whole, only, own, there, through-back}
 use Rattle.idl_lex.specs.Keywords.{folded}
+use Rattle.idl_scope.proofs.Constructors.{some_same, none_some}
 use Rattle.idl_scope.proofs.Membership.{IsIn, IsIn-left, IsIn-right, IsIn-split}
+use Rattle.idl_scope.proofs.Worlds.{addition_at-Some}
 use Rattle.idl_scope.specs.Digested.{key_equiv}
 use Rattle.idl_scope.specs.Facts.{addition_at, answer_of, entity_in, entity_key, is_operation, key_of, more_inside, operations_among, path_around}
 use Rattle.idl_scope.specs.Facts.{over as answer_over}
@@ -63,7 +65,7 @@ named-global (name ∷ scope) named h = cc
 pub scope-one : (Is : Entity → Type 0) (D : Names) (path : Place) → IsScope Is D path → (e : Entity) → IsNamed e.path → there D path ≡ Some e → e.path ≡ path → Is e
 scope-one Is D path (inl global) e named h is = absurd (named-global e.path named (is ∙ global))
 scope-one Is D path (inr (inl nameless)) e named h is = absurd (named-nameless e.path named (subst IsNameless (sym is) nameless))
-scope-one Is D path (inr (inr there)) e named h is = subst Is (some_one (sym there.1 ∙ h)) there.3
+scope-one Is D path (inr (inr there)) e named h is = subst Is (some_same (sym there.1 ∙ h)) there.3
 
 -- no closed interface is such a place
 pub closed-place : (D : Names) (e : Entity) → IsNamed e.path → IsClosed D e → IsPlace D e.path → ⊥
@@ -125,9 +127,6 @@ pub record IsAdded (D : Names) (scopes : List Scope) (additions : List Addition)
   pub apart : scope_of x.path ≡ path_around scopes → (e y : Entity) → there D (path_around scopes) ≡ Some e → e.path ≡ path_around scopes → e.kind ≡ Interface
       → Through (only D) (folded (name_of x.path)) (bases_of (Some e)) y → is_operation y ≡ true → ⊥
 
-pub none-some : {A : Type 0} {x : A} → None ≡ Some x → ⊥
-none-some h = cc
-
 -- it is found among additions at its key
 abbrev pub IsFound : List Addition → Entity → Type 0
 IsFound additions x = addition_at additions (entity_key x.path) ≡ Some (Declares x)
@@ -147,16 +146,8 @@ once-found (b ∷ additions) once a (inl e) =
 once-found (b ∷ additions) once a (inr i) = by_test (once-found additions once.1 a i) (key_eq (key_of a) (key_of b)) refl
   where
     by_test : addition_at additions (key_of a) ≡ Some a → (t : Bool) → key_eq (key_of a) (key_of b) ≡ t → cond t (Some b) (addition_at additions (key_of a)) ≡ Some a
-    by_test later true same = absurd (none-some (sym once.0 ∙ ap (addition_at additions) (sym (same_key (key_of a) (key_of b) same)) ∙ later))
+    by_test later true same = absurd (none_some (sym once.0 ∙ ap (addition_at additions) (sym (same_key (key_of a) (key_of b) same)) ∙ later))
     by_test later false other = later
-
-pub found-in : (additions : List Addition) (k : Key) (a : Addition) → addition_at additions k ≡ Some a → IsIn a additions × (k ≡ key_of a)
-found-in [] k a h = absurd (let z : None ≡ Some a = h in cc)
-found-in (b ∷ additions) k a h = by_test (found-in additions k a) (key_eq k (key_of b)) refl h
-  where
-    by_test : (addition_at additions k ≡ Some a → IsIn a additions × (k ≡ key_of a)) → (t : Bool) → key_eq k (key_of b) ≡ t → cond t (Some b) (addition_at additions k) ≡ Some a → IsIn a (b ∷ additions) × (k ≡ key_of a)
-    by_test rest true e g = (inl (some_one g), same_key k (key_of b) e ∙ ap key_of (some_one g))
-    by_test rest false e g = let r = rest g in (inr r.0, r.1)
 
 -- what stands under a name over additions: one of them, or what was there
 pub data Stood (D : Names) (additions : List Addition) (n : List ℕ) (path : Place) : Type 0 where
@@ -171,10 +162,10 @@ stood D additions n path = by_found (addition_at additions (Declared n path)) re
 
     by_found : (o : Option Addition) → addition_at additions (Declared n path) ≡ o → Stood D additions n path
     by_found None e = Was (ap told e)
-    by_found (Some (Declares x)) e = let r = found-in additions (Declared n path) (Declares x) e in Added x (ap (addition_at additions) (sym r.1) ∙ e) r.1 (ap told e)
-    by_found (Some (Uses m q b)) e = let r : Declared n path ≡ key_of (Uses m q b) = (found-in additions (Declared n path) (Uses m q b) e).1 in cc
-    by_found (Some (Appears q prefix)) e = let r : Declared n path ≡ key_of (Appears q prefix) = (found-in additions (Declared n path) (Appears q prefix) e).1 in cc
-    by_found (Some (Identifies q identity)) e = let r : Declared n path ≡ key_of (Identifies q identity) = (found-in additions (Declared n path) (Identifies q identity) e).1 in cc
+    by_found (Some (Declares x)) e = let r = addition_at-Some additions (Declared n path) (Declares x) e in Added x (ap (addition_at additions) (sym r.1) ∙ e) r.1 (ap told e)
+    by_found (Some (Uses m q b)) e = let r : Declared n path ≡ key_of (Uses m q b) = (addition_at-Some additions (Declared n path) (Uses m q b) e).1 in cc
+    by_found (Some (Appears q prefix)) e = let r : Declared n path ≡ key_of (Appears q prefix) = (addition_at-Some additions (Declared n path) (Appears q prefix) e).1 in cc
+    by_found (Some (Identifies q identity)) e = let r : Declared n path ≡ key_of (Identifies q identity) = (addition_at-Some additions (Declared n path) (Identifies q identity) e).1 in cc
 
 pub name_same : (n m : List ℕ) (p q : Place) → Declared n p ≡ Declared m q → n ≡ m
 name_same n m p q h = cc
@@ -266,7 +257,7 @@ module _ (D : Names) (scopes : List Scope) (inside : List (List Place)) (additio
       by_stood : Stood D additions (folded (name_of e.path)) (scope_of e.path) → IsClosed D e
       by_stood (Was same) = record { stands = sym same ∙ c.stands; kind = c.kind; stage = c.stage }
       by_stood (Added x i key is) =
-          let one : x ≡ e = some_one (sym is ∙ c.stands) in
+          let one : x ≡ e = some_same (sym is ∙ c.stands) in
           absurd ((new x i).unclosed (ap (λ (z : Entity). z.kind) one ∙ c.kind) (ap (λ (z : Entity). z.stage) one ∙ c.stage))
 
   whole-after : AreWhole after
@@ -278,7 +269,7 @@ module _ (D : Names) (scopes : List Scope) (inside : List (List Place)) (additio
       by_stood : Stood D additions n path → IsNamed x.path × (n ≡ folded (name_of x.path)) × (path ≡ scope_of x.path)
       by_stood (Was same) = k.named n path x (sym same ∙ h)
       by_stood (Added y i key is) =
-          let one : y ≡ x = some_one (sym is ∙ h) in
+          let one : y ≡ x = some_same (sym is ∙ h) in
           subst (λ (z : Entity). IsNamed z.path × (n ≡ folded (name_of z.path)) × (path ≡ scope_of z.path)) one
           ((new y i).named, name_same n (folded (name_of y.path)) path (scope_of y.path) key, path_same n (folded (name_of y.path)) path (scope_of y.path) key)
 
@@ -335,11 +326,11 @@ module _ (D : Names) (scopes : List Scope) (inside : List (List Place)) (additio
         by_stood : Stood D additions n e.path → IsIn x.path (paths ++ more)
         by_stood (Was same) = IsIn-left x.path paths more (held.mine n x (sym same ∙ there) operation)
         by_stood (Added y i key stands) =
-            let one : y ≡ x = some_one (sym stands ∙ there) in
+            let one : y ≡ x = some_same (sym stands ∙ there) in
             let g = here n y i key in
             IsIn-right x.path paths more
             (subst (λ ps. IsIn x.path ps) (sym g.1)
-            (subst (λ (z : Entity). IsIn z.path (operations_among additions)) one (operations-in additions y (found-in additions (entity_key y.path) (Declares y) i).0 (ap is_operation one ∙ operation))))
+            (subst (λ (z : Entity). IsIn z.path (operations_among additions)) one (operations-in additions y (addition_at-Some additions (entity_key y.path) (Declares y) i).0 (ap is_operation one ∙ operation))))
 
     held-told : (p : Place) → IsIn p (paths ++ more) → (n : List ℕ) × (x : Entity) × (own after n e.path ≡ Some x) × (is_operation x ≡ true) × (x.path ≡ p)
     held-told p i = by_side (IsIn-split p paths more i)
@@ -419,7 +410,7 @@ module _ (D : Names) (scopes : List Scope) (inside : List (List Place)) (additio
     where
       by_stood : Stood D additions n path → x.kind ≡ Module → x.stage ≢ Ahead
       by_stood (Was same) = k.modules n path x (sym same ∙ h)
-      by_stood (Added y i key is) = subst (λ (z : Entity). z.kind ≡ Module → z.stage ≢ Ahead) (some_one (sym is ∙ h)) (new y i).module_there
+      by_stood (Added y i key is) = subst (λ (z : Entity). z.kind ≡ Module → z.stage ≢ Ahead) (some_same (sym is ∙ h)) (new y i).module_there
 
   -- additions keep all this
   pub added-kept : IsKept after scopes (more_inside inside (operations_among additions))

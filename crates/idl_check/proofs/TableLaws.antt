@@ -1,5 +1,5 @@
--- Tables whose codes ascend.
-use Rattle.std.proofs.Common.{ℕ, ◌≤◌, Bool, true, false, cond, List, [], ◌∷◌, arith}
+-- Tables whose codes ascend, and tables that bring no fault.
+use Rattle.std.proofs.Common.{◌≡◌, ℕ, ◌≤◌, Bool, true, false, cond, List, [], ◌∷◌, arith, map, refl}
 use Rattle.std.proofs.lemmas.List.Elements.{All-cons, All-map, All-nil, All-weaker}
 use Rattle.std.specs.Prelude.{All, ⊤}
 use Rattle.idl_check.specs.Codes.{Table, codes_in, faults_by}
@@ -28,6 +28,15 @@ Ascends n (row ∷ rows) = (n ≤ number_of row.1) × Ascends (number_of row.1) 
 pub all-if : {X : Type 0} (P : X → Type 0) (b : Bool) (x : X) (xs : List X) → P x → All P xs → All P (cond b (x ∷ xs) xs)
 all-if P true x xs here more = All-cons P x xs here more
 all-if P false x xs here more = more
+
+-- a table that brings no fault has no code, and none of its rows holds
+pub no-codes : (n : ℕ) (cs : List Code) → map (fault_at n) cs ≡ [] → cs ≡ []
+no-codes n [] h = refl
+no-codes n (c ∷ cs) h = cc
+
+pub no-row : (b : Bool) (c : Code) (cs : List Code) → cond b (c ∷ cs) cs ≡ [] → (b ≡ false) × (cs ≡ [])
+no-row true c cs h = cc
+no-row false c cs h = (refl, h)
 
 codes-from : (m n : ℕ) (table : Table) → m ≤ n → Ascends n table → All (λ c. m ≤ number_of c) (codes_in table)
 codes-from m n [] le up = All-nil (λ c. m ≤ number_of c)

@@ -1,13 +1,15 @@
 -- The closing of an interface keeps what facts keep: its list is that of what is reached from it.
 use Rattle.std.proofs.Common.{◌≡◌, ◌⊎◌, ◌∙◌, ℕ, ◌≤◌, ◌<◌, suc, Bool, true, false, cond, List, [], ◌∷◌, length, Option, Some, None, refl, sym, ap, subst, arith, inl, inr}
 use Rattle.std.specs.Prelude.{◌≢◌, ◌||◌, Contains}
-use Rattle.idl_check.proofs.ReachedLaws.{AreWhole, IsClosed, IsWhole, IsWithin, Keeps, Names, Place, kept-at, kept-closed, kept-whole, only, own, some_one, there, through-back, through-on}
-use Rattle.idl_check.proofs.SettledLaws.{Added, AreOpened, IsDefined, IsHeld, IsKept, IsNamed, IsOpened, IsPlace, IsScope, IsUnder, Stood, Was, closed-place, found-in, name_same, none-some, over, path_same, stood}
+use Rattle.idl_check.proofs.ReachedLaws.{AreWhole, IsClosed, IsWhole, IsWithin, Keeps, Names, Place, kept-at, kept-closed, kept-whole, only, own, there, through-back, through-on}
+use Rattle.idl_check.proofs.SettledLaws.{Added, AreOpened, IsDefined, IsHeld, IsKept, IsNamed, IsOpened, IsPlace, IsScope, IsUnder, Stood, Was, closed-place, name_same, over, path_same, stood}
 use Rattle.idl_check.specs.Closing.{HasOperation}
 use Rattle.idl_lex.specs.Keywords.{folded}
+use Rattle.idl_scope.proofs.Constructors.{some_same, none_some}
 use Rattle.idl_scope.proofs.Membership.{Contains-IsIn, IsIn, IsIn-Contains, IsIn-one}
 use Rattle.idl_scope.proofs.QueueLemmas.{list_any-joined}
 use Rattle.idl_scope.proofs.Walked.{among, among-IsIn}
+use Rattle.idl_scope.proofs.Worlds.{addition_at-Some, declares_same}
 use Rattle.idl_scope.specs.Digested.{key_equiv}
 use Rattle.idl_scope.specs.Facts.{answer_of, entity_in, entity_key, gathered, inherited, is_operation, joined, operations_of}
 use Rattle.idl_scope.specs.Meaning.{Own, Through, Up, bases_at, bases_of}
@@ -92,9 +94,6 @@ module _ (answers : Key → Option Answer) where
 
 -- ---- an interface that closes, at its path
 
-declares-one : (f x : Entity) → Declares f ≡ Declares x → f ≡ x
-declares-one f x h = cc
-
 interface-no : (e : Entity) → e.kind ≡ Interface → is_operation e ≡ true → ⊥
 interface-no e kind h = let no : is_operation e ≡ false = ap (λ k. is_operation (record e { kind = k })) kind in let z : true ≡ false = sym h ∙ no in cc
 
@@ -136,7 +135,7 @@ module _ (D : Names) (s t : Scope) (outer : List Scope) (paths : List Place) (re
   not-closed c = let z : Open ≡ Complete = sym held.stage ∙ c.stage in cc
 
   only-one : (x : Entity) → IsIn (Declares x) (Declares f ∷ []) → f ≡ x
-  only-one x (inl h) = declares-one f x h
+  only-one x (inl h) = declares_same f x h
   only-one x (inr h) = absurd h
 
   -- what stands under a name: what stood there, or the closed interface where the open one stood
@@ -150,7 +149,7 @@ module _ (D : Names) (s t : Scope) (outer : List Scope) (paths : List Place) (re
       by_stood : Stood D (Declares f ∷ []) n q → Turned n q
       by_stood (Was same) = Else same
       by_stood (Added x i key is) =
-          let one : f ≡ x = only-one x (found-in (Declares f ∷ []) (entity_key x.path) (Declares x) i).0 in
+          let one : f ≡ x = only-one x (addition_at-Some (Declares f ∷ []) (entity_key x.path) (Declares x) i).0 in
           let key_f : Declared n q ≡ entity_key e.path = key ∙ ap (λ (z : Entity). entity_key z.path) (sym one) ∙ ap entity_key path in
           let name : n ≡ folded (name_of e.path) = name_same n (folded (name_of e.path)) q (scope_of e.path) key_f in
           let scope : q ≡ scope_of e.path = path_same n (folded (name_of e.path)) q (scope_of e.path) key_f in
@@ -168,7 +167,7 @@ module _ (D : Names) (s t : Scope) (outer : List Scope) (paths : List Place) (re
     where
       by_stands : (g : Entity) → IsClosed D g → Turned (folded (name_of g.path)) (scope_of g.path) → there after g.path ≡ Some g
       by_stands g c (Else same) = same ∙ c.stands
-      by_stands g c (Here was now q) = absurd (not-closed (subst (IsClosed D) (some_one (sym c.stands ∙ was)) c))
+      by_stands g c (Here was now q) = absurd (not-closed (subst (IsClosed D) (some_same (sym c.stands ∙ was)) c))
 
       by_within : (g : Entity) → IsClosed D g → (n : List ℕ) → Turned n g.path → own after n g.path ≡ own D n g.path
       by_within g c n (Else same) = same
@@ -182,7 +181,7 @@ module _ (D : Names) (s t : Scope) (outer : List Scope) (paths : List Place) (re
       by_turned : Turned n f.path → Contains f.operations x.path
       by_turned (Else same) = Contains-IsIn x.path f.operations (of_own x.path (held.mine n x (ap (λ q. own D n q) (sym path) ∙ sym same ∙ h) operation))
       by_turned (Here was now q) =
-          let one : f ≡ x = some_one (sym now ∙ h) in
+          let one : f ≡ x = some_same (sym now ∙ h) in
           absurd (interface-no f (kind ∙ interface) (ap is_operation one ∙ operation))
 
   -- its bases
@@ -205,14 +204,14 @@ module _ (D : Names) (s t : Scope) (outer : List Scope) (paths : List Place) (re
     where
       by_turned : Turned n f.path → own after n f.path ≡ Some x
       by_turned (Else same) = same ∙ h
-      by_turned (Here was now q) = absurd (interface-no e interface (ap is_operation (some_one (sym was ∙ h)) ∙ operation))
+      by_turned (Here was now q) = absurd (interface-no e interface (ap is_operation (some_same (sym was ∙ h)) ∙ operation))
 
   none-stays : (n : List ℕ) (q : Place) → own D n q ≡ None → own after n q ≡ None
   none-stays n q h = by_turned (turned n q)
     where
       by_turned : Turned n q → own after n q ≡ None
       by_turned (Else same) = same ∙ h
-      by_turned (Here was now scope) = absurd (none-some (sym h ∙ was))
+      by_turned (Here was now scope) = absurd (none_some (sym h ∙ was))
 
   new-bases : bases_at (only after) f.path ≡ e.bases
   new-bases = ap bases_of new-stands ∙ ap (λ st. bases_of (Some (record f { stage = st }))) complete ∙ bases
@@ -246,7 +245,7 @@ module _ (D : Names) (s t : Scope) (outer : List Scope) (paths : List Place) (re
     where
       by_turned : Turned (folded (name_of g.path)) (scope_of g.path) → IsWhole after g
       by_turned (Else same) = kept-whole D after closes-keeps k.whole g (record { stands = sym same ∙ c.stands; kind = c.kind; stage = c.stage })
-      by_turned (Here was now q) = subst (IsWhole after) (some_one (sym now ∙ c.stands)) new-whole
+      by_turned (Here was now q) = subst (IsWhole after) (some_same (sym now ∙ c.stands)) new-whole
 
   named-after : (n : List ℕ) (q : Place) (x : Entity) → own after n q ≡ Some x → IsNamed x.path × (n ≡ folded (name_of x.path)) × (q ≡ scope_of x.path)
   named-after n q x h = by_turned (turned n q)
@@ -254,7 +253,7 @@ module _ (D : Names) (s t : Scope) (outer : List Scope) (paths : List Place) (re
       by_turned : Turned n q → IsNamed x.path × (n ≡ folded (name_of x.path)) × (q ≡ scope_of x.path)
       by_turned (Else same) = k.named n q x (sym same ∙ h)
       by_turned (Here was now scope) =
-          let same : e.path ≡ x.path = sym path ∙ ap (λ (z : Entity). z.path) (some_one (sym now ∙ h)) in
+          let same : e.path ≡ x.path = sym path ∙ ap (λ (z : Entity). z.path) (some_same (sym now ∙ h)) in
           subst (λ p. IsNamed p × (n ≡ folded (name_of p)) × (q ≡ scope_of p)) same (k.named n q e was)
 
   -- what is defined at a path is so, or is the closed interface
@@ -266,7 +265,7 @@ module _ (D : Names) (s t : Scope) (outer : List Scope) (paths : List Place) (re
       by_turned : Turned (folded (name_of q)) (scope_of q) → (z : Entity) × (there after q ≡ Some z) × (z.path ≡ q) × IsDefined z
       by_turned (Else same) = (y.0, same ∙ y.1, y.2, y.3)
       by_turned (Here was now scope) =
-          let one : y.0 ≡ e = some_one (sym y.1 ∙ was) in
+          let one : y.0 ≡ e = some_same (sym y.1 ∙ was) in
           (f, now, path ∙ ap (λ (z : Entity). z.path) (sym one) ∙ y.2, λ ahead. let z : Complete ≡ Ahead = sym complete ∙ ahead in cc)
 
   placed-after : (n : List ℕ) (q : Place) (x : Entity) → own after n q ≡ Some x → IsScope IsDefined after q
@@ -290,14 +289,14 @@ module _ (D : Names) (s t : Scope) (outer : List Scope) (paths : List Place) (re
         by_turned : Turned (folded (name_of u.path)) (scope_of u.path) → IsPlace after u.path
         by_turned (Else same) = inr (inr (y.0, same ∙ y.1, y.2, y.3))
         by_turned (Here was now scope) =
-            absurd (shorter u less (sym y.2 ∙ ap (λ (z : Entity). z.path) (some_one (sym y.1 ∙ was)) ∙ at))
+            absurd (shorter u less (sym y.2 ∙ ap (λ (z : Entity). z.path) (some_same (sym y.1 ∙ was)) ∙ at))
 
     was-there : (g : Entity) → there after u.path ≡ Some g → g.path ≡ u.path → there D u.path ≡ Some g
     was-there g h is = by_turned (turned (folded (name_of u.path)) (scope_of u.path))
       where
         by_turned : Turned (folded (name_of u.path)) (scope_of u.path) → there D u.path ≡ Some g
         by_turned (Else same) = sym same ∙ h
-        by_turned (Here was now scope) = absurd (shorter u less (sym is ∙ ap (λ (z : Entity). z.path) (some_one (sym h ∙ now)) ∙ path ∙ at))
+        by_turned (Here was now scope) = absurd (shorter u less (sym is ∙ ap (λ (z : Entity). z.path) (some_same (sym h ∙ now)) ∙ path ∙ at))
 
     held-after : (g : Entity) → IsHeld D g os → IsHeld after g os
     held-after g w = record {
@@ -310,11 +309,11 @@ module _ (D : Names) (s t : Scope) (outer : List Scope) (paths : List Place) (re
       where
         by_own : (n : List ℕ) (x : Entity) → own after n g.path ≡ Some x → is_operation x ≡ true → Turned n g.path → IsIn x.path os
         by_own n x h operation (Else same) = w.mine n x (sym same ∙ h) operation
-        by_own n x h operation (Here was now scope) = absurd (interface-no f (kind ∙ interface) (ap is_operation (some_one (sym now ∙ h)) ∙ operation))
+        by_own n x h operation (Here was now scope) = absurd (interface-no f (kind ∙ interface) (ap is_operation (some_same (sym now ∙ h)) ∙ operation))
 
         by_told : (n : List ℕ) (x : Entity) → own D n g.path ≡ Some x → is_operation x ≡ true → Turned n g.path → own after n g.path ≡ Some x
         by_told n x h operation (Else same) = same ∙ h
-        by_told n x h operation (Here was now scope) = absurd (interface-no e interface (ap is_operation (some_one (sym was ∙ h)) ∙ operation))
+        by_told n x h operation (Here was now scope) = absurd (interface-no e interface (ap is_operation (some_same (sym was ∙ h)) ∙ operation))
 
     opened-on : IsOpened after u os
     opened-on = record {
@@ -335,7 +334,7 @@ module _ (D : Names) (s t : Scope) (outer : List Scope) (paths : List Place) (re
     where
       by_turned : Turned n q → x.kind ≡ Module → x.stage ≢ Ahead
       by_turned (Else same) = k.modules n q x (sym same ∙ h)
-      by_turned (Here was now scope) = subst (λ (z : Entity). z.kind ≡ Module → z.stage ≢ Ahead) (some_one (sym now ∙ h)) (λ m ahead. let z : Complete ≡ Ahead = sym complete ∙ ahead in cc)
+      by_turned (Here was now scope) = subst (λ (z : Entity). z.kind ≡ Module → z.stage ≢ Ahead) (some_same (sym now ∙ h)) (λ m ahead. let z : Complete ≡ Ahead = sym complete ∙ ahead in cc)
 
   -- so what is kept, is kept as it closes
   pub turned-kept : IsKept after (t ∷ outer) rest

@@ -1,5 +1,6 @@
 -- Runs of what stands behind typedefs.
 use Rattle.std.proofs.Common.{◌≡◌, ◌⊎◌, ◌∙◌, ℕ, zero, suc, ◌+◌, ◌-◌, ◌<◌, ◌≤◌, Bool, true, false, cond, List, [], ◌∷◌, ◌++◌, length, Option, None, Some, refl, sym, ap, subst, inl, inr, arith, length-append}
+use Rattle.std.proofs.lemmas.Bool.{or_right}
 use Rattle.std.specs.Prelude.{◌&&◌, ◌||◌}
 use Rattle.std.specs.Cmp.Lexicographic.{bytes_decides, pointwise_decides}
 use Rattle.std.proofs.lemmas.List.Folds.{list_any-append}
@@ -45,10 +46,6 @@ next_turn turns at h = omega (arith, h)
 
 -- ---- keys that are logged
 
-or_true : (t : Bool) → (t || true) ≡ true
-or_true true = refl
-or_true false = refl
-
 own_key : (n : List ℕ) (p : List (List ℕ)) → key_eq (Declared n p) (Declared n p) ≡ true
 own_key n p = λ i. (bytes_decides n n).1 refl i && (pointwise_decides bytes_decides p p).1 refl i
 
@@ -77,7 +74,7 @@ module _ (bank : Key → Option Answer) (log : List (Key × Option Answer)) wher
       by_test false h =
           list_any-append (λ (e : Key × Option Answer). key_eq k e.0) log ((k, bank k) ∷ [])
           ∙ ap (λ t. is_logged key_eq log k || (t || false)) one
-          ∙ or_true (is_logged key_eq log k)
+          ∙ or_right (is_logged key_eq log k) true refl
 
   noted-kept : (k j : Key) → is_logged key_eq log j ≡ true → is_logged key_eq (noted key_eq bank log k) j ≡ true
   noted-kept k j h = by_test (is_logged key_eq log k)

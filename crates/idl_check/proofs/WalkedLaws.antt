@@ -1,14 +1,15 @@
 -- What a walk over such a unit comes to fits the facts before it.
 use Rattle.std.proofs.Common.{◌≡◌, ◌⊎◌, ◌∙◌, ℕ, zero, suc, ◌-◌, ◌≤◌, Bool, true, false, cond, List, [], ◌∷◌, ◌++◌, length, Option, Some, None, Result, Ok, Err, refl, sym, ap, subst, arith, inl, inr}
-use Rattle.std.specs.Prelude.{◌≢◌, ◌&&◌, drop, not, take}
+use Rattle.std.proofs.lemmas.Bool.{not-false}
+use Rattle.std.specs.Prelude.{◌≢◌, ◌&&◌, drop, take}
 use Rattle.idl_check.proofs.ClosingLaws.{IsFitting, IsSettled, StepFits}
 use Rattle.idl_check.proofs.GrowingLaws.{Grows, IsGrown, IsMine, IsNew, grows-beside, grows-none, grows-on, grows-with}
 use Rattle.idl_check.proofs.AroundLaws.{used-none}
 use Rattle.idl_check.proofs.StandingLaws.{IsDeclared, denoted-declared}
 use Rattle.idl_check.proofs.TurnedLaws.{joined-out}
 use Rattle.idl_check.proofs.VisitLemmas.{turns-here}
-use Rattle.idl_check.proofs.ReachedLaws.{IsClosed, IsClosedAt, Names, Place, only, own, some_one, there}
-use Rattle.idl_check.proofs.SettledLaws.{IsNamed, IsOpen, IsPlace, added-kept, closed-before, none-some, over}
+use Rattle.idl_check.proofs.ReachedLaws.{IsClosed, IsClosedAt, Names, Place, only, own, there}
+use Rattle.idl_check.proofs.SettledLaws.{IsNamed, IsOpen, IsPlace, added-kept, closed-before, over}
 use Rattle.idl_check.proofs.PartLemmas.{IsUpTo}
 use Rattle.idl_check.proofs.SiteLaws.{declared_by, denoted-up, end_visit, named_by, union_visit, used_by, visited}
 use Rattle.idl_check.proofs.VisitFaults.{visit_faults}
@@ -16,6 +17,7 @@ use Rattle.idl_check.proofs.WalkLaws.{none-append}
 use Rattle.idl_check.proofs.WholeLaws.{given-some, whole-none}
 use Rattle.idl_check.proofs.WalkingLaws.{AreSited, D, IsCursor, IsSited, Walks, allowed, cursor-on, declared-grows, fresh-way, scopes}
 use Rattle.idl_check.proofs.Scenes.{Scene, scene_after}
+use Rattle.idl_check.proofs.TableLaws.{no-row}
 use Rattle.idl_check.specs.Bodies.{Body, Clauses, array_of, told_innermost, begun_body, is_member, member_of, raises, raising, signature_of, with_array_member, with_array_type, with_body_label, with_innermost, with_last_type, with_member, with_next_label}
 use Rattle.idl_check.specs.Declaring.{entity_of, finished, kind_of, standing, with_finished}
 use Rattle.idl_check.specs.AllFaults.{site_faults}
@@ -34,6 +36,7 @@ use Rattle.idl_lex.specs.Keywords.{folded}
 use Rattle.idl_lex.specs.Tokens.{Token}
 use Rattle.idl_memo.proofs.QueryLaws.{outcome-and_then}
 use Rattle.idl_memo.specs.Query.{Done, outcome}
+use Rattle.idl_scope.proofs.Constructors.{some_same, none_some}
 use Rattle.idl_scope.proofs.FactsLaws.{outcome-under}
 use Rattle.idl_scope.proofs.LookupLaws.{denotes}
 use Rattle.idl_scope.proofs.Membership.{IsIn, IsIn-one, IsIn-split}
@@ -68,14 +71,6 @@ use Rattle.idl_value.specs.declared.outcome.Outcome.{Outcome}
 use Rattle.idl_value.specs.declared.outcome.Outcome.TheVariants as result
 use Rattle.idl_value.specs.declared.value.Value.{Value}
 use Rattle.idl_unit.specs.TokenRules.{first}
-
-first-row : (b : Bool) (c : Code) (cs : List Code) → cond b (c ∷ cs) cs ≡ [] → b ≡ false
-first-row true c cs h = cc
-first-row false c cs h = refl
-
-not-false : (b : Bool) → not b ≡ false → b ≡ true
-not-false true h = refl
-not-false false h = cc
 
 -- ---- bodies are of the same entities
 
@@ -120,7 +115,7 @@ module _ (facts : List UnitFacts) (k : IsSettled (world facts)) (turns : ℕ) (e
         apart = λ scope f y at at_path interface t op. a.apart (ap scope_of to_z ∙ scope) f y at at_path interface (subst (λ p. Through (only names) (folded (name_of p)) (bases_of (Some f)) y) (sym to_z) t) op;
         replaces =
             λ y h ahead. let stands : there (over additions names) x.path ≡ Some x = ap (λ o. entity_in (elim o as (λ _. Option Answer) [ None ↦ names (folded (name_of x.path)) (scope_of x.path) | Some b ↦ Some (answer_of b) ])) m.1.1 in
-            let one : x ≡ y = some_one (sym stands ∙ ap (there (over additions names)) to_z ∙ h) in
+            let one : x ≡ y = some_same (sym stands ∙ ap (there (over additions names)) to_z ∙ h) in
             (ap (λ (q : Entity). q.path) (sym one) ∙ to_z, ap (λ (q : Entity). q.kind) (sym one) ∙ m.1.3 ∙ sym kind);
       }
 
@@ -186,8 +181,8 @@ module _ (facts : List UnitFacts) (k : IsSettled (world facts)) (turns : ℕ) (e
   last-name of name n h = by_kind (kind_eq of kind.Interface) refl h
     where
       by_kind : (b : Bool) → kind_eq of kind.Interface ≡ b → cond b None (Some name) ≡ Some n → (name ≡ n) × (of ≢ kind.Interface)
-      by_kind true is g = absurd (none-some g)
-      by_kind false is g = (some_one g, λ same. let z : true ≡ false = sym (ap (λ q. kind_eq q kind.Interface) same) ∙ is in cc)
+      by_kind true is g = absurd (none_some g)
+      by_kind false is g = (some_same g, λ same. let z : true ≡ false = sym (ap (λ q. kind_eq q kind.Interface) same) ∙ is in cc)
 
   walks-declared : (way : Declaration) (name : List ℕ) (w : Walk) (s : Scene) → At w s → IsSited (item.Declares way name) s → (cursor : List Scope) → w.cursor ≡ cursor
       → (outcome (declared_by turns (answers facts) way name w (first cursor)) (answers facts)).faults ≡ [] → At (outcome (declared_by turns (answers facts) way name w (first cursor)) (answers facts)).after (scene_after (item.Declares way name) s)
@@ -208,7 +203,7 @@ module _ (facts : List UnitFacts) (k : IsSettled (world facts)) (turns : ℕ) (e
           | inl j ↦ g.0.mine x (h.begun x j)
           | inr j ↦ subst (Mine (declared_visit w way t e st).after.own) (begun-of (is_begun e) e x j) mine
         ];
-        last = λ x at. subst (Mine (declared_visit w way t e st).after.own) (some_one at) mine;
+        last = λ x at. subst (Mine (declared_visit w way t e st).after.own) (some_same at) mine;
         named = λ n u more last at. (
           e,
           refl,
@@ -231,7 +226,7 @@ module _ (facts : List UnitFacts) (k : IsSettled (world facts)) (turns : ℕ) (e
       let after = added-kept names around (world facts).inside w.own k h.grown.added h.grown.once in
       let at = after.named stands.0 stands.1 e stands.2 in
       let there_e : there B e.path ≡ Some e = (λ i. own B (sym at.1 i) (sym at.2 i)) ∙ stands.2 in
-      let open_no : is_open_base e ≡ false = (first-row (is_open_base e) code.IncompleteBase _ ok.1) in
+      let open_no : is_open_base e ≡ false = (no-row (is_open_base e) code.IncompleteBase _ ok.1).0 in
       let complete : e.stage ≡ Complete = same_stage e.stage Complete (not-false (stage_eq e.stage Complete) open_no) in
       let closed : IsClosed B e = record { stands = there_e; kind = same_kind e.kind kind.Interface ok.0; stage = complete } in
       (e, closed-before names around (world facts).inside w.own k h.grown.added h.grown.once e closed, refl)
@@ -299,7 +294,7 @@ module _ (facts : List UnitFacts) (k : IsSettled (world facts)) (turns : ℕ) (e
     grown = h.grown;
     begun = h.begun;
     last = h.last;
-    named = λ n t rest none at. absurd (none-some none);
+    named = λ n t rest none at. absurd (none_some none);
     bodies = by_body;
     cursor = by_cursor cursor is;
     bases = h.bases;
@@ -307,7 +302,7 @@ module _ (facts : List UnitFacts) (k : IsSettled (world facts)) (turns : ℕ) (e
     where
       plain : (ss : List Scope) → w.cursor ≡ ss → (e : Entity) → w.last ≡ Some e → e.kind ≢ kind.Interface
       plain [] at e last_e = absurd (cursor-some w.own s.level (subst (IsCursor facts k turns enough w.own s.level) at h.cursor))
-      plain (t ∷ rest) at e last_e = let r = h.named name t rest last at in subst (λ (x : Entity). x.kind ≢ kind.Interface) (some_one (sym r.1 ∙ last_e)) r.3
+      plain (t ∷ rest) at e last_e = let r = h.named name t rest last at in subst (λ (x : Entity). x.kind ≢ kind.Interface) (some_same (sym r.1 ∙ last_e)) r.3
 
       by_body : (b : Body) → IsIn b (begun_body w.last w.written.data_type ∷ w.bodies) → (e : Entity) → b.entity ≡ Some e → Mine w.own e × (e.kind ≢ kind.Interface)
       by_body b (inl same) e at = (h.last e (ap (λ (x : Body). x.entity) same ∙ at), plain cursor is e (ap (λ (x : Body). x.entity) same ∙ at))
@@ -351,7 +346,7 @@ module _ (facts : List UnitFacts) (k : IsSettled (world facts)) (turns : ℕ) (e
     grown = h.grown;
     begun = λ x i. elim (IsIn-split x w.begun (told_innermost w.clauses w.bodies) i) as (λ _. Mine w.own x) [ inl j ↦ h.begun x j | inr j ↦ told-of w.clauses w.bodies w.own h.bodies x j ];
     last = h.last;
-    named = λ n t rest none at. absurd (none-some none);
+    named = λ n t rest none at. absurd (none_some none);
     bodies = λ b i e at. h.bodies b (later-in b w.bodies i) e at;
     cursor = cursor-ends w.own s.level w.cursor some h.cursor;
     bases = h.bases;
@@ -424,10 +419,10 @@ module _ (facts : List UnitFacts) (k : IsSettled (world facts)) (turns : ℕ) (e
 
   pub first-walks : At (first_walk around) (record { level = 0; last = None })
   first-walks = record {
-    grown = record { once = tt; added = λ x h. absurd (none-some h); other = λ x h. absurd (none-some h) };
+    grown = record { once = tt; added = λ x h. absurd (none_some h); other = λ x h. absurd (none_some h) };
     begun = λ e i. absurd i;
-    last = λ e h. absurd (none-some h);
-    named = λ n t rest none at. absurd (none-some none);
+    last = λ e h. absurd (none_some h);
+    named = λ n t rest none at. absurd (none_some none);
     bodies = λ b i. absurd i;
     cursor = refl;
     bases = λ b i. absurd i;

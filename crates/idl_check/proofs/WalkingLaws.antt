@@ -1,14 +1,15 @@
 -- A walk over the sites of a unit that is no module and declares nothing ahead: what it adds fits the facts before it.
-use Rattle.std.proofs.Common.{◌≡◌, ◌∙◌, ℕ, zero, suc, ◌≤◌, ◌<◌, Bool, true, false, cond, List, [], ◌∷◌, length, map, Option, Some, None, refl, sym, ap, subst, arith}
-use Rattle.std.proofs.lemmas.Bool.{and_parts}
+use Rattle.std.proofs.Common.{◌≡◌, ◌∙◌, ℕ, zero, suc, ◌≤◌, ◌<◌, Bool, true, false, cond, List, [], ◌∷◌, length, Option, Some, None, refl, sym, ap, subst, arith}
+use Rattle.std.proofs.lemmas.Bool.{and_parts, not-false}
 use Rattle.std.specs.List.{list_any}
-use Rattle.std.specs.Prelude.{◌≢◌, ◌&&◌, ◌||◌, is_some, not}
+use Rattle.std.specs.Prelude.{◌≢◌, ◌&&◌, ◌||◌, is_some}
 use Rattle.idl_check.proofs.ClosingLaws.{IsSettled}
 use Rattle.idl_check.proofs.GrowingLaws.{Grows, IsGrown, IsMine, IsNew, grows-beside, grows-none, grows-on, grows-with, found-new, same-names}
 use Rattle.idl_check.proofs.InheritedLaws.{standing-inherited}
 use Rattle.idl_check.proofs.Scenes.{Scene, is_operation_way, is_other, scene_after}
-use Rattle.idl_check.proofs.ReachedLaws.{IsClosedAt, Names, Place, names_in, only, own, some_one, there, through-on, through-only}
-use Rattle.idl_check.proofs.SettledLaws.{Added, AreOpened, IsFound, IsOpen, IsOpened, IsPlace, Stood, Was, closed-keeps, is_nameless, none-some, over, scope-stays, stood, there-stays}
+use Rattle.idl_check.proofs.ReachedLaws.{IsClosedAt, Names, Place, names_in, only, own, there, through-on, through-only}
+use Rattle.idl_check.proofs.SettledLaws.{Added, AreOpened, IsFound, IsOpen, IsOpened, IsPlace, Stood, Was, closed-keeps, is_nameless, over, scope-stays, stood, there-stays}
+use Rattle.idl_check.proofs.TableLaws.{no-codes, no-row}
 use Rattle.idl_check.specs.Bodies.{Body}
 use Rattle.idl_check.specs.Codes.{codes_in, faults_by}
 use Rattle.idl_check.specs.Declaring.{declared_table, entity_of, inherited, standing, stays, with_declared}
@@ -22,6 +23,7 @@ use Rattle.idl_event.specs.declared.code.Code.TheVariants.{AlreadyDeclared, Name
 use Rattle.idl_lex.specs.Keywords.{folded}
 use Rattle.idl_memo.proofs.QueryLaws.{outcome-and_then}
 use Rattle.idl_memo.specs.Query.{Done, and_then, outcome}
+use Rattle.idl_scope.proofs.Constructors.{some_same, none_some}
 use Rattle.idl_scope.proofs.FactsLaws.{outcome-under}
 use Rattle.idl_scope.proofs.Membership.{IsIn}
 use Rattle.idl_scope.specs.Facts.{UnitFacts, answers, entity_in, is_operation, path_around, scopes_in, world, with_addition}
@@ -44,7 +46,6 @@ use Rattle.idl_site.specs.Item.{Item}
 use Rattle.idl_site.specs.Part.{Part as item}
 use Rattle.idl_site.specs.declared.site.Declaration.{Declaration}
 use Rattle.idl_site.specs.declared.site.Declaration.TheVariants as declaration
-use Rattle.idl_unit.specs.TokenRules.{fault_at}
 
 -- ---- what stands around a site
 
@@ -60,14 +61,6 @@ AreSited [] s = Unit {0}
 AreSited (site ∷ sites) s = IsSited site s × AreSited sites (scene_after site s)
 
 -- ---- what a declared name is refused for
-
-no-codes : (n : ℕ) (cs : List Code) → map (fault_at n) cs ≡ [] → cs ≡ []
-no-codes n [] h = refl
-no-codes n (c ∷ cs) h = cc
-
-no-row : (b : Bool) (c : Code) (cs : List Code) → cond b (c ∷ cs) cs ≡ [] → (b ≡ false) × (cs ≡ [])
-no-row true c cs h = cc
-no-row false c cs h = (refl, h)
 
 -- none of its rows holds
 pub record IsAllowed (s : Scope) (st : Standing) (e : Entity) : Type 0 where
@@ -87,10 +80,6 @@ allowed n s st e h =
     let d = no-row (is_other_ahead st.there e) OtherForward r4 c.1 in
     let g = no-row (is_inherited st) InheritedTwice r5 d.1 in
     record { declared = a.0; inherited = g.0 }
-
-not-true : (b : Bool) → not b ≡ false → b ≡ true
-not-true true h = refl
-not-true false h = cc
 
 or-second : (a b : Bool) → a ≡ false → (a || b) ≡ true → b ≡ true
 or-second true b h g = cc
@@ -134,8 +123,8 @@ or-none true b h g = cc
 or-none false b h g = g
 
 pub there-follows : (o : Option Entity) (e old : Entity) → is_declared o e ≡ false → o ≡ Some old → may_follow old e ≡ true
-there-follows None e old h is = absurd (none-some is)
-there-follows (Some x) e old h is = ap (λ y. may_follow y e) (sym (some_one is)) ∙ not-true (may_follow x e) h
+there-follows None e old h is = absurd (none_some is)
+there-follows (Some x) e old h is = ap (λ y. may_follow y e) (sym (some_same is)) ∙ not-false (may_follow x e) h
 
 -- what it is declared as
 pub record IsFresh (e : Entity) (way : Declaration) : Type 0 where

@@ -3,6 +3,7 @@ use Rattle.std.proofs.Common.{◌≡◌, ◌∙◌, ℕ, ◌+◌, ◌-◌, Bool,
 use Rattle.std.proofs.lemmas.List.{length-append}
 use Rattle.std.specs.Prelude.{codes}
 use Rattle.idl_scope.proofs.AnswerLemmas.{over-cons}
+use Rattle.idl_scope.proofs.Constructors.{head_same, none_some, some_none, some_same, tail_same}
 use Rattle.idl_scope.proofs.IdLemmas.{relative-inside, relative-name, within_global}
 use Rattle.idl_scope.specs.Facts.{UnitFacts, World, after, after_all, after_closing, after_step, answer_of, answers, closed, closing, entity_in, entity_key, first_world, identity_at, key_of, over, scopes_in, with_additions, world}
 use Rattle.idl_scope.specs.Identity.{first_identity, identity_of, is_within, prefix_for, prefixed, relative, slashed}
@@ -22,15 +23,6 @@ use Rattle.idl_scope.specs.declared.identity.Identity.{Identity}
 use Rattle.idl_scope.specs.declared.identity.Prefix.{Prefix}
 use Rattle.idl_scope.specs.declared.key.Key.TheVariants.{Cursor, IdOf}
 use Rattle.idl_scope.specs.declared.kind.Kind.TheVariants.{Interface}
-
-some_same : {A : Type 0} {x y : A} → Some x ≡ Some y → x ≡ y
-some_same h = cc
-
-none_some : {A : Type 0} {x : A} → None ≡ Some x → ⊥
-none_some h = cc
-
-some_none : {A : Type 0} {x : A} → Some x ≡ None → ⊥
-some_none h = cc
 
 -- ---- a prefix in a scope around the name, and no other
 
@@ -106,12 +98,6 @@ slashed-weight : (n : List ℕ) (names : List (List ℕ)) → length (slashed (n
 slashed-weight n [] = omega arith
 slashed-weight n (m ∷ names) =
     omega (arith, length-append (slashed (m ∷ names)) (47 ∷ n), slashed-weight m names)
-
-head_same : {A : Type 0} {x y : A} {xs ys : List A} → x ∷ xs ≡ y ∷ ys → x ≡ y
-head_same h = cc
-
-tail_same : {A : Type 0} {x y : A} {xs ys : List A} → x ∷ xs ≡ y ∷ ys → xs ≡ ys
-tail_same h = cc
 
 -- two beginnings of the same names that are as long leave the same
 behind-same : (x y p q : List (List ℕ)) → x ++ p ≡ y ++ q → weight x ≡ weight y → p ≡ q

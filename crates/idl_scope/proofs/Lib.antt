@@ -1,6 +1,7 @@
 pub mod AnswerLemmas
 pub mod ApartLemmas
 pub mod AroundLaws
+pub mod Constructors
 pub mod CountLemmas
 pub mod DeclaredLemmas
 pub mod DenotesOnce

@@ -22,6 +22,7 @@ use Rattle.idl_scope.specs.declared.fault.NameFault.TheVariants.{At}
 use Rattle.idl_scope.specs.declared.found.Found.{Found}
 use Rattle.idl_scope.specs.declared.key.Key.{Key}
 use Rattle.idl_scope.specs.declared.kind.Kind.{Kind}
+use Rattle.idl_scope.proofs.Constructors.{none_some, some_same}
 use Rattle.idl_scope.proofs.Membership.{IsIn, either, Distinct, Contains-IsIn, IsIn-Contains}
 use Rattle.idl_scope.proofs.Reaching.{Reached, Here, On, visited, added, visited-Reached, visited-Distinct}
 use Rattle.idl_scope.proofs.Walked.{among, among-IsIn, outcome-reached}
@@ -30,12 +31,6 @@ use Rattle.idl_scope.proofs.Worlds.{AreGrounded, own_at-home, bases_at-within}
 -- the list has these, and each once
 abbrev pub IsAll : (Entity → Type 0) → List Entity → Type 0
 IsAll P es = ((e : Entity) → (IsIn e es → P e) × (P e → IsIn e es)) × Distinct es
-
-none_some : {A : Type 0} {x : A} → None ≡ Some x → ⊥
-none_some h = cc
-
-some_same : {A : Type 0} {x y : A} → Some x ≡ Some y → x ≡ y
-some_same h = cc
 
 one_item : (P : Entity → Type 0) (x : Entity) → P x → ((e : Entity) → P e → e ≡ x) → IsAll P (x ∷ [])
 one_item P x p only = (λ e. (λ i. elim i [ inl h ↦ subst P h p | inr f ↦ absurd f ], λ q. inl (sym (only e q))), (λ h. h, tt))

@@ -1,6 +1,7 @@
 -- Prefixes: behind a scope and behind a file the one of before is in force again.
 use Rattle.std.proofs.Common.{◌≡◌, ◌≢◌, ◌∙◌, ℕ, zero, suc, true, false, List, [], ◌∷◌, ◌++◌, Option, Some, None, drop, refl, sym, ap, subst}
 use Rattle.idl_scope.proofs.AnswerLemmas.{over_prefix}
+use Rattle.idl_scope.proofs.Constructors.{none_some, some_same, tail_same}
 use Rattle.idl_scope.proofs.FactsLaws.{after_all-append}
 use Rattle.idl_scope.specs.Facts.{UnitFacts, World, after, after_all, after_closing, after_step, count_in, given_back, nameless, next_body, no_prefix, over, path_around, prefix_in, scopes_in, with_additions, after_nameless}
 use Rattle.idl_scope.specs.Stretch.{IsBalanced, closes, depth, depth_behind, enters, leaves, opens}
@@ -13,17 +14,8 @@ use Rattle.idl_scope.specs.declared.answer.Scope.{Scope}
 use Rattle.idl_scope.specs.declared.identity.Prefix.{Prefix}
 use Rattle.idl_scope.specs.declared.key.Key.TheVariants.{Cursor, Nameless, Prefix as PrefixKey}
 
-some_same : {A : Type 0} {x y : A} → Some x ≡ Some y → x ≡ y
-some_same h = cc
-
-none_some : {A : Type 0} {x : A} → None ≡ Some x → ⊥
-none_some h = cc
-
 no_cons : {A : Type 0} {x : A} {xs : List A} → [] ≡ x ∷ xs → ⊥
 no_cons h = cc
-
-tail_same : {A : Type 0} {x y : A} {xs ys : List A} → x ∷ xs ≡ y ∷ ys → xs ≡ ys
-tail_same h = cc
 
 false_true : false ≡ true → ⊥
 false_true h = cc

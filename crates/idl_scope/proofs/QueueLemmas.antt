@@ -1,5 +1,6 @@
 -- Queues of paths.
 use Rattle.std.proofs.Common.{◌≡◌, ◌<◌, ℕ, zero, suc, Bool, true, false, cond, List, [], ◌∷◌, ◌++◌, get_or, is_some, length, refl, sym, ap, ◌∙◌, arith}
+use Rattle.std.proofs.lemmas.Bool.{or_right}
 use Rattle.std.specs.Prelude.{◌||◌}
 use Rattle.std.specs.List.{list_any}
 use Rattle.std.specs.Cmp.Lexicographic.{bytes_decides, pointwise_decides}
@@ -69,7 +70,7 @@ item_among [] i x h e = absurd (let none : ⊥ = omega (h, arith) in none)
 item_among (y ∷ paths) zero x h e = ap (λ b. b || list_any (path_eq x) paths) ((pointwise_decides bytes_decides x y).1 e)
 item_among (y ∷ paths) (suc i) x h e =
     let less : i < length paths = omega (h, arith) in
-    ap (λ b. path_eq x y || b) (item_among paths i x less e) ∙ or_true (path_eq x y)
+    ap (λ b. path_eq x y || b) (item_among paths i x less e) ∙ or_right (path_eq x y) true refl
 
 -- a path that is asked for is none that isn't
 pub asked_differs : (asked : List (List (List ℕ))) (p x : List (List ℕ)) → list_any (path_eq p) asked ≡ true → list_any (path_eq x) asked ≡ false → path_eq p x ≡ false

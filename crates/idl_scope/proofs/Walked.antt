@@ -3,7 +3,7 @@ use Rattle.std.proofs.Common.{◌≡◌, ℕ, zero, suc, ◌+◌, Bool, true, fa
 use Rattle.std.specs.Prelude.{option_to_list, slice_get, ◌||◌}
 use Rattle.std.specs.List.{list_any}
 use Rattle.std.specs.Cmp.Lexicographic.{bytes_decides, pointwise_decides}
-use Rattle.std.proofs.lemmas.Bool.{false≢true}
+use Rattle.std.proofs.lemmas.Bool.{false≢true, or_right}
 use Rattle.std.proofs.lemmas.Option.{slice_get_past}
 use Rattle.idl_memo.specs.Query.{Ask, Done, and_then, outcome}
 use Rattle.idl_memo.proofs.QueryLaws.{outcome-and_then}
@@ -21,10 +21,6 @@ use Rattle.idl_scope.proofs.Reaching.{visited, onward, added}
 abbrev pub among : List (List ℕ) → List (List (List ℕ)) → Bool
 among p paths = list_any (path_eq p) paths
 
-or_true : (t : Bool) → (t || true) ≡ true
-or_true true = refl
-or_true false = refl
-
 pub among-IsIn : (p : List (List ℕ)) (paths : List (List (List ℕ))) → (among p paths ≡ true → IsIn p paths) × (IsIn p paths → among p paths ≡ true)
 among-IsIn p [] = (λ h. absurd (false≢true h), λ i. absurd i)
 among-IsIn p (q ∷ paths) = (there (among-IsIn p paths).0 (path_eq p q) refl, back (among-IsIn p paths).1)
@@ -35,7 +31,7 @@ among-IsIn p (q ∷ paths) = (there (among-IsIn p paths).0 (path_eq p q) refl, b
 
     back : (IsIn p paths → among p paths ≡ true) → IsIn p (q ∷ paths) → (path_eq p q || among p paths) ≡ true
     back rest (inl e) = rw ((pointwise_decides bytes_decides p q).1 (sym e)) refl
-    back rest (inr i) = rw (rest i) (or_true (path_eq p q))
+    back rest (inr i) = rw (rest i) (or_right (path_eq p q) true refl)
 
 -- paths that are joined go behind the queue, unless they are there
 pub joined-added : (queue paths : List (List (List ℕ))) → joined queue paths ≡ queue ++ added among queue paths

@@ -25,13 +25,8 @@ use Rattle.idl_scope.specs.declared.identity.Prefix.{Prefix}
 use Rattle.idl_scope.specs.declared.key.Key.{Key}
 use Rattle.idl_scope.specs.declared.key.Key.TheVariants.{Cursor, Declared, Introduced, Opened, Nameless, Prefix as PrefixKey, IdOf}
 use Rattle.idl_scope.specs.declared.kind.Kind.TheVariants.{Interface}
+use Rattle.idl_scope.proofs.Constructors.{none_some, some_same}
 use Rattle.idl_scope.proofs.Membership.{IsIn, IsIn-left, IsIn-right}
-
-some_same : {A : Type 0} {x y : A} → Some x ≡ Some y → x ≡ y
-some_same h = cc
-
-none_some : {A : Type 0} {x : A} → None ≡ Some x → ⊥
-none_some h = cc
 
 known_same : (e f : Entity) → Known e ≡ Known f → e ≡ f
 known_same e f h = cc
@@ -49,7 +44,7 @@ entity_in-Some (Some (Identified identity)) e h = absurd (none_some h)
 -- ---- answers over additions
 
 -- where an addition is found, it is at its own key
-addition_at-Some : (additions : List Addition) (k : Key) (a : Addition) → addition_at additions k ≡ Some a → IsIn a additions × (k ≡ key_of a)
+pub addition_at-Some : (additions : List Addition) (k : Key) (a : Addition) → addition_at additions k ≡ Some a → IsIn a additions × (k ≡ key_of a)
 addition_at-Some [] k a h = absurd (none_some h)
 addition_at-Some (b ∷ additions) k a h = by_test (key_eq k (key_of b)) refl (addition_at-Some additions k a) h
   where
@@ -95,7 +90,7 @@ wider-grounded parts places more within answers g k x h e same = let r = g k x h
 abbrev pub HasPartsIn : (Entity → List (List (List ℕ))) → List (List (List ℕ)) → Addition → Type 0
 HasPartsIn parts places a = (e : Entity) → a ≡ Declares e → (c : List (List ℕ)) → IsIn c (parts e) → IsIn c places
 
-declares_same : (d e : Entity) → Declares d ≡ Declares e → d ≡ e
+pub declares_same : (d e : Entity) → Declares d ≡ Declares e → d ≡ e
 declares_same d e h = cc
 
 module _ (parts : Entity → List (List (List ℕ))) (places : List (List (List ℕ))) where

@@ -39,6 +39,7 @@ use Rattle.idl_tree.specs.declared.several.Several.{Several}
 use Rattle.idl_site.proofs.ConstructionEquations.{case_parts-made, construction_parts-enumeration, construction_parts-structure, construction_parts-union, member_parts-made, member_type_parts-construction, member_type_parts-type, structure_parts-made, union_brace, union_parts-made}
 use Rattle.idl_site.proofs.ExpressionSpelling.{value_spells}
 use Rattle.idl_site.proofs.PartSpelling.{spells-all, spells-listed, spells-many, spells-then}
+use Rattle.idl_site.proofs.Such.{Such}
 use Rattle.idl_site.proofs.TypeSpelling.{declarator_spells, type_spells}
 
 enumeration_spells : (e : Enumeration) → spell_parts (enumeration_parts e) ≡ spell_enumeration e
@@ -76,9 +77,6 @@ Structures x = spell_parts (structure_parts x) ≡ spell_structure x
 
 abbrev Unions : Union → Type 0
 Unions x = spell_parts (union_parts x) ≡ spell_union x
-
-abbrev Such : {X : Type 0} → (X → Type 0) → Type 0
-Such {X} claim = (x : X) × claim x
 
 member_spells : (kind : MemberType) (ds : Several Declarator) → MemberTypes kind → Members (made_member kind ds)
 member_spells kind ds h =

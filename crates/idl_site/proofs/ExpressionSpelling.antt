@@ -30,6 +30,7 @@ use Rattle.idl_tree.specs.declared.literal.Literal.{Literal}
 use Rattle.idl_tree.specs.declared.name.ScopedName.{ScopedName}
 use Rattle.idl_site.proofs.ExpressionEquations.{and_parts-made, exclusive_or_parts-made, expression_parts-made, primary_parts-literal, primary_parts-name, primary_parts-parentheses, product_parts-made, shift_parts-made, sum_parts-made, unary_parts-made}
 use Rattle.idl_site.proofs.PartSpelling.{spells-rank, spells-then}
+use Rattle.idl_site.proofs.Such.{Such}
 
 -- the claims by which the induction goes
 abbrev Ands : And → Type 0
@@ -55,9 +56,6 @@ Sums x = spell_parts (sum_parts x) ≡ spell_sum x
 
 abbrev Unaries : Unary → Type 0
 Unaries x = spell_parts (unary_parts x) ≡ spell_unary x
-
-abbrev Such : {X : Type 0} → (X → Type 0) → Type 0
-Such {X} claim = (x : X) × claim x
 
 and_spells : (x : Such Shifts) (xs : List (Such Shifts)) → Ands (made_and x.0 (map (λ s. s.0) xs))
 and_spells x xs =

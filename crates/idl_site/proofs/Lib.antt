@@ -3,6 +3,7 @@ pub mod LengthLemmas
 pub mod ExpressionEquations
 pub mod ConstructionEquations
 pub mod PartSpelling
+pub mod Such
 pub mod ExpressionSpelling
 pub mod TypeSpelling
 pub mod ConstructionSpelling

@@ -33,6 +33,7 @@ use Rattle.idl_tree.specs.declared.unit.ConstantType.{ConstantType}
 use Rattle.idl_tree.specs.declared.unit.ConstantType.TheVariants as constant
 use Rattle.idl_site.proofs.ExpressionSpelling.{value_spells}
 use Rattle.idl_site.proofs.PartSpelling.{spells-each, spells-then}
+use Rattle.idl_site.proofs.Such.{Such}
 
 bound_spells : (e : Option Expression) → spell_parts (bound_parts e) ≡ spell_bound e
 bound_spells None = refl
@@ -76,9 +77,6 @@ Types t = (way : Use) → spell_parts (type_parts_as t way) ≡ spell_type t
 
 abbrev Sequences : Sequence → Type 0
 Sequences s = Types (data_type.Sequence s)
-
-abbrev Such : {X : Type 0} → (X → Type 0) → Type 0
-Such {X} claim = (x : X) × claim x
 
 sequence_spells : (t : DataType) (b : Option Expression) → Types t → Types (made_sequence t b)
 sequence_spells t b h way =
