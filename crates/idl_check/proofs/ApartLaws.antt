@@ -99,20 +99,11 @@ module _ (turns : ℕ) (answers : Key → Option Answer) where
 
   pub visit-apart : (f : Option Fault) (site : Item) (w : Walk) → visited turns answers site (with_fault f w) ≡ with_fault_after f (visited turns answers site w)
   unfolding visit
-  visit-apart f (item.Plain n) w = refl
   visit-apart f (item.Declares way name) w = declared-apart f way name w (first w.cursor)
   visit-apart f (item.Uses way name) w = named-apart f way name w w.gives_back
-  visit-apart f (item.Says text) w = refl
-  visit-apart f item.ValueBegins w = refl
   visit-apart f (item.ValueEnds way e) w = value-apart f w way (outcome_at w way e)
-  visit-apart f (item.ScopeBegins way name) w = refl
   visit-apart f item.ScopeEnds w = end-apart f w (first w.cursor)
-  visit-apart f (item.TypeEnds shape) w = refl
-  visit-apart f item.ArrayEnds w = refl
-  visit-apart f (item.Enumerates names) w = refl
-  visit-apart f (item.Switches discrete) w = refl
-  visit-apart f item.Default w = refl
-  visit-apart f item.GivesBack w = refl
+  visit-apart f other w = refl
 
   pub faults-apart : (f : Option Fault) (sites : List Item) (w : Walk) → visit_faults turns answers sites (with_fault f w) ≡ visit_faults turns answers sites w
   faults-apart f [] w = refl

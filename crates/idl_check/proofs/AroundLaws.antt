@@ -39,7 +39,7 @@ use Rattle.idl_site.specs.declared.site.Shape.TheVariants as shape
 use Rattle.idl_site.specs.declared.site.Target.{Target as Purpose}
 use Rattle.idl_site.specs.declared.site.Target.TheVariants as purpose
 use Rattle.idl_site.specs.declared.site.Use.{Use}
-use Rattle.idl_site.specs.declared.site.Use.TheVariants.{AsBase, AsType, AsElement, AsConstantType, AsDiscriminator, AsOperand, Raised, RaisedBySet}
+use Rattle.idl_site.specs.declared.site.Use.TheVariants.{AsBase, AsType, AsElement, AsConstantType, AsDiscriminator, AsOperand}
 use Rattle.idl_tree.specs.declared.data_type.BasicType.TheVariants as basic
 use Rattle.idl_tree.specs.declared.name.ScopedName.{ScopedName}
 use Rattle.idl_unit.specs.TokenRules.{first}
@@ -116,18 +116,11 @@ used-stands AsDiscriminator found behind w a none k =
       constant = k.constant;
     }
 used-stands AsOperand found behind w a none k = k
-used-stands Raised found behind w a none k = k
-used-stands RaisedBySet found behind w a none k = k
+used-stands other found behind w a none k = k
 
 values-told : (way : Use) (v : Option Value) (values : Values) → ((values_after way v values).told ≡ values.told) × ((values_after way v values).constant ≡ values.constant)
 values-told (AsBase is_local) v values = (refl, refl)
-values-told AsType v values = (refl, refl)
-values-told AsElement v values = (refl, refl)
-values-told AsConstantType v values = (refl, refl)
-values-told AsDiscriminator v values = (refl, refl)
-values-told AsOperand v values = (refl, refl)
-values-told Raised v values = (refl, refl)
-values-told RaisedBySet v values = (refl, refl)
+values-told other v values = (refl, refl)
 
 found-kept : (w : Walk) (way : Use) (name : ScopedName) (found : Found) (behind : Entity) (a : Around) → (used_visit w way name found behind).faults ≡ [] → StandsIn w a
     → IsKept w (used_visit w way name found behind).after (used_around way a)
@@ -183,22 +176,7 @@ module _ (turns : ℕ) (answers : Key → Option Answer) where
 
 union-kind : (way : Declaration) → kind_eq (kind_of way) Union ≡ opens_union way
 union-kind declaration.Module = refl
-union-kind (declaration.Interface is_local) = refl
-union-kind (declaration.InterfaceAhead is_local) = refl
-union-kind declaration.Structure = refl
-union-kind declaration.StructureAhead = refl
-union-kind declaration.Union = refl
-union-kind declaration.UnionAhead = refl
-union-kind declaration.Exception = refl
-union-kind declaration.Enumeration = refl
-union-kind declaration.Enumerator = refl
-union-kind declaration.Alias = refl
-union-kind declaration.Native = refl
-union-kind declaration.Constant = refl
-union-kind (declaration.Attribute is_readonly) = refl
-union-kind (declaration.Operation is_oneway) = refl
-union-kind (declaration.Parameter direction) = refl
-union-kind declaration.Member = refl
+union-kind other = refl
 
 begin-unions : (way : Declaration) (name : List ℕ) (cursor : List Scope) (bs : List Bool) → AreUnions cursor bs → AreUnions (with_scope way name cursor) (opens_union way ∷ bs)
 begin-unions way name [] bs h = tt
@@ -292,10 +270,8 @@ labelled f same w a k = record {
 
 -- behind an expression with a value
 pub valued-stands : (way : Purpose) (v : Value) (w : Walk) (a : Around) → StandsIn w a → StandsIn (valued_after w way v) a
-valued-stands purpose.Bound v w a k = k
-valued-stands purpose.Constant v w a k = k
-valued-stands purpose.Length v w a k = k
 valued-stands purpose.Label v w a k = labelled (λ l. with_label l v) (λ l. refl) w a k
+valued-stands other v w a k = k
 
 -- ---- sites
 

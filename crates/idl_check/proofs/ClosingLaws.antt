@@ -21,7 +21,7 @@ use Rattle.idl_scope.specs.Turns.{turns_for}
 use Rattle.idl_scope.specs.declared.addition.Addition.{Addition}
 use Rattle.idl_scope.specs.declared.addition.Addition.TheVariants.{Declares, Uses, Appears, Identifies}
 use Rattle.idl_scope.specs.declared.addition.Step.{Step}
-use Rattle.idl_scope.specs.declared.addition.Step.TheVariants.{Stays, Opens, OpensNameless, Closes, Prefixes, Enters, Leaves}
+use Rattle.idl_scope.specs.declared.addition.Step.TheVariants.{Stays, Opens, OpensNameless, Closes, Enters, Leaves}
 use Rattle.idl_scope.specs.declared.answer.Answer.{Answer}
 use Rattle.idl_scope.specs.declared.answer.Scope.{Scope}
 use Rattle.idl_scope.specs.declared.entity.Entity.{Entity}
@@ -134,9 +134,7 @@ step-settled w (OpensNameless kind) k fits =
     let s : Scope = record { path = path; kind = kind; body = next_body v path } in
     opening-settled v s k (nameless-opened v s k refl) (under-around (nameless (count_in (w.answers Nameless))) kind (next_body v path) (scopes_in (w.answers Cursor)))
 step-settled w Closes k fits = closing-settled w (scopes_in (w.answers Cursor)) k k
-step-settled w (Prefixes text) k fits = k
-step-settled w Enters k fits = k
-step-settled w Leaves k fits = k
+step-settled w other k fits = k
 
 -- nothing that is added changes the open scopes
 pub cursor-kept : (additions : List Addition) → addition_at additions Cursor ≡ None

@@ -192,18 +192,7 @@ module _ (facts : List UnitFacts) (turns : ℕ) (enough : turns_for facts ≤ tu
     unfolding visit
     visit-same (item.Declares way name) = declared_at way name
     visit-same (item.Uses way name) = used_name_at way name
-    visit-same (item.ScopeBegins way name) = λ log. refl
-    visit-same item.ScopeEnds = λ log. refl
-    visit-same item.ValueBegins = λ log. refl
-    visit-same (item.ValueEnds way expression) = λ log. refl
-    visit-same (item.TypeEnds shape) = λ log. refl
-    visit-same item.ArrayEnds = λ log. refl
-    visit-same (item.Enumerates names) = λ log. refl
-    visit-same (item.Switches discrete) = λ log. refl
-    visit-same item.Default = λ log. refl
-    visit-same item.GivesBack = λ log. refl
-    visit-same (item.Plain n) = λ log. refl
-    visit-same (item.Says text) = λ log. refl
+    visit-same other = λ log. refl
 
   -- ---- a unit
 

@@ -159,10 +159,7 @@ by-kind token.Character t name is h = absurd (no-name Character name (λ a g. cc
 by-kind token.WideCharacter t name is h = absurd (no-name WideCharacter name (λ a g. cc) (one_character (literal_value t)) h)
 by-kind token.String t name is h = absurd (no-name Text name (λ a g. cc) (literal_value t) h)
 by-kind token.WideString t name is h = absurd (no-name WideText name (λ a g. cc) (literal_value t) h)
-by-kind (token.Punctuation m) t name is h = cc
-by-kind token.HeaderName t name is h = cc
-by-kind (token.Preprocessing m) t name is h = cc
-by-kind (token.Bad why) t name is h = cc
+by-kind other t name is h = cc
 
 pub token-named : (t name : List ℕ) → lexeme_of t ≡ Identifier name → is_nameless name ≡ false
 unfolding lexeme_of

@@ -174,20 +174,11 @@ module _ (turns : ℕ) (answers : Key → Option Answer) where
   visit-found : (site : Item) (w : Walk) → (visited turns answers site w).faults ≡ []
       → length (visited turns answers site w).after.found ≡ length w.found + length (used_name site)
   unfolding visit
-  visit-found (item.Plain n) w h = none-more (length w.found)
   visit-found (item.Declares way name) w h = ap length (declared-found way name w (first_of w.cursor)) ∙ none-more (length w.found)
   visit-found (item.Uses way name) w h = named-found way name w w.gives_back h
-  visit-found (item.Says text) w h = none-more (length w.found)
-  visit-found item.ValueBegins w h = none-more (length w.found)
   visit-found (item.ValueEnds way e) w h = ap length (valued-found w way (outcome_at w way e)) ∙ none-more (length w.found)
-  visit-found (item.ScopeBegins way name) w h = none-more (length w.found)
   visit-found item.ScopeEnds w h = ap length (end-found w (first_of w.cursor)) ∙ none-more (length w.found)
-  visit-found (item.TypeEnds shape) w h = none-more (length w.found)
-  visit-found item.ArrayEnds w h = none-more (length w.found)
-  visit-found (item.Enumerates names) w h = none-more (length w.found)
-  visit-found (item.Switches discrete) w h = none-more (length w.found)
-  visit-found item.Default w h = none-more (length w.found)
-  visit-found item.GivesBack w h = none-more (length w.found)
+  visit-found other w h = none-more (length w.found)
 
   pub walked-found : (sites : List Item) (w : Walk) → visit_faults turns answers sites w ≡ [] → length (walked turns answers sites w).found ≡ length w.found + length (used_names sites)
   walked-found [] w h = none-more (length w.found)
@@ -292,18 +283,11 @@ size-outside false LongLong more = tt
 
 discrete-outside : (d : DiscreteType) (more : Parts) → StartsOutside (Part.Plain (spell_discrete d) ∷ more)
 discrete-outside (discrete.Integer i) more = size-outside i.is_unsigned i.size more
-discrete-outside discrete.Char more = tt
-discrete-outside discrete.WideChar more = tt
-discrete-outside discrete.Boolean more = tt
-discrete-outside discrete.Octet more = tt
+discrete-outside other more = tt
 
 basic-outside : (b : BasicType) (more : Parts) → StartsOutside (Part.Plain (spell_basic b) ∷ more)
 basic-outside (basic.Discrete d) more = discrete-outside d more
-basic-outside basic.Float more = tt
-basic-outside basic.Double more = tt
-basic-outside basic.LongDouble more = tt
-basic-outside basic.Any more = tt
-basic-outside basic.Object more = tt
+basic-outside other more = tt
 
 string-outside : (is_wide : Bool) (more : Parts) → StartsOutside (Part.Plain (spell_string_word is_wide) ∷ more)
 string-outside true more = tt
@@ -369,14 +353,9 @@ unit-outside (tree.Interface i) =
 unit-outside (tree.Forward (forward.Interface is_local name)) = local-outside is_local [] (Part.Declares (declaration.InterfaceAhead is_local) name ∷ punctuation mark.Semicolon ∷ [])
 unit-outside (tree.Forward (forward.Structure name)) = tt
 unit-outside (tree.Forward (forward.Union name)) = tt
-unit-outside (tree.Typedef t) = tt
 unit-outside (tree.Construction c) = outside-then (construction_parts c) (punctuation mark.Semicolon ∷ []) (construction-outside c)
-unit-outside (tree.Native name) = tt
-unit-outside (tree.Constant c) = tt
-unit-outside (tree.Exception e) = tt
-unit-outside (tree.ReadonlyAttribute a) = tt
-unit-outside (tree.Attribute a) = tt
 unit-outside (tree.Operation o) = outside-then (operation_parts o) (punctuation mark.Semicolon ∷ []) (operation-outside o)
+unit-outside other = tt
 
 -- ---- a blank
 

@@ -38,7 +38,7 @@ use Rattle.idl_site.specs.declared.site.Declaration.{Declaration}
 use Rattle.idl_site.specs.declared.site.Target.{Target as Purpose}
 use Rattle.idl_site.specs.declared.site.Target.TheVariants as purpose
 use Rattle.idl_site.specs.declared.site.Use.{Use}
-use Rattle.idl_site.specs.declared.site.Use.TheVariants.{AsBase, AsType, AsElement, AsConstantType, AsDiscriminator, AsOperand, Raised, RaisedBySet}
+use Rattle.idl_site.specs.declared.site.Use.TheVariants.{AsBase}
 use Rattle.idl_tree.specs.declared.expression.Expression.{Expression}
 use Rattle.idl_tree.specs.declared.name.ScopedName.{ScopedName}
 use Rattle.idl_unit.specs.TokenRules.{fault_at, first}
@@ -100,20 +100,8 @@ pub record IsPlaced (site : Item) (w : Walk) (v : Visit) : Type 0 where
 
 -- a site speaks of nothing before the expression around it
 pub spoken-begin : (site : Item) (w : Walk) → begin_of w ≤ spoken_from site w
-spoken-begin (item.Plain n) w = begin-at w
-spoken-begin (item.Declares way name) w = begin-at w
-spoken-begin (item.Uses way name) w = begin-at w
-spoken-begin (item.Says text) w = begin-at w
-spoken-begin item.ValueBegins w = begin-at w
 spoken-begin (item.ValueEnds way expression) w = omega arith
-spoken-begin (item.ScopeBegins way name) w = begin-at w
-spoken-begin item.ScopeEnds w = begin-at w
-spoken-begin (item.TypeEnds shape) w = begin-at w
-spoken-begin item.ArrayEnds w = begin-at w
-spoken-begin (item.Enumerates names) w = begin-at w
-spoken-begin (item.Switches discrete) w = begin-at w
-spoken-begin item.Default w = begin-at w
-spoken-begin item.GivesBack w = begin-at w
+spoken-begin other w = begin-at w
 
 -- it speaks of the next token, and of each of its own
 till-next : (site : Item) (w : Walk) → w.at < spoken_till site w
@@ -147,13 +135,7 @@ table-within from till n table up le lt = all-by n table (Within from till) (λ 
 
 pub begin-values : (way : Use) (v : Option Value) (values : Values) → (values_after way v values).begin ≡ values.begin
 begin-values (AsBase is_local) v values = refl
-begin-values AsType v values = refl
-begin-values AsElement v values = refl
-begin-values AsConstantType v values = refl
-begin-values AsDiscriminator v values = refl
-begin-values AsOperand v values = refl
-begin-values Raised v values = refl
-begin-values RaisedBySet v values = refl
+begin-values other v values = refl
 
 used-placed : (w : Walk) (way : Use) (name : ScopedName) (found : Found) (behind : Entity) → IsPlaced (item.Uses way name) w (used_visit w way name found behind)
 used-placed w way name found behind =
@@ -256,28 +238,19 @@ end-placed w (Some s) = union-placed w (kind_eq s.kind Union)
 
 pub value-number : (why : ValueCode) → 22 ≤ number_of (code_of why)
 value-number value_code.WrongKind = omega arith
-value-number value_code.OutOfRange = omega arith
-value-number value_code.DivisionByZero = omega arith
-value-number value_code.BadShift = omega arith
-value-number value_code.NotPositive = omega arith
+value-number other = omega arith
 
 begin-told : (way : Purpose) (v : Value) (values : Values) → (with_value way v values).begin ≡ None
 begin-told purpose.Bound v values = refl
-begin-told purpose.Constant v values = refl
-begin-told purpose.Length v values = refl
-begin-told purpose.Label v values = refl
+begin-told other v values = refl
 
 valued-at : (w : Walk) (way : Purpose) (v : Value) → (valued_after w way v).at ≡ w.at
 valued-at w purpose.Bound v = refl
-valued-at w purpose.Constant v = refl
-valued-at w purpose.Length v = refl
-valued-at w purpose.Label v = refl
+valued-at w other v = refl
 
 valued-keeps : (w : Walk) (way : Purpose) (v : Value) → (valued_after w way v).fault ≡ w.fault
 valued-keeps w purpose.Bound v = refl
-valued-keeps w purpose.Constant v = refl
-valued-keeps w purpose.Length v = refl
-valued-keeps w purpose.Label v = refl
+valued-keeps w other v = refl
 
 -- a token of an expression stands in it or is the next one
 token-from : (w : Walk) (n : ℕ) → begin_of w ≤ token_of w n

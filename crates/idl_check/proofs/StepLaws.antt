@@ -47,9 +47,6 @@ valued-other make other None = refl
 valued-other make other (Some a) = other a
 
 kind-role : (k : TokenKind) (t : List ℕ) → lexeme_role (lexeme_by k t) ≡ role_of k
-kind-role (token.Accepted k) t = refl
-kind-role token.Refused t = refl
-kind-role token.Miscased t = refl
 kind-role token.Identifier t = valued-other Identifier (λ a. refl) (name_of t)
 kind-role token.Escaped t = valued-other Identifier (λ a. refl) (name_of t)
 kind-role token.Integer t = valued-other Integer (λ a. refl) (integer_value t)
@@ -57,10 +54,7 @@ kind-role token.Character t = valued-other Character (λ a. refl) (one_character
 kind-role token.WideCharacter t = valued-other WideCharacter (λ a. refl) (one_character (literal_value t))
 kind-role token.String t = valued-other Text (λ a. refl) (literal_value t)
 kind-role token.WideString t = valued-other WideText (λ a. refl) (literal_value t)
-kind-role (token.Punctuation m) t = refl
-kind-role token.HeaderName t = refl
-kind-role (token.Preprocessing m) t = refl
-kind-role (token.Bad why) t = refl
+kind-role other t = refl
 
 token-role : (t : Token) → role t ≡ lexeme_role (lexeme_of t)
 unfolding lexeme_of
@@ -120,13 +114,8 @@ braced-same n [] = refl
 braced-same n (t ∷ ts) = brace-if (opens (role t)) (braced_so (roles_of ts)) n (brace_from (n + 1) ts) (braced-same (n + 1) ts)
 
 rule-from-same : (r : Role) (ts : List Token) → rule_by r ts ≡ rule_from r (roles_of ts)
-rule-from-same roles.OpenBrace ts = refl
-rule-from-same roles.CloseBrace ts = refl
-rule-from-same roles.Semicolon ts = refl
-rule-from-same roles.Module ts = refl
-rule-from-same roles.Interface ts = refl
 rule-from-same roles.Local ts = ap (λ b. cond b Heading Declaration) (begins-same is_interface ts)
-rule-from-same roles.Other ts = refl
+rule-from-same other ts = refl
 
 rule-same : (tokens : List Token) → rule_of tokens ≡ rule_so (roles_of tokens)
 rule-same [] = refl

@@ -13,9 +13,9 @@ use Rattle.idl_event.specs.declared.code.Code.TheVariants as code
 use Rattle.idl_scope.specs.declared.answer.Scope.{Scope}
 use Rattle.idl_scope.specs.declared.entity.Entity.{Entity}
 use Rattle.idl_scope.specs.declared.fault.NameCode.{NameCode}
-use Rattle.idl_scope.specs.declared.fault.NameCode.TheVariants.{Undeclared, Ambiguous, OtherSpelling, NoScope}
+use Rattle.idl_scope.specs.declared.fault.NameCode.TheVariants.{Undeclared}
 use Rattle.idl_site.specs.declared.site.Use.{Use}
-use Rattle.idl_site.specs.declared.site.Use.TheVariants.{AsBase, AsType, AsElement, AsConstantType, AsDiscriminator, AsOperand, Raised, RaisedBySet}
+use Rattle.idl_site.specs.declared.site.Use.TheVariants.{AsBase, AsType, AsConstantType, AsDiscriminator}
 use Rattle.idl_unit.specs.TokenRules.{fault_at}
 use Rattle.idl_unit.specs.declared.fault.Fault.{Fault}
 use Rattle.idl_check.proofs.FaultOrder.{AreLed, IsLed, led-codes}
@@ -70,12 +70,9 @@ declared-up s standing e = (omega arith, (omega arith, (omega arith, (omega arit
 suited-up : (way : Use) (bases : Bases) (e behind : Entity) → Ascends 22 (suited_table way bases e behind)
 suited-up (AsBase is_local) bases e behind = (omega arith, (omega arith, (omega arith, (omega arith, tt))))
 suited-up AsType bases e behind = (omega arith, tt)
-suited-up AsElement bases e behind = tt
 suited-up AsConstantType bases e behind = (omega arith, (omega arith, tt))
 suited-up AsDiscriminator bases e behind = (omega arith, (omega arith, tt))
-suited-up AsOperand bases e behind = tt
-suited-up Raised bases e behind = tt
-suited-up RaisedBySet bases e behind = tt
+suited-up other bases e behind = tt
 
 up-if : (b : Bool) (table : Table) → Ascends 22 table → Ascends 22 (cond b table ((true, code.WrongKind) ∷ []))
 up-if true table up = up
@@ -86,6 +83,4 @@ used-up way bases e behind = up-if (suits way e) (suited_table way bases e behin
 
 pub name-number : (why : NameCode) → 22 ≤ number_of (name_code why)
 name-number Undeclared = omega arith
-name-number Ambiguous = omega arith
-name-number OtherSpelling = omega arith
-name-number NoScope = omega arith
+name-number other = omega arith

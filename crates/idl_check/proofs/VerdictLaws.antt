@@ -18,7 +18,7 @@ use Rattle.idl_memo.proofs.QueryLaws.{outcome-and_then}
 use Rattle.idl_scope.specs.Facts.{path_around, scopes_in}
 use Rattle.idl_scope.specs.Lookup.{Lookup, outward}
 use Rattle.idl_scope.specs.declared.addition.Step.{Step}
-use Rattle.idl_scope.specs.declared.addition.Step.TheVariants.{Stays, Opens, OpensNameless, Closes, Prefixes, Enters, Leaves}
+use Rattle.idl_scope.specs.declared.addition.Step.TheVariants.{Stays}
 use Rattle.idl_scope.specs.declared.answer.Answer.{Answer}
 use Rattle.idl_scope.specs.declared.answer.Scope.{Scope}
 use Rattle.idl_scope.specs.declared.entity.Entity.{Entity}
@@ -121,12 +121,7 @@ module _ (turns : ℕ) (answers : Key → Option Answer) (tokens : List Token) w
 
   asking-is : (step : Step) (v : Verdict) → outcome (asking step v) answers ≡ v
   asking-is Stays v = refl
-  asking-is (Opens path kind) v = refl
-  asking-is (OpensNameless kind) v = refl
-  asking-is Closes v = refl
-  asking-is (Prefixes text) v = refl
-  asking-is Enters v = refl
-  asking-is Leaves v = refl
+  asking-is other v = refl
 
   -- by the fault of a walk
   abbrev judged_by : List Scope → Tree → Walk → Option Fault → Lookup Verdict

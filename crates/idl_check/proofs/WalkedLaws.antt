@@ -64,7 +64,7 @@ use Rattle.idl_site.specs.declared.site.Declaration.{Declaration}
 use Rattle.idl_site.specs.declared.site.Target.{Target as Purpose}
 use Rattle.idl_site.specs.declared.site.Target.TheVariants as purpose
 use Rattle.idl_site.specs.declared.site.Use.{Use}
-use Rattle.idl_site.specs.declared.site.Use.TheVariants.{AsBase, AsType, AsElement, AsConstantType, AsDiscriminator, AsOperand, Raised, RaisedBySet}
+use Rattle.idl_site.specs.declared.site.Use.TheVariants.{AsBase, AsType}
 use Rattle.idl_tree.specs.declared.name.ScopedName.{ScopedName}
 use Rattle.idl_tree.specs.declared.unit.Tree.{Tree}
 use Rattle.idl_value.specs.declared.outcome.Outcome.{Outcome}
@@ -241,12 +241,7 @@ module _ (facts : List UnitFacts) (k : IsSettled (world facts)) (turns : ℕ) (e
           subst (IsClosedAt names) (IsIn-one found.entity.path b j)
           (base-closed w s found.entity is_local h stands (used-none (last_at w.at name) w (AsBase is_local) found.entity behind none))
   bases-used AsType name w s found behind stands none h b i = h.bases b i
-  bases-used AsElement name w s found behind stands none h b i = h.bases b i
-  bases-used AsConstantType name w s found behind stands none h b i = h.bases b i
-  bases-used AsDiscriminator name w s found behind stands none h b i = h.bases b i
-  bases-used AsOperand name w s found behind stands none h b i = h.bases b i
-  bases-used Raised name w s found behind stands none h b i = h.bases b i
-  bases-used RaisedBySet name w s found behind stands none h b i = h.bases b i
+  bases-used other name w s found behind stands none h b i = h.bases b i
 
   used-by-walks : (way : Use) (name : ScopedName) (w : Walk) (s : Scene) (r : Result Found NameFault) → IsUpTo {A = Found} (length name.rest) r → Denotes (seen w.own facts) w.cursor name (entity_found r)
       → (outcome (used_by turns (answers facts) way name w r) (answers facts)).faults ≡ [] → At w s → At (outcome (used_by turns (answers facts) way name w r) (answers facts)).after s

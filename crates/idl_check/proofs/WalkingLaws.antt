@@ -93,17 +93,7 @@ ahead-kind : (k : Kind) → may_be_ahead k ≡ true → (e : Entity) → e.kind 
 ahead-kind kind.Interface h e is = ap (λ x. is_operation (record e { kind = x })) is
 ahead-kind kind.Structure h e is = ap (λ x. is_operation (record e { kind = x })) is
 ahead-kind kind.Union h e is = ap (λ x. is_operation (record e { kind = x })) is
-ahead-kind kind.Module h e is = cc
-ahead-kind kind.Exception h e is = cc
-ahead-kind kind.Enumeration h e is = cc
-ahead-kind kind.Enumerator h e is = cc
-ahead-kind kind.Alias h e is = cc
-ahead-kind kind.Native h e is = cc
-ahead-kind kind.Constant h e is = cc
-ahead-kind kind.Attribute h e is = cc
-ahead-kind kind.Operation h e is = cc
-ahead-kind kind.Parameter h e is = cc
-ahead-kind kind.Member h e is = cc
+ahead-kind other h e is = cc
 
 -- what such a name may follow is declared ahead
 follows-ahead : (old e : Entity) → kind_eq e.kind kind.Module ≡ false → is_ahead e ≡ false → may_follow old e ≡ true → (old.stage ≡ Ahead) × (is_operation old ≡ false)
@@ -151,22 +141,12 @@ module _ (turns : ℕ) (bank : Key → Option Answer) where
 
 pub fresh-way : (w : Walk) (way : Declaration) (name : List ℕ) (scope : Place) → is_other way ≡ true → IsFresh (entity_of w.written way name scope) way
 fresh-way w declaration.Module name scope h = cc
-fresh-way w (declaration.Interface is_local) name scope h = record { unclosed = λ z u. cc; ahead = λ z. cc; module_no = refl; ahead_no = refl; operation = λ z. cc }
 fresh-way w (declaration.InterfaceAhead is_local) name scope h = cc
 fresh-way w declaration.StructureAhead name scope h = cc
 fresh-way w declaration.UnionAhead name scope h = cc
-fresh-way w declaration.Structure name scope h = record { unclosed = λ z u. cc; ahead = λ z. cc; module_no = refl; ahead_no = refl; operation = λ z. cc }
-fresh-way w declaration.Union name scope h = record { unclosed = λ z u. cc; ahead = λ z. cc; module_no = refl; ahead_no = refl; operation = λ z. cc }
-fresh-way w declaration.Exception name scope h = record { unclosed = λ z u. cc; ahead = λ z. cc; module_no = refl; ahead_no = refl; operation = λ z. cc }
-fresh-way w declaration.Enumeration name scope h = record { unclosed = λ z u. cc; ahead = λ z. cc; module_no = refl; ahead_no = refl; operation = λ z. cc }
-fresh-way w declaration.Enumerator name scope h = record { unclosed = λ z u. cc; ahead = λ z. cc; module_no = refl; ahead_no = refl; operation = λ z. cc }
-fresh-way w declaration.Alias name scope h = record { unclosed = λ z u. cc; ahead = λ z. cc; module_no = refl; ahead_no = refl; operation = λ z. cc }
-fresh-way w declaration.Native name scope h = record { unclosed = λ z u. cc; ahead = λ z. cc; module_no = refl; ahead_no = refl; operation = λ z. cc }
-fresh-way w declaration.Constant name scope h = record { unclosed = λ z u. cc; ahead = λ z. cc; module_no = refl; ahead_no = refl; operation = λ z. cc }
 fresh-way w (declaration.Attribute is_readonly) name scope h = record { unclosed = λ z u. cc; ahead = λ z. cc; module_no = refl; ahead_no = refl; operation = λ z. refl }
 fresh-way w (declaration.Operation is_oneway) name scope h = record { unclosed = λ z u. cc; ahead = λ z. cc; module_no = refl; ahead_no = refl; operation = λ z. refl }
-fresh-way w (declaration.Parameter direction) name scope h = record { unclosed = λ z u. cc; ahead = λ z. cc; module_no = refl; ahead_no = refl; operation = λ z. cc }
-fresh-way w declaration.Member name scope h = record { unclosed = λ z u. cc; ahead = λ z. cc; module_no = refl; ahead_no = refl; operation = λ z. cc }
+fresh-way w other name scope h = record { unclosed = λ z u. cc; ahead = λ z. cc; module_no = refl; ahead_no = refl; operation = λ z. cc }
 
 -- ---- over settled facts
 

@@ -102,14 +102,9 @@ module _ (turns : ℕ) (answers : Key → Option Answer) where
   single-calm (item.Says text) w single h = record { begin = refl; given = refl }
   single-calm item.ValueBegins w single h = cc
   single-calm (item.ValueEnds way e) w single h = cc
-  single-calm (item.ScopeBegins way name) w single h = record { begin = refl; given = h }
   single-calm item.ScopeEnds w single h = end-calm w (first w.cursor) h
-  single-calm (item.TypeEnds shape) w single h = record { begin = refl; given = h }
-  single-calm item.ArrayEnds w single h = record { begin = refl; given = h }
-  single-calm (item.Enumerates names) w single h = record { begin = refl; given = h }
-  single-calm (item.Switches discrete) w single h = record { begin = refl; given = h }
-  single-calm item.Default w single h = record { begin = refl; given = h }
   single-calm item.GivesBack w single h = cc
+  single-calm other w single h = record { begin = refl; given = h }
 
   -- ---- it comes to the same whole, but for an expression and for what is given back
 
@@ -120,20 +115,9 @@ module _ (turns : ℕ) (answers : Key → Option Answer) where
 
   pub single-same : (site : Item) (w : Walk) → is_single site ≡ true → w.gives_back ≡ false → whole_visit turns answers site w ≡ visited turns answers site w
   unfolding visit
-  single-same (item.Plain n) w single h = refl
-  single-same (item.Declares way name) w single h = refl
   single-same (item.Uses way name) w single h = named-same way name w w.gives_back h
-  single-same (item.Says text) w single h = refl
-  single-same item.ValueBegins w single h = refl
   single-same (item.ValueEnds way e) w single h = cc
-  single-same (item.ScopeBegins way name) w single h = refl
-  single-same item.ScopeEnds w single h = refl
-  single-same (item.TypeEnds shape) w single h = refl
-  single-same item.ArrayEnds w single h = refl
-  single-same (item.Enumerates names) w single h = refl
-  single-same (item.Switches discrete) w single h = refl
-  single-same item.Default w single h = refl
-  single-same item.GivesBack w single h = refl
+  single-same other w single h = refl
 
 -- ---- none stands before the expression in which a walk is
 

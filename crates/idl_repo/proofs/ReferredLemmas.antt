@@ -93,14 +93,12 @@ tell-entries : (members : List Member) → Tell (entries_of members) (flat_map n
 tell-entries members = tell-text _ (tell-text _ (tell-each labelled_pieces named_by_labels tell-labelled members))
 
 tell-parts : (k : TypeCodeKind) (e : Entity) → Tell (part_pieces k e) (referred_in k e)
-tell-parts code.ObjectReference e = tell-nothing
-tell-parts code.LocalInterface e = tell-nothing
-tell-parts code.Native e = tell-nothing
 tell-parts code.Structure e = tell-each member_pieces named_by_member tell-member (members_of e)
 tell-parts code.Exception e = tell-each member_pieces named_by_member tell-member (members_of e)
 tell-parts code.Union e = tell-then (tell-type_behind e.data_type) (tell-entries (members_of e))
 tell-parts code.Enumeration e = tell-text _ tell-nothing
 tell-parts code.Alias e = tell-type_behind e.data_type
+tell-parts other e = tell-nothing
 
 tell-code : (k : TypeCodeKind) (e : Entity) → Tell (code_pieces k e) (e.path ∷ referred_in k e)
 tell-code k e = tell-text _ (tell-text _ (tell-id e.path (tell-text _ (tell-text _ (tell-end _ (tell-parts k e))))))

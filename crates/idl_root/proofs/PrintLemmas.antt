@@ -17,14 +17,12 @@ use Rattle.idl_root.specs.declared.printing.Listed.{Listed as HeldListed}
 use Rattle.idl_root.specs.declared.printing.Sought.{Sought}
 use Rattle.idl_scope.proofs.PlaceLemmas.{drop-at1}
 use Rattle.idl_scope.specs.declared.addition.Addition.{Addition}
-use Rattle.idl_scope.specs.declared.addition.Addition.TheVariants.{Declares, Uses, Appears, Identifies}
+use Rattle.idl_scope.specs.declared.addition.Addition.TheVariants.{Declares}
 use Rattle.idl_unit.specs.declared.unit.UnitText.{UnitText}
 
 first_paths-cons : (a : Addition) (additions : List Addition) → first_paths (a ∷ additions) ≡ first_paths (a ∷ []) ++ first_paths additions
 first_paths-cons (Declares e) additions = refl
-first_paths-cons (Uses n path body) additions = refl
-first_paths-cons (Appears path prefix) additions = refl
-first_paths-cons (Identifies path identity) additions = refl
+first_paths-cons other additions = refl
 
 row-some : (row : Option (List ℕ)) → is_some row ≡ true → option_to_list row ≡ unwrap_or row [] ∷ []
 row-some None some = absurd (cc)

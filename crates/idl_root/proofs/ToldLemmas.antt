@@ -33,9 +33,7 @@ AreSited (Pragma tokens inside) sites = 1 ≡ length sites
 
 abbrev IsSited : RootUnit → Type 0
 IsSited (Spelled text sites) = AreSited text sites
-IsSited (Entered file) = Unit {0}
-IsSited (Left file) = Unit {0}
-IsSited End = Unit {0}
+IsSited other = Unit {0}
 
 sites-len : (events : List Numbered) → length (tokens_in events) ≡ length (sites_in events)
 sites-len [] = refl

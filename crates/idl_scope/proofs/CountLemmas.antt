@@ -11,7 +11,7 @@ use Rattle.idl_scope.specs.declared.answer.Answer.TheVariants.{Open, Count, InFo
 use Rattle.idl_scope.specs.declared.answer.Scope.{Scope}
 use Rattle.idl_scope.specs.declared.identity.Prefix.{Prefix}
 use Rattle.idl_scope.specs.declared.key.Key.{Key}
-use Rattle.idl_scope.specs.declared.key.Key.TheVariants.{Cursor, Declared, Introduced, Opened, Nameless, Prefix as PrefixKey, IdOf}
+use Rattle.idl_scope.specs.declared.key.Key.TheVariants.{Cursor, Opened, Nameless, Prefix as PrefixKey}
 
 -- additions count nothing
 over_counts : (before : Option Answer) (n : ℕ) → count_in before ≤ n → (o : Option Addition) → count_in (elim o [ None ↦ before | Some a ↦ Some (answer_of a) ]) ≤ n
@@ -85,12 +85,7 @@ AtMost-after_all (f ∷ facts) w n h k =
 
 first_counts : AtMost first_world 0
 first_counts Cursor = omega arith
-first_counts (Declared n path) = omega arith
-first_counts (Introduced n path body) = omega arith
-first_counts (Opened path) = omega arith
-first_counts Nameless = omega arith
-first_counts PrefixKey = omega arith
-first_counts (IdOf path) = omega arith
+first_counts other = omega arith
 
 count-after_all : (facts : List UnitFacts) (k : Key) → count_in ((after_all first_world facts).answers k) ≤ length facts
 count-after_all facts k = let at = AtMost-after_all facts first_world 0 first_counts k in omega arith

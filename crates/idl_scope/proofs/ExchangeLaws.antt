@@ -8,7 +8,7 @@ use Rattle.idl_scope.specs.Kind.{kind_eq}
 use Rattle.idl_scope.specs.Outside.{AgreeOutside, AreApart, WorldsAgreeOutside, gathered_at, looked_at, looked_at_by}
 use Rattle.idl_scope.specs.declared.addition.Addition.{Addition}
 use Rattle.idl_scope.specs.declared.addition.Step.{Step}
-use Rattle.idl_scope.specs.declared.addition.Step.TheVariants.{Stays, Opens, OpensNameless, Closes, Prefixes, Enters, Leaves}
+use Rattle.idl_scope.specs.declared.addition.Step.TheVariants.{Stays, Opens, OpensNameless, Closes, Prefixes}
 use Rattle.idl_scope.specs.declared.answer.Answer.{Answer}
 use Rattle.idl_scope.specs.declared.answer.Scope.{Scope}
 use Rattle.idl_scope.specs.declared.key.Key.{Key}
@@ -105,8 +105,7 @@ module _ (w v : World) where
   looked_at-same Closes h =
       ap (λ o. Cursor ∷ gathered_at w (scopes_in o)) (sym (h Cursor (inl refl))) ∙ ap (λ ks. Cursor ∷ ks) (gathered_at-same (scopes_in (v.answers Cursor)) (λ k i. h k (inr i)))
   looked_at-same (Prefixes text) h = refl
-  looked_at-same Enters h = refl
-  looked_at-same Leaves h = refl
+  looked_at-same other h = refl
 
 -- so facts that look at none of the keys outside of which two worlds agree do so over either
 pub looked_at_by-outside : (keys : List Key) (w v : World) (f : UnitFacts) → WorldsAgreeOutside keys w v → AreApart (looked_at_by v f) keys → AreApart (looked_at_by w f) keys

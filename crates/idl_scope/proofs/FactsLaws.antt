@@ -164,13 +164,10 @@ module _ (keys : List Key) where
   closing-inside w v (s ∷ t ∷ outer) inside = ap (drop 1) inside
 
   step-inside : (w v : World) (step : Step) → v.inside ≡ w.inside → ((k : Key) → IsIn k (looked_at w step) → v.answers k ≡ w.answers k) → (after_step v step).inside ≡ (after_step w step).inside
-  step-inside w v Stays inside h = inside
   step-inside w v (Opens path kind) inside h = ap (λ own. [] ∷ own) inside
   step-inside w v (OpensNameless kind) inside h = ap (λ own. [] ∷ own) inside
   step-inside w v Closes inside h = ap (λ o. (after_closing v (scopes_in o)).inside) (h Cursor (inl refl)) ∙ closing-inside w v (scopes_in (w.answers Cursor)) inside
-  step-inside w v (Prefixes text) inside h = inside
-  step-inside w v Enters inside h = inside
-  step-inside w v Leaves inside h = inside
+  step-inside w v other inside h = inside
 
   -- and so are the prefixes that come back
   closing-before : (w v : World) (scopes : List Scope) → v.before ≡ w.before → (after_closing v scopes).before ≡ (after_closing w scopes).before

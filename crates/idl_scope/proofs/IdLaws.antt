@@ -13,7 +13,7 @@ use Rattle.idl_scope.specs.Path.{path_eq, same_path, scope_of}
 use Rattle.idl_scope.specs.declared.addition.Addition.{Addition}
 use Rattle.idl_scope.specs.declared.addition.Addition.TheVariants.{Declares, Uses, Appears, Identifies}
 use Rattle.idl_scope.specs.declared.addition.Step.{Step}
-use Rattle.idl_scope.specs.declared.addition.Step.TheVariants.{Stays, Opens, OpensNameless, Closes, Prefixes, Enters, Leaves}
+use Rattle.idl_scope.specs.declared.addition.Step.TheVariants.{Stays, Opens, OpensNameless, Closes, Prefixes}
 use Rattle.idl_scope.specs.declared.answer.Answer.{Answer}
 use Rattle.idl_scope.specs.declared.answer.Answer.TheVariants.{Open, Known, Used, Count, InForce, Appeared, Identified}
 use Rattle.idl_scope.specs.declared.answer.Scope.{Scope}
@@ -75,8 +75,7 @@ step-keeps w Closes path = by (scopes_in (w.answers Cursor))
     by (s ∷ []) = refl
     by (s ∷ t ∷ outer) = closing-keeps w s path (w.answers (IdOf path))
 step-keeps w (Prefixes text) path = refl
-step-keeps w Enters path = refl
-step-keeps w Leaves path = refl
+step-keeps w other path = refl
 
 after_all-of-id : (path : List (List ℕ)) (facts : List UnitFacts) (w : World) → IsOfId path (w.answers (IdOf path)) → IsOfId path ((after_all w facts).answers (IdOf path))
 after_all-of-id path [] w h = h

@@ -5,35 +5,25 @@ use Rattle.idl_scope.specs.Facts.{key_of}
 use Rattle.idl_scope.specs.Held.{IsAmongOthers}
 use Rattle.idl_scope.specs.Key.{key_digest, key_eq}
 use Rattle.idl_scope.specs.declared.addition.Addition.{Addition}
-use Rattle.idl_scope.specs.declared.addition.Addition.TheVariants.{Declares, Uses, Appears, Identifies}
+use Rattle.idl_scope.specs.declared.addition.Addition.TheVariants.{Declares}
 use Rattle.idl_scope.specs.declared.answer.Answer.{Answer}
 use Rattle.idl_scope.specs.declared.key.Key.{Key}
-use Rattle.idl_scope.specs.declared.key.Key.TheVariants.{Cursor, Declared, Introduced, Opened, Nameless, Prefix, IdOf}
+use Rattle.idl_scope.specs.declared.key.Key.TheVariants.{Cursor, Prefix}
 
 -- those of the two are asked at no other key
 pub lookup-others : (k : Key) (cursor prefix : Answer) (others : List (Key × Answer)) → IsAmongOthers k → lookup (key_eq k) ((Cursor, cursor) ∷ (Prefix, prefix) ∷ others) ≡ lookup (key_eq k) others
 lookup-others Cursor cursor prefix others h = absurd h
-lookup-others (Declared n path) cursor prefix others h = refl
-lookup-others (Introduced n path body) cursor prefix others h = refl
-lookup-others (Opened path) cursor prefix others h = refl
-lookup-others Nameless cursor prefix others h = refl
 lookup-others Prefix cursor prefix others h = absurd h
-lookup-others (IdOf path) cursor prefix others h = refl
+lookup-others other cursor prefix others h = refl
 
 -- nothing that is added changes those of the two
 pub key_of-others : (a : Addition) → IsAmongOthers (key_of a)
 key_of-others (Declares e) = tt
-key_of-others (Uses n path body) = tt
-key_of-others (Appears path prefix) = tt
-key_of-others (Identifies path identity) = tt
+key_of-others other = tt
 
 -- their keys have no larger digests
 pub among_others-digest : (k : Key) → 262 < key_digest k → IsAmongOthers k
 unfolding key_digest
 among_others-digest Cursor h = omega (h, arith)
-among_others-digest (Declared n path) h = tt
-among_others-digest (Introduced n path body) h = tt
-among_others-digest (Opened path) h = tt
-among_others-digest Nameless h = tt
 among_others-digest Prefix h = omega (h, arith)
-among_others-digest (IdOf path) h = tt
+among_others-digest other h = tt

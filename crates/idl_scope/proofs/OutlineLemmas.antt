@@ -3,7 +3,7 @@ use Rattle.std.proofs.Common.{◌≡◌, ◌∷◌, refl, sym}
 use Rattle.std.specs.Cmp.Lexicographic.{slice_cmp}
 use Rattle.std.specs.Ordering.{nat_cmp, ordering_then}
 use Rattle.std.specs.declared.cmp.Ordering.{Ordering}
-use Rattle.std.specs.declared.cmp.Ordering.TheVariants.{Less, Equal, Greater}
+use Rattle.std.specs.declared.cmp.Ordering.TheVariants.{Less, Equal}
 use Rattle.idl_scope.specs.Outline.{outline, outline_cmp}
 use Rattle.idl_scope.specs.contracts.key.KeyOrd.TheImpl.{ghosts as own_order}
 use Rattle.idl_scope.specs.declared.key.Key.{Key}
@@ -11,13 +11,11 @@ use Rattle.idl_scope.specs.declared.key.Key.TheVariants.{Cursor, Declared, Intro
 
 then-equal : (o : Ordering) → ordering_then o Equal ≡ o
 then-equal Less = refl
-then-equal Equal = refl
-then-equal Greater = refl
+then-equal other = refl
 
 then-then : (o p q : Ordering) → ordering_then o (ordering_then p q) ≡ ordering_then (ordering_then o p) q
 then-then Less p q = refl
-then-then Equal p q = refl
-then-then Greater p q = refl
+then-then other p q = refl
 
 pub cmp-outlines : (x y : Key) → own_order.cmp x y ≡ outline_cmp (outline x) (outline y)
 cmp-outlines Cursor Cursor = refl

@@ -88,10 +88,7 @@ opening w (OpensNameless kind) e =
     let path = nameless (count_in (w.answers Nameless)) ∷ path_around (scopes_in (w.answers Cursor)) in
     record { scope = record { path = path; kind = kind; body = next_body (after_nameless w) path }; scopes = refl; opened = refl }
 opening w Stays e = absurd (false_true e)
-opening w Closes e = absurd (false_true e)
-opening w (Prefixes text) e = absurd (false_true e)
-opening w Enters e = absurd (false_true e)
-opening w Leaves e = absurd (false_true e)
+opening w other e = absurd (false_true e)
 
 closing-prefix : (w : World) (scopes outer : List Scope) (s : Scope) → scopes ≡ s ∷ outer → outer ≢ [] → prefix_in ((after_closing w scopes).answers PrefixKey) ≡ given_back w.before.opened
 closing-prefix w [] outer s e some = absurd (no_cons e)
@@ -123,14 +120,11 @@ module _ (entered : List Prefix) where
   entered-closing w n (s ∷ u ∷ rest) h = h
 
   entered-step : (w : World) (n m : ℕ) (step : Step) → depth_behind (enters step) (leaves step) n ≡ Some m → drop n w.before.entered ≡ entered → drop m (after_step w step).before.entered ≡ entered
-  entered-step w n m Stays e h = subst (λ k. drop k w.before.entered ≡ entered) (some_same e) h
-  entered-step w n m (Opens path kind) e h = subst (λ k. drop k w.before.entered ≡ entered) (some_same e) h
-  entered-step w n m (OpensNameless kind) e h = subst (λ k. drop k w.before.entered ≡ entered) (some_same e) h
   entered-step w n m Closes e h = subst (λ k. drop k (after_step w Closes).before.entered ≡ entered) (some_same e) (entered-closing w n (scopes_in (w.answers Cursor)) h)
-  entered-step w n m (Prefixes text) e h = subst (λ k. drop k w.before.entered ≡ entered) (some_same e) h
   entered-step w n m Enters e h = subst (λ k. drop k (after_step w Enters).before.entered ≡ entered) (some_same e) h
   entered-step w zero m Leaves e h = absurd (none_some e)
   entered-step w (suc n) m Leaves e h = subst (λ k. drop k (after_step w Leaves).before.entered ≡ entered) (some_same e) (drop-first n w.before.entered ∙ h)
+  entered-step w n m other e h = subst (λ k. drop k w.before.entered ≡ entered) (some_same e) h
 
   entered-all : (facts : List UnitFacts) (w : World) (n m : ℕ) → depth enters leaves n facts ≡ Some m → drop n w.before.entered ≡ entered → drop m (after_all w facts).before.entered ≡ entered
   entered-all [] w n m e h = subst (λ k. drop k w.before.entered ≡ entered) (some_same e) h
@@ -173,8 +167,4 @@ prefix-inside w f e = by f.step e ∙ ap prefix_in (over_prefix f.additions (w.a
     by : (step : Step) → opens step ≡ true → prefix_in ((after_step u step).answers PrefixKey) ≡ prefix_in (u.answers PrefixKey)
     by (Opens path kind) e = refl
     by (OpensNameless kind) e = refl
-    by Stays e = absurd (false_true e)
-    by Closes e = absurd (false_true e)
-    by (Prefixes text) e = absurd (false_true e)
-    by Enters e = absurd (false_true e)
-    by Leaves e = absurd (false_true e)
+    by other e = absurd (false_true e)

@@ -15,7 +15,7 @@ use Rattle.idl_scope.specs.declared.answer.Answer.TheVariants.{Open, Count, InFo
 use Rattle.idl_scope.specs.declared.answer.Scope.{Scope}
 use Rattle.idl_scope.specs.declared.entity.Entity.{Entity}
 use Rattle.idl_scope.specs.declared.key.Key.{Key}
-use Rattle.idl_scope.specs.declared.key.Key.TheVariants.{Cursor, Declared, Introduced, Opened, Nameless, Prefix as PrefixKey, IdOf}
+use Rattle.idl_scope.specs.declared.key.Key.TheVariants.{Cursor, Opened, Prefix as PrefixKey}
 use Rattle.idl_scope.specs.declared.state.State.{State}
 
 -- the answers of a table
@@ -63,8 +63,7 @@ operations_among-cons (Declares e) additions = by (is_operation e)
     by true = refl
     by false = refl
 operations_among-cons (Uses n path body) additions = refl
-operations_among-cons (Appears path prefix) additions = refl
-operations_among-cons (Identifies path identity) additions = refl
+operations_among-cons other additions = refl
 
 -- additions count nothing
 pub count-over : (additions : List Addition) (k : Key) (before : Option Answer) (n : ℕ) → count_in before < n → count_in (over additions k before) < n
@@ -83,12 +82,7 @@ count-over additions k before n h = by (addition_at additions k)
 -- at first
 pub first-answers : (k : Key) → kept ((Cursor, Open (global_scope ∷ [])) ∷ (PrefixKey, InForce no_prefix) ∷ []) k ≡ first_answer k
 first-answers Cursor = refl
-first-answers (Declared n path) = refl
-first-answers (Introduced n path body) = refl
-first-answers (Opened path) = refl
-first-answers Nameless = refl
-first-answers PrefixKey = refl
-first-answers (IdOf path) = refl
+first-answers other = refl
 
 -- an interface that closes
 pub closing_is : (w : World) (s : Scope) (e : Entity) → inherits s.kind ≡ true → entity_in (w.answers (entity_key s.path)) ≡ Some e → closing w s ≡ Declares (closed w e) ∷ []

@@ -136,12 +136,8 @@ module _ (parts : Entity → List (List (List ℕ))) (places : List (List (List 
 
   pub first-grounded : AreGroundedBy parts places first_answer
   first-grounded Cursor x h = let R : Answer → Type 0 = IsGroundedBy parts places Cursor in subst R (some_same h) (no_entity_open Cursor _)
-  first-grounded (Declared n path) x h = absurd (none_some h)
-  first-grounded (Introduced n path body) x h = absurd (none_some h)
-  first-grounded (Opened path) x h = absurd (none_some h)
-  first-grounded Nameless x h = absurd (none_some h)
   first-grounded PrefixKey x h = let R : Answer → Type 0 = IsGroundedBy parts places PrefixKey in subst R (some_same h) (no_entity_prefix PrefixKey no_prefix)
-  first-grounded (IdOf path) x h = absurd (none_some h)
+  first-grounded other x h = absurd (none_some h)
 
   with_prefix-grounded : (prefix : Prefix) (answers : Key → Option Answer) → AreGroundedBy parts places answers → AreGroundedBy parts places (with_prefix prefix answers)
   with_prefix-grounded prefix answers g = with_answer-grounded PrefixKey (InForce prefix) answers (no_entity_prefix PrefixKey prefix) g

@@ -54,18 +54,16 @@ ended_spells p a h = spells-then p (punctuation mark.Semicolon ∷ []) a (Punctu
 
 pub unit_spells : (t : Tree) → spell_parts (unit_parts t) ≡ spell t
 unfolding unit_parts spell
-unit_spells tree.Closing = refl
-unit_spells (tree.Module name) = refl
 unit_spells (tree.Interface i) = interface_spells i
 unit_spells (tree.Forward f) = ended_spells (forward_parts f) (spell_forward f) (forward_spells f)
 unit_spells (tree.Typedef t) = ended_spells (typedef_parts t) (spell_typedef t) (typedef_spells t)
 unit_spells (tree.Construction c) = ended_spells (construction_parts c) (spell_construction c) (construction_spells c)
-unit_spells (tree.Native name) = refl
 unit_spells (tree.Constant c) = ended_spells (constant_parts c) (spell_constant c) (constant_spells c)
 unit_spells (tree.Exception e) = ended_spells (exception_parts e) (spell_exception e) (exception_spells e)
 unit_spells (tree.ReadonlyAttribute a) = ended_spells (readonly_attribute_parts a) (spell_readonly_attribute a) (readonly_attribute_spells a)
 unit_spells (tree.Attribute a) = ended_spells (attribute_parts a) (spell_attribute a) (attribute_spells a)
 unit_spells (tree.Operation o) = ended_spells (operation_parts o) (spell_operation o) (operation_spells o)
+unit_spells other = refl
 
 -- ---- counts
 

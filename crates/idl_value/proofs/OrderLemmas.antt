@@ -112,11 +112,9 @@ target-ascends t to (Valued v) l h =
 target-ascends t to (Faulty fs) l h = h
 
 size-positive : (e : Term) → 1 ≤ size e
-size-positive (Named before) = omega arith
 size-positive (Literally l) = literal-length l
-size-positive (Parenthesised e) = omega arith
-size-positive (Signed s e) = omega arith
 size-positive (Chain e ls) = let h = size-positive e in omega (arith, h)
+size-positive other = omega arith
 
 pub value-tokens : (t : Target) (os : Operands) (e : Expression) → length (spell_expression e) < 2 ^ 64
     → (read_term t os start (expression_term e)).place.token ≡ length (spell_expression e)

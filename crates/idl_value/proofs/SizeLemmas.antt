@@ -68,13 +68,9 @@ length-spell_all f xs =
 
 -- a literal is one token or more
 pub literal-length : (l : Literal) → 1 ≤ length (spell_literal l)
-literal-length (literal.Integer n) = omega arith
-literal-length (literal.Character c) = omega arith
-literal-length (literal.WideCharacter c) = omega arith
 literal-length (literal.Text pieces) = let h = length-spell_all Text pieces in omega (arith, h)
 literal-length (literal.WideText pieces) = let h = length-spell_all WideText pieces in omega (arith, h)
-literal-length literal.True = omega arith
-literal-length literal.False = omega arith
+literal-length other = omega arith
 
 -- the claims by which the induction goes
 
