@@ -19,8 +19,7 @@ use crate::types::names_of;
 use idl_base::{Bytes, Seq};
 use idl_event::Code;
 use idl_scope::{
-    Addition, DataType, Element, Entity, EntityParts, Facts, Kind, Nature, Path, Scope, Shared,
-    Stage,
+    Addition, DataType, Entity, EntityParts, Facts, Kind, Nature, Path, Scope, Shared, Stage,
 };
 use idl_site::Declaration;
 use idl_value::{Target, Value};
@@ -235,26 +234,13 @@ impl Written {
         if entity.kind() != Kind::Enumeration {
             return Ok(());
         }
-        self.name_type(alloc, entity.path())?;
+        self.name_type(entity.path().clone()?);
         self.enumeration = names_of(alloc, entity.path())?;
         Ok(())
     }
 
-    // What is declared at a path is the type that was written last.
-    fn name_type(&mut self, alloc: Global, path: &Path) -> Result<(), AllocError>
-        ensures { OnOk result
-            (held_written self.new
-            ≡ record (held_written self.old) {
-              data_type = Some (plain_type (Named path.now));
-            }) }
-    {
-        let element = Element::Named(path.clone()?);
-        self.data_type = LastType::told(Some(DataType::plain(alloc, element)?));
-        Ok(())
-    }
-
-    /// The same where the scope at the path ends.
-    pub fn name_scope(&mut self, path: Path)
+    /// What is declared at a path is the type that was written last.
+    pub fn name_type(&mut self, path: Path)
         ensures { held_written self.new
             ≡ record (held_written self.old) {
               data_type = Some (plain_type (Named path));

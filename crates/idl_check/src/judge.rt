@@ -282,7 +282,6 @@ impl<'t> Sited<'t> {
         self.judge.ask_step(log, &step)?;
         walker.finish_facts(step)?;
         let writes = scratch.room.hold(&mut walker.own)?;
-        scratch.types = walker.types.take();
         let row = Bytes::from_slice(self.judge.env.alloc(), scratch.row.as_slice())?;
         Ok(Verdict {
             fault: None,

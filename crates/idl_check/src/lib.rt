@@ -16,7 +16,6 @@ mod judge;
 mod labels;
 mod last_type;
 mod laws;
-mod named_types;
 mod naming;
 mod part;
 mod placing;

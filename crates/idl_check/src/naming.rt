@@ -24,8 +24,6 @@ use crate::bases::Bases;
 use crate::bodies::declare_member;
 use crate::declaring::{declared_code, stays};
 use crate::labels::Labels;
-use crate::last_type::LastType;
-use crate::named_types::NamedTypes;
 use crate::standing::{Standing, standing_of};
 use crate::types::{constants_of, looked_through};
 use crate::using::{Denoted, Denoting, introduce, last_at, name_code, part_at, used_code};
@@ -322,14 +320,7 @@ impl<'a> Walker<'a> {
             }) }
         ensures env { OnOk result (self.new.env.now ≡ self.old.env.now) }
     {
-        let alloc = self.env.alloc();
-        let mut types = match self.types.take() {
-            Some(types) => types,
-            None => Box::new(alloc, NamedTypes::new(alloc))?,
-        };
-        let named = types.get(alloc, path)?;
-        self.types = Some(types);
-        self.written.data_type = LastType::told(Some(named));
+        self.written.name_type(path.clone()?);
         Ok(())
     }
 

@@ -1,6 +1,5 @@
 //! What verdicts are made in.
 
-use crate::named_types::NamedTypes;
 use idl_scope::Room;
 use std::alloc::Global;
 
@@ -11,8 +10,6 @@ pub struct Scratch {
     pub row: Vec<u8>,
     /// Where what a unit adds is gathered.
     pub room: Room,
-    /// The types by name that were told last.
-    pub types: Option<Box<NamedTypes>>,
 }
 
 impl Scratch {
@@ -21,7 +18,6 @@ impl Scratch {
         Scratch {
             row: Vec::new(alloc),
             room: Room::new(alloc),
-            types: None,
         }
     }
 }

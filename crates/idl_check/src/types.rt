@@ -153,7 +153,7 @@ pub fn written_as(
             return sequence_of(env.alloc(), bound, before);
         }
     };
-    Ok(Some(env.plain(element)?))
+    Ok(Some(DataType::plain(env.alloc(), element)?))
 }
 
 // A sequence of a type, if there is one.

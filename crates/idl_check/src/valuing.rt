@@ -25,7 +25,7 @@ use crate::values::{Types, code_of};
 use crate::walk::Walker;
 use idl_base::{Bytes, Seq};
 use idl_event::Code;
-use idl_scope::{Addition, Element};
+use idl_scope::{Addition, DataType, Element};
 use idl_site::{Shape, Target as Purpose};
 use idl_tree::{DiscreteType, Expression, Several};
 use idl_value::{Fault, Outcome, Target, Value};
@@ -230,7 +230,8 @@ impl<'a> Walker<'a> {
         let target = Target::of_keywords(discrete);
         let discriminates = target.discriminates();
         let element = Element::Constants(target.clone()?);
-        self.written.data_type = LastType::told(Some(self.env.plain(element)?));
+        let data_type = DataType::plain(self.env.alloc(), element)?;
+        self.written.data_type = LastType::told(Some(data_type));
         let labels = Labels::new(self.env.alloc(), Some(target), 0);
         self.unions.insert(0, labels)?;
         if discriminates {

@@ -22,7 +22,6 @@ use crate::codes::lesser;
 use crate::cursor::Cursor;
 use crate::declaring::{Ending, Written, finished, kind_of, path_in};
 use crate::labels::Labels;
-use crate::named_types::NamedTypes;
 use crate::scratch::Scratch;
 use crate::values::Values;
 use idl_base::{Bytes, Seq};
@@ -61,8 +60,6 @@ pub struct Walker<'a> {
     /// The paths of what the used names denote, in order.
     pub found: Seq<Path>,
     pub values: Values,
-    /// The types by name that were told last, if there are any.
-    pub types: Option<Box<NamedTypes>>,
     /// The least fault so far.
     pub fault: Option<Fault>,
 }
@@ -89,7 +86,6 @@ impl<'a> Walker<'a> {
             gives_back: false,
             found: Seq::new(alloc),
             values: Values::new(alloc),
-            types: scratch.types.take(),
             fault: None,
         }
     }
@@ -281,7 +277,7 @@ impl<'a> Walker<'a> {
         let path = innermost.path.clone()?;
         let is_union = innermost.kind == Kind::Union;
         let alloc = self.env.alloc();
-        self.written.name_scope(path);
+        self.written.name_type(path);
         end_innermost(alloc, &mut self.bodies, &self.clauses, &mut self.begun)?;
         self.cursor.end()?;
         if is_union { self.end_union() } else { Ok(()) }

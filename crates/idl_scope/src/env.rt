@@ -2,19 +2,15 @@
 
 ghost use Rattle.std.specs.Prelude.{◌≡◌, ◌∷◌, ◌++◌, [], IfOk, ◌+◌, ◌<◌, ◌≤◌, length};
 ghost use Rattle.std.specs.Option.{option_copied};
-ghost use Rattle.idl_scope.specs.DataType.{plain_type};
 ghost use Rattle.idl_scope.specs.Facts.{answers};
 ghost use Rattle.idl_scope.specs.Turns.{declared_named};
 
 use crate::answer::Answer;
 use crate::count::{one_more, sum};
-use crate::data_type::{DataType, Element};
 use crate::digested::DigestedKey;
 use crate::facts::Facts;
 use crate::key::Key;
-use crate::plain::PlainTypes;
 use crate::room::{Room, Writes};
-use crate::shared::Shared;
 use crate::state::State;
 use idl_base::GhostList;
 use idl_map::Lent;
@@ -31,7 +27,6 @@ pub struct Env {
     count: usize,
     // It stands apart, since an environment is handed on with each unit.
     state: Box<State>,
-    plain: PlainTypes,
 }
 
 impl Model for Env {
@@ -56,7 +51,6 @@ impl Drop for Env {
             facts: _facts,
             count: _count,
             state: _state,
-            plain: _plain,
         } = self;
     }
 }
@@ -67,13 +61,11 @@ impl Env {
         ensures { IfOk result (λ env. env ≡ []) }
     {
         let state = Box::new(alloc, State::new(alloc)?)?;
-        let plain = PlainTypes::new(alloc)?;
         Ok(Env {
             alloc,
             facts: GhostList::new(),
             count: 0,
             state,
-            plain,
         })
     }
 
@@ -98,7 +90,6 @@ impl Env {
             facts: before,
             count,
             mut state,
-            plain,
         } = self;
         let count = counted(count, facts)?;
         state.add(alloc, facts)?;
@@ -107,7 +98,6 @@ impl Env {
             facts: before.and(facts),
             count,
             state,
-            plain,
         })
     }
 
@@ -120,7 +110,6 @@ impl Env {
             facts: before,
             count,
             mut state,
-            plain,
         } = self;
         let count = counted(count, facts.get())?;
         let after = before.and(facts.get());
@@ -132,18 +121,7 @@ impl Env {
             facts: after,
             count,
             state,
-            plain,
         })
-    }
-
-    /// A type without sequences and arrays. One of keywords is shared by all that is declared with it.
-    pub fn plain(&self, element: Element) -> Result<Shared<DataType>, AllocError>
-        ensures { IfOk result (λ t. t ≡ plain_type element) }
-    {
-        match self.plain.find(&element) {
-            Some(t) => t.clone(),
-            None => DataType::plain(self.alloc, element),
-        }
     }
 }
 

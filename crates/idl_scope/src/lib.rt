@@ -38,7 +38,6 @@ mod outline;
 mod own_name;
 mod parts;
 mod path;
-mod plain;
 mod queue;
 mod room;
 mod shared;
