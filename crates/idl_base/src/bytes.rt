@@ -9,7 +9,7 @@ ghost use Rattle.std.specs.Rc.{rc_slice_items};
 ghost use Rattle.std.specs.Str.{bytes_eq, str_to_ascii_lowercase};
 ghost use Rattle.std.proofs.Common.{ap};
 
-use crate::Datum;
+use crate::datum::Datum;
 use crate::form::{Form, Short};
 use std::alloc::{AllocError, Global};
 use std::cmp::Ordering;

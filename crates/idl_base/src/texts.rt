@@ -3,7 +3,7 @@
 ghost use Rattle.std.specs.Prelude.{◌≡◌, ◌++◌, OnOk};
 ghost use Rattle.idl_base.specs.Spans.{AreWithin, pieces};
 
-use crate::Bytes;
+use crate::bytes::Bytes;
 use std::alloc::AllocError;
 use std::rc::RcSlice;
 

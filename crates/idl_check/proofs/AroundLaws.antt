@@ -17,19 +17,19 @@ use Rattle.idl_event.specs.declared.code.Code.{Code}
 use Rattle.idl_event.specs.declared.code.Code.TheVariants as code
 use Rattle.idl_memo.proofs.QueryLaws.{outcome-and_then}
 use Rattle.idl_memo.specs.Query.{Done, outcome}
-use Rattle.idl_scope.specs.DataType.{plain_type}
-use Rattle.idl_scope.specs.Kind.{kind_eq}
+use Rattle.idl_entity.specs.DataType.{plain_type}
+use Rattle.idl_entity.specs.Kind.{kind_eq}
 use Rattle.idl_scope.specs.Lookup.{denoted, under}
-use Rattle.idl_scope.specs.declared.answer.Answer.{Answer}
-use Rattle.idl_scope.specs.declared.answer.Scope.{Scope}
-use Rattle.idl_scope.specs.declared.data_type.DataType.{DataType}
-use Rattle.idl_scope.specs.declared.data_type.Element.TheVariants.{Named}
-use Rattle.idl_scope.specs.declared.entity.Entity.{Entity}
+use Rattle.idl_env.specs.declared.answer.Answer.{Answer}
+use Rattle.idl_env.specs.declared.answer.Scope.{Scope}
+use Rattle.idl_entity.specs.declared.data_type.DataType.{DataType}
+use Rattle.idl_entity.specs.declared.data_type.Element.TheVariants.{Named}
+use Rattle.idl_entity.specs.declared.entity.Entity.{Entity}
 use Rattle.idl_scope.specs.declared.fault.NameFault.{NameFault}
 use Rattle.idl_scope.specs.declared.fault.NameFault.TheVariants.{At, Memory}
 use Rattle.idl_scope.specs.declared.found.Found.{Found}
-use Rattle.idl_scope.specs.declared.key.Key.{Key}
-use Rattle.idl_scope.specs.declared.kind.Kind.TheVariants.{Enumeration, Union}
+use Rattle.idl_env.specs.declared.key.Key.{Key}
+use Rattle.idl_entity.specs.declared.kind.Kind.TheVariants.{Enumeration, Union}
 use Rattle.idl_site.specs.Item.{Item}
 use Rattle.idl_site.specs.Part.{Part as item}
 use Rattle.idl_site.specs.declared.site.Declaration.{Declaration}

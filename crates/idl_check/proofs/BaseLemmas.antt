@@ -9,7 +9,7 @@ use Rattle.idl_map.proofs.TableLemmas.{lookup-insert_entry}
 use Rattle.idl_check.specs.Using.{with_operation}
 use Rattle.idl_check.specs.Rules.{is_another}
 use Rattle.idl_lex.specs.Keywords.{folded}
-use Rattle.idl_scope.specs.Path.{name_of, path_eq}
+use Rattle.idl_entity.specs.Path.{name_of, path_eq}
 
 module _ (n : List ℕ) where
   -- what is brought under a name once one more is

@@ -12,22 +12,22 @@ use Rattle.idl_lex.specs.Keywords.{folded}
 use Rattle.idl_memo.specs.Query.{outcome}
 use Rattle.idl_scope.proofs.Constructors.{some_same, none_some}
 use Rattle.idl_scope.proofs.FactsLaws.{world-append}
-use Rattle.idl_scope.proofs.Membership.{Contains-IsIn, IsIn, IsIn-Contains, IsIn-left, IsIn-right, IsIn-split}
+use Rattle.idl_env.proofs.Membership.{Contains-IsIn, IsIn, IsIn-Contains, IsIn-left, IsIn-right, IsIn-split}
 use Rattle.std.specs.Char.{to_ascii_lowercase}
-use Rattle.idl_scope.specs.Facts.{UnitFacts, World, addition_at, answer_of, after, after_closing, after_nameless, after_opening, after_step, answers, closed, closing, entity_in, entity_key, first_world, inherited, innermost, nameless, next_body, operations_of, path_around, scopes_in, with_additions, world, count_in}
-use Rattle.idl_scope.specs.Kind.{kind_eq, same_kind}
-use Rattle.idl_scope.specs.Path.{name_of, scope_of}
-use Rattle.idl_scope.specs.Turns.{turns_for}
-use Rattle.idl_scope.specs.declared.addition.Addition.{Addition}
-use Rattle.idl_scope.specs.declared.addition.Addition.TheVariants.{Declares, Uses, Appears, Identifies}
-use Rattle.idl_scope.specs.declared.addition.Step.{Step}
-use Rattle.idl_scope.specs.declared.addition.Step.TheVariants.{Stays, Opens, OpensNameless, Closes, Enters, Leaves}
-use Rattle.idl_scope.specs.declared.answer.Answer.{Answer}
-use Rattle.idl_scope.specs.declared.answer.Scope.{Scope}
-use Rattle.idl_scope.specs.declared.entity.Entity.{Entity}
-use Rattle.idl_scope.specs.declared.key.Key.TheVariants.{Cursor, Nameless}
-use Rattle.idl_scope.specs.declared.kind.Kind.{Kind}
-use Rattle.idl_scope.specs.declared.kind.Kind.TheVariants.{Interface}
+use Rattle.idl_env.specs.Facts.{UnitFacts, World, addition_at, answer_of, after, after_closing, after_nameless, after_opening, after_step, answers, closed, closing, entity_in, entity_key, first_world, inherited, innermost, nameless, next_body, operations_of, path_around, scopes_in, with_additions, world, count_in}
+use Rattle.idl_entity.specs.Kind.{kind_eq, same_kind}
+use Rattle.idl_entity.specs.Path.{name_of, scope_of}
+use Rattle.idl_env.specs.Turns.{turns_for}
+use Rattle.idl_env.specs.declared.addition.Addition.{Addition}
+use Rattle.idl_env.specs.declared.addition.Addition.TheVariants.{Declares, Uses, Appears, Identifies}
+use Rattle.idl_env.specs.declared.addition.Step.{Step}
+use Rattle.idl_env.specs.declared.addition.Step.TheVariants.{Stays, Opens, OpensNameless, Closes, Enters, Leaves}
+use Rattle.idl_env.specs.declared.answer.Answer.{Answer}
+use Rattle.idl_env.specs.declared.answer.Scope.{Scope}
+use Rattle.idl_entity.specs.declared.entity.Entity.{Entity}
+use Rattle.idl_env.specs.declared.key.Key.TheVariants.{Cursor, Nameless}
+use Rattle.idl_entity.specs.declared.kind.Kind.{Kind}
+use Rattle.idl_entity.specs.declared.kind.Kind.TheVariants.{Interface}
 use Rattle.idl_unit.specs.declared.unit.UnitText.{UnitText}
 
 -- what facts that come to this keep

@@ -17,24 +17,24 @@ use Rattle.idl_check.specs.declared.verdict.Verdict.{Verdict}
 use Rattle.idl_lex.specs.Tokens.{Token}
 use Rattle.idl_memo.proofs.QueryLaws.{outcome-and_then}
 use Rattle.idl_memo.specs.Query.{Ask, Done, outcome}
-use Rattle.idl_scope.proofs.Membership.{IsIn}
+use Rattle.idl_env.proofs.Membership.{IsIn}
 use Rattle.idl_scope.proofs.Worlds.{addition_at-Some}
-use Rattle.idl_scope.specs.Facts.{UnitFacts, World, answers, entity_key, identity_at, scopes_in, world, with_additions}
+use Rattle.idl_env.specs.Facts.{UnitFacts, World, answers, entity_key, identity_at, scopes_in, world, with_additions}
 use Rattle.idl_scope.specs.Lookup.{Lookup, by_result, denoted}
-use Rattle.idl_scope.specs.Turns.{turns_for}
-use Rattle.idl_scope.specs.declared.addition.Addition.TheVariants.{Declares, Identifies}
-use Rattle.idl_scope.specs.declared.addition.Step.{Step}
-use Rattle.idl_scope.specs.declared.addition.Step.TheVariants.{Stays, OpensNameless, Closes}
-use Rattle.idl_scope.specs.declared.answer.Answer.{Answer}
-use Rattle.idl_scope.specs.declared.answer.Scope.{Scope}
-use Rattle.idl_scope.specs.declared.entity.Entity.{Entity}
+use Rattle.idl_env.specs.Turns.{turns_for}
+use Rattle.idl_env.specs.declared.addition.Addition.TheVariants.{Declares, Identifies}
+use Rattle.idl_env.specs.declared.addition.Step.{Step}
+use Rattle.idl_env.specs.declared.addition.Step.TheVariants.{Stays, OpensNameless, Closes}
+use Rattle.idl_env.specs.declared.answer.Answer.{Answer}
+use Rattle.idl_env.specs.declared.answer.Scope.{Scope}
+use Rattle.idl_entity.specs.declared.entity.Entity.{Entity}
 use Rattle.idl_scope.specs.declared.fault.NameFault.{NameFault}
 use Rattle.idl_scope.specs.declared.found.Found.{Found}
-use Rattle.idl_scope.specs.declared.identity.FixedIdentity.{FixedIdentity}
-use Rattle.idl_scope.specs.declared.identity.Identity.{Identity}
-use Rattle.idl_scope.specs.declared.key.Key.{Key}
-use Rattle.idl_scope.specs.declared.key.Key.TheVariants.{Cursor, IdOf}
-use Rattle.idl_scope.specs.declared.kind.Kind.{Kind}
+use Rattle.idl_entity.specs.declared.identity.FixedIdentity.{FixedIdentity}
+use Rattle.idl_entity.specs.declared.identity.Identity.{Identity}
+use Rattle.idl_env.specs.declared.key.Key.{Key}
+use Rattle.idl_env.specs.declared.key.Key.TheVariants.{Cursor, IdOf}
+use Rattle.idl_entity.specs.declared.kind.Kind.{Kind}
 use Rattle.idl_tree.specs.declared.name.ScopedName.{ScopedName}
 use Rattle.idl_tree.specs.declared.pragma.Pragma.{Pragma}
 use Rattle.idl_tree.specs.declared.pragma.Pragma.TheVariants as pragma

@@ -4,22 +4,23 @@ use Rattle.std.specs.Prelude.{◌≢◌}
 use Rattle.idl_check.proofs.ReachedLaws.{Names, Place, own, only, there}
 use Rattle.idl_check.proofs.SettledLaws.{AreAdded, IsAdded, IsFound, IsNamed, IsOpen, IsPlace, Once, over}
 use Rattle.idl_lex.specs.Keywords.{folded}
-use Rattle.idl_scope.proofs.FirstLemmas.{addition_at-with_addition}
-use Rattle.idl_scope.specs.Digested.{key_equiv}
-use Rattle.idl_scope.specs.Facts.{addition_at, answer_of, entity_in, entity_key, is_operation, key_of, path_around, with_addition}
-use Rattle.idl_scope.specs.Key.{key_eq}
-use Rattle.idl_scope.specs.SameKey.{same_key}
+use Rattle.idl_env.proofs.FirstLemmas.{addition_at-with_addition}
+use Rattle.idl_env.specs.Digested.{key_equiv}
+use Rattle.idl_entity.specs.Entity.{is_operation}
+use Rattle.idl_env.specs.Facts.{addition_at, answer_of, entity_in, entity_key, key_of, path_around, with_addition}
+use Rattle.idl_env.specs.Key.{key_eq}
+use Rattle.idl_env.specs.SameKey.{same_key}
 use Rattle.idl_scope.specs.Meaning.{Through, bases_of}
-use Rattle.idl_scope.specs.Path.{name_of, scope_of}
-use Rattle.idl_scope.specs.declared.addition.Addition.{Addition}
-use Rattle.idl_scope.specs.declared.addition.Addition.TheVariants.{Declares}
-use Rattle.idl_scope.specs.declared.answer.Answer.{Answer}
-use Rattle.idl_scope.specs.declared.answer.Scope.{Scope}
-use Rattle.idl_scope.specs.declared.entity.Entity.{Entity}
-use Rattle.idl_scope.specs.declared.key.Key.{Key}
-use Rattle.idl_scope.specs.declared.key.Key.TheVariants.{Declared}
-use Rattle.idl_scope.specs.declared.kind.Kind.TheVariants.{Interface}
-use Rattle.idl_scope.specs.declared.kind.Stage.TheVariants.{Ahead}
+use Rattle.idl_entity.specs.Path.{name_of, scope_of}
+use Rattle.idl_env.specs.declared.addition.Addition.{Addition}
+use Rattle.idl_env.specs.declared.addition.Addition.TheVariants.{Declares}
+use Rattle.idl_env.specs.declared.answer.Answer.{Answer}
+use Rattle.idl_env.specs.declared.answer.Scope.{Scope}
+use Rattle.idl_entity.specs.declared.entity.Entity.{Entity}
+use Rattle.idl_env.specs.declared.key.Key.{Key}
+use Rattle.idl_env.specs.declared.key.Key.TheVariants.{Declared}
+use Rattle.idl_entity.specs.declared.kind.Kind.TheVariants.{Interface}
+use Rattle.idl_entity.specs.declared.kind.Stage.TheVariants.{Ahead}
 
 -- ---- one more addition
 

@@ -4,8 +4,8 @@ use Rattle.std.proofs.Math.Seq.{take-append-add}
 use Rattle.std.proofs.lemmas.List.{length-append}
 use Rattle.std.specs.Prelude.{codes, decimal}
 use Rattle.idl_check.specs.Identifying.{versioned}
-use Rattle.idl_scope.specs.Identity.{first_identity, prefixed, relative, slashed}
-use Rattle.idl_scope.specs.declared.identity.Prefix.{Prefix}
+use Rattle.idl_entity.specs.Identity.{first_identity, prefixed, relative, slashed}
+use Rattle.idl_entity.specs.declared.identity.Prefix.{Prefix}
 
 without-last : (xs ys : List ℕ) → 3 ≤ length ys → take (length (xs ++ ys) - 3) (xs ++ ys) ≡ xs ++ take (length ys - 3) ys
 without-last xs ys h =

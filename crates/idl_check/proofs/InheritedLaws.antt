@@ -15,16 +15,18 @@ use Rattle.idl_check.specs.declared.standing.Standing.{Standing}
 use Rattle.idl_lex.specs.Keywords.{folded}
 use Rattle.idl_scope.proofs.FactsLaws.{outcome-under}
 use Rattle.idl_scope.proofs.LookupLaws.{through-all}
-use Rattle.idl_scope.specs.Facts.{UnitFacts, answers, entity_in, entity_key, is_operation}
-use Rattle.idl_scope.specs.Lookup.{bases_of, inherits, reached, under}
+use Rattle.idl_entity.specs.Entity.{is_operation}
+use Rattle.idl_env.specs.Facts.{UnitFacts, answers, entity_in, entity_key}
+use Rattle.idl_entity.specs.Kind.{inherits}
+use Rattle.idl_scope.specs.Lookup.{bases_of, reached, under}
 use Rattle.idl_scope.specs.Meaning.{InheritsOperation, Through, bases_at, seen}
-use Rattle.idl_scope.specs.Path.{name_of}
-use Rattle.idl_scope.specs.Turns.{turns_for}
-use Rattle.idl_scope.specs.declared.answer.Answer.{Answer}
-use Rattle.idl_scope.specs.declared.answer.Scope.{Scope}
-use Rattle.idl_scope.specs.declared.entity.Entity.{Entity}
-use Rattle.idl_scope.specs.declared.key.Key.{Key}
-use Rattle.idl_scope.specs.declared.key.Key.TheVariants.{Declared, Introduced}
+use Rattle.idl_entity.specs.Path.{name_of}
+use Rattle.idl_env.specs.Turns.{turns_for}
+use Rattle.idl_env.specs.declared.answer.Answer.{Answer}
+use Rattle.idl_env.specs.declared.answer.Scope.{Scope}
+use Rattle.idl_entity.specs.declared.entity.Entity.{Entity}
+use Rattle.idl_env.specs.declared.key.Key.{Key}
+use Rattle.idl_env.specs.declared.key.Key.TheVariants.{Declared, Introduced}
 
 module _ (bank : Key → Option Answer) (turns : ℕ) (s : Scope) where
   -- what is told of inheriting is whether an operation or attribute is among what is inherited

@@ -15,15 +15,15 @@ use Rattle.idl_check.specs.declared.verdict.Verdict.{Verdict}
 use Rattle.idl_event.specs.declared.code.Code.TheVariants.{NoTree, MisplacedUnit}
 use Rattle.idl_lex.specs.Keywords.{folded}
 use Rattle.idl_lex.specs.Tokens.{Token}
-use Rattle.idl_scope.specs.Facts.{path_around, UnitFacts}
-use Rattle.idl_scope.specs.Key.{key_eq}
+use Rattle.idl_env.specs.Facts.{path_around, UnitFacts}
+use Rattle.idl_env.specs.Key.{key_eq}
 use Rattle.idl_scope.specs.Lookup.{Lookup, outward, under}
-use Rattle.idl_scope.specs.declared.answer.Answer.{Answer}
-use Rattle.idl_scope.specs.declared.answer.Scope.{Scope}
-use Rattle.idl_scope.specs.declared.entity.Entity.{Entity}
-use Rattle.idl_scope.specs.declared.key.Key.{Key}
-use Rattle.idl_scope.specs.declared.key.Key.TheVariants.{Nameless}
-use Rattle.idl_scope.specs.declared.kind.Kind.{Kind}
+use Rattle.idl_env.specs.declared.answer.Answer.{Answer}
+use Rattle.idl_env.specs.declared.answer.Scope.{Scope}
+use Rattle.idl_entity.specs.declared.entity.Entity.{Entity}
+use Rattle.idl_env.specs.declared.key.Key.{Key}
+use Rattle.idl_env.specs.declared.key.Key.TheVariants.{Nameless}
+use Rattle.idl_entity.specs.declared.kind.Kind.{Kind}
 use Rattle.idl_site.specs.Item.{items, items_length}
 use Rattle.idl_site.specs.UnitParts.{unit_parts}
 use Rattle.idl_site.proofs.UnitSpelling.{counted, unit_spells}
@@ -32,8 +32,8 @@ use Rattle.idl_tree.specs.Unit.{spell}
 use Rattle.idl_tree.specs.declared.unit.Tree.{Tree}
 use Rattle.idl_unit.specs.Faults.{least_fault, lesser_fault}
 use Rattle.idl_unit.specs.TokenRules.{fault_at, token_faults}
-use Rattle.idl_scope.specs.Turns.{HasTurnsFor, turns_for}
-use Rattle.idl_scope.specs.declared.addition.Step.TheVariants.{Stays}
+use Rattle.idl_env.specs.Turns.{HasTurnsFor, turns_for}
+use Rattle.idl_env.specs.declared.addition.Step.TheVariants.{Stays}
 use Rattle.idl_unit.specs.declared.fault.Fault.{Fault}
 
 -- turns for the facts are turns for them and nothing more

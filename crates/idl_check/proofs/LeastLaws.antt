@@ -17,16 +17,16 @@ use Rattle.idl_event.specs.declared.code.Code.TheVariants.{BadIdText, MisplacedU
 use Rattle.idl_lex.specs.Tokens.{Token}
 use Rattle.idl_memo.proofs.QueryLaws.{outcome-and_then}
 use Rattle.idl_memo.specs.Query.{Done, outcome}
-use Rattle.idl_scope.specs.Facts.{scopes_in}
+use Rattle.idl_env.specs.Facts.{scopes_in}
 use Rattle.idl_scope.specs.Lookup.{by_result, denoted}
-use Rattle.idl_scope.specs.declared.answer.Answer.{Answer}
-use Rattle.idl_scope.specs.declared.answer.Scope.{Scope}
-use Rattle.idl_scope.specs.declared.entity.Entity.{Entity}
+use Rattle.idl_env.specs.declared.answer.Answer.{Answer}
+use Rattle.idl_env.specs.declared.answer.Scope.{Scope}
+use Rattle.idl_entity.specs.declared.entity.Entity.{Entity}
 use Rattle.idl_scope.specs.declared.fault.NameFault.{NameFault}
 use Rattle.idl_scope.specs.declared.fault.NameFault.TheVariants.{At, Memory}
 use Rattle.idl_scope.specs.declared.found.Found.{Found}
-use Rattle.idl_scope.specs.declared.key.Key.{Key}
-use Rattle.idl_scope.specs.declared.key.Key.TheVariants.{Cursor}
+use Rattle.idl_env.specs.declared.key.Key.{Key}
+use Rattle.idl_env.specs.declared.key.Key.TheVariants.{Cursor}
 use Rattle.idl_site.proofs.UnitSpelling.{counted, unit_spells}
 use Rattle.idl_site.specs.Item.{items, items_length}
 use Rattle.idl_site.specs.UnitParts.{unit_parts}

@@ -21,19 +21,21 @@ use Rattle.idl_lex.specs.Tokens.{Token}
 use Rattle.idl_scope.proofs.LookupLaws.{denoted-more, outward-more, reached-more, seen-declared}
 use Rattle.idl_scope.proofs.RunLemmas.{runs, seen_at}
 use Rattle.idl_scope.proofs.TurnsLaws.{AreSame, and_then-same as under-same}
-use Rattle.idl_scope.specs.Facts.{UnitFacts, answers, entity_in, entity_key, is_operation, scopes_in}
-use Rattle.idl_scope.specs.Key.{key_eq}
-use Rattle.idl_scope.specs.Lookup.{Lookup, bases_of, by_result, denoted, inherits, outward, reached, under}
-use Rattle.idl_scope.specs.Path.{name_of}
-use Rattle.idl_scope.specs.Turns.{HasTurnsFor, declared_among, declared_named, turns_for}
-use Rattle.idl_scope.specs.declared.addition.Step.TheVariants.{Stays}
-use Rattle.idl_scope.specs.declared.answer.Answer.{Answer}
-use Rattle.idl_scope.specs.declared.answer.Scope.{Scope}
-use Rattle.idl_scope.specs.declared.entity.Entity.{Entity}
+use Rattle.idl_entity.specs.Entity.{is_operation}
+use Rattle.idl_env.specs.Facts.{UnitFacts, answers, entity_in, entity_key, scopes_in}
+use Rattle.idl_env.specs.Key.{key_eq}
+use Rattle.idl_entity.specs.Kind.{inherits}
+use Rattle.idl_scope.specs.Lookup.{Lookup, bases_of, by_result, denoted, outward, reached, under}
+use Rattle.idl_entity.specs.Path.{name_of}
+use Rattle.idl_env.specs.Turns.{HasTurnsFor, declared_among, declared_named, turns_for}
+use Rattle.idl_env.specs.declared.addition.Step.TheVariants.{Stays}
+use Rattle.idl_env.specs.declared.answer.Answer.{Answer}
+use Rattle.idl_env.specs.declared.answer.Scope.{Scope}
+use Rattle.idl_entity.specs.declared.entity.Entity.{Entity}
 use Rattle.idl_scope.specs.declared.fault.NameFault.{NameFault}
 use Rattle.idl_scope.specs.declared.found.Found.{Found}
-use Rattle.idl_scope.specs.declared.key.Key.{Key}
-use Rattle.idl_scope.specs.declared.key.Key.TheVariants.{Cursor, Declared, Introduced}
+use Rattle.idl_env.specs.declared.key.Key.{Key}
+use Rattle.idl_env.specs.declared.key.Key.TheVariants.{Cursor, Declared, Introduced}
 use Rattle.idl_site.specs.Item.{Item, items}
 use Rattle.idl_site.specs.Part.{Part as item}
 use Rattle.idl_site.specs.UnitParts.{unit_parts}

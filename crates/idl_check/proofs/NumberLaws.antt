@@ -17,11 +17,11 @@ use Rattle.idl_lex.specs.declared.kind.Kind.{Kind as TokenKind}
 use Rattle.idl_lex.specs.declared.mark.Mark.{Mark}
 use Rattle.idl_lex.specs.declared.mark.Mark.TheVariants as mark
 use Rattle.idl_memo.specs.Query.{outcome}
-use Rattle.idl_scope.specs.Facts.{scopes_in}
-use Rattle.idl_scope.specs.declared.answer.Answer.{Answer}
-use Rattle.idl_scope.specs.declared.answer.Scope.{Scope}
-use Rattle.idl_scope.specs.declared.key.Key.{Key}
-use Rattle.idl_scope.specs.declared.key.Key.TheVariants.{Cursor}
+use Rattle.idl_env.specs.Facts.{scopes_in}
+use Rattle.idl_env.specs.declared.answer.Answer.{Answer}
+use Rattle.idl_env.specs.declared.answer.Scope.{Scope}
+use Rattle.idl_env.specs.declared.key.Key.{Key}
+use Rattle.idl_env.specs.declared.key.Key.TheVariants.{Cursor}
 use Rattle.idl_site.specs.Item.{items, items_length}
 use Rattle.idl_site.specs.ConstructionParts.{construction_parts}
 use Rattle.idl_site.specs.Part.{Parts, Declares, Plain, if_some, keyword_part, punctuation}

@@ -11,16 +11,17 @@ use Rattle.idl_lex.specs.Keywords.{folded}
 use Rattle.idl_memo.proofs.QueryLaws.{outcome-and_then}
 use Rattle.idl_memo.specs.Query.{Done, and_then, outcome}
 use Rattle.idl_scope.proofs.FactsLaws.{outcome-under}
-use Rattle.idl_scope.specs.Facts.{over}
-use Rattle.idl_scope.specs.Lookup.{Lookup, denoted, found_as, further, has, is_scope, outward, part_of, searched, under}
-use Rattle.idl_scope.specs.declared.answer.Answer.{Answer}
-use Rattle.idl_scope.specs.declared.answer.Scope.{Scope}
-use Rattle.idl_scope.specs.declared.entity.Entity.{Entity}
+use Rattle.idl_env.specs.Facts.{over}
+use Rattle.idl_entity.specs.Kind.{is_scope}
+use Rattle.idl_scope.specs.Lookup.{Lookup, denoted, found_as, further, has, outward, part_of, searched, under}
+use Rattle.idl_env.specs.declared.answer.Answer.{Answer}
+use Rattle.idl_env.specs.declared.answer.Scope.{Scope}
+use Rattle.idl_entity.specs.declared.entity.Entity.{Entity}
 use Rattle.idl_scope.specs.declared.fault.NameCode.TheVariants as why
 use Rattle.idl_scope.specs.declared.fault.NameFault.{NameFault}
 use Rattle.idl_scope.specs.declared.fault.NameFault.TheVariants.{At, Memory}
 use Rattle.idl_scope.specs.declared.found.Found.{Found}
-use Rattle.idl_scope.specs.declared.key.Key.{Key}
+use Rattle.idl_env.specs.declared.key.Key.{Key}
 use Rattle.idl_site.specs.declared.site.Use.{Use}
 use Rattle.idl_tree.specs.declared.name.ScopedName.{ScopedName}
 use Rattle.idl_unit.specs.TokenRules.{fault_at}

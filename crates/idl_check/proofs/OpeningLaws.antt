@@ -26,26 +26,26 @@ use Rattle.idl_lex.specs.Keywords.{folded}
 use Rattle.idl_memo.proofs.QueryLaws.{outcome-and_then}
 use Rattle.idl_memo.specs.Query.{Done, outcome}
 use Rattle.idl_scope.proofs.Constructors.{some_same, none_some}
-use Rattle.idl_scope.proofs.FirstLemmas.{addition_at-with_addition}
-use Rattle.idl_scope.proofs.Membership.{IsIn-Contains}
-use Rattle.idl_scope.specs.Digested.{key_equiv}
-use Rattle.idl_scope.specs.Facts.{UnitFacts, addition_at, answer_of, answers, entity_in, entity_key, next_body, path_around, scopes_in, with_addition, with_additions, world}
-use Rattle.idl_scope.specs.Key.{key_eq}
+use Rattle.idl_env.proofs.FirstLemmas.{addition_at-with_addition}
+use Rattle.idl_env.proofs.Membership.{IsIn-Contains}
+use Rattle.idl_env.specs.Digested.{key_equiv}
+use Rattle.idl_env.specs.Facts.{UnitFacts, addition_at, answer_of, answers, entity_in, entity_key, next_body, path_around, scopes_in, with_addition, with_additions, world}
+use Rattle.idl_env.specs.Key.{key_eq}
 use Rattle.idl_scope.specs.Lookup.{denoted, under}
-use Rattle.idl_scope.specs.Path.{name_of, scope_of}
-use Rattle.idl_scope.specs.Turns.{turns_for}
-use Rattle.idl_scope.specs.declared.addition.Addition.{Addition}
-use Rattle.idl_scope.specs.declared.addition.Addition.TheVariants.{Declares, Uses}
-use Rattle.idl_scope.specs.declared.addition.Step.TheVariants.{Opens}
-use Rattle.idl_scope.specs.declared.answer.Answer.{Answer}
-use Rattle.idl_scope.specs.declared.answer.Scope.{Scope}
-use Rattle.idl_scope.specs.declared.entity.Entity.{Entity}
+use Rattle.idl_entity.specs.Path.{name_of, scope_of}
+use Rattle.idl_env.specs.Turns.{turns_for}
+use Rattle.idl_env.specs.declared.addition.Addition.{Addition}
+use Rattle.idl_env.specs.declared.addition.Addition.TheVariants.{Declares, Uses}
+use Rattle.idl_env.specs.declared.addition.Step.TheVariants.{Opens}
+use Rattle.idl_env.specs.declared.answer.Answer.{Answer}
+use Rattle.idl_env.specs.declared.answer.Scope.{Scope}
+use Rattle.idl_entity.specs.declared.entity.Entity.{Entity}
 use Rattle.idl_scope.specs.declared.fault.NameFault.{NameFault}
 use Rattle.idl_scope.specs.declared.fault.NameFault.TheVariants.{At as Faulty, Memory}
 use Rattle.idl_scope.specs.declared.found.Found.{Found}
-use Rattle.idl_scope.specs.declared.key.Key.TheVariants.{Cursor}
-use Rattle.idl_scope.specs.declared.kind.Kind.TheVariants.{Interface}
-use Rattle.idl_scope.specs.declared.kind.Stage.TheVariants.{Open}
+use Rattle.idl_env.specs.declared.key.Key.TheVariants.{Cursor}
+use Rattle.idl_entity.specs.declared.kind.Kind.TheVariants.{Interface}
+use Rattle.idl_entity.specs.declared.kind.Stage.TheVariants.{Open}
 use Rattle.idl_site.specs.Item.{Item}
 use Rattle.idl_site.specs.Part.{Part as item}
 use Rattle.idl_site.specs.declared.site.Declaration.TheVariants as declaration

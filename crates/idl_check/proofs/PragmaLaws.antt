@@ -15,20 +15,20 @@ use Rattle.idl_event.specs.declared.code.Code.TheVariants.{BadIdText, MalformedP
 use Rattle.idl_lex.specs.Tokens.{Token}
 use Rattle.idl_memo.specs.Query.{Ask, Done, and_then, asked, outcome}
 use Rattle.idl_memo.proofs.QueryLaws.{outcome-and_then}
-use Rattle.idl_scope.specs.Facts.{identity_at, scopes_in}
+use Rattle.idl_env.specs.Facts.{identity_at, scopes_in}
 use Rattle.idl_scope.specs.Lookup.{Lookup, by_result, denoted}
-use Rattle.idl_scope.specs.declared.addition.Addition.TheVariants.{Identifies}
-use Rattle.idl_scope.specs.declared.addition.Step.TheVariants.{Stays}
-use Rattle.idl_scope.specs.declared.answer.Answer.{Answer}
-use Rattle.idl_scope.specs.declared.answer.Scope.{Scope}
-use Rattle.idl_scope.specs.declared.entity.Entity.{Entity}
+use Rattle.idl_env.specs.declared.addition.Addition.TheVariants.{Identifies}
+use Rattle.idl_env.specs.declared.addition.Step.TheVariants.{Stays}
+use Rattle.idl_env.specs.declared.answer.Answer.{Answer}
+use Rattle.idl_env.specs.declared.answer.Scope.{Scope}
+use Rattle.idl_entity.specs.declared.entity.Entity.{Entity}
 use Rattle.idl_scope.specs.declared.fault.NameFault.{NameFault}
 use Rattle.idl_scope.specs.declared.fault.NameFault.TheVariants.{At, Memory}
 use Rattle.idl_scope.specs.declared.found.Found.{Found}
-use Rattle.idl_scope.specs.declared.identity.FixedIdentity.{FixedIdentity}
-use Rattle.idl_scope.specs.declared.identity.Identity.{Identity}
-use Rattle.idl_scope.specs.declared.key.Key.{Key}
-use Rattle.idl_scope.specs.declared.key.Key.TheVariants.{Cursor, IdOf}
+use Rattle.idl_entity.specs.declared.identity.FixedIdentity.{FixedIdentity}
+use Rattle.idl_entity.specs.declared.identity.Identity.{Identity}
+use Rattle.idl_env.specs.declared.key.Key.{Key}
+use Rattle.idl_env.specs.declared.key.Key.TheVariants.{Cursor, IdOf}
 use Rattle.idl_syntax.specs.Parse.{pragma_faults}
 use Rattle.idl_tree.specs.Pragma.{pragma_of}
 use Rattle.idl_tree.specs.declared.name.ScopedName.{ScopedName}

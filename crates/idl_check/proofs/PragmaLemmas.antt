@@ -15,20 +15,20 @@ use Rattle.idl_event.specs.declared.code.Code.TheVariants.{BadIdText, NoReposito
 use Rattle.idl_lex.specs.Tokens.{Token}
 use Rattle.idl_memo.specs.Query.{Ask, Done, and_then, noted}
 use Rattle.idl_memo.proofs.QueryLaws.{run-and_then_at}
-use Rattle.idl_scope.specs.Facts.{identity_at}
-use Rattle.idl_scope.specs.Key.{key_eq}
+use Rattle.idl_env.specs.Facts.{identity_at}
+use Rattle.idl_env.specs.Key.{key_eq}
 use Rattle.idl_scope.specs.Lookup.{Lookup, by_result, denoted}
-use Rattle.idl_scope.specs.declared.addition.Addition.TheVariants.{Identifies}
-use Rattle.idl_scope.specs.declared.addition.Step.TheVariants.{Stays}
-use Rattle.idl_scope.specs.declared.answer.Answer.{Answer}
-use Rattle.idl_scope.specs.declared.answer.Scope.{Scope}
-use Rattle.idl_scope.specs.declared.entity.Entity.{Entity}
+use Rattle.idl_env.specs.declared.addition.Addition.TheVariants.{Identifies}
+use Rattle.idl_env.specs.declared.addition.Step.TheVariants.{Stays}
+use Rattle.idl_env.specs.declared.answer.Answer.{Answer}
+use Rattle.idl_env.specs.declared.answer.Scope.{Scope}
+use Rattle.idl_entity.specs.declared.entity.Entity.{Entity}
 use Rattle.idl_scope.specs.declared.fault.NameFault.{NameFault}
 use Rattle.idl_scope.specs.declared.found.Found.{Found}
-use Rattle.idl_scope.specs.declared.identity.FixedIdentity.{FixedIdentity}
-use Rattle.idl_scope.specs.declared.identity.Identity.{Identity}
-use Rattle.idl_scope.specs.declared.key.Key.{Key}
-use Rattle.idl_scope.specs.declared.key.Key.TheVariants.{IdOf}
+use Rattle.idl_entity.specs.declared.identity.FixedIdentity.{FixedIdentity}
+use Rattle.idl_entity.specs.declared.identity.Identity.{Identity}
+use Rattle.idl_env.specs.declared.key.Key.{Key}
+use Rattle.idl_env.specs.declared.key.Key.TheVariants.{IdOf}
 use Rattle.idl_tree.specs.declared.name.ScopedName.{ScopedName}
 use Rattle.idl_tree.specs.declared.pragma.Pragma.{Pragma}
 use Rattle.idl_unit.specs.Faults.{least_fault}

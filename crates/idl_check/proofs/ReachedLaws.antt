@@ -4,16 +4,18 @@ use Rattle.std.specs.Prelude.{◌↔◌, Contains}
 use Rattle.idl_check.specs.Closing.{HasOperation}
 use Rattle.idl_lex.specs.Keywords.{folded}
 use Rattle.idl_scope.proofs.Constructors.{some_same}
-use Rattle.idl_scope.proofs.Membership.{IsIn-Contains, IsIn-one}
-use Rattle.idl_scope.specs.Facts.{entity_in, is_operation}
-use Rattle.idl_scope.specs.Meaning.{Own, Through, Up, bases_at, bases_of, has_bases, own_at}
-use Rattle.idl_scope.specs.Path.{name_of, scope_of}
-use Rattle.idl_scope.specs.declared.answer.Answer.{Answer}
-use Rattle.idl_scope.specs.declared.entity.Entity.{Entity}
-use Rattle.idl_scope.specs.declared.key.Key.{Key}
-use Rattle.idl_scope.specs.declared.key.Key.TheVariants.{Declared}
-use Rattle.idl_scope.specs.declared.kind.Kind.TheVariants.{Interface}
-use Rattle.idl_scope.specs.declared.kind.Stage.TheVariants.{Complete}
+use Rattle.idl_env.proofs.Membership.{IsIn-Contains, IsIn-one}
+use Rattle.idl_entity.specs.Entity.{is_operation}
+use Rattle.idl_env.specs.Facts.{entity_in}
+use Rattle.idl_entity.specs.Kind.{has_bases}
+use Rattle.idl_scope.specs.Meaning.{Own, Through, Up, bases_at, bases_of, own_at}
+use Rattle.idl_entity.specs.Path.{name_of, scope_of}
+use Rattle.idl_env.specs.declared.answer.Answer.{Answer}
+use Rattle.idl_entity.specs.declared.entity.Entity.{Entity}
+use Rattle.idl_env.specs.declared.key.Key.{Key}
+use Rattle.idl_env.specs.declared.key.Key.TheVariants.{Declared}
+use Rattle.idl_entity.specs.declared.kind.Kind.TheVariants.{Interface}
+use Rattle.idl_entity.specs.declared.kind.Stage.TheVariants.{Complete}
 
 abbrev pub Place : Type 0
 Place = List (List ℕ)

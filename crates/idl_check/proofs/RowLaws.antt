@@ -18,15 +18,15 @@ use Rattle.idl_lex.specs.declared.keyword.Keyword.TheVariants as word
 use Rattle.idl_lex.specs.declared.mark.Mark.TheVariants as mark
 use Rattle.idl_memo.specs.Query.{Done, outcome}
 use Rattle.idl_memo.proofs.QueryLaws.{outcome-and_then}
-use Rattle.idl_scope.specs.Kind.{kind_eq}
+use Rattle.idl_entity.specs.Kind.{kind_eq}
 use Rattle.idl_scope.specs.Lookup.{denoted, under}
-use Rattle.idl_scope.specs.declared.answer.Answer.{Answer}
-use Rattle.idl_scope.specs.declared.answer.Scope.{Scope}
+use Rattle.idl_env.specs.declared.answer.Answer.{Answer}
+use Rattle.idl_env.specs.declared.answer.Scope.{Scope}
 use Rattle.idl_scope.specs.declared.fault.NameFault.{NameFault}
 use Rattle.idl_scope.specs.declared.fault.NameFault.TheVariants.{At, Memory}
 use Rattle.idl_scope.specs.declared.found.Found.{Found}
-use Rattle.idl_scope.specs.declared.key.Key.{Key}
-use Rattle.idl_scope.specs.declared.kind.Kind.TheVariants.{Union as UnionKind}
+use Rattle.idl_env.specs.declared.key.Key.{Key}
+use Rattle.idl_entity.specs.declared.kind.Kind.TheVariants.{Union as UnionKind}
 use Rattle.idl_site.specs.Item.{Item, items}
 use Rattle.idl_site.specs.ConstructionParts.{case_step, construction_parts, construction_step, member_step, member_type_step, structure_step, union_step}
 use Rattle.idl_site.specs.Part.{Part, Parts, if_some, listed, punctuation, spell_parts, Part as item}

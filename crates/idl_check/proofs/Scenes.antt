@@ -1,8 +1,8 @@
 -- What is declared last and which scopes have begun, site after site: where names are declared, and scopes begin.
 use Rattle.std.proofs.Common.{◌≡◌, ℕ, suc, ◌-◌, ◌≤◌, Bool, true, false, cond, List, [], ◌∷◌, ◌++◌, Option, Some, None, refl}
 use Rattle.idl_check.specs.Declaring.{kind_of}
-use Rattle.idl_scope.specs.Kind.{kind_eq}
-use Rattle.idl_scope.specs.declared.kind.Kind.TheVariants as kind
+use Rattle.idl_entity.specs.Kind.{kind_eq}
+use Rattle.idl_entity.specs.declared.kind.Kind.TheVariants as kind
 use Rattle.idl_site.specs.Item.{Item}
 use Rattle.idl_site.specs.Part.{Part as item}
 use Rattle.idl_site.specs.declared.site.Declaration.{Declaration}

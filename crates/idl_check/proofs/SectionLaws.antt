@@ -8,8 +8,8 @@ use Rattle.idl_check.specs.Values.{begun_at}
 use Rattle.idl_check.specs.Walk.{Visit, Walk, begin_of, evaluation_at, given_back, label_target, noted, passed, used, value_visit, visit, with_oneway}
 use Rattle.idl_event.specs.declared.code.Code.TheVariants.{BadOneway}
 use Rattle.idl_memo.specs.Query.{outcome}
-use Rattle.idl_scope.specs.declared.answer.Answer.{Answer}
-use Rattle.idl_scope.specs.declared.key.Key.{Key}
+use Rattle.idl_env.specs.declared.answer.Answer.{Answer}
+use Rattle.idl_env.specs.declared.key.Key.{Key}
 use Rattle.idl_site.specs.ExpressionParts.{expression_parts, value_parts}
 use Rattle.idl_site.specs.Item.{Item, items, items_length}
 use Rattle.idl_site.specs.Part.{Part as item}

@@ -5,24 +5,24 @@ use Rattle.std.specs.Prelude.{◌≢◌, Contains, nat_eq}
 use Rattle.idl_check.proofs.ReachedLaws.{AreWhole, IsClosed, IsClosedAt, Keeps, Names, Place, kept-at, kept-whole, only, own, there, through-back}
 use Rattle.idl_lex.specs.Keywords.{folded}
 use Rattle.idl_scope.proofs.Constructors.{some_same, none_some}
-use Rattle.idl_scope.proofs.Membership.{IsIn, IsIn-left, IsIn-right, IsIn-split}
+use Rattle.idl_env.proofs.Membership.{IsIn, IsIn-left, IsIn-right, IsIn-split}
 use Rattle.idl_scope.proofs.Worlds.{addition_at-Some}
-use Rattle.idl_scope.specs.Digested.{key_equiv}
-use Rattle.idl_scope.specs.Facts.{addition_at, answer_of, entity_in, entity_key, is_operation, key_of, more_inside, operations_among, path_around}
-use Rattle.idl_scope.specs.Facts.{over as answer_over}
-use Rattle.idl_scope.specs.Key.{key_eq}
-use Rattle.idl_scope.specs.SameKey.{same_key}
+use Rattle.idl_env.specs.Digested.{key_equiv}
+use Rattle.idl_entity.specs.Entity.{is_operation}
+use Rattle.idl_env.specs.Facts.{addition_at, answer_of, entity_in, entity_key, key_of, more_inside, operations_among, path_around, over as answer_over}
+use Rattle.idl_env.specs.Key.{key_eq}
+use Rattle.idl_env.specs.SameKey.{same_key}
 use Rattle.idl_scope.specs.Meaning.{Through, bases_of}
-use Rattle.idl_scope.specs.Path.{name_of, scope_of}
-use Rattle.idl_scope.specs.declared.addition.Addition.{Addition}
-use Rattle.idl_scope.specs.declared.addition.Addition.TheVariants.{Declares, Uses, Appears, Identifies}
-use Rattle.idl_scope.specs.declared.answer.Answer.{Answer}
-use Rattle.idl_scope.specs.declared.answer.Scope.{Scope}
-use Rattle.idl_scope.specs.declared.entity.Entity.{Entity}
-use Rattle.idl_scope.specs.declared.key.Key.{Key}
-use Rattle.idl_scope.specs.declared.key.Key.TheVariants.{Declared}
-use Rattle.idl_scope.specs.declared.kind.Kind.TheVariants.{Interface, Module}
-use Rattle.idl_scope.specs.declared.kind.Stage.TheVariants.{Ahead, Open, Complete}
+use Rattle.idl_entity.specs.Path.{name_of, scope_of}
+use Rattle.idl_env.specs.declared.addition.Addition.{Addition}
+use Rattle.idl_env.specs.declared.addition.Addition.TheVariants.{Declares, Uses, Appears, Identifies}
+use Rattle.idl_env.specs.declared.answer.Answer.{Answer}
+use Rattle.idl_env.specs.declared.answer.Scope.{Scope}
+use Rattle.idl_entity.specs.declared.entity.Entity.{Entity}
+use Rattle.idl_env.specs.declared.key.Key.{Key}
+use Rattle.idl_env.specs.declared.key.Key.TheVariants.{Declared}
+use Rattle.idl_entity.specs.declared.kind.Kind.TheVariants.{Interface, Module}
+use Rattle.idl_entity.specs.declared.kind.Stage.TheVariants.{Ahead, Open, Complete}
 
 -- ---- where names are declared
 

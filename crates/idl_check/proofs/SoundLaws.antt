@@ -18,11 +18,11 @@ use Rattle.idl_check.specs.Walk.{first_walk}
 use Rattle.idl_check.specs.declared.verdict.Verdict.{Verdict}
 use Rattle.idl_lex.specs.Tokens.{Token}
 use Rattle.idl_lex.specs.declared.mark.Mark.TheVariants as mark
-use Rattle.idl_scope.proofs.Membership.{IsIn, IsIn-left, IsIn-right}
-use Rattle.idl_scope.specs.Facts.{UnitFacts, World, answers, path_around, scopes_in, world}
-use Rattle.idl_scope.specs.Turns.{turns_for}
-use Rattle.idl_scope.specs.declared.answer.Scope.{Scope}
-use Rattle.idl_scope.specs.declared.key.Key.TheVariants.{Cursor}
+use Rattle.idl_env.proofs.Membership.{IsIn, IsIn-left, IsIn-right}
+use Rattle.idl_env.specs.Facts.{UnitFacts, World, answers, path_around, scopes_in, world}
+use Rattle.idl_env.specs.Turns.{turns_for}
+use Rattle.idl_env.specs.declared.answer.Scope.{Scope}
+use Rattle.idl_env.specs.declared.key.Key.TheVariants.{Cursor}
 use Rattle.idl_site.specs.Item.{item_of, items}
 use Rattle.idl_site.specs.Part.{Part, Parts, Declares, Uses, if_some, punctuation, spell_part, spell_parts}
 use Rattle.idl_site.specs.UnitParts.{bases_parts, unit_parts}

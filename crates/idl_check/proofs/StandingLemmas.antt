@@ -8,16 +8,18 @@ use Rattle.idl_check.specs.declared.identifying.Ids.{Ids}
 use Rattle.idl_check.specs.declared.standing.Standing.{Standing}
 use Rattle.idl_lex.specs.Keywords.{folded}
 use Rattle.idl_scope.proofs.RunLemmas.{runs, runs-and_then, seen_at}
-use Rattle.idl_scope.specs.Facts.{entity_in, entity_key, is_operation}
-use Rattle.idl_scope.specs.Key.{key_eq}
-use Rattle.idl_scope.specs.Lookup.{Lookup, bases_of, inherits, reached}
-use Rattle.idl_scope.specs.Path.{name_of}
-use Rattle.idl_scope.specs.declared.addition.Addition.{Addition}
-use Rattle.idl_scope.specs.declared.answer.Answer.{Answer}
-use Rattle.idl_scope.specs.declared.answer.Scope.{Scope}
-use Rattle.idl_scope.specs.declared.entity.Entity.{Entity}
-use Rattle.idl_scope.specs.declared.key.Key.{Key}
-use Rattle.idl_scope.specs.declared.key.Key.TheVariants.{Declared, Introduced}
+use Rattle.idl_entity.specs.Entity.{is_operation}
+use Rattle.idl_env.specs.Facts.{entity_in, entity_key}
+use Rattle.idl_env.specs.Key.{key_eq}
+use Rattle.idl_entity.specs.Kind.{inherits}
+use Rattle.idl_scope.specs.Lookup.{Lookup, bases_of, reached}
+use Rattle.idl_entity.specs.Path.{name_of}
+use Rattle.idl_env.specs.declared.addition.Addition.{Addition}
+use Rattle.idl_env.specs.declared.answer.Answer.{Answer}
+use Rattle.idl_env.specs.declared.answer.Scope.{Scope}
+use Rattle.idl_entity.specs.declared.entity.Entity.{Entity}
+use Rattle.idl_env.specs.declared.key.Key.{Key}
+use Rattle.idl_env.specs.declared.key.Key.TheVariants.{Declared, Introduced}
 
 -- whether an operation or attribute is inherited
 abbrev pub counted : List Entity → Lookup Bool

@@ -11,10 +11,10 @@ use Rattle.idl_lex.specs.declared.keyword.Keyword.TheVariants as word
 use Rattle.idl_lex.specs.declared.kind.Kind.{Kind as TokenKind}
 use Rattle.idl_lex.specs.declared.kind.Kind.TheVariants as token
 use Rattle.idl_lex.specs.declared.mark.Mark.TheVariants as mark
-use Rattle.idl_scope.specs.declared.addition.Step.{Step}
-use Rattle.idl_scope.specs.declared.addition.Step.TheVariants.{Stays, OpensNameless, Closes}
-use Rattle.idl_scope.specs.declared.kind.Kind.{Kind}
-use Rattle.idl_scope.specs.declared.kind.Kind.TheVariants.{Module, Interface}
+use Rattle.idl_env.specs.declared.addition.Step.{Step}
+use Rattle.idl_env.specs.declared.addition.Step.TheVariants.{Stays, OpensNameless, Closes}
+use Rattle.idl_entity.specs.declared.kind.Kind.{Kind}
+use Rattle.idl_entity.specs.declared.kind.Kind.TheVariants.{Module, Interface}
 use Rattle.idl_tree.specs.DataType.{spell_type}
 use Rattle.idl_tree.specs.Interface.{spell_bases, spell_context, spell_local, spell_oneway, spell_parameter, spell_raises, spell_result}
 use Rattle.idl_tree.specs.Lexeme.{Lexeme, Lexemes, Word, Punctuation, Identifier, Integer, Character, WideCharacter, Text, WideText, lexeme_by, lexeme_of, lexemes, one_character, valued}

@@ -6,22 +6,23 @@ use Rattle.idl_check.proofs.SettledLaws.{Added, AreOpened, IsDefined, IsHeld, Is
 use Rattle.idl_check.specs.Closing.{HasOperation}
 use Rattle.idl_lex.specs.Keywords.{folded}
 use Rattle.idl_scope.proofs.Constructors.{some_same, none_some}
-use Rattle.idl_scope.proofs.Membership.{Contains-IsIn, IsIn, IsIn-Contains, IsIn-one}
-use Rattle.idl_scope.proofs.QueueLemmas.{list_any-joined}
+use Rattle.idl_env.proofs.Membership.{Contains-IsIn, IsIn, IsIn-Contains, IsIn-one}
+use Rattle.idl_env.proofs.QueueLemmas.{list_any-joined}
 use Rattle.idl_scope.proofs.Walked.{among, among-IsIn}
 use Rattle.idl_scope.proofs.Worlds.{addition_at-Some, declares_same}
-use Rattle.idl_scope.specs.Digested.{key_equiv}
-use Rattle.idl_scope.specs.Facts.{answer_of, entity_in, entity_key, gathered, inherited, is_operation, joined, operations_of}
+use Rattle.idl_env.specs.Digested.{key_equiv}
+use Rattle.idl_entity.specs.Entity.{is_operation}
+use Rattle.idl_env.specs.Facts.{answer_of, entity_in, entity_key, gathered, inherited, joined, operations_of}
 use Rattle.idl_scope.specs.Meaning.{Own, Through, Up, bases_at, bases_of}
-use Rattle.idl_scope.specs.Path.{name_of, scope_of}
-use Rattle.idl_scope.specs.declared.addition.Addition.TheVariants.{Declares}
-use Rattle.idl_scope.specs.declared.answer.Answer.{Answer}
-use Rattle.idl_scope.specs.declared.answer.Scope.{Scope}
-use Rattle.idl_scope.specs.declared.entity.Entity.{Entity}
-use Rattle.idl_scope.specs.declared.key.Key.{Key}
-use Rattle.idl_scope.specs.declared.key.Key.TheVariants.{Declared}
-use Rattle.idl_scope.specs.declared.kind.Kind.TheVariants.{Interface, Module}
-use Rattle.idl_scope.specs.declared.kind.Stage.TheVariants.{Ahead, Open, Complete}
+use Rattle.idl_entity.specs.Path.{name_of, scope_of}
+use Rattle.idl_env.specs.declared.addition.Addition.TheVariants.{Declares}
+use Rattle.idl_env.specs.declared.answer.Answer.{Answer}
+use Rattle.idl_env.specs.declared.answer.Scope.{Scope}
+use Rattle.idl_entity.specs.declared.entity.Entity.{Entity}
+use Rattle.idl_env.specs.declared.key.Key.{Key}
+use Rattle.idl_env.specs.declared.key.Key.TheVariants.{Declared}
+use Rattle.idl_entity.specs.declared.kind.Kind.TheVariants.{Interface, Module}
+use Rattle.idl_entity.specs.declared.kind.Stage.TheVariants.{Ahead, Open, Complete}
 
 -- ---- what bases have
 

@@ -20,12 +20,12 @@ use Rattle.idl_lex.specs.declared.mark.Mark.TheVariants as mark
 use Rattle.idl_memo.proofs.QueryLaws.{outcome-and_then}
 use Rattle.idl_memo.specs.Query.{Done, outcome}
 use Rattle.idl_scope.specs.Lookup.{denoted, under}
-use Rattle.idl_scope.specs.declared.answer.Answer.{Answer}
-use Rattle.idl_scope.specs.declared.answer.Scope.{Scope}
+use Rattle.idl_env.specs.declared.answer.Answer.{Answer}
+use Rattle.idl_env.specs.declared.answer.Scope.{Scope}
 use Rattle.idl_scope.specs.declared.fault.NameFault.{NameFault}
 use Rattle.idl_scope.specs.declared.fault.NameFault.TheVariants.{At, Memory}
 use Rattle.idl_scope.specs.declared.found.Found.{Found}
-use Rattle.idl_scope.specs.declared.key.Key.{Key}
+use Rattle.idl_env.specs.declared.key.Key.{Key}
 use Rattle.idl_site.specs.ExpressionParts.{expression_parts, value_parts}
 use Rattle.idl_site.specs.Item.{Item, item_of, items}
 use Rattle.idl_site.specs.Part.{Parts, Declares, ValueEnds, punctuation, Part as item}

@@ -15,16 +15,16 @@ use Rattle.idl_lex.specs.Keywords.{folded}
 use Rattle.idl_lex.specs.Tokens.{Token}
 use Rattle.idl_memo.specs.Query.{Done, Ask, and_then, asked, outcome}
 use Rattle.idl_memo.proofs.QueryLaws.{outcome-and_then}
-use Rattle.idl_scope.specs.Facts.{path_around, scopes_in}
+use Rattle.idl_env.specs.Facts.{path_around, scopes_in}
 use Rattle.idl_scope.specs.Lookup.{Lookup, outward}
-use Rattle.idl_scope.specs.declared.addition.Step.{Step}
-use Rattle.idl_scope.specs.declared.addition.Step.TheVariants.{Stays}
-use Rattle.idl_scope.specs.declared.answer.Answer.{Answer}
-use Rattle.idl_scope.specs.declared.answer.Scope.{Scope}
-use Rattle.idl_scope.specs.declared.entity.Entity.{Entity}
-use Rattle.idl_scope.specs.declared.key.Key.{Key}
-use Rattle.idl_scope.specs.declared.key.Key.TheVariants.{Cursor, Nameless}
-use Rattle.idl_scope.specs.declared.kind.Kind.{Kind}
+use Rattle.idl_env.specs.declared.addition.Step.{Step}
+use Rattle.idl_env.specs.declared.addition.Step.TheVariants.{Stays}
+use Rattle.idl_env.specs.declared.answer.Answer.{Answer}
+use Rattle.idl_env.specs.declared.answer.Scope.{Scope}
+use Rattle.idl_entity.specs.declared.entity.Entity.{Entity}
+use Rattle.idl_env.specs.declared.key.Key.{Key}
+use Rattle.idl_env.specs.declared.key.Key.TheVariants.{Cursor, Nameless}
+use Rattle.idl_entity.specs.declared.kind.Kind.{Kind}
 use Rattle.idl_site.specs.Item.{items}
 use Rattle.idl_site.specs.UnitParts.{unit_parts}
 use Rattle.idl_tree.specs.Lexeme.{Lexeme, lexeme_of, lexemes}

@@ -8,14 +8,14 @@ use Rattle.idl_check.specs.Declaring.{entity_of, standing}
 use Rattle.idl_check.specs.Types.{looked_through}
 use Rattle.idl_check.specs.Walk.{turns_at, Visit, Walk, past_name, declared_visit, given_back, head_of, head_visit, is_over, noted_in, passed, quiet, unfound_visit, used, used_visit, visit, walk, with_oneway}
 use Rattle.idl_check.specs.declared.standing.Standing.{Standing}
-use Rattle.idl_scope.specs.Key.{key_eq}
+use Rattle.idl_env.specs.Key.{key_eq}
 use Rattle.idl_scope.specs.Lookup.{Lookup, by_result, denoted, under}
-use Rattle.idl_scope.specs.declared.answer.Answer.{Answer}
-use Rattle.idl_scope.specs.declared.answer.Scope.{Scope}
-use Rattle.idl_scope.specs.declared.entity.Entity.{Entity}
+use Rattle.idl_env.specs.declared.answer.Answer.{Answer}
+use Rattle.idl_env.specs.declared.answer.Scope.{Scope}
+use Rattle.idl_entity.specs.declared.entity.Entity.{Entity}
 use Rattle.idl_scope.specs.declared.fault.NameFault.{NameFault}
 use Rattle.idl_scope.specs.declared.found.Found.{Found}
-use Rattle.idl_scope.specs.declared.key.Key.{Key}
+use Rattle.idl_env.specs.declared.key.Key.{Key}
 use Rattle.idl_site.specs.Item.{Item}
 use Rattle.idl_site.specs.Part.{Part as item}
 use Rattle.idl_site.specs.declared.site.Declaration.{Declaration}
@@ -23,9 +23,9 @@ use Rattle.idl_site.specs.declared.site.Use.{Use}
 use Rattle.idl_tree.specs.declared.name.ScopedName.{ScopedName}
 use Rattle.idl_unit.specs.TokenRules.{first}
 use Rattle.idl_unit.specs.declared.fault.Fault.{Fault}
-use Rattle.idl_scope.specs.Facts.{UnitFacts}
-use Rattle.idl_scope.specs.Turns.{HasTurnsFor, turns_among, turns_for}
-use Rattle.idl_scope.specs.declared.addition.Addition.{Addition}
+use Rattle.idl_env.specs.Facts.{UnitFacts}
+use Rattle.idl_env.specs.Turns.{HasTurnsFor, turns_among, turns_for}
+use Rattle.idl_env.specs.declared.addition.Addition.{Addition}
 use Rattle.idl_check.proofs.NotedLemmas.{noted_in-one_way, one_way}
 
 -- turns for the facts before a unit are, with those for its tokens so far, turns for both

@@ -8,8 +8,8 @@ use Rattle.idl_check.specs.Walk.{Walk, is_over, noted, noted_in, visit, walk}
 use Rattle.idl_memo.specs.Query.{Done, and_then, outcome}
 use Rattle.idl_memo.proofs.QueryLaws.{outcome-and_then}
 use Rattle.idl_scope.specs.Lookup.{Lookup}
-use Rattle.idl_scope.specs.declared.answer.Answer.{Answer}
-use Rattle.idl_scope.specs.declared.key.Key.{Key}
+use Rattle.idl_env.specs.declared.answer.Answer.{Answer}
+use Rattle.idl_env.specs.declared.key.Key.{Key}
 use Rattle.idl_site.specs.Item.{Item}
 use Rattle.idl_unit.specs.declared.fault.Fault.{Fault}
 use Rattle.idl_check.proofs.ApartLaws.{faults-apart, with_fault}

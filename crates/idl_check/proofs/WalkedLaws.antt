@@ -39,24 +39,25 @@ use Rattle.idl_memo.specs.Query.{Done, outcome}
 use Rattle.idl_scope.proofs.Constructors.{some_same, none_some}
 use Rattle.idl_scope.proofs.FactsLaws.{outcome-under}
 use Rattle.idl_scope.proofs.LookupLaws.{denotes}
-use Rattle.idl_scope.proofs.Membership.{IsIn, IsIn-one, IsIn-split}
-use Rattle.idl_scope.specs.Facts.{UnitFacts, World, answer_of, answers, entity_in, is_operation, path_around, with_addition, with_additions, world}
-use Rattle.idl_scope.specs.Kind.{kind_eq, same_kind, same_stage, stage_eq}
+use Rattle.idl_env.proofs.Membership.{IsIn, IsIn-one, IsIn-split}
+use Rattle.idl_entity.specs.Entity.{is_operation}
+use Rattle.idl_env.specs.Facts.{UnitFacts, World, answer_of, answers, entity_in, path_around, with_addition, with_additions, world}
+use Rattle.idl_entity.specs.Kind.{kind_eq, same_kind, same_stage, stage_eq}
 use Rattle.idl_scope.specs.Lookup.{denoted, under}
 use Rattle.idl_scope.specs.Meaning.{Denotes, Through, bases_of, entity_found, seen}
-use Rattle.idl_scope.specs.Path.{name_of, scope_of}
-use Rattle.idl_scope.specs.Turns.{turns_for}
-use Rattle.idl_scope.specs.declared.addition.Addition.{Addition}
-use Rattle.idl_scope.specs.declared.addition.Addition.TheVariants.{Declares, Uses}
-use Rattle.idl_scope.specs.declared.answer.Answer.{Answer}
-use Rattle.idl_scope.specs.declared.answer.Scope.{Scope}
-use Rattle.idl_scope.specs.declared.entity.Entity.{Entity}
-use Rattle.idl_scope.specs.declared.kind.Kind.{Kind}
-use Rattle.idl_scope.specs.declared.kind.Kind.TheVariants as kind
+use Rattle.idl_entity.specs.Path.{name_of, scope_of}
+use Rattle.idl_env.specs.Turns.{turns_for}
+use Rattle.idl_env.specs.declared.addition.Addition.{Addition}
+use Rattle.idl_env.specs.declared.addition.Addition.TheVariants.{Declares, Uses}
+use Rattle.idl_env.specs.declared.answer.Answer.{Answer}
+use Rattle.idl_env.specs.declared.answer.Scope.{Scope}
+use Rattle.idl_entity.specs.declared.entity.Entity.{Entity}
+use Rattle.idl_entity.specs.declared.kind.Kind.{Kind}
+use Rattle.idl_entity.specs.declared.kind.Kind.TheVariants as kind
 use Rattle.idl_scope.specs.declared.fault.NameFault.{NameFault}
 use Rattle.idl_scope.specs.declared.fault.NameFault.TheVariants.{At as Faulty, Memory}
 use Rattle.idl_scope.specs.declared.found.Found.{Found}
-use Rattle.idl_scope.specs.declared.kind.Stage.TheVariants.{Complete, Open}
+use Rattle.idl_entity.specs.declared.kind.Stage.TheVariants.{Complete, Open}
 use Rattle.idl_site.specs.Item.{Item, items}
 use Rattle.idl_site.specs.Part.{Part as item}
 use Rattle.idl_site.specs.UnitParts.{unit_parts}

@@ -25,23 +25,24 @@ use Rattle.idl_memo.proofs.QueryLaws.{outcome-and_then}
 use Rattle.idl_memo.specs.Query.{Done, and_then, outcome}
 use Rattle.idl_scope.proofs.Constructors.{some_same, none_some}
 use Rattle.idl_scope.proofs.FactsLaws.{outcome-under}
-use Rattle.idl_scope.proofs.Membership.{IsIn}
-use Rattle.idl_scope.specs.Facts.{UnitFacts, answers, entity_in, is_operation, path_around, scopes_in, world, with_addition}
-use Rattle.idl_scope.specs.Kind.{kind_eq, same_stage}
+use Rattle.idl_env.proofs.Membership.{IsIn}
+use Rattle.idl_entity.specs.Entity.{is_operation}
+use Rattle.idl_env.specs.Facts.{UnitFacts, answers, entity_in, path_around, scopes_in, world, with_addition}
+use Rattle.idl_entity.specs.Kind.{kind_eq, same_stage, inherits}
 use Rattle.idl_scope.specs.Lookup.{under}
-use Rattle.idl_scope.specs.Meaning.{InheritsOperation, Through, bases_of, inherits, seen}
-use Rattle.idl_scope.specs.Path.{name_of}
-use Rattle.idl_scope.specs.Turns.{turns_for}
-use Rattle.idl_scope.specs.declared.addition.Addition.{Addition}
-use Rattle.idl_scope.specs.declared.addition.Addition.TheVariants.{Declares, Appears}
-use Rattle.idl_scope.specs.declared.answer.Answer.{Answer}
-use Rattle.idl_scope.specs.declared.answer.Scope.{Scope}
-use Rattle.idl_scope.specs.declared.entity.Entity.{Entity}
-use Rattle.idl_scope.specs.declared.key.Key.{Key}
-use Rattle.idl_scope.specs.declared.key.Key.TheVariants.{Cursor, Declared, Introduced}
-use Rattle.idl_scope.specs.declared.kind.Kind.{Kind}
-use Rattle.idl_scope.specs.declared.kind.Kind.TheVariants as kind
-use Rattle.idl_scope.specs.declared.kind.Stage.TheVariants.{Ahead, Open, Complete}
+use Rattle.idl_scope.specs.Meaning.{InheritsOperation, Through, bases_of, seen}
+use Rattle.idl_entity.specs.Path.{name_of}
+use Rattle.idl_env.specs.Turns.{turns_for}
+use Rattle.idl_env.specs.declared.addition.Addition.{Addition}
+use Rattle.idl_env.specs.declared.addition.Addition.TheVariants.{Declares, Appears}
+use Rattle.idl_env.specs.declared.answer.Answer.{Answer}
+use Rattle.idl_env.specs.declared.answer.Scope.{Scope}
+use Rattle.idl_entity.specs.declared.entity.Entity.{Entity}
+use Rattle.idl_env.specs.declared.key.Key.{Key}
+use Rattle.idl_env.specs.declared.key.Key.TheVariants.{Cursor, Declared, Introduced}
+use Rattle.idl_entity.specs.declared.kind.Kind.{Kind}
+use Rattle.idl_entity.specs.declared.kind.Kind.TheVariants as kind
+use Rattle.idl_entity.specs.declared.kind.Stage.TheVariants.{Ahead, Open, Complete}
 use Rattle.idl_site.specs.Item.{Item}
 use Rattle.idl_site.specs.Part.{Part as item}
 use Rattle.idl_site.specs.declared.site.Declaration.{Declaration}

@@ -12,14 +12,14 @@ use Rattle.idl_check.specs.Walk.{Visit, Walk, evaluation_at, first_walk, is_repe
 use Rattle.idl_event.specs.declared.code.Code.TheVariants.{MisplacedUnit, NoRepositoryId, NoTree, RepeatedLabel}
 use Rattle.idl_lex.specs.Tokens.{Token}
 use Rattle.idl_memo.specs.Query.{outcome}
-use Rattle.idl_scope.specs.Facts.{scopes_in}
+use Rattle.idl_env.specs.Facts.{scopes_in}
 use Rattle.idl_scope.specs.Lookup.{denoted}
-use Rattle.idl_scope.specs.declared.answer.Answer.{Answer}
-use Rattle.idl_scope.specs.declared.answer.Scope.{Scope}
+use Rattle.idl_env.specs.declared.answer.Answer.{Answer}
+use Rattle.idl_env.specs.declared.answer.Scope.{Scope}
 use Rattle.idl_scope.specs.declared.fault.NameFault.{NameFault}
 use Rattle.idl_scope.specs.declared.found.Found.{Found}
-use Rattle.idl_scope.specs.declared.key.Key.{Key}
-use Rattle.idl_scope.specs.declared.key.Key.TheVariants.{Cursor}
+use Rattle.idl_env.specs.declared.key.Key.{Key}
+use Rattle.idl_env.specs.declared.key.Key.TheVariants.{Cursor}
 use Rattle.idl_site.specs.Item.{Item, items}
 use Rattle.idl_site.specs.Part.{Part as item}
 use Rattle.idl_site.specs.UnitParts.{unit_parts}

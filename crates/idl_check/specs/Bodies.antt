@@ -1,16 +1,16 @@
 -- What is told inside a unit of what it declares: members with their labels, parameters, exceptions
 -- that are raised, and contexts.
 use Rattle.std.specs.Prelude.{ℕ, Bool, true, false, ◌&&◌, ◌||◌, List, [], ◌∷◌, ◌++◌, not, Option, None, Some, if◌then◌else◌}
-use Rattle.idl_scope.specs.DataType.{with_arrays}
-use Rattle.idl_scope.specs.Kind.{kind_eq}
-use Rattle.idl_scope.specs.Path.{name_of}
-use Rattle.idl_scope.specs.declared.data_type.DataType.{DataType}
-use Rattle.idl_scope.specs.declared.entity.Entity.{Entity}
-use Rattle.idl_scope.specs.declared.kind.Kind.{Kind}
-use Rattle.idl_scope.specs.declared.kind.Kind.TheVariants.{Attribute, Member as MemberKind, Parameter, Union}
-use Rattle.idl_scope.specs.declared.kind.Stage.TheVariants.{Complete}
-use Rattle.idl_scope.specs.declared.signature.Member.{Member}
-use Rattle.idl_scope.specs.declared.signature.Signature.{Signature}
+use Rattle.idl_entity.specs.DataType.{with_arrays}
+use Rattle.idl_entity.specs.Kind.{kind_eq}
+use Rattle.idl_entity.specs.Path.{name_of}
+use Rattle.idl_entity.specs.declared.data_type.DataType.{DataType}
+use Rattle.idl_entity.specs.declared.entity.Entity.{Entity}
+use Rattle.idl_entity.specs.declared.kind.Kind.{Kind}
+use Rattle.idl_entity.specs.declared.kind.Kind.TheVariants.{Attribute, Member as MemberKind, Parameter, Union}
+use Rattle.idl_entity.specs.declared.kind.Stage.TheVariants.{Complete}
+use Rattle.idl_entity.specs.declared.signature.Member.{Member}
+use Rattle.idl_entity.specs.declared.signature.Signature.{Signature}
 use Rattle.idl_site.specs.declared.site.Declaration.{Declaration}
 use Rattle.idl_site.specs.declared.site.Declaration.TheVariants as declaration
 use Rattle.idl_site.specs.declared.site.Use.{Use}

@@ -3,13 +3,14 @@
 use Rattle.std.specs.Prelude.{◌≡◌, ℕ, true, List, [], ◌∷◌, ◌++◌, Option}
 use Rattle.idl_check.specs.Verdict.{verdict}
 use Rattle.idl_memo.specs.Query.{outcome}
-use Rattle.idl_scope.specs.Facts.{UnitFacts, answers, is_operation}
+use Rattle.idl_entity.specs.Entity.{is_operation}
+use Rattle.idl_env.specs.Facts.{UnitFacts, answers}
 use Rattle.idl_scope.specs.Meaning.{Through}
-use Rattle.idl_scope.specs.Turns.{turns_for}
-use Rattle.idl_scope.specs.declared.addition.Step.TheVariants.{Enters, Leaves}
-use Rattle.idl_scope.specs.declared.answer.Answer.{Answer}
-use Rattle.idl_scope.specs.declared.entity.Entity.{Entity}
-use Rattle.idl_scope.specs.declared.key.Key.{Key}
+use Rattle.idl_env.specs.Turns.{turns_for}
+use Rattle.idl_env.specs.declared.addition.Step.TheVariants.{Enters, Leaves}
+use Rattle.idl_env.specs.declared.answer.Answer.{Answer}
+use Rattle.idl_entity.specs.declared.entity.Entity.{Entity}
+use Rattle.idl_env.specs.declared.key.Key.{Key}
 use Rattle.idl_unit.specs.declared.unit.UnitText.{UnitText}
 
 -- behind facts, these are what a unit's verdict over them writes, or those of a file boundary

@@ -9,22 +9,23 @@ use Rattle.idl_check.specs.declared.standing.Standing.{Standing}
 use Rattle.idl_event.specs.declared.code.Code.TheVariants.{AlreadyDeclared, NameOfScope, DeclaredAfterUse, OtherForward, InheritedTwice, OtherPrefix}
 use Rattle.idl_lex.specs.Keywords.{folded}
 use Rattle.idl_memo.specs.Query.{Done, Ask, and_then}
-use Rattle.idl_scope.specs.DataType.{plain_type}
-use Rattle.idl_scope.specs.Facts.{entity_in, entity_key, is_operation, with_addition}
-use Rattle.idl_scope.specs.Kind.{kind_eq}
-use Rattle.idl_scope.specs.Lookup.{Lookup, bases_of, inherits, reached}
-use Rattle.idl_scope.specs.Path.{name_of}
-use Rattle.idl_scope.specs.declared.addition.Addition.{Addition}
-use Rattle.idl_scope.specs.declared.addition.Addition.TheVariants.{Declares}
-use Rattle.idl_scope.specs.declared.answer.Scope.{Scope}
-use Rattle.idl_scope.specs.declared.data_type.DataType.{DataType}
-use Rattle.idl_scope.specs.declared.data_type.Element.TheVariants.{Named}
-use Rattle.idl_scope.specs.declared.entity.Entity.{Entity}
-use Rattle.idl_scope.specs.declared.key.Key.TheVariants.{Declared, Introduced}
-use Rattle.idl_scope.specs.declared.kind.Kind.{Kind}
-use Rattle.idl_scope.specs.declared.kind.Kind.TheVariants.{Module, Interface, Structure, Union, Exception, Enumeration, Enumerator, Alias, Native, Constant, Attribute, Operation, Parameter, Member}
-use Rattle.idl_scope.specs.declared.kind.Stage.{Stage}
-use Rattle.idl_scope.specs.declared.kind.Stage.TheVariants.{Ahead, Begun, Open, Complete}
+use Rattle.idl_entity.specs.DataType.{plain_type}
+use Rattle.idl_entity.specs.Entity.{is_operation}
+use Rattle.idl_env.specs.Facts.{entity_in, entity_key, with_addition}
+use Rattle.idl_entity.specs.Kind.{kind_eq, inherits}
+use Rattle.idl_scope.specs.Lookup.{Lookup, bases_of, reached}
+use Rattle.idl_entity.specs.Path.{name_of}
+use Rattle.idl_env.specs.declared.addition.Addition.{Addition}
+use Rattle.idl_env.specs.declared.addition.Addition.TheVariants.{Declares}
+use Rattle.idl_env.specs.declared.answer.Scope.{Scope}
+use Rattle.idl_entity.specs.declared.data_type.DataType.{DataType}
+use Rattle.idl_entity.specs.declared.data_type.Element.TheVariants.{Named}
+use Rattle.idl_entity.specs.declared.entity.Entity.{Entity}
+use Rattle.idl_env.specs.declared.key.Key.TheVariants.{Declared, Introduced}
+use Rattle.idl_entity.specs.declared.kind.Kind.{Kind}
+use Rattle.idl_entity.specs.declared.kind.Kind.TheVariants.{Module, Interface, Structure, Union, Exception, Enumeration, Enumerator, Alias, Native, Constant, Attribute, Operation, Parameter, Member}
+use Rattle.idl_entity.specs.declared.kind.Stage.{Stage}
+use Rattle.idl_entity.specs.declared.kind.Stage.TheVariants.{Ahead, Begun, Open, Complete}
 use Rattle.idl_site.specs.declared.site.Declaration.{Declaration}
 use Rattle.idl_site.specs.declared.site.Declaration.TheVariants as declaration
 use Rattle.idl_value.specs.declared.target.Target.{Target}

@@ -13,11 +13,11 @@ use Rattle.idl_check.specs.declared.verdict.Verdict.{Verdict}
 use Rattle.idl_check.specs.declared.walk.Walker.{Walker}
 use Rattle.idl_memo.specs.Query.{Done, and_then}
 use Rattle.idl_scope.specs.Lookup.{Lookup, denoted, under}
-use Rattle.idl_scope.specs.declared.addition.Addition.TheVariants.{Identifies}
-use Rattle.idl_scope.specs.declared.addition.Step.TheVariants.{Stays}
-use Rattle.idl_scope.specs.declared.answer.Scope.{Scope}
-use Rattle.idl_scope.specs.declared.identity.FixedIdentity.{FixedIdentity}
-use Rattle.idl_scope.specs.declared.identity.Identity.{Identity}
+use Rattle.idl_env.specs.declared.addition.Addition.TheVariants.{Identifies}
+use Rattle.idl_env.specs.declared.addition.Step.TheVariants.{Stays}
+use Rattle.idl_env.specs.declared.answer.Scope.{Scope}
+use Rattle.idl_entity.specs.declared.identity.FixedIdentity.{FixedIdentity}
+use Rattle.idl_entity.specs.declared.identity.Identity.{Identity}
 use Rattle.idl_site.specs.Item.{Item, items_length}
 use Rattle.idl_site.specs.declared.site.Use.{Use}
 use Rattle.idl_tree.specs.declared.name.ScopedName.{ScopedName}

@@ -3,15 +3,15 @@ use Rattle.idl_check.specs.Rules.{has_id, may_be_ahead}
 use Rattle.std.specs.Prelude.{ℕ, ◌-◌, List, ◌∷◌, ◌++◌, decimal, length, take, Option, None, Some, if◌then◌else◌}
 use Rattle.idl_check.specs.declared.identifying.Ids.{Ids}
 use Rattle.idl_memo.specs.Query.{Done, Ask, and_then}
-use Rattle.idl_scope.specs.Facts.{identity_at, prefix_in, with_addition}
+use Rattle.idl_env.specs.Facts.{identity_at, prefix_in, with_addition}
 use Rattle.idl_scope.specs.Lookup.{Lookup}
-use Rattle.idl_scope.specs.declared.addition.Addition.{Addition}
-use Rattle.idl_scope.specs.declared.addition.Addition.TheVariants.{Appears}
-use Rattle.idl_scope.specs.declared.entity.Entity.{Entity}
-use Rattle.idl_scope.specs.declared.identity.Fixed.TheVariants.{Version, Id}
-use Rattle.idl_scope.specs.declared.identity.FixedIdentity.{FixedIdentity}
-use Rattle.idl_scope.specs.declared.identity.Identity.{Identity}
-use Rattle.idl_scope.specs.declared.key.Key.TheVariants.{Prefix as PrefixKey, IdOf}
+use Rattle.idl_env.specs.declared.addition.Addition.{Addition}
+use Rattle.idl_env.specs.declared.addition.Addition.TheVariants.{Appears}
+use Rattle.idl_entity.specs.declared.entity.Entity.{Entity}
+use Rattle.idl_entity.specs.declared.identity.Fixed.TheVariants.{Version, Id}
+use Rattle.idl_entity.specs.declared.identity.FixedIdentity.{FixedIdentity}
+use Rattle.idl_entity.specs.declared.identity.Identity.{Identity}
+use Rattle.idl_env.specs.declared.key.Key.TheVariants.{Prefix as PrefixKey, IdOf}
 
 -- with another version in place of `1.0`
 abbrev pub versioned : ℕ → ℕ → Identity → FixedIdentity

@@ -10,13 +10,13 @@ use Rattle.idl_check.specs.declared.verdict.Verdict.{Verdict}
 use Rattle.idl_event.specs.Code.{number_of}
 use Rattle.idl_lex.specs.Tokens.{Token}
 use Rattle.idl_memo.specs.Query.{outcome}
-use Rattle.idl_scope.specs.Facts.{scopes_in}
-use Rattle.idl_scope.specs.declared.addition.Step.{Step}
-use Rattle.idl_scope.specs.declared.addition.Step.TheVariants.{Opens, OpensNameless}
-use Rattle.idl_scope.specs.declared.answer.Answer.{Answer}
-use Rattle.idl_scope.specs.declared.answer.Scope.{Scope}
-use Rattle.idl_scope.specs.declared.key.Key.{Key}
-use Rattle.idl_scope.specs.declared.key.Key.TheVariants.{Cursor, Nameless}
+use Rattle.idl_env.specs.Facts.{scopes_in}
+use Rattle.idl_env.specs.declared.addition.Step.{Step}
+use Rattle.idl_env.specs.declared.addition.Step.TheVariants.{Opens, OpensNameless}
+use Rattle.idl_env.specs.declared.answer.Answer.{Answer}
+use Rattle.idl_env.specs.declared.answer.Scope.{Scope}
+use Rattle.idl_env.specs.declared.key.Key.{Key}
+use Rattle.idl_env.specs.declared.key.Key.TheVariants.{Cursor, Nameless}
 use Rattle.idl_site.specs.Item.{Item, item_length, items}
 use Rattle.idl_site.specs.Part.{Part as item}
 use Rattle.idl_site.specs.UnitParts.{unit_parts}

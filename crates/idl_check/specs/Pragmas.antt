@@ -7,19 +7,19 @@ use Rattle.idl_check.specs.Rules.{has_id, is_fixed, is_given, is_no_id, is_no_pr
 use Rattle.idl_check.specs.Using.{last_at, name_code, part_at}
 use Rattle.idl_event.specs.declared.code.Code.TheVariants.{BadIdText, NoRepositoryId, RepeatedId, RepeatedVersion}
 use Rattle.idl_memo.specs.Query.{Done, Ask, and_then}
-use Rattle.idl_scope.specs.Facts.{identity_at}
+use Rattle.idl_env.specs.Facts.{identity_at}
 use Rattle.idl_scope.specs.Lookup.{Lookup, by_result, denoted}
-use Rattle.idl_scope.specs.declared.addition.Addition.{Addition}
-use Rattle.idl_scope.specs.declared.addition.Addition.TheVariants.{Identifies}
-use Rattle.idl_scope.specs.declared.addition.Step.{Step}
-use Rattle.idl_scope.specs.declared.addition.Step.TheVariants.{Stays, Prefixes}
-use Rattle.idl_scope.specs.declared.answer.Scope.{Scope}
-use Rattle.idl_scope.specs.declared.entity.Entity.{Entity}
+use Rattle.idl_env.specs.declared.addition.Addition.{Addition}
+use Rattle.idl_env.specs.declared.addition.Addition.TheVariants.{Identifies}
+use Rattle.idl_env.specs.declared.addition.Step.{Step}
+use Rattle.idl_env.specs.declared.addition.Step.TheVariants.{Stays, Prefixes}
+use Rattle.idl_env.specs.declared.answer.Scope.{Scope}
+use Rattle.idl_entity.specs.declared.entity.Entity.{Entity}
 use Rattle.idl_scope.specs.declared.fault.NameFault.{NameFault}
 use Rattle.idl_scope.specs.declared.fault.NameFault.TheVariants.{At, Memory}
-use Rattle.idl_scope.specs.declared.identity.FixedIdentity.{FixedIdentity}
-use Rattle.idl_scope.specs.declared.identity.Identity.{Identity}
-use Rattle.idl_scope.specs.declared.key.Key.TheVariants.{IdOf}
+use Rattle.idl_entity.specs.declared.identity.FixedIdentity.{FixedIdentity}
+use Rattle.idl_entity.specs.declared.identity.Identity.{Identity}
+use Rattle.idl_env.specs.declared.key.Key.TheVariants.{IdOf}
 use Rattle.idl_tree.specs.declared.name.ScopedName.{ScopedName}
 use Rattle.idl_tree.specs.declared.pragma.Pragma.{Pragma}
 use Rattle.idl_tree.specs.declared.pragma.Pragma.TheVariants as pragma

@@ -11,17 +11,16 @@ use Rattle.idl_check.specs.Types.{may_switch}
 use Rattle.idl_check.specs.declared.identifying.Ids.{Ids}
 use Rattle.idl_check.specs.declared.standing.Standing.{Standing}
 use Rattle.idl_lex.specs.Keywords.{folded}
-use Rattle.idl_scope.specs.Identity.{fixed_eq}
-use Rattle.idl_scope.specs.Kind.{kind_eq, stage_eq}
-use Rattle.idl_scope.specs.Lookup.{is_scope}
-use Rattle.idl_scope.specs.Path.{name_of, path_eq}
-use Rattle.idl_scope.specs.declared.answer.Scope.{Scope}
-use Rattle.idl_scope.specs.declared.entity.Entity.{Entity}
-use Rattle.idl_scope.specs.declared.identity.Fixed.TheVariants.{Id}
-use Rattle.idl_scope.specs.declared.identity.Identity.{Identity}
-use Rattle.idl_scope.specs.declared.kind.Kind.{Kind}
-use Rattle.idl_scope.specs.declared.kind.Kind.TheVariants.{Module, Interface, Structure, Union, Exception, Enumeration, Enumerator, Alias, Native, Parameter, Member}
-use Rattle.idl_scope.specs.declared.kind.Stage.TheVariants.{Ahead, Complete}
+use Rattle.idl_entity.specs.Identity.{fixed_eq}
+use Rattle.idl_entity.specs.Kind.{kind_eq, stage_eq, is_scope}
+use Rattle.idl_entity.specs.Path.{name_of, path_eq}
+use Rattle.idl_env.specs.declared.answer.Scope.{Scope}
+use Rattle.idl_entity.specs.declared.entity.Entity.{Entity}
+use Rattle.idl_entity.specs.declared.identity.Fixed.TheVariants.{Id}
+use Rattle.idl_entity.specs.declared.identity.Identity.{Identity}
+use Rattle.idl_entity.specs.declared.kind.Kind.{Kind}
+use Rattle.idl_entity.specs.declared.kind.Kind.TheVariants.{Module, Interface, Structure, Union, Exception, Enumeration, Enumerator, Alias, Native, Parameter, Member}
+use Rattle.idl_entity.specs.declared.kind.Stage.TheVariants.{Ahead, Complete}
 use Rattle.idl_site.specs.declared.site.Use.{Use}
 use Rattle.idl_site.specs.declared.site.Use.TheVariants.{AsBase, AsType, AsElement, AsConstantType, AsDiscriminator, AsOperand, Raised, RaisedBySet}
 use Rattle.idl_tree.specs.declared.interface.Forward.TheVariants as forward

@@ -1,17 +1,17 @@
 -- Types: what constants may be of, what may discriminate a union, and what is not yet complete.
 use Rattle.std.specs.Prelude.{ℕ, zero, suc, Bool, true, false, List, Option, None, Some, if◌then◌else◌}
 use Rattle.idl_memo.specs.Query.{Done, Ask}
-use Rattle.idl_scope.specs.DataType.{constants_in, named_in, plain_type, with_layer}
-use Rattle.idl_scope.specs.Facts.{entity_in, entity_key}
-use Rattle.idl_scope.specs.Kind.{kind_eq}
+use Rattle.idl_entity.specs.DataType.{constants_in, named_in, plain_type, with_layer}
+use Rattle.idl_env.specs.Facts.{entity_in, entity_key}
+use Rattle.idl_entity.specs.Kind.{kind_eq}
 use Rattle.idl_scope.specs.Lookup.{Lookup}
-use Rattle.idl_scope.specs.declared.data_type.DataType.{DataType}
-use Rattle.idl_scope.specs.declared.data_type.Element.{Element}
-use Rattle.idl_scope.specs.declared.data_type.Element.TheVariants.{Constants, Named, Unvalued}
-use Rattle.idl_scope.specs.declared.data_type.Layer.TheVariants.{Sequence}
-use Rattle.idl_scope.specs.declared.unvalued.Unvalued.TheVariants.{Float, Double, LongDouble, Any, Object}
-use Rattle.idl_scope.specs.declared.entity.Entity.{Entity}
-use Rattle.idl_scope.specs.declared.kind.Kind.TheVariants.{Enumeration, Alias}
+use Rattle.idl_entity.specs.declared.data_type.DataType.{DataType}
+use Rattle.idl_entity.specs.declared.data_type.Element.{Element}
+use Rattle.idl_entity.specs.declared.data_type.Element.TheVariants.{Constants, Named, Unvalued}
+use Rattle.idl_entity.specs.declared.data_type.Layer.TheVariants.{Sequence}
+use Rattle.idl_entity.specs.declared.unvalued.Unvalued.TheVariants.{Float, Double, LongDouble, Any, Object}
+use Rattle.idl_entity.specs.declared.entity.Entity.{Entity}
+use Rattle.idl_entity.specs.declared.kind.Kind.TheVariants.{Enumeration, Alias}
 use Rattle.idl_site.specs.declared.site.Shape.{Shape}
 use Rattle.idl_site.specs.declared.site.Shape.TheVariants as shape
 use Rattle.idl_site.specs.declared.site.Use.{Use}

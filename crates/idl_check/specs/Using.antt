@@ -10,15 +10,15 @@ use Rattle.idl_check.specs.Values.{Values, with_operand}
 use Rattle.idl_event.specs.declared.code.Code.{Code}
 use Rattle.idl_event.specs.declared.code.Code.TheVariants as code
 use Rattle.idl_lex.specs.Keywords.{folded}
-use Rattle.idl_scope.specs.DataType.{plain_type}
-use Rattle.idl_scope.specs.Facts.{joined, with_addition}
-use Rattle.idl_scope.specs.Path.{name_of}
-use Rattle.idl_scope.specs.declared.addition.Addition.{Addition}
-use Rattle.idl_scope.specs.declared.addition.Addition.TheVariants.{Uses}
-use Rattle.idl_scope.specs.declared.answer.Scope.{Scope}
-use Rattle.idl_scope.specs.declared.data_type.DataType.{DataType}
-use Rattle.idl_scope.specs.declared.data_type.Element.TheVariants.{Named}
-use Rattle.idl_scope.specs.declared.entity.Entity.{Entity}
+use Rattle.idl_entity.specs.DataType.{plain_type}
+use Rattle.idl_env.specs.Facts.{joined, with_addition}
+use Rattle.idl_entity.specs.Path.{name_of}
+use Rattle.idl_env.specs.declared.addition.Addition.{Addition}
+use Rattle.idl_env.specs.declared.addition.Addition.TheVariants.{Uses}
+use Rattle.idl_env.specs.declared.answer.Scope.{Scope}
+use Rattle.idl_entity.specs.declared.data_type.DataType.{DataType}
+use Rattle.idl_entity.specs.declared.data_type.Element.TheVariants.{Named}
+use Rattle.idl_entity.specs.declared.entity.Entity.{Entity}
 use Rattle.idl_scope.specs.declared.fault.NameCode.{NameCode}
 use Rattle.idl_scope.specs.declared.fault.NameCode.TheVariants.{Undeclared, Ambiguous, OtherSpelling, NoScope}
 use Rattle.idl_site.specs.declared.site.Use.{Use}

@@ -13,12 +13,12 @@ use Rattle.idl_event.specs.declared.code.Code.TheVariants.{NoTree, MisplacedUnit
 use Rattle.idl_lex.specs.Keywords.{folded}
 use Rattle.idl_lex.specs.Tokens.{Token}
 use Rattle.idl_memo.specs.Query.{Done, Ask, and_then}
-use Rattle.idl_scope.specs.Facts.{path_around, scopes_in}
+use Rattle.idl_env.specs.Facts.{path_around, scopes_in}
 use Rattle.idl_scope.specs.Lookup.{Lookup, outward}
-use Rattle.idl_scope.specs.declared.addition.Step.{Step}
-use Rattle.idl_scope.specs.declared.addition.Step.TheVariants.{Stays, Opens}
-use Rattle.idl_scope.specs.declared.answer.Scope.{Scope}
-use Rattle.idl_scope.specs.declared.key.Key.TheVariants.{Cursor, Opened, Nameless}
+use Rattle.idl_env.specs.declared.addition.Step.{Step}
+use Rattle.idl_env.specs.declared.addition.Step.TheVariants.{Stays, Opens}
+use Rattle.idl_env.specs.declared.answer.Scope.{Scope}
+use Rattle.idl_env.specs.declared.key.Key.TheVariants.{Cursor, Opened, Nameless}
 use Rattle.idl_site.specs.Item.{Item, items}
 use Rattle.idl_site.specs.Part.{Part as item}
 use Rattle.idl_site.specs.UnitParts.{unit_parts}

@@ -14,21 +14,21 @@ use Rattle.idl_event.specs.declared.code.Code.{Code}
 use Rattle.idl_event.specs.declared.code.Code.TheVariants as code
 use Rattle.idl_lex.specs.Keywords.{folded}
 use Rattle.idl_memo.specs.Query.{Done, and_then}
-use Rattle.idl_scope.specs.DataType.{plain_type}
-use Rattle.idl_scope.specs.Facts.{with_addition}
-use Rattle.idl_scope.specs.Kind.{kind_eq, stage_eq}
-use Rattle.idl_scope.specs.Lookup.{Lookup, by_result, denoted, is_scope, under}
-use Rattle.idl_scope.specs.Turns.{turns_among}
-use Rattle.idl_scope.specs.declared.addition.Addition.{Addition}
-use Rattle.idl_scope.specs.declared.addition.Addition.TheVariants.{Declares}
-use Rattle.idl_scope.specs.declared.answer.Scope.{Scope}
-use Rattle.idl_scope.specs.declared.data_type.Element.TheVariants.{Constants, Named}
-use Rattle.idl_scope.specs.declared.entity.Entity.{Entity}
+use Rattle.idl_entity.specs.DataType.{plain_type}
+use Rattle.idl_env.specs.Facts.{with_addition}
+use Rattle.idl_entity.specs.Kind.{kind_eq, stage_eq, is_scope}
+use Rattle.idl_scope.specs.Lookup.{Lookup, by_result, denoted, under}
+use Rattle.idl_env.specs.Turns.{turns_among}
+use Rattle.idl_env.specs.declared.addition.Addition.{Addition}
+use Rattle.idl_env.specs.declared.addition.Addition.TheVariants.{Declares}
+use Rattle.idl_env.specs.declared.answer.Scope.{Scope}
+use Rattle.idl_entity.specs.declared.data_type.Element.TheVariants.{Constants, Named}
+use Rattle.idl_entity.specs.declared.entity.Entity.{Entity}
 use Rattle.idl_scope.specs.declared.fault.NameFault.{NameFault}
 use Rattle.idl_scope.specs.declared.fault.NameFault.TheVariants.{At, Memory}
 use Rattle.idl_scope.specs.declared.found.Found.{Found}
-use Rattle.idl_scope.specs.declared.kind.Kind.TheVariants.{Constant, Interface, Union}
-use Rattle.idl_scope.specs.declared.kind.Stage.TheVariants.{Begun}
+use Rattle.idl_entity.specs.declared.kind.Kind.TheVariants.{Constant, Interface, Union}
+use Rattle.idl_entity.specs.declared.kind.Stage.TheVariants.{Begun}
 use Rattle.idl_site.specs.Item.{Item, item_length}
 use Rattle.idl_site.specs.Part.{Part as item}
 use Rattle.idl_site.specs.declared.site.Declaration.{Declaration}

@@ -7,15 +7,15 @@ ghost use Rattle.std.specs.Str.{bytes_eq};
 ghost use Rattle.idl_check.specs.Codes.{codes_in};
 ghost use Rattle.idl_check.specs.Using.{base_table, no_bases, with_base, with_operation};
 ghost use Rattle.idl_check.specs.Rules.{is_another};
-ghost use Rattle.idl_scope.specs.Facts.{joined};
-ghost use Rattle.idl_scope.specs.Path.{path_eq};
+ghost use Rattle.idl_env.specs.Facts.{joined};
+ghost use Rattle.idl_entity.specs.Path.{path_eq};
 ghost use Rattle.idl_unit.specs.TokenRules.{first};
 
 use crate::codes::first_code;
 use idl_base::{Bytes, Seq};
+use idl_entity::{Entity, Path, Stage};
 use idl_event::Code;
 use idl_map::{SharedList, Table};
-use idl_scope::{Entity, Path, Stage};
 use std::alloc::{AllocError, Global};
 use std::marker::Model;
 

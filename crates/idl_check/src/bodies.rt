@@ -1,13 +1,13 @@
 //! What is told inside a unit of what it declares: the members of scopes, and what clauses say.
 
 ghost use Rattle.std.specs.Prelude.{◌≡◌, ◌∷◌, ◌++◌, ◌&&◌, [], IfNone, IfOk, OnOk, drop, option_to_list};
-ghost use Rattle.idl_scope.specs.Kind.{kind_eq};
-ghost use Rattle.idl_scope.specs.declared.kind.Kind.TheVariants.{Attribute};
+ghost use Rattle.idl_entity.specs.Kind.{kind_eq};
+ghost use Rattle.idl_entity.specs.declared.kind.Kind.TheVariants.{Attribute};
 ghost use Rattle.idl_check.specs.Bodies.{begun_body, comes_out, goes_in, is_member, is_nothing, nested, no_clauses, raises, raising, signature_of, told_body, told_innermost, with_array_body, with_array_type, with_body_label, with_context, with_last_type, with_member, with_name, with_next_label, with_raised};
 
 use crate::last_type::LastType;
-use idl_base::Seq;
-use idl_scope::{DataType, Entity, Kind, Member, Path, Shared, Signature, Stage};
+use idl_base::{Seq, Shared};
+use idl_entity::{DataType, Entity, Kind, Member, Path, Signature, Stage};
 use idl_site::{Declaration, Use};
 use idl_tree::{Direction, Several};
 use idl_value::{Value, joined};

@@ -3,7 +3,7 @@
 ghost use Rattle.std.specs.Prelude.{◌≡◌, ◌∷◌, OnOk, drop, slice_get};
 ghost use Rattle.std.specs.Option.{option_copied, unwrap_or};
 
-use idl_scope::{OpenScopes, Scope};
+use idl_env::{OpenScopes, Scope};
 use std::alloc::{AllocError, Global};
 use std::marker::Model;
 
@@ -18,7 +18,7 @@ pub struct Cursor<'a> {
 impl<'a> Model for Cursor<'a> {
     ghost use Rattle.std.specs.Option.{unwrap_or};
     ghost use Rattle.std.specs.Prelude.{List};
-    ghost use Rattle.idl_scope.specs.declared.answer.Scope.{Scope};
+    ghost use Rattle.idl_env.specs.declared.answer.Scope.{Scope};
 
     ghost Value = { List Scope };
 

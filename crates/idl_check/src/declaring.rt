@@ -5,8 +5,8 @@ ghost use Rattle.idl_check.specs.Declaring.{data_type_in, declared_table, entity
 ghost use Rattle.idl_check.specs.Rules.{are_modules, come_ahead, differs, is_name_of_scope, may_be_ahead, may_follow};
 ghost use Rattle.idl_check.specs.Held.{held_written};
 ghost use Rattle.idl_check.specs.Bodies.{array_of};
-ghost use Rattle.idl_scope.specs.DataType.{plain_type};
-ghost use Rattle.idl_scope.specs.declared.data_type.Element.TheVariants.{Named};
+ghost use Rattle.idl_entity.specs.DataType.{plain_type};
+ghost use Rattle.idl_entity.specs.declared.data_type.Element.TheVariants.{Named};
 ghost use Rattle.idl_check.specs.Codes.{codes_in};
 ghost use Rattle.idl_unit.specs.TokenRules.{first};
 
@@ -16,11 +16,10 @@ use crate::identifying::{is_of_other_prefix, may_be_ahead};
 use crate::last_type::LastType;
 use crate::standing::Standing;
 use crate::types::names_of;
-use idl_base::{Bytes, Seq};
+use idl_base::{Bytes, Seq, Shared};
+use idl_entity::{DataType, Entity, EntityParts, Kind, Nature, Path, Stage};
+use idl_env::{Addition, Facts, Scope};
 use idl_event::Code;
-use idl_scope::{
-    Addition, DataType, Entity, EntityParts, Facts, Kind, Nature, Path, Scope, Shared, Stage,
-};
 use idl_site::Declaration;
 use idl_value::{Target, Value};
 use std::alloc::{AllocError, Global};

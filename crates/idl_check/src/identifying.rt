@@ -5,15 +5,15 @@ ghost use Rattle.std.specs.Str.{bytes_eq};
 ghost use Rattle.idl_check.specs.Identifying.{given, id_before, ids_of, versioned};
 ghost use Rattle.idl_check.specs.Rules.{has_id, has_other_prefix, is_fixed, is_given, is_id, is_visible, may_be_ahead};
 ghost use Rattle.idl_memo.specs.Query.{run};
-ghost use Rattle.idl_scope.specs.Facts.{answers};
-ghost use Rattle.idl_scope.specs.Key.{key_eq};
+ghost use Rattle.idl_env.specs.Facts.{answers};
+ghost use Rattle.idl_env.specs.Key.{key_eq};
 ghost use Rattle.idl_scope.specs.Lookup.{under};
 
-use idl_base::Bytes;
+use idl_base::{Bytes, Shared};
+use idl_entity::{Entity, Fixed, FixedIdentity, Identity, Kind, Prefix, shared_name};
+use idl_env::Env;
 use idl_memo::Journal;
-use idl_scope::{
-    Entity, Env, Fixed, FixedIdentity, Identity, Kind, Prefix, Shared, View, shared_name,
-};
+use idl_scope::View;
 use itoa::Buffer;
 use std::alloc::{AllocError, Global};
 

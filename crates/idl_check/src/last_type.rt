@@ -2,10 +2,11 @@
 
 ghost use Rattle.std.specs.Prelude.{◌≡◌, IfOk, None, Some};
 ghost use Rattle.idl_check.specs.Types.{named_or_told};
-ghost use Rattle.idl_scope.specs.DataType.{plain_type};
-ghost use Rattle.idl_scope.specs.declared.data_type.Element.TheVariants.{Named};
+ghost use Rattle.idl_entity.specs.DataType.{plain_type};
+ghost use Rattle.idl_entity.specs.declared.data_type.Element.TheVariants.{Named};
 
-use idl_scope::{DataType, Element, Path, Shared};
+use idl_base::Shared;
+use idl_entity::{DataType, Element, Path};
 use std::alloc::{AllocError, Global};
 use std::marker::Model;
 
@@ -28,7 +29,7 @@ impl Drop for LastType {
 impl Model for LastType {
     ghost use Rattle.std.specs.Prelude.{Option};
     ghost use Rattle.idl_check.specs.Types.{named_or_told};
-    ghost use Rattle.idl_scope.specs.declared.data_type.DataType.{DataType};
+    ghost use Rattle.idl_entity.specs.declared.data_type.DataType.{DataType};
 
     ghost Value = { Option DataType };
 

@@ -4,18 +4,18 @@ ghost use Rattle.std.specs.Prelude.{◌≡◌, ◌≤◌, ◌+◌, ◌∷◌, �
 ghost use Rattle.idl_check.specs.Codes.{codes_in};
 ghost use Rattle.idl_check.specs.Declaring.{declared_table, stays};
 ghost use Rattle.idl_check.specs.Identifying.{with_identity};
-ghost use Rattle.idl_scope.specs.declared.addition.Addition.TheVariants.{Declares};
-ghost use Rattle.idl_scope.specs.declared.answer.Scope.{Scope as ScopeAround};
+ghost use Rattle.idl_env.specs.declared.addition.Addition.TheVariants.{Declares};
+ghost use Rattle.idl_env.specs.declared.answer.Scope.{Scope as ScopeAround};
 ghost use Rattle.idl_check.specs.Held.{HasRoomFor, given_noted, head_noted, held, held_values, held_written, used_noted, visited};
 ghost use Rattle.idl_check.specs.Types.{constants_of};
 ghost use Rattle.idl_check.specs.Using.{bases_after, constants_after, last_at, name_code, part_at, type_after, unions_after, values_after};
 ghost use Rattle.idl_check.specs.Walk.{declared_visit, is_begun, noted, noted_in, unions_without, used_visit};
 ghost use Rattle.idl_memo.specs.Query.{run};
-ghost use Rattle.idl_scope.specs.Facts.{answers, with_addition};
-ghost use Rattle.idl_scope.specs.Key.{key_eq};
-ghost use Rattle.idl_scope.specs.DataType.{plain_type};
-ghost use Rattle.idl_scope.specs.declared.data_type.Element.TheVariants.{Named};
-ghost use Rattle.idl_scope.specs.Turns.{turns_for};
+ghost use Rattle.idl_env.specs.Facts.{answers, with_addition};
+ghost use Rattle.idl_env.specs.Key.{key_eq};
+ghost use Rattle.idl_entity.specs.DataType.{plain_type};
+ghost use Rattle.idl_entity.specs.declared.data_type.Element.TheVariants.{Named};
+ghost use Rattle.idl_env.specs.Turns.{turns_for};
 ghost use Rattle.idl_site.specs.Item.{item_length};
 ghost use Rattle.idl_site.specs.Part.{Part as item};
 ghost use Rattle.idl_unit.specs.TokenRules.{fault_at, first};
@@ -28,13 +28,12 @@ use crate::standing::{Standing, standing_of};
 use crate::types::{constants_of, looked_through};
 use crate::using::{Denoted, Denoting, introduce, last_at, name_code, part_at, used_code};
 use crate::walk::Walker;
-use idl_base::{Bytes, Seq};
+use idl_base::{Bytes, Seq, Shared};
+use idl_entity::{Entity, Kind, Path, Stage};
+use idl_env::{Addition, Env, Facts};
 use idl_event::Code;
 use idl_memo::Journal;
-use idl_scope::{
-    Addition, Entity, Env, Facts, Found, Kind, NameCode, NameFault, Path, Shared, Stage,
-    Standpoint, View, resolve,
-};
+use idl_scope::{Found, NameCode, NameFault, Standpoint, View, resolve};
 use idl_site::{Declaration, Use};
 use idl_tree::ScopedName;
 use idl_value::Target;

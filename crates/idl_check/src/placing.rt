@@ -3,13 +3,14 @@
 ghost use Rattle.std.specs.Prelude.{◌≡◌, IfOk, if◌then◌else◌, option_to_list};
 ghost use Rattle.idl_check.specs.Placing.{brace_from, faulty_step, heading_kind, is_closing_by, is_module, opened_kind, opening_brace, opening_faults, step_of};
 ghost use Rattle.idl_check.specs.Rules.{depth, is_interface, is_misplaced};
-ghost use Rattle.idl_scope.specs.declared.addition.Step.TheVariants as steps;
+ghost use Rattle.idl_env.specs.declared.addition.Step.TheVariants as steps;
 ghost use Rattle.idl_unit.specs.Ending.{begins, opens};
 
 use crate::declaring::path_in;
+use idl_entity::{Kind, Path};
+use idl_env::{Facts, OpenScopes, Step};
 use idl_event::Code;
 use idl_lex::Token;
-use idl_scope::{Facts, Kind, OpenScopes, Path, Step};
 use idl_tree::{Forward, Tree};
 use idl_unit::{Fault, Role, Rule, role_of, rule_of};
 use std::alloc::{AllocError, Global};

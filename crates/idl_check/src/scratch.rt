@@ -1,6 +1,6 @@
 //! What verdicts are made in.
 
-use idl_scope::Room;
+use idl_env::Room;
 use std::alloc::Global;
 
 /// What the verdicts of many units are made in, one after another. A verdict is the same whatever stands there.

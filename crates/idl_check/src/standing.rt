@@ -6,16 +6,20 @@ ghost use Rattle.std.specs.List.{list_any};
 ghost use Rattle.idl_check.specs.Declaring.{inherited, standing};
 ghost use Rattle.idl_memo.specs.Query.{Done, and_then, noted, run};
 ghost use Rattle.idl_lex.specs.Keywords.{folded};
-ghost use Rattle.idl_scope.specs.Facts.{answers, entity_in, entity_key, is_operation, over};
-ghost use Rattle.idl_scope.specs.Key.{key_eq};
+ghost use Rattle.idl_entity.specs.Entity.{is_operation};
+ghost use Rattle.idl_env.specs.Facts.{answers, entity_in, entity_key, over};
+ghost use Rattle.idl_env.specs.Key.{key_eq};
 ghost use Rattle.idl_scope.specs.Lookup.{bases_of, under};
-ghost use Rattle.idl_scope.specs.Path.{name_of, scope_of};
-ghost use Rattle.idl_scope.specs.declared.key.Key.TheVariants.{Introduced};
-ghost use Rattle.idl_scope.specs.Turns.{HasTurnsFor};
+ghost use Rattle.idl_entity.specs.Path.{name_of, scope_of};
+ghost use Rattle.idl_env.specs.declared.key.Key.TheVariants.{Introduced};
+ghost use Rattle.idl_env.specs.Turns.{HasTurnsFor};
 
 use crate::identifying::{Ids, ids_of};
+use idl_base::Shared;
+use idl_entity::{Entity, Path};
+use idl_env::{Env, LentKey, Scope};
 use idl_memo::Journal;
-use idl_scope::{Entity, Env, LentKey, Path, Scope, Shared, View};
+use idl_scope::View;
 use std::alloc::AllocError;
 
 /// What stands under a folded name in the scope in which it is declared.

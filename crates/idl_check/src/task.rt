@@ -3,16 +3,16 @@
 ghost use Rattle.std.specs.Prelude.{◌≡◌, ◌≤◌, ℕ, IfOk};
 ghost use Rattle.idl_check.specs.Verdict.{verdict};
 ghost use Rattle.idl_memo.specs.Query.{run};
-ghost use Rattle.idl_scope.specs.Facts.{answers};
-ghost use Rattle.idl_scope.specs.Key.{key_eq};
-ghost use Rattle.idl_scope.specs.Turns.{turns_for};
+ghost use Rattle.idl_env.specs.Facts.{answers};
+ghost use Rattle.idl_env.specs.Key.{key_eq};
+ghost use Rattle.idl_env.specs.Turns.{turns_for};
 
 use crate::judge::Judge;
 use crate::pragmas::Speaker;
 use crate::scratch::Scratch;
 use crate::verdict::Verdict;
+use idl_env::{DigestedKey, Env, OpenScopes, scopes_in};
 use idl_memo::Journal;
-use idl_scope::{DigestedKey, Env, OpenScopes, scopes_in};
 use idl_unit::UnitText;
 use std::alloc::AllocError;
 

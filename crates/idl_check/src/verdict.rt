@@ -3,7 +3,7 @@
 ghost use Rattle.std.specs.Prelude.{◌≡◌, [], IfOk, None};
 
 use idl_base::Bytes;
-use idl_scope::{Facts, Step, Writes};
+use idl_env::{Facts, Step, Writes};
 use idl_unit::Fault;
 use std::alloc::{AllocError, Global};
 

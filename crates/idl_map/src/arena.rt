@@ -7,8 +7,9 @@ ghost use Rattle.idl_map.specs.Buckets.{IsSpot};
 ghost use Rattle.idl_map.specs.Entries.{IsSound, entries_of};
 
 use crate::bits::{lowest, without};
+use crate::digest::Digest;
 use crate::index::{Index, Spot};
-use crate::{Digest, Lent};
+use crate::lent::Lent;
 use idl_base::Datum;
 use std::alloc::{AllocError, Global};
 use std::collections::BTreeMap;

@@ -2,7 +2,7 @@
 
 ghost use Rattle.std.specs.Prelude.{◌≡◌, IfOk};
 
-use crate::Digest;
+use crate::digest::Digest;
 use std::alloc::AllocError;
 
 /// What stands for a key, so that the key can be looked for and isn't made.

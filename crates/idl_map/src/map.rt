@@ -5,7 +5,8 @@ ghost use Rattle.std.specs.Map.{lookup};
 ghost use Rattle.std.specs.Option.{option_copied};
 
 use crate::arena::Arena;
-use crate::{Digest, Lent};
+use crate::digest::Digest;
+use crate::lent::Lent;
 use idl_base::Datum;
 use std::alloc::{AllocError, Global};
 use std::marker::Model;

@@ -6,7 +6,8 @@ ghost use Rattle.std.specs.Map.{keys_of, lookup};
 ghost use Rattle.std.specs.Option.{option_copied, option_map, option_to_list};
 ghost use Rattle.idl_map.specs.Table.{AreDistinct, IsIndexOf, insert_entry, places_in};
 
-use crate::{Digest, Map};
+use crate::digest::Digest;
+use crate::map::Map;
 use std::alloc::{AllocError, Global};
 use std::marker::Model;
 

@@ -6,7 +6,8 @@ ghost use Rattle.std.specs.Option.{option_eq};
 ghost use Rattle.idl_memo.specs.Fresh.{alike_among, asked_among, compared_among, fresh_among, is_alike, stale_among};
 ghost use Rattle.idl_memo.specs.Query.{Agree, asked};
 
-use crate::{Bank, Task};
+use crate::bank::Bank;
+use crate::task::Task;
 
 /// How many tasks are fresh, where no two places of a project have one text.
 ///

@@ -8,8 +8,7 @@ use Rattle.clap.specs.Faults.{action_fault, built_fault, bundle_step_fault, coun
 use Rattle.clap.specs.Kinds.{check_kinds, or_else, range_kinds, request_kinds, value_kinds, values_kinds}
 use Rattle.clap.specs.Lexer.{long_of, short_of}
 use Rattle.clap.specs.Simple.{argument_words, built}
-use Rattle.clap.specs.Walk.{Held, Row, Rule, Step, Text, Waiting, Walk, action_of, arg_by_id, arg_by_index, arg_by_long, arg_by_short, attached_value, has_row, most_values, nothing_held, reacted, settled, subcommand_met, takes_values, values_or_missing, walk, walk_from, walked, with_default, word_met}
-use Rattle.clap.specs.Walk.{idle, next, option, positional, subcommand, trailing, value}
+use Rattle.clap.specs.Walk.{Held, Row, Rule, Step, Text, Waiting, Walk, action_of, arg_by_id, arg_by_index, arg_by_long, arg_by_short, attached_value, has_row, most_values, nothing_held, reacted, settled, subcommand_met, takes_values, values_or_missing, walk, walk_from, walked, with_default, word_met, idle, next, option, positional, subcommand, trailing, value}
 use Rattle.clap.specs.Words.{App, IsAmong, Kinds, Shape, fault_of}
 use Rattle.clap.specs.declared.builder.action.ArgAction.{ArgAction}
 use Rattle.clap.specs.declared.builder.action.ArgAction.TheVariants as action

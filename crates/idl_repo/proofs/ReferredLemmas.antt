@@ -8,14 +8,14 @@ use Rattle.idl_repo.specs.Row.{attribute_pieces, bases_pieces, coded_pieces, con
 use Rattle.idl_repo.specs.TypeCode.{code_pieces, element_pieces, entries_of, entry_pieces, kind_in, labelled_pieces, listed_value, member_pieces, members_of, part_pieces, reference, type_behind, type_pieces, typed_pieces}
 use Rattle.idl_repo.specs.declared.type_code.TypeCodeKind.{TypeCodeKind}
 use Rattle.idl_repo.specs.declared.type_code.TypeCodeKind.TheVariants as code
-use Rattle.idl_scope.specs.Kind.{kind_eq}
-use Rattle.idl_scope.specs.declared.data_type.DataType.{DataType}
-use Rattle.idl_scope.specs.declared.data_type.Element.{Element}
-use Rattle.idl_scope.specs.declared.data_type.Element.TheVariants as element
-use Rattle.idl_scope.specs.declared.entity.Entity.{Entity}
-use Rattle.idl_scope.specs.declared.key.Key.TheVariants as key
-use Rattle.idl_scope.specs.declared.kind.Kind.TheVariants as kind
-use Rattle.idl_scope.specs.declared.signature.Member.{Member}
+use Rattle.idl_entity.specs.Kind.{kind_eq}
+use Rattle.idl_entity.specs.declared.data_type.DataType.{DataType}
+use Rattle.idl_entity.specs.declared.data_type.Element.{Element}
+use Rattle.idl_entity.specs.declared.data_type.Element.TheVariants as element
+use Rattle.idl_entity.specs.declared.entity.Entity.{Entity}
+use Rattle.idl_env.specs.declared.key.Key.TheVariants as key
+use Rattle.idl_entity.specs.declared.kind.Kind.TheVariants as kind
+use Rattle.idl_entity.specs.declared.signature.Member.{Member}
 use Rattle.idl_value.specs.declared.value.Value.{Value}
 
 -- pieces tell the ids of these paths, in order

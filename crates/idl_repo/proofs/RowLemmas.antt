@@ -7,15 +7,15 @@ use Rattle.idl_repo.specs.Pieces.{Grows, Pieces, Says, State}
 use Rattle.idl_repo.specs.Row.{attribute_pieces, bases_pieces, behind_id, coded_pieces, constant_pieces, operation_pieces}
 use Rattle.idl_repo.specs.TypeCode.{code_head, code_kind, code_pieces, code_word, kind_in, rest_pieces}
 use Rattle.idl_repo.specs.declared.type_code.TypeCodeKind.{TypeCodeKind}
-use Rattle.idl_scope.specs.Facts.{UnitFacts, answers, id_at}
-use Rattle.idl_scope.specs.Key.{key_eq}
-use Rattle.idl_scope.specs.Kind.{kind_eq}
-use Rattle.idl_scope.specs.declared.answer.Answer.{Answer}
-use Rattle.idl_scope.specs.declared.entity.Entity.{Entity}
-use Rattle.idl_scope.specs.declared.key.Key.{Key}
-use Rattle.idl_scope.specs.declared.key.Key.TheVariants as key
-use Rattle.idl_scope.specs.declared.kind.Kind.{Kind}
-use Rattle.idl_scope.specs.declared.kind.Kind.TheVariants as kind
+use Rattle.idl_env.specs.Facts.{UnitFacts, answers, id_at}
+use Rattle.idl_env.specs.Key.{key_eq}
+use Rattle.idl_entity.specs.Kind.{kind_eq}
+use Rattle.idl_env.specs.declared.answer.Answer.{Answer}
+use Rattle.idl_entity.specs.declared.entity.Entity.{Entity}
+use Rattle.idl_env.specs.declared.key.Key.{Key}
+use Rattle.idl_env.specs.declared.key.Key.TheVariants as key
+use Rattle.idl_entity.specs.declared.kind.Kind.{Kind}
+use Rattle.idl_entity.specs.declared.kind.Kind.TheVariants as kind
 
 -- what has a TypeCode is no constant, attribute or operation
 by-kind : (k : Kind) (is_local : Bool) (code : TypeCodeKind) (a b c d : Pieces) → code_kind k is_local ≡ Some code → (if kind_eq k kind.Constant then a else if kind_eq k kind.Attribute then b else if kind_eq k kind.Operation then c else d) ≡ d

@@ -8,12 +8,12 @@ use Rattle.idl_repo.specs.Pieces.{written}
 use Rattle.idl_repo.specs.Row.{row_pieces}
 use Rattle.idl_repo.specs.declared.entry.Entry.{Entry}
 use Rattle.idl_repo.specs.declared.entry.Pushed.{Pushed}
-use Rattle.idl_scope.specs.Facts.{entity_in, entity_key}
-use Rattle.idl_scope.specs.Kind.{kind_eq, stage_eq}
+use Rattle.idl_env.specs.Facts.{entity_in, entity_key}
+use Rattle.idl_entity.specs.Kind.{kind_eq, stage_eq}
 use Rattle.idl_scope.specs.Lookup.{Lookup}
-use Rattle.idl_scope.specs.declared.entity.Entity.{Entity as ScopeEntity}
-use Rattle.idl_scope.specs.declared.kind.Kind.TheVariants.{Interface}
-use Rattle.idl_scope.specs.declared.kind.Stage.TheVariants.{Ahead}
+use Rattle.idl_entity.specs.declared.entity.Entity.{Entity as ScopeEntity}
+use Rattle.idl_entity.specs.declared.kind.Kind.TheVariants.{Interface}
+use Rattle.idl_entity.specs.declared.kind.Stage.TheVariants.{Ahead}
 
 -- a struct or union that is declared ahead and never defined is an error, and an interface a warning
 abbrev pub closing_fault : ScopeEntity → Option Code

@@ -5,13 +5,13 @@ use Rattle.idl_repo.specs.Row.{raised_by_set_of, raised_of}
 use Rattle.idl_repo.specs.TypeCode.{kind_in, members_of}
 use Rattle.idl_repo.specs.declared.type_code.TypeCodeKind.{TypeCodeKind}
 use Rattle.idl_repo.specs.declared.type_code.TypeCodeKind.TheVariants as code
-use Rattle.idl_scope.specs.Kind.{kind_eq}
-use Rattle.idl_scope.specs.declared.data_type.DataType.{DataType}
-use Rattle.idl_scope.specs.declared.data_type.Element.{Element}
-use Rattle.idl_scope.specs.declared.data_type.Element.TheVariants as element
-use Rattle.idl_scope.specs.declared.entity.Entity.{Entity}
-use Rattle.idl_scope.specs.declared.kind.Kind.TheVariants as kind
-use Rattle.idl_scope.specs.declared.signature.Member.{Member}
+use Rattle.idl_entity.specs.Kind.{kind_eq}
+use Rattle.idl_entity.specs.declared.data_type.DataType.{DataType}
+use Rattle.idl_entity.specs.declared.data_type.Element.{Element}
+use Rattle.idl_entity.specs.declared.data_type.Element.TheVariants as element
+use Rattle.idl_entity.specs.declared.entity.Entity.{Entity}
+use Rattle.idl_entity.specs.declared.kind.Kind.TheVariants as kind
+use Rattle.idl_entity.specs.declared.signature.Member.{Member}
 
 abbrev pub Paths : Type 0
 Paths = List (List (List ℕ))

@@ -2,11 +2,11 @@
 use Rattle.std.specs.Prelude.{ℕ, Bool, true, false, List, [], ◌∷◌, ◌++◌, codes, flat_map, None, Some, if◌then◌else◌}
 use Rattle.idl_repo.specs.Pieces.{Pieces, IdOf, Says, commas, says}
 use Rattle.idl_repo.specs.TypeCode.{code_pieces, kind_in, listed_value, members_of, reference, type_pieces, typed_pieces}
-use Rattle.idl_scope.specs.Kind.{kind_eq}
-use Rattle.idl_scope.specs.declared.entity.Entity.{Entity}
-use Rattle.idl_scope.specs.declared.kind.Kind.{Kind}
-use Rattle.idl_scope.specs.declared.kind.Kind.TheVariants as kind
-use Rattle.idl_scope.specs.declared.signature.Member.{Member}
+use Rattle.idl_entity.specs.Kind.{kind_eq}
+use Rattle.idl_entity.specs.declared.entity.Entity.{Entity}
+use Rattle.idl_entity.specs.declared.kind.Kind.{Kind}
+use Rattle.idl_entity.specs.declared.kind.Kind.TheVariants as kind
+use Rattle.idl_entity.specs.declared.signature.Member.{Member}
 use Rattle.idl_value.specs.Spelled.{value_word}
 use Rattle.idl_value.specs.declared.value.Value.TheVariants.{Text}
 

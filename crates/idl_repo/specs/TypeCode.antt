@@ -3,18 +3,18 @@ use Rattle.std.specs.Prelude.{ℕ, ◌+◌, Bool, true, false, List, [], ◌∷�
 use Rattle.idl_repo.specs.Pieces.{Pieces, IdOf, Says, says}
 use Rattle.idl_repo.specs.declared.type_code.TypeCodeKind.{TypeCodeKind}
 use Rattle.idl_repo.specs.declared.type_code.TypeCodeKind.TheVariants as code
-use Rattle.idl_scope.specs.Path.{name_of}
-use Rattle.idl_scope.specs.declared.data_type.DataType.{DataType}
-use Rattle.idl_scope.specs.declared.data_type.Element.{Element}
-use Rattle.idl_scope.specs.declared.data_type.Element.TheVariants as element
-use Rattle.idl_scope.specs.declared.data_type.Layer.{Layer}
-use Rattle.idl_scope.specs.declared.data_type.Layer.TheVariants.{Sequence, Array}
-use Rattle.idl_scope.specs.declared.unvalued.Unvalued.{Unvalued}
-use Rattle.idl_scope.specs.declared.unvalued.Unvalued.TheVariants as unvalued
-use Rattle.idl_scope.specs.declared.entity.Entity.{Entity}
-use Rattle.idl_scope.specs.declared.kind.Kind.{Kind}
-use Rattle.idl_scope.specs.declared.kind.Kind.TheVariants as kind
-use Rattle.idl_scope.specs.declared.signature.Member.{Member}
+use Rattle.idl_entity.specs.Path.{name_of}
+use Rattle.idl_entity.specs.declared.data_type.DataType.{DataType}
+use Rattle.idl_entity.specs.declared.data_type.Element.{Element}
+use Rattle.idl_entity.specs.declared.data_type.Element.TheVariants as element
+use Rattle.idl_entity.specs.declared.data_type.Layer.{Layer}
+use Rattle.idl_entity.specs.declared.data_type.Layer.TheVariants.{Sequence, Array}
+use Rattle.idl_entity.specs.declared.unvalued.Unvalued.{Unvalued}
+use Rattle.idl_entity.specs.declared.unvalued.Unvalued.TheVariants as unvalued
+use Rattle.idl_entity.specs.declared.entity.Entity.{Entity}
+use Rattle.idl_entity.specs.declared.kind.Kind.{Kind}
+use Rattle.idl_entity.specs.declared.kind.Kind.TheVariants as kind
+use Rattle.idl_entity.specs.declared.signature.Member.{Member}
 use Rattle.idl_value.specs.Spelled.{value_word}
 use Rattle.idl_value.specs.declared.integer.IntegerKind.{IntegerKind}
 use Rattle.idl_value.specs.declared.integer.IntegerKind.TheVariants as integer

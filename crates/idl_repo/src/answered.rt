@@ -3,13 +3,15 @@
 ghost use Rattle.std.specs.Prelude.{◌≡◌, IfOk};
 ghost use Rattle.idl_memo.specs.Query.{outcome};
 ghost use Rattle.idl_repo.specs.Entry.{IsPushed, entry};
-ghost use Rattle.idl_scope.specs.Facts.{answers};
+ghost use Rattle.idl_env.specs.Facts.{answers};
 
 use crate::entry::{Pushed, push_entry};
 use crate::row::kind_head;
 use crate::type_code::members_of;
+use idl_base::Shared;
+use idl_entity::{DataType, Element, Entity, Path};
+use idl_env::{Answer, Env, LentKey, entity_in};
 use idl_memo::{Bank, Journal};
-use idl_scope::{Answer, DataType, Element, Entity, Env, LentKey, Path, Shared, entity_in};
 use std::alloc::AllocError;
 use std::marker::Model;
 
@@ -26,7 +28,7 @@ pub struct Answered<'e> {
 impl<'e> Model for Answered<'e> {
     ghost use Rattle.std.specs.Prelude.{◌≡◌, List, ℕ};
     ghost use Rattle.std.specs.Option.{option_copied};
-    ghost use Rattle.idl_scope.specs.Facts.{UnitFacts, answers, entity_key};
+    ghost use Rattle.idl_env.specs.Facts.{UnitFacts, answers, entity_key};
 
     ghost Value = { List UnitFacts × List (List ℕ) };
 

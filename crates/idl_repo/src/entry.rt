@@ -4,14 +4,15 @@ ghost use Rattle.std.specs.Option.{option_copied};
 ghost use Rattle.std.specs.Prelude.{◌≡◌, IfOk, OnOk};
 ghost use Rattle.idl_memo.specs.Query.{outcome, run};
 ghost use Rattle.idl_repo.specs.Entry.{IsPushed, closing_fault, entry, entry_in, pushed_entry};
-ghost use Rattle.idl_scope.specs.Facts.{answers, entity_in};
-ghost use Rattle.idl_scope.specs.Key.{key_eq};
+ghost use Rattle.idl_env.specs.Facts.{answers, entity_in};
+ghost use Rattle.idl_env.specs.Key.{key_eq};
 
 use crate::row_writer::RowWriter;
 use idl_base::Bytes;
+use idl_entity::{Entity, Kind, Path, Stage};
+use idl_env::{Answer, Env, LentKey, entity_in};
 use idl_event::Code;
 use idl_memo::{Journal, Log, Task, TaskKind};
-use idl_scope::{Answer, Entity, Env, Kind, LentKey, Path, Stage, entity_in};
 use std::alloc::{AllocError, Global};
 
 // Most rows have no more bytes than these.

@@ -4,12 +4,13 @@ ghost use Rattle.std.specs.Prelude.{◌≡◌, ◌++◌, IfOk, OnOk, decimal};
 ghost use Rattle.std.specs.Option.{option_copied};
 ghost use Rattle.idl_memo.specs.Query.{noted};
 ghost use Rattle.idl_repo.specs.TypeCode.{listed_value};
-ghost use Rattle.idl_scope.specs.Facts.{answers};
-ghost use Rattle.idl_scope.specs.Key.{key_eq};
-ghost use Rattle.idl_scope.specs.declared.key.Key.TheVariants as key;
+ghost use Rattle.idl_env.specs.Facts.{answers};
+ghost use Rattle.idl_env.specs.Key.{key_eq};
+ghost use Rattle.idl_env.specs.declared.key.Key.TheVariants as key;
 
+use idl_entity::Path;
+use idl_env::{Answer, Env, LentKey};
 use idl_memo::Journal;
-use idl_scope::{Answer, Env, LentKey, Path};
 use idl_value::{Value, push_value};
 use itoa::Buffer;
 use std::alloc::AllocError;

@@ -9,7 +9,8 @@ use crate::piece::{id_of, push_listed};
 use crate::row_writer::RowWriter;
 use crate::type_code::{TypeCode, members_of, signature_of};
 use idl_base::Seq;
-use idl_scope::{Entity, Kind, Member, Names, Path, push_id_at};
+use idl_entity::{Entity, Kind, Member, Names, Path};
+use idl_env::push_id_at;
 use idl_value::Value;
 use std::alloc::AllocError;
 

@@ -4,8 +4,9 @@ ghost use Rattle.std.specs.Prelude.{◌≡◌, ◌∷◌, [], OnOk};
 ghost use Rattle.idl_repo.specs.Pieces.{IdOf, Writes};
 
 use crate::piece::id_of;
+use idl_entity::Path;
+use idl_env::{Env, push_id_at};
 use idl_memo::Journal;
-use idl_scope::{Env, Path, push_id_at};
 use std::alloc::AllocError;
 use std::mem::replace;
 

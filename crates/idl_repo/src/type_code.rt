@@ -4,15 +4,13 @@ ghost use Rattle.std.specs.Prelude.{◌≡◌, ◌++◌, IfOk, IfSome, OnOk, cod
 ghost use Rattle.std.specs.Option.{option_copied, option_map};
 ghost use Rattle.idl_repo.specs.Pieces.{Writes};
 ghost use Rattle.idl_repo.specs.TypeCode.{code_head, code_word, default_at, default_word, element_pieces, entries_of, enumerator_word, integer_word, kind_in, label_word, labelled_pieces, layer_end, layer_word, layers_begin, member_pieces, members_of, part_pieces, reference, rest_pieces, size_of, string_word, target_word, type_behind, type_pieces, typed_pieces, unvalued_word};
-ghost use Rattle.idl_scope.specs.Facts.{id_at};
+ghost use Rattle.idl_env.specs.Facts.{id_at};
 
 use crate::piece::{push_listed, push_number};
 use crate::row_writer::RowWriter;
-use idl_base::Bytes;
-use idl_scope::{
-    Answer, DataType, Element, Entity, Kind, Layer, Member, Path, Shared, Signature, Unvalued,
-    push_id_at,
-};
+use idl_base::{Bytes, Shared};
+use idl_entity::{DataType, Element, Entity, Kind, Layer, Member, Path, Signature, Unvalued};
+use idl_env::{Answer, push_id_at};
 use idl_value::{IntegerKind, Target, Value};
 use std::alloc::AllocError;
 

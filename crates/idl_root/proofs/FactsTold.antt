@@ -2,7 +2,7 @@
 use Rattle.std.proofs.Common.{◌≡◌, ◌⊎◌, ◌∙◌, List, [], ◌∷◌, ◌++◌, refl, sym, ap, subst, inl, inr}
 use Rattle.idl_check.specs.Closing.{AreTold, IsTold, IsTold as told}
 use Rattle.idl_root.specs.Judged.{added, facts_after}
-use Rattle.idl_scope.specs.Facts.{UnitFacts}
+use Rattle.idl_env.specs.Facts.{UnitFacts}
 use Rattle.idl_unit.specs.declared.unit.Unit.{Unit as RootUnit}
 use Rattle.idl_unit.specs.declared.unit.Unit.TheVariants as unit
 

@@ -17,18 +17,18 @@ use Rattle.idl_root.specs.declared.kept.Judgement.{Judgement}
 use Rattle.idl_root.specs.declared.kept.KeptEntry.{KeptEntry}
 use Rattle.idl_root.specs.declared.kept.KeptUnit.{KeptUnit}
 use Rattle.idl_root.specs.declared.reprinting.Reprinting.{Reprinting}
-use Rattle.idl_scope.specs.Facts.{UnitFacts, World, after, after_all, answers, entity_key, first_world, key_of, operations_among, world, with_additions}
-use Rattle.idl_scope.specs.Key.{key_digest, key_eq}
+use Rattle.idl_env.specs.Facts.{UnitFacts, World, after, after_all, answers, entity_key, first_world, key_of, operations_among, world, with_additions}
+use Rattle.idl_env.specs.Key.{key_digest, key_eq}
 use Rattle.idl_scope.specs.Lookup.{Lookup}
-use Rattle.idl_scope.specs.Outside.{AgreeOutside, AreApart, IsInnermost, WorldsAgreeAround, WorldsAgreeOutside, looked_at, looked_at_by}
-use Rattle.idl_scope.specs.declared.addition.Addition.{Addition}
-use Rattle.idl_scope.specs.declared.addition.Step.{Step}
-use Rattle.idl_scope.specs.declared.addition.Step.TheVariants.{Stays, Opens, OpensNameless, Closes, Prefixes, Enters, Leaves}
-use Rattle.idl_scope.specs.declared.answer.Answer.{Answer}
-use Rattle.idl_scope.specs.declared.answer.Scope.{Scope}
-use Rattle.idl_scope.specs.declared.key.Key.{Key}
-use Rattle.idl_scope.specs.declared.key.Key.TheVariants.{Cursor}
-use Rattle.idl_scope.specs.Turns.{turns_for}
+use Rattle.idl_env.specs.Outside.{AgreeOutside, AreApart, IsInnermost, WorldsAgreeAround, WorldsAgreeOutside, looked_at, looked_at_by}
+use Rattle.idl_env.specs.declared.addition.Addition.{Addition}
+use Rattle.idl_env.specs.declared.addition.Step.{Step}
+use Rattle.idl_env.specs.declared.addition.Step.TheVariants.{Stays, Opens, OpensNameless, Closes, Prefixes, Enters, Leaves}
+use Rattle.idl_env.specs.declared.answer.Answer.{Answer}
+use Rattle.idl_env.specs.declared.answer.Scope.{Scope}
+use Rattle.idl_env.specs.declared.key.Key.{Key}
+use Rattle.idl_env.specs.declared.key.Key.TheVariants.{Cursor}
+use Rattle.idl_env.specs.Turns.{turns_for}
 use Rattle.idl_unit.specs.declared.unit.UnitText.{UnitText}
 
 -- ---- digests

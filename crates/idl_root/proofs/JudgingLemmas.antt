@@ -9,7 +9,7 @@ use Rattle.idl_root.specs.Held.{to_come, with_gathered, with_judged, with_units}
 use Rattle.idl_root.specs.Judged.{Judged, added, facts_after, judged_after, judged_at}
 use Rattle.idl_root.specs.Printed.{listed_in}
 use Rattle.idl_root.specs.declared.judging.Gathered.{Gathered as HeldGathered}
-use Rattle.idl_scope.specs.Facts.{UnitFacts}
+use Rattle.idl_env.specs.Facts.{UnitFacts}
 use Rattle.idl_unit.specs.Units.{units_of}
 use Rattle.idl_unit.specs.declared.unit.Unit.{Unit as RootUnit}
 

@@ -15,9 +15,9 @@ use Rattle.idl_root.specs.Held.{listed_at}
 use Rattle.idl_root.specs.Printed.{Listed, first_paths, listed_with}
 use Rattle.idl_root.specs.declared.printing.Listed.{Listed as HeldListed}
 use Rattle.idl_root.specs.declared.printing.Sought.{Sought}
-use Rattle.idl_scope.proofs.PlaceLemmas.{drop-at1}
-use Rattle.idl_scope.specs.declared.addition.Addition.{Addition}
-use Rattle.idl_scope.specs.declared.addition.Addition.TheVariants.{Declares}
+use Rattle.idl_env.proofs.PlaceLemmas.{drop-at1}
+use Rattle.idl_env.specs.declared.addition.Addition.{Addition}
+use Rattle.idl_env.specs.declared.addition.Addition.TheVariants.{Declares}
 use Rattle.idl_unit.specs.declared.unit.UnitText.{UnitText}
 
 first_paths-cons : (a : Addition) (additions : List Addition) → first_paths (a ∷ additions) ≡ first_paths (a ∷ []) ++ first_paths additions

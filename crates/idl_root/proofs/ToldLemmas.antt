@@ -12,11 +12,11 @@ use Rattle.idl_memo.specs.Query.{outcome}
 use Rattle.idl_root.specs.Findings.{fault_finding, finding_at, site_of, tokens_of}
 use Rattle.idl_root.specs.Judged.{boundary, judged_after, verdict_over}
 use Rattle.idl_root.specs.Told.{IsTold}
-use Rattle.idl_scope.specs.Facts.{UnitFacts, answers}
-use Rattle.idl_scope.specs.declared.addition.Step.TheVariants.{Enters, Leaves}
-use Rattle.idl_scope.specs.declared.answer.Answer.{Answer}
-use Rattle.idl_scope.specs.declared.key.Key.{Key}
-use Rattle.idl_scope.specs.Turns.{turns_for}
+use Rattle.idl_env.specs.Facts.{UnitFacts, answers}
+use Rattle.idl_env.specs.declared.addition.Step.TheVariants.{Enters, Leaves}
+use Rattle.idl_env.specs.declared.answer.Answer.{Answer}
+use Rattle.idl_env.specs.declared.key.Key.{Key}
+use Rattle.idl_env.specs.Turns.{turns_for}
 use Rattle.idl_unit.specs.Cut.{parts}
 use Rattle.idl_unit.specs.TokenRules.{first}
 use Rattle.idl_unit.specs.Units.{spelled, stretch_ends, stretch_units, unit_in, units_of}

@@ -2,7 +2,7 @@
 use Rattle.std.specs.Prelude.{List, [], ◌∷◌}
 use Rattle.idl_root.specs.declared.added.Added.{Added}
 use Rattle.idl_root.specs.declared.added.Added.TheVariants.{Nothing, Given, Kept}
-use Rattle.idl_scope.specs.Facts.{UnitFacts}
+use Rattle.idl_env.specs.Facts.{UnitFacts}
 
 -- the facts of which it tells
 abbrev pub told_by : Added → List UnitFacts

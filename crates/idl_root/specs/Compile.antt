@@ -11,8 +11,8 @@ use Rattle.idl_root.specs.Printed.{Listed, closing_finding, entry_row, listed_in
 use Rattle.idl_root.specs.declared.compiled.Compiled.{Compiled}
 use Rattle.idl_root.specs.declared.finding.EventFinding.{EventFinding}
 use Rattle.idl_root.specs.declared.finding.Finding.{Finding}
-use Rattle.idl_scope.specs.Facts.{UnitFacts, answers, scopes_in}
-use Rattle.idl_scope.specs.declared.key.Key.TheVariants.{Cursor}
+use Rattle.idl_env.specs.Facts.{UnitFacts, answers, scopes_in}
+use Rattle.idl_env.specs.declared.key.Key.TheVariants.{Cursor}
 use Rattle.idl_unit.specs.Units.{units_of}
 
 -- what comes of a root: the facts that its units and file boundaries add, what is found, the rows

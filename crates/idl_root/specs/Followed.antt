@@ -5,10 +5,10 @@ use Rattle.idl_root.specs.declared.kept.KeptUnit.{KeptUnit}
 use Rattle.idl_root.specs.declared.following.Following.{Following}
 use Rattle.idl_root.specs.declared.keeping.Keeping.{Keeping}
 use Rattle.idl_root.specs.declared.reprinting.Reprinting.{Reprinting}
-use Rattle.idl_scope.specs.Facts.{UnitFacts, World, world}
-use Rattle.idl_scope.specs.Outside.{WorldsAgreeAround, WorldsAgreeOutside, looked_at_by}
-use Rattle.idl_scope.specs.declared.addition.Step.TheVariants.{Stays}
-use Rattle.idl_scope.specs.declared.key.Key.{Key}
+use Rattle.idl_env.specs.Facts.{UnitFacts, World, world}
+use Rattle.idl_env.specs.Outside.{WorldsAgreeAround, WorldsAgreeOutside, looked_at_by}
+use Rattle.idl_env.specs.declared.addition.Step.TheVariants.{Stays}
+use Rattle.idl_env.specs.declared.key.Key.{Key}
 
 -- no number is among both
 abbrev pub ShareNone : List ℕ → List ℕ → Type 0

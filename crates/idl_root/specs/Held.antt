@@ -7,7 +7,7 @@ use Rattle.idl_root.specs.Printed.{Listed, listed_in}
 use Rattle.idl_root.specs.declared.judging.Gathered.{Gathered as HeldGathered}
 use Rattle.idl_root.specs.declared.judging.Judging.{Judging}
 use Rattle.idl_root.specs.declared.printing.Listed.{Listed as HeldListed}
-use Rattle.idl_scope.specs.Facts.{UnitFacts}
+use Rattle.idl_env.specs.Facts.{UnitFacts}
 use Rattle.idl_unit.specs.declared.unit.Unit.{Unit as RootUnit}
 
 -- a name that has an id, as the code holds it

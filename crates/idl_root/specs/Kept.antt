@@ -9,11 +9,11 @@ use Rattle.idl_root.specs.declared.kept.Judgement.{Judgement}
 use Rattle.idl_root.specs.declared.kept.KeptEntry.{KeptEntry}
 use Rattle.idl_root.specs.declared.kept.KeptUnit.{KeptUnit}
 use Rattle.idl_root.specs.declared.kept.KeptUnit.TheVariants.{Judged, Entered, Left}
-use Rattle.idl_scope.specs.Facts.{UnitFacts, answers}
-use Rattle.idl_scope.specs.Key.{key_digest}
-use Rattle.idl_scope.specs.Turns.{turns_for}
-use Rattle.idl_scope.specs.declared.addition.Step.TheVariants.{Enters, Leaves}
-use Rattle.idl_scope.specs.declared.key.Key.{Key}
+use Rattle.idl_env.specs.Facts.{UnitFacts, answers}
+use Rattle.idl_env.specs.Key.{key_digest}
+use Rattle.idl_env.specs.Turns.{turns_for}
+use Rattle.idl_env.specs.declared.addition.Step.TheVariants.{Enters, Leaves}
+use Rattle.idl_env.specs.declared.key.Key.{Key}
 use Rattle.idl_unit.specs.declared.unit.UnitText.{UnitText}
 
 -- each of these keys has its digest among these

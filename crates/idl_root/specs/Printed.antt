@@ -9,9 +9,9 @@ use Rattle.idl_root.specs.Findings.{fault_finding, tokens_of}
 use Rattle.idl_root.specs.Judged.{Judged}
 use Rattle.idl_root.specs.declared.finding.EventFinding.{EventFinding}
 use Rattle.idl_root.specs.declared.printing.Sought.{Sought}
-use Rattle.idl_scope.specs.Facts.{UnitFacts, answers}
-use Rattle.idl_scope.specs.declared.addition.Addition.{Addition}
-use Rattle.idl_scope.specs.declared.addition.Addition.TheVariants.{Declares, Uses, Appears, Identifies}
+use Rattle.idl_env.specs.Facts.{UnitFacts, answers}
+use Rattle.idl_env.specs.declared.addition.Addition.{Addition}
+use Rattle.idl_env.specs.declared.addition.Addition.TheVariants.{Declares, Uses, Appears, Identifies}
 use Rattle.idl_unit.specs.TokenRules.{fault_at}
 use Rattle.idl_unit.specs.declared.unit.UnitText.{UnitText}
 

@@ -4,7 +4,7 @@ ghost use Rattle.std.specs.Prelude.{◌≡◌, ◌++◌, IfOk};
 ghost use Rattle.idl_root.specs.Added.{told_by};
 
 use crate::kept::Judgement;
-use idl_scope::{Env, Room, Writes};
+use idl_env::{Env, Room, Writes};
 use std::alloc::AllocError;
 use std::rc::Rc;
 

@@ -3,10 +3,10 @@
 ghost use Rattle.std.specs.Prelude.{◌≡◌, ◌++◌, ◌∷◌, [], IfOk, IsFalse, IsTrue, OnOk, Contains, map};
 ghost use Rattle.idl_root.specs.Changed.{mark_of};
 ghost use Rattle.idl_root.specs.Followed.{ShareNone};
-ghost use Rattle.idl_scope.specs.Facts.{key_of};
-ghost use Rattle.idl_scope.specs.Key.{key_digest};
+ghost use Rattle.idl_env.specs.Facts.{key_of};
+ghost use Rattle.idl_env.specs.Key.{key_digest};
 
-use idl_scope::Facts;
+use idl_env::Facts;
 use std::alloc::{AllocError, Global};
 use std::marker::Model;
 

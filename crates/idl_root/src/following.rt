@@ -5,14 +5,15 @@ ghost use Rattle.idl_root.specs.Followed.{AreBeside, IsFollowed, IsNext, StayAli
 ghost use Rattle.idl_root.specs.Kept.{AreKept, IsJudged, added_by};
 ghost use Rattle.idl_root.specs.declared.kept.KeptUnit.{KeptUnit as RootKeptUnit};
 ghost use Rattle.idl_root.specs.declared.kept.KeptUnit.TheVariants.{Judged};
-ghost use Rattle.idl_scope.specs.Facts.{UnitFacts, operations_among};
-ghost use Rattle.idl_scope.specs.declared.addition.Step.TheVariants.{Closes};
+ghost use Rattle.idl_env.specs.Facts.{UnitFacts, operations_among};
+ghost use Rattle.idl_env.specs.declared.addition.Step.TheVariants.{Closes};
 
 use crate::changed::Changed;
 use crate::kept::{Judgement, KeptUnit, KeptUnits};
 use crate::reprinting::Reprinting;
 use idl_check::Verdict;
-use idl_scope::{Answer, DigestedKey, Env, Facts, Step, adding, agreeing_around, exchanging};
+use idl_env::{Answer, DigestedKey, Env, Facts, Step};
+use idl_scope::{adding, agreeing_around, exchanging};
 use idl_unit::UnitText;
 use std::alloc::{AllocError, Global};
 use std::rc::Rc;

@@ -8,7 +8,7 @@ ghost use Rattle.idl_root.specs.Kept.{IsBoundary, IsPrinted, added_by};
 ghost use Rattle.idl_root.specs.Printed.{closing_finding, entry_row};
 ghost use Rattle.idl_root.specs.Held.{held, to_come, with_gathered, with_judged, with_units};
 ghost use Rattle.idl_root.specs.Judged.{added, boundary, judged_at, judged_over, verdict_over};
-ghost use Rattle.idl_scope.specs.Facts.{UnitFacts};
+ghost use Rattle.idl_env.specs.Facts.{UnitFacts};
 
 use crate::added::Added;
 use crate::compiled::Row;
@@ -17,9 +17,10 @@ use crate::keeping::Keeping;
 use crate::kept::{KeptEntry, KeptUnit, KeptUnits};
 use crate::memory::Memory;
 use crate::printing::{Listed, Printed, print_all, print_kept, push_listed};
+use idl_base::Shared;
 use idl_check::{Scratch, Verdict, verdict_of};
+use idl_env::{DigestedKey, Env, Facts, OpenScopes, Step, Writes, scopes_in};
 use idl_memo::{Bank, Journal};
-use idl_scope::{DigestedKey, Env, Facts, OpenScopes, Shared, Step, Writes, scopes_in};
 use idl_unit::{Unit, UnitText};
 use std::alloc::{AllocError, Global};
 

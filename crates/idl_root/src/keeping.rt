@@ -3,13 +3,14 @@
 ghost use Rattle.std.specs.Prelude.{◌≡◌, ◌∷◌, ◌++◌, [], All, IfOk, IfSome, List, None, OnOk};
 ghost use Rattle.idl_root.specs.Followed.{AreBeside, IsFollowed, IsKeeping};
 ghost use Rattle.idl_root.specs.Kept.{IsJudged, IsKept, IsPrinted, added_by};
-ghost use Rattle.idl_scope.specs.Facts.{UnitFacts};
+ghost use Rattle.idl_env.specs.Facts.{UnitFacts};
 
 use crate::following::Following;
 use crate::kept::{Judgement, KeptEntry, KeptUnit, KeptUnits};
 use crate::reprinting::Reprinting;
+use idl_base::Shared;
 use idl_check::Scratch;
-use idl_scope::{Env, Facts, Shared};
+use idl_env::{Env, Facts};
 use idl_unit::UnitText;
 use std::alloc::{AllocError, Global};
 use std::mem::replace;

@@ -7,13 +7,15 @@ ghost use Rattle.idl_repo.specs.Entry.{entry};
 ghost use Rattle.idl_root.specs.Judged.{verdict_over};
 ghost use Rattle.idl_root.specs.Kept.{AreKept, AreNoted, IsJudged, IsPrinted, added_by};
 ghost use Rattle.idl_root.specs.Printed.{entry_over};
-ghost use Rattle.idl_scope.specs.Facts.{answers};
-ghost use Rattle.idl_scope.specs.Turns.{turns_for};
+ghost use Rattle.idl_env.specs.Facts.{answers};
+ghost use Rattle.idl_env.specs.Turns.{turns_for};
 
+use idl_base::Shared;
 use idl_check::{Scratch, Verdict, verdict_of};
+use idl_entity::Path;
+use idl_env::{Answer, DigestedKey, Env};
 use idl_memo::{Journal, logging, reliance};
 use idl_repo::{Entry, EntryTask, entry_at};
-use idl_scope::{Answer, DigestedKey, Env, Path, Shared};
 use idl_unit::UnitText;
 use std::alloc::{AllocError, Global};
 use std::marker::Model;

@@ -1,6 +1,6 @@
 //! Where compilations take memory.
 
-use idl_scope::Env;
+use idl_env::Env;
 use std::alloc::Global;
 
 /// Where compilations take memory, and the environment of the last one.

@@ -14,10 +14,11 @@ use crate::compiled::Row;
 use crate::finding::{EventFinding, Spelled, push_fault};
 use crate::kept::KeptEntry;
 use crate::reprinting::Reprinting;
-use idl_base::{Span, push_texts};
+use idl_base::{Shared, Span, push_texts};
+use idl_entity::Path;
+use idl_env::{Addition, Env, Facts};
 use idl_event::Code;
 use idl_repo::{Answered, Entry, Pushed};
-use idl_scope::{Addition, Env, Facts, Path, Shared};
 use idl_unit::{Fault, UnitText};
 use std::alloc::{AllocError, Global};
 

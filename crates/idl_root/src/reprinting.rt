@@ -3,12 +3,14 @@
 ghost use Rattle.std.specs.Prelude.{◌≡◌, All, IfSome, List};
 ghost use Rattle.idl_root.specs.Followed.{AreBeside, ArePrinted};
 ghost use Rattle.idl_root.specs.Kept.{IsPrinted};
-ghost use Rattle.idl_scope.specs.Facts.{UnitFacts};
+ghost use Rattle.idl_env.specs.Facts.{UnitFacts};
 
 use crate::changed::Changed;
 use crate::kept::KeptEntry;
+use idl_base::Shared;
+use idl_entity::Path;
+use idl_env::Env;
 use idl_repo::EntryTask;
-use idl_scope::{Env, Path, Shared};
 
 /// The entries kept that are still to come, behind all units.
 pub struct Reprinting<'k> {

@@ -1,23 +1,21 @@
 -- Facts that take the place of others, over answers that are the same outside some keys, and what such facts look at.
-use Rattle.std.proofs.Common.{◌≡◌, Bool, true, false, cond, List, [], ◌∷◌, ◌++◌, map, Option, Some, None, refl, sym, ap, ◌∙◌, subst, inl, inr}
+use Rattle.std.proofs.Common.{◌≡◌, Bool, true, false, cond, List, [], ◌∷◌, ◌++◌, map, Option, Some, refl, sym, ap, ◌∙◌, subst, inl, inr}
 use Rattle.std.specs.Prelude.{Contains}
-use Rattle.idl_scope.specs.Facts.{UnitFacts, World, after, after_step, answer_of, count_in, entity_in, entity_key, key_of, more_inside, nameless, operations_among, over, path_around, scopes_in, with_additions}
-use Rattle.idl_scope.specs.Key.{key_eq}
-use Rattle.idl_scope.specs.SameKey.{same_key}
-use Rattle.idl_scope.specs.Kind.{kind_eq}
-use Rattle.idl_scope.specs.Outside.{AgreeOutside, AreApart, WorldsAgreeOutside, gathered_at, looked_at, looked_at_by}
-use Rattle.idl_scope.specs.declared.addition.Addition.{Addition}
-use Rattle.idl_scope.specs.declared.addition.Step.{Step}
-use Rattle.idl_scope.specs.declared.addition.Step.TheVariants.{Stays, Opens, OpensNameless, Closes, Prefixes}
-use Rattle.idl_scope.specs.declared.answer.Answer.{Answer}
-use Rattle.idl_scope.specs.declared.answer.Scope.{Scope}
-use Rattle.idl_scope.specs.declared.key.Key.{Key}
-use Rattle.idl_scope.specs.declared.key.Key.TheVariants.{Cursor, Opened, Nameless, Prefix as PrefixKey}
-use Rattle.idl_scope.specs.declared.kind.Kind.TheVariants.{Interface}
-use Rattle.idl_scope.proofs.AnswerLemmas.{over-cons}
+use Rattle.idl_env.proofs.ApartLemmas.{gathered_at-same}
+use Rattle.idl_env.specs.Facts.{UnitFacts, World, after, after_step, answer_of, count_in, key_of, more_inside, nameless, operations_among, over, path_around, scopes_in, with_additions}
+use Rattle.idl_env.specs.Key.{key_eq}
+use Rattle.idl_env.specs.SameKey.{same_key}
+use Rattle.idl_env.specs.Outside.{AgreeOutside, AreApart, WorldsAgreeOutside, gathered_at, looked_at, looked_at_by}
+use Rattle.idl_env.specs.declared.addition.Addition.{Addition}
+use Rattle.idl_env.specs.declared.addition.Step.{Step}
+use Rattle.idl_env.specs.declared.addition.Step.TheVariants.{Stays, Opens, OpensNameless, Closes, Prefixes}
+use Rattle.idl_env.specs.declared.answer.Answer.{Answer}
+use Rattle.idl_env.specs.declared.key.Key.{Key}
+use Rattle.idl_env.specs.declared.key.Key.TheVariants.{Cursor, Opened, Nameless, Prefix as PrefixKey}
+use Rattle.idl_env.proofs.AnswerLemmas.{over-cons}
 use Rattle.idl_scope.proofs.FactsLaws.{after_step-outside, over-outside}
-use Rattle.idl_scope.proofs.Membership.{Contains-IsIn, IsIn, IsIn-Contains, IsIn-left, IsIn-right}
-use Rattle.idl_scope.proofs.StateLemmas.{more_inside-nothing}
+use Rattle.idl_env.proofs.Membership.{Contains-IsIn, IsIn, IsIn-Contains, IsIn-left, IsIn-right}
+use Rattle.idl_env.proofs.StateLemmas.{more_inside-nothing}
 
 -- ---- facts that take the place of others
 
@@ -82,19 +80,6 @@ after-more keys w v g (same, both) step operations =
 
 -- it is told from either of two worlds, since it is looked at itself
 module _ (w v : World) where
-  pub gathered_at-same : (scopes : List Scope) → ((k : Key) → IsIn k (gathered_at v scopes) → v.answers k ≡ w.answers k) → gathered_at w scopes ≡ gathered_at v scopes
-  gathered_at-same [] h = refl
-  gathered_at-same (s ∷ []) h = refl
-  gathered_at-same (s ∷ t ∷ outer) h = by (kind_eq s.kind Interface) h
-    where
-      at : Option Answer → List Key
-      at o = entity_key s.path ∷ elim (entity_in o) [ None ↦ [] | Some e ↦ map entity_key e.bases ]
-
-      by : (b : Bool) → ((k : Key) → IsIn k (cond b (at (v.answers (entity_key s.path))) []) → v.answers k ≡ w.answers k)
-          → cond b (at (w.answers (entity_key s.path))) [] ≡ cond b (at (v.answers (entity_key s.path))) []
-      by true g = ap at (sym (g (entity_key s.path) (inl refl)))
-      by false g = refl
-
   looked_at-same : (step : Step) → ((k : Key) → IsIn k (looked_at v step) → v.answers k ≡ w.answers k) → looked_at w step ≡ looked_at v step
   looked_at-same Stays h = refl
   looked_at-same (Opens path kind) h = refl
@@ -103,7 +88,7 @@ module _ (w v : World) where
       let cursor = sym (h Cursor (inr (inl refl))) in
       λ i. Nameless ∷ Cursor ∷ Opened (nameless (count_in (count i)) ∷ path_around (scopes_in (cursor i))) ∷ PrefixKey ∷ []
   looked_at-same Closes h =
-      ap (λ o. Cursor ∷ gathered_at w (scopes_in o)) (sym (h Cursor (inl refl))) ∙ ap (λ ks. Cursor ∷ ks) (gathered_at-same (scopes_in (v.answers Cursor)) (λ k i. h k (inr i)))
+      ap (λ o. Cursor ∷ gathered_at w (scopes_in o)) (sym (h Cursor (inl refl))) ∙ ap (λ ks. Cursor ∷ ks) (gathered_at-same w v (scopes_in (v.answers Cursor)) (λ k i. h k (inr i)))
   looked_at-same (Prefixes text) h = refl
   looked_at-same other h = refl
 

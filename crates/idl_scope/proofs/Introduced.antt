@@ -3,17 +3,17 @@ use Rattle.std.proofs.Common.{◌≡◌, ◌⊎◌, ℕ, suc, Bool, true, false,
 use Rattle.std.specs.Prelude.{◌≢◌}
 use Rattle.std.specs.Cmp.Lexicographic.{bytes_decides, pointwise_decides}
 use Rattle.std.proofs.lemmas.Bool.{false≢true}
-use Rattle.idl_scope.specs.Kind.{kind_eq, same_kind}
+use Rattle.idl_entity.specs.Kind.{kind_eq, same_kind}
 use Rattle.idl_scope.specs.Lookup.{outer_reach, reach}
 use Rattle.idl_scope.specs.Meaning.{own_at, Through, Own, Up, Has, FirstHas, Introduces, NoneDeclaresTo, NoModuleTo}
-use Rattle.idl_scope.specs.Path.{path_eq, same_path, scope_of}
-use Rattle.idl_scope.specs.declared.answer.Answer.{Answer}
-use Rattle.idl_scope.specs.declared.answer.Scope.{Scope}
-use Rattle.idl_scope.specs.declared.entity.Entity.{Entity}
-use Rattle.idl_scope.specs.declared.key.Key.{Key}
-use Rattle.idl_scope.specs.declared.kind.Kind.{Kind}
-use Rattle.idl_scope.specs.declared.kind.Kind.TheVariants.{Module}
-use Rattle.idl_scope.proofs.Membership.{IsIn, either}
+use Rattle.idl_entity.specs.Path.{path_eq, same_path, scope_of}
+use Rattle.idl_env.specs.declared.answer.Answer.{Answer}
+use Rattle.idl_env.specs.declared.answer.Scope.{Scope}
+use Rattle.idl_entity.specs.declared.entity.Entity.{Entity}
+use Rattle.idl_env.specs.declared.key.Key.{Key}
+use Rattle.idl_entity.specs.declared.kind.Kind.{Kind}
+use Rattle.idl_entity.specs.declared.kind.Kind.TheVariants.{Module}
+use Rattle.idl_env.proofs.Membership.{IsIn, either}
 
 is_module : (k : Kind) → k ≡ Module → kind_eq k Module ≡ true
 is_module k h = subst (λ q. kind_eq q Module ≡ true) (sym h) refl

@@ -4,22 +4,22 @@ use Rattle.std.specs.Prelude.{◌≢◌, ◌↔◌, AllPairs, Contains, IfOk, Ma
 use Rattle.idl_lex.specs.Keywords.{folded}
 use Rattle.idl_memo.specs.Query.{outcome, run}
 use Rattle.idl_tree.specs.declared.name.ScopedName.{ScopedName}
-use Rattle.idl_scope.specs.Turns.{bases_among, bases_named, declared_among, declared_named, HasTurnsFor, turns_among, turns_for}
-use Rattle.idl_scope.specs.Facts.{UnitFacts, answers}
-use Rattle.idl_scope.specs.Key.{key_eq}
+use Rattle.idl_env.specs.Turns.{bases_among, bases_named, declared_among, declared_named, HasTurnsFor, turns_among, turns_for}
+use Rattle.idl_env.specs.Facts.{UnitFacts, answers}
+use Rattle.idl_env.specs.Key.{key_eq}
 use Rattle.idl_scope.specs.Lookup.{IfSettled, denoted, has, outward, reach, reached, searched, under}
 use Rattle.idl_scope.specs.Meaning.{Denotes, FirstHas, Has, Introduces, Reaches, Through, bases_at, entity_found, own_at, seen}
-use Rattle.idl_scope.specs.Path.{name_of, scope_of}
-use Rattle.idl_scope.specs.declared.addition.Addition.{Addition}
-use Rattle.idl_scope.specs.declared.answer.Answer.{Answer}
-use Rattle.idl_scope.specs.declared.answer.Scope.{Scope}
-use Rattle.idl_scope.specs.declared.entity.Entity.{Entity}
+use Rattle.idl_entity.specs.Path.{name_of, scope_of}
+use Rattle.idl_env.specs.declared.addition.Addition.{Addition}
+use Rattle.idl_env.specs.declared.answer.Answer.{Answer}
+use Rattle.idl_env.specs.declared.answer.Scope.{Scope}
+use Rattle.idl_entity.specs.declared.entity.Entity.{Entity}
 use Rattle.idl_scope.specs.declared.fault.NameFault.{NameFault}
 use Rattle.idl_scope.specs.declared.fault.NameFault.TheVariants.{At, Memory}
 use Rattle.idl_scope.specs.declared.found.Found.{Found}
-use Rattle.idl_scope.specs.declared.key.Key.{Key}
-use Rattle.idl_scope.specs.declared.kind.Kind.{Kind}
-use Rattle.idl_scope.proofs.Membership.{IsIn-left, IsIn-right, Contains-IsIn, IsIn-Contains, AllPairs-Distinct}
+use Rattle.idl_env.specs.declared.key.Key.{Key}
+use Rattle.idl_entity.specs.declared.kind.Kind.{Kind}
+use Rattle.idl_env.proofs.Membership.{IsIn-left, IsIn-right, Contains-IsIn, IsIn-Contains, AllPairs-Distinct}
 use Rattle.idl_scope.proofs.FactsLaws.{outcome-under}
 use Rattle.idl_scope.proofs.Introduced.{first-home, Introduces_in, in_Introduces}
 use Rattle.idl_scope.proofs.Meant.{has-Has, denoted-Denotes, denoted-Ok, reached-all}

@@ -7,23 +7,24 @@ use Rattle.std.proofs.lemmas.Bool.{false≢true}
 use Rattle.idl_lex.specs.Keywords.{folded}
 use Rattle.idl_memo.specs.Query.{Ask, Done, outcome, and_then}
 use Rattle.idl_memo.proofs.QueryLaws.{outcome-and_then}
+use Rattle.idl_entity.specs.Kind.{inherits, is_scope}
 use Rattle.idl_tree.specs.declared.name.ScopedName.{ScopedName}
-use Rattle.idl_scope.specs.Facts.{entity_key, entity_in}
-use Rattle.idl_scope.specs.Lookup.{Lookup, bases_of, inherits, choose, reached, has, is_nothing, outward, judged, placed, by_result, part_of, is_scope, further, reach, searched, found_as, denoted}
+use Rattle.idl_env.specs.Facts.{entity_key, entity_in}
+use Rattle.idl_scope.specs.Lookup.{Lookup, bases_of, choose, reached, has, is_nothing, outward, judged, placed, by_result, part_of, further, reach, searched, found_as, denoted}
 use Rattle.idl_scope.specs.Meaning.{own_at, bases_at, Through, Own, Up, Has, FirstHas, Judges, Goes, DenotesIn, Denotes, entity_found}
-use Rattle.idl_scope.specs.Path.{name_of, scope_of}
-use Rattle.idl_scope.specs.declared.answer.Answer.{Answer}
-use Rattle.idl_scope.specs.declared.answer.Scope.{Scope}
-use Rattle.idl_scope.specs.declared.entity.Entity.{Entity}
+use Rattle.idl_entity.specs.Path.{name_of, scope_of}
+use Rattle.idl_env.specs.declared.answer.Answer.{Answer}
+use Rattle.idl_env.specs.declared.answer.Scope.{Scope}
+use Rattle.idl_entity.specs.declared.entity.Entity.{Entity}
 use Rattle.idl_scope.specs.declared.fault.NameCode.{NameCode}
 use Rattle.idl_scope.specs.declared.fault.NameCode.TheVariants.{OtherSpelling, NoScope}
 use Rattle.idl_scope.specs.declared.fault.NameFault.{NameFault}
 use Rattle.idl_scope.specs.declared.fault.NameFault.TheVariants.{At}
 use Rattle.idl_scope.specs.declared.found.Found.{Found}
-use Rattle.idl_scope.specs.declared.key.Key.{Key}
-use Rattle.idl_scope.specs.declared.kind.Kind.{Kind}
+use Rattle.idl_env.specs.declared.key.Key.{Key}
+use Rattle.idl_entity.specs.declared.kind.Kind.{Kind}
 use Rattle.idl_scope.proofs.Constructors.{none_some, some_same}
-use Rattle.idl_scope.proofs.Membership.{IsIn, either, Distinct, Contains-IsIn, IsIn-Contains}
+use Rattle.idl_env.proofs.Membership.{IsIn, either, Distinct, Contains-IsIn, IsIn-Contains}
 use Rattle.idl_scope.proofs.Reaching.{Reached, Here, On, visited, added, visited-Reached, visited-Distinct}
 use Rattle.idl_scope.proofs.Walked.{among, among-IsIn, outcome-reached}
 use Rattle.idl_scope.proofs.Worlds.{AreGrounded, own_at-home, bases_at-within}

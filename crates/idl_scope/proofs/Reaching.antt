@@ -2,7 +2,7 @@
 use Rattle.std.proofs.Common.{◌≡◌, ◌⊎◌, ℕ, zero, suc, ◌+◌, ◌≤◌, Bool, true, false, cond, List, [], ◌∷◌, ◌++◌, length, Option, Some, None, refl, ◌∙◌, sym, inl, inr, arith, length-append, subst, append-nil, append_assoc}
 use Rattle.std.specs.Prelude.{option_to_list}
 use Rattle.std.proofs.lemmas.Bool.{false≢true}
-use Rattle.idl_scope.proofs.Membership.{IsIn, IsIn-left, IsIn-right, IsIn-split, IsIn-option, IsIn-one, Distinct, Distinct-push, Distinct-apart, length-Distinct}
+use Rattle.idl_env.proofs.Membership.{IsIn, IsIn-left, IsIn-right, IsIn-split, IsIn-option, IsIn-one, Distinct, Distinct-push, Distinct-apart, length-Distinct}
 
 -- what is there at a place, or, where there is nothing, is reached from the places that it leads to
 pub data Reached {P E : Type 0} (own : P → Option E) (next : P → List P) : List P → E → Type 0 where

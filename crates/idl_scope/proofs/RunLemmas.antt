@@ -3,20 +3,21 @@ use Rattle.std.proofs.Common.{◌≡◌, ℕ, zero, suc, ◌+◌, true, false, c
 use Rattle.std.specs.Prelude.{option_to_list, slice_get}
 use Rattle.idl_memo.specs.Query.{Done, Ask, Tell, and_then, run}
 use Rattle.idl_memo.proofs.QueryLaws.{run-and_then_at}
-use Rattle.idl_scope.specs.Facts.{joined, over}
-use Rattle.idl_scope.specs.Key.{key_eq}
-use Rattle.idl_scope.specs.Lookup.{Lookup, by_result, denoted, entered, found_as, further, has, is_nothing, is_scope, judged, outward, part_of, placed, searched, under, walk}
+use Rattle.idl_env.specs.Facts.{joined, over}
+use Rattle.idl_env.specs.Key.{key_eq}
+use Rattle.idl_entity.specs.Kind.{is_scope}
+use Rattle.idl_scope.specs.Lookup.{Lookup, by_result, denoted, entered, found_as, further, has, is_nothing, judged, outward, part_of, placed, searched, under, walk}
 use Rattle.idl_lex.specs.Keywords.{folded}
 use Rattle.idl_tree.specs.declared.name.ScopedName.{ScopedName}
 use Rattle.idl_scope.specs.declared.found.Found.{Found}
-use Rattle.idl_scope.specs.declared.addition.Addition.{Addition}
-use Rattle.idl_scope.specs.declared.answer.Answer.{Answer}
-use Rattle.idl_scope.specs.declared.answer.Scope.{Scope}
-use Rattle.idl_scope.specs.declared.entity.Entity.{Entity}
+use Rattle.idl_env.specs.declared.addition.Addition.{Addition}
+use Rattle.idl_env.specs.declared.answer.Answer.{Answer}
+use Rattle.idl_env.specs.declared.answer.Scope.{Scope}
+use Rattle.idl_entity.specs.declared.entity.Entity.{Entity}
 use Rattle.idl_scope.specs.declared.fault.NameCode.TheVariants.{NoScope}
 use Rattle.idl_scope.specs.declared.fault.NameFault.{NameFault}
 use Rattle.idl_scope.specs.declared.fault.NameFault.TheVariants.{At}
-use Rattle.idl_scope.specs.declared.key.Key.{Key}
+use Rattle.idl_env.specs.declared.key.Key.{Key}
 
 -- one query after another, under additions
 pub under-and_then : {A B : Type 0} (own : List Addition) (q : Lookup A) (f : A → Lookup B) → under own (and_then q f) ≡ and_then (under own q) (λ a. under own (f a))

@@ -4,24 +4,25 @@ use Rattle.std.specs.Prelude.{option_to_list}
 use Rattle.std.proofs.lemmas.Option.{slice_get_past}
 use Rattle.idl_lex.specs.Keywords.{folded}
 use Rattle.idl_memo.specs.Query.{Ask, Done, and_then, noted}
+use Rattle.idl_entity.specs.Kind.{inherits, is_scope}
 use Rattle.idl_tree.specs.declared.name.ScopedName.{ScopedName}
-use Rattle.idl_scope.specs.Facts.{entity_key, entity_in, joined, over}
-use Rattle.idl_scope.specs.Key.{key_eq}
-use Rattle.idl_scope.specs.Lookup.{Lookup, bases_of, inherits, choose, entered, walk, reached, has, is_nothing, outward, judged, placed, by_result, part_of, is_scope, further, searched, found_as, denoted}
+use Rattle.idl_env.specs.Facts.{entity_key, entity_in, joined, over}
+use Rattle.idl_env.specs.Key.{key_eq}
+use Rattle.idl_scope.specs.Lookup.{Lookup, bases_of, choose, entered, walk, reached, has, is_nothing, outward, judged, placed, by_result, part_of, further, searched, found_as, denoted}
 use Rattle.idl_scope.specs.Meaning.{own_at, bases_at}
-use Rattle.idl_scope.specs.declared.addition.Addition.{Addition}
-use Rattle.idl_scope.specs.declared.answer.Answer.{Answer}
-use Rattle.idl_scope.specs.declared.answer.Scope.{Scope}
-use Rattle.idl_scope.specs.declared.entity.Entity.{Entity}
+use Rattle.idl_env.specs.declared.addition.Addition.{Addition}
+use Rattle.idl_env.specs.declared.answer.Answer.{Answer}
+use Rattle.idl_env.specs.declared.answer.Scope.{Scope}
+use Rattle.idl_entity.specs.declared.entity.Entity.{Entity}
 use Rattle.idl_scope.specs.declared.fault.NameCode.TheVariants.{NoScope}
 use Rattle.idl_scope.specs.declared.fault.NameFault.{NameFault}
 use Rattle.idl_scope.specs.declared.fault.NameFault.TheVariants.{At}
 use Rattle.idl_scope.specs.declared.found.Found.{Found}
-use Rattle.idl_scope.specs.declared.key.Key.{Key}
-use Rattle.idl_scope.specs.declared.key.Key.TheVariants.{Declared}
-use Rattle.idl_scope.specs.declared.kind.Kind.{Kind}
+use Rattle.idl_env.specs.declared.key.Key.{Key}
+use Rattle.idl_env.specs.declared.key.Key.TheVariants.{Declared}
+use Rattle.idl_entity.specs.declared.kind.Kind.{Kind}
 use Rattle.idl_scope.proofs.FactsLaws.{outcome-under}
-use Rattle.idl_scope.proofs.Membership.{IsIn, Distinct, length-Distinct}
+use Rattle.idl_env.proofs.Membership.{IsIn, Distinct, length-Distinct}
 use Rattle.idl_scope.proofs.Reaching.{added, added-Distinct, added-within, onward, waiting, waiting-Distinct, waiting-within}
 use Rattle.idl_scope.proofs.RunLemmas.{runs, runs-and_then, walk_end, walk_on}
 use Rattle.idl_scope.proofs.Walked.{among, among-IsIn, joined-added, outcome-entered, slice_get-seam}

@@ -7,14 +7,14 @@ use Rattle.std.proofs.lemmas.Bool.{false≢true, or_right}
 use Rattle.std.proofs.lemmas.Option.{slice_get_past}
 use Rattle.idl_memo.specs.Query.{Ask, Done, and_then, outcome}
 use Rattle.idl_memo.proofs.QueryLaws.{outcome-and_then}
-use Rattle.idl_scope.specs.Facts.{entity_key, entity_in, joined}
+use Rattle.idl_env.specs.Facts.{entity_key, entity_in, joined}
 use Rattle.idl_scope.specs.Lookup.{Lookup, bases_of, choose, entered, walk, reached}
 use Rattle.idl_scope.specs.Meaning.{own_at, bases_at}
-use Rattle.idl_scope.specs.Path.{path_eq}
-use Rattle.idl_scope.specs.declared.answer.Answer.{Answer}
-use Rattle.idl_scope.specs.declared.entity.Entity.{Entity}
-use Rattle.idl_scope.specs.declared.key.Key.{Key}
-use Rattle.idl_scope.proofs.Membership.{IsIn}
+use Rattle.idl_entity.specs.Path.{path_eq}
+use Rattle.idl_env.specs.declared.answer.Answer.{Answer}
+use Rattle.idl_entity.specs.declared.entity.Entity.{Entity}
+use Rattle.idl_env.specs.declared.key.Key.{Key}
+use Rattle.idl_env.proofs.Membership.{IsIn}
 use Rattle.idl_scope.proofs.Reaching.{visited, onward, added}
 
 -- whether a path is among those

@@ -1,6 +1,6 @@
 -- What is found under a name, as it is held.
 use Rattle.std.specs.Prelude.{List, [], ◌∷◌, map}
-use Rattle.idl_scope.specs.declared.entity.Entity.{Entity}
+use Rattle.idl_entity.specs.declared.entity.Entity.{Entity}
 use Rattle.idl_scope.specs.declared.finds.Finds.{Finds}
 use Rattle.idl_scope.specs.declared.finds.Finds.TheVariants.{Own, Reached}
 

@@ -1,26 +1,26 @@
 -- How a scoped name is looked up: what is asked, and what comes of it, which is what the rules of
 -- `Meaning` say. Bases are entered one after another, at most so many; each once.
 use Rattle.std.specs.Prelude.{ℕ, zero, suc, ◌+◌, Bool, true, false, List, [], ◌∷◌, ◌++◌, Option, Some, None, Result, Ok, Err, option_to_list, slice_get, if◌then◌else◌}
+use Rattle.idl_entity.specs.Kind.{inherits, is_scope, kind_eq}
 use denote.Ref.{Bor}
 use Rattle.std.specs.Str.{bytes_eq}
 use Rattle.idl_lex.specs.Keywords.{folded}
 use Rattle.idl_memo.specs.Query.{Done, Ask, and_then}
 use Rattle.idl_tree.specs.declared.name.ScopedName.{ScopedName}
-use Rattle.idl_scope.specs.Facts.{entity_key, entity_in, joined}
-use Rattle.idl_scope.specs.Kind.{kind_eq}
-pub use Rattle.idl_scope.specs.Meaning.{bases_of, has_bases, inherits, is_scope, searched}
-use Rattle.idl_scope.specs.Path.{name_of, path_eq, scope_of}
+use Rattle.idl_env.specs.Facts.{entity_key, entity_in, joined}
+pub use Rattle.idl_scope.specs.Meaning.{bases_of, searched}
+use Rattle.idl_entity.specs.Path.{name_of, path_eq, scope_of}
 pub use Rattle.idl_scope.specs.Question.{Lookup, by_result, under}
-use Rattle.idl_scope.specs.declared.answer.Scope.{Scope}
-use Rattle.idl_scope.specs.declared.entity.Entity.{Entity}
+use Rattle.idl_env.specs.declared.answer.Scope.{Scope}
+use Rattle.idl_entity.specs.declared.entity.Entity.{Entity}
 use Rattle.idl_scope.specs.declared.fault.NameCode.{NameCode}
 use Rattle.idl_scope.specs.declared.fault.NameCode.TheVariants.{Undeclared, Ambiguous, OtherSpelling, NoScope}
 use Rattle.idl_scope.specs.declared.fault.NameFault.{NameFault}
 use Rattle.idl_scope.specs.declared.fault.NameFault.TheVariants.{At, Memory}
 use Rattle.idl_scope.specs.declared.found.Found.{Found}
-use Rattle.idl_scope.specs.declared.key.Key.TheVariants.{Declared}
-use Rattle.idl_scope.specs.declared.kind.Kind.{Kind}
-use Rattle.idl_scope.specs.declared.kind.Kind.TheVariants.{Module}
+use Rattle.idl_env.specs.declared.key.Key.TheVariants.{Declared}
+use Rattle.idl_entity.specs.declared.kind.Kind.{Kind}
+use Rattle.idl_entity.specs.declared.kind.Kind.TheVariants.{Module}
 
 -- one way where there is nothing, another where there is an entity
 abbrev pub choose : {A : Type 0} → Option Entity → A → (Entity → A) → A

@@ -1,25 +1,24 @@
 -- What names denote, over answers: the scoping rules, without a word of how a name is looked up.
-use Rattle.std.specs.Prelude.{◌≡◌, ◌≢◌, ◌↔◌, ◌⊎◌, ℕ, Bool, true, false, if◌then◌else◌, MatchBool, List, [], ◌∷◌, ◌+◌, Option, Some, None, Result, Ok, Err, Contains, take}
+use Rattle.std.specs.Prelude.{◌≡◌, ◌≢◌, ◌↔◌, ◌⊎◌, ℕ, Bool, true, if◌then◌else◌, MatchBool, List, [], ◌∷◌, ◌+◌, Option, Some, None, Result, Ok, Err, Contains, take}
 use Rattle.idl_lex.specs.Keywords.{folded}
+use Rattle.idl_entity.specs.Entity.{is_operation}
+use Rattle.idl_entity.specs.Kind.{has_bases, inherits, is_scope}
 use Rattle.idl_tree.specs.declared.name.ScopedName.{ScopedName}
-use Rattle.idl_scope.specs.Facts.{UnitFacts, answers, entity_key, entity_in, global_scope, is_operation, over}
-use Rattle.idl_scope.specs.Kind.{kind_eq}
-use Rattle.idl_scope.specs.Path.{name_of}
-use Rattle.idl_scope.specs.declared.addition.Addition.{Addition}
-use Rattle.idl_scope.specs.declared.answer.Answer.{Answer}
-use Rattle.idl_scope.specs.declared.answer.Scope.{Scope}
-use Rattle.idl_scope.specs.declared.entity.Entity.{Entity}
+use Rattle.idl_env.specs.Facts.{UnitFacts, answers, entity_key, entity_in, global_scope, over}
+use Rattle.idl_entity.specs.Path.{name_of}
+use Rattle.idl_env.specs.declared.addition.Addition.{Addition}
+use Rattle.idl_env.specs.declared.answer.Answer.{Answer}
+use Rattle.idl_env.specs.declared.answer.Scope.{Scope}
+use Rattle.idl_entity.specs.declared.entity.Entity.{Entity}
 use Rattle.idl_scope.specs.declared.fault.NameCode.{NameCode}
 use Rattle.idl_scope.specs.declared.fault.NameCode.TheVariants.{Undeclared, Ambiguous, OtherSpelling, NoScope}
 use Rattle.idl_scope.specs.declared.fault.NameFault.{NameFault}
 use Rattle.idl_scope.specs.declared.fault.NameFault.TheVariants.{At}
 use Rattle.idl_scope.specs.declared.found.Found.{Found}
-use Rattle.idl_scope.specs.declared.key.Key.{Key}
-use Rattle.idl_scope.specs.declared.key.Key.TheVariants.{Declared}
-use Rattle.idl_scope.specs.declared.kind.Kind.{Kind}
-use Rattle.idl_scope.specs.declared.kind.Kind.TheVariants.{Module, Interface, Structure, Union, Exception}
-use Rattle.idl_scope.specs.declared.kind.Stage.{Stage}
-use Rattle.idl_scope.specs.declared.kind.Stage.TheVariants.{Ahead, Begun, Open, Complete}
+use Rattle.idl_env.specs.declared.key.Key.{Key}
+use Rattle.idl_env.specs.declared.key.Key.TheVariants.{Declared}
+use Rattle.idl_entity.specs.declared.kind.Kind.{Kind}
+use Rattle.idl_entity.specs.declared.kind.Kind.TheVariants.{Module}
 
 -- the answers over facts, as these additions change them
 abbrev pub seen : List Addition → List UnitFacts → Key → Option Answer
@@ -29,30 +28,10 @@ seen own facts key = over own key (answers facts key)
 abbrev pub own_at : (Key → Option Answer) → List ℕ → List (List ℕ) → Option Entity
 own_at answers n path = entity_in (answers (Declared n path))
 
--- whether what is declared in bases is reached from an entity at this stage
-abbrev pub has_bases : Stage → Bool
-has_bases Ahead = false
-has_bases Begun = false
-has_bases Open = true
-has_bases Complete = true
-
 -- the bases of an entity that count: none before its definition is open
 abbrev pub bases_of : Option Entity → List (List (List ℕ))
 bases_of None = []
 bases_of (Some e) = if has_bases e.stage then e.bases else []
-
--- whether a scope of this kind has what its bases have
-abbrev pub inherits : Kind → Bool
-inherits kind = kind_eq kind Interface
-
--- whether further parts of a name are looked for in an entity of this kind
-abbrev pub is_scope : Kind → Bool
-is_scope Module = true
-is_scope Interface = true
-is_scope Structure = true
-is_scope Union = true
-is_scope Exception = true
-is_scope other = false
 
 -- the bases of what stands at a path
 abbrev pub bases_at : (Key → Option Answer) → List (List ℕ) → List (List (List ℕ))

@@ -1,10 +1,10 @@
 -- Questions about names: over which answers they are asked, and how one goes on by what came of it.
 use Rattle.std.specs.Prelude.{List, Option, Result, Ok, Err}
 use Rattle.idl_memo.specs.Query.{Query, Done, Ask, Tell}
-use Rattle.idl_scope.specs.Facts.{over}
-use Rattle.idl_scope.specs.declared.addition.Addition.{Addition}
-use Rattle.idl_scope.specs.declared.answer.Answer.{Answer}
-use Rattle.idl_scope.specs.declared.key.Key.{Key}
+use Rattle.idl_env.specs.Facts.{over}
+use Rattle.idl_env.specs.declared.addition.Addition.{Addition}
+use Rattle.idl_env.specs.declared.answer.Answer.{Answer}
+use Rattle.idl_env.specs.declared.key.Key.{Key}
 
 -- questions about names
 abbrev pub Lookup : Type 0 → Type 0

@@ -5,8 +5,8 @@ ghost use Rattle.std.specs.Option.{option_copied};
 ghost use Rattle.idl_scope.specs.Finds.{those};
 ghost use Rattle.idl_scope.specs.Lookup.{is_nothing};
 
-use crate::entity::Entity;
-use crate::shared::Shared;
+use idl_base::Shared;
+use idl_entity::Entity;
 use std::alloc::{AllocError, Global};
 
 /// What a scope has under a name. One declaration of its own takes no memory.

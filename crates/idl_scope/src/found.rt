@@ -1,7 +1,7 @@
 //! What a name denotes.
 
-use crate::entity::Entity;
-use crate::shared::Shared;
+use idl_base::Shared;
+use idl_entity::Entity;
 
 /// What a name denotes.
 #[derive(Drop)]

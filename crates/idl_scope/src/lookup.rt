@@ -3,28 +3,20 @@
 ghost use Rattle.std.specs.Prelude.{◌≡◌, ◌<◌, ◌≤◌, ◌+◌, ◌++◌, ℕ, IfOk, OnOk, Some, length, map, option_to_list};
 ghost use Rattle.std.specs.Option.{option_copied};
 ghost use Rattle.idl_memo.specs.Query.{noted, run};
-ghost use Rattle.idl_scope.specs.Facts.{answer_of, answers, entity_in, entity_key, identity_at, over, prefix_in};
+ghost use Rattle.idl_env.specs.Facts.{answer_of, answers, entity_in, entity_key, identity_at, over, prefix_in};
 ghost use Rattle.idl_scope.specs.Finds.{those};
-ghost use Rattle.idl_scope.specs.Key.{key_eq};
+ghost use Rattle.idl_env.specs.Key.{key_eq};
 ghost use Rattle.idl_scope.specs.Lookup.{bases_of, entered, has, outward, reached, under};
-ghost use Rattle.idl_scope.specs.Turns.{HasTurnsFor, declared_among, declared_named};
-ghost use Rattle.idl_scope.specs.declared.key.Key.TheVariants.{Declared, IdOf, Prefix as PrefixKey};
+ghost use Rattle.idl_env.specs.Turns.{HasTurnsFor, declared_among, declared_named};
+ghost use Rattle.idl_env.specs.declared.key.Key.TheVariants.{Declared, IdOf, Prefix as PrefixKey};
 
-use crate::addition::Addition;
-use crate::answer::{Answer, entity_in, identity_at, prefix_in};
-use crate::digested::DigestedKey;
-use crate::entity::Entity;
-use crate::env::Env;
-use crate::facts::Facts;
 use crate::finds::Finds;
-use crate::identity::{Identity, Prefix};
-use crate::kind::Kind;
-use crate::lent_key::LentKey;
-use crate::open_scopes::OpenScopes;
-use crate::path::Path;
-use crate::queue::BaseQueue;
-use crate::shared::Shared;
-use idl_base::Bytes;
+use idl_base::{Bytes, Shared};
+use idl_entity::{Entity, Identity, Kind, Path, Prefix};
+use idl_env::{
+    Addition, Answer, BaseQueue, DigestedKey, Env, Facts, LentKey, OpenScopes, entity_in,
+    identity_at, prefix_in,
+};
 use idl_memo::Journal;
 use std::alloc::AllocError;
 
@@ -64,7 +56,7 @@ impl<'a> View<'a> {
     }
 
     /// The prefix in force, which no addition changes.
-    #[tactic(auto, using(crate::proofs::AnswerLemmas::over_prefix))]
+    #[tactic(auto, using(idl_env::proofs::AnswerLemmas::over_prefix))]
     pub fn prefix(self, log: &mut Journal<Env>) -> Result<Shared<Prefix>, AllocError>
         ensures prefix { IfOk result (λ prefix.
             prefix

@@ -2,26 +2,21 @@
 
 ghost use Rattle.std.specs.Prelude.{◌≡◌, ◌≤◌, ◌∷◌, [], ℕ, IfOk, if◌then◌else◌, length};
 ghost use Rattle.idl_memo.specs.Query.{run};
-ghost use Rattle.idl_scope.specs.Facts.{answers};
+ghost use Rattle.idl_env.specs.Facts.{answers};
 ghost use Rattle.idl_scope.specs.Finds.{those};
-ghost use Rattle.idl_scope.specs.Key.{key_eq};
+ghost use Rattle.idl_env.specs.Key.{key_eq};
 ghost use Rattle.idl_scope.specs.Lookup.{denoted, further, has, judged, named, outer_reach, part_of, placed, reach, searched, outward, under, IfSettled};
 ghost use Rattle.idl_scope.specs.Meaning.{Denotes, Reaches, entity_found, seen};
-ghost use Rattle.idl_scope.specs.Turns.{HasTurnsFor};
+ghost use Rattle.idl_env.specs.Turns.{HasTurnsFor};
 ghost use Rattle.idl_lex.specs.Keywords.{folded};
 
-use crate::entity::Entity;
-use crate::env::Env;
-use crate::facts::Facts;
 use crate::fault::{NameCode, NameFault};
 use crate::finds::Finds;
 use crate::found::Found;
-use crate::kind::Kind;
 use crate::lookup::{Place, View};
-use crate::open_scopes::OpenScopes;
-use crate::path::Path;
-use crate::shared::Shared;
-use idl_base::Bytes;
+use idl_base::{Bytes, Shared};
+use idl_entity::{Entity, Kind, Path};
+use idl_env::{Env, Facts, OpenScopes};
 use idl_memo::Journal;
 use idl_tree::ScopedName;
 use std::alloc::AllocError;

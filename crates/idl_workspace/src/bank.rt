@@ -18,8 +18,8 @@ ghost use Rattle.idl_prep.specs.Include.{directories_in};
 ghost use Rattle.idl_source.specs.Limits.{most_macros};
 ghost use Rattle.idl_workspace.specs.Project.{Inputs, is_defined, no_inputs};
 
+use crate::limits::{MAX_BODY, MAX_MACROS};
 use crate::macro_body::MacroBody;
-use crate::{MAX_BODY, MAX_MACROS};
 use idl_base::{Bytes, Seq};
 use idl_event::{Answer, FileName, Key, LexedFile};
 use idl_macro::is_macro_word;

@@ -5,7 +5,7 @@ ghost use Rattle.std.specs.List.{list_all};
 ghost use Rattle.idl_source.specs.Directory.{is_directory};
 ghost use Rattle.idl_workspace.specs.Edits.{search_list};
 
-use crate::MAX_DIRECTORIES;
+use crate::limits::MAX_DIRECTORIES;
 use idl_source::{Directory, Refusal};
 use std::alloc::Global;
 

@@ -13,10 +13,10 @@ ghost use Rattle.idl_workspace.specs.Bank.{bank_of};
 ghost use Rattle.idl_workspace.specs.UpToDate.{AreKept, keys_asked};
 ghost use Rattle.idl_workspace.specs.Work.{work_between};
 
-use crate::MAX_ROOTS;
 use crate::bank::SessionBank;
 use crate::compile::CompiledRoot;
 use crate::kept_root::KeptRoot;
+use crate::limits::MAX_ROOTS;
 use crate::work::Work;
 use idl_memo::{Edited, Meter, freshness};
 use idl_prep::RootTask;

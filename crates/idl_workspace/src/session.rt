@@ -14,7 +14,6 @@ ghost use Rattle.idl_workspace.specs.Renewed.{IsRenewed};
 ghost use Rattle.idl_workspace.specs.UpToDate.{compiled_of, diagnostics_of, findings_of, listing_of, dump_of, is_faulty_of, absent_of};
 ghost use Rattle.idl_workspace.specs.WellFormed.{IsWellFormed};
 
-use crate::Row;
 use crate::bank::SessionBank;
 use crate::compile::CompiledRoot;
 use crate::directories::directories;
@@ -28,7 +27,7 @@ use idl_event::{Answer, FileName, Key};
 use idl_macro::is_macro_word;
 use idl_memo::{Edited, Meter, freshness};
 use idl_prep::RootTask;
-use idl_root::{Finding, Memory};
+use idl_root::{Finding, Memory, Row};
 use idl_source::{Files, Line, Name, Refusal, Span};
 use std::alloc::{AllocError, Global};
 use std::marker::Model;

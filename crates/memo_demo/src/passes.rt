@@ -8,7 +8,8 @@ ghost use Rattle.memo_demo.specs.Page.{page_eq};
 ghost use Rattle.memo_demo.specs.Passes.{IsPass, WasFresh, WasKept};
 ghost use Rattle.memo_demo.specs.Trail.{titles_from, trail_from};
 
-use crate::{Library, Start, Trail};
+use crate::library::Library;
+use crate::trail::{Start, Trail};
 use idl_base::{Seq, Text};
 use idl_memo::{Kept, KeptTable, Meter, obtain, reliance};
 use std::alloc::{AllocError, Global};

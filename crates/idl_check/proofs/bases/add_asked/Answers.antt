@@ -4,7 +4,7 @@ use Rattle.std.specs.Map.{lookup}
 use Rattle.std.specs.Str.{bytes_eq}
 use Rattle.idl_map.specs.Table.{insert_entry}
 use Rattle.idl_check.specs.Using.{with_operation}
-use Rattle.idl_scope.proofs.PlaceLemmas.{from_here}
+use Rattle.idl_env.proofs.PlaceLemmas.{from_here}
 use Rattle.idl_check.proofs.BaseLemmas.{unasked-more}
 use Rattle.idl_check.proofs.bases.add_asked.Goals as goal
 use Rattle.idl_check.proofs.bases.add_asked.Goals.{then-contains+in_ok-clone+in_ok-insert, else-contains}

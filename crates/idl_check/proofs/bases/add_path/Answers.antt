@@ -1,6 +1,6 @@
 use Rattle.std.proofs.Common.{◌∙◌, ◌++◌, ◌∷◌, [], ap, cond, sym}
 use Rattle.std.specs.Map.{keys_of}
-use Rattle.idl_scope.proofs.QueueLemmas.{contains-list_any, keys_of-push}
+use Rattle.idl_env.proofs.QueueLemmas.{contains-list_any, keys_of-push}
 use Rattle.idl_check.proofs.bases.add_path.Goals as goal
 
 pub returns-then-contains : goal.returns-then-contains

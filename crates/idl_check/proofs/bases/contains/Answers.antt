@@ -1,5 +1,5 @@
 use Rattle.std.proofs.Common.{◌∙◌}
-use Rattle.idl_scope.proofs.QueueLemmas.{contains-list_any}
+use Rattle.idl_env.proofs.QueueLemmas.{contains-list_any}
 use Rattle.idl_check.proofs.bases.contains.Goals as goal
 
 pub returns : goal.returns

@@ -1,6 +1,6 @@
 use Rattle.std.proofs.Common.{sym, ap, ◌∙◌, ◌++◌, ◌+◌, ◌∷◌, [], drop, append_assoc}
 use Rattle.std.specs.Map.{keys_of}
-use Rattle.idl_scope.proofs.PlaceLemmas.{drop-at1}
+use Rattle.idl_env.proofs.PlaceLemmas.{drop-at1}
 use Rattle.idl_check.proofs.bases.listed.Goals as goal
 
 pub loop-index-preserved : goal.loop-index-preserved

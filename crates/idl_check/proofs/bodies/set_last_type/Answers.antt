@@ -1,7 +1,7 @@
 use Rattle.std.proofs.Common.{◌≡◌, ℕ, zero, suc, ◌-◌, List, [], ◌∷◌, length, get_or, set, Option, ap, refl, arith}
 use Rattle.idl_check.specs.Bodies.{with_last_type}
-use Rattle.idl_scope.specs.declared.data_type.DataType.{DataType}
-use Rattle.idl_scope.specs.declared.signature.Member.{Member}
+use Rattle.idl_entity.specs.declared.data_type.DataType.{DataType}
+use Rattle.idl_entity.specs.declared.signature.Member.{Member}
 use Rattle.idl_check.proofs.bodies.set_last_type.Goals as goal
 
 -- the place of the last of some members

@@ -1,5 +1,5 @@
 use Rattle.std.proofs.Common.{sym, ◌∙◌}
-use Rattle.idl_scope.specs.Path.{same_path}
+use Rattle.idl_entity.specs.Path.{same_path}
 use Rattle.idl_check.proofs.declaring.declared_path.Goals as goal
 
 pub returns-then-is_child : goal.returns-then-is_child

@@ -5,7 +5,7 @@ use Rattle.idl_check.proofs.VisitLemmas.{turns-here}
 use Rattle.idl_check.specs.Walk.{turns_at}
 use Rattle.idl_scope.proofs.FactsLaws.{outcome-under}
 use Rattle.idl_scope.proofs.LookupLaws.{denotes, reaches}
-use Rattle.idl_scope.specs.Facts.{answers}
+use Rattle.idl_env.specs.Facts.{answers}
 use Rattle.idl_scope.specs.Lookup.{denoted}
 use Rattle.idl_scope.specs.Meaning.{Denotes, entity_found, seen}
 use Rattle.idl_scope.specs.declared.fault.NameFault.{NameFault}

@@ -1,5 +1,5 @@
 use Rattle.idl_check.proofs.IdLemmas.{version-told}
-use Rattle.idl_scope.proofs.IdLemmas.{relative-elsewhere, relative-inside}
+use Rattle.idl_entity.proofs.IdLemmas.{relative-elsewhere, relative-inside}
 use Rattle.idl_check.proofs.laws.identification.Goals as goal
 
 pub returns-clause-version : goal.returns-clause-version

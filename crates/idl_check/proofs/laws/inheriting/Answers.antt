@@ -3,7 +3,7 @@ use Rattle.idl_check.proofs.ClosingLaws.{told-settled}
 use Rattle.idl_check.proofs.FittingLaws.{unit-fits}
 use Rattle.idl_check.proofs.ReachedLaws.{IsClosed, listed-reached, names_in, only-through, through-only}
 use Rattle.idl_check.proofs.SoundLaws.{sound-fits}
-use Rattle.idl_scope.specs.Facts.{answers, entity_in}
+use Rattle.idl_env.specs.Facts.{answers, entity_in}
 use Rattle.idl_check.proofs.laws.inheriting.Goals as goal
 
 pub returns : goal.returns

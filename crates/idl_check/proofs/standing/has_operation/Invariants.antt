@@ -1,6 +1,6 @@
 use Rattle.std.proofs.Common.{◌≡◌, drop, map}
 use Rattle.std.specs.List.{list_any}
-use Rattle.idl_scope.specs.Facts.{is_operation}
+use Rattle.idl_entity.specs.Entity.{is_operation}
 use Rattle.idl_check.proofs.standing.has_operation.Given as goal
 
 -- what holds of one of all is asked of the rest

@@ -5,10 +5,11 @@ use Rattle.idl_lex.specs.Keywords.{folded}
 use Rattle.idl_memo.specs.Query.{noted}
 use Rattle.idl_scope.proofs.LookupLaws.{reached-more}
 use Rattle.idl_scope.proofs.RunLemmas.{runs}
-use Rattle.idl_scope.specs.Facts.{answers, entity_key, is_operation}
-use Rattle.idl_scope.specs.Key.{key_eq}
+use Rattle.idl_entity.specs.Entity.{is_operation}
+use Rattle.idl_env.specs.Facts.{answers, entity_key}
+use Rattle.idl_env.specs.Key.{key_eq}
 use Rattle.idl_scope.specs.Lookup.{bases_of, reached}
-use Rattle.idl_scope.specs.Path.{name_of}
+use Rattle.idl_entity.specs.Path.{name_of}
 use Rattle.idl_check.proofs.standing.is_inherited.Goals as goal
 
 pub returns : goal.returns

@@ -6,10 +6,10 @@ use Rattle.idl_check.specs.Declaring.{inherited}
 use Rattle.idl_check.specs.Identifying.{ids_of}
 use Rattle.idl_lex.specs.Keywords.{folded}
 use Rattle.idl_scope.proofs.RunLemmas.{runs, seen_at}
-use Rattle.idl_scope.specs.Facts.{answers, entity_in, entity_key}
-use Rattle.idl_scope.specs.Key.{key_eq}
-use Rattle.idl_scope.specs.Path.{name_of}
-use Rattle.idl_scope.specs.declared.key.Key.TheVariants.{Declared, Introduced}
+use Rattle.idl_env.specs.Facts.{answers, entity_in, entity_key}
+use Rattle.idl_env.specs.Key.{key_eq}
+use Rattle.idl_entity.specs.Path.{name_of}
+use Rattle.idl_env.specs.declared.key.Key.TheVariants.{Declared, Introduced}
 use Rattle.idl_check.proofs.standing.standing_of.Goals as goal
 
 pub returns : goal.returns

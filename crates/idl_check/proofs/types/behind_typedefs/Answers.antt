@@ -4,8 +4,8 @@ use Rattle.std.specs.Option.{option_copied}
 use Rattle.idl_check.specs.Types.{aliased, behind_typedefs, path_in}
 use Rattle.idl_check.proofs.TypeLemmas.{behind-any, behind_end, behind_nothing, behind_on, fewer_turns, next_turn}
 use Rattle.idl_scope.proofs.RunLemmas.{runs, seen_at}
-use Rattle.idl_scope.specs.Facts.{answers, entity_in, entity_key}
-use Rattle.idl_scope.specs.declared.entity.Entity.{Entity}
+use Rattle.idl_env.specs.Facts.{answers, entity_in, entity_key}
+use Rattle.idl_entity.specs.declared.entity.Entity.{Entity}
 use Rattle.idl_check.proofs.types.behind_typedefs.Goals as goal
 
 -- what follows for a value from what is known of both

@@ -1,7 +1,7 @@
 use Rattle.std.proofs.Common.{◌≡◌, ◌≤◌, ◌-◌}
 use Rattle.idl_check.specs.Types.{behind_typedefs}
 use Rattle.idl_scope.proofs.RunLemmas.{runs}
-use Rattle.idl_scope.specs.Facts.{answers}
+use Rattle.idl_env.specs.Facts.{answers}
 use Rattle.idl_check.proofs.types.behind_typedefs.Given as goal
 
 -- what stands behind with the turns that are left, over the log so far, is what stands behind

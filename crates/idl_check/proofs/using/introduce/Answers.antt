@@ -1,8 +1,8 @@
 use Rattle.std.proofs.Common.{rules, ◌≡◌, suc, ◌+◌, ◌-◌, ◌∷◌, sym, ap, ◌∙◌, take, arith}
 use Rattle.idl_check.specs.Using.{with_uses}
 use Rattle.idl_lex.specs.Keywords.{folded}
-use Rattle.idl_scope.specs.Facts.{UnitFacts, with_addition}
-use Rattle.idl_scope.specs.declared.addition.Addition.TheVariants.{Uses}
+use Rattle.idl_env.specs.Facts.{UnitFacts, with_addition}
+use Rattle.idl_env.specs.declared.addition.Addition.TheVariants.{Uses}
 use Rattle.idl_check.proofs.using.introduce.Goals as goal
 
 pub loop-reached-preserved : goal.loop-reached-preserved

@@ -4,7 +4,7 @@ use Rattle.idl_repo.proofs.EntryLaws.{entry-noted, entry-pushed}
 use Rattle.idl_repo.proofs.WriteLemmas.{grows-between}
 use Rattle.idl_repo.specs.Entry.{closing_fault}
 use Rattle.idl_repo.specs.Pieces.{state}
-use Rattle.idl_scope.specs.Facts.{answers, entity_in}
+use Rattle.idl_env.specs.Facts.{answers, entity_in}
 use Rattle.idl_repo.proofs.entry.push_entry.Goals as goal
 
 pub returns-clause-entry : goal.returns-clause-entry

@@ -1,6 +1,6 @@
 use Rattle.idl_repo.proofs.NestingLaws.{arrays-nested, text-nested, text-plain}
 use Rattle.idl_repo.proofs.laws.nesting.Goals as goal
-use Rattle.idl_scope.specs.declared.data_type.Layer.TheVariants.{Array, Sequence}
+use Rattle.idl_entity.specs.declared.data_type.Layer.TheVariants.{Array, Sequence}
 
 pub returns-clause-plain : goal.returns-clause-plain
 returns-clause-plain c = text-plain

@@ -1,8 +1,8 @@
 use Rattle.std.proofs.Common.{rules, subst, sym}
 use Rattle.idl_root.specs.Followed.{ShareNone, StayAlike}
 use Rattle.idl_root.specs.Kept.{AreNoted}
-use Rattle.idl_scope.specs.Facts.{world}
-use Rattle.idl_scope.specs.Outside.{looked_at_by}
+use Rattle.idl_env.specs.Facts.{world}
+use Rattle.idl_env.specs.Outside.{looked_at_by}
 use Rattle.idl_root.proofs.following.stay_alike.Goals as goal
 
 pub returns-in-Some : goal.returns-in-Some

@@ -2,10 +2,10 @@ use Rattle.std.proofs.Common.{◌≡◌, ◌∙◌, [], List, Option, All, ap, s
 use Rattle.std.specs.Prelude.{Contains}
 use Rattle.idl_memo.specs.Query.{asked, run}
 use Rattle.idl_repo.specs.Entry.{entry}
-use Rattle.idl_scope.specs.Facts.{answers}
-use Rattle.idl_scope.specs.Key.{key_digest, key_eq}
-use Rattle.idl_scope.specs.declared.answer.Answer.{Answer}
-use Rattle.idl_scope.specs.declared.key.Key.{Key}
+use Rattle.idl_env.specs.Facts.{answers}
+use Rattle.idl_env.specs.Key.{key_digest, key_eq}
+use Rattle.idl_env.specs.declared.answer.Answer.{Answer}
+use Rattle.idl_env.specs.declared.key.Key.{Key}
 use Rattle.idl_root.proofs.FollowingLemmas.{keys-noted}
 use Rattle.idl_root.proofs.kept.noted_entry.Goals as goal
 

@@ -2,11 +2,11 @@ use Rattle.std.proofs.Common.{◌≡◌, ◌∙◌, ◌≤◌, [], List, Option,
 use Rattle.std.specs.Prelude.{Contains}
 use Rattle.idl_check.specs.Verdict.{verdict}
 use Rattle.idl_memo.specs.Query.{asked, run}
-use Rattle.idl_scope.specs.Facts.{answers}
-use Rattle.idl_scope.specs.Key.{key_digest, key_eq}
-use Rattle.idl_scope.specs.Turns.{turns_for}
-use Rattle.idl_scope.specs.declared.answer.Answer.{Answer}
-use Rattle.idl_scope.specs.declared.key.Key.{Key}
+use Rattle.idl_env.specs.Facts.{answers}
+use Rattle.idl_env.specs.Key.{key_digest, key_eq}
+use Rattle.idl_env.specs.Turns.{turns_for}
+use Rattle.idl_env.specs.declared.answer.Answer.{Answer}
+use Rattle.idl_env.specs.declared.key.Key.{Key}
 use Rattle.idl_root.proofs.FollowingLemmas.{keys-noted}
 use Rattle.idl_root.proofs.kept.noted_verdict.Goals as goal
 

@@ -2,7 +2,7 @@ use Rattle.std.proofs.Common.{◌≡◌, ◌∷◌, ◌++◌, ◌∙◌, ℕ, Li
 use Rattle.idl_root.specs.Printed.{closing_finding, entry_row, sought_finding, sought_row}
 use Rattle.idl_root.specs.declared.printing.Sought.{Sought}
 use Rattle.idl_root.proofs.PrintLemmas.{printed-more, sought-more}
-use Rattle.idl_scope.specs.Facts.{UnitFacts}
+use Rattle.idl_env.specs.Facts.{UnitFacts}
 use Rattle.idl_root.proofs.printing.print_all.Goals as goal
 
 pub loop-name-preserved : goal.loop-name-preserved

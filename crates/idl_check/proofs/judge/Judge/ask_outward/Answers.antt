@@ -2,8 +2,8 @@ use Rattle.std.proofs.Common.{◌∙◌}
 use Rattle.idl_check.proofs.JudgeLemmas.{turns-none, under-none}
 use Rattle.idl_lex.specs.Keywords.{folded}
 use Rattle.idl_memo.specs.Query.{run}
-use Rattle.idl_scope.specs.Facts.{answers}
-use Rattle.idl_scope.specs.Key.{key_eq}
+use Rattle.idl_env.specs.Facts.{answers}
+use Rattle.idl_env.specs.Key.{key_eq}
 use Rattle.idl_scope.specs.Lookup.{outward, under}
 use Rattle.idl_check.proofs.judge.Judge.ask_outward.Goals as goal
 

@@ -5,7 +5,7 @@ use Rattle.idl_check.proofs.VisitLemmas.{runs_over}
 use Rattle.idl_check.specs.Verdict.{judged}
 use Rattle.idl_check.specs.Walk.{walk}
 use Rattle.idl_memo.specs.Query.{and_then}
-use Rattle.idl_scope.specs.Facts.{answers}
+use Rattle.idl_env.specs.Facts.{answers}
 use Rattle.idl_site.specs.Item.{item_at, items, items_length}
 use Rattle.idl_site.specs.UnitParts.{unit_parts}
 use Rattle.idl_check.proofs.judge.Judge.by_names.Goals as goal

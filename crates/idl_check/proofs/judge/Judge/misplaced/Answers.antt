@@ -3,7 +3,7 @@ use Rattle.std.proofs.lemmas.Result.{IfOk-weaker}
 use Rattle.idl_check.proofs.JudgeLemmas.{misplaced_asking}
 use Rattle.idl_check.proofs.VisitLemmas.{runs_over}
 use Rattle.idl_check.specs.Verdict.{first_part, refused}
-use Rattle.idl_scope.specs.Facts.{answers}
+use Rattle.idl_env.specs.Facts.{answers}
 use Rattle.idl_check.proofs.judge.Judge.misplaced.Goals as goal
 
 pub returns-in-Some : goal.returns-in-Some

@@ -2,7 +2,7 @@ use Rattle.std.proofs.Common.{sym, ap, ◌∙◌}
 use Rattle.std.proofs.lemmas.Result.{IfOk-weaker}
 use Rattle.idl_check.proofs.JudgeLemmas.{first_step}
 use Rattle.idl_check.proofs.VisitLemmas.{runs_over}
-use Rattle.idl_scope.specs.Facts.{answers}
+use Rattle.idl_env.specs.Facts.{answers}
 use Rattle.idl_unit.specs.TokenRules.{token_faults}
 use Rattle.idl_check.proofs.judge.Judge.verdict.Goals as goal
 

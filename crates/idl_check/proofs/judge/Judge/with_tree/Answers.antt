@@ -3,7 +3,7 @@ use Rattle.std.proofs.lemmas.Result.{IfOk-weaker}
 use Rattle.idl_check.proofs.JudgeLemmas.{first_faults-opening, first_step, third_step}
 use Rattle.idl_check.proofs.VerdictLaws.{spelled-tree}
 use Rattle.idl_check.proofs.VisitLemmas.{runs_over}
-use Rattle.idl_scope.specs.Facts.{answers}
+use Rattle.idl_env.specs.Facts.{answers}
 use Rattle.idl_unit.specs.Faults.{least_fault}
 use Rattle.idl_check.proofs.judge.Judge.with_tree.Goals as goal
 

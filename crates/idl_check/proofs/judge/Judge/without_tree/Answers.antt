@@ -4,7 +4,7 @@ use Rattle.idl_check.proofs.JudgeLemmas.{first_faults-opening, first_step, secon
 use Rattle.idl_check.proofs.VerdictLaws.{stopped-tree}
 use Rattle.idl_check.proofs.VisitLemmas.{runs_over}
 use Rattle.idl_check.specs.Verdict.{refused}
-use Rattle.idl_scope.specs.Facts.{answers}
+use Rattle.idl_env.specs.Facts.{answers}
 use Rattle.idl_unit.specs.Faults.{least_fault}
 use Rattle.idl_check.proofs.judge.Judge.without_tree.Goals as goal
 

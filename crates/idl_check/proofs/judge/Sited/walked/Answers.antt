@@ -4,8 +4,8 @@ use Rattle.idl_check.proofs.JudgeLemmas.{judged_faulty, judged_from, judged_soun
 use Rattle.idl_check.proofs.VisitLemmas.{runs_over}
 use Rattle.idl_check.specs.Held.{held}
 use Rattle.idl_check.specs.Walk.{walk}
-use Rattle.idl_scope.specs.Facts.{answers}
-use Rattle.idl_scope.specs.Turns.{turns_for}
+use Rattle.idl_env.specs.Facts.{answers}
+use Rattle.idl_env.specs.Turns.{turns_for}
 use Rattle.idl_check.proofs.judge.Sited.walked.Goals as goal
 
 pub sound-requires : goal.sound-requires

@@ -8,9 +8,9 @@ use Rattle.idl_check.specs.Pragmas.{id_faults}
 use Rattle.idl_check.specs.Using.{last_at}
 use Rattle.idl_check.specs.Verdict.{faulty, pragma_verdict}
 use Rattle.idl_event.specs.declared.code.Code.TheVariants.{BadIdText, RepeatedId}
-use Rattle.idl_scope.specs.Facts.{answers}
-use Rattle.idl_scope.specs.declared.addition.Addition.TheVariants.{Identifies}
-use Rattle.idl_scope.specs.declared.addition.Step.TheVariants.{Stays}
+use Rattle.idl_env.specs.Facts.{answers}
+use Rattle.idl_env.specs.declared.addition.Addition.TheVariants.{Identifies}
+use Rattle.idl_env.specs.declared.addition.Step.TheVariants.{Stays}
 use Rattle.idl_tree.specs.declared.pragma.Pragma.TheVariants as pragma
 use Rattle.idl_unit.specs.TokenRules.{fault_at}
 use Rattle.idl_check.proofs.pragmas.Speaker.id.Goals as goal

@@ -9,13 +9,13 @@ use Rattle.idl_check.specs.Pragmas.{refused_for}
 use Rattle.idl_check.specs.Using.{last_at, name_code, part_at}
 use Rattle.idl_event.specs.declared.code.Code.TheVariants.{NoRepositoryId}
 use Rattle.idl_memo.specs.Query.{noted}
-use Rattle.idl_scope.specs.Facts.{answers, identity_at}
-use Rattle.idl_scope.specs.Key.{key_eq}
+use Rattle.idl_env.specs.Facts.{answers, identity_at}
+use Rattle.idl_env.specs.Key.{key_eq}
 use Rattle.idl_scope.specs.Lookup.{denoted, under}
-use Rattle.idl_scope.specs.declared.entity.Entity.{Entity}
+use Rattle.idl_entity.specs.declared.entity.Entity.{Entity}
 use Rattle.idl_scope.specs.declared.fault.NameFault.TheVariants.{At}
-use Rattle.idl_scope.specs.declared.key.Key.TheVariants.{IdOf}
-use Rattle.idl_scope.specs.Turns.{turns_for}
+use Rattle.idl_env.specs.declared.key.Key.TheVariants.{IdOf}
+use Rattle.idl_env.specs.Turns.{turns_for}
 use Rattle.idl_unit.specs.TokenRules.{fault_at}
 use Rattle.idl_check.proofs.pragmas.Speaker.named.Goals as goal
 

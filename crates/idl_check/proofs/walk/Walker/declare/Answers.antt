@@ -4,9 +4,9 @@ use Rattle.idl_check.specs.Codes.{codes_in}
 use Rattle.idl_check.specs.Declaring.{declared_table, standing}
 use Rattle.idl_check.specs.Held.{held}
 use Rattle.idl_check.specs.Walk.{declared_visit, noted_in, turns_at}
-use Rattle.idl_scope.specs.Facts.{answers}
+use Rattle.idl_env.specs.Facts.{answers}
 use Rattle.idl_scope.specs.Lookup.{under}
-use Rattle.idl_scope.specs.Path.{scope_of}
+use Rattle.idl_entity.specs.Path.{scope_of}
 use Rattle.idl_unit.specs.TokenRules.{first}
 use Rattle.idl_check.proofs.walk.Walker.declare.Goals as goal
 

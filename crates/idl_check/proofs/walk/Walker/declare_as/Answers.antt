@@ -7,9 +7,9 @@ use Rattle.idl_check.specs.Identifying.{with_identity}
 use Rattle.idl_check.specs.Bodies.{with_member}
 use Rattle.idl_check.specs.Walk.{Walk, is_begun}
 use Rattle.idl_check.specs.declared.walk.Walker.{Walker}
-use Rattle.idl_scope.specs.Facts.{with_addition}
-use Rattle.idl_scope.specs.declared.addition.Addition.{Addition}
-use Rattle.idl_scope.specs.declared.addition.Addition.TheVariants.{Declares}
+use Rattle.idl_env.specs.Facts.{with_addition}
+use Rattle.idl_env.specs.declared.addition.Addition.{Addition}
+use Rattle.idl_env.specs.declared.addition.Addition.TheVariants.{Declares}
 use Rattle.idl_check.proofs.walk.Walker.declare_as.Goals as goal
 
 pub returns-clause-visit : goal.returns-clause-visit

@@ -6,10 +6,10 @@ use Rattle.idl_check.specs.Types.{looked_through}
 use Rattle.idl_check.specs.Using.{values_after}
 use Rattle.idl_check.specs.Walk.{noted_in, turns_at, unfound_visit, unions_without, used_visit}
 use Rattle.std.specs.Prelude.{None}
-use Rattle.idl_scope.specs.Facts.{answers}
+use Rattle.idl_env.specs.Facts.{answers}
 use Rattle.idl_scope.specs.Lookup.{denoted, under}
 use Rattle.idl_scope.specs.declared.fault.NameFault.TheVariants.{At}
-use Rattle.idl_scope.specs.Turns.{HasTurnsFor, turns_among, turns_for}
+use Rattle.idl_env.specs.Turns.{HasTurnsFor, turns_among, turns_for}
 use Rattle.idl_check.proofs.walk.Walker.use_any.Goals as goal
 
 pub use_nothing-requires-clause-part : goal.use_nothing-requires-clause-part

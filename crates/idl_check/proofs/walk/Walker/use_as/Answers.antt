@@ -9,8 +9,8 @@ use Rattle.idl_check.specs.Using.{bases_after, constants_after, last_at, type_af
 use Rattle.idl_check.specs.Walk.{Walk, noted}
 use Rattle.idl_check.specs.declared.walk.Walker.{Walker}
 use Rattle.idl_lex.specs.Keywords.{folded}
-use Rattle.idl_scope.specs.declared.addition.Addition.{Addition}
-use Rattle.idl_scope.specs.declared.entity.Entity.{Entity}
+use Rattle.idl_env.specs.declared.addition.Addition.{Addition}
+use Rattle.idl_entity.specs.declared.entity.Entity.{Entity}
 use Rattle.idl_unit.specs.TokenRules.{fault_at, first}
 use Rattle.idl_check.proofs.walk.Walker.use_as.Goals as goal
 

@@ -2,7 +2,7 @@ use Rattle.std.proofs.Common.{◌∙◌, sym}
 use Rattle.std.proofs.lemmas.Bool.{false≢true}
 use Rattle.idl_check.proofs.VisitLemmas.{given-head}
 use Rattle.idl_check.specs.Held.{held}
-use Rattle.idl_scope.specs.Facts.{answers}
+use Rattle.idl_env.specs.Facts.{answers}
 use Rattle.idl_check.proofs.walk.Walker.use_given.Goals as goal
 
 pub returns-clause-run : goal.returns-clause-run

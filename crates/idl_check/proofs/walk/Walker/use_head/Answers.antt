@@ -5,9 +5,10 @@ use Rattle.idl_check.specs.Held.{held}
 use Rattle.idl_check.specs.Using.{last_at, name_code}
 use Rattle.idl_check.specs.Walk.{noted, turns_at}
 use Rattle.idl_event.specs.declared.code.Code.TheVariants.{NoScope}
-use Rattle.idl_scope.specs.Facts.{answers}
-use Rattle.idl_scope.specs.Lookup.{denoted, is_scope, under}
-use Rattle.idl_scope.specs.declared.entity.Entity.{Entity}
+use Rattle.idl_env.specs.Facts.{answers}
+use Rattle.idl_entity.specs.Kind.{is_scope}
+use Rattle.idl_scope.specs.Lookup.{denoted, under}
+use Rattle.idl_entity.specs.declared.entity.Entity.{Entity}
 use Rattle.idl_unit.specs.TokenRules.{fault_at}
 use Rattle.idl_check.proofs.walk.Walker.use_head.Goals as goal
 

@@ -2,7 +2,7 @@ use Rattle.std.proofs.Common.{sym, ◌∙◌, arith}
 use Rattle.idl_check.proofs.NameLemmas.{behind_name}
 use Rattle.idl_check.proofs.VisitLemmas.{given_by, named_plain}
 use Rattle.idl_check.specs.Held.{held}
-use Rattle.idl_scope.specs.Facts.{answers}
+use Rattle.idl_env.specs.Facts.{answers}
 use Rattle.idl_check.proofs.walk.Walker.use_name.Goals as goal
 
 pub use_given-requires : goal.use_given-requires

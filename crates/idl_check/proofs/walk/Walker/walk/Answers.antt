@@ -3,9 +3,9 @@ use Rattle.std.proofs.lemmas.List.{drop_all}
 use Rattle.idl_check.proofs.VisitLemmas.{runs_over, walk_end, walk_on, walk_over}
 use Rattle.idl_check.specs.Held.{held, visited}
 use Rattle.idl_check.specs.Walk.{walk}
-use Rattle.idl_scope.proofs.PlaceLemmas.{from_here}
-use Rattle.idl_scope.specs.Facts.{answers}
-use Rattle.idl_scope.specs.Turns.{turns_for}
+use Rattle.idl_env.proofs.PlaceLemmas.{from_here}
+use Rattle.idl_env.specs.Facts.{answers}
+use Rattle.idl_env.specs.Turns.{turns_for}
 use Rattle.idl_site.specs.Item.{item_at, items_length}
 use Rattle.idl_check.proofs.walk.Walker.walk.Goals as goal
 

@@ -2,8 +2,8 @@ use Rattle.std.proofs.Common.{◌≡◌, ◌≤◌, ℕ, drop, map}
 use Rattle.idl_check.specs.Held.{HasRoomFor, held}
 use Rattle.idl_check.specs.Walk.{walk}
 use Rattle.idl_check.proofs.VisitLemmas.{runs_over}
-use Rattle.idl_scope.specs.Facts.{answers}
-use Rattle.idl_scope.specs.Turns.{turns_for}
+use Rattle.idl_env.specs.Facts.{answers}
+use Rattle.idl_env.specs.Turns.{turns_for}
 use Rattle.idl_site.specs.Item.{item_at}
 use Rattle.idl_check.proofs.walk.Walker.walk.Given as goal
 

@@ -4,9 +4,9 @@ use Rattle.idl_repo.proofs.RowLemmas.{head-then}
 use Rattle.idl_repo.proofs.WriteLemmas.{grows-as, grows-id-as, grows-then, id-then, id-told, says-as, says-then, says-two}
 use Rattle.idl_repo.specs.Row.{kind_word, path_text}
 use Rattle.idl_repo.specs.TypeCode.{kind_in, rest_pieces}
-use Rattle.idl_scope.specs.Facts.{answers}
-use Rattle.idl_scope.specs.Key.{key_eq}
-use Rattle.idl_scope.specs.declared.key.Key.TheVariants as key
+use Rattle.idl_env.specs.Facts.{answers}
+use Rattle.idl_env.specs.Key.{key_eq}
+use Rattle.idl_env.specs.declared.key.Key.TheVariants as key
 use Rattle.idl_repo.proofs.row.RowWriter.push_row.Goals as goal
 
 pub returns-in_ok-push_bases-in-Some : goal.returns-in_ok-push_bases-in-Some

@@ -1,6 +1,6 @@
 use Rattle.std.proofs.Common.{ap}
 use Rattle.idl_repo.proofs.WriteLemmas.{grows-id-as}
-use Rattle.idl_scope.specs.Facts.{id_at}
+use Rattle.idl_env.specs.Facts.{id_at}
 use Rattle.idl_repo.proofs.row_writer.RowWriter.push_id.Goals as goal
 
 pub returns : goal.returns

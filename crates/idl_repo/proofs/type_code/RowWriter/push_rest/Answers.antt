@@ -1,6 +1,6 @@
 use Rattle.std.proofs.Common.{◌∙◌, ap}
 use Rattle.idl_repo.proofs.WriteLemmas.{grows-text, grows-then, says-as, says-then}
-use Rattle.idl_scope.specs.Path.{name_of}
+use Rattle.idl_entity.specs.Path.{name_of}
 use Rattle.idl_repo.proofs.type_code.RowWriter.push_rest.Goals as goal
 
 pub returns : goal.returns

@@ -2,7 +2,7 @@ use Rattle.std.proofs.Common.{◌∙◌, ap, flat_map}
 use Rattle.std.proofs.lemmas.Result.{on_ok_weaker}
 use Rattle.idl_repo.proofs.WriteLemmas.{grown-on_ok, grows-as, grows-text, grows-then, says-as, text-as}
 use Rattle.idl_repo.specs.TypeCode.{element_pieces, layer_end, layers_begin}
-use Rattle.idl_scope.specs.declared.data_type.DataType.{DataType}
+use Rattle.idl_entity.specs.declared.data_type.DataType.{DataType}
 use Rattle.idl_repo.proofs.type_code.RowWriter.push_type.Goals as goal
 
 pub returns-in_default : goal.returns-in_default

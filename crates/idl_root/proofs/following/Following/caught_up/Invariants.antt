@@ -1,6 +1,6 @@
 use Rattle.std.proofs.Common.{List}
 use Rattle.idl_root.specs.Followed.{IsFollowed}
-use Rattle.idl_scope.specs.Facts.{UnitFacts}
+use Rattle.idl_env.specs.Facts.{UnitFacts}
 use Rattle.idl_root.proofs.following.Following.caught_up.Given as goal
 
 abbrev pub invariant-loop-following : goal.invariant-loop-following

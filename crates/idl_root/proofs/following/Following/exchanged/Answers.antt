@@ -3,8 +3,8 @@ use Rattle.idl_root.specs.Followed.{StayAlike}
 use Rattle.idl_root.specs.Kept.{added_by}
 use Rattle.idl_root.specs.declared.kept.KeptUnit.{KeptUnit}
 use Rattle.idl_root.specs.declared.kept.KeptUnit.TheVariants.{Judged}
-use Rattle.idl_scope.specs.Facts.{UnitFacts, key_of}
-use Rattle.idl_scope.specs.Key.{key_digest}
+use Rattle.idl_env.specs.Facts.{UnitFacts, key_of}
+use Rattle.idl_env.specs.Key.{key_digest}
 use Rattle.idl_root.proofs.FollowingLemmas.{beside-other}
 use Rattle.idl_root.proofs.following.Following.exchanged.Goals as goal
 

@@ -1,9 +1,9 @@
 use Rattle.std.proofs.Common.{◌≡◌, ◌∷◌, ◌++◌, ◌∙◌, [], ap, map, rules, subst, true}
 use Rattle.idl_root.specs.Followed.{ShareNone}
 use Rattle.idl_root.specs.Kept.{added_by}
-use Rattle.idl_scope.specs.Facts.{entity_key}
-use Rattle.idl_scope.specs.Key.{key_digest}
-use Rattle.idl_scope.specs.declared.key.Key.TheVariants.{Cursor}
+use Rattle.idl_env.specs.Facts.{entity_key}
+use Rattle.idl_env.specs.Key.{key_digest}
+use Rattle.idl_env.specs.declared.key.Key.TheVariants.{Cursor}
 use Rattle.idl_root.proofs.FollowingLemmas.{beside-closing}
 use Rattle.idl_root.proofs.following.Following.with_closing.Goals as goal
 

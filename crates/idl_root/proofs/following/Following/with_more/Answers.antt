@@ -1,8 +1,8 @@
 use Rattle.std.proofs.Common.{◌≡◌, ◌++◌, [], false, map, rules}
 use Rattle.idl_root.specs.Kept.{added_by}
-use Rattle.idl_scope.specs.Facts.{key_of, operations_among}
-use Rattle.idl_scope.specs.Key.{key_digest}
-use Rattle.idl_scope.specs.declared.addition.Step.TheVariants.{Stays}
+use Rattle.idl_env.specs.Facts.{key_of, operations_among}
+use Rattle.idl_env.specs.Key.{key_digest}
+use Rattle.idl_env.specs.declared.addition.Step.TheVariants.{Stays}
 use Rattle.idl_root.proofs.FollowingLemmas.{beside-more}
 use Rattle.idl_root.proofs.following.Following.with_more.Goals as goal
 

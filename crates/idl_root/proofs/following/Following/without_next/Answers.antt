@@ -2,9 +2,9 @@ use Rattle.std.proofs.Common.{◌≡◌, ◌++◌, [], false, map, rules}
 use Rattle.idl_root.specs.Kept.{added_by}
 use Rattle.idl_root.specs.declared.kept.KeptUnit.{KeptUnit}
 use Rattle.idl_root.specs.declared.kept.KeptUnit.TheVariants.{Judged}
-use Rattle.idl_scope.specs.Facts.{UnitFacts, key_of, operations_among}
-use Rattle.idl_scope.specs.Key.{key_digest}
-use Rattle.idl_scope.specs.declared.addition.Step.TheVariants.{Stays}
+use Rattle.idl_env.specs.Facts.{UnitFacts, key_of, operations_among}
+use Rattle.idl_env.specs.Key.{key_digest}
+use Rattle.idl_env.specs.declared.addition.Step.TheVariants.{Stays}
 use Rattle.idl_root.proofs.FollowingLemmas.{beside-less}
 use Rattle.idl_root.proofs.following.Following.without_next.Goals as goal
 

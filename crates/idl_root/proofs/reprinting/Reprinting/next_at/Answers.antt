@@ -1,7 +1,7 @@
 use Rattle.std.proofs.Common.{◌≡◌, ◌∷◌, ◌∙◌, ap, rules, sym}
 use Rattle.idl_root.specs.Kept.{IsPrinted}
 use Rattle.idl_root.specs.declared.kept.KeptEntry.{KeptEntry}
-use Rattle.idl_scope.specs.contracts.path.PathDatum.TheImpl.Laws.{same-law}
+use Rattle.idl_entity.specs.contracts.path.PathDatum.TheImpl.Laws.{same-law}
 use Rattle.idl_root.proofs.FollowingLemmas.{all-first}
 use Rattle.idl_root.proofs.reprinting.Reprinting.next_at.Goals as goal
 

@@ -1,6 +1,6 @@
 use Rattle.std.proofs.Common.{◌≡◌, List, length}
 use Rattle.idl_root.specs.Followed.{ArePrinted}
-use Rattle.idl_scope.specs.Facts.{UnitFacts}
+use Rattle.idl_env.specs.Facts.{UnitFacts}
 use Rattle.idl_root.proofs.reprinting.Reprinting.next_at.Given as goal
 
 abbrev pub invariant-loop-first : goal.invariant-loop-first

@@ -1,9 +1,9 @@
 use Rattle.std.proofs.Common.{◌≡◌, ◌∷◌, [], sym, ap, ◌∙◌}
 use Rattle.std.proofs.lemmas.Result.{IfOk-weaker}
-use Rattle.idl_scope.specs.Facts.{answers, global_scope}
+use Rattle.idl_env.specs.Facts.{answers, global_scope}
 use Rattle.idl_scope.specs.Finds.{those}
 use Rattle.idl_scope.specs.Lookup.{has, outward, searched}
-use Rattle.idl_scope.specs.declared.kind.Kind.TheVariants.{Module}
+use Rattle.idl_entity.specs.declared.kind.Kind.TheVariants.{Module}
 use Rattle.idl_scope.proofs.RunLemmas.{outward_alone, runs}
 use Rattle.idl_scope.proofs.lookup.View.first_found.Goals as goal
 

@@ -1,5 +1,5 @@
 use Rattle.std.proofs.Common.{◌≡◌, ◌∷◌, sym, ap, ◌∙◌, true, false}
-use Rattle.idl_scope.specs.Facts.{answers}
+use Rattle.idl_env.specs.Facts.{answers}
 use Rattle.idl_scope.specs.Finds.{those}
 use Rattle.idl_scope.specs.Lookup.{is_nothing, outward}
 use Rattle.idl_scope.proofs.RunLemmas.{outward_found, outward_on, runs}

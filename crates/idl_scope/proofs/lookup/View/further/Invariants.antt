@@ -1,5 +1,5 @@
 use Rattle.std.proofs.Common.{◌≡◌, ℕ, ◌≤◌, drop}
-use Rattle.idl_scope.specs.Facts.{answers}
+use Rattle.idl_env.specs.Facts.{answers}
 use Rattle.idl_scope.specs.Lookup.{further}
 use Rattle.idl_scope.proofs.RunLemmas.{runs}
 use Rattle.idl_scope.proofs.lookup.View.further.Given as goal

@@ -1,5 +1,5 @@
 use Rattle.std.proofs.Common.{arith}
-use Rattle.idl_scope.proofs.DeclaredLemmas.{declared-few}
+use Rattle.idl_env.proofs.DeclaredLemmas.{declared-few}
 use Rattle.idl_scope.proofs.lookup.View.most_declared.Goals as goal
 
 pub returns-clause-most : goal.returns-clause-most

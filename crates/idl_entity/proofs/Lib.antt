@@ -1,0 +1,3 @@
+mod FewLemmas
+pub mod IdLemmas
+pub mod PathLemmas

@@ -1,0 +1,9 @@
+pub mod DataType
+pub mod Details
+pub mod Digest
+pub mod Entity
+pub mod Identity
+pub mod Kind
+pub mod Path
+pub mod Signature
+pub mod Unvalued

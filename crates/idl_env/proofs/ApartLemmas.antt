@@ -1,0 +1,60 @@
+-- The keys at which facts look, and their digests.
+use Rattle.std.proofs.Common.{◌≡◌, ℕ, List, [], ◌∷◌, map, Some, refl, sym, ap, ◌∙◌, subst, Bool, true, false, cond, Option, None, inl}
+use Rattle.std.specs.Prelude.{All, Contains}
+use Rattle.std.proofs.lemmas.List.Elements.{All-weaker, All-contains_itself}
+use Rattle.std.proofs.lemmas.Option.{same_Some}
+use Rattle.idl_lex.specs.Keywords.{folded}
+use Rattle.idl_entity.specs.Digest.{path_digest, under}
+use Rattle.idl_env.specs.Facts.{UnitFacts, World, entity_key, scopes_in, with_additions, entity_in}
+use Rattle.idl_env.specs.Held.{closable}
+use Rattle.idl_env.specs.Key.{key_digest}
+use Rattle.idl_entity.specs.Kind.{kind_eq}
+use Rattle.idl_env.specs.Outside.{gathered_at, looked_at, looked_at_by}
+use Rattle.idl_entity.specs.Path.{name_of, scope_of}
+use Rattle.idl_env.specs.declared.addition.Step.TheVariants.{Closes}
+use Rattle.idl_env.specs.declared.answer.Answer.{Answer}
+use Rattle.idl_env.specs.declared.answer.Scope.{Scope}
+use Rattle.idl_env.specs.declared.key.Key.{Key}
+use Rattle.idl_env.specs.declared.key.Key.TheVariants.{Cursor}
+use Rattle.idl_env.proofs.Membership.{Contains-IsIn, IsIn-Contains, IsIn-map, IsIn}
+use Rattle.idl_entity.specs.declared.kind.Kind.TheVariants.{Interface}
+
+-- what is gathered is told from either of two worlds, since it is looked at itself
+module _ (w v : World) where
+  pub gathered_at-same : (scopes : List Scope) → ((k : Key) → IsIn k (gathered_at v scopes) → v.answers k ≡ w.answers k) → gathered_at w scopes ≡ gathered_at v scopes
+  gathered_at-same [] h = refl
+  gathered_at-same (s ∷ []) h = refl
+  gathered_at-same (s ∷ t ∷ outer) h = by (kind_eq s.kind Interface) h
+    where
+      at : Option Answer → List Key
+      at o = entity_key s.path ∷ elim (entity_in o) [ None ↦ [] | Some e ↦ map entity_key e.bases ]
+
+      by : (b : Bool) → ((k : Key) → IsIn k (cond b (at (v.answers (entity_key s.path))) []) → v.answers k ≡ w.answers k)
+          → cond b (at (w.answers (entity_key s.path))) [] ≡ cond b (at (v.answers (entity_key s.path))) []
+      by true g = ap at (sym (g (entity_key s.path) (inl refl)))
+      by false g = refl
+
+-- the digest of each key is among theirs
+pub digests-told : (keys looked : List Key) (digests : List ℕ) → looked ≡ keys → digests ≡ map key_digest keys → All (λ k. Contains digests (key_digest k)) looked
+digests-told keys looked digests same told =
+    let digest_in : (k : Key) → Contains keys k → Contains (map key_digest keys) (key_digest k) = λ k c.
+    Contains-IsIn (key_digest k) (map key_digest keys) (IsIn-map key_digest k keys (IsIn-Contains k keys c)) in
+    let here : All (λ k. Contains digests (key_digest k)) keys = All-weaker (Contains keys) (λ k. Contains digests (key_digest k)) (λ k c. subst (λ (ds : List ℕ). Contains ds (key_digest k)) (sym told) (digest_in k c)) keys (All-contains_itself keys) in
+    subst (λ (ks : List Key). All (λ k. Contains digests (key_digest k)) ks) (sym same) here
+
+-- the digest of the key of what stands at a path
+pub entity_digest-is : (path : List (List ℕ)) → under (path_digest (scope_of path)) (folded (name_of path)) ≡ key_digest (entity_key path)
+unfolding key_digest
+entity_digest-is path = refl
+
+-- the keys at which the closing of a scope looks, without additions
+pub looked_at_by-closing : (w : World) (f : UnitFacts) → f.step ≡ Closes → f.additions ≡ [] → looked_at_by w f ≡ Cursor ∷ gathered_at w (scopes_in (w.answers Cursor))
+looked_at_by-closing w f step none =
+    (λ i. looked_at (with_additions (none i) w) (step i))
+    ∙ ap (λ ks. Cursor ∷ ks) (gathered_at-same (with_additions [] w) w (scopes_in (w.answers Cursor)) (λ k i. refl))
+
+-- of the scopes of which one can be closed it is the innermost, and another is around it
+pub closable-innermost : (scopes : List Scope) (s : Scope) (outer : List Scope) → closable scopes ≡ Some (s, outer) → (t : Scope) × (more : List Scope) × (scopes ≡ s ∷ t ∷ more)
+closable-innermost [] s outer h = cc
+closable-innermost (x ∷ []) s outer h = cc
+closable-innermost (x ∷ t ∷ more) s outer h = (t, more, ap (λ p. p.0 ∷ t ∷ more) (same_Some (x, t ∷ more) (s, outer) h))

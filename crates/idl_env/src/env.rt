@@ -1,0 +1,156 @@
+//! The environment: what the facts so far answer.
+
+ghost use Rattle.std.specs.Prelude.{◌≡◌, ◌∷◌, ◌++◌, [], IfOk, ◌+◌, ◌<◌, ◌≤◌, length};
+ghost use Rattle.std.specs.Option.{option_copied};
+ghost use Rattle.idl_env.specs.Facts.{answers};
+ghost use Rattle.idl_env.specs.Turns.{declared_named};
+
+use crate::answer::Answer;
+use crate::count::{one_more, sum};
+use crate::digested::DigestedKey;
+use crate::facts::Facts;
+use crate::key::Key;
+use crate::room::{Room, Writes};
+use crate::state::State;
+use idl_base::GhostList;
+use idl_map::Lent;
+use idl_memo::Bank;
+use std::alloc::{AllocError, Global};
+use std::marker::Model;
+
+/// The answers over the facts that units added so far. To every contract it is the list of these facts, none of which is
+/// kept once it is answered by.
+pub struct Env {
+    alloc: Global,
+    facts: GhostList<Facts>,
+    // No fewer than the facts and what they declare, since no count among the answers is larger, and no chain of typedefs longer.
+    count: usize,
+    // It stands apart, since an environment is handed on with each unit.
+    state: Box<State>,
+}
+
+impl Model for Env {
+    ghost use Rattle.std.specs.Prelude.{◌≡◌, ◌+◌, ◌≤◌, List, length};
+    ghost use Rattle.idl_env.specs.Facts.{UnitFacts, world};
+    ghost use Rattle.idl_env.specs.Held.{held};
+    ghost use Rattle.idl_env.specs.Turns.{declared_named};
+
+    ghost Value = { List UnitFacts };
+
+    ghost view = { λ env. env.facts };
+
+    ghost invariant = { λ env.
+        (length env.facts + length (declared_named env.facts) ≤ env.count)
+        × (held env.state.value ≡ world env.facts) };
+}
+
+impl Drop for Env {
+    fn drop(self) {
+        let Env {
+            alloc: _alloc,
+            facts: _facts,
+            count: _count,
+            state: _state,
+        } = self;
+    }
+}
+
+impl Env {
+    /// Nothing is declared, and the global scope is open.
+    pub fn new(alloc: Global) -> Result<Env, AllocError>
+        ensures { IfOk result (λ env. env ≡ []) }
+    {
+        let state = Box::new(alloc, State::new(alloc)?)?;
+        Ok(Env {
+            alloc,
+            facts: GhostList::new(),
+            count: 0,
+            state,
+        })
+    }
+
+    /// No fewer than the entities that are declared, each as often as it is.
+    pub fn most_declared(&self) -> usize
+        ensures { length (declared_named self.now) ≤ result }
+    {
+        self.count
+    }
+
+    /// Where it takes memory.
+    pub fn alloc(&self) -> Global {
+        self.alloc
+    }
+
+    /// The facts so far and these. Refused, this environment is given up.
+    pub fn add(self, facts: &Facts) -> Result<Env, AllocError>
+        ensures { IfOk result (λ env. env ≡ self ++ facts.now ∷ []) }
+    {
+        let Env {
+            alloc,
+            facts: before,
+            count,
+            mut state,
+        } = self;
+        let count = counted(count, facts)?;
+        state.add(alloc, facts)?;
+        Ok(Env {
+            alloc,
+            facts: before.and(facts),
+            count,
+            state,
+        })
+    }
+
+    /// The facts so far and these, which are given up. Refused, this environment is too. Their memory is room for others.
+    pub fn add_own(self, facts: Writes, room: &mut Room) -> Result<Env, AllocError>
+        ensures { IfOk result (λ env. env ≡ self ++ facts ∷ []) }
+    {
+        let Env {
+            alloc,
+            facts: before,
+            count,
+            mut state,
+        } = self;
+        let count = counted(count, facts.get())?;
+        let after = before.and(facts.get());
+        let mut facts = facts;
+        state.add_own(alloc, &mut facts.inner)?;
+        room.give(facts);
+        Ok(Env {
+            alloc,
+            facts: after,
+            count,
+            state,
+        })
+    }
+}
+
+// The count with these facts and what they add. One that is larger than memory can hold things is want of it.
+fn counted(count: usize, facts: &Facts) -> Result<usize, AllocError>
+    ensures more { IfOk result (λ n. n ≡ count + length facts.now.additions + 1) }
+    ensures room { IfOk result (λ n. count < 18446744073709551615) }
+{
+    one_more(sum(count, facts.len())?)
+}
+
+impl Bank for Env {
+    ghost use Rattle.idl_env.specs.Facts.{answers};
+
+    type Key = DigestedKey;
+
+    type Answer = Answer;
+
+    ghost at = { answers };
+
+    fn answer(&self, key: &DigestedKey) -> Option<&Answer>
+        ensures { option_copied result ≡ answers self.now key.now }
+    {
+        self.state.answers.get(key)
+    }
+
+    fn answer_lent<L: Lent<DigestedKey>>(&self, key: &L) -> Result<Option<&Answer>, AllocError>
+        ensures { IfOk result (λ answer. option_copied answer ≡ answers self.now (L.key key.now)) }
+    {
+        self.state.answers.get_lent(key)
+    }
+}
