@@ -5,7 +5,7 @@ use Rattle.std.proofs.lemmas.List.Elements.{All-head, All-tail}
 use Rattle.std.specs.Prelude.{All, ◌&&◌, nat_eq, nat_lt}
 use Rattle.idl_check.specs.Judging.{IsNotAfter}
 use Rattle.idl_check.specs.Walk.{noted}
-use Rattle.idl_event.specs.Code.{number_of}
+use Rattle.idl_fault.specs.Code.{number_of}
 use Rattle.idl_unit.specs.Faults.{lesser_fault}
 use Rattle.idl_unit.specs.declared.fault.Fault.{Fault}
 use Rattle.idl_check.proofs.FaultOrder.{Leads}

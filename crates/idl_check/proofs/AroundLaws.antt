@@ -7,14 +7,15 @@ use Rattle.std.specs.Prelude.{All}
 use Rattle.idl_check.specs.Codes.{Table, codes_in, faults_by}
 use Rattle.idl_check.specs.Declaring.{Written, entity_of, kind_of, standing}
 use Rattle.idl_check.specs.Labels.{Labels, no_labels, with_default, with_label}
+use Rattle.idl_tree.specs.NameParts.{last_at}
 use Rattle.idl_check.specs.Rules.{has_no_constants, is_incomplete, is_no_discriminator, suits}
 use Rattle.idl_check.specs.Sections.{is_single}
 use Rattle.idl_check.specs.Types.{constants_of, looked_through, target_in, written_as}
-use Rattle.idl_check.specs.Using.{constants_after, last_at, suited_table, unions_after, used_table, values_after}
+use Rattle.idl_check.specs.Using.{constants_after, suited_table, unions_after, used_table, values_after}
 use Rattle.idl_check.specs.Values.{Values}
 use Rattle.idl_check.specs.Walk.{Visit, Walk, declared_visit, turns_at, used, used_visit, valued_after, visit, with_labels, with_scope}
-use Rattle.idl_event.specs.declared.code.Code.{Code}
-use Rattle.idl_event.specs.declared.code.Code.TheVariants as code
+use Rattle.idl_fault.specs.declared.code.Code.{Code}
+use Rattle.idl_fault.specs.declared.code.Code.TheVariants as code
 use Rattle.idl_memo.proofs.QueryLaws.{outcome-and_then}
 use Rattle.idl_memo.specs.Query.{Done, outcome}
 use Rattle.idl_entity.specs.DataType.{plain_type}

@@ -6,7 +6,7 @@ use Rattle.std.specs.Prelude.{All, pos, negsuc}
 use Rattle.idl_check.specs.AllFaults.{evaluation_faults, first_token, placed_at}
 use Rattle.idl_check.specs.Values.{code_of, evaluation_for, evaluation_in}
 use Rattle.idl_check.specs.Walk.{Walk, begin_of, is_repeated, noted, token_of, value_visit}
-use Rattle.idl_event.specs.declared.code.Code.TheVariants.{RepeatedLabel}
+use Rattle.idl_fault.specs.declared.code.Code.TheVariants.{RepeatedLabel}
 use Rattle.idl_site.proofs.ExpressionSpelling.{expression_spells-parts}
 use Rattle.idl_site.proofs.UnitSpelling.{counted}
 use Rattle.idl_site.specs.ExpressionParts.{expression_parts}

@@ -3,8 +3,8 @@ use Rattle.std.proofs.Common.{◌≡◌, ◌∙◌, ◌<◌, ◌≤◌, ℕ, Lis
 use Rattle.std.proofs.lemmas.Bool.{and_left, and_right, cond-false, cond_both, le-ltb, ne_eqb, or_from}
 use Rattle.std.proofs.lemmas.List.Elements.{All-cons, All-head, All-map, All-nil, All-tail, All-weaker}
 use Rattle.std.specs.Prelude.{All, fold, nat_eq, nat_lt, ◌&&◌, ◌||◌, ⊤}
-use Rattle.idl_event.specs.Code.{number_of}
-use Rattle.idl_event.specs.declared.code.Code.{Code}
+use Rattle.idl_fault.specs.Code.{number_of}
+use Rattle.idl_fault.specs.declared.code.Code.{Code}
 use Rattle.idl_unit.specs.Faults.{least_fault, lesser_fault}
 use Rattle.idl_unit.specs.TokenRules.{fault_at}
 use Rattle.idl_unit.specs.declared.fault.Fault.{Fault}

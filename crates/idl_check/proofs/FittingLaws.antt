@@ -6,11 +6,11 @@ use Rattle.idl_check.proofs.VerdictLaws.{faulty-is, sound-is}
 use Rattle.idl_check.proofs.SettledLaws.{Once}
 use Rattle.idl_check.specs.Identifying.{given, versioned}
 use Rattle.idl_check.specs.Judging.{IsSound}
+use Rattle.idl_tree.specs.NameParts.{last_at}
 use Rattle.idl_check.specs.Placing.{faulty_step, is_closing_by, opened_kind}
 use Rattle.idl_check.specs.Pragmas.{Said, about, about_name, id_faults, refused_for, said, unnamed_faults, version_faults}
 use Rattle.idl_check.specs.Rules.{has_id}
-use Rattle.idl_check.specs.Using.{last_at}
-use Rattle.idl_event.specs.declared.code.Code.TheVariants.{NoRepositoryId}
+use Rattle.idl_fault.specs.declared.code.Code.TheVariants.{NoRepositoryId}
 use Rattle.idl_unit.specs.TokenRules.{fault_at}
 use Rattle.idl_check.specs.Verdict.{verdict}
 use Rattle.idl_check.specs.declared.verdict.Verdict.{Verdict}

@@ -12,7 +12,7 @@ use Rattle.idl_check.specs.Rules.{is_misplaced}
 use Rattle.idl_check.specs.Verdict.{asking, by_names, by_tree, faulty, first_faults, first_part, judged, misplaced, refused, sound, token_verdict, tree_of}
 use Rattle.idl_check.specs.Walk.{Walk, first_walk, walk}
 use Rattle.idl_check.specs.declared.verdict.Verdict.{Verdict}
-use Rattle.idl_event.specs.declared.code.Code.TheVariants.{NoTree, MisplacedUnit}
+use Rattle.idl_fault.specs.declared.code.Code.TheVariants.{NoTree, MisplacedUnit}
 use Rattle.idl_lex.specs.Keywords.{folded}
 use Rattle.idl_lex.specs.Tokens.{Token}
 use Rattle.idl_env.specs.Facts.{path_around, UnitFacts}

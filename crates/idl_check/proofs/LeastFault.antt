@@ -4,7 +4,7 @@ use Rattle.std.proofs.lemmas.Bool.{and_cases, and_parts, cases_lt, cond_both, eq
 use Rattle.std.proofs.lemmas.List.Elements.{All-contains, All-contains_itself, All-cons, All-nil}
 use Rattle.std.specs.Prelude.{◌&&◌, ◌||◌, ◌⊎◌, All, Contains, fold, nat_eq, nat_lt}
 use Rattle.idl_check.specs.Judging.{IsNotAfter}
-use Rattle.idl_event.specs.Code.{number_of}
+use Rattle.idl_fault.specs.Code.{number_of}
 use Rattle.idl_unit.specs.Faults.{least_fault, lesser_fault}
 use Rattle.idl_unit.specs.declared.fault.Fault.{Fault}
 use Rattle.idl_check.proofs.FaultOrder.{least-in}

@@ -7,13 +7,14 @@ use Rattle.idl_check.specs.AllFaults.{further_faults, given_faults, name_faults,
 use Rattle.idl_check.specs.Codes.{faults_by}
 use Rattle.idl_check.specs.Identifying.{given}
 use Rattle.idl_check.specs.Judging.{FitsMemory}
+use Rattle.idl_tree.specs.NameParts.{last_at, part_at}
 use Rattle.idl_check.specs.Rules.{has_id, is_id, is_misplaced}
 use Rattle.idl_check.specs.Pragmas.{Said, about, id_faults, refused_for, said, said_by, text_faults, unnamed_faults}
 use Rattle.idl_check.specs.Sections.{section_sites}
-use Rattle.idl_check.specs.Using.{last_at, name_code, part_at}
+use Rattle.idl_check.specs.Using.{name_code}
 use Rattle.idl_check.specs.Verdict.{first_faults, tree_of, verdict}
 use Rattle.idl_check.specs.Walk.{first_walk}
-use Rattle.idl_event.specs.declared.code.Code.TheVariants.{BadIdText, MisplacedUnit, NoRepositoryId, NoTree}
+use Rattle.idl_fault.specs.declared.code.Code.TheVariants.{BadIdText, MisplacedUnit, NoRepositoryId, NoTree}
 use Rattle.idl_lex.specs.Tokens.{Token}
 use Rattle.idl_memo.proofs.QueryLaws.{outcome-and_then}
 use Rattle.idl_memo.specs.Query.{Done, outcome}

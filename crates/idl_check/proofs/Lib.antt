@@ -12,7 +12,6 @@ mod JudgeLemmas
 pub mod LeastFault
 pub mod LeastLaws
 mod MoreTurns
-mod NameLemmas
 mod Scenes
 mod LevelSites
 mod Nesting
@@ -25,7 +24,6 @@ pub mod PragmaLaws
 mod PragmaLemmas
 mod PragmaTokens
 mod RowLaws
-mod RowLemmas
 pub mod SectionLaws
 pub mod SiteLaws
 mod StandingLemmas

@@ -15,7 +15,7 @@ use Rattle.idl_check.specs.Walk.{Visit, Walk, declared_visit, first_walk, given_
 use Rattle.idl_check.specs.Rules.{is_misplaced}
 use Rattle.idl_check.specs.declared.standing.Standing.{Standing}
 use Rattle.idl_check.specs.declared.verdict.Verdict.{Verdict}
-use Rattle.idl_event.specs.declared.code.Code.TheVariants.{NoTree, MisplacedUnit}
+use Rattle.idl_fault.specs.declared.code.Code.TheVariants.{NoTree, MisplacedUnit}
 use Rattle.idl_lex.specs.Keywords.{folded}
 use Rattle.idl_lex.specs.Tokens.{Token}
 use Rattle.idl_scope.proofs.LookupLaws.{denoted-more, outward-more, reached-more, seen-declared}

@@ -7,8 +7,8 @@ use Rattle.std.specs.Prelude.{option_to_list}
 use Rattle.idl_check.specs.Codes.{Table, codes_in, faults_by}
 use Rattle.idl_check.specs.Judging.{IsNotAfter}
 use Rattle.idl_check.specs.Walk.{Visit, Walk, faulty_if, head_visit, noted, noted_in, past_name, quiet, with_oneway}
-use Rattle.idl_event.specs.declared.code.Code.{Code}
-use Rattle.idl_event.specs.declared.code.Code.TheVariants.{BadOneway, NoScope}
+use Rattle.idl_fault.specs.declared.code.Code.{Code}
+use Rattle.idl_fault.specs.declared.code.Code.TheVariants.{BadOneway, NoScope}
 use Rattle.idl_entity.specs.Kind.{is_scope}
 use Rattle.idl_scope.specs.declared.found.Found.{Found}
 use Rattle.idl_tree.specs.declared.name.ScopedName.{ScopedName}

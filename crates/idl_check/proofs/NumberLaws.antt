@@ -9,7 +9,7 @@ use Rattle.idl_check.specs.Placing.{brace_by, brace_from, opening_brace, opening
 use Rattle.idl_check.specs.Rules.{depth, is_misplaced}
 use Rattle.idl_check.specs.Verdict.{first_faults, tree_of, verdict}
 use Rattle.idl_check.specs.Walk.{first_walk}
-use Rattle.idl_event.specs.declared.code.Code.TheVariants.{MisplacedUnit, NestedTooDeep, NoTree}
+use Rattle.idl_fault.specs.declared.code.Code.TheVariants.{MisplacedUnit, NestedTooDeep, NoTree}
 use Rattle.idl_lex.specs.Kind.{kind_of}
 use Rattle.idl_lex.specs.Tokens.{Token}
 use Rattle.idl_lex.specs.declared.keyword.Keyword.TheVariants as word

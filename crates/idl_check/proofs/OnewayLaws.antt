@@ -3,10 +3,11 @@ use Rattle.std.proofs.Common.{◌≡◌, ◌∙◌, ℕ, ◌<◌, ◌≤◌, Boo
 use Rattle.std.proofs.lemmas.List.Elements.{All-cons, All-nil}
 use Rattle.std.specs.Prelude.{All}
 use Rattle.idl_check.specs.Codes.{codes_in}
+use Rattle.idl_tree.specs.NameParts.{last_at, part_at}
 use Rattle.idl_check.specs.Types.{looked_through}
-use Rattle.idl_check.specs.Using.{last_at, name_code, part_at, used_table}
+use Rattle.idl_check.specs.Using.{name_code, used_table}
 use Rattle.idl_check.specs.Walk.{Visit, Walk, head_faults, head_of, head_visit, noted, used, used_visit, with_oneway, turns_at}
-use Rattle.idl_event.specs.declared.code.Code.TheVariants.{BadOneway, NoScope}
+use Rattle.idl_fault.specs.declared.code.Code.TheVariants.{BadOneway, NoScope}
 use Rattle.idl_lex.specs.Keywords.{folded}
 use Rattle.idl_memo.proofs.QueryLaws.{outcome-and_then}
 use Rattle.idl_memo.specs.Query.{Done, and_then, outcome}

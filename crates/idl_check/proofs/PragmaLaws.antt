@@ -4,14 +4,15 @@ use Rattle.std.proofs.lemmas.List.Elements.{All-append, All-cons, All-nil}
 use Rattle.std.specs.Prelude.{◌≢◌, All, fold, not}
 use Rattle.idl_check.specs.AllFaults.{or_else}
 use Rattle.idl_check.specs.Codes.{faults_by}
+use Rattle.idl_tree.specs.NameParts.{last_at, part_at}
 use Rattle.idl_check.specs.Rules.{has_id, is_fixed, is_given, is_id, is_visible}
 use Rattle.idl_check.specs.Judging.{IsSpoken}
 use Rattle.idl_check.specs.Pragmas.{Said, about, about_name, id_faults, refused_for, said, said_by, unnamed_faults, version_faults}
-use Rattle.idl_check.specs.Using.{last_at, name_code, part_at}
+use Rattle.idl_check.specs.Using.{name_code}
 use Rattle.idl_check.specs.Verdict.{faulty, pragma_verdict, verdict}
 use Rattle.idl_check.specs.declared.verdict.Verdict.{Verdict}
-use Rattle.idl_event.specs.declared.code.Code.{Code}
-use Rattle.idl_event.specs.declared.code.Code.TheVariants.{BadIdText, MalformedPragma, NoRepositoryId, PragmaInside, RepeatedId, RepeatedVersion}
+use Rattle.idl_fault.specs.declared.code.Code.{Code}
+use Rattle.idl_fault.specs.declared.code.Code.TheVariants.{BadIdText, MalformedPragma, NoRepositoryId, PragmaInside, RepeatedId, RepeatedVersion}
 use Rattle.idl_lex.specs.Tokens.{Token}
 use Rattle.idl_memo.specs.Query.{Ask, Done, and_then, asked, outcome}
 use Rattle.idl_memo.proofs.QueryLaws.{outcome-and_then}

@@ -5,13 +5,13 @@ use Rattle.std.specs.Option.{option_map}
 use Rattle.std.specs.Prelude.{not}
 use Rattle.idl_check.specs.Codes.{faults_by}
 use Rattle.idl_check.specs.Held.{said_of, spoken}
+use Rattle.idl_tree.specs.NameParts.{last_at}
 use Rattle.idl_check.specs.Rules.{has_id, is_fixed, is_given, is_id}
 use Rattle.idl_check.specs.Pragmas.{Said, about, about_name, id_faults, refused_for, said, said_by, unnamed_faults, version_faults}
-use Rattle.idl_check.specs.Using.{last_at}
 use Rattle.idl_check.specs.Verdict.{faulty, pragma_verdict}
 use Rattle.idl_check.specs.declared.pragmas.Named.{Named}
 use Rattle.idl_check.specs.declared.verdict.Verdict.{Verdict}
-use Rattle.idl_event.specs.declared.code.Code.TheVariants.{BadIdText, NoRepositoryId, RepeatedId, RepeatedVersion}
+use Rattle.idl_fault.specs.declared.code.Code.TheVariants.{BadIdText, NoRepositoryId, RepeatedId, RepeatedVersion}
 use Rattle.idl_lex.specs.Tokens.{Token}
 use Rattle.idl_memo.specs.Query.{Ask, Done, and_then, noted}
 use Rattle.idl_memo.proofs.QueryLaws.{run-and_then_at}

@@ -4,7 +4,7 @@ use Rattle.std.proofs.lemmas.Option.{same_Some}
 use Rattle.std.specs.Prelude.{◌*◌, codes}
 use Rattle.std.specs.Option.{option_map}
 use Rattle.std.specs.Str.{bytes_eq}
-use Rattle.idl_check.specs.Using.{last_at}
+use Rattle.idl_tree.specs.NameParts.{last_at}
 use Rattle.idl_lex.specs.Kind.{kind_of}
 use Rattle.idl_lex.specs.Tokens.{Token}
 use Rattle.idl_tree.specs.Pragma.{further_parts, id_of, is_separator, name_before, name_from, named, only, part_of, pragma_of, prefix_of, text_of, version_of, versioned, with_part}

@@ -7,10 +7,10 @@ use Rattle.std.specs.Prelude.{◌||◌, codes, is_some}
 use Rattle.std.specs.Str.{bytes_eq}
 use Rattle.idl_check.specs.Declaring.{entity_of, standing}
 use Rattle.idl_check.specs.Judging.{used_name, used_names, walked}
-use Rattle.idl_check.specs.Row.{Rest, spaced, token_text, unit_text}
+use Rattle.idl_dump.specs.Row.{Rest, spaced, token_text, unit_text}
 use Rattle.idl_check.specs.Types.{looked_through}
 use Rattle.idl_check.specs.Walk.{turns_at, Visit, Walk, declared_visit, given_back, head_of, head_visit, outcome_at, unfound_visit, used, used_visit, value_visit, visit, with_oneway}
-use Rattle.idl_event.specs.declared.code.Code.TheVariants.{BadOneway}
+use Rattle.idl_fault.specs.declared.code.Code.TheVariants.{BadOneway}
 use Rattle.idl_lex.specs.Kind.{kind_of}
 use Rattle.idl_lex.specs.Marks.{marks}
 use Rattle.idl_lex.specs.Tokens.{Token}

@@ -6,7 +6,7 @@ use Rattle.idl_check.specs.AllFaults.{evaluation_faults, site_faults, whole_visi
 use Rattle.idl_check.specs.Sections.{IsFormed, Section, Single, Returned, Whole, is_tokens, section_sites}
 use Rattle.idl_check.specs.Values.{begun_at}
 use Rattle.idl_check.specs.Walk.{Visit, Walk, begin_of, evaluation_at, given_back, label_target, noted, passed, used, value_visit, visit, with_oneway}
-use Rattle.idl_event.specs.declared.code.Code.TheVariants.{BadOneway}
+use Rattle.idl_fault.specs.declared.code.Code.TheVariants.{BadOneway}
 use Rattle.idl_memo.specs.Query.{outcome}
 use Rattle.idl_env.specs.declared.answer.Answer.{Answer}
 use Rattle.idl_env.specs.declared.key.Key.{Key}
@@ -26,7 +26,7 @@ use Rattle.idl_check.proofs.AlikeLemmas.{AreAlike, alike-append, alike-behind}
 use Rattle.idl_check.proofs.BracketLemmas.{tokens-case, tokens-single, value-sites}
 use Rattle.idl_check.proofs.ExpressionFaults.{alike-expression, expression-count, for-ordered}
 use Rattle.idl_check.proofs.FaultOrder.{Leads, leads-later}
-use Rattle.idl_check.proofs.NameLemmas.{behind_name}
+use Rattle.idl_tree.proofs.NameLemmas.{behind_name}
 use Rattle.idl_check.proofs.OnewayLaws.{given-alike}
 use Rattle.idl_check.proofs.Operands.{expression-items}
 use Rattle.idl_check.proofs.SiteLaws.{IsFrom, IsPlaced, begin_before, faults-from, named_by, named-placed, plain-placed, visit-placed, visited}

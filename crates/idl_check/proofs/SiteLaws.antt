@@ -8,14 +8,15 @@ use Rattle.idl_check.specs.Declaring.{declared_table, entity_of, standing}
 use Rattle.idl_check.specs.Judging.{spoken_from, spoken_till, walked}
 use Rattle.idl_check.specs.Labels.{is_idle, no_labels, with_default}
 use Rattle.idl_check.specs.Bodies.{begun_body, with_body_label, with_context}
+use Rattle.idl_tree.specs.NameParts.{last_at, part_at}
 use Rattle.idl_check.specs.Types.{looked_through, target_in, written_as}
-use Rattle.idl_check.specs.Using.{last_at, name_code, part_at, used_table, values_after}
+use Rattle.idl_check.specs.Using.{name_code, used_table, values_after}
 use Rattle.idl_check.specs.Values.{Values, begun_at, code_of, with_value}
 use Rattle.idl_check.specs.Walk.{turns_at, Visit, Walk, begin_of, declared_visit, ended_array, ended_scope, faulty_if, given_back, head_faults, head_of, head_visit, is_repeated, outcome_at, passed, past_name, quiet, token_of, unfound_visit, used, used_after, used_visit, value_visit, valued_after, visit, with_labels, with_oneway, with_scope}
 use Rattle.idl_check.specs.declared.standing.Standing.{Standing}
-use Rattle.idl_event.specs.Code.{number_of}
-use Rattle.idl_event.specs.declared.code.Code.{Code}
-use Rattle.idl_event.specs.declared.code.Code.TheVariants.{BadDiscriminator, BadOneway, NoScope, RepeatedLabel, UselessDefault}
+use Rattle.idl_fault.specs.Code.{number_of}
+use Rattle.idl_fault.specs.declared.code.Code.{Code}
+use Rattle.idl_fault.specs.declared.code.Code.TheVariants.{BadDiscriminator, BadOneway, NoScope, RepeatedLabel, UselessDefault}
 use Rattle.idl_memo.specs.Query.{Done, and_then, outcome}
 use Rattle.idl_memo.proofs.QueryLaws.{outcome-and_then}
 use Rattle.idl_entity.specs.DataType.{plain_type}
@@ -49,7 +50,7 @@ use Rattle.idl_value.specs.declared.outcome.Code.TheVariants as value_code
 use Rattle.idl_value.specs.declared.outcome.Outcome.{Outcome}
 use Rattle.idl_value.specs.declared.outcome.Outcome.TheVariants as comes
 use Rattle.idl_value.specs.declared.value.Value.{Value}
-use Rattle.idl_check.proofs.NameLemmas.{behind_name}
+use Rattle.idl_tree.proofs.NameLemmas.{behind_name}
 use Rattle.idl_check.proofs.PartLemmas.{IsUpTo, denoted-IsUpTo}
 use Rattle.idl_check.proofs.TableLaws.{Ascends, all-by, all-if, declared-up, name-number, used-up}
 use Rattle.idl_check.proofs.VisitFaults.{visit_faults}

@@ -7,9 +7,9 @@ use Rattle.idl_check.specs.Declaring.{declared_table}
 use Rattle.idl_check.specs.Using.{Bases, name_code, suited_table, used_table}
 use Rattle.idl_check.specs.Rules.{suits}
 use Rattle.idl_check.specs.declared.standing.Standing.{Standing}
-use Rattle.idl_event.specs.Code.{number_of}
-use Rattle.idl_event.specs.declared.code.Code.{Code}
-use Rattle.idl_event.specs.declared.code.Code.TheVariants as code
+use Rattle.idl_fault.specs.Code.{number_of}
+use Rattle.idl_fault.specs.declared.code.Code.{Code}
+use Rattle.idl_fault.specs.declared.code.Code.TheVariants as code
 use Rattle.idl_env.specs.declared.answer.Scope.{Scope}
 use Rattle.idl_entity.specs.declared.entity.Entity.{Entity}
 use Rattle.idl_scope.specs.declared.fault.NameCode.{NameCode}

@@ -9,13 +9,13 @@ use Rattle.std.specs.Prelude.{◌≢◌, ◌||◌, All}
 use Rattle.idl_check.specs.AllFaults.{site_faults}
 use Rattle.idl_check.specs.Judging.{used_name, used_names, walked}
 use Rattle.idl_check.specs.Labels.{Labels}
+use Rattle.idl_tree.specs.NameParts.{last_at}
 use Rattle.idl_check.specs.Sections.{IsFormed, Section, Single, Returned, Whole, is_single, is_tokens, section_sites}
 use Rattle.idl_check.specs.Types.{looked_through}
-use Rattle.idl_check.specs.Using.{last_at}
 use Rattle.idl_check.specs.Valued.{AreValues, IsValue, expression_at, expressions}
 use Rattle.idl_check.specs.Values.{begun_at, evaluation_for}
 use Rattle.idl_check.specs.Walk.{Visit, Walk, evaluation_at, first_walk, given_back, label_target, turns_at, used, used_visit, value_visit, visit}
-use Rattle.idl_event.specs.declared.code.Code.TheVariants.{BadOneway}
+use Rattle.idl_fault.specs.declared.code.Code.TheVariants.{BadOneway}
 use Rattle.idl_lex.specs.declared.mark.Mark.TheVariants as mark
 use Rattle.idl_memo.proofs.QueryLaws.{outcome-and_then}
 use Rattle.idl_memo.specs.Query.{Done, outcome}

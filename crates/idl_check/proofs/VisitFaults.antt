@@ -6,7 +6,7 @@ use Rattle.idl_check.specs.Rules.{is_misplaced}
 use Rattle.idl_check.specs.Pragmas.{said_by}
 use Rattle.idl_check.specs.Verdict.{first_faults, tree_of}
 use Rattle.idl_check.specs.Walk.{Walk, first_walk, visit}
-use Rattle.idl_event.specs.declared.code.Code.TheVariants.{NoTree, MisplacedUnit}
+use Rattle.idl_fault.specs.declared.code.Code.TheVariants.{NoTree, MisplacedUnit}
 use Rattle.idl_lex.specs.Tokens.{Token}
 use Rattle.idl_memo.specs.Query.{outcome}
 use Rattle.idl_env.specs.Facts.{scopes_in}

@@ -23,13 +23,14 @@ use Rattle.idl_check.specs.Declaring.{entity_of, finished, kind_of, standing, wi
 use Rattle.idl_check.specs.AllFaults.{site_faults}
 use Rattle.idl_check.specs.Judging.{walked}
 use Rattle.idl_check.specs.Labels.{Labels}
+use Rattle.idl_tree.specs.NameParts.{last_at}
 use Rattle.idl_check.specs.Placing.{step_of}
 use Rattle.idl_check.specs.Types.{looked_through}
 use Rattle.idl_check.specs.Codes.{codes_in}
 use Rattle.idl_check.specs.Rules.{is_open_base, suits}
-use Rattle.idl_check.specs.Using.{Bases, base_table, bases_after, last_at, with_uses}
-use Rattle.idl_event.specs.declared.code.Code.{Code}
-use Rattle.idl_event.specs.declared.code.Code.TheVariants as code
+use Rattle.idl_check.specs.Using.{Bases, base_table, bases_after, with_uses}
+use Rattle.idl_fault.specs.declared.code.Code.{Code}
+use Rattle.idl_fault.specs.declared.code.Code.TheVariants as code
 use Rattle.idl_check.specs.Verdict.{sound}
 use Rattle.idl_check.specs.Walk.{Visit, Walk, declared_visit, ended_array, ended_scope, first_walk, given_back, is_begun, outcome_at, passed, turns_at, used, used_visit, value_visit, visit, with_array, with_scope}
 use Rattle.idl_lex.specs.Keywords.{folded}

@@ -18,8 +18,8 @@ use Rattle.idl_check.specs.Rules.{has_other_prefix, is_ahead, is_declared, is_in
 use Rattle.idl_check.specs.Walk.{Walk, turns_at}
 use Rattle.idl_check.specs.declared.identifying.Ids.{Ids}
 use Rattle.idl_check.specs.declared.standing.Standing.{Standing}
-use Rattle.idl_event.specs.declared.code.Code.{Code}
-use Rattle.idl_event.specs.declared.code.Code.TheVariants.{AlreadyDeclared, NameOfScope, DeclaredAfterUse, OtherForward, InheritedTwice, OtherPrefix}
+use Rattle.idl_fault.specs.declared.code.Code.{Code}
+use Rattle.idl_fault.specs.declared.code.Code.TheVariants.{AlreadyDeclared, NameOfScope, DeclaredAfterUse, OtherForward, InheritedTwice, OtherPrefix}
 use Rattle.idl_lex.specs.Keywords.{folded}
 use Rattle.idl_memo.proofs.QueryLaws.{outcome-and_then}
 use Rattle.idl_memo.specs.Query.{Done, and_then, outcome}

@@ -8,7 +8,7 @@ use Rattle.idl_check.specs.Judging.{spoken_from, spoken_till}
 use Rattle.idl_check.specs.Sections.{is_single}
 use Rattle.idl_check.specs.Types.{looked_through}
 use Rattle.idl_check.specs.Walk.{Visit, Walk, begin_of, declared_visit, evaluation_at, given_back, head_of, head_visit, is_repeated, unfound_visit, used, used_visit, value_visit, visit, with_oneway, turns_at}
-use Rattle.idl_event.specs.declared.code.Code.TheVariants.{BadOneway, RepeatedLabel}
+use Rattle.idl_fault.specs.declared.code.Code.TheVariants.{BadOneway, RepeatedLabel}
 use Rattle.idl_memo.proofs.QueryLaws.{outcome-and_then}
 use Rattle.idl_memo.specs.Query.{Done, outcome}
 use Rattle.idl_entity.specs.Kind.{kind_eq}

@@ -3,13 +3,13 @@
 -- one that is told is the least.
 use Rattle.std.specs.Prelude.{ℕ, ◌+◌, List, [], ◌∷◌, ◌++◌, map, Option, None, Some, Result, Ok, Err, if◌then◌else◌}
 use Rattle.idl_check.specs.Identifying.{given}
+use Rattle.idl_tree.specs.NameParts.{last_at}
 use Rattle.idl_check.specs.Rules.{has_id, is_misplaced}
 use Rattle.idl_check.specs.Pragmas.{about, id_faults, said, text_faults, unnamed_faults}
-use Rattle.idl_check.specs.Using.{last_at}
 use Rattle.idl_check.specs.Values.{code_of}
 use Rattle.idl_check.specs.Verdict.{first_faults, tree_of}
 use Rattle.idl_check.specs.Walk.{Visit, Walk, evaluation_at, first_walk, is_repeated, used, visit, with_oneway}
-use Rattle.idl_event.specs.declared.code.Code.TheVariants.{MisplacedUnit, NoRepositoryId, NoTree, RepeatedLabel}
+use Rattle.idl_fault.specs.declared.code.Code.TheVariants.{MisplacedUnit, NoRepositoryId, NoTree, RepeatedLabel}
 use Rattle.idl_lex.specs.Tokens.{Token}
 use Rattle.idl_memo.specs.Query.{outcome}
 use Rattle.idl_env.specs.Facts.{scopes_in}

@@ -1,6 +1,6 @@
 -- The faults of a token by a table: on each line a test, and the code that stands where it holds.
 use Rattle.std.specs.Prelude.{ℕ, Bool, List, [], ◌∷◌, map, if◌then◌else◌}
-use Rattle.idl_event.specs.declared.code.Code.{Code}
+use Rattle.idl_fault.specs.declared.code.Code.{Code}
 use Rattle.idl_unit.specs.TokenRules.{fault_at}
 use Rattle.idl_unit.specs.declared.fault.Fault.{Fault}
 

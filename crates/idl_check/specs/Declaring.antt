@@ -6,7 +6,7 @@ use Rattle.idl_check.specs.Codes.{Table}
 use Rattle.idl_check.specs.Identifying.{ids_of, with_identity}
 use Rattle.idl_check.specs.Rules.{has_other_prefix, is_ahead, is_declared, is_inherited, is_introduced, is_name_of_scope, is_other_ahead, is_there, may_follow}
 use Rattle.idl_check.specs.declared.standing.Standing.{Standing}
-use Rattle.idl_event.specs.declared.code.Code.TheVariants.{AlreadyDeclared, NameOfScope, DeclaredAfterUse, OtherForward, InheritedTwice, OtherPrefix}
+use Rattle.idl_fault.specs.declared.code.Code.TheVariants.{AlreadyDeclared, NameOfScope, DeclaredAfterUse, OtherForward, InheritedTwice, OtherPrefix}
 use Rattle.idl_lex.specs.Keywords.{folded}
 use Rattle.idl_memo.specs.Query.{Done, Ask, and_then}
 use Rattle.idl_entity.specs.DataType.{plain_type}

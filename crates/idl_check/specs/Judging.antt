@@ -7,7 +7,7 @@ use Rattle.idl_check.specs.Pragmas.{said}
 use Rattle.idl_check.specs.Verdict.{sound}
 use Rattle.idl_check.specs.Walk.{Walk, begin_of, first_walk, visit}
 use Rattle.idl_check.specs.declared.verdict.Verdict.{Verdict}
-use Rattle.idl_event.specs.Code.{number_of}
+use Rattle.idl_fault.specs.Code.{number_of}
 use Rattle.idl_lex.specs.Tokens.{Token}
 use Rattle.idl_memo.specs.Query.{outcome}
 use Rattle.idl_env.specs.Facts.{scopes_in}

@@ -12,8 +12,6 @@ pub mod Pragmas
 pub mod Using
 pub mod Walk
 pub mod Placing
-pub mod Row
-pub mod HeldRow
 pub mod Verdict
 pub mod Sections
 pub mod AllFaults

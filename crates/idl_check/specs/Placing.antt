@@ -2,7 +2,7 @@
 use Rattle.std.specs.Prelude.{ℕ, ◌+◌, Bool, true, false, List, [], ◌∷◌, Option, None, Some, if◌then◌else◌}
 use Rattle.idl_check.specs.Codes.{faults_by}
 use Rattle.idl_check.specs.Rules.{is_too_deep}
-use Rattle.idl_event.specs.declared.code.Code.TheVariants.{NestedTooDeep}
+use Rattle.idl_fault.specs.declared.code.Code.TheVariants.{NestedTooDeep}
 use Rattle.idl_lex.specs.Tokens.{Token}
 use Rattle.idl_env.specs.declared.addition.Step.{Step}
 use Rattle.idl_env.specs.declared.addition.Step.TheVariants.{Stays, Opens, OpensNameless, Closes}

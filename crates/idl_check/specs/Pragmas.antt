@@ -3,9 +3,10 @@
 use Rattle.std.specs.Prelude.{ℕ, ◌+◌, List, [], ◌∷◌, ◌++◌, Option, None, Some, if◌then◌else◌}
 use Rattle.idl_check.specs.Codes.{faults_by}
 use Rattle.idl_check.specs.Identifying.{given, versioned}
+use Rattle.idl_tree.specs.NameParts.{last_at, part_at}
 use Rattle.idl_check.specs.Rules.{has_id, is_fixed, is_given, is_no_id, is_no_prefix}
-use Rattle.idl_check.specs.Using.{last_at, name_code, part_at}
-use Rattle.idl_event.specs.declared.code.Code.TheVariants.{BadIdText, NoRepositoryId, RepeatedId, RepeatedVersion}
+use Rattle.idl_check.specs.Using.{name_code}
+use Rattle.idl_fault.specs.declared.code.Code.TheVariants.{BadIdText, NoRepositoryId, RepeatedId, RepeatedVersion}
 use Rattle.idl_memo.specs.Query.{Done, Ask, and_then}
 use Rattle.idl_env.specs.Facts.{identity_at}
 use Rattle.idl_scope.specs.Lookup.{Lookup, by_result, denoted}

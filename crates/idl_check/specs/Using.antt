@@ -1,5 +1,5 @@
 -- Used names: what they may denote where they stand, and what bases bring.
-use Rattle.std.specs.Prelude.{ℕ, ◌+◌, ◌*◌, Bool, true, false, List, [], ◌∷◌, fold, length, map, Option, Some, if◌then◌else◌}
+use Rattle.std.specs.Prelude.{ℕ, Bool, true, false, List, [], ◌∷◌, fold, length, map, Option, Some, if◌then◌else◌}
 use Rattle.std.specs.Str.{bytes_eq}
 use Rattle.idl_map.specs.Table.{insert_entry}
 use Rattle.idl_check.specs.Codes.{Table}
@@ -7,8 +7,8 @@ use Rattle.idl_check.specs.Labels.{Labels, no_labels}
 use Rattle.idl_check.specs.Types.{constants_of}
 use Rattle.idl_check.specs.Rules.{brings_another, has_no_constants, is_incomplete, is_local_base, is_named_again, is_no_discriminator, is_open_base, suits}
 use Rattle.idl_check.specs.Values.{Values, with_operand}
-use Rattle.idl_event.specs.declared.code.Code.{Code}
-use Rattle.idl_event.specs.declared.code.Code.TheVariants as code
+use Rattle.idl_fault.specs.declared.code.Code.{Code}
+use Rattle.idl_fault.specs.declared.code.Code.TheVariants as code
 use Rattle.idl_lex.specs.Keywords.{folded}
 use Rattle.idl_entity.specs.DataType.{plain_type}
 use Rattle.idl_env.specs.Facts.{joined, with_addition}
@@ -23,16 +23,8 @@ use Rattle.idl_scope.specs.declared.fault.NameCode.{NameCode}
 use Rattle.idl_scope.specs.declared.fault.NameCode.TheVariants.{Undeclared, Ambiguous, OtherSpelling, NoScope}
 use Rattle.idl_site.specs.declared.site.Use.{Use}
 use Rattle.idl_site.specs.declared.site.Use.TheVariants.{AsBase, AsType, AsElement, AsConstantType, AsDiscriminator, AsOperand}
-use Rattle.idl_tree.specs.declared.name.ScopedName.{ScopedName}
 use Rattle.idl_value.specs.declared.target.Target.{Target}
 use Rattle.idl_value.specs.declared.value.Value.{Value}
-
--- the number of a name's part, where the name begins at this token
-abbrev pub part_at : ℕ → ScopedName → ℕ → ℕ
-part_at at name part = at + (if name.is_global then 1 else 0) + 2 * part
-
-abbrev pub last_at : ℕ → ScopedName → ℕ
-last_at at name = part_at at name (length name.rest)
 
 -- the code of what a name denotes nothing for
 abbrev pub name_code : NameCode → Code

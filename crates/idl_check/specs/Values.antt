@@ -1,7 +1,7 @@
 -- The expressions of a unit: what is known while one is read, and what it comes to at its end.
 use Rattle.std.specs.Prelude.{ℕ, ◌^◌, pos, List, [], ◌∷◌, ◌++◌, Option, None, Some, nat_lt, option_to_list, if◌then◌else◌}
-use Rattle.idl_event.specs.declared.code.Code.{Code}
-use Rattle.idl_event.specs.declared.code.Code.TheVariants as code
+use Rattle.idl_fault.specs.declared.code.Code.{Code}
+use Rattle.idl_fault.specs.declared.code.Code.TheVariants as code
 use Rattle.idl_tree.specs.declared.expression.Expression.{Expression}
 use Rattle.idl_site.specs.declared.site.Target.{Target as Purpose}
 use Rattle.idl_site.specs.declared.site.Target.TheVariants as purpose

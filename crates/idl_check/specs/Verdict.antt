@@ -6,10 +6,10 @@ use Rattle.idl_check.specs.Declaring.{finished, with_finished}
 use Rattle.idl_check.specs.Placing.{faulty_step, opened_kind, opening_faults, step_of}
 use Rattle.idl_check.specs.Rules.{depth, is_misplaced}
 use Rattle.idl_check.specs.Pragmas.{Said, said_by}
-use Rattle.idl_check.specs.Row.{Rest, row_of}
+use Rattle.idl_dump.specs.Row.{Rest, row_of}
 use Rattle.idl_check.specs.Walk.{Walk, first_walk, walk}
 use Rattle.idl_check.specs.declared.verdict.Verdict.{Verdict}
-use Rattle.idl_event.specs.declared.code.Code.TheVariants.{NoTree, MisplacedUnit}
+use Rattle.idl_fault.specs.declared.code.Code.TheVariants.{NoTree, MisplacedUnit}
 use Rattle.idl_lex.specs.Keywords.{folded}
 use Rattle.idl_lex.specs.Tokens.{Token}
 use Rattle.idl_memo.specs.Query.{Done, Ask, and_then}

@@ -5,13 +5,14 @@ use Rattle.idl_check.specs.Bodies.{Body, Clauses, array_of, begun_body, no_claus
 use Rattle.idl_check.specs.Codes.{faults_by}
 use Rattle.idl_check.specs.Declaring.{Written, declared_table, entity_of, kind_of, standing, with_declared, written_after}
 use Rattle.idl_check.specs.Labels.{Labels, no_labels, with_default, with_label}
+use Rattle.idl_tree.specs.NameParts.{last_at, part_at}
 use Rattle.idl_check.specs.Rules.{is_default_again, is_label_again, is_no_discriminator, is_useless_default}
 use Rattle.idl_check.specs.Types.{looked_through, target_in, written_as}
-use Rattle.idl_check.specs.Using.{Bases, bases_after, constants_after, last_at, name_code, part_at, type_after, unions_after, used_table, values_after, with_uses}
+use Rattle.idl_check.specs.Using.{Bases, bases_after, constants_after, name_code, type_after, unions_after, used_table, values_after, with_uses}
 use Rattle.idl_check.specs.Values.{Values, begun_at, code_of, evaluation_for, no_values, with_value}
 use Rattle.idl_check.specs.declared.standing.Standing.{Standing}
-use Rattle.idl_event.specs.declared.code.Code.{Code}
-use Rattle.idl_event.specs.declared.code.Code.TheVariants as code
+use Rattle.idl_fault.specs.declared.code.Code.{Code}
+use Rattle.idl_fault.specs.declared.code.Code.TheVariants as code
 use Rattle.idl_lex.specs.Keywords.{folded}
 use Rattle.idl_memo.specs.Query.{Done, and_then}
 use Rattle.idl_entity.specs.DataType.{plain_type}

@@ -14,7 +14,7 @@ ghost use Rattle.idl_unit.specs.TokenRules.{first};
 use crate::codes::first_code;
 use idl_base::{Bytes, Seq};
 use idl_entity::{Entity, Path, Stage};
-use idl_event::Code;
+use idl_fault::Code;
 use idl_map::{SharedList, Table};
 use std::alloc::{AllocError, Global};
 use std::marker::Model;

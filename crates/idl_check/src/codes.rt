@@ -5,7 +5,7 @@ ghost use Rattle.idl_check.specs.Codes.{codes_in};
 ghost use Rattle.idl_unit.specs.Faults.{lesser_fault};
 ghost use Rattle.idl_unit.specs.TokenRules.{first};
 
-use idl_event::Code;
+use idl_fault::Code;
 use idl_unit::Fault;
 
 /// The code of the first test that holds.

@@ -9,7 +9,7 @@ ghost use Rattle.idl_unit.specs.Ending.{begins, opens};
 use crate::declaring::path_in;
 use idl_entity::{Kind, Path};
 use idl_env::{Facts, OpenScopes, Step};
-use idl_event::Code;
+use idl_fault::Code;
 use idl_lex::Token;
 use idl_tree::{Forward, Tree};
 use idl_unit::{Fault, Role, Rule, role_of, rule_of};

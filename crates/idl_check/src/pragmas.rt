@@ -3,8 +3,8 @@
 ghost use Rattle.std.specs.Prelude.{◌≡◌, ◌≤◌, ◌+◌, ◌∷◌, [], ℕ, IfOk, List, None, OnOk};
 ghost use Rattle.std.specs.Option.{option_map};
 ghost use Rattle.idl_check.specs.Held.{said_of, spoken};
+ghost use Rattle.idl_tree.specs.NameParts.{last_at};
 ghost use Rattle.idl_check.specs.Pragmas.{about_name, prefix_faults};
-ghost use Rattle.idl_check.specs.Using.{last_at};
 ghost use Rattle.idl_check.specs.Verdict.{faulty, pragma_judged, pragma_verdict};
 ghost use Rattle.idl_memo.specs.Query.{noted, run};
 ghost use Rattle.idl_env.specs.Facts.{answers, identity_at};
@@ -24,17 +24,17 @@ ghost use Rattle.idl_unit.specs.declared.fault.Fault.{Fault as UnitFault};
 ghost use Rattle.idl_unit.specs.declared.unit.UnitText.TheVariants as unit;
 
 use crate::identifying::{given, has_id, id_text, is_fixed, is_given, versioned, visible};
-use crate::using::{last_at, name_code, part_at};
+use crate::using::name_code;
 use crate::verdict::{Verdict, adding};
 use idl_base::Shared;
 use idl_entity::{FixedIdentity, Identity, Path};
 use idl_env::{Addition, Env, Facts, OpenScopes, Step, Writes};
-use idl_event::Code;
-use idl_lex::TokenRange;
+use idl_fault::Code;
 use idl_memo::Journal;
 use idl_scope::{NameFault, Standpoint, View, resolve};
 use idl_syntax::{SyntaxFault, UnitTree, parse};
-use idl_tree::{Pragma, ScopedName};
+use idl_text::TokenRange;
+use idl_tree::{Pragma, ScopedName, last_at, part_at};
 use idl_unit::{Fault, UnitText};
 use std::alloc::{AllocError, Global};
 

@@ -1,13 +1,12 @@
 //! Used names: what they may denote where they stand.
 
-ghost use Rattle.std.specs.Prelude.{◌≡◌, ◌≤◌, ◌+◌, ◌*◌, IfOk, OnOk, false, length, take};
-ghost use Rattle.idl_check.specs.Using.{is_base, part_at, last_at, name_code, suited_table, used_table, with_uses, Bases as NamedBases};
+ghost use Rattle.std.specs.Prelude.{◌≡◌, IfOk, OnOk, false, take};
+ghost use Rattle.idl_check.specs.Using.{is_base, name_code, suited_table, used_table, with_uses, Bases as NamedBases};
 ghost use Rattle.idl_check.specs.Rules.{is_type, suits};
 ghost use Rattle.idl_check.specs.Codes.{codes_in};
 ghost use Rattle.idl_check.specs.Types.{constants_of};
 ghost use Rattle.idl_entity.specs.declared.entity.Entity.{Entity as ScopeEntity};
 ghost use Rattle.idl_lex.specs.Keywords.{folded};
-ghost use Rattle.idl_tree.specs.Name.{spell_name};
 ghost use Rattle.idl_unit.specs.TokenRules.{first};
 
 use crate::bases::Bases;
@@ -15,7 +14,7 @@ use crate::codes::first_code;
 use crate::types::{is_incomplete, may_switch};
 use idl_entity::{Entity, Kind, OwnName, Path};
 use idl_env::{Addition, Facts, OpenScopes};
-use idl_event::Code;
+use idl_fault::Code;
 use idl_scope::NameCode;
 use idl_site::Use;
 use idl_tree::ScopedName;
@@ -28,30 +27,6 @@ pub struct Denoting<'a> {
     pub name: &'a ScopedName,
     pub path: &'a Path,
     pub reach: usize,
-}
-
-/// The number of the token that is a part of a name, where the name begins at this token.
-pub fn part_at(at: usize, name: &ScopedName, part: usize) -> usize
-    requires { part_at at name.now part ≤ 18446744073709551615 }
-    ensures { result ≡ part_at at name.now part }
-{
-    at + usize::from(name.is_global) + 2 * part
-}
-
-/// The number of the token that is the last part of a name.
-pub fn last_at(at: usize, name: &ScopedName) -> usize
-    requires { last_at at name.now ≤ 18446744073709551615 }
-    ensures { result ≡ last_at at name.now }
-{
-    part_at(at, name, name.rest.len())
-}
-
-/// How many tokens a name is.
-pub fn name_length(name: &ScopedName) -> usize
-    requires { length (spell_name name.now) ≤ 18446744073709551615 }
-    ensures { result ≡ length (spell_name name.now) }
-{
-    last_at(0, name) + 1
 }
 
 /// The code of what a name denotes nothing for.

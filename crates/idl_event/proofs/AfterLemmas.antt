@@ -9,8 +9,8 @@ use Rattle.idl_event.specs.declared.allowance.Allowance.{Allowance}
 use Rattle.idl_event.specs.declared.event.Event.{Event}
 use Rattle.idl_event.specs.declared.event.Event.TheVariants.{Emitted}
 use Rattle.idl_event.specs.declared.event.Item.TheVariants.{Kept}
-use Rattle.idl_event.specs.declared.place.Place.{Place}
-use Rattle.idl_event.specs.declared.file_name.FileName.{FileName}
+use Rattle.idl_fault.specs.declared.place.Place.{Place}
+use Rattle.idl_fault.specs.declared.file_name.FileName.{FileName}
 use Rattle.idl_lex.specs.Tokens.{Token}
 use Rattle.idl_lex.specs.declared.token.PlacedToken.{PlacedToken}
 

@@ -7,9 +7,9 @@ use Rattle.std.proofs.lemmas.List.Sums.{fold-append}
 use Rattle.idl_event.specs.Apart.{AreApart, ArePassed, Numbered, StandApart, TokensFirst, emitted, events_from, other_in, others_in, place_in, emitted_in, site_at, site_in, sites_in, text_sites, token_in, tokens_in, with_event, woven}
 use Rattle.idl_event.specs.declared.event.Event.{Event}
 use Rattle.idl_event.specs.declared.event.Event.TheVariants as event
-use Rattle.idl_event.specs.declared.place.Place.{Place}
+use Rattle.idl_fault.specs.declared.place.Place.{Place}
 use Rattle.idl_event.specs.declared.site.Site.{Site}
-use Rattle.idl_event.specs.declared.file_name.FileName.{FileName}
+use Rattle.idl_fault.specs.declared.file_name.FileName.{FileName}
 use Rattle.idl_lex.specs.Tokens.{Token}
 use Rattle.idl_lex.specs.Tokens as lexed
 use Rattle.idl_lex.specs.declared.token.PlacedToken.{PlacedToken}

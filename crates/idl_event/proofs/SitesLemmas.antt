@@ -8,8 +8,8 @@ use Rattle.std.specs.Option.{option_copied, option_map, unwrap_or}
 use Rattle.std.specs.Slice.{IsItemAt}
 use Rattle.idl_event.specs.Apart.{site_at, sites_at, text_sites}
 use Rattle.idl_event.specs.Sites.{AreBefore, AreKept, HaveSites, Rise, found, in_stretch, site_in, sites_of, spot_at}
-use Rattle.idl_event.specs.declared.file_name.FileName.{FileName}
-use Rattle.idl_event.specs.declared.place.Place.{Place}
+use Rattle.idl_fault.specs.declared.file_name.FileName.{FileName}
+use Rattle.idl_fault.specs.declared.place.Place.{Place}
 use Rattle.idl_event.specs.declared.site.Site.{Site}
 use Rattle.idl_event.specs.declared.sites.Spot.{Spot}
 use Rattle.idl_event.specs.declared.sites.Stretch.{Stretch}

@@ -3,8 +3,8 @@ use Rattle.std.specs.Prelude.{◌≡◌, ℕ, zero, suc, ◌+◌, ◌≤◌, Lis
 use Rattle.std.specs.List.{enumerate_from, fold}
 use Rattle.idl_event.specs.declared.event.Event.{Event}
 use Rattle.idl_event.specs.declared.event.Event.TheVariants as event
-use Rattle.idl_event.specs.declared.file_name.FileName.{FileName}
-use Rattle.idl_event.specs.declared.place.Place.{Place}
+use Rattle.idl_fault.specs.declared.file_name.FileName.{FileName}
+use Rattle.idl_fault.specs.declared.place.Place.{Place}
 use Rattle.idl_event.specs.declared.site.Site.{Site}
 use Rattle.idl_lex.specs.Tokens.{Token}
 use Rattle.idl_lex.specs.declared.token.PlacedToken.{PlacedToken}

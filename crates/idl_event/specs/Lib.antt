@@ -1,6 +1,4 @@
 pub mod Apart
-pub mod Code
-pub mod Diagnostic
 pub mod Expanding
 pub mod Items
 pub mod Key

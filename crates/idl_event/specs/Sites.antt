@@ -3,7 +3,7 @@ use Rattle.std.specs.Prelude.{◌≡◌, ℕ, zero, suc, ◌+◌, ◌<◌, ◌�
 use Rattle.std.specs.List.{AllByRecursion}
 use Rattle.std.specs.Option.{option_map, unwrap_or}
 use Rattle.idl_event.specs.Apart.{site_at, text_sites}
-use Rattle.idl_event.specs.declared.place.Place.{Place}
+use Rattle.idl_fault.specs.declared.place.Place.{Place}
 use Rattle.idl_event.specs.declared.site.Site.{Site}
 use Rattle.idl_event.specs.declared.sites.Spot.{Spot}
 use Rattle.idl_event.specs.declared.sites.Stretch.{Stretch}

@@ -7,11 +7,11 @@ ghost use Rattle.idl_event.specs.declared.event.Event.TheVariants.{Emitted};
 
 use crate::event::Event;
 use crate::expansion::Expansion;
-use crate::file_name::FileName;
-use crate::place::Place;
 use crate::runs::{Runs, push_clones};
 use crate::sites::Sites;
-use idl_lex::{FileTokens, Token, TokenRange};
+use idl_fault::{FileName, Place};
+use idl_lex::Token;
+use idl_text::{FileTokens, TokenRange};
 use std::alloc::{AllocError, Global};
 use std::marker::Model;
 use std::rc::Rc;

@@ -3,11 +3,10 @@
 ghost use Rattle.std.specs.Prelude.{◌≡◌};
 ghost use Rattle.idl_event.specs.Items.{event_of, last, place_of, place_of_event};
 
-use crate::code::Code;
-use crate::file_name::FileName;
-use crate::place::Place;
 use idl_base::Bytes;
-use idl_lex::{Token, TokenRange};
+use idl_fault::{Code, FileName, Place};
+use idl_lex::Token;
+use idl_text::TokenRange;
 
 /// What is kept of the expansion of a root.
 #[derive(Drop)]

@@ -5,10 +5,10 @@ ghost use Rattle.std.specs.Cmp.{on_equiv, on_per, on_po, on_total, partial_equiv
 ghost use Rattle.std.specs.Cmp.Lexicographic.{nat_list_cmp_total, nat_list_eq_equiv, texts_po, texts_ties};
 ghost use Rattle.idl_event.specs.Key.{key_cmp, key_code, key_eq};
 
-use crate::file_name::FileName;
 use crate::lexed_file::LexedFile;
 use crate::lexed_line::LexedLine;
 use idl_base::{Bytes, Datum, Seq, mixed, with_bytes};
+use idl_fault::FileName;
 use idl_map::Digest;
 use idl_source::Directory;
 use std::cmp::Ordering;

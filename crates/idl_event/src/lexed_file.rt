@@ -7,9 +7,8 @@ ghost use Rattle.std.specs.Str.{bytes_eq};
 ghost use Rattle.idl_lex.specs.Tokens.{tokens_of};
 
 use idl_base::Datum;
-use idl_groups::{GroupedTokens, LinesLeft};
-use idl_lex::lex;
 use idl_source::File;
+use idl_text::{GroupedTokens, LinesLeft, lex};
 use std::alloc::{AllocError, Global};
 use std::marker::Model;
 use std::rc::Rc;

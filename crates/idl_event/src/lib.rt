@@ -6,17 +6,13 @@
 
 mod allowance;
 mod builder;
-mod code;
-mod diagnostic;
 mod event;
 mod expansion;
-mod file_name;
 mod hinted_log;
 mod hints;
 mod key;
 mod lexed_file;
 mod lexed_line;
-mod place;
 mod progress;
 mod root_bank;
 mod runs;
@@ -26,15 +22,11 @@ mod told;
 
 pub use allowance::{Allowance, MAX_TOKENS, MAX_TURNS};
 pub use builder::ExpansionBuilder;
-pub use code::Code;
-pub use diagnostic::diagnostic_row;
 pub use event::{Event, Item};
 pub use expansion::{Events, Expansion};
-pub use file_name::FileName;
 pub use key::{Answer, Key};
 pub use lexed_file::LexedFile;
 pub use lexed_line::LexedLine;
-pub use place::Place;
 pub use progress::Progress;
 pub use root_bank::RootBank;
 pub use runs::Runs;

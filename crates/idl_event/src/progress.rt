@@ -13,16 +13,15 @@ ghost use Rattle.idl_event.specs.declared.key.Key.TheVariants.{Macro};
 
 use crate::allowance::Allowance;
 use crate::builder::ExpansionBuilder;
-use crate::code::Code;
 use crate::event::{Event, Item};
-use crate::file_name::FileName;
 use crate::hinted_log::HintedLog;
 use crate::key::{Answer, Key};
-use crate::place::Place;
 use crate::root_bank::RootBank;
 use idl_base::Bytes;
-use idl_lex::{FileTokens, Token};
+use idl_fault::{Code, FileName, Place};
+use idl_lex::Token;
 use idl_memo::{Bank, Log};
+use idl_text::FileTokens;
 use std::alloc::{AllocError, Global};
 use std::marker::Model;
 

@@ -4,7 +4,8 @@ ghost use Rattle.std.specs.Prelude.{◌≡◌, ◌≤◌, ◌<◌, ◌+◌, ◌^
 ghost use Rattle.idl_event.specs.Runs.{tokens_of};
 ghost use Rattle.idl_lex.specs.Tokens.{Token as Bytes};
 
-use idl_lex::{Token, TokenRange};
+use idl_lex::Token;
+use idl_text::TokenRange;
 use std::alloc::{AllocError, Global};
 use std::marker::Model;
 

@@ -3,8 +3,7 @@
 ghost use Rattle.std.specs.Prelude.{◌≡◌, IfOk};
 ghost use Rattle.idl_event.specs.Apart.{place_in};
 
-use crate::file_name::FileName;
-use crate::place::Place;
+use idl_fault::{FileName, Place};
 use std::alloc::AllocError;
 
 /// Where a token stands: its file, its line there, and the number of its event.

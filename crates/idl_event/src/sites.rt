@@ -6,10 +6,9 @@ ghost use Rattle.idl_event.specs.Apart.{site_at, sites_at, text_sites};
 ghost use Rattle.idl_event.specs.Sites.{HaveSites, Rise, StandsAt, found, in_stretch, spot_at};
 ghost use Rattle.idl_event.specs.declared.sites.Stretch.{Stretch};
 
-use crate::file_name::FileName;
-use crate::place::Place;
 use crate::site::Site;
-use idl_lex::FileTokens;
+use idl_fault::{FileName, Place};
+use idl_text::FileTokens;
 use std::alloc::{AllocError, Global};
 use std::marker::Model;
 

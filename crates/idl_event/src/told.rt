@@ -1,7 +1,7 @@
 //! Events where they are read.
 
 use crate::event::Event;
-use crate::file_name::FileName;
+use idl_fault::FileName;
 use idl_lex::Token;
 
 /// What an event is: a token of the text in a file, at a line, or another event.

@@ -1,8 +1,8 @@
 -- Each code and each refusal is among all.
 use Rattle.std.proofs.Common.{List, [], ◌∷◌, All, Contains, IfNone, None, Option, Some, arith, refl}
 use Rattle.std.proofs.lemmas.List.Elements.{All-contains}
-use Rattle.idl_event.specs.declared.code.Code.{Code}
-use Rattle.idl_event.specs.declared.code.Code.TheVariants as code
+use Rattle.idl_fault.specs.declared.code.Code.{Code}
+use Rattle.idl_fault.specs.declared.code.Code.TheVariants as code
 use Rattle.idl_source.specs.declared.refusal.Refusal.{Refusal}
 use Rattle.idl_source.specs.declared.refusal.Refusal.TheVariants as refusal
 use Rattle.idl_explain.specs.declared.explanation.Topic.{Topic}

@@ -2,7 +2,7 @@
 use Rattle.std.specs.Prelude.{◌≡◌, ◌++◌, ◌∷◌, ℕ, List, [], codes, decimal, map, nat_eq}
 use Rattle.std.specs.Char.{to_ascii_lowercase}
 use Rattle.std.specs.List.{flat_map, slice_split}
-use Rattle.idl_event.specs.Code.{code_text}
+use Rattle.idl_fault.specs.Code.{code_text}
 use Rattle.idl_source.specs.Refusal.{number_of}
 use Rattle.idl_explain.specs.declared.explanation.Explanation.{Explanation}
 use Rattle.idl_explain.specs.declared.explanation.Told.{Told}

@@ -8,7 +8,7 @@ ghost use Rattle.idl_explain.specs.declared.explanation.Topic.TheVariants as top
 
 use crate::explanation::{Explanation, Topic};
 use crate::{meaning, spelling};
-use idl_event::Code;
+use idl_fault::Code;
 
 /// All codes, in the order of their numbers.
 pub const CODES: [Topic; 58] = [

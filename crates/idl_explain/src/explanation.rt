@@ -3,7 +3,7 @@
 ghost use Rattle.std.specs.Prelude.{◌≡◌, ◌↔◌, ◌++◌, IsTrue, OnOk};
 ghost use Rattle.idl_explain.specs.Explained.{Names, behind, headline, indented, indented_line, row_of, said, shown, title, token_of, topic_of};
 
-use idl_event::Code;
+use idl_fault::Code;
 use idl_source::{NEWLINE, Refusal, first_part};
 use itoa::Buffer;
 use std::alloc::AllocError;

@@ -3,7 +3,7 @@
 //! This file is made of docs/codes.tsv by .ci/codes.
 
 use crate::explanation::{Explanation, Told, Words};
-use idl_event::Code;
+use idl_fault::Code;
 
 pub static BAD_TOKEN: Explanation = Explanation {
     told: Told::Row(1, Code::BadToken, "@"),

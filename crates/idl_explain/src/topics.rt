@@ -1,7 +1,7 @@
 //! All that can be explained.
 
 ghost use Rattle.std.specs.Prelude.{◌≡◌, All, Contains, IfNone, IfSome};
-ghost use Rattle.idl_event.specs.declared.code.Code.{Code};
+ghost use Rattle.idl_fault.specs.declared.code.Code.{Code};
 ghost use Rattle.idl_source.specs.declared.refusal.Refusal.{Refusal};
 ghost use Rattle.idl_explain.specs.Explained.{Names, topic_of};
 ghost use Rattle.idl_explain.specs.declared.explanation.Topic.{Topic};

@@ -1,9 +1,7 @@
 pub mod AlikeLemmas
 pub mod ApartLemmas
-pub mod BlockLemmas
 pub mod ByteLemmas
 pub mod CountLemmas
-pub mod CutLemmas
 pub mod HeaderLemmas
 pub mod KindLemmas
 pub mod LineLemmas
@@ -11,11 +9,8 @@ pub mod LiteralLemmas
 pub mod LogicalLemmas
 pub mod LoneLemmas
 pub mod MarkLemmas
-pub mod MovedLemmas
 pub mod NumberLemmas
 pub mod PieceLemmas
 pub mod TableLemmas
-pub mod TextLemmas
 pub mod TokensLemmas
-pub mod WalkLemmas
 pub mod WordLemmas

@@ -15,7 +15,4 @@ pub mod Text
 pub mod Logical
 pub mod Tokens
 pub mod Apart
-pub mod Cut
 pub mod Lexer
-pub mod Moved
-pub mod Block

@@ -4,16 +4,12 @@
 //! diagnostics. Joined lines and comments are dealt with here, and directives are not.
 #![tactic(auto)]
 
-mod block;
 mod block_tokens;
-mod blocks;
 mod byte;
 mod context;
-mod file_tokens;
 mod keyword;
 mod keyword_table;
 mod kind;
-mod lexed;
 mod lexer;
 mod literal;
 mod logical;
@@ -22,21 +18,18 @@ mod mark_table;
 mod number;
 mod state;
 mod token;
-mod token_range;
-mod tokens_left;
 mod word;
 mod word_table;
 
-pub use file_tokens::{FileToken, FileTokens};
+pub use block_tokens::{BlockTokens, TokenBuffer, TokenPlace};
 pub use keyword::Keyword;
 pub use kind::{Defect, Kind, is_like_keyword, kind_of};
-pub use lexed::{Lexed, lex, longest_pieces};
+pub use lexer::{Before, Opening, push_line};
 pub use literal::decode;
+pub use logical::{Logical, joined_count};
 pub use mark::{Mark, PreprocessorMark};
 pub use mark_table::mark_kind;
 pub use number::integer_value;
 pub use token::{PlacedToken, Token};
-pub use token_range::TokenRange;
-pub use tokens_left::TokensLeft;
 pub use word::is_word;
 pub use word_table::{Entry, value_of};

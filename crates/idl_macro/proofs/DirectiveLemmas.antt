@@ -3,12 +3,12 @@ use Rattle.std.proofs.Common.{◌≡◌, ℕ, Bool, if◌then◌else◌, List, O
 use Rattle.std.specs.Option.{option_copied}
 use Rattle.idl_memo.specs.Query.{Done, Tell, and_then}
 use Rattle.idl_event.specs.Expanding.{Expanding, Reached, arrival, arrived}
-use Rattle.idl_event.specs.declared.code.Code.TheVariants.{MalformedMacro, OtherDefinition}
+use Rattle.idl_fault.specs.declared.code.Code.TheVariants.{MalformedMacro, OtherDefinition}
 use Rattle.idl_event.specs.declared.event.Event.TheVariants.{Fault}
 use Rattle.idl_event.specs.declared.event.Item.TheVariants.{Kept}
 use Rattle.idl_event.specs.declared.key.Answer.{Answer}
 use Rattle.idl_event.specs.declared.key.Key.{Key}
-use Rattle.idl_event.specs.declared.place.Place.{Place}
+use Rattle.idl_fault.specs.declared.place.Place.{Place}
 use Rattle.idl_lex.specs.Tokens.{Token}
 use Rattle.idl_lex.specs.declared.token.PlacedToken.{PlacedToken}
 use Rattle.idl_macro.specs.Directives.{define, defining, definition_in, differs, first_word, is_macro_there, saying, undef}

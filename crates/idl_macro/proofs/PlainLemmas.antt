@@ -16,7 +16,7 @@ use Rattle.idl_event.specs.declared.event.Item.TheVariants.{Kept}
 use Rattle.idl_event.specs.declared.key.Answer.{Answer}
 use Rattle.idl_event.specs.declared.key.Key.{Key}
 use Rattle.idl_event.specs.declared.key.Key.TheVariants as key
-use Rattle.idl_event.specs.declared.place.Place.{Place}
+use Rattle.idl_fault.specs.declared.place.Place.{Place}
 use Rattle.idl_lex.specs.Tokens.{Token}
 use Rattle.idl_lex.specs.Word.{is_word}
 use Rattle.idl_lex.specs.declared.token.PlacedToken.{PlacedToken}

@@ -15,7 +15,7 @@ use Rattle.idl_event.specs.declared.event.Item.{Item}
 use Rattle.idl_event.specs.declared.event.Item.TheVariants.{Turn}
 use Rattle.idl_event.specs.declared.key.Answer.{Answer}
 use Rattle.idl_event.specs.declared.key.Key.{Key}
-use Rattle.idl_event.specs.declared.place.Place.{Place}
+use Rattle.idl_fault.specs.declared.place.Place.{Place}
 use Rattle.idl_lex.specs.Tokens.{Token}
 use Rattle.idl_lex.specs.declared.token.PlacedToken.{PlacedToken}
 use Rattle.idl_macro.specs.declared.replacement.Output.{Output}

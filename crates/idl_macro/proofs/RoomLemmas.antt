@@ -15,7 +15,7 @@ use Rattle.idl_event.specs.declared.event.Event.TheVariants.{Emitted, Entered, L
 use Rattle.idl_event.specs.declared.event.Item.TheVariants.{Kept, Counted, Turn, TooDeep}
 use Rattle.idl_event.specs.declared.key.Answer.{Answer}
 use Rattle.idl_event.specs.declared.key.Key.{Key}
-use Rattle.idl_event.specs.declared.place.Place.{Place}
+use Rattle.idl_fault.specs.declared.place.Place.{Place}
 use Rattle.idl_macro.proofs.AllowanceLemmas.{left-after_item, left-after_key, left-replacement, left_by, no_zero}
 use Rattle.idl_macro.proofs.ReplaceLemmas.{made, reached-followed_by, reached-replaced}
 

@@ -11,10 +11,10 @@ use Rattle.idl_macro.specs.Replace.{followed_by, operand}
 use Rattle.idl_lex.specs.Tokens.{Token, tokens_in}
 use Rattle.idl_lex.specs.Word.{is_word}
 use Rattle.idl_lex.specs.declared.token.PlacedToken.{PlacedToken}
-use Rattle.idl_event.specs.declared.code.Code.TheVariants.{BadCondition}
+use Rattle.idl_fault.specs.declared.code.Code.TheVariants.{BadCondition}
 use Rattle.idl_event.specs.declared.event.Event.TheVariants.{Fault}
 use Rattle.idl_event.specs.declared.event.Item.TheVariants.{Kept}
-use Rattle.idl_event.specs.declared.place.Place.{Place}
+use Rattle.idl_fault.specs.declared.place.Place.{Place}
 
 -- a word and a `)` behind a `(`: the word, and how many tokens stand from the `(` on
 abbrev pub enclosed_name : List Token → Option (List ℕ × ℕ)

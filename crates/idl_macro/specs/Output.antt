@@ -5,7 +5,7 @@ use Rattle.idl_lex.specs.Tokens.{Token}
 use Rattle.idl_event.specs.declared.event.Item.{Item}
 use Rattle.idl_event.specs.declared.event.Event.TheVariants.{Emitted}
 use Rattle.idl_event.specs.declared.event.Item.TheVariants.{Kept, Counted}
-use Rattle.idl_event.specs.declared.place.Place.{Place}
+use Rattle.idl_fault.specs.declared.place.Place.{Place}
 use Rattle.idl_macro.specs.declared.replacement.Output.{Output}
 use Rattle.idl_macro.specs.declared.replacement.Output.TheVariants.{Text, Operand}
 

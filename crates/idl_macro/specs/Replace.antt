@@ -10,11 +10,11 @@ use Rattle.idl_lex.specs.Tokens.{Token}
 use Rattle.idl_lex.specs.Word.{is_word}
 use Rattle.idl_lex.specs.declared.token.PlacedToken.{PlacedToken}
 use Rattle.idl_event.specs.Limits.{turns_at_most}
-use Rattle.idl_event.specs.declared.file_name.FileName.{FileName}
+use Rattle.idl_fault.specs.declared.file_name.FileName.{FileName}
 use Rattle.idl_event.specs.declared.event.Item.{Item}
 use Rattle.idl_event.specs.declared.event.Event.TheVariants.{Emitted}
 use Rattle.idl_event.specs.declared.event.Item.TheVariants.{Kept, Counted, Turn}
-use Rattle.idl_event.specs.declared.place.Place.{Place}
+use Rattle.idl_fault.specs.declared.place.Place.{Place}
 
 -- two that give tokens, one after the other: the tokens of both, end to end
 abbrev pub followed_by : Expanding (List Token) → Expanding (List Token) → Expanding (List Token)

@@ -6,7 +6,7 @@ ghost use Rattle.idl_memo.specs.Progress.{after_item};
 ghost use Rattle.idl_condition.specs.Arithmetic.{is_zero};
 ghost use Rattle.idl_event.specs.Expanding.{arrival, arrived};
 ghost use Rattle.idl_event.specs.Items.{rules};
-ghost use Rattle.idl_event.specs.declared.code.Code.TheVariants.{BadCondition};
+ghost use Rattle.idl_fault.specs.declared.code.Code.TheVariants.{BadCondition};
 ghost use Rattle.idl_event.specs.declared.event.Event.TheVariants.{Fault};
 ghost use Rattle.idl_event.specs.declared.event.Item.TheVariants.{Kept};
 ghost use Rattle.idl_lex.specs.Tokens.{Token, tokens_in};
@@ -17,7 +17,8 @@ use crate::directive::Directive;
 use crate::replacement::replace_operand;
 use idl_base::Bytes;
 use idl_condition::{Symbol, evaluate};
-use idl_event::{Code, Event, Item, Progress, RootBank};
+use idl_event::{Event, Item, Progress, RootBank};
+use idl_fault::Code;
 use idl_lex::Token;
 use std::alloc::{AllocError, Global};
 

@@ -13,8 +13,9 @@ ghost use Rattle.idl_macro.specs.Macros.{body_in, macro_of};
 use crate::digest::digest_of;
 use idl_base::Bytes;
 use idl_event::{Answer, Progress, RootBank};
-use idl_lex::{Token, TokenRange};
+use idl_lex::Token;
 use idl_map::{Marks, Table};
+use idl_text::TokenRange;
 use std::alloc::{AllocError, Global};
 use std::marker::Model;
 

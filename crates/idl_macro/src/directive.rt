@@ -5,7 +5,7 @@ ghost use Rattle.std.specs.Option.{option_copied, option_map};
 ghost use Rattle.idl_memo.specs.Progress.{after_item};
 ghost use Rattle.idl_event.specs.Expanding.{arrival, arrived};
 ghost use Rattle.idl_event.specs.Items.{rules};
-ghost use Rattle.idl_event.specs.declared.code.Code.TheVariants.{MalformedMacro, OtherDefinition};
+ghost use Rattle.idl_fault.specs.declared.code.Code.TheVariants.{MalformedMacro, OtherDefinition};
 ghost use Rattle.idl_event.specs.declared.event.Event.TheVariants.{Fault};
 ghost use Rattle.idl_event.specs.declared.event.Item.TheVariants.{Kept};
 ghost use Rattle.idl_lex.specs.Tokens.{tokens_in};
@@ -14,8 +14,10 @@ ghost use Rattle.idl_macro.specs.Directives.{define, undef, ifdef, ifndef, is_ma
 use crate::definitions::{Definitions, Macros};
 use crate::word::is_macro_word;
 use idl_base::Bytes;
-use idl_event::{Answer, Code, Event, Item, Key, Place, Progress, RootBank};
-use idl_lex::{FileToken, FileTokens, Token};
+use idl_event::{Answer, Event, Item, Key, Progress, RootBank};
+use idl_fault::{Code, Place};
+use idl_lex::Token;
+use idl_text::{FileToken, FileTokens};
 use std::alloc::AllocError;
 
 /// A directive where it stands: its word, and the tokens after that.

@@ -18,9 +18,11 @@ ghost use Rattle.idl_macro.specs.Replace.{operand, replaced, replaced_at, replac
 
 use crate::definitions::{Definitions, Macros};
 use idl_base::Bytes;
-use idl_event::{Answer, FileName, Item, Key, Place, Progress, RootBank};
-use idl_lex::{FileTokens, Token};
+use idl_event::{Answer, Item, Key, Progress, RootBank};
+use idl_fault::{FileName, Place};
+use idl_lex::Token;
 use idl_map::Table;
+use idl_text::FileTokens;
 use std::alloc::{AllocError, Global};
 use std::slice::from_ref;
 

@@ -5,17 +5,17 @@ use Rattle.std.specs.Str.{bytes_eq}
 use Rattle.indexmap.specs.IndexSet.{insert_key}
 use Rattle.idl_memo.specs.Query.{Done, Tell}
 use Rattle.idl_event.specs.Expanding.{Expanding, Reached, arrival, arrived}
-use Rattle.idl_event.specs.declared.file_name.FileName.{FileName}
+use Rattle.idl_fault.specs.declared.file_name.FileName.{FileName}
 use Rattle.idl_event.specs.declared.event.Event.TheVariants.{Pragma}
 use Rattle.idl_event.specs.declared.event.Item.TheVariants as item
 use Rattle.idl_event.specs.declared.key.Answer.{Answer}
 use Rattle.idl_event.specs.declared.key.Key.{Key}
 use Rattle.idl_lex.specs.Tokens.{tokens_in}
 use Rattle.idl_macro.specs.Replace.{place_at}
-use Rattle.idl_groups.specs.Line.{Directive, Directed}
-use Rattle.idl_groups.specs.declared.kind.DirectiveKind.{DirectiveKind}
-use Rattle.idl_groups.specs.declared.kind.DirectiveKind.TheVariants.{Alone}
-use Rattle.idl_groups.specs.declared.kind.Plain.{Plain}
+use Rattle.idl_text.specs.Line.{Directive, Directed}
+use Rattle.idl_text.specs.declared.kind.DirectiveKind.{DirectiveKind}
+use Rattle.idl_text.specs.declared.kind.DirectiveKind.TheVariants.{Alone}
+use Rattle.idl_text.specs.declared.kind.Plain.{Plain}
 use Rattle.idl_prep.specs.Directive.{Enter, effect, entering, first_spelling, include, including, is_of_idl, plain_effect, plain_or, pragma, pragma_by}
 use Rattle.idl_prep.specs.Include.{Found, Operand, file_of, operand_of}
 use Rattle.idl_prep.specs.Place.{place_in}

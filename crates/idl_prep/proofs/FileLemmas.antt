@@ -4,14 +4,14 @@ use Rattle.std.specs.Option.{option_map}
 use Rattle.idl_memo.specs.Query.{Done, Tell, and_then}
 use Rattle.idl_lex.specs.Tokens.{lines_of}
 use Rattle.idl_lex.specs.declared.token.PlacedToken.{PlacedToken}
-use Rattle.idl_event.specs.declared.file_name.FileName.{FileName}
+use Rattle.idl_fault.specs.declared.file_name.FileName.{FileName}
 use Rattle.idl_event.specs.declared.event.Event.TheVariants.{Entered, Left}
 use Rattle.idl_event.specs.declared.event.Item.TheVariants.{TooDeep, Kept}
 use Rattle.idl_event.specs.declared.key.Answer.{Answer}
 use Rattle.idl_event.specs.declared.key.Key.{Key}
-use Rattle.idl_event.specs.declared.place.Place.{Place}
-use Rattle.idl_groups.specs.Line.{lines_in, read}
-use Rattle.idl_groups.specs.Tree.{part, tree}
+use Rattle.idl_fault.specs.declared.place.Place.{Place}
+use Rattle.idl_text.specs.Line.{lines_in, read}
+use Rattle.idl_text.specs.Tree.{part, tree}
 use Rattle.idl_prep.specs.Directive.{Enter}
 use Rattle.idl_prep.specs.Pass.{coming, to_come}
 use Rattle.idl_prep.specs.Root.{enter, walk_file}

@@ -11,9 +11,9 @@ use Rattle.idl_event.specs.Key.{key_eq}
 use Rattle.idl_event.specs.Expanding.{Expanding, Reached, arrival, arrived}
 use Rattle.idl_macro.specs.Macros.{Definitions, macro_of}
 use Rattle.idl_lex.specs.Word.{is_word}
-use Rattle.idl_event.specs.declared.file_name.FileName.{FileName}
+use Rattle.idl_fault.specs.declared.file_name.FileName.{FileName}
 use Rattle.idl_event.specs.declared.event.Item.TheVariants.{Counted}
-use Rattle.idl_event.specs.declared.place.Place.{Place}
+use Rattle.idl_fault.specs.declared.place.Place.{Place}
 use Rattle.idl_event.specs.declared.key.Answer.{Answer}
 use Rattle.idl_event.specs.declared.key.Key.{Key}
 use Rattle.idl_event.specs.declared.key.Key.TheVariants as key

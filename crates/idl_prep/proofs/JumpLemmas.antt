@@ -2,18 +2,18 @@
 use Rattle.std.proofs.Common.{◌≡◌, Bool, false, List, [], ◌∷◌, ◌++◌, Option, None, Some, ◌⊎◌, inl, inr, refl, ap, sym, subst, ◌∙◌}
 use Rattle.idl_memo.specs.Query.{Tell, and_then}
 use Rattle.idl_event.specs.Expanding.{Expanding}
-use Rattle.idl_event.specs.declared.file_name.FileName.{FileName}
+use Rattle.idl_fault.specs.declared.file_name.FileName.{FileName}
 use Rattle.idl_event.specs.declared.key.Answer.{Answer}
 use Rattle.idl_event.specs.declared.key.Key.{Key}
-use Rattle.idl_groups.specs.Jump.{IsJump, IsNextOfGroup, fault_at, faults_in, faults_in_branches, faults_in_tree}
-use Rattle.idl_groups.specs.Line.{Directive, Line, Text, NullDirective, Directed}
-use Rattle.idl_groups.specs.Tree.{IsBranch, Tree, Leaf, Stray, Group as group_tree, Forest, Empty, Grow, Branches, Closed, Unclosed, Branch, Part, Closing, At, append, directive_before, part, close}
-use Rattle.idl_groups.specs.TreeLaw.{Inside}
-use Rattle.idl_groups.specs.declared.fault.GroupFault.{GroupFault}
-use Rattle.idl_groups.specs.declared.fault.Misplaced.TheVariants.{NotClosed}
-use Rattle.idl_groups.specs.declared.kind.DirectiveKind.TheVariants.{Endif}
-use Rattle.idl_groups.proofs.TreeLemmas.{before-of_group, close-branch, close-endif, of_group-branch}
-use Rattle.idl_groups.proofs.TreeLawLemmas.{append-Empty, settled, settled-forest}
+use Rattle.idl_text.specs.Jump.{IsJump, IsNextOfGroup, fault_at, faults_in, faults_in_branches, faults_in_tree}
+use Rattle.idl_text.specs.Line.{Directive, Line, Text, NullDirective, Directed}
+use Rattle.idl_text.specs.Tree.{IsBranch, Tree, Leaf, Stray, Group as group_tree, Forest, Empty, Grow, Branches, Closed, Unclosed, Branch, Part, Closing, At, append, directive_before, part, close}
+use Rattle.idl_text.specs.TreeLaw.{Inside}
+use Rattle.idl_text.specs.declared.fault.GroupFault.{GroupFault}
+use Rattle.idl_text.specs.declared.fault.Misplaced.TheVariants.{NotClosed}
+use Rattle.idl_text.specs.declared.kind.DirectiveKind.TheVariants.{Endif}
+use Rattle.idl_text.proofs.TreeLemmas.{before-of_group, close-branch, close-endif, of_group-branch}
+use Rattle.idl_text.proofs.TreeLawLemmas.{append-Empty, settled, settled-forest}
 use Rattle.idl_prep.specs.Directive.{Enter}
 use Rattle.idl_prep.specs.Pass.{coming, innermost, to_come, visit, visit_branches}
 use Rattle.idl_prep.specs.State.{Said, Way, ended, onward}

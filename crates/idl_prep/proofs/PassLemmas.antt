@@ -2,14 +2,14 @@
 use Rattle.std.proofs.Common.{◌≡◌, Bool, true, false, if◌then◌else◌, ◌||◌, List, [], ◌∷◌, refl, ap, sym, subst, ◌∙◌}
 use Rattle.idl_memo.specs.Query.{Done, Tell, and_then}
 use Rattle.idl_event.specs.Expanding.{Expanding}
-use Rattle.idl_event.specs.declared.file_name.FileName.{FileName}
+use Rattle.idl_fault.specs.declared.file_name.FileName.{FileName}
 use Rattle.idl_event.specs.declared.event.Item.TheVariants.{Turn}
-use Rattle.idl_groups.specs.Line.{Directive, Line, Directed}
-use Rattle.idl_groups.specs.Tree.{IsBranch, IsOfGroup, Tree, Leaf, Stray, Group as group_tree, Forest, Empty, Grow, Branches, Closed, Unclosed, Branch, Part, Closing, AtEnd, At, before, close, directive_before, grown, is_else, part}
-use Rattle.idl_groups.specs.declared.kind.DirectiveKind.{DirectiveKind}
-use Rattle.idl_groups.specs.declared.kind.DirectiveKind.TheVariants.{Opening, Endif}
-use Rattle.idl_groups.specs.declared.kind.Test.{Test}
-use Rattle.idl_groups.proofs.TreeLemmas.{before-of_group, body_grown, close-Grow, close-branch, close-endif, close-stray, of_group-branch, strays-Grow}
+use Rattle.idl_text.specs.Line.{Directive, Line, Directed}
+use Rattle.idl_text.specs.Tree.{IsBranch, IsOfGroup, Tree, Leaf, Stray, Group as group_tree, Forest, Empty, Grow, Branches, Closed, Unclosed, Branch, Part, Closing, AtEnd, At, before, close, directive_before, grown, is_else, part}
+use Rattle.idl_text.specs.declared.kind.DirectiveKind.{DirectiveKind}
+use Rattle.idl_text.specs.declared.kind.DirectiveKind.TheVariants.{Opening, Endif}
+use Rattle.idl_text.specs.declared.kind.Test.{Test}
+use Rattle.idl_text.proofs.TreeLemmas.{before-of_group, body_grown, close-Grow, close-branch, close-endif, close-stray, of_group-branch, strays-Grow}
 use Rattle.idl_prep.specs.Directive.{Enter, effect, test}
 use Rattle.idl_prep.specs.Place.{place_in}
 use Rattle.idl_prep.specs.Pass.{begun, coming, is_walked, visit, visit_branches, visit_tree}

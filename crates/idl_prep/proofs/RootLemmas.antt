@@ -4,12 +4,12 @@ use Rattle.idl_memo.specs.Query.{and_then}
 use Rattle.idl_event.specs.Expanding.{Expanding, Reached, arrival, arrived}
 use Rattle.idl_macro.specs.Macros.{Definitions}
 use Rattle.idl_lex.specs.declared.token.PlacedToken.{PlacedToken}
-use Rattle.idl_event.specs.declared.file_name.FileName.{FileName}
+use Rattle.idl_fault.specs.declared.file_name.FileName.{FileName}
 use Rattle.idl_event.specs.declared.key.Answer.{Answer}
 use Rattle.idl_event.specs.declared.key.Key.{Key}
-use Rattle.idl_event.specs.declared.place.Place.{Place}
-use Rattle.idl_groups.specs.Line.{Directive}
-use Rattle.idl_groups.specs.declared.kind.Test.{Test}
+use Rattle.idl_fault.specs.declared.place.Place.{Place}
+use Rattle.idl_text.specs.Line.{Directive}
+use Rattle.idl_text.specs.declared.kind.Test.{Test}
 use Rattle.idl_prep.specs.Directive.{redefined, test, tested}
 use Rattle.idl_prep.specs.Place.{place_in}
 use Rattle.idl_prep.specs.State.{Said, Way, ended, onward}

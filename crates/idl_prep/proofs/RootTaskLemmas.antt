@@ -12,8 +12,8 @@ use Rattle.idl_memo.proofs.QueryLaws.{run-and_then}
 use Rattle.idl_event.specs.Items.{beginning, rules, whole_allowance}
 use Rattle.idl_event.specs.Key.{key_eq}
 use Rattle.idl_event.specs.Expanding.{Reached, reached}
-use Rattle.idl_event.specs.declared.file_name.FileName.{FileName}
-use Rattle.idl_event.specs.declared.code.Code.TheVariants.{NotFound}
+use Rattle.idl_fault.specs.declared.file_name.FileName.{FileName}
+use Rattle.idl_fault.specs.declared.code.Code.TheVariants.{NotFound}
 use Rattle.idl_event.specs.declared.event.Event.TheVariants.{Fault}
 use Rattle.idl_event.specs.declared.event.Item.TheVariants.{Kept}
 use Rattle.idl_event.specs.declared.key.Answer.{Answer}

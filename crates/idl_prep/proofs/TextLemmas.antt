@@ -2,10 +2,10 @@
 use Rattle.std.proofs.Common.{◌≡◌, ◌∙◌, ◌++◌, ◌∷◌, true, false, Option, List, [], flat_map, map, refl, sym, ap}
 use Rattle.idl_memo.specs.Query.{Done}
 use Rattle.idl_event.specs.Expanding.{Reached, reached}
-use Rattle.idl_event.specs.declared.file_name.FileName.{FileName}
+use Rattle.idl_fault.specs.declared.file_name.FileName.{FileName}
 use Rattle.idl_event.specs.declared.key.Answer.{Answer}
 use Rattle.idl_event.specs.declared.key.Key.{Key}
-use Rattle.idl_groups.specs.Line.{Line, Text}
+use Rattle.idl_text.specs.Line.{Line, Text}
 use Rattle.idl_lex.specs.declared.token.PlacedToken.{PlacedToken}
 use Rattle.idl_macro.proofs.ReplaceLemmas.{reached-text-append, reached-text-nil}
 use Rattle.idl_macro.specs.Replace.{text}

@@ -2,15 +2,15 @@
 use Rattle.std.proofs.Common.{◌≡◌, Bool, true, false, ◌||◌, Option, List, [], ◌∷◌, ap, sym, ◌∙◌}
 use Rattle.idl_memo.specs.Query.{Tell, and_then, outcome}
 use Rattle.idl_event.specs.Expanding.{Expanding, arrival, arrived, reached}
-use Rattle.idl_event.specs.declared.file_name.FileName.{FileName}
+use Rattle.idl_fault.specs.declared.file_name.FileName.{FileName}
 use Rattle.idl_event.specs.declared.event.Item.{Item}
 use Rattle.idl_event.specs.declared.event.Item.TheVariants.{Turn}
 use Rattle.idl_event.specs.declared.key.Answer.{Answer}
 use Rattle.idl_event.specs.declared.key.Key.{Key}
-use Rattle.idl_groups.specs.Line.{Directive, Line, Directed}
-use Rattle.idl_groups.specs.Tree.{IsBranch, IsOfGroup, Leaf, Stray, before, grown, is_else, part}
-use Rattle.idl_groups.specs.declared.kind.DirectiveKind.TheVariants.{Opening, Endif}
-use Rattle.idl_groups.specs.declared.kind.Test.{Test}
+use Rattle.idl_text.specs.Line.{Directive, Line, Directed}
+use Rattle.idl_text.specs.Tree.{IsBranch, IsOfGroup, Leaf, Stray, before, grown, is_else, part}
+use Rattle.idl_text.specs.declared.kind.DirectiveKind.TheVariants.{Opening, Endif}
+use Rattle.idl_text.specs.declared.kind.Test.{Test}
 use Rattle.idl_prep.specs.Directive.{Enter, effect, test}
 use Rattle.idl_prep.specs.Place.{place_in}
 use Rattle.idl_prep.specs.Pass.{begun, coming, is_walked, to_come, visit_tree}

@@ -13,12 +13,12 @@ use Rattle.idl_event.specs.Expanding.{Expanding}
 use Rattle.idl_macro.specs.Macros.{Definitions, macro_of}
 use Rattle.idl_macro.specs.Replace.{operand}
 use Rattle.idl_lex.specs.Word.{is_word}
-use Rattle.idl_event.specs.declared.file_name.FileName.{FileName}
+use Rattle.idl_fault.specs.declared.file_name.FileName.{FileName}
 use Rattle.idl_event.specs.declared.event.Item.TheVariants.{Counted}
 use Rattle.idl_event.specs.declared.key.Answer.{Answer}
 use Rattle.idl_event.specs.declared.key.Answer.TheVariants as answer
 use Rattle.idl_event.specs.declared.key.Key.TheVariants as key
-use Rattle.idl_event.specs.declared.place.Place.{Place}
+use Rattle.idl_fault.specs.declared.place.Place.{Place}
 use Rattle.idl_source.specs.Candidates.{along}
 use Rattle.idl_source.specs.Directory.{directory_of}
 use Rattle.idl_source.specs.Path.{is_rooted, joined_path}

@@ -2,11 +2,11 @@
 use Rattle.std.specs.Prelude.{Bool, true, false, List, [], ◌∷◌, if◌then◌else◌, Option, None, Some}
 use Rattle.idl_memo.specs.Query.{Done, and_then}
 use Rattle.idl_event.specs.Expanding.{Expanding, Reached}
-use Rattle.idl_event.specs.declared.file_name.FileName.{FileName}
+use Rattle.idl_fault.specs.declared.file_name.FileName.{FileName}
 use Rattle.idl_event.specs.declared.key.Answer.{Answer}
 use Rattle.idl_event.specs.declared.key.Key.{Key}
-use Rattle.idl_groups.specs.Line.{Line}
-use Rattle.idl_groups.specs.Tree.{Tree, Forest, Branches, Part, close, part, strays}
+use Rattle.idl_text.specs.Line.{Line}
+use Rattle.idl_text.specs.Tree.{Tree, Forest, Branches, Part, close, part, strays}
 use Rattle.idl_prep.specs.Directive.{Enter}
 use Rattle.idl_prep.specs.State.{Said, Way, onward}
 use Rattle.idl_prep.specs.Walk.{skip, skip_branches, skip_tree, walk, walk_branches, walk_tree}

@@ -1,5 +1,5 @@
 -- A line as the code holds it.
-use Rattle.idl_groups.specs.Line.{Line, Text, NullDirective, Directed}
+use Rattle.idl_text.specs.Line.{Line, Text, NullDirective, Directed}
 use Rattle.idl_prep.specs.declared.line.Line as declared
 use Rattle.idl_prep.specs.declared.line.Line.TheVariants as held
 

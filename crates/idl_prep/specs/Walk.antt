@@ -2,14 +2,14 @@
 use Rattle.std.specs.Prelude.{Bool, true, false, ◌||◌, Some, if◌then◌else◌}
 use Rattle.idl_memo.specs.Query.{Done, Tell, and_then}
 use Rattle.idl_event.specs.Expanding.{Expanding}
-use Rattle.idl_event.specs.declared.file_name.FileName.{FileName}
-use Rattle.idl_event.specs.declared.code.Code.TheVariants.{OutOfPlace, NotClosed}
+use Rattle.idl_fault.specs.declared.file_name.FileName.{FileName}
+use Rattle.idl_fault.specs.declared.code.Code.TheVariants.{OutOfPlace, NotClosed}
 use Rattle.idl_event.specs.declared.event.Item.{Item}
 use Rattle.idl_event.specs.declared.event.Event.TheVariants.{Fault}
 use Rattle.idl_event.specs.declared.event.Item.TheVariants.{Turn, Kept}
-use Rattle.idl_groups.specs.Line.{Directive}
-use Rattle.idl_groups.specs.Tree.{Tree, Leaf, Stray, Group, Forest, Empty, Grow, Branches, Closed, Unclosed, Branch, is_else}
-use Rattle.idl_groups.specs.declared.kind.Test.TheVariants.{If}
+use Rattle.idl_text.specs.Line.{Directive}
+use Rattle.idl_text.specs.Tree.{Tree, Leaf, Stray, Group, Forest, Empty, Grow, Branches, Closed, Unclosed, Branch, is_else}
+use Rattle.idl_text.specs.declared.kind.Test.TheVariants.{If}
 use Rattle.idl_prep.specs.Directive.{Enter, effect, test}
 use Rattle.idl_prep.specs.Place.{place_in}
 use Rattle.idl_prep.specs.State.{Said}

@@ -2,10 +2,10 @@
 
 ghost use Rattle.std.specs.Prelude.{◌≡◌, ◌∷◌, false, true, List, Option, IfOk, OnOk};
 ghost use Rattle.idl_event.specs.Expanding.{arrival, arrived};
-ghost use Rattle.idl_groups.specs.Line as spec;
-ghost use Rattle.idl_groups.specs.Line.{Directed};
-ghost use Rattle.idl_groups.specs.Tree.{IsBranch};
-ghost use Rattle.idl_groups.specs.declared.kind.DirectiveKind.TheVariants.{Endif, Opening};
+ghost use Rattle.idl_text.specs.Line as spec;
+ghost use Rattle.idl_text.specs.Line.{Directed};
+ghost use Rattle.idl_text.specs.Tree.{IsBranch};
+ghost use Rattle.idl_text.specs.declared.kind.DirectiveKind.TheVariants.{Endif, Opening};
 ghost use Rattle.idl_prep.specs.Directive.{Enter};
 ghost use Rattle.idl_prep.specs.Pass.{begun, is_walked, to_come};
 ghost use Rattle.idl_prep.specs.Walk.{decision, opener_of};
@@ -15,8 +15,9 @@ use crate::groups::{Group, Opener};
 use crate::line::Directive;
 use crate::root::Root;
 use crate::site::Site;
-use idl_event::{Answer, FileName, Key, RootBank};
-use idl_groups::Test;
+use idl_event::{Answer, Key, RootBank};
+use idl_fault::FileName;
+use idl_text::Test;
 use std::alloc::AllocError;
 
 /// A group begins in lines that are walked.

@@ -2,7 +2,7 @@
 
 ghost use Rattle.std.specs.Prelude.{◌≡◌, List, Option, ℕ};
 ghost use Rattle.idl_memo.specs.Query.{asked, outcome};
-ghost use Rattle.idl_event.specs.declared.file_name.FileName.{FileName};
+ghost use Rattle.idl_fault.specs.declared.file_name.FileName.{FileName};
 ghost use Rattle.idl_event.specs.declared.key.Answer.{Answer};
 ghost use Rattle.idl_event.specs.declared.key.Key.{Key};
 ghost use Rattle.idl_prep.specs.Candidate.{AnswersFrom, IsFirstPresent, files_asked, up_to_present};

@@ -19,11 +19,11 @@ use crate::root::Root;
 use crate::root_task::absent;
 use crate::site::Site;
 use idl_base::Stack;
-use idl_event::{FileName, Item, LexedFile, Place, Progress, RootBank};
-use idl_groups::{DirectiveKind, LinesLeft, Plain};
-use idl_lex::FileTokens;
+use idl_event::{Item, LexedFile, Progress, RootBank};
+use idl_fault::{FileName, Place};
 use idl_memo::Log;
 use idl_source::Name;
+use idl_text::{DirectiveKind, FileTokens, LinesLeft, Plain};
 use std::alloc::{AllocError, Global};
 
 /// What a root that is explored has said so far, and what is left of its limits.

@@ -10,7 +10,8 @@ ghost use Rattle.idl_prep.specs.Include.{directories_in, file_in, file_of, first
 ghost use Rattle.idl_source.specs.Path.{joined_path};
 
 use crate::operand::Operand;
-use idl_event::{Answer, FileName, Key, LexedFile, Progress, RootBank};
+use idl_event::{Answer, Key, LexedFile, Progress, RootBank};
+use idl_fault::FileName;
 use idl_source::{Directory, is_rooted, join};
 use std::alloc::AllocError;
 use std::marker::Model;

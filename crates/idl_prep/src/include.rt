@@ -10,7 +10,8 @@ use crate::line::Directive;
 use crate::operand::Operand;
 use crate::root::Root;
 use crate::site::Site;
-use idl_event::{Code, RootBank};
+use idl_event::RootBank;
+use idl_fault::Code;
 use std::alloc::AllocError;
 
 /// `include`: gives the file that is to be entered, if there is one.

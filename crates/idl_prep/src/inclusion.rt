@@ -1,6 +1,7 @@
 //! Files that are to be entered.
 
-use idl_event::{FileName, LexedFile, Place};
+use idl_event::LexedFile;
+use idl_fault::{FileName, Place};
 
 /// A file that is to be entered: the place of the directive, the file's name, and the file.
 #[derive(Drop)]

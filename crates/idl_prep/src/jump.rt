@@ -1,7 +1,7 @@
 //! Branches that aren't taken are jumped over.
 
 ghost use Rattle.std.specs.Prelude.{◌≡◌, ◌≤◌, Option, IfOk, OnOk, length};
-ghost use Rattle.idl_groups.specs.Line.{lines_from};
+ghost use Rattle.idl_text.specs.Line.{lines_from};
 ghost use Rattle.idl_prep.specs.Directive.{Enter};
 ghost use Rattle.idl_prep.specs.Pass.{to_come};
 ghost use Rattle.idl_prep.specs.State.{ended, onward};
@@ -10,8 +10,9 @@ ghost use Rattle.idl_prep.specs.Told.{code_of, told};
 use crate::groups::{Group, innermost, is_walked};
 use crate::root::Root;
 use idl_base::Stack;
-use idl_event::{Answer, Code, FileName, Key, Place, RootBank};
-use idl_groups::{GroupFault, LinesLeft, Misplaced};
+use idl_event::{Answer, Key, RootBank};
+use idl_fault::{Code, FileName, Place};
+use idl_text::{GroupFault, LinesLeft, Misplaced};
 use std::alloc::AllocError;
 
 /// What is left of a file's lines once the branch that they begin with is jumped over, if it isn't taken: of what is in it,

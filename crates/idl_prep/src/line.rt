@@ -4,14 +4,14 @@ ghost use Rattle.std.specs.Prelude.{◌≡◌, ◌<◌, ◌++◌, ◌∷◌, IfO
 ghost use Rattle.std.specs.Str.{bytes_eq};
 ghost use Rattle.idl_lex.specs.Tokens.{lines_of};
 ghost use Rattle.idl_macro.specs.Replace.{place_at};
-ghost use Rattle.idl_groups.specs.Line.{after_hash, read};
+ghost use Rattle.idl_text.specs.Line.{after_hash, read};
 ghost use Rattle.idl_prep.specs.Place.{place_in};
 ghost use Rattle.idl_prep.specs.Read.{line_of};
 
 use idl_base::Bytes;
-use idl_event::{FileName, Place};
-use idl_groups::DirectiveKind;
-use idl_lex::{FileToken, FileTokens, Token};
+use idl_fault::{FileName, Place};
+use idl_lex::Token;
+use idl_text::{DirectiveKind, FileToken, FileTokens};
 use std::alloc::AllocError;
 use std::marker::Model;
 
@@ -27,7 +27,7 @@ pub struct Directive<'t> {
 
 impl<'t> Model for Directive<'t> {
     ghost use Rattle.std.specs.Prelude.{◌≡◌, ◌∷◌};
-    ghost use Rattle.idl_groups.specs.Line as spec;
+    ghost use Rattle.idl_text.specs.Line as spec;
 
     ghost Value = { spec.Directive };
 

@@ -3,10 +3,10 @@
 ghost use Rattle.std.specs.Prelude.{◌≡◌, ◌++◌, ◌∷◌, [], List, Option, IfOk, OnOk, map};
 ghost use Rattle.idl_memo.specs.Query.{and_then};
 ghost use Rattle.idl_lex.specs.Tokens.{lines_of};
-ghost use Rattle.idl_groups.specs.Line as spec;
-ghost use Rattle.idl_groups.specs.Line.{Directed, Text, NullDirective};
-ghost use Rattle.idl_groups.specs.Tree.{IsBranch, part};
-ghost use Rattle.idl_groups.specs.declared.kind.DirectiveKind.TheVariants.{Endif};
+ghost use Rattle.idl_text.specs.Line as spec;
+ghost use Rattle.idl_text.specs.Line.{Directed, Text, NullDirective};
+ghost use Rattle.idl_text.specs.Tree.{IsBranch, part};
+ghost use Rattle.idl_text.specs.declared.kind.DirectiveKind.TheVariants.{Endif};
 ghost use Rattle.idl_prep.specs.Directive.{Enter};
 ghost use Rattle.idl_prep.specs.Pass.{coming, entered, to_come};
 ghost use Rattle.idl_prep.specs.State.{ended, onward};
@@ -20,9 +20,9 @@ use crate::root::Root;
 use crate::site::Site;
 use crate::stray::{stray_inside, stray_outside};
 use idl_base::Stack;
-use idl_event::{Answer, Code, FileName, Key, Place, RootBank};
-use idl_groups::DirectiveKind;
-use idl_lex::FileTokens;
+use idl_event::{Answer, Key, RootBank};
+use idl_fault::{Code, FileName, Place};
+use idl_text::{DirectiveKind, FileTokens};
 use std::alloc::AllocError;
 
 /// The next line of a file: gives the file that is to be entered, if there is one.

@@ -1,11 +1,11 @@
 //! Directives of one line, and lines of text.
 
 ghost use Rattle.std.specs.Prelude.{◌≡◌, ◌∷◌, Some, IfOk, OnOk, Option};
-ghost use Rattle.idl_event.specs.declared.code.Code.TheVariants.{Error};
+ghost use Rattle.idl_fault.specs.declared.code.Code.TheVariants.{Error};
 ghost use Rattle.idl_event.specs.declared.event.Event.TheVariants.{Fault};
 ghost use Rattle.idl_event.specs.declared.event.Item.TheVariants.{Kept};
-ghost use Rattle.idl_groups.specs.Line.{Text, NullDirective, Directed};
-ghost use Rattle.idl_groups.specs.declared.kind.DirectiveKind.TheVariants.{Alone};
+ghost use Rattle.idl_text.specs.Line.{Text, NullDirective, Directed};
+ghost use Rattle.idl_text.specs.declared.kind.DirectiveKind.TheVariants.{Alone};
 ghost use Rattle.idl_prep.specs.Directive.{Enter, effect, parted};
 ghost use Rattle.idl_prep.specs.Place.{place_in};
 ghost use Rattle.idl_lex.specs.Tokens.{tokens_in};
@@ -19,9 +19,9 @@ use crate::pragma::pragma;
 use crate::root::Root;
 use crate::site::Site;
 use crate::text::parted;
-use idl_event::{Answer, Code, FileName, Item, Key, Place, RootBank};
-use idl_groups::Plain;
-use idl_lex::FileTokens;
+use idl_event::{Answer, Item, Key, RootBank};
+use idl_fault::{Code, FileName, Place};
+use idl_text::{FileTokens, Plain};
 use std::alloc::AllocError;
 
 /// A line of text, which isn't skipped.

@@ -9,8 +9,9 @@ ghost use Rattle.idl_prep.specs.State.{ended, onward};
 use crate::line::Directive;
 use crate::root::Root;
 use idl_base::Bytes;
-use idl_event::{Answer, Event, FileName, Item, Key, RootBank};
-use idl_lex::FileTokens;
+use idl_event::{Answer, Event, Item, Key, RootBank};
+use idl_fault::FileName;
+use idl_text::FileTokens;
 use std::alloc::AllocError;
 
 /// `pragma`: `once` says that the file isn't to be entered again, and those that mean something to IDL are told.

@@ -5,9 +5,11 @@ ghost use Rattle.idl_prep.specs.Include.{operand_at, operand_of};
 ghost use Rattle.idl_event.specs.Expanding.{arrival, arrived};
 
 use crate::operand::{Operand, operand_given, operand_in};
-use idl_event::{Item, Place, Progress, RootBank};
-use idl_lex::{FileTokens, Token};
+use idl_event::{Item, Progress, RootBank};
+use idl_fault::Place;
+use idl_lex::Token;
 use idl_macro::{Macros, replace_operand};
+use idl_text::FileTokens;
 use std::alloc::AllocError;
 use std::slice::from_ref;
 

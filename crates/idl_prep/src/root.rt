@@ -26,14 +26,11 @@ use crate::operand::Operand;
 use crate::replaced_operand::operand_of;
 use crate::site::Site;
 use idl_base::Bytes;
-use idl_event::{
-    Answer, Code, Event, ExpansionBuilder, FileName, Item, Key, LexedFile, Place, Progress,
-    RootBank,
-};
-use idl_groups::Test;
-use idl_lex::FileTokens;
+use idl_event::{Answer, Event, ExpansionBuilder, Item, Key, LexedFile, Progress, RootBank};
+use idl_fault::{Code, FileName, Place};
 use idl_macro::{Definitions, Macros, condition, define, ifdef, ifndef, replace_text, undef};
 use idl_memo::Log;
+use idl_text::{FileTokens, Test};
 use indexmap::IndexSet;
 use std::alloc::{AllocError, Global};
 use std::marker::Model;

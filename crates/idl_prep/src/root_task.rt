@@ -3,7 +3,7 @@
 ghost use Rattle.std.specs.Prelude.{◌≡◌, Some, IfOk, OnOk, flat_map, slice_get};
 ghost use Rattle.std.specs.Option.{option_copied, option_to_list};
 ghost use Rattle.idl_event.specs.Expanding.{reached};
-ghost use Rattle.idl_event.specs.declared.code.Code.TheVariants.{NotFound};
+ghost use Rattle.idl_fault.specs.declared.code.Code.TheVariants.{NotFound};
 ghost use Rattle.idl_event.specs.declared.event.Event.TheVariants.{Fault};
 ghost use Rattle.idl_event.specs.declared.event.Item.TheVariants.{Kept};
 ghost use Rattle.idl_prep.specs.Root as spec;
@@ -15,7 +15,8 @@ use crate::file::walk_file;
 use crate::root::Root;
 use crate::site::Site;
 use crate::text::text_of;
-use idl_event::{Code, Expansion, FileName, Key, Place, RootBank};
+use idl_event::{Expansion, Key, RootBank};
+use idl_fault::{Code, FileName, Place};
 use idl_memo::{Log, Task, TaskKind};
 use idl_source::Name;
 use std::alloc::{AllocError, Global};

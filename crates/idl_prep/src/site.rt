@@ -1,6 +1,6 @@
 //! Where lines are walked.
 
-use idl_event::FileName;
+use idl_fault::FileName;
 
 /// The file whose lines are walked, and the bank that is asked.
 #[derive(Clone, Copy)]

@@ -1,9 +1,9 @@
 //! Directives of groups that are out of place.
 
 ghost use Rattle.std.specs.Prelude.{◌≡◌, ◌∷◌, [], true, List, Option, OnOk};
-ghost use Rattle.idl_groups.specs.Line as spec;
-ghost use Rattle.idl_groups.specs.Line.{Directed};
-ghost use Rattle.idl_groups.specs.Tree.{IsBranch, IsOfGroup, Stray};
+ghost use Rattle.idl_text.specs.Line as spec;
+ghost use Rattle.idl_text.specs.Line.{Directed};
+ghost use Rattle.idl_text.specs.Tree.{IsBranch, IsOfGroup, Stray};
 ghost use Rattle.idl_prep.specs.Directive.{Enter};
 ghost use Rattle.idl_prep.specs.Pass.{to_come, visit_tree};
 ghost use Rattle.idl_prep.specs.State.{ended, onward};
@@ -12,7 +12,8 @@ ghost use Rattle.idl_prep.specs.declared.groups.Group as declared;
 use crate::groups::Group;
 use crate::line::Directive;
 use crate::root::Root;
-use idl_event::{Answer, Code, FileName, Key, RootBank};
+use idl_event::{Answer, Key, RootBank};
+use idl_fault::{Code, FileName};
 use std::alloc::AllocError;
 
 /// Another branch would begin after the group's `else`: the lines of the last one go on.

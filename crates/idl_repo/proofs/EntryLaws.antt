@@ -4,7 +4,7 @@ use Rattle.std.specs.Option.{is_some, unwrap_or}
 use Rattle.std.proofs.lemmas.List.{append-nil}
 use Rattle.idl_memo.specs.Query.{Done, asked, noted_all, outcome, run}
 use Rattle.idl_memo.proofs.QueryLaws.{asked-and_then, outcome-and_then}
-use Rattle.idl_event.specs.declared.code.Code.{Code}
+use Rattle.idl_fault.specs.declared.code.Code.{Code}
 use Rattle.idl_repo.proofs.ReferredLemmas.{ids-row}
 use Rattle.idl_repo.proofs.WriteLemmas.{asked-by-written, written-over}
 use Rattle.idl_repo.specs.Entry.{IsPushed, closing_fault, declared_entry, entry, entry_in, no_entry, pushed_entry, told_entry}

@@ -1,8 +1,8 @@
 -- The entry of a name: its row, and what is wrong with it at the root's end.
 use Rattle.std.specs.Prelude.{◌≡◌, ℕ, List, [], ◌++◌, Option, None, Some, if◌then◌else◌}
 use Rattle.std.specs.Option.{is_some, unwrap_or}
-use Rattle.idl_event.specs.declared.code.Code.{Code}
-use Rattle.idl_event.specs.declared.code.Code.TheVariants.{NeverDefined, InterfaceNeverDefined}
+use Rattle.idl_fault.specs.declared.code.Code.{Code}
+use Rattle.idl_fault.specs.declared.code.Code.TheVariants.{NeverDefined, InterfaceNeverDefined}
 use Rattle.idl_memo.specs.Query.{Done, Ask, and_then}
 use Rattle.idl_repo.specs.Pieces.{written}
 use Rattle.idl_repo.specs.Row.{row_pieces}

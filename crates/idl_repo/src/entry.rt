@@ -11,7 +11,7 @@ use crate::row_writer::RowWriter;
 use idl_base::Bytes;
 use idl_entity::{Entity, Kind, Path, Stage};
 use idl_env::{Answer, Env, LentKey, entity_in};
-use idl_event::Code;
+use idl_fault::Code;
 use idl_memo::{Journal, Log, Task, TaskKind};
 use std::alloc::{AllocError, Global};
 

@@ -8,7 +8,7 @@ use Rattle.idl_event.specs.Apart.{Numbered, others_in, place_in, site_at, sites_
 use Rattle.idl_event.specs.Sites.{StandsAt}
 use Rattle.idl_event.specs.declared.event.Event.{Event}
 use Rattle.idl_event.specs.declared.event.Event.TheVariants as event
-use Rattle.idl_event.specs.declared.place.Place.{Place}
+use Rattle.idl_fault.specs.declared.place.Place.{Place}
 use Rattle.idl_event.specs.declared.site.Site.{Site}
 use Rattle.idl_lex.specs.Tokens.{Token}
 

@@ -2,7 +2,7 @@
 -- same findings in both.
 use Rattle.std.proofs.Common.{◌≡◌, ℕ, zero, suc, ◌<◌, ◌≤◌, Bool, true, false, cond, not, ◌&&◌, List, [], ◌∷◌, None, length, get_or, drop, filter, ◌==◌, Less, Equal, Greater, nat_cmp, is_lt, nat_eq, nat_lt, nat_le, refl, sym, ap, ◌∙◌, arith, tests}
 use Rattle.std.specs.List.Sorted.{IsNonDecreasingBy, IsStableByKey}
-use Rattle.idl_event.specs.declared.code.Code.TheVariants.{OpenScope}
+use Rattle.idl_fault.specs.declared.code.Code.TheVariants.{OpenScope}
 use Rattle.idl_root.specs.Findings.{among, found_at, in_order}
 use Rattle.idl_root.specs.declared.finding.EventFinding.{EventFinding}
 

@@ -1,10 +1,10 @@
 -- What compiling a root gives, from the events that it expands to.
 use Rattle.std.specs.Prelude.{ℕ, Bool, true, false, List, [], ◌∷◌, ◌++◌, flat_map, length, map, nat_lt, None, option_to_list}
 use Rattle.std.specs.List.{enumerate_from, list_any}
-use Rattle.idl_event.specs.Code.{is_error}
-use Rattle.idl_event.specs.declared.code.Code.TheVariants.{OpenScope}
+use Rattle.idl_fault.specs.Code.{is_error}
+use Rattle.idl_fault.specs.declared.code.Code.TheVariants.{OpenScope}
 use Rattle.idl_event.specs.declared.event.Event.{Event}
-use Rattle.idl_event.specs.declared.place.Place.{Place}
+use Rattle.idl_fault.specs.declared.place.Place.{Place}
 use Rattle.idl_root.specs.Findings.{event_finding, finding_row, in_order, numbered, unit_finding}
 use Rattle.idl_root.specs.Judged.{Judged, facts_after, judged_after}
 use Rattle.idl_root.specs.Printed.{Listed, closing_finding, entry_row, listed_in}

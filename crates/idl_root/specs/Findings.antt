@@ -1,11 +1,11 @@
 -- What is found in a root, and the order in which it is told.
 use Rattle.std.specs.Prelude.{ℕ, List, [], ◌∷◌, nat_le, slice_get, Option, None, Some, if◌then◌else◌}
 use Rattle.idl_event.specs.Apart.{Numbered, place_in}
-use Rattle.idl_event.specs.Diagnostic.{diagnostic_row}
-use Rattle.idl_event.specs.declared.code.Code.{Code}
+use Rattle.idl_fault.specs.Diagnostic.{diagnostic_row}
+use Rattle.idl_fault.specs.declared.code.Code.{Code}
 use Rattle.idl_event.specs.declared.event.Event.{Event}
 use Rattle.idl_event.specs.declared.event.Event.TheVariants as event
-use Rattle.idl_event.specs.declared.place.Place.{Place}
+use Rattle.idl_fault.specs.declared.place.Place.{Place}
 use Rattle.idl_event.specs.declared.site.Site.{Site}
 use Rattle.idl_lex.specs.Tokens.{Token}
 use Rattle.idl_root.specs.Judged.{Judged}

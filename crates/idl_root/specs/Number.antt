@@ -3,7 +3,7 @@ use Rattle.std.specs.Prelude.{ℕ, zero, suc, Bool, false, ◌&&◌, List, nat_e
 use Rattle.std.specs.Str.{bytes_eq}
 use Rattle.idl_event.specs.declared.event.Event.{Event}
 use Rattle.idl_event.specs.declared.event.Event.TheVariants as event
-use Rattle.idl_event.specs.declared.place.Place.{Place}
+use Rattle.idl_fault.specs.declared.place.Place.{Place}
 
 -- a token at this place
 abbrev pub stands_at : Place → Option Event → Bool

@@ -12,7 +12,8 @@ use crate::kept::KeptUnits;
 use crate::memory::Memory;
 use crate::printing::Printed;
 use idl_base::{Bytes, Seq};
-use idl_event::{Code, Expansion, Place};
+use idl_event::Expansion;
+use idl_fault::{Code, Place};
 use idl_unit::split;
 use std::alloc::{AllocError, Global};
 

@@ -8,7 +8,8 @@ ghost use Rattle.idl_root.specs.Findings.{event_finding, fault_finding, finding_
 
 use crate::number::token_number;
 use idl_base::Bytes;
-use idl_event::{Code, Event, Expansion, Place, Site, diagnostic_row};
+use idl_event::{Event, Expansion, Site};
+use idl_fault::{Code, Place, diagnostic_row};
 use idl_unit::{Fault, SiteRun, UnitText};
 use std::alloc::{AllocError, Global};
 

@@ -2,7 +2,7 @@
 
 ghost use Rattle.std.specs.Prelude.{◌≡◌, [], ℕ, All, List, filter, map, nat_eq};
 ghost use Rattle.idl_event.specs.declared.event.Event.{Event};
-ghost use Rattle.idl_event.specs.declared.place.Place.{Place};
+ghost use Rattle.idl_fault.specs.declared.place.Place.{Place};
 ghost use Rattle.idl_check.specs.Closing.{AreTold};
 ghost use Rattle.idl_root.specs.Compile.{compile};
 ghost use Rattle.idl_root.specs.Judged.{facts_after, judged_after};

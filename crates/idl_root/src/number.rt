@@ -2,11 +2,12 @@
 
 ghost use Rattle.std.specs.Prelude.{◌≡◌, ◌≢◌, IfNone, IfSome, Some, slice_get};
 ghost use Rattle.idl_event.specs.declared.event.Event.TheVariants.{Emitted};
-ghost use Rattle.idl_event.specs.declared.place.Place.{Place};
+ghost use Rattle.idl_fault.specs.declared.place.Place.{Place};
 ghost use Rattle.idl_lex.specs.Tokens.{Token};
 ghost use Rattle.idl_root.specs.Number.{stands_at, token_number, tokens_before};
 
-use idl_event::{Expansion, FileName};
+use idl_event::Expansion;
+use idl_fault::FileName;
 
 /// The number of the token that an event is, among those of its line that stand together, from 0. Another event has none.
 pub fn token_number(expansion: &Expansion, event: usize) -> Option<usize>

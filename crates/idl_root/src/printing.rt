@@ -17,7 +17,7 @@ use crate::reprinting::Reprinting;
 use idl_base::{Shared, Span, push_texts};
 use idl_entity::Path;
 use idl_env::{Addition, Env, Facts};
-use idl_event::Code;
+use idl_fault::Code;
 use idl_repo::{Answered, Entry, Pushed};
 use idl_unit::{Fault, UnitText};
 use std::alloc::{AllocError, Global};

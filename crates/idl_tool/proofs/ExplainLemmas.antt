@@ -3,7 +3,7 @@ use Rattle.std.proofs.Common.{◌≡◌, ◌∙◌, ◌+◌, ◌<◌, ◌++◌, 
 use Rattle.std.proofs.lemmas.List.{append-nil, take_more}
 use Rattle.std.proofs.lemmas.List.Concat.{flat_map-append}
 use Rattle.std.proofs.lemmas.List.Elements.{Contains-append_left, Contains-append_right}
-use Rattle.idl_event.specs.declared.code.Code.{Code}
+use Rattle.idl_fault.specs.declared.code.Code.{Code}
 use Rattle.idl_source.specs.declared.refusal.Refusal.{Refusal}
 use Rattle.idl_explain.specs.Explained.{headline, topic_of}
 use Rattle.idl_explain.specs.declared.explanation.Explanation.{Explanation}

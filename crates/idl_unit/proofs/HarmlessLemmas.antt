@@ -6,7 +6,7 @@ use Rattle.std.proofs.lemmas.Bool.{or_from, and_right, le-ltb}
 use Rattle.std.proofs.lemmas.List.{length-map}
 use Rattle.std.proofs.lemmas.List.Folds.{list_all-map}
 use Rattle.std.proofs.lemmas.List.Sums.{count_by-le-length}
-use Rattle.idl_event.specs.declared.code.Code.TheVariants.{MixedWidths, LeftOut}
+use Rattle.idl_fault.specs.declared.code.Code.TheVariants.{MixedWidths, LeftOut}
 use Rattle.idl_lex.specs.Kind.{kind_of}
 use Rattle.idl_lex.specs.Tokens.{Token}
 use Rattle.idl_lex.specs.declared.keyword.Keyword.{Keyword}

@@ -6,7 +6,7 @@ use Rattle.std.proofs.lemmas.List.{append-nil, drop-append-le, drop-drop, drop_a
 use Rattle.idl_event.proofs.ApartLemmas.{length-sites_in}
 use Rattle.idl_event.specs.Apart.{Numbered, others_in, site_at, site_in, sites_in, token_in, tokens_in}
 use Rattle.idl_event.specs.declared.event.Event.TheVariants as event
-use Rattle.idl_event.specs.declared.place.Place.{Place}
+use Rattle.idl_fault.specs.declared.place.Place.{Place}
 use Rattle.idl_event.specs.declared.site.Site.{Site}
 use Rattle.idl_lex.specs.Tokens.{Token}
 use Rattle.idl_unit.specs.Cut.{parts_after}

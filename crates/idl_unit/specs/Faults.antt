@@ -1,6 +1,6 @@
 -- The least of faults.
 use Rattle.std.specs.Prelude.{◌&&◌, ◌||◌, List, [], ◌∷◌, fold, nat_eq, nat_lt, Option, None, Some, if◌then◌else◌}
-use Rattle.idl_event.specs.Code.{number_of}
+use Rattle.idl_fault.specs.Code.{number_of}
 use Rattle.idl_unit.specs.declared.fault.Fault.{Fault}
 
 -- the lesser of two faults: by the token, and at one token by the code

@@ -1,7 +1,7 @@
 -- The tokens that may not stand in a unit, or not there.
 use Rattle.std.specs.Prelude.{ℕ, ◌+◌, Bool, true, false, ◌&&◌, ◌||◌, List, [], ◌∷◌, ◌++◌, count_by, length, map, nat_lt, not, drop, Option, None, Some, if◌then◌else◌}
-use Rattle.idl_event.specs.declared.code.Code.{Code}
-use Rattle.idl_event.specs.declared.code.Code.TheVariants.{BadToken, UnclosedLiteral, NotOneCharacter, BadEscape, MalformedInteger, FloatingLiteral, IntegerTooLarge, MixedWidths, UnclosedComment, LeftOut, NestedTooDeep, LikeKeyword}
+use Rattle.idl_fault.specs.declared.code.Code.{Code}
+use Rattle.idl_fault.specs.declared.code.Code.TheVariants.{BadToken, UnclosedLiteral, NotOneCharacter, BadEscape, MalformedInteger, FloatingLiteral, IntegerTooLarge, MixedWidths, UnclosedComment, LeftOut, NestedTooDeep, LikeKeyword}
 use Rattle.idl_lex.specs.Kind.{kind_of}
 use Rattle.idl_lex.specs.Tokens.{Token}
 use Rattle.idl_lex.specs.declared.keyword.Keyword.TheVariants.{Const, Double, Float, Long}

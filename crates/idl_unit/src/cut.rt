@@ -12,8 +12,10 @@ ghost use Rattle.idl_unit.specs.Units.{units_of};
 use crate::ending::first_unit;
 use crate::site_run::SiteRun;
 use crate::unit::{Unit, UnitText, Units};
-use idl_event::{Event, Events, Expansion, Place, Runs, Sites, Told};
-use idl_lex::{Token, TokenRange};
+use idl_event::{Event, Events, Expansion, Runs, Sites, Told};
+use idl_fault::Place;
+use idl_lex::Token;
+use idl_text::TokenRange;
 use std::alloc::{AllocError, Global};
 use std::rc::Rc;
 

@@ -1,6 +1,6 @@
 //! Faults of units.
 
-use idl_event::Code;
+use idl_fault::Code;
 
 /// A fault of a unit: its code, and the number of the token at which it is decided, from 0.
 #[derive(Clone, Copy)]

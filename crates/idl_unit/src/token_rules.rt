@@ -8,7 +8,7 @@ ghost use Rattle.idl_unit.specs.Faults.{least_fault};
 ghost use Rattle.idl_unit.specs.TokenRules.{bad_codes, codes_beside, defect_code, first, is_const, is_harmless, is_left_out, is_long, is_other_width, nests, token_faults, unnests};
 
 use crate::fault::Fault;
-use idl_event::Code;
+use idl_fault::Code;
 use idl_lex::{Defect, Keyword, Kind, Mark, Token};
 
 /// How deep brackets may stand in one another.

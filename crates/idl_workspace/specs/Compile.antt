@@ -3,7 +3,7 @@ use Rattle.std.specs.Prelude.{ℕ, List, Option, None, Some, length}
 use Rattle.idl_event.specs.declared.key.Answer.{Answer}
 use Rattle.idl_event.specs.declared.key.Key.{Key}
 use Rattle.idl_event.specs.declared.key.Key.TheVariants.{File}
-use Rattle.idl_event.specs.declared.place.Place.{Place}
+use Rattle.idl_fault.specs.declared.place.Place.{Place}
 use Rattle.idl_prep.specs.Include.{file_in}
 use Rattle.idl_prep.specs.Root.{expanded, absent_files}
 use Rattle.idl_root.specs.Compile.{compile}

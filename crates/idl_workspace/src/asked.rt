@@ -5,7 +5,8 @@ ghost use Rattle.std.specs.Option.{option_copied, option_to_list};
 ghost use Rattle.idl_workspace.specs.Asked.{asked_file, asked_files};
 
 use crate::bank::SessionBank;
-use idl_event::{FileName, Key};
+use idl_event::Key;
+use idl_fault::FileName;
 use idl_memo::Log;
 use idl_source::Name;
 use std::alloc::{AllocError, Global};

@@ -1,7 +1,8 @@
 //! What roots emit: C's own examples of macros that are scanned again.
 
 use super::support::{Telling, are_told, file_of};
-use idl_event::{Answer, Expansion, ExpansionBuilder, FileName, Key, LexedFile, Told};
+use idl_event::{Answer, Expansion, ExpansionBuilder, Key, LexedFile, Told};
+use idl_fault::FileName;
 use idl_lex::Token;
 use idl_map::Table;
 use idl_memo::{Bank, Log, Task};

@@ -1,7 +1,8 @@
 //! What no clause says of journals: which of them has a log to give back, and which has digests.
 
 use super::expansions::{Answers, answers_of};
-use idl_event::{FileName, Key};
+use idl_event::Key;
+use idl_fault::FileName;
 use idl_memo::{Journal, Log};
 use idl_source::Name;
 use std::test::Fail;

@@ -1,7 +1,7 @@
 //! The tokens of whole files.
 
 use super::support::{Telling, are_told, file_of};
-use idl_lex::{FileToken, FileTokens, Lexed, lex};
+use idl_text::{FileToken, FileTokens, Lexed, lex};
 use std::alloc::{AllocError, Global};
 use std::test::Fail;
 

@@ -2,7 +2,7 @@ use Rattle.std.proofs.Common.{◌≡◌, ◌∙◌, ◌∷◌, [], Bool, true, f
 use Rattle.std.specs.Prelude.{is_none, not}
 use Rattle.idl_check.specs.Codes.{codes_in}
 use Rattle.idl_check.specs.Using.{suited_table}
-use Rattle.idl_event.specs.declared.code.Code.TheVariants.{IncompleteType, NoConstantType}
+use Rattle.idl_fault.specs.declared.code.Code.TheVariants.{IncompleteType, NoConstantType}
 use Rattle.idl_unit.specs.TokenRules.{first}
 use Rattle.idl_check.proofs.using.type_code.Goals as goal
 

@@ -1,6 +1,6 @@
 use Rattle.std.proofs.Common.{◌≡◌, ◌∷◌, ◌||◌, false, ap, ◌∙◌}
-use Rattle.idl_groups.specs.Line.{Directive}
-use Rattle.idl_groups.specs.Tree.{is_else}
+use Rattle.idl_text.specs.Line.{Directive}
+use Rattle.idl_text.specs.Tree.{is_else}
 use Rattle.idl_prep.proofs.PassLemmas.{continued}
 use Rattle.idl_prep.proofs.WalkLemmas.{to_come-branch, to_come-branch-skipped}
 use Rattle.idl_prep.proofs.branch.begin_branch.Goals as goal

@@ -4,8 +4,8 @@ use Rattle.std.proofs.lemmas.List.{length-append}
 use Rattle.idl_lex.specs.Tokens.{lines_of}
 use Rattle.idl_event.specs.declared.event.Event.TheVariants.{Entered, Left}
 use Rattle.idl_event.specs.declared.event.Item.TheVariants.{Kept}
-use Rattle.idl_groups.specs.Line.{read}
-use Rattle.idl_groups.specs.Tree.{part}
+use Rattle.idl_text.specs.Line.{read}
+use Rattle.idl_text.specs.Tree.{part}
 use Rattle.idl_prep.specs.Pass.{coming, entered, to_come}
 use Rattle.idl_prep.specs.Root.{enter}
 use Rattle.idl_prep.specs.State.{onward, telling}

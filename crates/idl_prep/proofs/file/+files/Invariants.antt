@@ -1,6 +1,6 @@
 use Rattle.std.proofs.Common.{◌≡◌, ◌+◌, ◌*◌, length, map}
 use Rattle.idl_lex.specs.Tokens.{lines_of}
-use Rattle.idl_groups.specs.Line.{read}
+use Rattle.idl_text.specs.Line.{read}
 use Rattle.idl_prep.specs.Pass.{to_come}
 use Rattle.idl_prep.specs.Root.{enter, walk_file}
 use Rattle.idl_prep.specs.State.{onward}

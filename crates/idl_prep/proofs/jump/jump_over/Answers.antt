@@ -1,4 +1,4 @@
-use Rattle.idl_groups.specs.Line.{lines_from}
+use Rattle.idl_text.specs.Line.{lines_from}
 use Rattle.idl_prep.proofs.JumpLemmas.{to_come-jump}
 use Rattle.idl_prep.proofs.jump.jump_over.Goals as goal
 

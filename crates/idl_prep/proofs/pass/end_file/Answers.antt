@@ -1,5 +1,5 @@
 use Rattle.std.proofs.Common.{[], Some, ap, sym, ◌∙◌}
-use Rattle.idl_event.specs.declared.code.Code.TheVariants.{NotClosed}
+use Rattle.idl_fault.specs.declared.code.Code.TheVariants.{NotClosed}
 use Rattle.idl_event.specs.declared.event.Event.TheVariants.{Fault}
 use Rattle.idl_event.specs.declared.event.Item.TheVariants.{Kept}
 use Rattle.idl_prep.specs.Pass.{to_come}

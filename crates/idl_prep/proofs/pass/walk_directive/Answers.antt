@@ -1,8 +1,8 @@
 use Rattle.std.proofs.Common.{◌≡◌, ◌∷◌, ap, sym, ◌∙◌}
-use Rattle.idl_groups.specs.Line.{Directive, Directed}
-use Rattle.idl_groups.specs.Tree.{part}
-use Rattle.idl_groups.specs.declared.kind.DirectiveKind.TheVariants.{Alone, Opening}
-use Rattle.idl_groups.proofs.TreeLemmas.{before-alone}
+use Rattle.idl_text.specs.Line.{Directive, Directed}
+use Rattle.idl_text.specs.Tree.{part}
+use Rattle.idl_text.specs.declared.kind.DirectiveKind.TheVariants.{Alone, Opening}
+use Rattle.idl_text.proofs.TreeLemmas.{before-alone}
 use Rattle.idl_prep.specs.Pass.{entered}
 use Rattle.idl_prep.proofs.WalkLemmas.{to_come-act_first, to_come-opening-skipped, to_come-skipped}
 use Rattle.idl_prep.proofs.pass.walk_directive.Goals as goal

@@ -1,5 +1,5 @@
 use Rattle.std.proofs.Common.{refl, sym, ◌∙◌}
-use Rattle.idl_groups.specs.Line.{Text}
+use Rattle.idl_text.specs.Line.{Text}
 use Rattle.idl_prep.proofs.WalkLemmas.{to_come-act, to_come-skipped}
 use Rattle.idl_prep.proofs.pass.walk_text.Goals as goal
 

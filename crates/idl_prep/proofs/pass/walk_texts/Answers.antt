@@ -1,5 +1,5 @@
 use Rattle.std.proofs.Common.{◌∙◌, List, ap, sym}
-use Rattle.idl_lex.proofs.TextLemmas.{lines_of-joined}
+use Rattle.idl_text.proofs.TextLemmas.{lines_of-joined}
 use Rattle.idl_lex.specs.Tokens.{lines_of}
 use Rattle.idl_lex.specs.declared.token.PlacedToken.{PlacedToken}
 use Rattle.idl_prep.specs.Pass.{to_come}

@@ -1,5 +1,5 @@
 use Rattle.std.proofs.Common.{refl, ap}
-use Rattle.idl_groups.specs.declared.kind.Plain.TheVariants.{Include, Define, Undef, Error, Pragma, Ignored, Unknown}
+use Rattle.idl_text.specs.declared.kind.Plain.TheVariants.{Include, Define, Undef, Error, Pragma, Ignored, Unknown}
 use Rattle.idl_prep.specs.State.{ended}
 use Rattle.idl_prep.proofs.DirectiveLemmas.{acted}
 use Rattle.idl_prep.proofs.perform.act_directive.Goals as goal

@@ -1,8 +1,8 @@
 use Rattle.std.proofs.Common.{ℕ, List, Some, ap, ◌∙◌}
-use Rattle.idl_event.specs.declared.code.Code.TheVariants.{Error}
+use Rattle.idl_fault.specs.declared.code.Code.TheVariants.{Error}
 use Rattle.idl_event.specs.declared.event.Event.TheVariants.{Fault}
 use Rattle.idl_event.specs.declared.event.Item.TheVariants.{Kept}
-use Rattle.idl_event.specs.declared.place.Place.{Place}
+use Rattle.idl_fault.specs.declared.place.Place.{Place}
 use Rattle.idl_lex.specs.Tokens.{tokens_in}
 use Rattle.idl_prep.specs.Directive.{parted}
 use Rattle.idl_prep.specs.Place.{place_in}

@@ -3,7 +3,7 @@ use Rattle.std.specs.Str.{bytes_eq}
 use Rattle.idl_lex.specs.Tokens.{Token, tokens_in}
 use Rattle.idl_event.specs.declared.event.Event.TheVariants.{Pragma}
 use Rattle.idl_event.specs.declared.event.Item.TheVariants.{Kept}
-use Rattle.idl_event.specs.declared.place.Place.{Place}
+use Rattle.idl_fault.specs.declared.place.Place.{Place}
 use Rattle.idl_macro.specs.Replace.{place_at}
 use Rattle.idl_prep.specs.Directive.{first_spelling, is_of_idl}
 use Rattle.idl_prep.specs.State.{ended, telling}

@@ -1,5 +1,5 @@
 use Rattle.std.proofs.Common.{ℕ, List, Some, ap, ◌∙◌}
-use Rattle.idl_event.specs.declared.code.Code.TheVariants.{NotFound}
+use Rattle.idl_fault.specs.declared.code.Code.TheVariants.{NotFound}
 use Rattle.idl_event.specs.declared.event.Event.TheVariants.{Fault}
 use Rattle.idl_event.specs.declared.event.Item.TheVariants.{Kept}
 use Rattle.idl_prep.specs.State.{telling}

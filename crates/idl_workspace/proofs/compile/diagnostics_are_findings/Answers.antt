@@ -3,7 +3,7 @@ use Rattle.std.specs.Option.{option_map}
 use Rattle.idl_event.specs.declared.event.Event.{Event}
 use Rattle.idl_event.specs.declared.key.Answer.{Answer}
 use Rattle.idl_event.specs.declared.key.Key.{Key}
-use Rattle.idl_event.specs.declared.place.Place.{Place}
+use Rattle.idl_fault.specs.declared.place.Place.{Place}
 use Rattle.idl_prep.specs.Root.{expanded}
 use Rattle.idl_root.specs.Compile.{compile}
 use Rattle.idl_root.specs.Findings.{finding_row}

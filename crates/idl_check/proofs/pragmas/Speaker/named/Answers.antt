@@ -4,10 +4,11 @@ use Rattle.idl_check.proofs.PartLemmas.{part-within}
 use Rattle.idl_check.proofs.PragmaLemmas.{about-named, about-none, named-found, named-unfound, named_at}
 use Rattle.idl_check.proofs.VisitLemmas.{runs_over}
 use Rattle.idl_check.specs.Held.{said_of}
+use Rattle.idl_tree.specs.NameParts.{last_at, part_at}
 use Rattle.idl_check.specs.Rules.{has_id}
 use Rattle.idl_check.specs.Pragmas.{refused_for}
-use Rattle.idl_check.specs.Using.{last_at, name_code, part_at}
-use Rattle.idl_event.specs.declared.code.Code.TheVariants.{NoRepositoryId}
+use Rattle.idl_check.specs.Using.{name_code}
+use Rattle.idl_fault.specs.declared.code.Code.TheVariants.{NoRepositoryId}
 use Rattle.idl_memo.specs.Query.{noted}
 use Rattle.idl_env.specs.Facts.{answers, identity_at}
 use Rattle.idl_env.specs.Key.{key_eq}

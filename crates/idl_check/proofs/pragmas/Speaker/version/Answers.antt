@@ -3,11 +3,11 @@ use Rattle.std.proofs.lemmas.Result.{IfOk-weaker}
 use Rattle.idl_check.proofs.PragmaLemmas.{spoken-by, verdict-faulty, verdict-sound, version-fixed, version-sound}
 use Rattle.idl_check.specs.Held.{said_of}
 use Rattle.idl_check.specs.Identifying.{versioned}
+use Rattle.idl_tree.specs.NameParts.{last_at}
 use Rattle.idl_check.specs.Rules.{is_fixed}
 use Rattle.idl_check.specs.Pragmas.{version_faults}
-use Rattle.idl_check.specs.Using.{last_at}
 use Rattle.idl_check.specs.Verdict.{faulty, pragma_verdict}
-use Rattle.idl_event.specs.declared.code.Code.TheVariants.{RepeatedVersion}
+use Rattle.idl_fault.specs.declared.code.Code.TheVariants.{RepeatedVersion}
 use Rattle.idl_env.specs.Facts.{answers}
 use Rattle.idl_env.specs.declared.addition.Addition.TheVariants.{Identifies}
 use Rattle.idl_env.specs.declared.addition.Step.TheVariants.{Stays}

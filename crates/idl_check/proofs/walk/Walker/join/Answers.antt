@@ -1,10 +1,10 @@
 use Rattle.std.proofs.Common.{◌+◌, sym, ◌∙◌, arith}
-use Rattle.idl_check.proofs.NameLemmas.{text-length}
+use Rattle.idl_tree.proofs.NameLemmas.{text-length}
 use Rattle.idl_check.proofs.VisitLemmas.{OnOk-always}
 use Rattle.idl_check.specs.Bodies.{with_context}
 use Rattle.idl_check.specs.Held.{held}
 use Rattle.idl_check.specs.Walk.{faulty_if, noted_in, passed}
-use Rattle.idl_event.specs.declared.code.Code.TheVariants.{BadOneway}
+use Rattle.idl_fault.specs.declared.code.Code.TheVariants.{BadOneway}
 use Rattle.idl_check.proofs.walk.Walker.join.Goals as goal
 
 pub overflow_add-len : goal.overflow_add-len

@@ -1,5 +1,5 @@
 use Rattle.std.proofs.Common.{sym, ap, ◌∙◌}
-use Rattle.idl_event.specs.declared.code.Code.TheVariants.{BadOneway}
+use Rattle.idl_fault.specs.declared.code.Code.TheVariants.{BadOneway}
 use Rattle.idl_check.proofs.NotedLemmas.{faulty-no, faulty-yes}
 use Rattle.idl_check.specs.Held.{held}
 use Rattle.idl_check.specs.Walk.{passed}

@@ -5,7 +5,8 @@ use Rattle.idl_check.proofs.TableLaws.{used-up}
 use Rattle.idl_check.specs.Bodies.{Clauses, with_raised}
 use Rattle.idl_check.specs.Codes.{codes_in}
 use Rattle.idl_check.specs.Held.{held, held_values, held_written}
-use Rattle.idl_check.specs.Using.{bases_after, constants_after, last_at, type_after, unions_after, used_table, values_after, with_uses}
+use Rattle.idl_tree.specs.NameParts.{last_at}
+use Rattle.idl_check.specs.Using.{bases_after, constants_after, type_after, unions_after, used_table, values_after, with_uses}
 use Rattle.idl_check.specs.Walk.{Walk, noted}
 use Rattle.idl_check.specs.declared.walk.Walker.{Walker}
 use Rattle.idl_lex.specs.Keywords.{folded}

@@ -2,9 +2,10 @@ use Rattle.std.proofs.Common.{◌+◌, ◌∷◌, [], false, Ok, sym, ap, ◌∙
 use Rattle.idl_check.proofs.NotedLemmas.{head-other, head-scope}
 use Rattle.idl_check.proofs.VisitLemmas.{head_by, runs_over, turns-here}
 use Rattle.idl_check.specs.Held.{held}
-use Rattle.idl_check.specs.Using.{last_at, name_code}
+use Rattle.idl_tree.specs.NameParts.{last_at}
+use Rattle.idl_check.specs.Using.{name_code}
 use Rattle.idl_check.specs.Walk.{noted, turns_at}
-use Rattle.idl_event.specs.declared.code.Code.TheVariants.{NoScope}
+use Rattle.idl_fault.specs.declared.code.Code.TheVariants.{NoScope}
 use Rattle.idl_env.specs.Facts.{answers}
 use Rattle.idl_entity.specs.Kind.{is_scope}
 use Rattle.idl_scope.specs.Lookup.{denoted, under}

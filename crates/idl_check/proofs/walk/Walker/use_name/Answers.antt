@@ -1,5 +1,5 @@
 use Rattle.std.proofs.Common.{sym, ◌∙◌, arith}
-use Rattle.idl_check.proofs.NameLemmas.{behind_name}
+use Rattle.idl_tree.proofs.NameLemmas.{behind_name}
 use Rattle.idl_check.proofs.VisitLemmas.{given_by, named_plain}
 use Rattle.idl_check.specs.Held.{held}
 use Rattle.idl_env.specs.Facts.{answers}

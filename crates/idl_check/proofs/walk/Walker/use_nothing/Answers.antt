@@ -1,5 +1,5 @@
 use Rattle.std.proofs.Common.{◌≡◌, ◌+◌, ◌∷◌, [], false, ap, ◌∙◌, arith}
-use Rattle.idl_check.specs.Using.{last_at}
+use Rattle.idl_tree.specs.NameParts.{last_at}
 use Rattle.idl_check.specs.Walk.{noted}
 use Rattle.idl_unit.specs.TokenRules.{fault_at}
 use Rattle.idl_check.proofs.walk.Walker.use_nothing.Goals as goal

@@ -1,7 +1,7 @@
 use Rattle.std.proofs.Common.{refl, ◌∙◌}
 use Rattle.idl_macro.specs.Condition.{condition}
 use Rattle.idl_macro.specs.Directives.{ifdef, ifndef}
-use Rattle.idl_groups.specs.declared.kind.Test.TheVariants.{If, Ifdef, Ifndef}
+use Rattle.idl_text.specs.declared.kind.Test.TheVariants.{If, Ifdef, Ifndef}
 use Rattle.idl_prep.specs.State.{Way}
 use Rattle.idl_prep.proofs.RootLemmas.{arrival-test}
 use Rattle.idl_prep.proofs.root.Root.test.Goals as goal

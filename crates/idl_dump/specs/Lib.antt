@@ -1,0 +1,2 @@
+pub mod HeldRow
+pub mod Row

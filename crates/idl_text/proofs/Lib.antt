@@ -1,0 +1,11 @@
+pub mod BlockLemmas
+pub mod CutLemmas
+pub mod GroupTextLemmas
+pub mod LeftLemmas
+pub mod MatchedLemmas
+pub mod MatchingLemmas
+pub mod MovedLemmas
+pub mod TextLemmas
+pub mod TreeLawLemmas
+pub mod TreeLemmas
+pub mod WalkLemmas
