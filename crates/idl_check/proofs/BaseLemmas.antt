@@ -6,9 +6,9 @@ use Rattle.std.specs.List.{list_any}
 use Rattle.std.specs.Map.{lookup}
 use Rattle.std.specs.Str.{bytes_eq}
 use Rattle.idl_map.proofs.TableLemmas.{lookup-insert_entry}
-use Rattle.idl_check.specs.Using.{with_operation}
-use Rattle.idl_check.specs.Rules.{is_another}
-use Rattle.idl_lex.specs.Keywords.{folded}
+use Rattle.idl_check.specs.tables.Using.{with_operation}
+use Rattle.idl_check.specs.tables.Rules.{is_another}
+use Rattle.idl_lex.specs.kinds.Keywords.{folded}
 use Rattle.idl_entity.specs.Path.{name_of, path_eq}
 
 module _ (n : List ℕ) where

@@ -2,16 +2,16 @@
 use Rattle.std.proofs.Common.{◌≡◌, ◌∙◌, ℕ, Bool, true, false, ◌&&◌, cond, if◌then◌else◌, List, [], ◌∷◌, find, Option, None, Some, refl, sym, ap}
 use Rattle.std.proofs.lemmas.Bool.{false≢true, not-true}
 use Rattle.idl_base.specs.Exact.{same_number, both}
-use Rattle.idl_check.proofs.SettledLaws.{is_nameless}
-use Rattle.idl_lex.specs.Byte.{is_digit, is_letter, is_quote}
-use Rattle.idl_lex.specs.Keywords.{folded, keywords}
-use Rattle.idl_lex.specs.Kind.{begins_block, ends_greater, escaped_kind, is_fraction, kind_beside, kind_of, kind_of_mark, letter_kind, name_by, name_of, other_kind, unescaped, unmarked_kind, word_kind}
-use Rattle.idl_lex.specs.Literal.{body_of, character_kind, characters, closed_kind, is_text_character, literal_kind, literal_value, one_kind, string_kind}
-use Rattle.idl_lex.specs.Marks.{mark_kind, marks}
-use Rattle.idl_lex.specs.Number.{are_digits, based, integer_value, is_floating, kind_of_value, limited, no_integer, number, number_kind}
-use Rattle.idl_lex.specs.declared.kind.Defect.TheVariants.{BadEscape, FloatingLiteral, MalformedInteger, UnclosedComment, UnknownByte}
-use Rattle.idl_lex.specs.declared.kind.Kind.{Kind}
-use Rattle.idl_lex.specs.declared.kind.Kind.TheVariants as token
+use Rattle.idl_check.proofs.Fitting.SettledLaws.{is_nameless}
+use Rattle.idl_lex.specs.bytes.Byte.{is_digit, is_letter, is_quote}
+use Rattle.idl_lex.specs.kinds.Keywords.{folded, keywords}
+use Rattle.idl_lex.specs.kinds.Kind.{begins_block, ends_greater, escaped_kind, is_fraction, kind_beside, kind_of, kind_of_mark, letter_kind, name_by, name_of, other_kind, unescaped, unmarked_kind, word_kind}
+use Rattle.idl_lex.specs.kinds.Literal.{body_of, character_kind, characters, closed_kind, is_text_character, literal_kind, literal_value, one_kind, string_kind}
+use Rattle.idl_lex.specs.kinds.Marks.{mark_kind, marks}
+use Rattle.idl_lex.specs.kinds.Number.{are_digits, based, integer_value, is_floating, kind_of_value, limited, no_integer, number, number_kind}
+use Rattle.idl_lex.specs.declared.kinds.kind.Defect.TheVariants.{BadEscape, FloatingLiteral, MalformedInteger, UnclosedComment, UnknownByte}
+use Rattle.idl_lex.specs.declared.kinds.kind.Kind.{Kind}
+use Rattle.idl_lex.specs.declared.kinds.kind.Kind.TheVariants as token
 use Rattle.idl_scope.proofs.Constructors.{some_same}
 use Rattle.idl_tree.specs.Lexeme.{Lexeme, Character, Identifier, Integer, Text, WideCharacter, WideText, lexeme_by, lexeme_of, one_character, valued}
 use Rattle.std.specs.List.{list_all}

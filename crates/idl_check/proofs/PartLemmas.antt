@@ -1,24 +1,24 @@
 -- The faults of names stand at their parts.
 use Rattle.std.proofs.Common.{◌≡◌, ℕ, ◌+◌, ◌≤◌, Bool, true, false, cond, List, [], ◌∷◌, Result, Ok, Err, length, subst, sym, ap, ◌∙◌, arith}
-use Rattle.idl_lex.specs.Keywords.{folded}
+use Rattle.idl_lex.specs.kinds.Keywords.{folded}
 use Rattle.idl_memo.specs.Query.{Done, and_then, outcome, run}
 use Rattle.idl_memo.proofs.QueryLaws.{outcome-and_then}
 use Rattle.idl_entity.specs.Kind.{is_scope}
 use Rattle.idl_scope.specs.Lookup.{Lookup, by_result, denoted, found_as, further, has, judged, outward, part_of, placed, searched, under}
-use Rattle.idl_env.specs.declared.answer.Answer.{Answer}
-use Rattle.idl_env.specs.declared.answer.Scope.{Scope}
+use Rattle.idl_env.specs.declared.answering.answer.Answer.{Answer}
+use Rattle.idl_env.specs.declared.answering.answer.Scope.{Scope}
 use Rattle.idl_entity.specs.declared.entity.Entity.{Entity}
 use Rattle.idl_scope.specs.declared.fault.NameCode.{NameCode}
 use Rattle.idl_scope.specs.declared.fault.NameCode.TheVariants.{NoScope}
 use Rattle.idl_scope.specs.declared.fault.NameFault.{NameFault}
 use Rattle.idl_scope.specs.declared.fault.NameFault.TheVariants.{At, Memory}
 use Rattle.idl_scope.specs.declared.found.Found.{Found}
-use Rattle.idl_env.specs.declared.key.Key.{Key}
+use Rattle.idl_env.specs.declared.keys.key.Key.{Key}
 use Rattle.idl_tree.specs.declared.name.ScopedName.{ScopedName}
 use Rattle.std.specs.Prelude.{Option}
 use Rattle.idl_env.specs.Facts.{over}
-use Rattle.idl_env.specs.Key.{key_eq}
-use Rattle.idl_env.specs.declared.addition.Addition.{Addition}
+use Rattle.idl_env.specs.keys.Key.{key_eq}
+use Rattle.idl_env.specs.declared.additions.addition.Addition.{Addition}
 use Rattle.idl_scope.proofs.FactsLaws.{outcome-under}
 
 -- a fault stands at a part of which this holds, and is no want of memory

@@ -1,16 +1,16 @@
 -- What a name denotes is declared in a scope.
 use Rattle.std.proofs.Common.{◌≡◌, ℕ, ◌+◌, Bool, true, false, List, [], ◌∷◌, Option, Some, Result, Ok, Err, sym, subst, inl, inr}
 use Rattle.std.specs.Prelude.{MatchBool}
-use Rattle.idl_lex.specs.Keywords.{folded}
+use Rattle.idl_lex.specs.kinds.Keywords.{folded}
 use Rattle.idl_entity.specs.Kind.{is_scope}
 use Rattle.idl_scope.specs.Meaning.{Denotes, DenotesIn, FirstHas, Goes, Has, Judges, Own, Through, Up, own_at, searched}
-use Rattle.idl_env.specs.declared.answer.Answer.{Answer}
-use Rattle.idl_env.specs.declared.answer.Scope.{Scope}
+use Rattle.idl_env.specs.declared.answering.answer.Answer.{Answer}
+use Rattle.idl_env.specs.declared.answering.answer.Scope.{Scope}
 use Rattle.idl_entity.specs.declared.entity.Entity.{Entity}
 use Rattle.idl_scope.specs.declared.fault.NameCode.{NameCode}
 use Rattle.idl_scope.specs.declared.fault.NameCode.TheVariants.{NoScope}
 use Rattle.idl_scope.specs.declared.fault.NameFault.TheVariants.{At}
-use Rattle.idl_env.specs.declared.key.Key.{Key}
+use Rattle.idl_env.specs.declared.keys.key.Key.{Key}
 use Rattle.idl_entity.specs.declared.kind.Kind.{Kind}
 use Rattle.idl_tree.specs.declared.name.ScopedName.{ScopedName}
 

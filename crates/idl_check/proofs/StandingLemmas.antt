@@ -2,24 +2,24 @@
 use Rattle.std.proofs.Common.{◌≡◌, ℕ, Bool, true, cond, List, [], Option, is_some, refl, sym, ap, ◌∙◌}
 use Rattle.std.specs.List.{list_any}
 use Rattle.idl_memo.specs.Query.{Ask, Done, and_then, noted}
-use Rattle.idl_check.specs.Declaring.{inherited, standing}
-use Rattle.idl_check.specs.Identifying.{ids_of}
-use Rattle.idl_check.specs.declared.identifying.Ids.{Ids}
-use Rattle.idl_check.specs.declared.standing.Standing.{Standing}
-use Rattle.idl_lex.specs.Keywords.{folded}
-use Rattle.idl_scope.proofs.RunLemmas.{runs, runs-and_then, seen_at}
+use Rattle.idl_check.specs.tables.Declaring.{inherited, standing}
+use Rattle.idl_check.specs.ids.Identifying.{ids_of}
+use Rattle.idl_check.specs.declared.ids.identifying.Ids.{Ids}
+use Rattle.idl_check.specs.declared.tables.standing.Standing.{Standing}
+use Rattle.idl_lex.specs.kinds.Keywords.{folded}
+use Rattle.idl_scope.proofs.LookupLaws.RunLemmas.{runs, runs-and_then, seen_at}
 use Rattle.idl_entity.specs.Entity.{is_operation}
 use Rattle.idl_env.specs.Facts.{entity_in, entity_key}
-use Rattle.idl_env.specs.Key.{key_eq}
+use Rattle.idl_env.specs.keys.Key.{key_eq}
 use Rattle.idl_entity.specs.Kind.{inherits}
 use Rattle.idl_scope.specs.Lookup.{Lookup, bases_of, reached}
 use Rattle.idl_entity.specs.Path.{name_of}
-use Rattle.idl_env.specs.declared.addition.Addition.{Addition}
-use Rattle.idl_env.specs.declared.answer.Answer.{Answer}
-use Rattle.idl_env.specs.declared.answer.Scope.{Scope}
+use Rattle.idl_env.specs.declared.additions.addition.Addition.{Addition}
+use Rattle.idl_env.specs.declared.answering.answer.Answer.{Answer}
+use Rattle.idl_env.specs.declared.answering.answer.Scope.{Scope}
 use Rattle.idl_entity.specs.declared.entity.Entity.{Entity}
-use Rattle.idl_env.specs.declared.key.Key.{Key}
-use Rattle.idl_env.specs.declared.key.Key.TheVariants.{Declared, Introduced}
+use Rattle.idl_env.specs.declared.keys.key.Key.{Key}
+use Rattle.idl_env.specs.declared.keys.key.Key.TheVariants.{Declared, Introduced}
 
 -- whether an operation or attribute is inherited
 abbrev pub counted : List Entity → Lookup Bool

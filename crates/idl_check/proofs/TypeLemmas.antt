@@ -5,23 +5,23 @@ use Rattle.std.specs.Prelude.{◌&&◌, ◌||◌}
 use Rattle.std.specs.Cmp.Lexicographic.{bytes_decides, pointwise_decides}
 use Rattle.std.proofs.lemmas.List.Folds.{list_any-append}
 use Rattle.idl_memo.specs.Query.{Done, Ask, is_logged, noted}
-use Rattle.idl_check.specs.Types.{aliased, behind_typedefs, path_in}
+use Rattle.idl_check.specs.told.Types.{aliased, behind_typedefs, path_in}
 use Rattle.idl_env.proofs.Membership.{Distinct, Distinct-push, IsIn, IsIn-left, IsIn-one, IsIn-right, IsIn-split, either, length-Distinct}
-use Rattle.idl_scope.proofs.RunLemmas.{runs, seen_at}
-use Rattle.idl_scope.proofs.Walked.{among, among-IsIn}
+use Rattle.idl_scope.proofs.LookupLaws.RunLemmas.{runs, seen_at}
+use Rattle.idl_scope.proofs.LookupLaws.Walked.{among, among-IsIn}
 use Rattle.idl_scope.proofs.Worlds.{AreDeclared, entity_in-Some}
-use Rattle.idl_scope.proofs.LookupLaws.{seen-declared}
+use Rattle.idl_scope.proofs.LookupLaws.LookupLaws.{seen-declared}
 use Rattle.idl_env.specs.Facts.{UnitFacts, answers, entity_in, entity_key}
 use Rattle.idl_env.specs.Turns.{HasTurnsFor, declared_among, declared_named}
-use Rattle.idl_env.specs.Key.{key_eq}
+use Rattle.idl_env.specs.keys.Key.{key_eq}
 use Rattle.idl_scope.specs.Lookup.{Lookup}
-use Rattle.idl_env.specs.declared.addition.Addition.{Addition}
-use Rattle.idl_env.specs.declared.answer.Answer.{Answer}
-use Rattle.idl_env.specs.declared.answer.Answer.TheVariants.{Known}
+use Rattle.idl_env.specs.declared.additions.addition.Addition.{Addition}
+use Rattle.idl_env.specs.declared.answering.answer.Answer.{Answer}
+use Rattle.idl_env.specs.declared.answering.answer.Answer.TheVariants.{Known}
 use Rattle.idl_entity.specs.declared.entity.Entity.{Entity}
-use Rattle.idl_env.specs.declared.key.Key.{Key}
-use Rattle.idl_env.specs.declared.key.Key.TheVariants.{Declared}
-use Rattle.idl_lex.specs.Keywords.{folded}
+use Rattle.idl_env.specs.declared.keys.key.Key.{Key}
+use Rattle.idl_env.specs.declared.keys.key.Key.TheVariants.{Declared}
+use Rattle.idl_lex.specs.kinds.Keywords.{folded}
 use Rattle.idl_entity.specs.Path.{name_of, scope_of}
 
 -- one more typedef, where there is one

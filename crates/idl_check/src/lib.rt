@@ -6,33 +6,12 @@
 //! reckoned.
 #![tactic(auto)]
 
-mod bases;
-mod bodies;
-mod codes;
-mod cursor;
-mod declaring;
-mod identifying;
-mod judge;
-mod labels;
-mod last_type;
-mod laws;
-mod naming;
-mod placing;
-mod pragmas;
-mod scratch;
-mod standing;
-mod task;
-mod types;
-mod using;
-mod values;
-mod valuing;
-mod verdict;
+mod ids;
+mod tables;
+mod told;
 mod walk;
 
-pub use laws::{
-    acceptance, bracketing, denoting, evaluating, fitting, identification, inheriting, least,
-    more_turns, numbering, questions, refusal, stopping, wording,
-};
-pub use scratch::Scratch;
-pub use task::verdict_of;
-pub use verdict::Verdict;
+pub use walk::laws;
+pub use walk::scratch::Scratch;
+pub use walk::task::verdict_of;
+pub use walk::verdict::Verdict;

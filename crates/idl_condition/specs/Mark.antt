@@ -3,13 +3,13 @@ use Rattle.std.specs.Prelude.{ℕ, List, Option, Some}
 use Rattle.idl_condition.specs.declared.operator.Operator.TheVariants as op
 use Rattle.idl_condition.specs.declared.symbol.Symbol.{Symbol}
 use Rattle.idl_condition.specs.declared.symbol.Symbol.TheVariants.{Operator, Not, Complement, Open, Close, Other}
-use Rattle.idl_lex.specs.Marks.{mark_kind}
-use Rattle.idl_lex.specs.declared.kind.Kind.{Kind}
-use Rattle.idl_lex.specs.declared.kind.Kind.TheVariants.{Punctuation, Preprocessing}
-use Rattle.idl_lex.specs.declared.mark.Mark.{Mark}
-use Rattle.idl_lex.specs.declared.mark.Mark.TheVariants as mark
-use Rattle.idl_lex.specs.declared.mark.PreprocessorMark.{PreprocessorMark}
-use Rattle.idl_lex.specs.declared.mark.PreprocessorMark.TheVariants as preprocessor
+use Rattle.idl_lex.specs.kinds.Marks.{mark_kind}
+use Rattle.idl_lex.specs.declared.kinds.kind.Kind.{Kind}
+use Rattle.idl_lex.specs.declared.kinds.kind.Kind.TheVariants.{Punctuation, Preprocessing}
+use Rattle.idl_lex.specs.declared.kinds.mark.Mark.{Mark}
+use Rattle.idl_lex.specs.declared.kinds.mark.Mark.TheVariants as mark
+use Rattle.idl_lex.specs.declared.kinds.mark.PreprocessorMark.{PreprocessorMark}
+use Rattle.idl_lex.specs.declared.kinds.mark.PreprocessorMark.TheVariants as preprocessor
 
 -- a mark of IDL
 abbrev pub symbol_of_mark : Mark → Symbol

@@ -2,7 +2,7 @@
 -- suffixes may stand.
 use Rattle.std.specs.Prelude.{ℕ, Bool, not, ◌||◌, List, take, drop, nat_eq, if◌then◌else◌, Option, None}
 use Rattle.std.specs.List.{prefix_len, list_all}
-use Rattle.idl_lex.specs.Number.{integer_value}
+use Rattle.idl_lex.specs.kinds.Number.{integer_value}
 
 -- `u`, `U`, `l` or `L`
 abbrev pub is_suffix : ℕ → Bool

@@ -4,7 +4,7 @@ use Rattle.idl_condition.specs.Mark.{mark_of}
 use Rattle.idl_condition.specs.Number.{integer}
 use Rattle.idl_condition.specs.declared.symbol.Symbol.{Symbol}
 use Rattle.idl_condition.specs.declared.symbol.Symbol.TheVariants.{Number, Name}
-use Rattle.idl_lex.specs.Word.{is_word}
+use Rattle.idl_lex.specs.kinds.Word.{is_word}
 
 abbrev pub number_or_mark : List ℕ → Option ℕ → Symbol
 number_or_mark spelling None = mark_of spelling

@@ -5,7 +5,7 @@ ghost use Rattle.idl_condition.specs.Mark.{mark_of, symbol_of_mark, symbol_of_pr
 
 use crate::operator::Operator;
 use crate::symbol::Symbol;
-use idl_lex::{Kind, Mark, PreprocessorMark, mark_kind};
+use idl_lex::kinds::{Kind, Mark, PreprocessorMark, mark_kind};
 
 /// What the mark with this spelling counts as; any other text is `Other`.
 pub fn mark(spelling: &[u8]) -> Symbol

@@ -4,7 +4,7 @@ ghost use Rattle.std.specs.Prelude.{◌≡◌, ◌≤◌, length};
 ghost use Rattle.std.specs.List.{list_all};
 ghost use Rattle.idl_condition.specs.Number.{integer, is_suffix, number_len};
 
-use idl_lex::integer_value;
+use idl_lex::kinds::integer_value;
 
 /// The value of an integer of C (C 2011, 6.4.4.1), with any letters of suffixes behind it, if it is below 2^64.
 pub fn integer(spelling: &[u8]) -> Option<u64>

@@ -7,7 +7,7 @@ use Rattle.std.proofs.lemmas.List.{length-append, length-take, take_all, take-ap
 use Rattle.std.proofs.Math.Seq.{take-append-add}
 use Rattle.std.specs.Io.KnownBytes.{Consumes, IsAtEnd}
 use Rattle.std.proofs.lemmas.List.Elements.{All-append, All-cons, All-head, All-nil, All-tail}
-use Rattle.idl_source.specs.Cut.{begun_with, cut_lines, is_at_newline}
+use Rattle.idl_source.specs.texts.Cut.{begun_with, cut_lines, is_at_newline}
 use Rattle.idl_disk.specs.Extent.{Measures, ends_in_return, has_begun, without_return}
 use Rattle.idl_disk.specs.Reading.{AreAllowed, ArePastLimits, AreUpToLimits}
 use Rattle.idl_disk.specs.declared.reading.Extent.{Extent}

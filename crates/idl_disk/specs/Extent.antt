@@ -1,9 +1,9 @@
 -- How much of a file bytes are. These are words for the code's own steps.
 use Rattle.std.specs.Prelude.{◌≡◌, ◌≢◌, ◌≤◌, ◌++◌, ◌∷◌, ◌==◌, ◌||◌, [], ℕ, Bool, false, List, length, nat_lt, if◌then◌else◌}
 use Rattle.std.specs.List.{All}
-use Rattle.idl_source.specs.Cut.{carriage_return, cut_lines}
+use Rattle.idl_source.specs.texts.Cut.{carriage_return, cut_lines}
 use Rattle.idl_source.specs.Limits.{longest_line}
-use Rattle.idl_source.specs.Line.{newline}
+use Rattle.idl_source.specs.texts.Line.{newline}
 use Rattle.idl_disk.specs.declared.reading.Extent.{Extent}
 
 -- whether the last byte is a carriage return

@@ -2,7 +2,7 @@
 use Rattle.std.specs.Prelude.{◌≡◌, ◌≤◌, ◌<◌, ◌++◌, ◌⊎◌, ℕ, List, length, take}
 use Rattle.std.specs.List.{All}
 use Rattle.std.specs.Io.{StartsWith}
-use Rattle.idl_source.specs.Cut.{cut_lines}
+use Rattle.idl_source.specs.texts.Cut.{cut_lines}
 use Rattle.idl_source.specs.Limits.{longest_line, most_lines}
 
 -- a file may have these lines: they are not too many, and none is too long

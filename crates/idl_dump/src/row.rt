@@ -11,7 +11,8 @@ ghost use Rattle.idl_value.specs.Spelled.{escaped, path_word};
 
 use crate::part::{behind, front};
 use idl_base::Seq;
-use idl_entity::{Names, Path};
+use idl_entity::Path;
+use idl_entity::paths::Names;
 use idl_lex::Token;
 use idl_site::Site;
 use idl_tree::{ScopedName, Several, name_length};

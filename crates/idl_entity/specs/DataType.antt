@@ -13,7 +13,7 @@ use Rattle.idl_entity.specs.declared.data_type.Element.TheVariants.{Constants, N
 use Rattle.idl_entity.specs.declared.data_type.Layer.{Layer}
 use Rattle.idl_entity.specs.declared.data_type.Layer.TheVariants.{Sequence, Array}
 use Rattle.idl_value.specs.Exact.{same_target}
-use Rattle.idl_value.specs.declared.target.Target.{Target}
+use Rattle.idl_value.specs.declared.constant_type.Target.{Target}
 
 -- a type without sequences and arrays
 abbrev pub plain_type : Element → DataType

@@ -4,7 +4,7 @@ ghost use Rattle.std.specs.Option.{option_copied};
 ghost use Rattle.std.specs.Prelude.{◌≡◌, IfOk};
 ghost use Rattle.idl_entity.specs.DataType.{constants_in, named_in, plain_type, with_arrays, with_layer};
 
-use crate::path::Path;
+use crate::paths::path::Path;
 use crate::unvalued::Unvalued;
 use idl_base::{Datum, Seq, Shared};
 use idl_value::Target;

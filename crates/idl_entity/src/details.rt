@@ -6,7 +6,7 @@ ghost use Rattle.std.specs.Option.{option_copied, option_eq};
 ghost use Rattle.idl_entity.specs.Details.{listless, rare_eq, rare_in};
 ghost use Rattle.idl_entity.specs.Path.{path_eq};
 
-use crate::path::Path;
+use crate::paths::path::Path;
 use crate::signature::Signature;
 use idl_base::{Bytes, Datum, Seq, Shared};
 use idl_map::SharedList;

@@ -8,7 +8,7 @@ use crate::data_type::DataType;
 use crate::details::Details;
 use crate::kind::{Kind, Stage};
 use crate::parts::EntityParts;
-use crate::path::Path;
+use crate::paths::path::Path;
 use crate::signature::Signature;
 use idl_base::{Bytes, Datum, Seq, Shared, copied_of};
 use idl_map::SharedList;

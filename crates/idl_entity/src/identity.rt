@@ -5,9 +5,9 @@ ghost use Rattle.std.specs.Prelude.{◌≡◌, ◌++◌, IfOk, OnOk};
 ghost use Rattle.idl_entity.specs.Identity.{first_identity, fixed_eq, fixed_number, identity_of, is_within, prefix_for, prefixed, relative, same_fixed, slashed, no_prefix};
 ghost use Rattle.idl_entity.specs.Path.{scope_of};
 
-use crate::name::shared_name;
-use crate::names::Names;
-use crate::path::Path;
+use crate::paths::name::shared_name;
+use crate::paths::names::Names;
+use crate::paths::path::Path;
 use idl_base::{Bytes, Datum, Shared};
 use std::alloc::{AllocError, Global};
 

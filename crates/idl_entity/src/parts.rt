@@ -6,7 +6,7 @@ use crate::data_type::DataType;
 use crate::details::Rare;
 use crate::entity::Entity;
 use crate::kind::{Kind, Stage};
-use crate::path::Path;
+use crate::paths::path::Path;
 use crate::signature::Signature;
 use idl_base::{Bytes, Seq, Shared};
 use idl_map::SharedList;

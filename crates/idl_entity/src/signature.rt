@@ -3,7 +3,7 @@
 ghost use Rattle.std.specs.Prelude.{◌≡◌};
 
 use crate::data_type::DataType;
-use crate::path::Path;
+use crate::paths::path::Path;
 use idl_base::{Bytes, Datum, Seq, Shared, copied};
 use idl_value::Value;
 use std::alloc::AllocError;

@@ -3,19 +3,19 @@ use Rattle.std.proofs.Common.{◌≡◌, ℕ, List, [], ◌∷◌, map, Some, re
 use Rattle.std.specs.Prelude.{All, Contains}
 use Rattle.std.proofs.lemmas.List.Elements.{All-weaker, All-contains_itself}
 use Rattle.std.proofs.lemmas.Option.{same_Some}
-use Rattle.idl_lex.specs.Keywords.{folded}
+use Rattle.idl_lex.specs.kinds.Keywords.{folded}
 use Rattle.idl_entity.specs.Digest.{path_digest, under}
 use Rattle.idl_env.specs.Facts.{UnitFacts, World, entity_key, scopes_in, with_additions, entity_in}
 use Rattle.idl_env.specs.Held.{closable}
-use Rattle.idl_env.specs.Key.{key_digest}
+use Rattle.idl_env.specs.keys.Key.{key_digest}
 use Rattle.idl_entity.specs.Kind.{kind_eq}
 use Rattle.idl_env.specs.Outside.{gathered_at, looked_at, looked_at_by}
 use Rattle.idl_entity.specs.Path.{name_of, scope_of}
-use Rattle.idl_env.specs.declared.addition.Step.TheVariants.{Closes}
-use Rattle.idl_env.specs.declared.answer.Answer.{Answer}
-use Rattle.idl_env.specs.declared.answer.Scope.{Scope}
-use Rattle.idl_env.specs.declared.key.Key.{Key}
-use Rattle.idl_env.specs.declared.key.Key.TheVariants.{Cursor}
+use Rattle.idl_env.specs.declared.additions.addition.Step.TheVariants.{Closes}
+use Rattle.idl_env.specs.declared.answering.answer.Answer.{Answer}
+use Rattle.idl_env.specs.declared.answering.answer.Scope.{Scope}
+use Rattle.idl_env.specs.declared.keys.key.Key.{Key}
+use Rattle.idl_env.specs.declared.keys.key.Key.TheVariants.{Cursor}
 use Rattle.idl_env.proofs.Membership.{Contains-IsIn, IsIn-Contains, IsIn-map, IsIn}
 use Rattle.idl_entity.specs.declared.kind.Kind.TheVariants.{Interface}
 

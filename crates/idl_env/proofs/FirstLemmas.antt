@@ -11,10 +11,10 @@ use Rattle.std.proofs.lemmas.Bool.{eqb-false, ltb-false}
 use Rattle.std.proofs.lemmas.List.Folds.{find_at}
 use Rattle.std.proofs.lemmas.Option.{same_Some, slice_get_past}
 use Rattle.idl_env.specs.Facts.{addition_at, key_of, with_addition}
-use Rattle.idl_env.specs.Key.{key_digest, key_eq}
+use Rattle.idl_env.specs.keys.Key.{key_digest, key_eq}
 use Rattle.idl_env.specs.SameKey.{same_key}
-use Rattle.idl_env.specs.declared.addition.Addition.{Addition}
-use Rattle.idl_env.specs.declared.key.Key.{Key}
+use Rattle.idl_env.specs.declared.additions.addition.Addition.{Addition}
+use Rattle.idl_env.specs.declared.keys.key.Key.{Key}
 
 -- keys with different digests are not one
 pub digests_tell : (k q : Key) → nat_eq (key_digest q) (key_digest k) ≡ false → key_eq k q ≡ false

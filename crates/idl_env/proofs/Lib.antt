@@ -1,13 +1,7 @@
-pub mod AnswerLemmas
+pub mod AnswerLaws
 pub mod ApartLemmas
-pub mod CountLemmas
 pub mod DeclaredLemmas
 pub mod FirstLemmas
 pub mod MarkLemmas
 pub mod Membership
-pub mod OperationLemmas
-pub mod OthersLemmas
 pub mod OutlineLemmas
-pub mod PlaceLemmas
-pub mod QueueLemmas
-pub mod StateLemmas

@@ -3,9 +3,9 @@ use Rattle.std.proofs.Common.{◌≡◌, ℕ, true, List, ap, ◌∙◌}
 use Rattle.idl_map.specs.Marks.{AreMarked, is_marked}
 use Rattle.idl_map.proofs.MarkLemmas.{AreMarked-put}
 use Rattle.idl_env.specs.Facts.{addition_at, key_of, with_addition}
-use Rattle.idl_env.specs.Key.{key_digest, key_eq}
+use Rattle.idl_env.specs.keys.Key.{key_digest, key_eq}
 use Rattle.idl_env.specs.SameKey.{same_key}
-use Rattle.idl_env.specs.declared.addition.Addition.{Addition}
+use Rattle.idl_env.specs.declared.additions.addition.Addition.{Addition}
 use Rattle.idl_env.proofs.FirstLemmas.{addition_at-with_addition}
 
 -- with one addition more, and its mark

@@ -2,12 +2,12 @@
 use Rattle.std.specs.Prelude.{◌≡◌, List, [], ◌∷◌, Option, None, Some, reverse}
 use Rattle.std.specs.Map.{lookup}
 use Rattle.idl_env.specs.Facts.{key_of, World}
-use Rattle.idl_env.specs.Key.{key_eq}
-use Rattle.idl_env.specs.declared.addition.Addition.{Addition}
-use Rattle.idl_env.specs.declared.answer.Scope.{Scope}
-use Rattle.idl_env.specs.declared.key.Key.{Key}
-use Rattle.idl_env.specs.declared.key.Key.TheVariants.{Cursor, Prefix}
-use Rattle.idl_env.specs.declared.state.State.{State}
+use Rattle.idl_env.specs.keys.Key.{key_eq}
+use Rattle.idl_env.specs.declared.additions.addition.Addition.{Addition}
+use Rattle.idl_env.specs.declared.answering.answer.Scope.{Scope}
+use Rattle.idl_env.specs.declared.keys.key.Key.{Key}
+use Rattle.idl_env.specs.declared.keys.key.Key.TheVariants.{Cursor, Prefix}
+use Rattle.idl_env.specs.declared.answering.state.State.{State}
 
 -- each entry has the key of its addition
 abbrev pub HaveOwnKeys : List (Key × Addition) → Type 0

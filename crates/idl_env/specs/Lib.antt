@@ -1,13 +1,8 @@
-pub mod Digested
 pub mod Facts
 pub mod Held
-pub mod HeldKey
-pub mod Key
-pub mod LentKey
-pub mod OpenScopes
-pub mod Outline
 pub mod Outside
 pub mod SameAnswer
 pub mod SameKey
-pub mod Scope
 pub mod Turns
+pub mod answering
+pub mod keys

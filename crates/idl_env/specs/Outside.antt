@@ -2,12 +2,12 @@
 use Rattle.std.specs.Prelude.{◌≡◌, List, [], ◌∷◌, Option, Some, None, Contains, drop, map, if◌then◌else◌}
 use Rattle.idl_env.specs.Facts.{UnitFacts, World, entity_key, scopes_in, entity_in, count_in, nameless, path_around, with_additions}
 use Rattle.idl_entity.specs.Kind.{kind_eq}
-use Rattle.idl_env.specs.declared.addition.Step.{Step}
-use Rattle.idl_env.specs.declared.addition.Step.TheVariants.{Stays, Opens, OpensNameless, Closes, Prefixes, Enters, Leaves}
-use Rattle.idl_env.specs.declared.answer.Answer.{Answer}
-use Rattle.idl_env.specs.declared.answer.Scope.{Scope}
-use Rattle.idl_env.specs.declared.key.Key.{Key}
-use Rattle.idl_env.specs.declared.key.Key.TheVariants.{Cursor, Opened, Nameless, Prefix as PrefixKey}
+use Rattle.idl_env.specs.declared.additions.addition.Step.{Step}
+use Rattle.idl_env.specs.declared.additions.addition.Step.TheVariants.{Stays, Opens, OpensNameless, Closes, Prefixes, Enters, Leaves}
+use Rattle.idl_env.specs.declared.answering.answer.Answer.{Answer}
+use Rattle.idl_env.specs.declared.answering.answer.Scope.{Scope}
+use Rattle.idl_env.specs.declared.keys.key.Key.{Key}
+use Rattle.idl_env.specs.declared.keys.key.Key.TheVariants.{Cursor, Opened, Nameless, Prefix as PrefixKey}
 use Rattle.idl_entity.specs.declared.kind.Kind.TheVariants.{Interface}
 
 -- at each key but these the answers are the same

@@ -5,10 +5,10 @@ use Rattle.std.proofs.Common.{ap}
 use Rattle.idl_base.specs.Exact.{same_list, same_number}
 use Rattle.idl_entity.specs.Entity.{same_entity}
 use Rattle.idl_entity.specs.Identity.{same_identity, same_prefix}
-use Rattle.idl_env.specs.Scope.{same_scope, scope_eq}
-use Rattle.idl_env.specs.contracts.answer.AnswerPartialEq.TheImpl.{ghosts}
-use Rattle.idl_env.specs.declared.answer.Answer.{Answer}
-use Rattle.idl_env.specs.declared.answer.Answer.TheVariants.{Open, Known, Used, Count, InForce, Appeared, Identified}
+use Rattle.idl_env.specs.answering.Scope.{same_scope, scope_eq}
+use Rattle.idl_env.specs.contracts.answering.answer.AnswerPartialEq.TheImpl.{ghosts}
+use Rattle.idl_env.specs.declared.answering.answer.Answer.{Answer}
+use Rattle.idl_env.specs.declared.answering.answer.Answer.TheVariants.{Open, Known, Used, Count, InForce, Appeared, Identified}
 
 -- whether two answers are one
 abbrev pub answer_eq : Answer → Answer → Bool

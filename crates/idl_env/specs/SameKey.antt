@@ -4,10 +4,10 @@ use Rattle.std.specs.Prelude.{◌≡◌, true, refl}
 use Rattle.std.specs.Cmp.Lexicographic.{bytes_decides}
 use Rattle.std.proofs.Common.{ap}
 use Rattle.idl_base.specs.Exact.{both, same_number}
-use Rattle.idl_env.specs.Key.{key_eq}
+use Rattle.idl_env.specs.keys.Key.{key_eq}
 use Rattle.idl_entity.specs.Path.{same_path}
-use Rattle.idl_env.specs.declared.key.Key.{Key}
-use Rattle.idl_env.specs.declared.key.Key.TheVariants.{Cursor, Declared, Introduced, Opened, Nameless, Prefix, IdOf}
+use Rattle.idl_env.specs.declared.keys.key.Key.{Key}
+use Rattle.idl_env.specs.declared.keys.key.Key.TheVariants.{Cursor, Declared, Introduced, Opened, Nameless, Prefix, IdOf}
 
 pub same_key : (key other : Key) → key_eq key other ≡ true → key ≡ other
 same_key Cursor Cursor h = refl

@@ -2,8 +2,8 @@
 -- chain of typedefs that ends has each entity that is declared at most once.
 use Rattle.std.specs.Prelude.{ℕ, ◌+◌, ◌≤◌, List, [], ◌∷◌, flat_map, length}
 use Rattle.idl_env.specs.Facts.{UnitFacts}
-use Rattle.idl_env.specs.declared.addition.Addition.{Addition}
-use Rattle.idl_env.specs.declared.addition.Addition.TheVariants.{Declares, Uses, Appears, Identifies}
+use Rattle.idl_env.specs.declared.additions.addition.Addition.{Addition}
+use Rattle.idl_env.specs.declared.additions.addition.Addition.TheVariants.{Declares, Uses, Appears, Identifies}
 
 -- the paths of the bases that an addition names
 abbrev pub bases_in : Addition → List (List (List ℕ))

@@ -2,19 +2,19 @@
 
 ghost use Rattle.std.specs.Prelude.{◌≡◌, ◌++◌, ◌∷◌, [], All, Contains, IfOk, IfSome, None, OnOk, map};
 ghost use Rattle.idl_env.specs.Facts.{answers, entity_key, scopes_in, world};
-ghost use Rattle.idl_env.specs.Key.{key_digest};
+ghost use Rattle.idl_env.specs.keys.Key.{key_digest};
 ghost use Rattle.idl_env.specs.Outside.{IsInnermost, gathered_at, looked_at_by};
-ghost use Rattle.idl_env.specs.declared.answer.Scope.{Scope};
-ghost use Rattle.idl_env.specs.declared.key.Key.TheVariants as key;
+ghost use Rattle.idl_env.specs.declared.answering.answer.Scope.{Scope};
+ghost use Rattle.idl_env.specs.declared.keys.key.Key.TheVariants as key;
 
-use crate::addition::Step;
-use crate::answer::{entity_in, scopes_in};
-use crate::digested::DigestedKey;
+use crate::additions::addition::Step;
+use crate::additions::facts::Facts;
+use crate::answering::answer::{entity_in, scopes_in};
+use crate::answering::open_scopes::OpenScopes;
+use crate::answering::state::closable;
 use crate::env::Env;
-use crate::facts::Facts;
-use crate::key::Key;
-use crate::open_scopes::OpenScopes;
-use crate::state::closable;
+use crate::keys::digested::DigestedKey;
+use crate::keys::key::Key;
 use idl_entity::Path;
 use idl_map::Digest;
 use idl_memo::Bank;

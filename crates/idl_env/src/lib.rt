@@ -3,35 +3,21 @@
 //! Nothing here says what a scoped name denotes, and no rule of scopes stands here but how they are opened and closed.
 #![tactic(auto)]
 
-mod addition;
-mod answer;
-mod answers;
+mod additions;
+mod answering;
 mod apart;
-mod count;
-mod digested;
-mod digested_addition;
 mod env;
-mod exchange;
-mod facts;
-mod held_key;
-mod key;
-mod lent_key;
-mod open_scopes;
-mod operations;
-mod outline;
-mod queue;
-mod room;
-mod state;
+mod keys;
 
-pub use addition::{Addition, Step};
-pub use answer::{
+pub use additions::addition::{Addition, Step};
+pub use additions::facts::Facts;
+pub use additions::room::{Room, Writes};
+pub use answering::answer::{
     Answer, Scope, count_in, entity_in, identity_at, prefix_in, push_id_at, scopes_in,
 };
-pub use digested::DigestedKey;
+pub use answering::open_scopes::OpenScopes;
+pub use answering::queue::BaseQueue;
 pub use env::Env;
-pub use facts::Facts;
-pub use key::Key;
-pub use lent_key::LentKey;
-pub use open_scopes::OpenScopes;
-pub use queue::BaseQueue;
-pub use room::{Room, Writes};
+pub use keys::digested::DigestedKey;
+pub use keys::key::Key;
+pub use keys::lent_key::LentKey;

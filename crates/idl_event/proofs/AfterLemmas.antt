@@ -5,14 +5,14 @@ use Rattle.idl_memo.specs.Progress.{after_item, with_item}
 use Rattle.idl_event.specs.Expanding.{Reached, after_text}
 use Rattle.idl_event.specs.Apart.{emitted_in}
 use Rattle.idl_event.specs.Items.{rules, spend}
-use Rattle.idl_event.specs.declared.allowance.Allowance.{Allowance}
-use Rattle.idl_event.specs.declared.event.Event.{Event}
-use Rattle.idl_event.specs.declared.event.Event.TheVariants.{Emitted}
-use Rattle.idl_event.specs.declared.event.Item.TheVariants.{Kept}
+use Rattle.idl_event.specs.declared.told.allowance.Allowance.{Allowance}
+use Rattle.idl_event.specs.declared.told.event.Event.{Event}
+use Rattle.idl_event.specs.declared.told.event.Event.TheVariants.{Emitted}
+use Rattle.idl_event.specs.declared.told.event.Item.TheVariants.{Kept}
 use Rattle.idl_fault.specs.declared.place.Place.{Place}
 use Rattle.idl_fault.specs.declared.file_name.FileName.{FileName}
-use Rattle.idl_lex.specs.Tokens.{Token}
-use Rattle.idl_lex.specs.declared.token.PlacedToken.{PlacedToken}
+use Rattle.idl_lex.specs.tokens.Tokens.{Token}
+use Rattle.idl_lex.specs.declared.tokens.token.PlacedToken.{PlacedToken}
 
 not-zero : (n k : ℕ) → suc k ≤ n → nat_eq n 0 ≡ false
 not-zero zero k le = absurd (omega (arith, le))

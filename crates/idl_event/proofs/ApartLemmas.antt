@@ -5,14 +5,14 @@ use Rattle.std.specs.List.{enumerate_from, fold}
 use Rattle.std.proofs.lemmas.List.{drop_at, drop-drop, length-append, take_at}
 use Rattle.std.proofs.lemmas.List.Sums.{fold-append}
 use Rattle.idl_event.specs.Apart.{AreApart, ArePassed, Numbered, StandApart, TokensFirst, emitted, events_from, other_in, others_in, place_in, emitted_in, site_at, site_in, sites_in, text_sites, token_in, tokens_in, with_event, woven}
-use Rattle.idl_event.specs.declared.event.Event.{Event}
-use Rattle.idl_event.specs.declared.event.Event.TheVariants as event
+use Rattle.idl_event.specs.declared.told.event.Event.{Event}
+use Rattle.idl_event.specs.declared.told.event.Event.TheVariants as event
 use Rattle.idl_fault.specs.declared.place.Place.{Place}
-use Rattle.idl_event.specs.declared.site.Site.{Site}
+use Rattle.idl_event.specs.declared.told.site.Site.{Site}
 use Rattle.idl_fault.specs.declared.file_name.FileName.{FileName}
-use Rattle.idl_lex.specs.Tokens.{Token}
-use Rattle.idl_lex.specs.Tokens as lexed
-use Rattle.idl_lex.specs.declared.token.PlacedToken.{PlacedToken}
+use Rattle.idl_lex.specs.tokens.Tokens.{Token}
+use Rattle.idl_lex.specs.tokens.Tokens as lexed
+use Rattle.idl_lex.specs.declared.tokens.token.PlacedToken.{PlacedToken}
 
 -- what is gathered of events, with one more
 gathered-push : {A : Type 0} (f : Numbered → List A) (n : ℕ) (events : List Event) (e : Event)

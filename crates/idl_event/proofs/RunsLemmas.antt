@@ -6,7 +6,7 @@ use Rattle.std.proofs.lemmas.List.{drop-append-le, drop-drop, drop_more, take-ap
 use Rattle.std.specs.List.{AllWithin}
 use Rattle.std.specs.List.Sorted.{IsNonDecreasingBy}
 use Rattle.idl_event.specs.Runs.{starts_of, tokens_of}
-use Rattle.idl_lex.specs.Tokens.{Token}
+use Rattle.idl_lex.specs.tokens.Tokens.{Token}
 
 -- one more run
 pub tokens_of-push : (runs : List (List Token)) (run : List Token) → tokens_of (runs ++ run ∷ []) ≡ tokens_of runs ++ run

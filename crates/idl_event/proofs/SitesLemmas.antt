@@ -10,10 +10,10 @@ use Rattle.idl_event.specs.Apart.{site_at, sites_at, text_sites}
 use Rattle.idl_event.specs.Sites.{AreBefore, AreKept, HaveSites, Rise, found, in_stretch, site_in, sites_of, spot_at}
 use Rattle.idl_fault.specs.declared.file_name.FileName.{FileName}
 use Rattle.idl_fault.specs.declared.place.Place.{Place}
-use Rattle.idl_event.specs.declared.site.Site.{Site}
-use Rattle.idl_event.specs.declared.sites.Spot.{Spot}
-use Rattle.idl_event.specs.declared.sites.Stretch.{Stretch}
-use Rattle.idl_lex.specs.declared.token.PlacedToken.{PlacedToken}
+use Rattle.idl_event.specs.declared.told.site.Site.{Site}
+use Rattle.idl_event.specs.declared.told.sites.Spot.{Spot}
+use Rattle.idl_event.specs.declared.told.sites.Stretch.{Stretch}
+use Rattle.idl_lex.specs.declared.tokens.token.PlacedToken.{PlacedToken}
 
 -- what `get` lends
 pub copied-get : {X : Type 0} (xs : List X) (i : ℕ) (r : Option (Bor X)) → IsItemAt xs i r → option_copied r ≡ slice_get xs i

@@ -4,14 +4,14 @@ use Rattle.std.specs.Prelude.{ℕ, ◌-◌, List, [], Option, None, Some, if◌t
 use Rattle.std.specs.Option.{option_to_list}
 use Rattle.idl_memo.specs.Progress.{Rules, Progress}
 use Rattle.idl_event.specs.Limits.{turns_at_most, tokens_at_most}
-use Rattle.idl_event.specs.declared.allowance.Allowance.{Allowance}
+use Rattle.idl_event.specs.declared.told.allowance.Allowance.{Allowance}
 use Rattle.idl_fault.specs.declared.code.Code.TheVariants.{PastLimit}
-use Rattle.idl_event.specs.declared.event.Event.{Event}
-use Rattle.idl_event.specs.declared.event.Event.TheVariants.{Emitted, Entered, Left, Pragma, Fault}
-use Rattle.idl_event.specs.declared.event.Item.{Item}
-use Rattle.idl_event.specs.declared.event.Item.TheVariants.{Kept, Counted, Turn, TooDeep}
-use Rattle.idl_event.specs.declared.key.Answer.{Answer}
-use Rattle.idl_event.specs.declared.key.Key.{Key}
+use Rattle.idl_event.specs.declared.told.event.Event.{Event}
+use Rattle.idl_event.specs.declared.told.event.Event.TheVariants.{Emitted, Entered, Left, Pragma, Fault}
+use Rattle.idl_event.specs.declared.told.event.Item.{Item}
+use Rattle.idl_event.specs.declared.told.event.Item.TheVariants.{Kept, Counted, Turn, TooDeep}
+use Rattle.idl_event.specs.declared.asked.key.Answer.{Answer}
+use Rattle.idl_event.specs.declared.asked.key.Key.{Key}
 use Rattle.idl_fault.specs.declared.place.Place.{Place}
 
 -- what a root begins with

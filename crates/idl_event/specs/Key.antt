@@ -6,8 +6,8 @@ use Rattle.std.specs.Str.{bytes_eq}
 use Rattle.std.specs.declared.cmp.Ordering.{Ordering}
 use Rattle.std.proofs.Common.{ap}
 use Rattle.idl_base.specs.Digest.{mixed, with_bytes}
-use Rattle.idl_event.specs.declared.key.Key.{Key}
-use Rattle.idl_event.specs.declared.key.Key.TheVariants.{Macro, File, Search}
+use Rattle.idl_event.specs.declared.asked.key.Key.{Key}
+use Rattle.idl_event.specs.declared.asked.key.Key.TheVariants.{Macro, File, Search}
 
 -- a key as a list: a number that tells what it asks about, and its word or name
 abbrev pub key_code : Key → List ℕ

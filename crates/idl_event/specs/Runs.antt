@@ -1,6 +1,6 @@
 -- How the tokens of a text are kept: by runs.
 use Rattle.std.specs.Prelude.{ℕ, ◌+◌, List, [], ◌∷◌, flat_map, length}
-use Rattle.idl_lex.specs.Tokens.{Token}
+use Rattle.idl_lex.specs.tokens.Tokens.{Token}
 
 -- the tokens of runs, end to end
 abbrev pub tokens_of : List (List Token) → List Token

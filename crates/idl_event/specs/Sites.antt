@@ -4,10 +4,10 @@ use Rattle.std.specs.List.{AllByRecursion}
 use Rattle.std.specs.Option.{option_map, unwrap_or}
 use Rattle.idl_event.specs.Apart.{site_at, text_sites}
 use Rattle.idl_fault.specs.declared.place.Place.{Place}
-use Rattle.idl_event.specs.declared.site.Site.{Site}
-use Rattle.idl_event.specs.declared.sites.Spot.{Spot}
-use Rattle.idl_event.specs.declared.sites.Stretch.{Stretch}
-use Rattle.idl_lex.specs.declared.token.PlacedToken.{PlacedToken}
+use Rattle.idl_event.specs.declared.told.site.Site.{Site}
+use Rattle.idl_event.specs.declared.told.sites.Spot.{Spot}
+use Rattle.idl_event.specs.declared.told.sites.Stretch.{Stretch}
+use Rattle.idl_lex.specs.declared.tokens.token.PlacedToken.{PlacedToken}
 
 -- the last of these that begins at the token with this number, or before it
 abbrev pub spot_at : List Spot → ℕ → Option Spot

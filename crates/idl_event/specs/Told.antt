@@ -1,8 +1,8 @@
 -- What an event is, where it is read.
-use Rattle.idl_event.specs.declared.event.Event.{Event}
-use Rattle.idl_event.specs.declared.event.Event.TheVariants as event
-use Rattle.idl_event.specs.declared.told.Told.{Told}
-use Rattle.idl_event.specs.declared.told.Told.TheVariants as told
+use Rattle.idl_event.specs.declared.told.event.Event.{Event}
+use Rattle.idl_event.specs.declared.told.event.Event.TheVariants as event
+use Rattle.idl_event.specs.declared.told.event_view.Told.{Told}
+use Rattle.idl_event.specs.declared.told.event_view.Told.TheVariants as told
 
 abbrev pub event_told : Told → Event
 event_told (told.Emitted file line token) =

@@ -4,32 +4,19 @@
 //! Nothing here knows how a file is read, what a directive does, or what a unit is.
 #![tactic(auto)]
 
-mod allowance;
-mod builder;
-mod event;
-mod expansion;
-mod hinted_log;
-mod hints;
-mod key;
-mod lexed_file;
-mod lexed_line;
-mod progress;
-mod root_bank;
-mod runs;
-mod site;
-mod sites;
+mod asked;
 mod told;
 
-pub use allowance::{Allowance, MAX_TOKENS, MAX_TURNS};
-pub use builder::ExpansionBuilder;
-pub use event::{Event, Item};
-pub use expansion::{Events, Expansion};
-pub use key::{Answer, Key};
-pub use lexed_file::LexedFile;
-pub use lexed_line::LexedLine;
-pub use progress::Progress;
-pub use root_bank::RootBank;
-pub use runs::Runs;
-pub use site::Site;
-pub use sites::Sites;
-pub use told::Told;
+pub use asked::key::{Answer, Key};
+pub use asked::lexed_file::LexedFile;
+pub use asked::lexed_line::LexedLine;
+pub use asked::root_bank::RootBank;
+pub use told::allowance::{Allowance, MAX_TOKENS, MAX_TURNS};
+pub use told::builder::ExpansionBuilder;
+pub use told::event::{Event, Item};
+pub use told::event_view::Told;
+pub use told::expansion::{Events, Expansion};
+pub use told::progress::Progress;
+pub use told::runs::Runs;
+pub use told::site::Site;
+pub use told::sites::Sites;

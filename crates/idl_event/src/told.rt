@@ -1,12 +1,11 @@
-//! Events where they are read.
+//! What the expansion of a root tells.
 
-use crate::event::Event;
-use idl_fault::FileName;
-use idl_lex::Token;
-
-/// What an event is: a token of the text in a file, at a line, or another event.
-#[derive(Clone, Copy)]
-pub enum Told<'a> {
-    Emitted(&'a FileName, u32, &'a Token),
-    Other(&'a Event),
-}
+pub(crate) mod allowance;
+pub(crate) mod builder;
+pub(crate) mod event;
+pub(crate) mod event_view;
+pub(crate) mod expansion;
+pub(crate) mod progress;
+pub(crate) mod runs;
+pub(crate) mod site;
+pub(crate) mod sites;

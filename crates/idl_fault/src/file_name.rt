@@ -7,7 +7,7 @@ ghost use Rattle.std.specs.Hash as fed;
 ghost use Rattle.std.specs.Ordering.{nat_cmp};
 ghost use Rattle.std.specs.Str.{bytes_eq};
 ghost use Rattle.std.proofs.Common.{ap};
-ghost use Rattle.idl_source.specs.Name.{is_name};
+ghost use Rattle.idl_source.specs.names.Name.{is_name};
 
 use idl_base::Datum;
 use idl_source::Name;
@@ -26,7 +26,7 @@ pub struct FileName {
 impl Model for FileName {
     ghost use Rattle.std.specs.Prelude.{List, ℕ, IsTrue};
     ghost use Rattle.std.specs.Rc.{rc_slice_items};
-    ghost use Rattle.idl_source.specs.Name.{is_name};
+    ghost use Rattle.idl_source.specs.names.Name.{is_name};
 
     ghost Value = { List ℕ };
 

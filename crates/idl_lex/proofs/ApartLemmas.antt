@@ -1,10 +1,10 @@
 -- Tokens apart from their places.
 use Rattle.std.proofs.Common.{◌≡◌, ◌∙◌, ◌<◌, ◌++◌, ◌∷◌, ℕ, List, [], suc, get_or, length, map, refl, ap, arith}
 use Rattle.std.proofs.lemmas.List.{get_or-map}
-use Rattle.idl_lex.specs.Apart.{place_of, placed, placed_at}
-use Rattle.idl_lex.specs.Tokens.{Token, tokens_in}
-use Rattle.idl_lex.specs.declared.block_tokens.TokenPlace.{TokenPlace}
-use Rattle.idl_lex.specs.declared.token.PlacedToken.{PlacedToken}
+use Rattle.idl_lex.specs.tokens.Apart.{place_of, placed, placed_at}
+use Rattle.idl_lex.specs.tokens.Tokens.{Token, tokens_in}
+use Rattle.idl_lex.specs.declared.tokens.block_tokens.TokenPlace.{TokenPlace}
+use Rattle.idl_lex.specs.declared.tokens.token.PlacedToken.{PlacedToken}
 
 pub length-placed : (tokens : List Token) (places : List TokenPlace) → length places ≡ length tokens → length (placed tokens places) ≡ length tokens
 length-placed [] places e = refl

@@ -4,9 +4,9 @@ use Rattle.std.proofs.Math.ListN.{get_or}
 use Rattle.std.proofs.lemmas.List.FromFn.{get_or-map-range_with_len}
 use Rattle.std.specs.Prelude.{nat_le}
 use Rattle.std.specs.List.{range_with_len}
-use Rattle.idl_lex.specs.Byte.{is_space, is_word_byte, is_word_start}
-use Rattle.idl_lex.specs.ByteTable.{classes}
-use Rattle.idl_lex.specs.Marks.{is_lone_mark}
+use Rattle.idl_lex.specs.bytes.Byte.{is_space, is_word_byte, is_word_start}
+use Rattle.idl_lex.specs.bytes.ByteTable.{classes}
+use Rattle.idl_lex.specs.kinds.Marks.{is_lone_mark}
 
 pub classes-length : length classes ≡ 256
 unfolding classes

@@ -1,16 +1,8 @@
-pub mod AlikeLemmas
 pub mod ApartLemmas
 pub mod ByteLemmas
 pub mod CountLemmas
-pub mod HeaderLemmas
-pub mod KindLemmas
+pub mod KindLaws
 pub mod LineLemmas
-pub mod LiteralLemmas
 pub mod LogicalLemmas
-pub mod LoneLemmas
-pub mod MarkLemmas
-pub mod NumberLemmas
 pub mod PieceLemmas
-pub mod TableLemmas
 pub mod TokensLemmas
-pub mod WordLemmas

@@ -3,14 +3,14 @@ use Rattle.std.proofs.Common.{◌≡◌, ◌∙◌, ◌+◌, ◌++◌, ℕ, suc,
 use Rattle.std.proofs.lemmas.Bool.{eqb-true, false≢true}
 use Rattle.std.specs.Option.{option_map}
 use Rattle.idl_base.proofs.Bools.{and-false, not-true}
-use Rattle.idl_source.specs.Line.{newline}
-use Rattle.idl_lex.specs.Byte.{is_digit, is_word_start, is_word_byte, is_quote, is_x, is_e, is_sign}
-use Rattle.idl_lex.specs.Context.{ends_block}
-use Rattle.idl_lex.specs.Lexer.{is_open, opens}
-use Rattle.idl_lex.specs.Piece.{is_pair}
-use Rattle.idl_lex.specs.Scan.{start_of, number_step, step_of, taken, header_len, further}
-use Rattle.idl_lex.specs.declared.state.State.{State}
-use Rattle.idl_lex.specs.declared.state.State.TheVariants.{Word, Wide, Zero, Number, Dot, Literal, Slash, Line, Block, Mark, Whole}
+use Rattle.idl_source.specs.texts.Line.{newline}
+use Rattle.idl_lex.specs.bytes.Byte.{is_digit, is_word_start, is_word_byte, is_quote, is_x, is_e, is_sign}
+use Rattle.idl_lex.specs.bytes.Context.{ends_block}
+use Rattle.idl_lex.specs.tokens.Lexer.{is_open, opens}
+use Rattle.idl_lex.specs.bytes.Piece.{is_pair}
+use Rattle.idl_lex.specs.bytes.Scan.{start_of, number_step, step_of, taken, header_len, further}
+use Rattle.idl_lex.specs.declared.bytes.state.State.{State}
+use Rattle.idl_lex.specs.declared.bytes.state.State.TheVariants.{Word, Wide, Zero, Number, Dot, Literal, Slash, Line, Block, Mark, Whole}
 
 -- inside a comment, or where one may begin
 abbrev may_open : State → Bool

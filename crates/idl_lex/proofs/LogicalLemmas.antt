@@ -1,9 +1,9 @@
 -- Lines of the joined text, and the numbers of their bytes' lines.
 use Rattle.std.proofs.Common.{◌≡◌, ◌∙◌, ◌<◌, ◌≤◌, ◌+◌, ◌-◌, ◌++◌, ℕ, zero, suc, Bool, true, false, if◌then◌else◌, List, [], ◌∷◌, append_assoc, drop, get_or, length, replicate, take, length-append, length-drop, refl, sym, ap, arith}
 use Rattle.std.proofs.lemmas.List.{drop_more, drop_all, drop-drop, length-replicate}
-use Rattle.idl_source.specs.Line.{newline}
-use Rattle.idl_lex.specs.Text.{Placed, bytes_of, numbered, is_continued, front, joined}
-use Rattle.idl_lex.specs.Logical.{placed, line_at, joined_count, continued}
+use Rattle.idl_source.specs.texts.Line.{newline}
+use Rattle.idl_lex.specs.bytes.Text.{Placed, bytes_of, numbered, is_continued, front, joined}
+use Rattle.idl_lex.specs.tokens.Logical.{placed, line_at, joined_count, continued}
 
 pub bytes_of-placed : (numbers : List ℕ) (last : ℕ) (bytes : List ℕ) → bytes_of (placed numbers last bytes) ≡ bytes
 bytes_of-placed numbers last [] = refl

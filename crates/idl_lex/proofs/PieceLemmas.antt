@@ -6,13 +6,13 @@ use Rattle.std.specs.Prelude.{⊤}
 use Rattle.std.specs.List.{list_all}
 use Rattle.std.specs.Option.{option_map}
 use Rattle.idl_base.proofs.Bools.{or-false, or-true}
-use Rattle.idl_source.specs.Line.{newline}
+use Rattle.idl_source.specs.texts.Line.{newline}
 use Rattle.idl_lex.proofs.CountLemmas.{eq-true, eq-false, eq-suc}
-use Rattle.idl_lex.specs.Byte.{is_digit, is_word_start, is_word_byte, is_quote, is_x, is_e, is_sign}
-use Rattle.idl_lex.specs.Piece.{is_empty, number_rest, zero_rest, dot_rest, literal_rest, wide_rest, line_rest, block_rest, slash_rest, is_pair, mark_rest, begins, header_rest, is_piece, largest, longest}
-use Rattle.idl_lex.specs.Scan.{start_of, number_step, step_of, taken, header_len, further}
-use Rattle.idl_lex.specs.declared.state.State.{State}
-use Rattle.idl_lex.specs.declared.state.State.TheVariants.{Word, Wide, Zero, Number, Dot, Literal, Slash, Line, Block, Mark, Whole}
+use Rattle.idl_lex.specs.bytes.Byte.{is_digit, is_word_start, is_word_byte, is_quote, is_x, is_e, is_sign}
+use Rattle.idl_lex.specs.bytes.Piece.{is_empty, number_rest, zero_rest, dot_rest, literal_rest, wide_rest, line_rest, block_rest, slash_rest, is_pair, mark_rest, begins, header_rest, is_piece, largest, longest}
+use Rattle.idl_lex.specs.bytes.Scan.{start_of, number_step, step_of, taken, header_len, further}
+use Rattle.idl_lex.specs.declared.bytes.state.State.{State}
+use Rattle.idl_lex.specs.declared.bytes.state.State.TheVariants.{Word, Wide, Zero, Number, Dot, Literal, Slash, Line, Block, Mark, Whole}
 
 -- the bytes are taken from a state on, all of them
 abbrev pub accepts : State → List ℕ → Bool

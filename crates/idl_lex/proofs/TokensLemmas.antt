@@ -2,19 +2,19 @@
 use Rattle.std.proofs.Common.{◌≡◌, ◌∙◌, ◌<◌, ◌≤◌, ◌+◌, ◌-◌, ◌++◌, ℕ, zero, suc, nat_eq, Bool, true, false, ◌&&◌, ◌||◌, None, Some, if◌then◌else◌, List, [], ◌∷◌, drop, get_or, length, take, refl, sym, ap, arith}
 use Rattle.std.proofs.lemmas.List.{drop_all, drop-drop}
 use Rattle.std.specs.Prelude.{codes}
-use Rattle.idl_source.specs.Line.{newline}
+use Rattle.idl_source.specs.texts.Line.{newline}
 use Rattle.idl_lex.proofs.LineLemmas.{Opened, Opened-piece, further-closed, further-open, ends_block-taken, taken-open, taken-over, taken-closed, ends_block-over, ends_block-closed}
 use Rattle.idl_lex.proofs.PieceLemmas.{longest-further, further-within, taken-le}
-use Rattle.idl_lex.specs.Context.{beginning_after, ends_block, is_include, context_after, line_start}
-use Rattle.idl_lex.specs.Word.{is_word}
-use Rattle.idl_lex.specs.Lexer.{after_comment, ended, is_open}
-use Rattle.idl_lex.specs.Logical.{line_at}
-use Rattle.idl_lex.specs.Scan.{further, taken}
-use Rattle.idl_lex.specs.Text.{Placed, bytes_of}
-use Rattle.idl_lex.specs.Tokens.{followers_on_line, lines_after, lines_of, piece_rest, token_if, token_of, tokens_after}
-use Rattle.idl_lex.specs.declared.context.Context.{Context}
-use Rattle.idl_lex.specs.declared.state.State.TheVariants.{Block, Whole}
-use Rattle.idl_lex.specs.declared.token.PlacedToken.{PlacedToken}
+use Rattle.idl_lex.specs.bytes.Context.{beginning_after, ends_block, is_include, context_after, line_start}
+use Rattle.idl_lex.specs.kinds.Word.{is_word}
+use Rattle.idl_lex.specs.tokens.Lexer.{after_comment, ended, is_open}
+use Rattle.idl_lex.specs.tokens.Logical.{line_at}
+use Rattle.idl_lex.specs.bytes.Scan.{further, taken}
+use Rattle.idl_lex.specs.bytes.Text.{Placed, bytes_of}
+use Rattle.idl_lex.specs.tokens.Tokens.{followers_on_line, lines_after, lines_of, piece_rest, token_if, token_of, tokens_after}
+use Rattle.idl_lex.specs.declared.bytes.context.Context.{Context}
+use Rattle.idl_lex.specs.declared.bytes.state.State.TheVariants.{Block, Whole}
+use Rattle.idl_lex.specs.declared.tokens.token.PlacedToken.{PlacedToken}
 
 pub tokens_after-drop : (c : Context) (n : ℕ) (text : List Placed) → tokens_after c n text ≡ tokens_after c 0 (drop n text)
 unfolding tokens_after

@@ -4,32 +4,12 @@
 //! diagnostics. Joined lines and comments are dealt with here, and directives are not.
 #![tactic(auto)]
 
-mod block_tokens;
-mod byte;
-mod context;
-mod keyword;
-mod keyword_table;
-mod kind;
-mod lexer;
-mod literal;
-mod logical;
-mod mark;
-mod mark_table;
-mod number;
-mod state;
-mod token;
-mod word;
-mod word_table;
+mod bytes;
+pub mod kinds;
+mod tokens;
 
-pub use block_tokens::{BlockTokens, TokenBuffer, TokenPlace};
-pub use keyword::Keyword;
-pub use kind::{Defect, Kind, is_like_keyword, kind_of};
-pub use lexer::{Before, Opening, push_line};
-pub use literal::decode;
-pub use logical::{Logical, joined_count};
-pub use mark::{Mark, PreprocessorMark};
-pub use mark_table::mark_kind;
-pub use number::integer_value;
-pub use token::{PlacedToken, Token};
-pub use word::is_word;
-pub use word_table::{Entry, value_of};
+pub use kinds::word::is_word;
+pub use tokens::block_tokens::{BlockTokens, TokenBuffer, TokenPlace};
+pub use tokens::lexer::{Before, Opening, push_line};
+pub use tokens::logical::{Logical, joined_count};
+pub use tokens::token::{PlacedToken, Token};

@@ -11,15 +11,15 @@ use Rattle.idl_event.specs.Expanding.{Reached, arrival, arrived, reached}
 use Rattle.idl_macro.specs.Macros.{Definitions, body_in, macro_of}
 use Rattle.idl_macro.specs.Output.{item_of}
 use Rattle.idl_macro.specs.Replace.{replacement}
-use Rattle.idl_lex.specs.Tokens.{Token}
-use Rattle.idl_lex.specs.Word.{is_word}
-use Rattle.idl_event.specs.declared.allowance.Allowance.{Allowance}
+use Rattle.idl_lex.specs.tokens.Tokens.{Token}
+use Rattle.idl_lex.specs.kinds.Word.{is_word}
+use Rattle.idl_event.specs.declared.told.allowance.Allowance.{Allowance}
 use Rattle.idl_event.specs.Limits.{turns_at_most}
-use Rattle.idl_event.specs.declared.event.Item.{Item}
-use Rattle.idl_event.specs.declared.event.Item.TheVariants.{Turn}
-use Rattle.idl_event.specs.declared.key.Answer.{Answer}
-use Rattle.idl_event.specs.declared.key.Key.{Key}
-use Rattle.idl_event.specs.declared.key.Key.TheVariants as key
+use Rattle.idl_event.specs.declared.told.event.Item.{Item}
+use Rattle.idl_event.specs.declared.told.event.Item.TheVariants.{Turn}
+use Rattle.idl_event.specs.declared.asked.key.Answer.{Answer}
+use Rattle.idl_event.specs.declared.asked.key.Key.{Key}
+use Rattle.idl_event.specs.declared.asked.key.Key.TheVariants as key
 use Rattle.idl_fault.specs.declared.place.Place.{Place}
 use Rattle.idl_macro.specs.declared.replacement.Output.{Output}
 use Rattle.idl_macro.specs.declared.replacement.Output.TheVariants.{Text, Operand}

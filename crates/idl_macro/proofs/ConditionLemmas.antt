@@ -4,11 +4,11 @@ use Rattle.std.specs.Option.{option_map}
 use Rattle.idl_memo.specs.Query.{Done, Ask, Tell, and_then}
 use Rattle.idl_condition.specs.Arithmetic.{Value}
 use Rattle.idl_event.specs.Expanding.{Expanding, Reached, arrival, arrived}
-use Rattle.idl_event.specs.declared.key.Answer.{Answer}
-use Rattle.idl_event.specs.declared.key.Key.{Key}
+use Rattle.idl_event.specs.declared.asked.key.Answer.{Answer}
+use Rattle.idl_event.specs.declared.asked.key.Key.{Key}
 use Rattle.idl_fault.specs.declared.place.Place.{Place}
-use Rattle.idl_lex.specs.Tokens.{Token, tokens_in}
-use Rattle.idl_lex.specs.declared.token.PlacedToken.{PlacedToken}
+use Rattle.idl_lex.specs.tokens.Tokens.{Token, tokens_in}
+use Rattle.idl_lex.specs.declared.tokens.token.PlacedToken.{PlacedToken}
 use Rattle.idl_macro.specs.Condition.{condition, defined_at, defined_read, judged, judging, read_after, read_one, taken_by, truth, value}
 use Rattle.idl_macro.specs.Macros.{Definitions, macro_of}
 use Rattle.idl_macro.specs.Replace.{followed_by, operand}

@@ -4,13 +4,13 @@ use Rattle.std.specs.Option.{option_copied}
 use Rattle.idl_memo.specs.Query.{Done, Tell, and_then}
 use Rattle.idl_event.specs.Expanding.{Expanding, Reached, arrival, arrived}
 use Rattle.idl_fault.specs.declared.code.Code.TheVariants.{MalformedMacro, OtherDefinition}
-use Rattle.idl_event.specs.declared.event.Event.TheVariants.{Fault}
-use Rattle.idl_event.specs.declared.event.Item.TheVariants.{Kept}
-use Rattle.idl_event.specs.declared.key.Answer.{Answer}
-use Rattle.idl_event.specs.declared.key.Key.{Key}
+use Rattle.idl_event.specs.declared.told.event.Event.TheVariants.{Fault}
+use Rattle.idl_event.specs.declared.told.event.Item.TheVariants.{Kept}
+use Rattle.idl_event.specs.declared.asked.key.Answer.{Answer}
+use Rattle.idl_event.specs.declared.asked.key.Key.{Key}
 use Rattle.idl_fault.specs.declared.place.Place.{Place}
-use Rattle.idl_lex.specs.Tokens.{Token}
-use Rattle.idl_lex.specs.declared.token.PlacedToken.{PlacedToken}
+use Rattle.idl_lex.specs.tokens.Tokens.{Token}
+use Rattle.idl_lex.specs.declared.tokens.token.PlacedToken.{PlacedToken}
 use Rattle.idl_macro.specs.Directives.{define, defining, definition_in, differs, first_word, is_macro_there, saying, undef}
 use Rattle.idl_macro.specs.Macros.{Definitions, macro_of}
 use Rattle.idl_macro.proofs.ArrivalLemmas.{arrival-and_then}

@@ -7,11 +7,11 @@ use Rattle.std.proofs.lemmas.List.Sorted.{IsPermutation-map, IsPermutation-rever
 use Rattle.std.proofs.lemmas.Map.Made.{is_some-lookup}
 use Rattle.idl_memo.specs.Query.{Done, Ask, outcome}
 use Rattle.idl_event.specs.Expanding.{Expanding}
-use Rattle.idl_event.specs.declared.key.Answer.{Answer}
-use Rattle.idl_event.specs.declared.key.Key.{Key}
-use Rattle.idl_event.specs.declared.key.Key.TheVariants as key
-use Rattle.idl_lex.specs.Tokens.{Token}
-use Rattle.idl_lex.specs.Word.{is_word}
+use Rattle.idl_event.specs.declared.asked.key.Answer.{Answer}
+use Rattle.idl_event.specs.declared.asked.key.Key.{Key}
+use Rattle.idl_event.specs.declared.asked.key.Key.TheVariants as key
+use Rattle.idl_lex.specs.tokens.Tokens.{Token}
+use Rattle.idl_lex.specs.kinds.Word.{is_word}
 use Rattle.idl_macro.specs.Macros.{Definitions, body_in, macro_of}
 use Rattle.idl_macro.specs.Replace.{replacement}
 

@@ -10,16 +10,16 @@ use Rattle.idl_event.proofs.AfterLemmas.{after-token}
 use Rattle.idl_event.specs.Expanding.{Reached, after_text, arrival, arrived, reached}
 use Rattle.idl_event.specs.Items.{rules, tokens_left}
 use Rattle.idl_event.specs.Key.{key_eq}
-use Rattle.idl_event.specs.declared.allowance.Allowance.{Allowance}
-use Rattle.idl_event.specs.declared.event.Event.TheVariants.{Emitted}
-use Rattle.idl_event.specs.declared.event.Item.TheVariants.{Kept}
-use Rattle.idl_event.specs.declared.key.Answer.{Answer}
-use Rattle.idl_event.specs.declared.key.Key.{Key}
-use Rattle.idl_event.specs.declared.key.Key.TheVariants as key
+use Rattle.idl_event.specs.declared.told.allowance.Allowance.{Allowance}
+use Rattle.idl_event.specs.declared.told.event.Event.TheVariants.{Emitted}
+use Rattle.idl_event.specs.declared.told.event.Item.TheVariants.{Kept}
+use Rattle.idl_event.specs.declared.asked.key.Answer.{Answer}
+use Rattle.idl_event.specs.declared.asked.key.Key.{Key}
+use Rattle.idl_event.specs.declared.asked.key.Key.TheVariants as key
 use Rattle.idl_fault.specs.declared.place.Place.{Place}
-use Rattle.idl_lex.specs.Tokens.{Token}
-use Rattle.idl_lex.specs.Word.{is_word}
-use Rattle.idl_lex.specs.declared.token.PlacedToken.{PlacedToken}
+use Rattle.idl_lex.specs.tokens.Tokens.{Token}
+use Rattle.idl_lex.specs.kinds.Word.{is_word}
+use Rattle.idl_lex.specs.declared.tokens.token.PlacedToken.{PlacedToken}
 use Rattle.idl_macro.specs.Macros.{Definitions, body_in, macro_of}
 use Rattle.idl_macro.specs.Output.{item_of}
 use Rattle.idl_macro.specs.Replace.{place_at, replaced_at, replacement, text}

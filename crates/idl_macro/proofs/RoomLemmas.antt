@@ -6,15 +6,15 @@ use Rattle.idl_memo.specs.Query.{Done, Ask, Tell, outcome}
 use Rattle.idl_event.specs.Items.{rules, turns_left}
 use Rattle.idl_event.specs.Key.{key_eq}
 use Rattle.idl_event.specs.Expanding.{Reached, Expanding, reached}
-use Rattle.idl_lex.specs.Tokens.{Token}
+use Rattle.idl_lex.specs.tokens.Tokens.{Token}
 use Rattle.idl_macro.specs.Macros.{Definitions}
 use Rattle.idl_macro.specs.Replace.{each, replaced, replacement}
-use Rattle.idl_event.specs.declared.allowance.Allowance.{Allowance}
-use Rattle.idl_event.specs.declared.event.Item.{Item}
-use Rattle.idl_event.specs.declared.event.Event.TheVariants.{Emitted, Entered, Left, Pragma, Fault}
-use Rattle.idl_event.specs.declared.event.Item.TheVariants.{Kept, Counted, Turn, TooDeep}
-use Rattle.idl_event.specs.declared.key.Answer.{Answer}
-use Rattle.idl_event.specs.declared.key.Key.{Key}
+use Rattle.idl_event.specs.declared.told.allowance.Allowance.{Allowance}
+use Rattle.idl_event.specs.declared.told.event.Item.{Item}
+use Rattle.idl_event.specs.declared.told.event.Event.TheVariants.{Emitted, Entered, Left, Pragma, Fault}
+use Rattle.idl_event.specs.declared.told.event.Item.TheVariants.{Kept, Counted, Turn, TooDeep}
+use Rattle.idl_event.specs.declared.asked.key.Answer.{Answer}
+use Rattle.idl_event.specs.declared.asked.key.Key.{Key}
 use Rattle.idl_fault.specs.declared.place.Place.{Place}
 use Rattle.idl_macro.proofs.AllowanceLemmas.{left-after_item, left-after_key, left-replacement, left_by, no_zero}
 use Rattle.idl_macro.proofs.ReplaceLemmas.{made, reached-followed_by, reached-replaced}

@@ -8,12 +8,12 @@ use Rattle.idl_condition.specs.Symbol.{symbol_of}
 use Rattle.idl_event.specs.Expanding.{Expanding}
 use Rattle.idl_macro.specs.Macros.{Definitions, macro_of}
 use Rattle.idl_macro.specs.Replace.{followed_by, operand}
-use Rattle.idl_lex.specs.Tokens.{Token, tokens_in}
-use Rattle.idl_lex.specs.Word.{is_word}
-use Rattle.idl_lex.specs.declared.token.PlacedToken.{PlacedToken}
+use Rattle.idl_lex.specs.tokens.Tokens.{Token, tokens_in}
+use Rattle.idl_lex.specs.kinds.Word.{is_word}
+use Rattle.idl_lex.specs.declared.tokens.token.PlacedToken.{PlacedToken}
 use Rattle.idl_fault.specs.declared.code.Code.TheVariants.{BadCondition}
-use Rattle.idl_event.specs.declared.event.Event.TheVariants.{Fault}
-use Rattle.idl_event.specs.declared.event.Item.TheVariants.{Kept}
+use Rattle.idl_event.specs.declared.told.event.Event.TheVariants.{Fault}
+use Rattle.idl_event.specs.declared.told.event.Item.TheVariants.{Kept}
 use Rattle.idl_fault.specs.declared.place.Place.{Place}
 
 -- a word and a `)` behind a `(`: the word, and how many tokens stand from the `(` on

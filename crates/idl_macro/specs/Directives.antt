@@ -7,12 +7,12 @@ use Rattle.idl_memo.specs.Query.{Done, Tell, and_then}
 use Rattle.idl_event.specs.Expanding.{Expanding}
 use Rattle.idl_macro.specs.Macros.{Definitions, macro_of}
 use Rattle.idl_macro.specs.Words.{is_macro_word}
-use Rattle.idl_lex.specs.Tokens.{Token, tokens_in}
-use Rattle.idl_lex.specs.Word.{is_word}
-use Rattle.idl_lex.specs.declared.token.PlacedToken.{PlacedToken}
+use Rattle.idl_lex.specs.tokens.Tokens.{Token, tokens_in}
+use Rattle.idl_lex.specs.kinds.Word.{is_word}
+use Rattle.idl_lex.specs.declared.tokens.token.PlacedToken.{PlacedToken}
 use Rattle.idl_fault.specs.declared.code.Code.TheVariants.{MalformedMacro, OtherDefinition}
-use Rattle.idl_event.specs.declared.event.Event.TheVariants.{Fault}
-use Rattle.idl_event.specs.declared.event.Item.TheVariants.{Kept}
+use Rattle.idl_event.specs.declared.told.event.Event.TheVariants.{Fault}
+use Rattle.idl_event.specs.declared.told.event.Item.TheVariants.{Kept}
 use Rattle.idl_fault.specs.declared.place.Place.{Place}
 
 -- the word at which a directive's operands begin, if they do

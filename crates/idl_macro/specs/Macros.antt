@@ -4,10 +4,10 @@ use Rattle.std.specs.Map.{lookup}
 use Rattle.std.specs.Str.{bytes_eq}
 use Rattle.idl_memo.specs.Query.{Done, Ask}
 use Rattle.idl_event.specs.Expanding.{Expanding}
-use Rattle.idl_event.specs.declared.key.Answer.{Answer}
-use Rattle.idl_event.specs.declared.key.Answer.TheVariants as answer
-use Rattle.idl_event.specs.declared.key.Key.TheVariants as key
-use Rattle.idl_lex.specs.Tokens.{Token, tokens_in, tokens_of}
+use Rattle.idl_event.specs.declared.asked.key.Answer.{Answer}
+use Rattle.idl_event.specs.declared.asked.key.Answer.TheVariants as answer
+use Rattle.idl_event.specs.declared.asked.key.Key.TheVariants as key
+use Rattle.idl_lex.specs.tokens.Tokens.{Token, tokens_in, tokens_of}
 
 -- what the root itself has said of words: the tokens of a macro's body, or nothing where the macro
 -- was removed

@@ -1,10 +1,10 @@
 -- Where the tokens go that come of a replacement.
 use Rattle.std.specs.Prelude.{List, ◌++◌, Option, None, Some}
 use Rattle.std.specs.Option.{option_map}
-use Rattle.idl_lex.specs.Tokens.{Token}
-use Rattle.idl_event.specs.declared.event.Item.{Item}
-use Rattle.idl_event.specs.declared.event.Event.TheVariants.{Emitted}
-use Rattle.idl_event.specs.declared.event.Item.TheVariants.{Kept, Counted}
+use Rattle.idl_lex.specs.tokens.Tokens.{Token}
+use Rattle.idl_event.specs.declared.told.event.Item.{Item}
+use Rattle.idl_event.specs.declared.told.event.Event.TheVariants.{Emitted}
+use Rattle.idl_event.specs.declared.told.event.Item.TheVariants.{Kept, Counted}
 use Rattle.idl_fault.specs.declared.place.Place.{Place}
 use Rattle.idl_macro.specs.declared.replacement.Output.{Output}
 use Rattle.idl_macro.specs.declared.replacement.Output.TheVariants.{Text, Operand}

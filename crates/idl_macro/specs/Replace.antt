@@ -6,14 +6,14 @@ use Rattle.std.specs.Str.{bytes_eq}
 use Rattle.idl_memo.specs.Query.{Done, Tell, and_then}
 use Rattle.idl_event.specs.Expanding.{Expanding}
 use Rattle.idl_macro.specs.Macros.{Definitions, macro_of}
-use Rattle.idl_lex.specs.Tokens.{Token}
-use Rattle.idl_lex.specs.Word.{is_word}
-use Rattle.idl_lex.specs.declared.token.PlacedToken.{PlacedToken}
+use Rattle.idl_lex.specs.tokens.Tokens.{Token}
+use Rattle.idl_lex.specs.kinds.Word.{is_word}
+use Rattle.idl_lex.specs.declared.tokens.token.PlacedToken.{PlacedToken}
 use Rattle.idl_event.specs.Limits.{turns_at_most}
 use Rattle.idl_fault.specs.declared.file_name.FileName.{FileName}
-use Rattle.idl_event.specs.declared.event.Item.{Item}
-use Rattle.idl_event.specs.declared.event.Event.TheVariants.{Emitted}
-use Rattle.idl_event.specs.declared.event.Item.TheVariants.{Kept, Counted, Turn}
+use Rattle.idl_event.specs.declared.told.event.Item.{Item}
+use Rattle.idl_event.specs.declared.told.event.Event.TheVariants.{Emitted}
+use Rattle.idl_event.specs.declared.told.event.Item.TheVariants.{Kept, Counted, Turn}
 use Rattle.idl_fault.specs.declared.place.Place.{Place}
 
 -- two that give tokens, one after the other: the tokens of both, end to end

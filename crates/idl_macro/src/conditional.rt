@@ -7,9 +7,9 @@ ghost use Rattle.idl_condition.specs.Arithmetic.{is_zero};
 ghost use Rattle.idl_event.specs.Expanding.{arrival, arrived};
 ghost use Rattle.idl_event.specs.Items.{rules};
 ghost use Rattle.idl_fault.specs.declared.code.Code.TheVariants.{BadCondition};
-ghost use Rattle.idl_event.specs.declared.event.Event.TheVariants.{Fault};
-ghost use Rattle.idl_event.specs.declared.event.Item.TheVariants.{Kept};
-ghost use Rattle.idl_lex.specs.Tokens.{Token, tokens_in};
+ghost use Rattle.idl_event.specs.declared.told.event.Event.TheVariants.{Fault};
+ghost use Rattle.idl_event.specs.declared.told.event.Item.TheVariants.{Kept};
+ghost use Rattle.idl_lex.specs.tokens.Tokens.{Token, tokens_in};
 ghost use Rattle.idl_macro.specs.Condition.{condition, defined_at, defined_read, truth, value};
 
 use crate::definitions::Macros;

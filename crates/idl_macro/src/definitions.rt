@@ -6,7 +6,7 @@ ghost use Rattle.std.specs.Option.{option_copied, option_map};
 ghost use Rattle.std.specs.Str.{bytes_eq};
 ghost use Rattle.idl_map.specs.Table.{insert_entry};
 ghost use Rattle.idl_event.specs.Expanding.{arrival, arrived};
-ghost use Rattle.idl_lex.specs.Tokens.{tokens_in};
+ghost use Rattle.idl_lex.specs.tokens.Tokens.{tokens_in};
 ghost use Rattle.idl_macro.specs.Digest.{digest_of};
 ghost use Rattle.idl_macro.specs.Macros.{body_in, macro_of};
 
@@ -36,7 +36,7 @@ impl Model for Definitions {
     ghost use Rattle.std.specs.Map.{lookup};
     ghost use Rattle.std.specs.Str.{bytes_eq};
     ghost use Rattle.idl_map.specs.Marks.{AreMarked};
-    ghost use Rattle.idl_lex.specs.Tokens.{Token};
+    ghost use Rattle.idl_lex.specs.tokens.Tokens.{Token};
     ghost use Rattle.idl_macro.specs.Digest.{digest_of};
 
     ghost Value = { List (List ℕ × Option (List Token)) };

@@ -6,9 +6,9 @@ ghost use Rattle.idl_memo.specs.Progress.{after_item};
 ghost use Rattle.idl_event.specs.Expanding.{arrival, arrived};
 ghost use Rattle.idl_event.specs.Items.{rules};
 ghost use Rattle.idl_fault.specs.declared.code.Code.TheVariants.{MalformedMacro, OtherDefinition};
-ghost use Rattle.idl_event.specs.declared.event.Event.TheVariants.{Fault};
-ghost use Rattle.idl_event.specs.declared.event.Item.TheVariants.{Kept};
-ghost use Rattle.idl_lex.specs.Tokens.{tokens_in};
+ghost use Rattle.idl_event.specs.declared.told.event.Event.TheVariants.{Fault};
+ghost use Rattle.idl_event.specs.declared.told.event.Item.TheVariants.{Kept};
+ghost use Rattle.idl_lex.specs.tokens.Tokens.{tokens_in};
 ghost use Rattle.idl_macro.specs.Directives.{define, undef, ifdef, ifndef, is_macro_there, definition_in, differs, first_word, same_tokens, opens_parameters};
 
 use crate::definitions::{Definitions, Macros};

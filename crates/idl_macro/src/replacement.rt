@@ -11,7 +11,7 @@ ghost use Rattle.idl_memo.specs.Progress.{after_item};
 ghost use Rattle.idl_memo.specs.Query.{outcome};
 ghost use Rattle.idl_event.specs.Expanding.{Reached, after_text, arrival, arrived, reached};
 ghost use Rattle.idl_event.specs.Items.{rules, tokens_left, turns_left};
-ghost use Rattle.idl_lex.specs.Tokens.{Token};
+ghost use Rattle.idl_lex.specs.tokens.Tokens.{Token};
 ghost use Rattle.idl_macro.specs.Output.{given, given_more, item_of};
 ghost use Rattle.idl_macro.specs.declared.replacement.Output.TheVariants.{Text};
 ghost use Rattle.idl_macro.specs.Replace.{operand, replaced, replaced_at, replacement, text};

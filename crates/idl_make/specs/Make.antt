@@ -3,7 +3,7 @@ use Rattle.std.specs.Prelude.{ℕ, ◌-◌, Bool, true, false, ◌&&◌, ◌||�
 use Rattle.std.specs.Char.{is_ascii_alphanumeric, is_ascii_uppercase}
 use Rattle.std.specs.List.{flat_map, list_all, list_any, slice_split}
 use Rattle.std.specs.Str.{bytes_eq}
-use Rattle.idl_source.specs.Cut.{cut_lines}
+use Rattle.idl_source.specs.texts.Cut.{cut_lines}
 
 -- a file that a target stands on: it has to be there, or it counts if it is there
 pub data Need : Type 0 where

@@ -6,27 +6,22 @@
 
 mod asked;
 mod bank;
-mod edited;
-mod fresh;
 mod journal;
-mod kept;
-mod kept_table;
+mod keeping;
 mod log;
 mod meter;
-mod obtained;
-mod query;
+pub mod query;
 mod task;
 mod told;
 
 pub use asked::Asked;
 pub use bank::Bank;
-pub use edited::Edited;
-pub use fresh::freshness;
 pub use journal::Journal;
-pub use kept::{Kept, keep};
-pub use kept_table::{KeptTable, reuse};
+pub use keeping::edited::Edited;
+pub use keeping::fresh::freshness;
+pub use keeping::kept::{Kept, keep};
+pub use keeping::kept_table::{KeptTable, reuse};
+pub use keeping::obtained::{obtain, run_anew};
 pub use log::Log;
 pub use meter::Meter;
-pub use obtained::{obtain, run_anew};
-pub use query::{agreement, gathering, limiting, logging, progress, sequence, tracing};
 pub use task::{Task, TaskKind, reliance};

@@ -7,17 +7,17 @@ use Rattle.idl_memo.specs.Query.{Done, and_then, asked, outcome}
 use Rattle.idl_memo.proofs.QueryLaws.{outcome-and_then}
 use Rattle.idl_event.specs.Expanding.{Expanding}
 use Rattle.idl_fault.specs.declared.file_name.FileName.{FileName}
-use Rattle.idl_event.specs.declared.key.Answer.{Answer}
-use Rattle.idl_event.specs.declared.key.Answer.TheVariants as answer
-use Rattle.idl_event.specs.declared.key.Key.{Key}
-use Rattle.idl_event.specs.declared.key.Key.TheVariants as key
+use Rattle.idl_event.specs.declared.asked.key.Answer.{Answer}
+use Rattle.idl_event.specs.declared.asked.key.Answer.TheVariants as answer
+use Rattle.idl_event.specs.declared.asked.key.Key.{Key}
+use Rattle.idl_event.specs.declared.asked.key.Key.TheVariants as key
 use Rattle.idl_prep.specs.Candidate.{AnswersFrom, IsFirstPresent, files_asked, up_to_present}
 use Rattle.idl_prep.specs.Include.{Found, Operand, directories_in, file_in, file_of, first_present, or_along, present_along}
 use Rattle.idl_prep.proofs.IncludeLemmas.{cons_option-append, first_present-more, one, or_first, outcome-present_along}
-use Rattle.idl_source.specs.Candidates.{along, candidates, found}
-use Rattle.idl_source.specs.Directory.{directory_of}
-use Rattle.idl_source.specs.Path.{is_rooted, joined_path}
-use Rattle.idl_source.specs.Texts.{Texts}
+use Rattle.idl_source.specs.names.Candidates.{along, candidates, found}
+use Rattle.idl_source.specs.names.Directory.{directory_of}
+use Rattle.idl_source.specs.names.Path.{is_rooted, joined_path}
+use Rattle.idl_source.specs.texts.Texts.{Texts}
 
 -- over any bank: the first candidate along the search list that it answers with
 module _ (bank : Key → Option Answer) (from : FileName) (name : List ℕ) where

@@ -6,21 +6,21 @@ use Rattle.indexmap.specs.IndexSet.{insert_key}
 use Rattle.idl_memo.specs.Query.{Done, Tell}
 use Rattle.idl_event.specs.Expanding.{Expanding, Reached, arrival, arrived}
 use Rattle.idl_fault.specs.declared.file_name.FileName.{FileName}
-use Rattle.idl_event.specs.declared.event.Event.TheVariants.{Pragma}
-use Rattle.idl_event.specs.declared.event.Item.TheVariants as item
-use Rattle.idl_event.specs.declared.key.Answer.{Answer}
-use Rattle.idl_event.specs.declared.key.Key.{Key}
-use Rattle.idl_lex.specs.Tokens.{tokens_in}
+use Rattle.idl_event.specs.declared.told.event.Event.TheVariants.{Pragma}
+use Rattle.idl_event.specs.declared.told.event.Item.TheVariants as item
+use Rattle.idl_event.specs.declared.asked.key.Answer.{Answer}
+use Rattle.idl_event.specs.declared.asked.key.Key.{Key}
+use Rattle.idl_lex.specs.tokens.Tokens.{tokens_in}
 use Rattle.idl_macro.specs.Replace.{place_at}
 use Rattle.idl_text.specs.Line.{Directive, Directed}
-use Rattle.idl_text.specs.declared.kind.DirectiveKind.{DirectiveKind}
-use Rattle.idl_text.specs.declared.kind.DirectiveKind.TheVariants.{Alone}
-use Rattle.idl_text.specs.declared.kind.Plain.{Plain}
+use Rattle.idl_text.specs.declared.groups.kind.DirectiveKind.{DirectiveKind}
+use Rattle.idl_text.specs.declared.groups.kind.DirectiveKind.TheVariants.{Alone}
+use Rattle.idl_text.specs.declared.groups.kind.Plain.{Plain}
 use Rattle.idl_prep.specs.Directive.{Enter, effect, entering, first_spelling, include, including, is_of_idl, plain_effect, plain_or, pragma, pragma_by}
 use Rattle.idl_prep.specs.Include.{Found, Operand, file_of, operand_of}
 use Rattle.idl_prep.specs.Place.{place_in}
 use Rattle.idl_prep.specs.State.{Said, Way, ended, onward, telling}
-use Rattle.idl_prep.proofs.WayLemmas.{arrival-then}
+use Rattle.idl_prep.proofs.WalkLaws.WayLemmas.{arrival-then}
 
 module _ (bank : Key → Option Answer) (enter : Enter) (file : FileName) (d : Directive) where
   -- a directive of one line: a turn, and what it does

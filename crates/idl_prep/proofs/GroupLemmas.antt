@@ -3,7 +3,7 @@ use Rattle.std.proofs.Common.{◌≡◌, true, List, [], ◌∷◌, None, Some, 
 use Rattle.std.specs.Prelude.{slice_get}
 use Rattle.std.proofs.lemmas.Option.{same_Some}
 use Rattle.idl_prep.specs.Pass.{innermost, is_walked}
-use Rattle.idl_prep.specs.declared.groups.Group.{Group}
+use Rattle.idl_prep.specs.declared.walk.groups.Group.{Group}
 
 pub innermost-first : (gs : List Group) → slice_get gs 0 ≡ innermost gs
 innermost-first [] = refl

@@ -6,22 +6,22 @@ use Rattle.std.specs.Option.{option_map, option_to_list}
 use Rattle.idl_memo.specs.Progress.{after_key}
 use Rattle.idl_memo.specs.Query.{Ask, Done, Tell, and_then, outcome}
 use Rattle.idl_macro.specs.Replace.{operand}
-use Rattle.idl_lex.specs.Tokens.{Token}
+use Rattle.idl_lex.specs.tokens.Tokens.{Token}
 use Rattle.idl_event.specs.Key.{key_eq}
 use Rattle.idl_event.specs.Expanding.{Expanding, Reached, arrival, arrived}
 use Rattle.idl_macro.specs.Macros.{Definitions, macro_of}
-use Rattle.idl_lex.specs.Word.{is_word}
+use Rattle.idl_lex.specs.kinds.Word.{is_word}
 use Rattle.idl_fault.specs.declared.file_name.FileName.{FileName}
-use Rattle.idl_event.specs.declared.event.Item.TheVariants.{Counted}
+use Rattle.idl_event.specs.declared.told.event.Item.TheVariants.{Counted}
 use Rattle.idl_fault.specs.declared.place.Place.{Place}
-use Rattle.idl_event.specs.declared.key.Answer.{Answer}
-use Rattle.idl_event.specs.declared.key.Key.{Key}
-use Rattle.idl_event.specs.declared.key.Key.TheVariants as key
+use Rattle.idl_event.specs.declared.asked.key.Answer.{Answer}
+use Rattle.idl_event.specs.declared.asked.key.Key.{Key}
+use Rattle.idl_event.specs.declared.asked.key.Key.TheVariants as key
 use Rattle.idl_prep.specs.Include.{Found, Operand, directories_in, file_in, file_of, first_present, operand_at, operand_by, operand_given, operand_in, or_along, present_along}
-use Rattle.idl_source.specs.Directory.{directory_of}
-use Rattle.idl_prep.proofs.WayLemmas.{arrival-then}
-use Rattle.idl_source.specs.Candidates.{along}
-use Rattle.idl_source.specs.Path.{is_rooted, joined_path}
+use Rattle.idl_source.specs.names.Directory.{directory_of}
+use Rattle.idl_prep.proofs.WalkLaws.WayLemmas.{arrival-then}
+use Rattle.idl_source.specs.names.Candidates.{along}
+use Rattle.idl_source.specs.names.Path.{is_rooted, joined_path}
 
 -- a file of these lines, if there are any
 abbrev pub found_as : List ℕ → Option (List (List ℕ)) → Option Found

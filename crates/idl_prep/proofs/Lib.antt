@@ -1,14 +1,5 @@
 pub mod CandidateLemmas
 pub mod DirectiveLemmas
-pub mod ExploreLemmas
-pub mod FileLemmas
 pub mod GroupLemmas
 pub mod IncludeLemmas
-pub mod JumpLemmas
-pub mod PassLemmas
-pub mod RootLemmas
-pub mod RootTaskLemmas
-pub mod StepLemmas
-pub mod TextLemmas
-pub mod WalkLemmas
-pub mod WayLemmas
+pub mod WalkLaws

@@ -2,13 +2,13 @@
 use Rattle.std.specs.Prelude.{◌≡◌, ℕ, List, [], ◌∷◌, Option, Some, is_some, if◌then◌else◌}
 use Rattle.std.specs.FinMap as map
 use Rattle.std.specs.Option.{option_map}
-use Rattle.idl_event.specs.declared.key.Answer.{Answer}
-use Rattle.idl_event.specs.declared.key.Answer.TheVariants as answer
-use Rattle.idl_event.specs.declared.key.Key.{Key}
-use Rattle.idl_event.specs.declared.key.Key.TheVariants as key
+use Rattle.idl_event.specs.declared.asked.key.Answer.{Answer}
+use Rattle.idl_event.specs.declared.asked.key.Answer.TheVariants as answer
+use Rattle.idl_event.specs.declared.asked.key.Key.{Key}
+use Rattle.idl_event.specs.declared.asked.key.Key.TheVariants as key
 use Rattle.idl_prep.specs.Include.{Found}
-use Rattle.idl_source.specs.Candidates.{found}
-use Rattle.idl_source.specs.Texts.{Texts}
+use Rattle.idl_source.specs.names.Candidates.{found}
+use Rattle.idl_source.specs.texts.Texts.{Texts}
 
 -- the bank answers with these files and this search list
 pub record AnswersFrom (files : Texts) (directories : List (List ℕ)) (bank : Key → Option Answer)

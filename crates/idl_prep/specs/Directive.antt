@@ -4,25 +4,25 @@ use Rattle.std.specs.List.{list_any}
 use Rattle.std.specs.Str.{bytes_eq}
 use Rattle.indexmap.specs.IndexSet.{insert_key}
 use Rattle.idl_memo.specs.Query.{Done, Tell, and_then}
-use Rattle.idl_lex.specs.declared.token.PlacedToken.{PlacedToken}
+use Rattle.idl_lex.specs.declared.tokens.token.PlacedToken.{PlacedToken}
 use Rattle.idl_macro.specs.Condition.{condition}
 use Rattle.idl_macro.specs.Directives.{define, undef, ifdef, ifndef}
 use Rattle.idl_event.specs.Expanding.{Expanding}
 use Rattle.idl_macro.specs.Macros.{Definitions}
-use Rattle.idl_lex.specs.Tokens.{Token, tokens_in}
+use Rattle.idl_lex.specs.tokens.Tokens.{Token, tokens_in}
 use Rattle.idl_macro.specs.Replace.{place_at, text}
 use Rattle.idl_fault.specs.declared.file_name.FileName.{FileName}
 use Rattle.idl_fault.specs.declared.code.Code.TheVariants as code
-use Rattle.idl_event.specs.declared.event.Event.TheVariants.{Fault, Pragma}
-use Rattle.idl_event.specs.declared.event.Item.TheVariants.{Kept, Turn}
+use Rattle.idl_event.specs.declared.told.event.Event.TheVariants.{Fault, Pragma}
+use Rattle.idl_event.specs.declared.told.event.Item.TheVariants.{Kept, Turn}
 use Rattle.idl_fault.specs.declared.place.Place.{Place}
 use Rattle.idl_text.specs.Line.{Directive, Line, Text, NullDirective, Directed}
-use Rattle.idl_text.specs.declared.kind.DirectiveKind.{DirectiveKind}
-use Rattle.idl_text.specs.declared.kind.DirectiveKind.TheVariants.{Alone}
-use Rattle.idl_text.specs.declared.kind.Plain.{Plain}
-use Rattle.idl_text.specs.declared.kind.Plain.TheVariants as plain
-use Rattle.idl_text.specs.declared.kind.Test.{Test}
-use Rattle.idl_text.specs.declared.kind.Test.TheVariants.{If, Ifdef, Ifndef}
+use Rattle.idl_text.specs.declared.groups.kind.DirectiveKind.{DirectiveKind}
+use Rattle.idl_text.specs.declared.groups.kind.DirectiveKind.TheVariants.{Alone}
+use Rattle.idl_text.specs.declared.groups.kind.Plain.{Plain}
+use Rattle.idl_text.specs.declared.groups.kind.Plain.TheVariants as plain
+use Rattle.idl_text.specs.declared.groups.kind.Test.{Test}
+use Rattle.idl_text.specs.declared.groups.kind.Test.TheVariants.{If, Ifdef, Ifndef}
 use Rattle.idl_prep.specs.Include.{Found, Operand, file_of, operand_of}
 use Rattle.idl_prep.specs.Place.{place_in}
 use Rattle.idl_prep.specs.State.{Said}

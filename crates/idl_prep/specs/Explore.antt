@@ -1,10 +1,10 @@
 -- Where the exploration of a file stops.
 use Rattle.std.specs.Prelude.{◌≡◌, ◌<◌, All, Option, None, length}
-use Rattle.idl_event.specs.declared.key.Answer.{Answer}
-use Rattle.idl_event.specs.declared.key.Key.{Key}
-use Rattle.idl_event.specs.declared.key.Key.TheVariants as key
-use Rattle.idl_prep.specs.declared.explorer.Next.{Next}
-use Rattle.idl_prep.specs.declared.explorer.Next.TheVariants.{Absent, Entered, End}
+use Rattle.idl_event.specs.declared.asked.key.Answer.{Answer}
+use Rattle.idl_event.specs.declared.asked.key.Key.{Key}
+use Rattle.idl_event.specs.declared.asked.key.Key.TheVariants as key
+use Rattle.idl_prep.specs.declared.walk.explorer.Next.{Next}
+use Rattle.idl_prep.specs.declared.walk.explorer.Next.TheVariants.{Absent, Entered, End}
 
 -- the names at which it stops are of files that aren't there, and there is one
 abbrev pub StopsAt : (Key → Option Answer) → Next → Type 0

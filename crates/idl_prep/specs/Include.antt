@@ -2,26 +2,26 @@
 use Rattle.std.specs.Prelude.{ℕ, ◌-◌, Bool, true, false, ◌&&◌, ◌||◌, List, [], ◌∷◌, length, slice_get, slice_range, Option, None, Some, is_some, if◌then◌else◌, nat_eq}
 use Rattle.std.specs.Option.{option_to_list}
 use Rattle.idl_memo.specs.Query.{Done, Ask, Tell, and_then}
-use Rattle.idl_lex.specs.Kind.{kind_of}
-use Rattle.idl_lex.specs.Tokens.{Token}
-use Rattle.idl_lex.specs.declared.kind.Kind.{Kind}
-use Rattle.idl_lex.specs.declared.kind.Kind.TheVariants.{HeaderName, String, Bad}
-use Rattle.idl_lex.specs.declared.kind.Defect.{Defect}
-use Rattle.idl_lex.specs.declared.kind.Defect.TheVariants.{BadEscape}
-use Rattle.idl_lex.specs.declared.token.PlacedToken.{PlacedToken}
+use Rattle.idl_lex.specs.kinds.Kind.{kind_of}
+use Rattle.idl_lex.specs.tokens.Tokens.{Token}
+use Rattle.idl_lex.specs.declared.kinds.kind.Kind.{Kind}
+use Rattle.idl_lex.specs.declared.kinds.kind.Kind.TheVariants.{HeaderName, String, Bad}
+use Rattle.idl_lex.specs.declared.kinds.kind.Defect.{Defect}
+use Rattle.idl_lex.specs.declared.kinds.kind.Defect.TheVariants.{BadEscape}
+use Rattle.idl_lex.specs.declared.tokens.token.PlacedToken.{PlacedToken}
 use Rattle.idl_event.specs.Expanding.{Expanding}
 use Rattle.idl_macro.specs.Macros.{Definitions, macro_of}
 use Rattle.idl_macro.specs.Replace.{operand}
-use Rattle.idl_lex.specs.Word.{is_word}
+use Rattle.idl_lex.specs.kinds.Word.{is_word}
 use Rattle.idl_fault.specs.declared.file_name.FileName.{FileName}
-use Rattle.idl_event.specs.declared.event.Item.TheVariants.{Counted}
-use Rattle.idl_event.specs.declared.key.Answer.{Answer}
-use Rattle.idl_event.specs.declared.key.Answer.TheVariants as answer
-use Rattle.idl_event.specs.declared.key.Key.TheVariants as key
+use Rattle.idl_event.specs.declared.told.event.Item.TheVariants.{Counted}
+use Rattle.idl_event.specs.declared.asked.key.Answer.{Answer}
+use Rattle.idl_event.specs.declared.asked.key.Answer.TheVariants as answer
+use Rattle.idl_event.specs.declared.asked.key.Key.TheVariants as key
 use Rattle.idl_fault.specs.declared.place.Place.{Place}
-use Rattle.idl_source.specs.Candidates.{along}
-use Rattle.idl_source.specs.Directory.{directory_of}
-use Rattle.idl_source.specs.Path.{is_rooted, joined_path}
+use Rattle.idl_source.specs.names.Candidates.{along}
+use Rattle.idl_source.specs.names.Directory.{directory_of}
+use Rattle.idl_source.specs.names.Path.{is_rooted, joined_path}
 
 -- the lines of a file that is answered
 abbrev pub file_in : Option Answer → Option (List (List ℕ))

@@ -3,16 +3,16 @@ use Rattle.std.specs.Prelude.{Bool, true, false, List, [], ◌∷◌, if◌then�
 use Rattle.idl_memo.specs.Query.{Done, and_then}
 use Rattle.idl_event.specs.Expanding.{Expanding, Reached}
 use Rattle.idl_fault.specs.declared.file_name.FileName.{FileName}
-use Rattle.idl_event.specs.declared.key.Answer.{Answer}
-use Rattle.idl_event.specs.declared.key.Key.{Key}
+use Rattle.idl_event.specs.declared.asked.key.Answer.{Answer}
+use Rattle.idl_event.specs.declared.asked.key.Key.{Key}
 use Rattle.idl_text.specs.Line.{Line}
 use Rattle.idl_text.specs.Tree.{Tree, Forest, Branches, Part, close, part, strays}
 use Rattle.idl_prep.specs.Directive.{Enter}
 use Rattle.idl_prep.specs.State.{Said, Way, onward}
 use Rattle.idl_prep.specs.Walk.{skip, skip_branches, skip_tree, walk, walk_branches, walk_tree}
-use Rattle.idl_prep.specs.declared.groups.Group.{Group}
-use Rattle.idl_prep.specs.declared.groups.Opener.{Opener}
-use Rattle.idl_prep.specs.declared.inclusion.Inclusion.{Inclusion}
+use Rattle.idl_prep.specs.declared.walk.groups.Group.{Group}
+use Rattle.idl_prep.specs.declared.walk.groups.Opener.{Opener}
+use Rattle.idl_prep.specs.declared.directives.inclusion.Inclusion.{Inclusion}
 
 -- trees are walked, or skipped
 abbrev pub visit : Enter → FileName → Bool → Forest → Said → Expanding Said

@@ -7,12 +7,12 @@ use Rattle.idl_event.specs.Key.{key_eq}
 use Rattle.idl_event.specs.Expanding.{Expanding}
 use Rattle.idl_fault.specs.declared.file_name.FileName.{FileName}
 use Rattle.idl_fault.specs.declared.code.Code.TheVariants.{NotFound}
-use Rattle.idl_event.specs.declared.event.Event.{Event}
-use Rattle.idl_event.specs.declared.event.Event.TheVariants.{Entered, Left, Fault}
-use Rattle.idl_event.specs.declared.event.Item.TheVariants.{TooDeep, Kept}
-use Rattle.idl_event.specs.declared.key.Answer.{Answer}
-use Rattle.idl_event.specs.declared.key.Key.{Key}
-use Rattle.idl_event.specs.declared.key.Key.TheVariants as key
+use Rattle.idl_event.specs.declared.told.event.Event.{Event}
+use Rattle.idl_event.specs.declared.told.event.Event.TheVariants.{Entered, Left, Fault}
+use Rattle.idl_event.specs.declared.told.event.Item.TheVariants.{TooDeep, Kept}
+use Rattle.idl_event.specs.declared.asked.key.Answer.{Answer}
+use Rattle.idl_event.specs.declared.asked.key.Key.{Key}
+use Rattle.idl_event.specs.declared.asked.key.Key.TheVariants as key
 use Rattle.idl_text.specs.Line.{lines_in}
 use Rattle.idl_text.specs.Tree.{tree}
 use Rattle.idl_prep.specs.Directive.{Enter}

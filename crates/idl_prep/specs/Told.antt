@@ -4,13 +4,13 @@ use Rattle.idl_memo.specs.Query.{Done, Tell}
 use Rattle.idl_event.specs.Expanding.{Expanding}
 use Rattle.idl_fault.specs.declared.code.Code.{Code}
 use Rattle.idl_fault.specs.declared.code.Code.TheVariants as code
-use Rattle.idl_event.specs.declared.event.Event.TheVariants.{Fault}
-use Rattle.idl_event.specs.declared.event.Item.{Item}
-use Rattle.idl_event.specs.declared.event.Item.TheVariants.{Kept}
+use Rattle.idl_event.specs.declared.told.event.Event.TheVariants.{Fault}
+use Rattle.idl_event.specs.declared.told.event.Item.{Item}
+use Rattle.idl_event.specs.declared.told.event.Item.TheVariants.{Kept}
 use Rattle.idl_fault.specs.declared.file_name.FileName.{FileName}
-use Rattle.idl_text.specs.declared.fault.GroupFault.{GroupFault}
-use Rattle.idl_text.specs.declared.fault.Misplaced.{Misplaced}
-use Rattle.idl_text.specs.declared.fault.Misplaced.TheVariants.{OutOfPlace, NotClosed}
+use Rattle.idl_text.specs.declared.groups.fault.GroupFault.{GroupFault}
+use Rattle.idl_text.specs.declared.groups.fault.Misplaced.{Misplaced}
+use Rattle.idl_text.specs.declared.groups.fault.Misplaced.TheVariants.{OutOfPlace, NotClosed}
 use Rattle.idl_prep.specs.State.{Said}
 
 abbrev pub code_of : Misplaced → Code

@@ -4,16 +4,16 @@ use Rattle.idl_memo.specs.Query.{Done, Tell, and_then}
 use Rattle.idl_event.specs.Expanding.{Expanding}
 use Rattle.idl_fault.specs.declared.file_name.FileName.{FileName}
 use Rattle.idl_fault.specs.declared.code.Code.TheVariants.{OutOfPlace, NotClosed}
-use Rattle.idl_event.specs.declared.event.Item.{Item}
-use Rattle.idl_event.specs.declared.event.Event.TheVariants.{Fault}
-use Rattle.idl_event.specs.declared.event.Item.TheVariants.{Turn, Kept}
+use Rattle.idl_event.specs.declared.told.event.Item.{Item}
+use Rattle.idl_event.specs.declared.told.event.Event.TheVariants.{Fault}
+use Rattle.idl_event.specs.declared.told.event.Item.TheVariants.{Turn, Kept}
 use Rattle.idl_text.specs.Line.{Directive}
 use Rattle.idl_text.specs.Tree.{Tree, Leaf, Stray, Group, Forest, Empty, Grow, Branches, Closed, Unclosed, Branch, is_else}
-use Rattle.idl_text.specs.declared.kind.Test.TheVariants.{If}
+use Rattle.idl_text.specs.declared.groups.kind.Test.TheVariants.{If}
 use Rattle.idl_prep.specs.Directive.{Enter, effect, test}
 use Rattle.idl_prep.specs.Place.{place_in}
 use Rattle.idl_prep.specs.State.{Said}
-use Rattle.idl_prep.specs.declared.groups.Opener.{Opener}
+use Rattle.idl_prep.specs.declared.walk.groups.Opener.{Opener}
 
 -- the directive that opens a group
 abbrev pub opener_of : Directive → Opener

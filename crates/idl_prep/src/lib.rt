@@ -4,30 +4,12 @@
 //! pragmas and faults. Nothing here knows IDL.
 #![tactic(auto)]
 
-mod branch;
-mod candidate;
-mod explorer;
-mod file;
-mod find;
-mod groups;
-mod include;
-mod inclusion;
-mod jump;
-mod line;
-mod operand;
-mod pass;
-mod perform;
-mod pragma;
-mod replaced_operand;
-mod root;
-mod root_task;
-mod site;
-mod stray;
-mod text;
+mod directives;
+mod walk;
 
-pub use candidate::first_candidate;
-pub use explorer::{Explorer, FileWalk, Next, OpenFile};
-pub use root_task::{RootTask, absent};
+pub use directives::candidate::first_candidate;
+pub use walk::explorer::{Explorer, FileWalk, Next, OpenFile};
+pub use walk::root_task::{RootTask, absent};
 
 /// Files that may be open inside one another, the root's among them.
 pub const MAX_DEPTH: usize = 64;

@@ -10,9 +10,9 @@ use Rattle.std.specs.FinMap.{get-empty, get-insert}
 use Rattle.std.specs.List.{flat_map}
 use Rattle.std.specs.Ordering.{eq_by_cmp, nat_cmp}
 use Rattle.clap.proofs.WalkLemmas.{list_any-map}
-use Rattle.idl_session.specs.Replies.{whole_line}
-use Rattle.idl_source.specs.Device.{append}
-use Rattle.idl_source.specs.Texts.{Texts}
+use Rattle.idl_session.specs.replies.Replies.{whole_line}
+use Rattle.idl_source.specs.devices.Device.{append}
+use Rattle.idl_source.specs.texts.Texts.{Texts}
 use Rattle.idl_workspace.specs.Compile.{compiled_root}
 use Rattle.idl_workspace.specs.Project.{Inputs}
 use Rattle.idl_workspace.specs.declared.compile.CompiledRoot.{CompiledRoot}

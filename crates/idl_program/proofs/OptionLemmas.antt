@@ -6,7 +6,7 @@ use Rattle.std.specs.Cmp.Lexicographic.{bytes_decides}
 use Rattle.std.specs.List.{list_any}
 use Rattle.std.specs.Option.{option_and_then}
 use Rattle.std.specs.Str.{bytes_eq}
-use Rattle.idl_source.specs.Path.{directory_path, joined_path}
+use Rattle.idl_source.specs.names.Path.{directory_path, joined_path}
 use Rattle.idl_workspace.specs.Project.{Macros}
 use Rattle.idl_program.specs.Options.{defined_by, named_by, searched_by, undefined_by, with_name}
 

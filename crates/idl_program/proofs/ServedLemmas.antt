@@ -1,7 +1,7 @@
 -- Commands that were answered.
 use Rattle.std.proofs.Common.{◌≡◌, ℕ, List, Option, None, Some, IfSome, subst}
 use Rattle.idl_session.specs.Answers.{IsReply}
-use Rattle.idl_source.specs.Device.{append}
+use Rattle.idl_source.specs.devices.Device.{append}
 use Rattle.idl_workspace.specs.UpToDate.{State}
 
 -- the commands are answered from another session, that is the same

@@ -2,8 +2,8 @@
 -- they have errors.
 use Rattle.std.specs.Prelude.{◌≡◌, ◌++◌, ℕ, Bool, List, [], Option, if◌then◌else◌}
 use Rattle.std.specs.List.{flat_map, list_any}
-use Rattle.idl_session.specs.Replies.{whole_line}
-use Rattle.idl_source.specs.Device.{append}
+use Rattle.idl_session.specs.replies.Replies.{whole_line}
+use Rattle.idl_source.specs.devices.Device.{append}
 use Rattle.idl_workspace.specs.Compile.{compiled_root}
 use Rattle.idl_workspace.specs.Made.{rootless}
 use Rattle.idl_workspace.specs.Project.{Inputs}

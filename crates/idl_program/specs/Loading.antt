@@ -1,8 +1,8 @@
 -- The files of a project, beside those of a loader.
 use Rattle.std.specs.Prelude.{◌≡◌, ℕ, List, All, Some, map}
 use Rattle.std.specs.FinMap as finite
-use Rattle.idl_source.specs.Cut.{cut_lines}
-use Rattle.idl_source.specs.Texts.{Texts}
+use Rattle.idl_source.specs.texts.Cut.{cut_lines}
+use Rattle.idl_source.specs.texts.Texts.{Texts}
 use Rattle.idl_workspace.specs.Compile.{compiled_root}
 use Rattle.idl_workspace.specs.Made.{rootless}
 use Rattle.idl_workspace.specs.Project.{Inputs}

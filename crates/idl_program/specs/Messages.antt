@@ -1,6 +1,6 @@
 -- What the program tells of a failure, and of how it ends.
 use Rattle.std.specs.Prelude.{ℕ, List, ◌++◌, codes, decimal}
-use Rattle.idl_session.specs.Replies.{whole_line}
+use Rattle.idl_session.specs.replies.Replies.{whole_line}
 use Rattle.idl_source.specs.Refusal.{number_of}
 use Rattle.idl_source.specs.declared.refusal.Refusal.{Refusal}
 use Rattle.idl_program.specs.declared.failure.Failure.{Failure}

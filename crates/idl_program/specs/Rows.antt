@@ -1,8 +1,8 @@
 -- What goes out of compiled roots.
 use Rattle.std.specs.Prelude.{◌≡◌, ◌++◌, ℕ, Bool, List, [], if◌then◌else◌}
 use Rattle.std.specs.List.{flat_map, list_any}
-use Rattle.idl_session.specs.Replies.{whole_line}
-use Rattle.idl_source.specs.Device.{append}
+use Rattle.idl_session.specs.replies.Replies.{whole_line}
+use Rattle.idl_source.specs.devices.Device.{append}
 use Rattle.idl_workspace.specs.declared.compile.CompiledRoot.{CompiledRoot}
 use Rattle.idl_program.specs.Compiled.{Written}
 use Rattle.idl_program.specs.declared.failure.Status.{Status}

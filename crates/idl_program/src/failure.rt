@@ -1,7 +1,7 @@
 //! How the program ends.
 
 ghost use Rattle.std.specs.Prelude.{◌≡◌, ◌<◌, ◌-◌, ◌^◌, OnOk};
-ghost use Rattle.idl_source.specs.Device.{append};
+ghost use Rattle.idl_source.specs.devices.Device.{append};
 ghost use Rattle.idl_program.specs.Messages.{exit_code, message_of, refused_message};
 
 use crate::request::WordsFault;

@@ -2,7 +2,7 @@
 
 ghost use Rattle.std.specs.Prelude.{◌≡◌, ◌++◌, ◌∷◌, [], All, Contains, IfNone, IfOk, OnOk, map};
 ghost use Rattle.std.specs.FinMap as finite;
-ghost use Rattle.idl_source.specs.Cut.{cut_lines};
+ghost use Rattle.idl_source.specs.texts.Cut.{cut_lines};
 ghost use Rattle.idl_workspace.specs.Compile.{compiled_root};
 ghost use Rattle.idl_program.specs.Loading.{AreCompiled};
 ghost use Rattle.idl_program.specs.Tried.{AreMissing, IsLoading};

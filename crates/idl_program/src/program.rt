@@ -2,8 +2,8 @@
 
 ghost use Rattle.std.specs.Prelude.{◌≡◌, ◌≢◌, ◌≤◌, ◌<◌, ◌+◌, ◌-◌, ◌^◌, IfOk, OnOk, map};
 ghost use Rattle.std.specs.List.{flat_map};
-ghost use Rattle.idl_session.specs.Replies.{whole_line};
-ghost use Rattle.idl_source.specs.Device.{append};
+ghost use Rattle.idl_session.specs.replies.Replies.{whole_line};
+ghost use Rattle.idl_source.specs.devices.Device.{append};
 ghost use Rattle.idl_program.specs.Compiled.{IsCompiled};
 ghost use Rattle.idl_program.specs.Rows.{AreShown, output_of};
 ghost use Rattle.idl_program.specs.Served.{IsDone};

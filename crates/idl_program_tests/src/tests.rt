@@ -2,7 +2,6 @@
 
 mod editor;
 mod examples;
-mod explains;
 mod failures;
 mod listings;
 mod loads;
@@ -10,6 +9,6 @@ mod options;
 mod orb;
 mod replies;
 mod room;
-mod rules;
 mod scripts;
 mod support;
+mod tool;

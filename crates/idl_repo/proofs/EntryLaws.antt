@@ -14,11 +14,11 @@ use Rattle.idl_repo.specs.Row.{row_pieces}
 use Rattle.idl_repo.specs.declared.entry.Entry.{Entry}
 use Rattle.idl_repo.specs.declared.entry.Pushed.{Pushed}
 use Rattle.idl_env.specs.Facts.{entity_in, entity_key}
-use Rattle.idl_env.specs.Key.{key_eq}
-use Rattle.idl_env.specs.declared.answer.Answer.{Answer}
+use Rattle.idl_env.specs.keys.Key.{key_eq}
+use Rattle.idl_env.specs.declared.answering.answer.Answer.{Answer}
 use Rattle.idl_entity.specs.declared.entity.Entity.{Entity as ScopeEntity}
-use Rattle.idl_env.specs.declared.key.Key.{Key}
-use Rattle.idl_env.specs.declared.key.Key.TheVariants as key
+use Rattle.idl_env.specs.declared.keys.key.Key.{Key}
+use Rattle.idl_env.specs.declared.keys.key.Key.TheVariants as key
 
 -- of what is declared so
 pub declared-outcome : (e : ScopeEntity) (bank : Key → Option Answer) → outcome (declared_entry e) bank ≡ told_entry e (text_over bank (row_pieces e))

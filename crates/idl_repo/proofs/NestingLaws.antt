@@ -6,12 +6,12 @@ use Rattle.idl_repo.proofs.WriteLemmas.{text_over-append}
 use Rattle.idl_repo.specs.Pieces.{says, text_over}
 use Rattle.idl_repo.specs.TypeCode.{element_pieces, layer_end, layer_word, layers_begin, written_type}
 use Rattle.idl_entity.specs.DataType.{arrays_of, plain_type, with_arrays, with_layer}
-use Rattle.idl_env.specs.declared.answer.Answer.{Answer}
+use Rattle.idl_env.specs.declared.answering.answer.Answer.{Answer}
 use Rattle.idl_entity.specs.declared.data_type.DataType.{DataType}
 use Rattle.idl_entity.specs.declared.data_type.Element.{Element}
 use Rattle.idl_entity.specs.declared.data_type.Layer.{Layer}
 use Rattle.idl_entity.specs.declared.data_type.Layer.TheVariants.{Array}
-use Rattle.idl_env.specs.declared.key.Key.{Key}
+use Rattle.idl_env.specs.declared.keys.key.Key.{Key}
 
 -- layers with one more around them
 begin-more : (layers : List Layer) (l : Layer) → layers_begin (layers ++ l ∷ []) ≡ layer_word l ++ layers_begin layers

@@ -13,7 +13,7 @@ use Rattle.idl_entity.specs.declared.data_type.DataType.{DataType}
 use Rattle.idl_entity.specs.declared.data_type.Element.{Element}
 use Rattle.idl_entity.specs.declared.data_type.Element.TheVariants as element
 use Rattle.idl_entity.specs.declared.entity.Entity.{Entity}
-use Rattle.idl_env.specs.declared.key.Key.TheVariants as key
+use Rattle.idl_env.specs.declared.keys.key.Key.TheVariants as key
 use Rattle.idl_entity.specs.declared.kind.Kind.TheVariants as kind
 use Rattle.idl_entity.specs.declared.signature.Member.{Member}
 use Rattle.idl_value.specs.declared.value.Value.{Value}

@@ -8,12 +8,12 @@ use Rattle.idl_repo.specs.Row.{attribute_pieces, bases_pieces, behind_id, coded_
 use Rattle.idl_repo.specs.TypeCode.{code_head, code_kind, code_pieces, code_word, kind_in, rest_pieces}
 use Rattle.idl_repo.specs.declared.type_code.TypeCodeKind.{TypeCodeKind}
 use Rattle.idl_env.specs.Facts.{UnitFacts, answers, id_at}
-use Rattle.idl_env.specs.Key.{key_eq}
+use Rattle.idl_env.specs.keys.Key.{key_eq}
 use Rattle.idl_entity.specs.Kind.{kind_eq}
-use Rattle.idl_env.specs.declared.answer.Answer.{Answer}
+use Rattle.idl_env.specs.declared.answering.answer.Answer.{Answer}
 use Rattle.idl_entity.specs.declared.entity.Entity.{Entity}
-use Rattle.idl_env.specs.declared.key.Key.{Key}
-use Rattle.idl_env.specs.declared.key.Key.TheVariants as key
+use Rattle.idl_env.specs.declared.keys.key.Key.{Key}
+use Rattle.idl_env.specs.declared.keys.key.Key.TheVariants as key
 use Rattle.idl_entity.specs.declared.kind.Kind.{Kind}
 use Rattle.idl_entity.specs.declared.kind.Kind.TheVariants as kind
 

@@ -6,12 +6,12 @@ use Rattle.std.proofs.lemmas.List.{append-nil, flat_map_more, take_all, take_mor
 use Rattle.idl_memo.specs.Query.{asked, is_logged, noted, noted_all, outcome}
 use Rattle.idl_memo.proofs.QueryLaws.{noted_all-append}
 use Rattle.idl_repo.specs.Pieces.{Grows, IdOf, Pieces, Says, State, commas, ids_in, says, text_over, written}
-use Rattle.idl_env.specs.Digested.{key_equiv}
+use Rattle.idl_env.specs.keys.Digested.{key_equiv}
 use Rattle.idl_env.specs.Facts.{UnitFacts, answers, id_at}
-use Rattle.idl_env.specs.Key.{key_eq}
-use Rattle.idl_env.specs.declared.answer.Answer.{Answer}
-use Rattle.idl_env.specs.declared.key.Key.{Key}
-use Rattle.idl_env.specs.declared.key.Key.TheVariants as key
+use Rattle.idl_env.specs.keys.Key.{key_eq}
+use Rattle.idl_env.specs.declared.answering.answer.Answer.{Answer}
+use Rattle.idl_env.specs.declared.keys.key.Key.{Key}
+use Rattle.idl_env.specs.declared.keys.key.Key.TheVariants as key
 
 -- the text of some pieces and then others
 pub text_over-append : (bank : Key → Option Answer) (p q : Pieces) → text_over bank (p ++ q) ≡ text_over bank p ++ text_over bank q

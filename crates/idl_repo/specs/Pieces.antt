@@ -3,11 +3,11 @@ use Rattle.std.specs.Prelude.{◌≡◌, ℕ, List, [], ◌∷◌, ◌++◌, cod
 use Rattle.idl_memo.specs.Query.{Done, Ask, noted_all}
 use Rattle.idl_repo.specs.declared.row_writer.RowWriter.{RowWriter}
 use Rattle.idl_env.specs.Facts.{UnitFacts, answers, id_at}
-use Rattle.idl_env.specs.Key.{key_eq}
+use Rattle.idl_env.specs.keys.Key.{key_eq}
 use Rattle.idl_scope.specs.Lookup.{Lookup}
-use Rattle.idl_env.specs.declared.answer.Answer.{Answer}
-use Rattle.idl_env.specs.declared.key.Key.{Key}
-use Rattle.idl_env.specs.declared.key.Key.TheVariants as key
+use Rattle.idl_env.specs.declared.answering.answer.Answer.{Answer}
+use Rattle.idl_env.specs.declared.keys.key.Key.{Key}
+use Rattle.idl_env.specs.declared.keys.key.Key.TheVariants as key
 
 -- characters, or the id of what is declared at a path
 pub data Piece : Type 0 where

@@ -18,8 +18,8 @@ use Rattle.idl_entity.specs.declared.signature.Member.{Member}
 use Rattle.idl_value.specs.Spelled.{value_word}
 use Rattle.idl_value.specs.declared.integer.IntegerKind.{IntegerKind}
 use Rattle.idl_value.specs.declared.integer.IntegerKind.TheVariants as integer
-use Rattle.idl_value.specs.declared.target.Target.{Target}
-use Rattle.idl_value.specs.declared.target.Target.TheVariants as target
+use Rattle.idl_value.specs.declared.constant_type.Target.{Target}
+use Rattle.idl_value.specs.declared.constant_type.Target.TheVariants as target
 use Rattle.idl_value.specs.declared.value.Value.{Value}
 use Rattle.idl_value.specs.declared.value.Value.TheVariants as value
 

@@ -5,7 +5,7 @@ ghost use Rattle.std.specs.Prelude.{◌≡◌, IfOk, OnOk};
 ghost use Rattle.idl_memo.specs.Query.{outcome, run};
 ghost use Rattle.idl_repo.specs.Entry.{IsPushed, closing_fault, entry, entry_in, pushed_entry};
 ghost use Rattle.idl_env.specs.Facts.{answers, entity_in};
-ghost use Rattle.idl_env.specs.Key.{key_eq};
+ghost use Rattle.idl_env.specs.keys.Key.{key_eq};
 
 use crate::row_writer::RowWriter;
 use idl_base::Bytes;

@@ -12,13 +12,13 @@ ghost use Rattle.idl_repo.specs.TypeCode.{code_pieces, element_pieces, written_t
 ghost use Rattle.idl_repo.specs.declared.type_code.TypeCodeKind.{TypeCodeKind};
 ghost use Rattle.idl_entity.specs.DataType.{plain_type, with_arrays, with_layer};
 ghost use Rattle.idl_env.specs.Facts.{entity_in, entity_key};
-ghost use Rattle.idl_env.specs.declared.answer.Answer.{Answer};
+ghost use Rattle.idl_env.specs.declared.answering.answer.Answer.{Answer};
 ghost use Rattle.idl_entity.specs.declared.data_type.DataType.{DataType};
 ghost use Rattle.idl_entity.specs.declared.data_type.Element.{Element};
 ghost use Rattle.idl_entity.specs.declared.data_type.Layer.TheVariants.{Array, Sequence};
 ghost use Rattle.idl_entity.specs.declared.entity.Entity.{Entity};
-ghost use Rattle.idl_env.specs.declared.key.Key.{Key};
-ghost use Rattle.idl_env.specs.declared.key.Key.TheVariants as key;
+ghost use Rattle.idl_env.specs.declared.keys.key.Key.{Key};
+ghost use Rattle.idl_env.specs.declared.keys.key.Key.TheVariants as key;
 
 /// The entry of a declared name is its row with each id put in; where nothing is declared, there is
 /// none.

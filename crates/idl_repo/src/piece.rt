@@ -5,8 +5,8 @@ ghost use Rattle.std.specs.Option.{option_copied};
 ghost use Rattle.idl_memo.specs.Query.{noted};
 ghost use Rattle.idl_repo.specs.TypeCode.{listed_value};
 ghost use Rattle.idl_env.specs.Facts.{answers};
-ghost use Rattle.idl_env.specs.Key.{key_eq};
-ghost use Rattle.idl_env.specs.declared.key.Key.TheVariants as key;
+ghost use Rattle.idl_env.specs.keys.Key.{key_eq};
+ghost use Rattle.idl_env.specs.declared.keys.key.Key.TheVariants as key;
 
 use idl_entity::Path;
 use idl_env::{Answer, Env, LentKey};

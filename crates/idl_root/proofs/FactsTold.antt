@@ -1,6 +1,6 @@
 -- The facts of a root are told, each behind those before it.
 use Rattle.std.proofs.Common.{◌≡◌, ◌⊎◌, ◌∙◌, List, [], ◌∷◌, ◌++◌, refl, sym, ap, subst, inl, inr}
-use Rattle.idl_check.specs.Closing.{AreTold, IsTold, IsTold as told}
+use Rattle.idl_check.specs.walk.Closing.{AreTold, IsTold, IsTold as told}
 use Rattle.idl_root.specs.Judged.{added, facts_after}
 use Rattle.idl_env.specs.Facts.{UnitFacts}
 use Rattle.idl_unit.specs.declared.unit.Unit.{Unit as RootUnit}

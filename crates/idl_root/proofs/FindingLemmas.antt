@@ -1,7 +1,7 @@
 -- What is found in the events of a root.
 use Rattle.std.proofs.Common.{◌≡◌, List, [], ◌∷◌, flat_map, refl, slice_get, ap}
 use Rattle.idl_event.specs.Apart.{Numbered, others_in}
-use Rattle.idl_event.specs.declared.event.Event.TheVariants as event
+use Rattle.idl_event.specs.declared.told.event.Event.TheVariants as event
 use Rattle.idl_root.specs.Findings.{event_finding, found_at}
 use Rattle.idl_unit.specs.TokenRules.{first}
 

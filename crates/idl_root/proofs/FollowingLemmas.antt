@@ -4,30 +4,30 @@ use Rattle.std.specs.Prelude.{All, Contains, IfSome}
 use Rattle.std.specs.Global.{Global}
 use Rattle.std.specs.Prelude.{Vec}
 use Rattle.std.proofs.lemmas.List.Elements.{All-append, All-contains, All-map, All-push, All-weaker, Contains-append_left, Contains-append_right, Contains-push}
-use Rattle.idl_check.specs.Verdict.{verdict}
-use Rattle.idl_check.specs.declared.verdict.Verdict.{Verdict}
+use Rattle.idl_check.specs.walk.Verdict.{verdict}
+use Rattle.idl_check.specs.declared.walk.verdict.Verdict.{Verdict}
 use Rattle.idl_memo.specs.Query.{Agree, IsLogOf, asked, outcome, run}
 use Rattle.idl_root.specs.Followed.{AgreeBut, AreBeside, ArePrinted, StayAlike, WorldsAgree, IsBeside, IsFollowed, IsKeeping, ShareNone}
 use Rattle.idl_repo.specs.Entry.{entry}
 use Rattle.idl_root.specs.Kept.{AreKept, AreNoted, IsJudged, IsKept, IsPrinted, added_by}
 use Rattle.idl_root.specs.Printed.{entry_over}
-use Rattle.idl_root.specs.declared.following.Following.{Following}
-use Rattle.idl_root.specs.declared.keeping.Keeping.{Keeping}
-use Rattle.idl_root.specs.declared.kept.Judgement.{Judgement}
-use Rattle.idl_root.specs.declared.kept.KeptEntry.{KeptEntry}
-use Rattle.idl_root.specs.declared.kept.KeptUnit.{KeptUnit}
-use Rattle.idl_root.specs.declared.reprinting.Reprinting.{Reprinting}
+use Rattle.idl_root.specs.declared.kept.following.Following.{Following}
+use Rattle.idl_root.specs.declared.kept.keeping.Keeping.{Keeping}
+use Rattle.idl_root.specs.declared.kept.kept_units.Judgement.{Judgement}
+use Rattle.idl_root.specs.declared.kept.kept_units.KeptEntry.{KeptEntry}
+use Rattle.idl_root.specs.declared.kept.kept_units.KeptUnit.{KeptUnit}
+use Rattle.idl_root.specs.declared.kept.reprinting.Reprinting.{Reprinting}
 use Rattle.idl_env.specs.Facts.{UnitFacts, World, after, after_all, answers, entity_key, first_world, key_of, operations_among, world, with_additions}
-use Rattle.idl_env.specs.Key.{key_digest, key_eq}
+use Rattle.idl_env.specs.keys.Key.{key_digest, key_eq}
 use Rattle.idl_scope.specs.Lookup.{Lookup}
 use Rattle.idl_env.specs.Outside.{AgreeOutside, AreApart, IsInnermost, WorldsAgreeAround, WorldsAgreeOutside, looked_at, looked_at_by}
-use Rattle.idl_env.specs.declared.addition.Addition.{Addition}
-use Rattle.idl_env.specs.declared.addition.Step.{Step}
-use Rattle.idl_env.specs.declared.addition.Step.TheVariants.{Stays, Opens, OpensNameless, Closes, Prefixes, Enters, Leaves}
-use Rattle.idl_env.specs.declared.answer.Answer.{Answer}
-use Rattle.idl_env.specs.declared.answer.Scope.{Scope}
-use Rattle.idl_env.specs.declared.key.Key.{Key}
-use Rattle.idl_env.specs.declared.key.Key.TheVariants.{Cursor}
+use Rattle.idl_env.specs.declared.additions.addition.Addition.{Addition}
+use Rattle.idl_env.specs.declared.additions.addition.Step.{Step}
+use Rattle.idl_env.specs.declared.additions.addition.Step.TheVariants.{Stays, Opens, OpensNameless, Closes, Prefixes, Enters, Leaves}
+use Rattle.idl_env.specs.declared.answering.answer.Answer.{Answer}
+use Rattle.idl_env.specs.declared.answering.answer.Scope.{Scope}
+use Rattle.idl_env.specs.declared.keys.key.Key.{Key}
+use Rattle.idl_env.specs.declared.keys.key.Key.TheVariants.{Cursor}
 use Rattle.idl_env.specs.Turns.{turns_for}
 use Rattle.idl_unit.specs.declared.unit.UnitText.{UnitText}
 

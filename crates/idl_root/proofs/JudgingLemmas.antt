@@ -2,13 +2,13 @@
 use Rattle.std.proofs.Common.{◌≡◌, List, [], ◌∷◌, ◌++◌, flat_map, ap, sym, ◌∙◌, append-nil, append_assoc}
 use Rattle.std.specs.List.{enumerate_from}
 use Rattle.std.proofs.lemmas.Grind.{flat_map-append}
-use Rattle.idl_event.specs.declared.event.Event.{Event}
+use Rattle.idl_event.specs.declared.told.event.Event.{Event}
 use Rattle.idl_root.specs.Compile.{Outcome, outcome_of, row_in}
 use Rattle.idl_root.specs.Findings.{event_finding, unit_finding}
 use Rattle.idl_root.specs.Held.{to_come, with_gathered, with_judged, with_units}
 use Rattle.idl_root.specs.Judged.{Judged, added, facts_after, judged_after, judged_at}
 use Rattle.idl_root.specs.Printed.{listed_in}
-use Rattle.idl_root.specs.declared.judging.Gathered.{Gathered as HeldGathered}
+use Rattle.idl_root.specs.declared.compiling.judging.Gathered.{Gathered as HeldGathered}
 use Rattle.idl_env.specs.Facts.{UnitFacts}
 use Rattle.idl_unit.specs.Units.{units_of}
 use Rattle.idl_unit.specs.declared.unit.Unit.{Unit as RootUnit}

@@ -4,7 +4,7 @@ use Rattle.std.proofs.Common.{◌≡◌, ℕ, zero, suc, ◌<◌, ◌≤◌, Boo
 use Rattle.std.specs.List.Sorted.{IsNonDecreasingBy, IsStableByKey}
 use Rattle.idl_fault.specs.declared.code.Code.TheVariants.{OpenScope}
 use Rattle.idl_root.specs.Findings.{among, found_at, in_order}
-use Rattle.idl_root.specs.declared.finding.EventFinding.{EventFinding}
+use Rattle.idl_root.specs.declared.compiling.finding.EventFinding.{EventFinding}
 
 -- those of an event
 abbrev pub at : ℕ → List EventFinding → List EventFinding

@@ -7,17 +7,17 @@ use Rattle.std.proofs.lemmas.List.{append-nil, at_drop_more, map-append}
 use Rattle.idl_base.proofs.SpanLemmas.{pieces-one, within-one}
 use Rattle.idl_base.specs.Spans.{AreWithin, pieces}
 use Rattle.idl_base.specs.declared.texts.Span.{Span}
-use Rattle.idl_event.specs.declared.site.Site.{Site}
+use Rattle.idl_event.specs.declared.told.site.Site.{Site}
 use Rattle.idl_repo.specs.Entry.{IsPushed}
 use Rattle.idl_repo.specs.declared.entry.Entry.{Entry}
 use Rattle.idl_repo.specs.declared.entry.Pushed.{Pushed}
 use Rattle.idl_root.specs.Held.{listed_at}
 use Rattle.idl_root.specs.Printed.{Listed, first_paths, listed_with}
-use Rattle.idl_root.specs.declared.printing.Listed.{Listed as HeldListed}
-use Rattle.idl_root.specs.declared.printing.Sought.{Sought}
-use Rattle.idl_env.proofs.PlaceLemmas.{drop-at1}
-use Rattle.idl_env.specs.declared.addition.Addition.{Addition}
-use Rattle.idl_env.specs.declared.addition.Addition.TheVariants.{Declares}
+use Rattle.idl_root.specs.declared.compiling.printing.Listed.{Listed as HeldListed}
+use Rattle.idl_root.specs.declared.compiling.printing.Sought.{Sought}
+use Rattle.idl_env.proofs.AnswerLaws.PlaceLemmas.{drop-at1}
+use Rattle.idl_env.specs.declared.additions.addition.Addition.{Addition}
+use Rattle.idl_env.specs.declared.additions.addition.Addition.TheVariants.{Declares}
 use Rattle.idl_unit.specs.declared.unit.UnitText.{UnitText}
 
 first_paths-cons : (a : Addition) (additions : List Addition) → first_paths (a ∷ additions) ≡ first_paths (a ∷ []) ++ first_paths additions

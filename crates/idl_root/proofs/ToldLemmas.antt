@@ -1,21 +1,21 @@
 -- The faults of a root's units are all told: each token of a unit stands somewhere.
 use Rattle.std.proofs.Common.{◌≡◌, ◌≢◌, ℕ, zero, suc, ◌<◌, Bool, List, [], ◌∷◌, ◌++◌, length, Option, Some, slice_get, flat_map, refl, ap, ◌∙◌, arith}
 use Rattle.std.specs.List.{AllByRecursion, enumerate_from}
-use Rattle.idl_check.specs.Verdict.{verdict}
-use Rattle.idl_check.specs.declared.verdict.Verdict.{Verdict}
+use Rattle.idl_check.specs.walk.Verdict.{verdict}
+use Rattle.idl_check.specs.declared.walk.verdict.Verdict.{Verdict}
 use Rattle.idl_event.specs.Apart.{Numbered, sites_in, tokens_in}
-use Rattle.idl_event.specs.declared.event.Event.{Event}
-use Rattle.idl_event.specs.declared.event.Event.TheVariants as event
-use Rattle.idl_event.specs.declared.site.Site.{Site}
-use Rattle.idl_lex.specs.Tokens.{Token}
+use Rattle.idl_event.specs.declared.told.event.Event.{Event}
+use Rattle.idl_event.specs.declared.told.event.Event.TheVariants as event
+use Rattle.idl_event.specs.declared.told.site.Site.{Site}
+use Rattle.idl_lex.specs.tokens.Tokens.{Token}
 use Rattle.idl_memo.specs.Query.{outcome}
 use Rattle.idl_root.specs.Findings.{fault_finding, finding_at, site_of, tokens_of}
 use Rattle.idl_root.specs.Judged.{boundary, judged_after, verdict_over}
 use Rattle.idl_root.specs.Told.{IsTold}
 use Rattle.idl_env.specs.Facts.{UnitFacts, answers}
-use Rattle.idl_env.specs.declared.addition.Step.TheVariants.{Enters, Leaves}
-use Rattle.idl_env.specs.declared.answer.Answer.{Answer}
-use Rattle.idl_env.specs.declared.key.Key.{Key}
+use Rattle.idl_env.specs.declared.additions.addition.Step.TheVariants.{Enters, Leaves}
+use Rattle.idl_env.specs.declared.answering.answer.Answer.{Answer}
+use Rattle.idl_env.specs.declared.keys.key.Key.{Key}
 use Rattle.idl_env.specs.Turns.{turns_for}
 use Rattle.idl_unit.specs.Cut.{parts}
 use Rattle.idl_unit.specs.TokenRules.{first}

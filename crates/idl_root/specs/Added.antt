@@ -1,7 +1,7 @@
 -- What a unit adds, on its way to the environment.
 use Rattle.std.specs.Prelude.{List, [], ◌∷◌}
-use Rattle.idl_root.specs.declared.added.Added.{Added}
-use Rattle.idl_root.specs.declared.added.Added.TheVariants.{Nothing, Given, Kept}
+use Rattle.idl_root.specs.declared.kept.added.Added.{Added}
+use Rattle.idl_root.specs.declared.kept.added.Added.TheVariants.{Nothing, Given, Kept}
 use Rattle.idl_env.specs.Facts.{UnitFacts}
 
 -- the facts of which it tells

@@ -3,15 +3,15 @@ use Rattle.std.specs.Prelude.{ℕ, List, [], ◌∷◌, nat_le, slice_get, Optio
 use Rattle.idl_event.specs.Apart.{Numbered, place_in}
 use Rattle.idl_fault.specs.Diagnostic.{diagnostic_row}
 use Rattle.idl_fault.specs.declared.code.Code.{Code}
-use Rattle.idl_event.specs.declared.event.Event.{Event}
-use Rattle.idl_event.specs.declared.event.Event.TheVariants as event
+use Rattle.idl_event.specs.declared.told.event.Event.{Event}
+use Rattle.idl_event.specs.declared.told.event.Event.TheVariants as event
 use Rattle.idl_fault.specs.declared.place.Place.{Place}
-use Rattle.idl_event.specs.declared.site.Site.{Site}
-use Rattle.idl_lex.specs.Tokens.{Token}
+use Rattle.idl_event.specs.declared.told.site.Site.{Site}
+use Rattle.idl_lex.specs.tokens.Tokens.{Token}
 use Rattle.idl_root.specs.Judged.{Judged}
 use Rattle.idl_root.specs.Number.{token_number}
-use Rattle.idl_root.specs.declared.finding.EventFinding.{EventFinding}
-use Rattle.idl_root.specs.declared.finding.Finding.{Finding}
+use Rattle.idl_root.specs.declared.compiling.finding.EventFinding.{EventFinding}
+use Rattle.idl_root.specs.declared.compiling.finding.Finding.{Finding}
 use Rattle.idl_unit.specs.TokenRules.{first}
 use Rattle.idl_unit.specs.declared.fault.Fault.{Fault}
 use Rattle.idl_unit.specs.declared.unit.UnitText.{UnitText}

@@ -1,14 +1,14 @@
 -- What was kept of a root, beside the facts of the units that stand there now.
 use Rattle.std.specs.Prelude.{◌≡◌, ℕ, Bool, true, false, List, [], ◌∷◌, ◌++◌, All, Contains, IfSome, map}
 use Rattle.idl_root.specs.Kept.{AreKept, AreNoted, IsPrinted, added_by}
-use Rattle.idl_root.specs.declared.kept.KeptUnit.{KeptUnit}
-use Rattle.idl_root.specs.declared.following.Following.{Following}
-use Rattle.idl_root.specs.declared.keeping.Keeping.{Keeping}
-use Rattle.idl_root.specs.declared.reprinting.Reprinting.{Reprinting}
+use Rattle.idl_root.specs.declared.kept.kept_units.KeptUnit.{KeptUnit}
+use Rattle.idl_root.specs.declared.kept.following.Following.{Following}
+use Rattle.idl_root.specs.declared.kept.keeping.Keeping.{Keeping}
+use Rattle.idl_root.specs.declared.kept.reprinting.Reprinting.{Reprinting}
 use Rattle.idl_env.specs.Facts.{UnitFacts, World, world}
 use Rattle.idl_env.specs.Outside.{WorldsAgreeAround, WorldsAgreeOutside, looked_at_by}
-use Rattle.idl_env.specs.declared.addition.Step.TheVariants.{Stays}
-use Rattle.idl_env.specs.declared.key.Key.{Key}
+use Rattle.idl_env.specs.declared.additions.addition.Step.TheVariants.{Stays}
+use Rattle.idl_env.specs.declared.keys.key.Key.{Key}
 
 -- no number is among both
 abbrev pub ShareNone : List ℕ → List ℕ → Type 0

@@ -4,9 +4,9 @@ use Rattle.idl_root.specs.Compile.{Outcome, row_in}
 use Rattle.idl_root.specs.Findings.{unit_finding}
 use Rattle.idl_root.specs.Judged.{Judged, facts_after, judged_after}
 use Rattle.idl_root.specs.Printed.{Listed, listed_in}
-use Rattle.idl_root.specs.declared.judging.Gathered.{Gathered as HeldGathered}
-use Rattle.idl_root.specs.declared.judging.Judging.{Judging}
-use Rattle.idl_root.specs.declared.printing.Listed.{Listed as HeldListed}
+use Rattle.idl_root.specs.declared.compiling.judging.Gathered.{Gathered as HeldGathered}
+use Rattle.idl_root.specs.declared.compiling.judging.Judging.{Judging}
+use Rattle.idl_root.specs.declared.compiling.printing.Listed.{Listed as HeldListed}
 use Rattle.idl_env.specs.Facts.{UnitFacts}
 use Rattle.idl_unit.specs.declared.unit.Unit.{Unit as RootUnit}
 

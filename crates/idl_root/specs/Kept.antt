@@ -1,19 +1,19 @@
 -- What is kept of the units of a root.
 use Rattle.std.specs.Prelude.{◌≡◌, ℕ, List, [], ◌∷◌, ◌++◌, All, Contains}
-use Rattle.idl_check.specs.Verdict.{verdict}
+use Rattle.idl_check.specs.walk.Verdict.{verdict}
 use Rattle.idl_memo.specs.Query.{asked}
 use Rattle.idl_repo.specs.Entry.{entry}
 use Rattle.idl_root.specs.Judged.{boundary, verdict_over}
 use Rattle.idl_root.specs.Printed.{entry_over}
-use Rattle.idl_root.specs.declared.kept.Judgement.{Judgement}
-use Rattle.idl_root.specs.declared.kept.KeptEntry.{KeptEntry}
-use Rattle.idl_root.specs.declared.kept.KeptUnit.{KeptUnit}
-use Rattle.idl_root.specs.declared.kept.KeptUnit.TheVariants.{Judged, Entered, Left}
+use Rattle.idl_root.specs.declared.kept.kept_units.Judgement.{Judgement}
+use Rattle.idl_root.specs.declared.kept.kept_units.KeptEntry.{KeptEntry}
+use Rattle.idl_root.specs.declared.kept.kept_units.KeptUnit.{KeptUnit}
+use Rattle.idl_root.specs.declared.kept.kept_units.KeptUnit.TheVariants.{Judged, Entered, Left}
 use Rattle.idl_env.specs.Facts.{UnitFacts, answers}
-use Rattle.idl_env.specs.Key.{key_digest}
+use Rattle.idl_env.specs.keys.Key.{key_digest}
 use Rattle.idl_env.specs.Turns.{turns_for}
-use Rattle.idl_env.specs.declared.addition.Step.TheVariants.{Enters, Leaves}
-use Rattle.idl_env.specs.declared.key.Key.{Key}
+use Rattle.idl_env.specs.declared.additions.addition.Step.TheVariants.{Enters, Leaves}
+use Rattle.idl_env.specs.declared.keys.key.Key.{Key}
 use Rattle.idl_unit.specs.declared.unit.UnitText.{UnitText}
 
 -- each of these keys has its digest among these

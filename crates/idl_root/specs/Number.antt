@@ -1,8 +1,8 @@
 -- The number of a token in its line.
 use Rattle.std.specs.Prelude.{ℕ, zero, suc, Bool, false, ◌&&◌, List, nat_eq, slice_get, Option, None, Some, if◌then◌else◌}
 use Rattle.std.specs.Str.{bytes_eq}
-use Rattle.idl_event.specs.declared.event.Event.{Event}
-use Rattle.idl_event.specs.declared.event.Event.TheVariants as event
+use Rattle.idl_event.specs.declared.told.event.Event.{Event}
+use Rattle.idl_event.specs.declared.told.event.Event.TheVariants as event
 use Rattle.idl_fault.specs.declared.place.Place.{Place}
 
 -- a token at this place

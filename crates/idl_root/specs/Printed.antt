@@ -1,17 +1,17 @@
 -- The names of a root that have an id, and what comes of them at its end.
 use Rattle.std.specs.Prelude.{ℕ, ◌-◌, List, [], ◌∷◌, length, map, option_to_list}
 use Rattle.std.specs.Option.{option_map}
-use Rattle.idl_event.specs.declared.site.Site.{Site}
+use Rattle.idl_event.specs.declared.told.site.Site.{Site}
 use Rattle.idl_memo.specs.Query.{outcome}
 use Rattle.idl_repo.specs.Entry.{entry}
 use Rattle.idl_repo.specs.declared.entry.Entry.{Entry}
 use Rattle.idl_root.specs.Findings.{fault_finding, tokens_of}
 use Rattle.idl_root.specs.Judged.{Judged}
-use Rattle.idl_root.specs.declared.finding.EventFinding.{EventFinding}
-use Rattle.idl_root.specs.declared.printing.Sought.{Sought}
+use Rattle.idl_root.specs.declared.compiling.finding.EventFinding.{EventFinding}
+use Rattle.idl_root.specs.declared.compiling.printing.Sought.{Sought}
 use Rattle.idl_env.specs.Facts.{UnitFacts, answers}
-use Rattle.idl_env.specs.declared.addition.Addition.{Addition}
-use Rattle.idl_env.specs.declared.addition.Addition.TheVariants.{Declares, Uses, Appears, Identifies}
+use Rattle.idl_env.specs.declared.additions.addition.Addition.{Addition}
+use Rattle.idl_env.specs.declared.additions.addition.Addition.TheVariants.{Declares, Uses, Appears, Identifies}
 use Rattle.idl_unit.specs.TokenRules.{fault_at}
 use Rattle.idl_unit.specs.declared.unit.UnitText.{UnitText}
 

@@ -4,22 +4,11 @@
 //! Nothing here knows how a root is expanded, what a unit asks, or what became of other roots.
 #![tactic(auto)]
 
-mod added;
-mod changed;
-mod compiled;
-mod finding;
-mod following;
-mod judging;
-mod keeping;
+mod compiling;
 mod kept;
-mod laws;
-mod memory;
-mod number;
-mod printing;
-mod reprinting;
 
-pub use compiled::{Compiled, Recompiled, Row, compile, compile_after};
-pub use finding::Finding;
-pub use kept::KeptUnits;
-pub use laws::{facts, ordering, telling};
-pub use memory::Memory;
+pub use compiling::compiled::{Compiled, Recompiled, Row, compile, compile_after};
+pub use compiling::finding::Finding;
+pub use compiling::laws::{facts, ordering, telling};
+pub use compiling::memory::Memory;
+pub use kept::kept_units::KeptUnits;

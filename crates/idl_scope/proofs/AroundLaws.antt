@@ -1,24 +1,24 @@
 -- Facts over worlds that may have other operations and attributes in the innermost scope.
 use Rattle.std.proofs.Common.{◌≡◌, ℕ, Bool, true, false, cond, List, [], ◌∷◌, ◌++◌, drop, map, Option, Some, None, refl, sym, ap, ◌∙◌, subst, inl, inr}
 use Rattle.std.specs.Prelude.{Contains}
-use Rattle.idl_lex.specs.Keywords.{folded}
+use Rattle.idl_lex.specs.kinds.Keywords.{folded}
 use Rattle.idl_env.specs.Facts.{UnitFacts, World, after, after_closing, after_step, answers, closed, closing, entity_in, entity_key, given_back, key_of, more_inside, operations_among, over, scopes_in, with_additions, world}
 use Rattle.idl_entity.specs.Kind.{kind_eq}
 use Rattle.idl_env.specs.Outside.{AgreeOutside, IsInnermost, WorldsAgreeAround, WorldsAgreeOutside}
 use Rattle.idl_entity.specs.Path.{name_of, scope_of}
-use Rattle.idl_env.specs.declared.addition.Addition.{Addition}
-use Rattle.idl_env.specs.declared.addition.Addition.TheVariants.{Declares}
-use Rattle.idl_env.specs.declared.addition.Step.{Step}
-use Rattle.idl_env.specs.declared.addition.Step.TheVariants.{Stays, Closes}
-use Rattle.idl_env.specs.declared.answer.Answer.TheVariants.{Open}
-use Rattle.idl_env.specs.declared.answer.Scope.{Scope}
+use Rattle.idl_env.specs.declared.additions.addition.Addition.{Addition}
+use Rattle.idl_env.specs.declared.additions.addition.Addition.TheVariants.{Declares}
+use Rattle.idl_env.specs.declared.additions.addition.Step.{Step}
+use Rattle.idl_env.specs.declared.additions.addition.Step.TheVariants.{Stays, Closes}
+use Rattle.idl_env.specs.declared.answering.answer.Answer.TheVariants.{Open}
+use Rattle.idl_env.specs.declared.answering.answer.Scope.{Scope}
 use Rattle.idl_entity.specs.declared.entity.Entity.{Entity}
-use Rattle.idl_env.specs.declared.key.Key.{Key}
-use Rattle.idl_env.specs.declared.key.Key.TheVariants.{Cursor, Declared}
+use Rattle.idl_env.specs.declared.keys.key.Key.{Key}
+use Rattle.idl_env.specs.declared.keys.key.Key.TheVariants.{Cursor, Declared}
 use Rattle.idl_entity.specs.declared.kind.Kind.TheVariants.{Interface}
 use Rattle.idl_scope.proofs.ExchangeLaws.{exchanged, over-elsewhere, over-exchanged}
 use Rattle.idl_scope.proofs.FactsLaws.{over-outside, with_answer-outside, with_prefix-outside}
-use Rattle.idl_scope.proofs.LookupLaws.{own_path}
+use Rattle.idl_scope.proofs.LookupLaws.LookupLaws.{own_path}
 use Rattle.idl_env.proofs.Membership.{Contains-IsIn, IsIn, IsIn-Contains, IsIn-left, IsIn-right}
 
 -- operations that are declared are those of the innermost scope

@@ -3,19 +3,19 @@ use Rattle.std.proofs.Common.{◌≡◌, Bool, true, false, cond, List, [], ◌�
 use Rattle.std.specs.Prelude.{Contains}
 use Rattle.idl_env.proofs.ApartLemmas.{gathered_at-same}
 use Rattle.idl_env.specs.Facts.{UnitFacts, World, after, after_step, answer_of, count_in, key_of, more_inside, nameless, operations_among, over, path_around, scopes_in, with_additions}
-use Rattle.idl_env.specs.Key.{key_eq}
+use Rattle.idl_env.specs.keys.Key.{key_eq}
 use Rattle.idl_env.specs.SameKey.{same_key}
 use Rattle.idl_env.specs.Outside.{AgreeOutside, AreApart, WorldsAgreeOutside, gathered_at, looked_at, looked_at_by}
-use Rattle.idl_env.specs.declared.addition.Addition.{Addition}
-use Rattle.idl_env.specs.declared.addition.Step.{Step}
-use Rattle.idl_env.specs.declared.addition.Step.TheVariants.{Stays, Opens, OpensNameless, Closes, Prefixes}
-use Rattle.idl_env.specs.declared.answer.Answer.{Answer}
-use Rattle.idl_env.specs.declared.key.Key.{Key}
-use Rattle.idl_env.specs.declared.key.Key.TheVariants.{Cursor, Opened, Nameless, Prefix as PrefixKey}
-use Rattle.idl_env.proofs.AnswerLemmas.{over-cons}
+use Rattle.idl_env.specs.declared.additions.addition.Addition.{Addition}
+use Rattle.idl_env.specs.declared.additions.addition.Step.{Step}
+use Rattle.idl_env.specs.declared.additions.addition.Step.TheVariants.{Stays, Opens, OpensNameless, Closes, Prefixes}
+use Rattle.idl_env.specs.declared.answering.answer.Answer.{Answer}
+use Rattle.idl_env.specs.declared.keys.key.Key.{Key}
+use Rattle.idl_env.specs.declared.keys.key.Key.TheVariants.{Cursor, Opened, Nameless, Prefix as PrefixKey}
+use Rattle.idl_env.proofs.AnswerLaws.AnswerLemmas.{over-cons}
 use Rattle.idl_scope.proofs.FactsLaws.{after_step-outside, over-outside}
 use Rattle.idl_env.proofs.Membership.{Contains-IsIn, IsIn, IsIn-Contains, IsIn-left, IsIn-right}
-use Rattle.idl_env.proofs.StateLemmas.{more_inside-nothing}
+use Rattle.idl_env.proofs.AnswerLaws.StateLemmas.{more_inside-nothing}
 
 -- ---- facts that take the place of others
 

@@ -4,22 +4,22 @@ use Rattle.std.specs.Prelude.{Contains, drop}
 use Rattle.std.proofs.lemmas.List.Elements.{All-weaker, All-contains_itself}
 use Rattle.idl_memo.specs.Query.{Done, Ask, Tell, outcome, asked, Agree}
 use Rattle.idl_env.specs.Facts.{UnitFacts, World, given_back, prefix_in, with_prefix, entity_key, entity_in, scopes_in, count_in, over, operations_of, joined, gathered, inherited, innermost, closed, closing, with_answer, with_additions, after_opening, after_closing, after_nameless, after_step, after, after_all, first_world, world, answers, nameless, path_around, next_body, more_inside, operations_among}
-use Rattle.idl_env.specs.Key.{key_eq}
+use Rattle.idl_env.specs.keys.Key.{key_eq}
 use Rattle.idl_entity.specs.Kind.{kind_eq}
 use Rattle.idl_scope.specs.Lookup.{Lookup, under}
 use Rattle.idl_scope.specs.Meaning.{seen}
 use Rattle.idl_env.specs.Outside.{AgreeOutside, WorldsAgreeOutside, gathered_at, looked_at, looked_at_by, AreApart}
-use Rattle.idl_env.specs.declared.addition.Addition.{Addition}
-use Rattle.idl_env.specs.declared.addition.Addition.TheVariants.{Declares}
-use Rattle.idl_env.specs.declared.addition.Step.{Step}
-use Rattle.idl_env.specs.declared.addition.Step.TheVariants.{Stays, Opens, OpensNameless, Closes, Prefixes, Enters, Leaves}
-use Rattle.idl_env.specs.declared.answer.Answer.{Answer}
-use Rattle.idl_env.specs.declared.answer.Answer.TheVariants.{Open, Count, InForce}
-use Rattle.idl_env.specs.declared.answer.Scope.{Scope}
+use Rattle.idl_env.specs.declared.additions.addition.Addition.{Addition}
+use Rattle.idl_env.specs.declared.additions.addition.Addition.TheVariants.{Declares}
+use Rattle.idl_env.specs.declared.additions.addition.Step.{Step}
+use Rattle.idl_env.specs.declared.additions.addition.Step.TheVariants.{Stays, Opens, OpensNameless, Closes, Prefixes, Enters, Leaves}
+use Rattle.idl_env.specs.declared.answering.answer.Answer.{Answer}
+use Rattle.idl_env.specs.declared.answering.answer.Answer.TheVariants.{Open, Count, InForce}
+use Rattle.idl_env.specs.declared.answering.answer.Scope.{Scope}
 use Rattle.idl_entity.specs.declared.entity.Entity.{Entity}
 use Rattle.idl_entity.specs.declared.identity.Prefix.{Prefix}
-use Rattle.idl_env.specs.declared.key.Key.{Key}
-use Rattle.idl_env.specs.declared.key.Key.TheVariants.{Cursor, Opened, Nameless, Prefix as PrefixKey}
+use Rattle.idl_env.specs.declared.keys.key.Key.{Key}
+use Rattle.idl_env.specs.declared.keys.key.Key.TheVariants.{Cursor, Opened, Nameless, Prefix as PrefixKey}
 use Rattle.idl_entity.specs.declared.kind.Kind.{Kind}
 use Rattle.idl_entity.specs.declared.kind.Kind.TheVariants.{Interface}
 use Rattle.idl_entity.specs.declared.kind.Stage.TheVariants.{Complete}

@@ -2,26 +2,26 @@
 use Rattle.std.proofs.Common.{◌≡◌, ◌∙◌, ℕ, ◌+◌, ◌-◌, Bool, true, false, cond, List, [], ◌∷◌, ◌++◌, Option, Some, None, length, take, refl, sym, ap, subst, arith}
 use Rattle.std.proofs.lemmas.List.{length-append}
 use Rattle.std.specs.Prelude.{codes}
-use Rattle.idl_env.proofs.AnswerLemmas.{over-cons}
+use Rattle.idl_env.proofs.AnswerLaws.AnswerLemmas.{over-cons}
 use Rattle.idl_scope.proofs.Constructors.{head_same, none_some, some_none, some_same, tail_same}
 use Rattle.idl_entity.proofs.IdLemmas.{relative-inside, relative-name, within_global}
 use Rattle.idl_env.specs.Facts.{UnitFacts, World, after, after_all, after_closing, after_step, answer_of, answers, closed, closing, entity_in, entity_key, first_world, identity_at, key_of, over, scopes_in, with_additions, world}
 use Rattle.idl_entity.specs.Identity.{first_identity, identity_of, is_within, prefix_for, prefixed, relative, slashed}
-use Rattle.idl_env.specs.Key.{key_eq}
+use Rattle.idl_env.specs.keys.Key.{key_eq}
 use Rattle.idl_entity.specs.Kind.{kind_eq}
 use Rattle.idl_entity.specs.Path.{path_eq, same_path, scope_of}
-use Rattle.idl_env.specs.declared.addition.Addition.{Addition}
-use Rattle.idl_env.specs.declared.addition.Addition.TheVariants.{Declares, Uses, Appears, Identifies}
-use Rattle.idl_env.specs.declared.addition.Step.{Step}
-use Rattle.idl_env.specs.declared.addition.Step.TheVariants.{Stays, Opens, OpensNameless, Closes, Prefixes}
-use Rattle.idl_env.specs.declared.answer.Answer.{Answer}
-use Rattle.idl_env.specs.declared.answer.Answer.TheVariants.{Open, Known, Used, Count, InForce, Appeared, Identified}
-use Rattle.idl_env.specs.declared.answer.Scope.{Scope}
+use Rattle.idl_env.specs.declared.additions.addition.Addition.{Addition}
+use Rattle.idl_env.specs.declared.additions.addition.Addition.TheVariants.{Declares, Uses, Appears, Identifies}
+use Rattle.idl_env.specs.declared.additions.addition.Step.{Step}
+use Rattle.idl_env.specs.declared.additions.addition.Step.TheVariants.{Stays, Opens, OpensNameless, Closes, Prefixes}
+use Rattle.idl_env.specs.declared.answering.answer.Answer.{Answer}
+use Rattle.idl_env.specs.declared.answering.answer.Answer.TheVariants.{Open, Known, Used, Count, InForce, Appeared, Identified}
+use Rattle.idl_env.specs.declared.answering.answer.Scope.{Scope}
 use Rattle.idl_entity.specs.declared.entity.Entity.{Entity}
 use Rattle.idl_entity.specs.declared.identity.FixedIdentity.{FixedIdentity}
 use Rattle.idl_entity.specs.declared.identity.Identity.{Identity}
 use Rattle.idl_entity.specs.declared.identity.Prefix.{Prefix}
-use Rattle.idl_env.specs.declared.key.Key.TheVariants.{Cursor, IdOf}
+use Rattle.idl_env.specs.declared.keys.key.Key.TheVariants.{Cursor, IdOf}
 use Rattle.idl_entity.specs.declared.kind.Kind.TheVariants.{Interface}
 
 -- ---- a prefix in a scope around the name, and no other

@@ -1,15 +1,8 @@
 pub mod AroundLaws
 pub mod Constructors
-pub mod DenotesOnce
 pub mod ExchangeLaws
 pub mod FactsLaws
 pub mod IdLaws
-pub mod Introduced
 pub mod LookupLaws
-pub mod Meant
 pub mod PrefixLaws
-pub mod Reaching
-pub mod RunLemmas
-pub mod TurnsLaws
-pub mod Walked
 pub mod Worlds

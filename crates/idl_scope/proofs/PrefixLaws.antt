@@ -1,19 +1,19 @@
 -- Prefixes: behind a scope and behind a file the one of before is in force again.
 use Rattle.std.proofs.Common.{◌≡◌, ◌≢◌, ◌∙◌, ℕ, zero, suc, true, false, List, [], ◌∷◌, ◌++◌, Option, Some, None, drop, refl, sym, ap, subst}
-use Rattle.idl_env.proofs.AnswerLemmas.{over_prefix}
+use Rattle.idl_env.proofs.AnswerLaws.AnswerLemmas.{over_prefix}
 use Rattle.idl_scope.proofs.Constructors.{none_some, some_same, tail_same}
 use Rattle.idl_scope.proofs.FactsLaws.{after_all-append}
 use Rattle.idl_env.specs.Facts.{UnitFacts, World, after, after_all, after_closing, after_step, count_in, given_back, nameless, next_body, over, path_around, prefix_in, scopes_in, with_additions, after_nameless}
 use Rattle.idl_entity.specs.Identity.{no_prefix}
 use Rattle.idl_scope.specs.Stretch.{IsBalanced, closes, depth, depth_behind, enters, leaves, opens}
-use Rattle.idl_env.specs.declared.addition.Addition.{Addition}
-use Rattle.idl_env.specs.declared.addition.Addition.TheVariants.{Declares, Uses, Appears, Identifies}
-use Rattle.idl_env.specs.declared.addition.Step.{Step}
-use Rattle.idl_env.specs.declared.addition.Step.TheVariants.{Stays, Opens, OpensNameless, Closes, Prefixes, Enters, Leaves}
-use Rattle.idl_env.specs.declared.answer.Answer.{Answer}
-use Rattle.idl_env.specs.declared.answer.Scope.{Scope}
+use Rattle.idl_env.specs.declared.additions.addition.Addition.{Addition}
+use Rattle.idl_env.specs.declared.additions.addition.Addition.TheVariants.{Declares, Uses, Appears, Identifies}
+use Rattle.idl_env.specs.declared.additions.addition.Step.{Step}
+use Rattle.idl_env.specs.declared.additions.addition.Step.TheVariants.{Stays, Opens, OpensNameless, Closes, Prefixes, Enters, Leaves}
+use Rattle.idl_env.specs.declared.answering.answer.Answer.{Answer}
+use Rattle.idl_env.specs.declared.answering.answer.Scope.{Scope}
 use Rattle.idl_entity.specs.declared.identity.Prefix.{Prefix}
-use Rattle.idl_env.specs.declared.key.Key.TheVariants.{Cursor, Nameless, Prefix as PrefixKey}
+use Rattle.idl_env.specs.declared.keys.key.Key.TheVariants.{Cursor, Nameless, Prefix as PrefixKey}
 
 no_cons : {A : Type 0} {x : A} {xs : List A} → [] ≡ x ∷ xs → ⊥
 no_cons h = cc

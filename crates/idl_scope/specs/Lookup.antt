@@ -4,21 +4,21 @@ use Rattle.std.specs.Prelude.{ℕ, zero, suc, ◌+◌, Bool, true, false, List, 
 use Rattle.idl_entity.specs.Kind.{inherits, is_scope, kind_eq}
 use denote.Ref.{Bor}
 use Rattle.std.specs.Str.{bytes_eq}
-use Rattle.idl_lex.specs.Keywords.{folded}
+use Rattle.idl_lex.specs.kinds.Keywords.{folded}
 use Rattle.idl_memo.specs.Query.{Done, Ask, and_then}
 use Rattle.idl_tree.specs.declared.name.ScopedName.{ScopedName}
 use Rattle.idl_env.specs.Facts.{entity_key, entity_in, joined}
 pub use Rattle.idl_scope.specs.Meaning.{bases_of, searched}
 use Rattle.idl_entity.specs.Path.{name_of, path_eq, scope_of}
 pub use Rattle.idl_scope.specs.Question.{Lookup, by_result, under}
-use Rattle.idl_env.specs.declared.answer.Scope.{Scope}
+use Rattle.idl_env.specs.declared.answering.answer.Scope.{Scope}
 use Rattle.idl_entity.specs.declared.entity.Entity.{Entity}
 use Rattle.idl_scope.specs.declared.fault.NameCode.{NameCode}
 use Rattle.idl_scope.specs.declared.fault.NameCode.TheVariants.{Undeclared, Ambiguous, OtherSpelling, NoScope}
 use Rattle.idl_scope.specs.declared.fault.NameFault.{NameFault}
 use Rattle.idl_scope.specs.declared.fault.NameFault.TheVariants.{At, Memory}
 use Rattle.idl_scope.specs.declared.found.Found.{Found}
-use Rattle.idl_env.specs.declared.key.Key.TheVariants.{Declared}
+use Rattle.idl_env.specs.declared.keys.key.Key.TheVariants.{Declared}
 use Rattle.idl_entity.specs.declared.kind.Kind.{Kind}
 use Rattle.idl_entity.specs.declared.kind.Kind.TheVariants.{Module}
 

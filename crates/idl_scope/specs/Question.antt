@@ -2,9 +2,9 @@
 use Rattle.std.specs.Prelude.{List, Option, Result, Ok, Err}
 use Rattle.idl_memo.specs.Query.{Query, Done, Ask, Tell}
 use Rattle.idl_env.specs.Facts.{over}
-use Rattle.idl_env.specs.declared.addition.Addition.{Addition}
-use Rattle.idl_env.specs.declared.answer.Answer.{Answer}
-use Rattle.idl_env.specs.declared.key.Key.{Key}
+use Rattle.idl_env.specs.declared.additions.addition.Addition.{Addition}
+use Rattle.idl_env.specs.declared.answering.answer.Answer.{Answer}
+use Rattle.idl_env.specs.declared.keys.key.Key.{Key}
 
 -- questions about names
 abbrev pub Lookup : Type 0 → Type 0

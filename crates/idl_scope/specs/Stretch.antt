@@ -1,8 +1,8 @@
 -- Stretches of facts at whose end as many scopes are open, or files entered, as at their beginning.
 use Rattle.std.specs.Prelude.{◌≡◌, ℕ, Bool, true, false, List, [], ◌∷◌, Option, Some, None, zero, suc}
 use Rattle.idl_env.specs.Facts.{UnitFacts}
-use Rattle.idl_env.specs.declared.addition.Step.{Step}
-use Rattle.idl_env.specs.declared.addition.Step.TheVariants.{Opens, OpensNameless, Closes, Enters, Leaves}
+use Rattle.idl_env.specs.declared.additions.addition.Step.{Step}
+use Rattle.idl_env.specs.declared.additions.addition.Step.TheVariants.{Opens, OpensNameless, Closes, Enters, Leaves}
 
 abbrev pub opens : Step → Bool
 opens (Opens path kind) = true

@@ -4,27 +4,27 @@
 //! no declarations add; only, a walk over bases must be allowed as many turns as these facts need.
 
 ghost use Rattle.std.specs.Prelude.{◌≡◌, ◌≢◌, ◌↔◌, ◌∷◌, ◌++◌, ◌+◌, [], ℕ, List, Ok, Option, Result, Some, true, AllPairs, Contains, map};
-ghost use Rattle.idl_lex.specs.Keywords.{folded};
+ghost use Rattle.idl_lex.specs.kinds.Keywords.{folded};
 ghost use Rattle.idl_memo.specs.Query.{Agree, asked, outcome, run};
 ghost use Rattle.idl_entity.specs.Identity.{no_prefix};
 ghost use Rattle.idl_tree.specs.declared.name.ScopedName.{ScopedName};
 ghost use Rattle.idl_env.specs.Turns.{HasTurnsFor};
 ghost use Rattle.idl_env.specs.Facts.{UnitFacts, World, after, after_all, answers, entity_key, identity_at, key_of, operations_among, over, path_around, prefix_in, scopes_in, world};
-ghost use Rattle.idl_env.specs.Key.{key_eq};
+ghost use Rattle.idl_env.specs.keys.Key.{key_eq};
 ghost use Rattle.idl_scope.specs.Lookup.{Lookup, denoted, has, reached, under};
 ghost use Rattle.idl_scope.specs.Meaning.{Denotes, Has, Reaches, Through, bases_at, entity_found, own_at, seen};
 ghost use Rattle.idl_env.specs.Outside.{AgreeOutside, AreApart, IsInnermost, WorldsAgreeAround, WorldsAgreeOutside, looked_at_by};
 ghost use Rattle.idl_entity.specs.Path.{name_of, scope_of};
-ghost use Rattle.idl_env.specs.declared.addition.Addition.{Addition};
+ghost use Rattle.idl_env.specs.declared.additions.addition.Addition.{Addition};
 ghost use Rattle.idl_scope.specs.Stretch.{IsBalanced, closes, enters, leaves, opens};
-ghost use Rattle.idl_env.specs.declared.addition.Step.TheVariants.{Stays, Closes, Prefixes, Enters, Leaves};
-ghost use Rattle.idl_env.specs.declared.answer.Answer.{Answer};
-ghost use Rattle.idl_env.specs.declared.answer.Scope.{Scope};
+ghost use Rattle.idl_env.specs.declared.additions.addition.Step.TheVariants.{Stays, Closes, Prefixes, Enters, Leaves};
+ghost use Rattle.idl_env.specs.declared.answering.answer.Answer.{Answer};
+ghost use Rattle.idl_env.specs.declared.answering.answer.Scope.{Scope};
 ghost use Rattle.idl_entity.specs.declared.entity.Entity.{Entity};
 ghost use Rattle.idl_scope.specs.declared.fault.NameFault.{NameFault};
 ghost use Rattle.idl_scope.specs.declared.found.Found.{Found};
-ghost use Rattle.idl_env.specs.declared.key.Key.{Key};
-ghost use Rattle.idl_env.specs.declared.key.Key.TheVariants as key;
+ghost use Rattle.idl_env.specs.declared.keys.key.Key.{Key};
+ghost use Rattle.idl_env.specs.declared.keys.key.Key.TheVariants as key;
 ghost use Rattle.idl_entity.specs.declared.kind.Kind.{Kind};
 
 /// An entity is answered at the name and in the scope that its path tells, and nowhere else.

@@ -7,7 +7,7 @@
 mod fault;
 mod finds;
 mod found;
-mod laws;
+pub mod laws;
 mod lookup;
 mod naming;
 
@@ -15,9 +15,5 @@ pub use fault::{NameCode, NameFault};
 pub use found::Found;
 pub use idl_entity::Entity;
 pub use idl_env::{Env, Facts, Key};
-pub use laws::{
-    adding, agreeing_around, denotation, exchanging, found_in_a_scope, identities, introduction,
-    more_turns, own_facts, own_path, prefixes, reliance,
-};
 pub use lookup::{Place, View};
 pub use naming::{Standpoint, resolve};

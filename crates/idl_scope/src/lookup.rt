@@ -5,10 +5,10 @@ ghost use Rattle.std.specs.Option.{option_copied};
 ghost use Rattle.idl_memo.specs.Query.{noted, run};
 ghost use Rattle.idl_env.specs.Facts.{answer_of, answers, entity_in, entity_key, identity_at, over, prefix_in};
 ghost use Rattle.idl_scope.specs.Finds.{those};
-ghost use Rattle.idl_env.specs.Key.{key_eq};
+ghost use Rattle.idl_env.specs.keys.Key.{key_eq};
 ghost use Rattle.idl_scope.specs.Lookup.{bases_of, entered, has, outward, reached, under};
 ghost use Rattle.idl_env.specs.Turns.{HasTurnsFor, declared_among, declared_named};
-ghost use Rattle.idl_env.specs.declared.key.Key.TheVariants.{Declared, IdOf, Prefix as PrefixKey};
+ghost use Rattle.idl_env.specs.declared.keys.key.Key.TheVariants.{Declared, IdOf, Prefix as PrefixKey};
 
 use crate::finds::Finds;
 use idl_base::{Bytes, Shared};
@@ -56,7 +56,7 @@ impl<'a> View<'a> {
     }
 
     /// The prefix in force, which no addition changes.
-    #[tactic(auto, using(idl_env::proofs::AnswerLemmas::over_prefix))]
+    #[tactic(auto, using(idl_env::proofs::AnswerLaws::AnswerLemmas::over_prefix))]
     pub fn prefix(self, log: &mut Journal<Env>) -> Result<Shared<Prefix>, AllocError>
         ensures prefix { IfOk result (λ prefix.
             prefix

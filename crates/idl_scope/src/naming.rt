@@ -4,11 +4,11 @@ ghost use Rattle.std.specs.Prelude.{◌≡◌, ◌≤◌, ◌∷◌, [], ℕ, If
 ghost use Rattle.idl_memo.specs.Query.{run};
 ghost use Rattle.idl_env.specs.Facts.{answers};
 ghost use Rattle.idl_scope.specs.Finds.{those};
-ghost use Rattle.idl_env.specs.Key.{key_eq};
+ghost use Rattle.idl_env.specs.keys.Key.{key_eq};
 ghost use Rattle.idl_scope.specs.Lookup.{denoted, further, has, judged, named, outer_reach, part_of, placed, reach, searched, outward, under, IfSettled};
 ghost use Rattle.idl_scope.specs.Meaning.{Denotes, Reaches, entity_found, seen};
 ghost use Rattle.idl_env.specs.Turns.{HasTurnsFor};
-ghost use Rattle.idl_lex.specs.Keywords.{folded};
+ghost use Rattle.idl_lex.specs.kinds.Keywords.{folded};
 
 use crate::fault::{NameCode, NameFault};
 use crate::finds::Finds;

@@ -4,7 +4,7 @@ use Rattle.idl_session.proofs.StreamLemmas.{lines-none, lines-more}
 use Rattle.idl_session.specs.declared.announced.Announced.{Announced}
 use Rattle.idl_session.specs.Lines.{line_within}
 use Rattle.idl_session.specs.Streams.{Stream, TakesLine}
-use Rattle.idl_session.specs.Announced.{IsGathered, Gathers, IsGathering}
+use Rattle.idl_session.specs.replies.Announced.{IsGathered, Gathers, IsGathering}
 
 pub gathering-none : (count : ℕ) (left : Stream) (gathered : Announced) → IsGathered count [] gathered → IsGathering count 0 left left gathered
 gathering-none count left gathered is = record { lines = []; taken = lines-none left; many = refl; is = is }

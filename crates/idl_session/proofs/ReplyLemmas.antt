@@ -5,7 +5,7 @@ use Rattle.std.specs.Result.{OnErr}
 use Rattle.std.proofs.lemmas.List.{append-nil, take-append-le, take_more, take-append-drop}
 use Rattle.std.proofs.lemmas.Grind.{flat_map-append}
 use Rattle.std.proofs.Math.Seq.{take-append-add}
-use Rattle.idl_source.specs.Device.{append, WritesPart}
+use Rattle.idl_source.specs.devices.Device.{append, WritesPart}
 use Rattle.idl_source.proofs.DeviceLemmas.{append-append}
 use Rattle.idl_session.specs.Gathering.{Sends}
 

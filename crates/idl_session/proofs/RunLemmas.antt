@@ -5,7 +5,7 @@ use Rattle.std.specs.Option.{option_map}
 use Rattle.std.proofs.lemmas.Bool.{cases_lt}
 use Rattle.std.proofs.lemmas.Bool.Decides.{nat_tests}
 use Rattle.std.proofs.lemmas.List.{append-nil, take_at, drop_at, take_all, drop_all}
-use Rattle.idl_source.specs.Device.{prepend, append, WritesPart}
+use Rattle.idl_source.specs.devices.Device.{prepend, append, WritesPart}
 use Rattle.idl_source.proofs.DeviceLemmas.{append-append}
 use Rattle.idl_session.specs.Answers.{Answers, Replies}
 use Rattle.idl_session.specs.Commands.{Command, Make, Unfinished, command_of, commands_after, commands_of, complete_commands, has_its_lines}

@@ -5,7 +5,7 @@ use Rattle.std.proofs.lemmas.Bool.{eqb-true, eq-eqb}
 use Rattle.std.proofs.lemmas.List.{get_or_default, get_or-take, length-take-le, take_more}
 use Rattle.std.proofs.lemmas.List.Sums.{list_all-from_AllPass}
 use Rattle.memchr.specs.Find.{Nowhere, Passes, is_byte}
-use Rattle.idl_source.specs.Line.{IsLine}
+use Rattle.idl_source.specs.texts.Line.{IsLine}
 
 -- bytes without newline are a line
 pub whole-line : (bytes : List ℕ) → Nowhere (Passes (is_byte 10) bytes) 0 (length bytes) → IsLine bytes

@@ -1,7 +1,7 @@
 -- What one request does.
 use Rattle.std.proofs.Common.{◌≡◌, ◌<◌, ℕ, List, [], Result, Ok, Err, arith, subst, sym}
 use Rattle.std.specs.Result.{IfErr}
-use Rattle.idl_source.specs.Device.{WritesPart}
+use Rattle.idl_source.specs.devices.Device.{WritesPart}
 use Rattle.idl_session.specs.Answers.{Answers}
 use Rattle.idl_session.specs.Commands.{command_of}
 use Rattle.idl_session.specs.Requests.{Request, lines_taken}

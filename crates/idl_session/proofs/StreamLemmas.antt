@@ -6,7 +6,7 @@ use Rattle.std.specs.List.{list_all, onto_first}
 use Rattle.std.proofs.lemmas.Bool.Decides.{nat_tests}
 use Rattle.std.proofs.lemmas.List.{append-nil, length-drop, length-take-le, take-append-drop}
 use Rattle.std.proofs.lemmas.List.Folds.{list_all-append}
-use Rattle.idl_source.specs.Device.{prepend}
+use Rattle.idl_source.specs.devices.Device.{prepend}
 use Rattle.idl_session.specs.Lines.{lines_of, onto_next, whole_lines, line_within}
 use Rattle.idl_session.specs.Streams.{Fed, Stream, stream_of, rest_after, fuel, onto, unread, IsOver, TakesWhole, TakesLines, TakesLine, FailsWithin}
 use Rattle.idl_session.specs.Reading.{IsReading, line_with}

@@ -8,8 +8,8 @@ use Rattle.idl_workspace.specs.Edits.{Edit}
 use Rattle.idl_workspace.specs.UpToDate.{State}
 use Rattle.idl_workspace.specs.declared.work.Work.{Work}
 use Rattle.idl_session.specs.Commands.{Command, Malformed, Unfinished, Make, Ask, TellWork, commands_of}
-use Rattle.idl_session.specs.Replies.{refused_reply, edit_reply, query_reply, work_reply}
-use Rattle.idl_session.specs.Rows.{rows_for}
+use Rattle.idl_session.specs.replies.Replies.{refused_reply, edit_reply, query_reply, work_reply}
+use Rattle.idl_session.specs.replies.Rows.{rows_for}
 
 -- nothing but a refusal of the command
 abbrev pub IsTurnedAway : State → Refusal → List ℕ → State → Type 0

@@ -1,13 +1,11 @@
 pub mod Answers
-pub mod Announced
 pub mod Commands
 pub mod Gathering
 pub mod Headings
 pub mod Lines
 pub mod Reading
-pub mod Replies
 pub mod Requests
-pub mod Rows
 pub mod Serving
 pub mod Stopping
 pub mod Streams
+pub mod replies

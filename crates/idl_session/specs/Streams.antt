@@ -1,7 +1,7 @@
 -- What is left of a source whose bytes come through a feed.
 use Rattle.std.specs.Prelude.{◌≡◌, ℕ, ◌+◌, ◌*◌, ◌<◌, ◌≤◌, Bool, true, false, List, [], ◌∷◌, ◌++◌, length, Option, IfSome, if◌then◌else◌}
 use Rattle.std.specs.Option.{option_map}
-use Rattle.idl_source.specs.Device.{prepend}
+use Rattle.idl_source.specs.devices.Device.{prepend}
 use Rattle.idl_session.specs.Lines.{lines_of, whole_lines, line_within}
 
 -- the bytes that were read and not yet taken, and whether the source has told its end

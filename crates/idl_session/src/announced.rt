@@ -3,14 +3,15 @@
 ghost use Rattle.std.specs.Prelude.{◌≡◌, ◌≤◌, ◌<◌, ◌+◌, ◌-◌, ◌^◌, ◌∷◌, ◌++◌, [], true, ℕ, List, Option, IfOk, IfSome, OnOk, OnErr, MatchBool};
 ghost use Rattle.std.specs.Option.{option_copied};
 ghost use Rattle.idl_source.specs.Limits.{longest_line};
-ghost use Rattle.idl_source.specs.Line.{IsLine};
+ghost use Rattle.idl_source.specs.texts.Line.{IsLine};
 ghost use Rattle.idl_session.specs.Lines.{line_within};
 ghost use Rattle.idl_session.specs.Streams.{stream_of, IsOver, fuel, FailsWithin};
-ghost use Rattle.idl_session.specs.Announced.{IsGathered, Gathers, TakesAnnounced};
+ghost use Rattle.idl_session.specs.replies.Announced.{IsGathered, Gathers, TakesAnnounced};
 
 use crate::feed::Feed;
 use crate::line_buffer::{LineBuffer, read_line};
-use idl_source::{Lines, MAX_LINE, MAX_LINES, NEWLINE, ReadFailed, Source};
+use idl_source::devices::ReadFailed;
+use idl_source::{Lines, MAX_LINE, MAX_LINES, NEWLINE, Source};
 use memchr::memchr;
 use std::alloc::{AllocError, Global};
 

@@ -1,7 +1,7 @@
 //! All commands of a source.
 
 ghost use Rattle.std.specs.Prelude.{◌≡◌, ◌<◌, ◌-◌, ◌^◌, ℕ, List, IfErr, IfSome, OnOk};
-ghost use Rattle.idl_source.specs.Device.{append};
+ghost use Rattle.idl_source.specs.devices.Device.{append};
 ghost use Rattle.idl_session.specs.Answers.{IsReply};
 ghost use Rattle.idl_session.specs.Stopping.{IsCounted, IsLeft};
 

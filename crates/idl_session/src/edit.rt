@@ -1,10 +1,10 @@
 //! The edits that commands ask for.
 
 ghost use Rattle.std.specs.Prelude.{◌≡◌, ℕ, List, true, Err, IfOk, MatchBool, map, nat_eq, length};
-ghost use Rattle.idl_source.specs.Line.{IsLine};
+ghost use Rattle.idl_source.specs.texts.Line.{IsLine};
 ghost use Rattle.idl_workspace.specs.Edited.{IsEdited};
 ghost use Rattle.idl_workspace.specs.Edits.{Define, Search, after, are_too_long};
-ghost use Rattle.idl_session.specs.Announced.{IsAnnounced};
+ghost use Rattle.idl_session.specs.replies.Announced.{IsAnnounced};
 ghost use Rattle.idl_session.specs.Headings.{HasLine, edit_by, edit_with, words_after};
 
 use crate::announced::Announced;

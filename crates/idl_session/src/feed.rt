@@ -3,7 +3,8 @@
 ghost use Rattle.std.specs.Prelude.{◌≡◌, ◌≤◌, ◌<◌, ◌+◌, ◌-◌, ◌^◌, [], true, false, OnOk, OnErr, MatchBool, length, drop};
 ghost use Rattle.idl_session.specs.Streams.{stream_of, unread, IsOver, fuel};
 
-use idl_source::{ReadFailed, Source};
+use idl_source::Source;
+use idl_source::devices::ReadFailed;
 use std::marker::Model;
 
 /// Bytes that were read and not yet taken. Once the source has told its end, nothing more is read.

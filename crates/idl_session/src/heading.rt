@@ -1,8 +1,8 @@
 //! Command lines: words parted by one blank each.
 
 ghost use Rattle.std.specs.Prelude.{◌≡◌, [], ◌∷◌, true, false, map, IfSome, MatchOption};
-ghost use Rattle.idl_source.specs.Name.{is_visible};
-ghost use Rattle.idl_source.specs.Line.{IsLine};
+ghost use Rattle.idl_source.specs.names.Name.{is_visible};
+ghost use Rattle.idl_source.specs.texts.Line.{IsLine};
 ghost use Rattle.idl_session.specs.Requests.{request_in_words, define_request, counted_request, pair_request, words, is_command_word, is_number, is_digit, value_of};
 ghost use Rattle.idl_session.specs.Headings.{request_by, words_after, HasLines};
 ghost use Rattle.std.specs.List.{list_all};

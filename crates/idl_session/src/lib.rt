@@ -17,9 +17,8 @@ mod serve;
 mod stop;
 
 pub use commands::run;
-pub use idl_source::{
-    BufferSink, Line, Name, ReadFailed, Refusal, Sink, SliceSource, Source, WriteFailed, write_all,
-};
+pub use idl_source::devices::{BufferSink, ReadFailed, SliceSource, WriteFailed, write_all};
+pub use idl_source::{Line, Name, Refusal, Sink, Source};
 pub use idl_workspace::{
     Finding, MAX_BODY, MAX_DIRECTORIES, MAX_MACROS, MAX_ROOTS, Row, Session, Span, Work,
 };

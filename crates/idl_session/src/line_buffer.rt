@@ -2,13 +2,14 @@
 
 ghost use Rattle.std.specs.Prelude.{◌≡◌, ◌≤◌, ◌<◌, ◌+◌, ◌-◌, ◌^◌, [], true, Some, IfOk, IfSome, OnOk, OnErr, MatchBool};
 ghost use Rattle.std.specs.Option.{option_copied};
-ghost use Rattle.idl_source.specs.Line.{IsLine};
+ghost use Rattle.idl_source.specs.texts.Line.{IsLine};
 ghost use Rattle.idl_session.specs.Reading.{line_with};
 ghost use Rattle.idl_session.specs.Streams.{stream_of, IsOver, fuel, TakesLine, FailsWithin};
 
 use crate::feed::Feed;
 use arrayvec::ArrayVec;
-use idl_source::{NEWLINE, ReadFailed, Source};
+use idl_source::devices::ReadFailed;
+use idl_source::{NEWLINE, Source};
 use memchr::memchr;
 use std::marker::Model;
 
@@ -21,7 +22,7 @@ pub struct LineBuffer<const N: usize> {
 
 impl<const N: usize> Model for LineBuffer<N> {
     ghost use Rattle.std.specs.Prelude.{List, ℕ, Option, Some, None, if◌then◌else◌};
-    ghost use Rattle.idl_source.specs.Line.{IsLine};
+    ghost use Rattle.idl_source.specs.texts.Line.{IsLine};
 
     ghost Value = { Option (List ℕ) };
 

@@ -2,14 +2,15 @@
 
 ghost use Rattle.std.specs.Prelude.{◌≡◌, ◌<◌, ◌+◌, ◌-◌, ◌^◌, [], ◌++◌, OnOk, OnErr, decimal};
 ghost use Rattle.std.specs.List.{flat_map};
-ghost use Rattle.idl_source.specs.Device.{append, WritesPart};
-ghost use Rattle.idl_session.specs.Replies.{ok_reply, refused_reply, rows_reply, work_reply, whole_line, number_line};
+ghost use Rattle.idl_source.specs.devices.Device.{append, WritesPart};
+ghost use Rattle.idl_session.specs.replies.Replies.{ok_reply, refused_reply, rows_reply, work_reply, whole_line, number_line};
 ghost use Rattle.idl_session.specs.Gathering.{Sends};
-ghost use Rattle.idl_session.specs.Rows.{rows_of};
+ghost use Rattle.idl_session.specs.replies.Rows.{rows_of};
 
 use crate::rows::Rows;
 use arrayvec::ArrayVec;
-use idl_source::{Refusal, Sink, WriteFailed, write_all};
+use idl_source::devices::{WriteFailed, write_all};
+use idl_source::{Refusal, Sink};
 use idl_workspace::{Row, Work};
 use itoa::Buffer;
 use std::marker::Model;

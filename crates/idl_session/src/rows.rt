@@ -2,7 +2,7 @@
 
 ghost use Rattle.std.specs.Prelude.{◌≡◌, ◌<◌, Some, length, slice_get};
 ghost use Rattle.std.specs.Option.{option_map};
-ghost use Rattle.idl_session.specs.Rows.{rows_for, rows_of};
+ghost use Rattle.idl_session.specs.replies.Rows.{rows_for, rows_of};
 
 use crate::heading::Question;
 use idl_source::Name;

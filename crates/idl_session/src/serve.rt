@@ -2,11 +2,11 @@
 
 ghost use Rattle.std.specs.Prelude.{◌≡◌, ◌≤◌, ◌<◌, ◌+◌, ◌-◌, ◌^◌, [], false, IfErr, OnOk, OnErr};
 ghost use Rattle.std.specs.Option.{option_map};
-ghost use Rattle.idl_source.specs.Device.{append, WritesPart};
+ghost use Rattle.idl_source.specs.devices.Device.{append, WritesPart};
 ghost use Rattle.idl_session.specs.Headings.{request_by, HasLines};
-ghost use Rattle.idl_session.specs.Replies.{edit_reply, query_reply};
+ghost use Rattle.idl_session.specs.replies.Replies.{edit_reply, query_reply};
 ghost use Rattle.idl_session.specs.Requests.{request_kept};
-ghost use Rattle.idl_session.specs.Rows.{rows_of};
+ghost use Rattle.idl_session.specs.replies.Rows.{rows_of};
 ghost use Rattle.idl_session.specs.Serving.{SendsReply, IsCut};
 ghost use Rattle.idl_session.specs.Stopping.{IsCounted};
 ghost use Rattle.idl_session.specs.Streams.{fuel};
@@ -20,7 +20,8 @@ use crate::line_buffer::LineBuffer;
 use crate::reply::{write_ok, write_refused, write_rows, write_work};
 use crate::rows::{Rows, ask};
 use crate::stop::Stop;
-use idl_source::{Name, Refusal, Sink, Source, WriteFailed};
+use idl_source::devices::WriteFailed;
+use idl_source::{Name, Refusal, Sink, Source};
 use idl_workspace::{Session, Work};
 
 /// What was read of a source: a command line, and the bytes after it.

@@ -3,7 +3,7 @@
 ghost use Rattle.std.specs.Prelude.{◌≡◌};
 ghost use Rattle.idl_session.specs.declared.stop.Stop.TheVariants as stop;
 
-use idl_source::{ReadFailed, WriteFailed};
+use idl_source::devices::{ReadFailed, WriteFailed};
 use thiserror::Error;
 
 /// Why a run stops before its input ends: a device failed in it.

@@ -1,32 +1,32 @@
 -- The parts of structs, unions and enums by those of their members.
 use Rattle.std.proofs.Common.{◌≡◌, ◌∙◌, ℕ, List, [], ◌∷◌, ◌++◌, flat_map, ap, sym}
 use Rattle.std.proofs.lemmas.List.Folds.{flat_map-map}
-use Rattle.idl_lex.specs.declared.keyword.Keyword.TheVariants as word
-use Rattle.idl_lex.specs.declared.mark.Mark.TheVariants as mark
+use Rattle.idl_lex.specs.declared.kinds.keyword.Keyword.TheVariants as word
+use Rattle.idl_lex.specs.declared.kinds.mark.Mark.TheVariants as mark
 use Rattle.idl_site.specs.ConstructionParts.{case_parts, case_step, construction_parts, construction_step, discriminator_parts, enumeration_parts, label_parts, member_parts, member_step, member_type_parts, member_type_step, structure_parts, structure_step, union_parts, union_step}
 use Rattle.idl_site.specs.Part.{Parts, Plain, Declares, ScopeBegins, ScopeEnds, all_parts, keyword_part, listed, punctuation}
 use Rattle.idl_site.specs.TypeParts.{declarator_parts, type_parts}
 use Rattle.idl_site.specs.declared.site.Declaration.TheVariants as declaration
 use Rattle.idl_tree.specs.Lexeme.{Word, Punctuation}
-use Rattle.idl_tree.specs.declared.construction.Case.{Case, out-Case}
-use Rattle.idl_tree.specs.declared.construction.Construction.{Construction, fold-Construction}
-use Rattle.idl_tree.specs.declared.construction.Construction.TheFolds.{fold-MemberType, fold-roll-Construction, fold-roll-MemberType, fold_out-Case, fold_out-Member, fold_out-Structure, fold_out-Union, fold-roll-Case, fold-roll-Member, fold-roll-Structure, fold-roll-Union}
-use Rattle.idl_tree.specs.declared.construction.Construction.TheOpen.{Construction-F, MemberType-F}
-use Rattle.idl_tree.specs.declared.construction.Construction.TheVariants.{rolls-Structure, rolls-Union, rolls-Enumeration}
-use Rattle.idl_tree.specs.declared.construction.Construction.TheVariants as construction
-use Rattle.idl_tree.specs.declared.construction.Discriminator.{Discriminator}
-use Rattle.idl_tree.specs.declared.construction.Enumeration.{Enumeration}
-use Rattle.idl_tree.specs.declared.construction.Label.{Label}
-use Rattle.idl_tree.specs.declared.construction.Member.{Member, out-Member}
-use Rattle.idl_tree.specs.declared.construction.MemberType.{MemberType}
-use Rattle.idl_tree.specs.declared.construction.MemberType.TheVariants.{rolls-Type, rolls-Construction}
-use Rattle.idl_tree.specs.declared.construction.MemberType.TheVariants as member_type
-use Rattle.idl_tree.specs.declared.construction.Structure.{Structure, out-Structure}
-use Rattle.idl_tree.specs.declared.construction.Union.{Union, out-Union}
-use Rattle.idl_tree.specs.declared.data_type.DataType.{DataType}
-use Rattle.idl_tree.specs.declared.declarator.Declarator.{Declarator}
+use Rattle.idl_tree.specs.declared.declarations.construction.Case.{Case, out-Case}
+use Rattle.idl_tree.specs.declared.declarations.construction.Construction.{Construction, fold-Construction}
+use Rattle.idl_tree.specs.declared.declarations.construction.Construction.TheFolds.{fold-MemberType, fold-roll-Construction, fold-roll-MemberType, fold_out-Case, fold_out-Member, fold_out-Structure, fold_out-Union, fold-roll-Case, fold-roll-Member, fold-roll-Structure, fold-roll-Union}
+use Rattle.idl_tree.specs.declared.declarations.construction.Construction.TheOpen.{Construction-F, MemberType-F}
+use Rattle.idl_tree.specs.declared.declarations.construction.Construction.TheVariants.{rolls-Structure, rolls-Union, rolls-Enumeration}
+use Rattle.idl_tree.specs.declared.declarations.construction.Construction.TheVariants as construction
+use Rattle.idl_tree.specs.declared.declarations.construction.Discriminator.{Discriminator}
+use Rattle.idl_tree.specs.declared.declarations.construction.Enumeration.{Enumeration}
+use Rattle.idl_tree.specs.declared.declarations.construction.Label.{Label}
+use Rattle.idl_tree.specs.declared.declarations.construction.Member.{Member, out-Member}
+use Rattle.idl_tree.specs.declared.declarations.construction.MemberType.{MemberType}
+use Rattle.idl_tree.specs.declared.declarations.construction.MemberType.TheVariants.{rolls-Type, rolls-Construction}
+use Rattle.idl_tree.specs.declared.declarations.construction.MemberType.TheVariants as member_type
+use Rattle.idl_tree.specs.declared.declarations.construction.Structure.{Structure, out-Structure}
+use Rattle.idl_tree.specs.declared.declarations.construction.Union.{Union, out-Union}
+use Rattle.idl_tree.specs.declared.declarations.data_type.DataType.{DataType}
+use Rattle.idl_tree.specs.declared.declarations.declarator.Declarator.{Declarator}
 use Rattle.idl_tree.specs.declared.several.Several.{Several}
-use Rattle.idl_tree.specs.ReadConstruction.{made_case, made_member, made_structure, made_union}
+use Rattle.idl_tree.specs.reading.ReadConstruction.{made_case, made_member, made_structure, made_union}
 
 pub member_type_parts-type : (t : DataType) → member_type_parts (member_type.Type t) ≡ type_parts t
 unfolding member_type_parts

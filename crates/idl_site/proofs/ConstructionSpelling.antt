@@ -1,8 +1,8 @@
 -- The parts of structs, unions and enums are spelled as these are.
 use Rattle.std.proofs.Common.{◌≡◌, ◌∙◌, ℕ, List, [], ◌∷◌, ◌++◌, flat_map, map, refl, sym, ap, subst}
 use Rattle.std.proofs.lemmas.List.{append-nil}
-use Rattle.idl_lex.specs.declared.keyword.Keyword.TheVariants as word
-use Rattle.idl_lex.specs.declared.mark.Mark.TheVariants as mark
+use Rattle.idl_lex.specs.declared.kinds.keyword.Keyword.TheVariants as word
+use Rattle.idl_lex.specs.declared.kinds.mark.Mark.TheVariants as mark
 use Rattle.idl_site.specs.ConstructionParts.{case_parts, construction_parts, discriminator_parts, enumeration_parts, label_parts, member_parts, member_type_parts, structure_parts, union_parts}
 use Rattle.idl_site.specs.ExpressionParts.{value_parts}
 use Rattle.idl_site.specs.Part.{Parts, ScopeEnds, all_parts, declared, listed, punctuation, spell_parts}
@@ -17,24 +17,24 @@ use Rattle.idl_tree.specs.DataType.{spell_declarator, spell_discrete}
 use Rattle.idl_tree.specs.Expression.{spell_expression}
 use Rattle.idl_tree.specs.Lexeme.{Lexemes, Identifier, Punctuation, Word}
 use Rattle.idl_tree.specs.Name.{spell_name}
-use Rattle.idl_tree.specs.ReadConstruction.{made_case, made_member, made_structure, made_union}
+use Rattle.idl_tree.specs.reading.ReadConstruction.{made_case, made_member, made_structure, made_union}
 use Rattle.idl_tree.specs.Several.{spell_all, spell_listed}
-use Rattle.idl_tree.specs.declared.construction.Case.{Case, roll-Case}
-use Rattle.idl_tree.specs.declared.construction.Construction.{Construction, roll-Construction}
-use Rattle.idl_tree.specs.declared.construction.Construction.TheFolds.{ind-Construction, ind-Member, ind-MemberType, map-Construction, map-MemberType}
-use Rattle.idl_tree.specs.declared.construction.Construction.TheOpen.{Construction-F, MemberType-F}
-use Rattle.idl_tree.specs.declared.construction.Construction.TheVariants.{rolls-Enumeration, rolls-Structure, rolls-Union}
-use Rattle.idl_tree.specs.declared.construction.Discriminator.{Discriminator}
-use Rattle.idl_tree.specs.declared.construction.Discriminator.TheVariants as discriminator
-use Rattle.idl_tree.specs.declared.construction.Enumeration.{Enumeration}
-use Rattle.idl_tree.specs.declared.construction.Label.{Label}
-use Rattle.idl_tree.specs.declared.construction.Label.TheVariants as label
-use Rattle.idl_tree.specs.declared.construction.Member.{Member, roll-Member}
-use Rattle.idl_tree.specs.declared.construction.MemberType.{MemberType, roll-MemberType}
-use Rattle.idl_tree.specs.declared.construction.MemberType.TheVariants.{rolls-Construction, rolls-Type}
-use Rattle.idl_tree.specs.declared.construction.Structure.{Structure, roll-Structure}
-use Rattle.idl_tree.specs.declared.construction.Union.{Union, roll-Union}
-use Rattle.idl_tree.specs.declared.declarator.Declarator.{Declarator}
+use Rattle.idl_tree.specs.declared.declarations.construction.Case.{Case, roll-Case}
+use Rattle.idl_tree.specs.declared.declarations.construction.Construction.{Construction, roll-Construction}
+use Rattle.idl_tree.specs.declared.declarations.construction.Construction.TheFolds.{ind-Construction, ind-Member, ind-MemberType, map-Construction, map-MemberType}
+use Rattle.idl_tree.specs.declared.declarations.construction.Construction.TheOpen.{Construction-F, MemberType-F}
+use Rattle.idl_tree.specs.declared.declarations.construction.Construction.TheVariants.{rolls-Enumeration, rolls-Structure, rolls-Union}
+use Rattle.idl_tree.specs.declared.declarations.construction.Discriminator.{Discriminator}
+use Rattle.idl_tree.specs.declared.declarations.construction.Discriminator.TheVariants as discriminator
+use Rattle.idl_tree.specs.declared.declarations.construction.Enumeration.{Enumeration}
+use Rattle.idl_tree.specs.declared.declarations.construction.Label.{Label}
+use Rattle.idl_tree.specs.declared.declarations.construction.Label.TheVariants as label
+use Rattle.idl_tree.specs.declared.declarations.construction.Member.{Member, roll-Member}
+use Rattle.idl_tree.specs.declared.declarations.construction.MemberType.{MemberType, roll-MemberType}
+use Rattle.idl_tree.specs.declared.declarations.construction.MemberType.TheVariants.{rolls-Construction, rolls-Type}
+use Rattle.idl_tree.specs.declared.declarations.construction.Structure.{Structure, roll-Structure}
+use Rattle.idl_tree.specs.declared.declarations.construction.Union.{Union, roll-Union}
+use Rattle.idl_tree.specs.declared.declarations.declarator.Declarator.{Declarator}
 use Rattle.idl_tree.specs.declared.several.Several.{Several}
 use Rattle.idl_site.proofs.ConstructionEquations.{case_parts-made, construction_parts-enumeration, construction_parts-structure, construction_parts-union, member_parts-made, member_type_parts-construction, member_type_parts-type, structure_parts-made, union_brace, union_parts-made}
 use Rattle.idl_site.proofs.ExpressionSpelling.{value_spells}

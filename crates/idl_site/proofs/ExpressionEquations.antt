@@ -1,12 +1,12 @@
 -- The parts of expressions by those of their operands.
 use Rattle.std.proofs.Common.{◌≡◌, ◌∙◌, List, [], ◌∷◌, ◌++◌, Option, flat_map, ap, sym}
 use Rattle.std.proofs.lemmas.List.Folds.{flat_map-map}
-use Rattle.idl_lex.specs.declared.mark.Mark.TheVariants as mark
+use Rattle.idl_lex.specs.declared.kinds.mark.Mark.TheVariants as mark
 use Rattle.idl_site.specs.ExpressionParts.{and_parts, and_step, exclusive_or_parts, exclusive_or_step, expression_parts, expression_step, operator_parts, primary_parts, primary_step, product_parts, product_step, shift_parts, shift_step, sum_parts, sum_step, unary_parts, unary_step}
 use Rattle.idl_site.specs.Part.{Parts, Plain, Uses, punctuation}
 use Rattle.idl_site.specs.declared.site.Use.TheVariants.{AsOperand}
 use Rattle.idl_tree.specs.Expression.{product_mark, shift_mark, spell_literal, sum_mark}
-use Rattle.idl_tree.specs.ReadExpression.{made_and, made_exclusive_or, made_expression, made_product, made_shift, made_sum, made_unary}
+use Rattle.idl_tree.specs.reading.ReadExpression.{made_and, made_exclusive_or, made_expression, made_product, made_shift, made_sum, made_unary}
 use Rattle.idl_tree.specs.declared.expression.And.{And, out-And}
 use Rattle.idl_tree.specs.declared.expression.ExclusiveOr.{ExclusiveOr, out-ExclusiveOr}
 use Rattle.idl_tree.specs.declared.expression.Expression.{Expression, out-Expression}

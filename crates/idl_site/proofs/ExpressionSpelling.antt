@@ -1,7 +1,7 @@
 -- The parts of an expression are spelled as it is.
 use Rattle.std.proofs.Common.{◌≡◌, ◌∙◌, List, [], ◌∷◌, Option, None, Some, map, refl, sym, ap, subst}
 use Rattle.std.proofs.lemmas.List.{append-nil}
-use Rattle.idl_lex.specs.declared.mark.Mark.TheVariants as mark
+use Rattle.idl_lex.specs.declared.kinds.mark.Mark.TheVariants as mark
 use Rattle.idl_site.specs.ExpressionParts.{and_parts, exclusive_or_parts, expression_parts, operator_parts, primary_parts, product_parts, shift_parts, sum_parts, unary_parts, value_parts}
 use Rattle.idl_site.specs.Part.{ValueEnds, punctuation, spell_parts}
 use Rattle.idl_site.specs.declared.site.Target.{Target}
@@ -9,7 +9,7 @@ use Rattle.idl_tree.proofs.SpellLemmas.{spell_and-made, spell_exclusive_or-made,
 use Rattle.idl_tree.specs.Expression.{product_mark, shift_mark, spell_and, spell_exclusive_or, spell_expression, spell_literal, spell_primary, spell_product, spell_shift, spell_sum, spell_unary, spell_unary_operator, sum_mark}
 use Rattle.idl_tree.specs.Lexeme.{Lexemes, Punctuation}
 use Rattle.idl_tree.specs.Name.{spell_name}
-use Rattle.idl_tree.specs.ReadExpression.{made_and, made_exclusive_or, made_expression, made_product, made_shift, made_sum, made_unary}
+use Rattle.idl_tree.specs.reading.ReadExpression.{made_and, made_exclusive_or, made_expression, made_product, made_shift, made_sum, made_unary}
 use Rattle.idl_tree.specs.declared.expression.And.{And, roll-And}
 use Rattle.idl_tree.specs.declared.expression.ExclusiveOr.{ExclusiveOr, roll-ExclusiveOr}
 use Rattle.idl_tree.specs.declared.expression.Expression.{Expression, roll-Expression}

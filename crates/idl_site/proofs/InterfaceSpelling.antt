@@ -1,9 +1,9 @@
 -- The parts of interfaces, attributes and operations are spelled as these are.
 use Rattle.std.proofs.Common.{◌≡◌, ◌∙◌, ℕ, Bool, true, false, List, [], ◌∷◌, ◌++◌, Option, None, Some, refl, ap, append_assoc}
 use Rattle.std.proofs.lemmas.List.{append-nil}
-use Rattle.idl_lex.specs.declared.keyword.Keyword.{Keyword}
-use Rattle.idl_lex.specs.declared.keyword.Keyword.TheVariants as word
-use Rattle.idl_lex.specs.declared.mark.Mark.TheVariants as mark
+use Rattle.idl_lex.specs.declared.kinds.keyword.Keyword.{Keyword}
+use Rattle.idl_lex.specs.declared.kinds.keyword.Keyword.TheVariants as word
+use Rattle.idl_lex.specs.declared.kinds.mark.Mark.TheVariants as mark
 use Rattle.idl_site.specs.Part.{Parts, Plain, Declares, Says, ScopeBegins, ScopeEnds, Uses, declared, if_some, listed, punctuation, raised, spell_parts, used}
 use Rattle.idl_site.specs.TypeParts.{type_parts}
 use Rattle.idl_site.specs.UnitParts.{attribute_names_parts, attribute_parts, bases_parts, context_parts, direction_parts, exceptions_parts, forward_parts, given_back, interface_parts, oneway_parts, operation_parts, parameter_parts, raises_parts, readonly_attribute_parts, readonly_names_parts, result_parts}
@@ -15,23 +15,23 @@ use Rattle.idl_tree.specs.Interface.{spell_attribute, spell_attribute_names, spe
 use Rattle.idl_tree.specs.Lexeme.{Lexemes, Identifier, Punctuation, Word}
 use Rattle.idl_tree.specs.Name.{spell_name}
 use Rattle.idl_tree.specs.Several.{spell_if, spell_listed}
-use Rattle.idl_tree.specs.declared.attribute.Attribute.{Attribute}
-use Rattle.idl_tree.specs.declared.attribute.AttributeNames.{AttributeNames}
-use Rattle.idl_tree.specs.declared.attribute.AttributeNames.TheVariants as names
-use Rattle.idl_tree.specs.declared.attribute.AttributeRaises.{AttributeRaises}
-use Rattle.idl_tree.specs.declared.attribute.AttributeRaises.TheVariants.{Get, Set}
-use Rattle.idl_tree.specs.declared.attribute.ReadonlyAttribute.{ReadonlyAttribute}
-use Rattle.idl_tree.specs.declared.attribute.ReadonlyNames.{ReadonlyNames}
-use Rattle.idl_tree.specs.declared.attribute.ReadonlyNames.TheVariants as readonly
-use Rattle.idl_tree.specs.declared.data_type.DataType.{DataType}
-use Rattle.idl_tree.specs.declared.interface.Forward.{Forward}
-use Rattle.idl_tree.specs.declared.interface.Forward.TheVariants as forward
-use Rattle.idl_tree.specs.declared.interface.Interface.{Interface}
+use Rattle.idl_tree.specs.declared.declarations.attribute.Attribute.{Attribute}
+use Rattle.idl_tree.specs.declared.declarations.attribute.AttributeNames.{AttributeNames}
+use Rattle.idl_tree.specs.declared.declarations.attribute.AttributeNames.TheVariants as names
+use Rattle.idl_tree.specs.declared.declarations.attribute.AttributeRaises.{AttributeRaises}
+use Rattle.idl_tree.specs.declared.declarations.attribute.AttributeRaises.TheVariants.{Get, Set}
+use Rattle.idl_tree.specs.declared.declarations.attribute.ReadonlyAttribute.{ReadonlyAttribute}
+use Rattle.idl_tree.specs.declared.declarations.attribute.ReadonlyNames.{ReadonlyNames}
+use Rattle.idl_tree.specs.declared.declarations.attribute.ReadonlyNames.TheVariants as readonly
+use Rattle.idl_tree.specs.declared.declarations.data_type.DataType.{DataType}
+use Rattle.idl_tree.specs.declared.declarations.interface.Forward.{Forward}
+use Rattle.idl_tree.specs.declared.declarations.interface.Forward.TheVariants as forward
+use Rattle.idl_tree.specs.declared.declarations.interface.Interface.{Interface}
 use Rattle.idl_tree.specs.declared.name.ScopedName.{ScopedName}
-use Rattle.idl_tree.specs.declared.operation.Direction.{Direction}
-use Rattle.idl_tree.specs.declared.operation.Direction.TheVariants.{In, InOut, Out}
-use Rattle.idl_tree.specs.declared.operation.Operation.{Operation}
-use Rattle.idl_tree.specs.declared.operation.Parameter.{Parameter}
+use Rattle.idl_tree.specs.declared.declarations.operation.Direction.{Direction}
+use Rattle.idl_tree.specs.declared.declarations.operation.Direction.TheVariants.{In, InOut, Out}
+use Rattle.idl_tree.specs.declared.declarations.operation.Operation.{Operation}
+use Rattle.idl_tree.specs.declared.declarations.operation.Parameter.{Parameter}
 use Rattle.idl_tree.specs.declared.several.Several.{Several}
 use Rattle.idl_site.proofs.PartSpelling.{spells-if, spells-listed, spells-then}
 use Rattle.idl_site.proofs.TypeSpelling.{type_spells}

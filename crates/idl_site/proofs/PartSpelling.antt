@@ -1,7 +1,7 @@
 -- The spelling of parts, one after another.
 use Rattle.std.proofs.Common.{◌≡◌, ◌∙◌, List, [], ◌∷◌, ◌++◌, Option, None, Some, flat_map, map, refl, sym, ap}
 use Rattle.std.proofs.lemmas.Grind.{flat_map-append}
-use Rattle.idl_lex.specs.declared.mark.Mark.TheVariants.{Comma}
+use Rattle.idl_lex.specs.declared.kinds.mark.Mark.TheVariants.{Comma}
 use Rattle.idl_site.specs.Part.{Parts, all_parts, if_some, listed, punctuation, spell_part, spell_parts}
 use Rattle.idl_tree.proofs.Many.{many_spell}
 use Rattle.idl_tree.specs.Lexeme.{Lexemes, Punctuation}

@@ -1,8 +1,8 @@
 -- The parts of a type are spelled as it is, and those of a declared name.
 use Rattle.std.proofs.Common.{◌≡◌, ◌∙◌, List, [], ◌∷◌, ◌++◌, Option, None, Some, flat_map, is_some, refl, sym, ap, subst}
 use Rattle.std.proofs.lemmas.List.{append-nil}
-use Rattle.idl_lex.specs.declared.keyword.Keyword.TheVariants as word
-use Rattle.idl_lex.specs.declared.mark.Mark.TheVariants as mark
+use Rattle.idl_lex.specs.declared.kinds.keyword.Keyword.TheVariants as word
+use Rattle.idl_lex.specs.declared.kinds.mark.Mark.TheVariants as mark
 use Rattle.idl_site.specs.Part.{Parts, Plain, TypeEnds, punctuation, spell_parts}
 use Rattle.idl_site.specs.ExpressionParts.{value_parts}
 use Rattle.idl_site.specs.TypeParts.{array_end, bound_parts, constant_type_parts, data_type_step, declarator_parts, length_parts, limit_parts, plain_parts, sequence_step, string_parts, type_parts_as}
@@ -11,23 +11,23 @@ use Rattle.idl_site.specs.declared.site.Shape.TheVariants.{Text, Sequence as Ele
 use Rattle.idl_site.specs.declared.site.Target.TheVariants.{Bound, Length}
 use Rattle.idl_site.specs.declared.site.Use.{Use}
 use Rattle.idl_site.specs.declared.site.Use.TheVariants.{AsElement}
-use Rattle.idl_tree.proofs.NestedTypeLaws.{spell_type-plain, spell_type-sequence}
+use Rattle.idl_tree.proofs.Readers.NestedTypeLaws.{spell_type-plain, spell_type-sequence}
 use Rattle.idl_tree.specs.DataType.{spell_basic, spell_bound, spell_declarator, spell_discrete, spell_length, spell_limit, spell_plain, spell_string, spell_string_word, spell_type}
 use Rattle.idl_tree.specs.Expression.{spell_expression}
 use Rattle.idl_tree.specs.Lexeme.{Lexemes, Identifier, Punctuation, Word}
 use Rattle.idl_tree.specs.Name.{spell_name}
-use Rattle.idl_tree.specs.ReadType.{made_sequence}
+use Rattle.idl_tree.specs.reading.ReadType.{made_sequence}
 use Rattle.idl_tree.specs.Unit.{spell_constant_type}
-use Rattle.idl_tree.specs.declared.data_type.DataType.{DataType, fold-DataType, ind-DataType, map-DataType, roll-DataType}
-use Rattle.idl_tree.specs.declared.data_type.DataType.TheFolds.{fold-roll-DataType, fold-roll-Sequence}
-use Rattle.idl_tree.specs.declared.data_type.DataType.TheOpen.{DataType-F}
-use Rattle.idl_tree.specs.declared.data_type.DataType.TheVariants.{rolls-Plain, rolls-Sequence}
-use Rattle.idl_tree.specs.declared.data_type.DataType.TheVariants as data_type
-use Rattle.idl_tree.specs.declared.data_type.PlainType.{PlainType}
-use Rattle.idl_tree.specs.declared.data_type.PlainType.TheVariants as plain
-use Rattle.idl_tree.specs.declared.data_type.Sequence.{Sequence, roll-Sequence}
-use Rattle.idl_tree.specs.declared.data_type.StringType.{StringType}
-use Rattle.idl_tree.specs.declared.declarator.Declarator.{Declarator}
+use Rattle.idl_tree.specs.declared.declarations.data_type.DataType.{DataType, fold-DataType, ind-DataType, map-DataType, roll-DataType}
+use Rattle.idl_tree.specs.declared.declarations.data_type.DataType.TheFolds.{fold-roll-DataType, fold-roll-Sequence}
+use Rattle.idl_tree.specs.declared.declarations.data_type.DataType.TheOpen.{DataType-F}
+use Rattle.idl_tree.specs.declared.declarations.data_type.DataType.TheVariants.{rolls-Plain, rolls-Sequence}
+use Rattle.idl_tree.specs.declared.declarations.data_type.DataType.TheVariants as data_type
+use Rattle.idl_tree.specs.declared.declarations.data_type.PlainType.{PlainType}
+use Rattle.idl_tree.specs.declared.declarations.data_type.PlainType.TheVariants as plain
+use Rattle.idl_tree.specs.declared.declarations.data_type.Sequence.{Sequence, roll-Sequence}
+use Rattle.idl_tree.specs.declared.declarations.data_type.StringType.{StringType}
+use Rattle.idl_tree.specs.declared.declarations.declarator.Declarator.{Declarator}
 use Rattle.idl_tree.specs.declared.expression.Expression.{Expression}
 use Rattle.idl_tree.specs.declared.unit.ConstantType.{ConstantType}
 use Rattle.idl_tree.specs.declared.unit.ConstantType.TheVariants as constant

@@ -2,8 +2,8 @@
 use Rattle.std.proofs.Common.{◌≡◌, ◌∙◌, [], ◌∷◌, ◌++◌, drop, flat_map, length, refl, sym, ap, arith}
 use Rattle.std.proofs.lemmas.List.{length-append}
 use Rattle.std.proofs.Math.Seq.{drop-append_seam}
-use Rattle.idl_lex.specs.declared.keyword.Keyword.TheVariants as word
-use Rattle.idl_lex.specs.declared.mark.Mark.TheVariants as mark
+use Rattle.idl_lex.specs.declared.kinds.keyword.Keyword.TheVariants as word
+use Rattle.idl_lex.specs.declared.kinds.mark.Mark.TheVariants as mark
 use Rattle.idl_site.specs.ConstructionParts.{construction_parts, member_parts, member_type_parts}
 use Rattle.idl_site.specs.ExpressionParts.{value_parts}
 use Rattle.idl_site.specs.Item.{item_length, item_of, items, items_length}

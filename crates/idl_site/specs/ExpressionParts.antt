@@ -1,6 +1,6 @@
 -- The parts of expressions: the names that are used, and the tokens between them.
 use Rattle.std.specs.Prelude.{[], ◌∷◌, ◌++◌, flat_map, Option, None, Some}
-use Rattle.idl_lex.specs.declared.mark.Mark.TheVariants as mark
+use Rattle.idl_lex.specs.declared.kinds.mark.Mark.TheVariants as mark
 use Rattle.idl_site.specs.Part.{Parts, Plain, Uses, ValueBegins, ValueEnds, punctuation}
 use Rattle.idl_site.specs.declared.site.Target.{Target}
 use Rattle.idl_site.specs.declared.site.Use.TheVariants.{AsOperand}

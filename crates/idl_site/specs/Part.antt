@@ -2,9 +2,9 @@
 -- where expressions and scopes begin and end. What stands between is told by its tokens, or by their
 -- number alone.
 use Rattle.std.specs.Prelude.{ℕ, List, [], ◌∷◌, ◌++◌, flat_map, Option, None, Some}
-use Rattle.idl_lex.specs.declared.keyword.Keyword.{Keyword}
-use Rattle.idl_lex.specs.declared.mark.Mark.{Mark}
-use Rattle.idl_lex.specs.declared.mark.Mark.TheVariants.{Comma, OpenParenthesis, CloseParenthesis}
+use Rattle.idl_lex.specs.declared.kinds.keyword.Keyword.{Keyword}
+use Rattle.idl_lex.specs.declared.kinds.mark.Mark.{Mark}
+use Rattle.idl_lex.specs.declared.kinds.mark.Mark.TheVariants.{Comma, OpenParenthesis, CloseParenthesis}
 use Rattle.idl_site.specs.declared.site.Declaration.{Declaration}
 use Rattle.idl_site.specs.declared.site.Shape.{Shape}
 use Rattle.idl_site.specs.declared.site.Target.{Target}
@@ -12,7 +12,7 @@ use Rattle.idl_site.specs.declared.site.Use.{Use}
 use Rattle.idl_tree.specs.Interface.{spell_text}
 use Rattle.idl_tree.specs.Lexeme.{Lexemes, Word, Punctuation, Identifier}
 use Rattle.idl_tree.specs.Name.{spell_name}
-use Rattle.idl_tree.specs.declared.data_type.DiscreteType.{DiscreteType}
+use Rattle.idl_tree.specs.declared.declarations.data_type.DiscreteType.{DiscreteType}
 use Rattle.idl_tree.specs.declared.expression.Expression.{Expression}
 use Rattle.idl_tree.specs.declared.name.ScopedName.{ScopedName}
 use Rattle.idl_tree.specs.declared.several.Several.{Several}

@@ -1,7 +1,7 @@
 -- The parts of types and of declared names.
 use Rattle.std.specs.Prelude.{List, [], ◌∷◌, ◌++◌, flat_map, is_some, Option, None, Some}
-use Rattle.idl_lex.specs.declared.keyword.Keyword.TheVariants as word
-use Rattle.idl_lex.specs.declared.mark.Mark.TheVariants as mark
+use Rattle.idl_lex.specs.declared.kinds.keyword.Keyword.TheVariants as word
+use Rattle.idl_lex.specs.declared.kinds.mark.Mark.TheVariants as mark
 use Rattle.idl_site.specs.ExpressionParts.{value_parts}
 use Rattle.idl_site.specs.Part.{Parts, Plain, ArrayEnds, Declares, TypeEnds, Uses, punctuation}
 use Rattle.idl_site.specs.declared.site.Declaration.{Declaration}
@@ -11,13 +11,13 @@ use Rattle.idl_site.specs.declared.site.Use.{Use}
 use Rattle.idl_site.specs.declared.site.Use.TheVariants.{AsType, AsElement, AsConstantType}
 use Rattle.idl_tree.specs.DataType.{spell_basic, spell_discrete, spell_string_word}
 use Rattle.idl_tree.specs.Lexeme.{Word, Punctuation}
-use Rattle.idl_tree.specs.declared.data_type.BasicType.TheVariants.{Discrete}
-use Rattle.idl_tree.specs.declared.data_type.DataType.{DataType, fold-DataType}
-use Rattle.idl_tree.specs.declared.data_type.DataType.TheOpen.{DataType-F, Sequence-F}
-use Rattle.idl_tree.specs.declared.data_type.PlainType.{PlainType}
-use Rattle.idl_tree.specs.declared.data_type.PlainType.TheVariants as plain
-use Rattle.idl_tree.specs.declared.data_type.StringType.{StringType}
-use Rattle.idl_tree.specs.declared.declarator.Declarator.{Declarator}
+use Rattle.idl_tree.specs.declared.declarations.data_type.BasicType.TheVariants.{Discrete}
+use Rattle.idl_tree.specs.declared.declarations.data_type.DataType.{DataType, fold-DataType}
+use Rattle.idl_tree.specs.declared.declarations.data_type.DataType.TheOpen.{DataType-F, Sequence-F}
+use Rattle.idl_tree.specs.declared.declarations.data_type.PlainType.{PlainType}
+use Rattle.idl_tree.specs.declared.declarations.data_type.PlainType.TheVariants as plain
+use Rattle.idl_tree.specs.declared.declarations.data_type.StringType.{StringType}
+use Rattle.idl_tree.specs.declared.declarations.declarator.Declarator.{Declarator}
 use Rattle.idl_tree.specs.declared.expression.Expression.{Expression}
 use Rattle.idl_tree.specs.declared.unit.ConstantType.{ConstantType}
 use Rattle.idl_tree.specs.declared.unit.ConstantType.TheVariants as constant

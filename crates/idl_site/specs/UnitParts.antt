@@ -1,7 +1,7 @@
 -- The parts of units: one equation for each line of the grammar.
 use Rattle.std.specs.Prelude.{ℕ, Bool, true, false, List, [], ◌∷◌, ◌++◌, flat_map, Option, None, Some}
-use Rattle.idl_lex.specs.declared.keyword.Keyword.TheVariants as word
-use Rattle.idl_lex.specs.declared.mark.Mark.TheVariants as mark
+use Rattle.idl_lex.specs.declared.kinds.keyword.Keyword.TheVariants as word
+use Rattle.idl_lex.specs.declared.kinds.mark.Mark.TheVariants as mark
 use Rattle.idl_site.specs.ConstructionParts.{construction_parts, member_parts, member_type_parts}
 use Rattle.idl_site.specs.ExpressionParts.{value_parts}
 use Rattle.idl_site.specs.Part.{Parts, Plain, Declares, Says, ScopeBegins, ScopeEnds, GivesBack, declared, if_some, keyword_part, listed, punctuation, raised, used}
@@ -11,23 +11,23 @@ use Rattle.idl_site.specs.declared.site.Target.TheVariants as target
 use Rattle.idl_site.specs.declared.site.Use.TheVariants.{AsBase, Raised, RaisedBySet}
 use Rattle.idl_tree.specs.Interface.{spell_direction, spell_local}
 use Rattle.idl_tree.specs.Lexeme.{Word, Punctuation}
-use Rattle.idl_tree.specs.declared.attribute.Attribute.{Attribute}
-use Rattle.idl_tree.specs.declared.attribute.AttributeNames.{AttributeNames}
-use Rattle.idl_tree.specs.declared.attribute.AttributeNames.TheVariants as names
-use Rattle.idl_tree.specs.declared.attribute.AttributeRaises.{AttributeRaises}
-use Rattle.idl_tree.specs.declared.attribute.AttributeRaises.TheVariants.{Get, Set}
-use Rattle.idl_tree.specs.declared.attribute.ReadonlyAttribute.{ReadonlyAttribute}
-use Rattle.idl_tree.specs.declared.attribute.ReadonlyNames.{ReadonlyNames}
-use Rattle.idl_tree.specs.declared.attribute.ReadonlyNames.TheVariants as readonly
-use Rattle.idl_tree.specs.declared.data_type.DataType.{DataType}
-use Rattle.idl_tree.specs.declared.interface.Forward.{Forward}
-use Rattle.idl_tree.specs.declared.interface.Forward.TheVariants as forward
-use Rattle.idl_tree.specs.declared.interface.Interface.{Interface}
+use Rattle.idl_tree.specs.declared.declarations.attribute.Attribute.{Attribute}
+use Rattle.idl_tree.specs.declared.declarations.attribute.AttributeNames.{AttributeNames}
+use Rattle.idl_tree.specs.declared.declarations.attribute.AttributeNames.TheVariants as names
+use Rattle.idl_tree.specs.declared.declarations.attribute.AttributeRaises.{AttributeRaises}
+use Rattle.idl_tree.specs.declared.declarations.attribute.AttributeRaises.TheVariants.{Get, Set}
+use Rattle.idl_tree.specs.declared.declarations.attribute.ReadonlyAttribute.{ReadonlyAttribute}
+use Rattle.idl_tree.specs.declared.declarations.attribute.ReadonlyNames.{ReadonlyNames}
+use Rattle.idl_tree.specs.declared.declarations.attribute.ReadonlyNames.TheVariants as readonly
+use Rattle.idl_tree.specs.declared.declarations.data_type.DataType.{DataType}
+use Rattle.idl_tree.specs.declared.declarations.interface.Forward.{Forward}
+use Rattle.idl_tree.specs.declared.declarations.interface.Forward.TheVariants as forward
+use Rattle.idl_tree.specs.declared.declarations.interface.Interface.{Interface}
 use Rattle.idl_tree.specs.declared.name.ScopedName.{ScopedName}
-use Rattle.idl_tree.specs.declared.operation.Direction.{Direction}
-use Rattle.idl_tree.specs.declared.operation.Direction.TheVariants.{In}
-use Rattle.idl_tree.specs.declared.operation.Operation.{Operation}
-use Rattle.idl_tree.specs.declared.operation.Parameter.{Parameter}
+use Rattle.idl_tree.specs.declared.declarations.operation.Direction.{Direction}
+use Rattle.idl_tree.specs.declared.declarations.operation.Direction.TheVariants.{In}
+use Rattle.idl_tree.specs.declared.declarations.operation.Operation.{Operation}
+use Rattle.idl_tree.specs.declared.declarations.operation.Parameter.{Parameter}
 use Rattle.idl_tree.specs.declared.several.Several.{Several}
 use Rattle.idl_tree.specs.declared.unit.Constant.{Constant}
 use Rattle.idl_tree.specs.declared.unit.Exception.{Exception}

@@ -10,8 +10,9 @@ use crate::data_type::{discrete_len, push_declarator, push_type};
 use crate::expression::push_value;
 use crate::listed::push_declared;
 use crate::site::{Declaration, Site, Target, Use};
-use idl_tree::{
-    Case, Construction, Declarator, Discriminator, Enumeration, Label, Member, MemberType, Several,
+use idl_tree::Several;
+use idl_tree::declarations::{
+    Case, Construction, Declarator, Discriminator, Enumeration, Label, Member, MemberType,
     Structure, Union,
 };
 use std::alloc::AllocError;

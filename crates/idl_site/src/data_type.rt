@@ -7,10 +7,11 @@ ghost use Rattle.idl_tree.specs.DataType.{spell_basic, spell_discrete, spell_sig
 
 use crate::expression::push_value;
 use crate::site::{Declaration, Shape, Site, Target, Use};
-use idl_tree::{
-    BasicType, ConstantType, DataType, Declarator, DiscreteType, Expression, IntegerSize,
-    IntegerType, PlainType, Sequence, StringType,
+use idl_tree::declarations::{
+    BasicType, DataType, Declarator, DiscreteType, IntegerSize, IntegerType, PlainType, Sequence,
+    StringType,
 };
+use idl_tree::{ConstantType, Expression};
 use std::alloc::AllocError;
 
 /// A type. A name that it is itself is used so.

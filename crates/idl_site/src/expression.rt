@@ -7,10 +7,8 @@ ghost use Rattle.idl_tree.specs.Expression.{spell_literal};
 
 use crate::site::{Site, Target, Use};
 use idl_base::Seq;
-use idl_tree::{
-    And, ExclusiveOr, Expression, Literal, Primary, Product, Several, Shift, Sum, Unary,
-    UnaryOperator,
-};
+use idl_tree::expression::{And, ExclusiveOr, Primary, Product, Shift, Sum, Unary, UnaryOperator};
+use idl_tree::{Expression, Literal, Several};
 use std::alloc::AllocError;
 
 /// A whole expression, and what it is for.

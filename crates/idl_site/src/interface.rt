@@ -1,7 +1,7 @@
 //! Interfaces, attributes, operations and declarations ahead.
 
 ghost use Rattle.std.specs.Prelude.{OnOk};
-ghost use Rattle.idl_lex.specs.declared.keyword.Keyword.TheVariants as word;
+ghost use Rattle.idl_lex.specs.declared.kinds.keyword.Keyword.TheVariants as word;
 ghost use Rattle.idl_site.specs.Item.{Pushes};
 ghost use Rattle.idl_site.specs.Part.{if_some, listed, raised};
 ghost use Rattle.idl_site.specs.declared.site.Use.TheVariants.{RaisedBySet};
@@ -11,10 +11,11 @@ use crate::data_type::push_type;
 use crate::listed::{push_declared, push_raised, push_used};
 use crate::site::{Declaration, Site, Use};
 use idl_base::{Boxed, Seq};
-use idl_tree::{
+use idl_tree::declarations::{
     Attribute, AttributeNames, AttributeRaises, DataType, Direction, Forward, Interface, Operation,
-    Parameter, ReadonlyAttribute, ReadonlyNames, ScopedName, Several,
+    Parameter, ReadonlyAttribute, ReadonlyNames,
 };
+use idl_tree::{ScopedName, Several};
 use std::alloc::AllocError;
 
 /// The opening of an interface.

@@ -1,7 +1,7 @@
 //! Names and lists.
 
 ghost use Rattle.std.specs.Prelude.{OnOk};
-ghost use Rattle.idl_lex.specs.declared.keyword.Keyword.TheVariants as word;
+ghost use Rattle.idl_lex.specs.declared.kinds.keyword.Keyword.TheVariants as word;
 ghost use Rattle.idl_site.specs.Item.{Pushes};
 ghost use Rattle.idl_site.specs.Part.{declared, listed, raised, used};
 

@@ -1,7 +1,8 @@
 //! Sites.
 
 use idl_base::{Bytes, Seq};
-use idl_tree::{BasicType, Direction, DiscreteType, Expression, ScopedName, Several};
+use idl_tree::declarations::{BasicType, Direction, DiscreteType};
+use idl_tree::{Expression, ScopedName, Several};
 
 /// What a name is declared as.
 #[derive(Clone, Copy)]

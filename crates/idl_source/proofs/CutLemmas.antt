@@ -7,8 +7,8 @@ use Rattle.std.proofs.lemmas.List.Elements.{All-nil, All-cons, All-head, All-sam
 use Rattle.bstr.specs.Text.{line_len, lines_of, no_cr, without_terminator}
 use Rattle.bstr.proofs.lemmas.LineLemmas.{lines-nil, lines-step}
 use Rattle.idl_base.proofs.Bools.{and-false}
-use Rattle.idl_source.specs.Cut.{begun_with, cut_lines, is_at_newline}
-use Rattle.idl_source.specs.Line.{IsLine}
+use Rattle.idl_source.specs.texts.Cut.{begun_with, cut_lines, is_at_newline}
+use Rattle.idl_source.specs.texts.Line.{IsLine}
 
 -- whether the last byte is this one
 ends_in : ℕ → List ℕ → Bool

@@ -1,6 +1,6 @@
 -- Bytes that come and go in pieces.
 use Rattle.std.proofs.Common.{◌≡◌, ◌++◌, ◌+◌, ◌<◌, ◌≤◌, ◌∙◌, ℕ, zero, suc, List, [], ◌∷◌, Option, None, Some, min, take, drop, length, sym, ap, refl, append_assoc, arith}
-use Rattle.idl_source.specs.Device.{append}
+use Rattle.idl_source.specs.devices.Device.{append}
 use Rattle.std.proofs.Math.Seq.{take-add}
 
 -- two pieces that go out, one after the other, are one

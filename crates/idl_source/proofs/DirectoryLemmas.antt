@@ -4,8 +4,8 @@ use Rattle.std.specs.List.{All, list_all}
 use Rattle.std.specs.Str.{bytes_eq}
 use Rattle.std.proofs.lemmas.List.Elements.{All-head, All-tail}
 use Rattle.std.proofs.lemmas.Bool.Decides.{nat_tests}
-use Rattle.idl_source.specs.Name.{climbs, is_name, is_path, is_plain, is_up, is_visible, segments}
-use Rattle.idl_source.specs.Directory.{before_last, directory_of, is_directory, up_to}
+use Rattle.idl_source.specs.names.Name.{climbs, is_name, is_path, is_plain, is_up, is_visible, segments}
+use Rattle.idl_source.specs.names.Directory.{before_last, directory_of, is_directory, up_to}
 use Rattle.idl_source.proofs.PathLemmas.{segments-last}
 
 pub first : (a b : Bool) → IsTrue (a && b) → IsTrue a

@@ -7,8 +7,8 @@ use Rattle.std.specs.Ordering.{nat_cmp}
 use Rattle.std.specs.Cmp.Lexicographic.{slice_cmp, nat_list_cmp_total}
 use Rattle.std.specs.FinMap.{slice_cmp-IsAntisymmetric, nat_cmp-IsAntisymmetric, is_sorted, put}
 use Rattle.std.specs.declared.rc.Rc.{Rc}
-use Rattle.idl_source.specs.declared.entries.Entry.{Entry}
-use Rattle.idl_source.specs.Entries.{entry_of, entries_of, IsAt, IsGapFor}
+use Rattle.idl_source.specs.declared.texts.entries.Entry.{Entry}
+use Rattle.idl_source.specs.texts.Entries.{entry_of, entries_of, IsAt, IsGapFor}
 use Rattle.std.proofs.lemmas.List.{map-set}
 use Rattle.idl_source.proofs.Ordered.{comparisons_rise, put_found, put_gap}
 

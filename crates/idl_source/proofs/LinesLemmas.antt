@@ -7,8 +7,8 @@ use Rattle.idl_base.specs.Spans.{AreWithin, piece, pieces}
 use Rattle.idl_base.specs.declared.texts.Span.{Span}
 use Rattle.idl_base.proofs.SpanLemmas as texts
 use Rattle.idl_base.proofs.SpanLemmas.{slice_range-behind, slice_range-more}
-use Rattle.idl_source.specs.Line.{IsLine}
-use Rattle.idl_source.specs.Lines.{AreLines}
+use Rattle.idl_source.specs.texts.Line.{IsLine}
+use Rattle.idl_source.specs.texts.Lines.{AreLines}
 
 -- a line stands at a span
 abbrev IsLineAt : List ℕ → Span → Type 0

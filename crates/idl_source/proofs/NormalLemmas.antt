@@ -5,8 +5,8 @@ use Rattle.std.specs.Cmp.Lexicographic.{bytes_decides}
 use Rattle.std.specs.Str.{bytes_eq}
 use Rattle.std.proofs.lemmas.Bool.Decides.{nat_tests}
 use Rattle.std.proofs.lemmas.List.Splits.{length-slice_split, slice_split-cons_yes}
-use Rattle.idl_source.specs.Name.{climbs, is_name, is_path, is_plain, is_up, is_visible, segments}
-use Rattle.idl_source.specs.Path.{Path, down_by, here, joined_path, led_by, led_by_all, name_of, slashed, text_of}
+use Rattle.idl_source.specs.names.Name.{climbs, is_name, is_path, is_plain, is_up, is_visible, segments}
+use Rattle.idl_source.specs.names.Path.{Path, down_by, here, joined_path, led_by, led_by_all, name_of, slashed, text_of}
 use Rattle.idl_source.proofs.DirectoryLemmas.{first, second}
 use Rattle.idl_source.proofs.PathLemmas.{joined-beside, joined-rooted, led_by_all-append}
 

@@ -7,9 +7,9 @@ use Rattle.std.proofs.lemmas.List.{append-nil, drop-drop, drop-set-lt, length-ta
 use Rattle.std.proofs.Math.Seq.{drop-append_seam}
 use borrow.Rule.Slice.PartMut.{put_mid}
 use Rattle.std.specs.Str.{bytes_eq}
-use Rattle.idl_source.specs.Directory.{is_directory}
-use Rattle.idl_source.specs.Name.{is_name, is_plain, is_up, is_visible, is_path, segments}
-use Rattle.idl_source.specs.Path.{Path, down_by, here, is_rooted, joined_path, led_by, led_by_all, slashed, steps, text_down, text_of, name_of, directory_text, directory_to}
+use Rattle.idl_source.specs.names.Directory.{is_directory}
+use Rattle.idl_source.specs.names.Name.{is_name, is_plain, is_up, is_visible, is_path, segments}
+use Rattle.idl_source.specs.names.Path.{Path, down_by, here, is_rooted, joined_path, led_by, led_by_all, slashed, steps, text_down, text_of, name_of, directory_text, directory_to}
 
 onto_first-append : (x : ℕ) (parts others : List (List ℕ)) → 0 < length parts → onto_first x (parts ++ others) ≡ onto_first x parts ++ others
 onto_first-append x [] others some = absurd (omega arith)

@@ -13,11 +13,11 @@ use Rattle.std.specs.FinMap.{is_sorted, put}
 use Rattle.std.specs.FinMap.Entries.{find, find-where_key, is_sorted-put, is_sorted-where_key, where_key}
 use Rattle.std.specs.declared.rc.Rc.{Rc}
 use Rattle.std.proofs.lemmas.List.{length-map}
-use Rattle.idl_source.specs.declared.entries.Entry.{Entry}
+use Rattle.idl_source.specs.declared.texts.entries.Entry.{Entry}
 use Rattle.idl_source.specs.declared.refusal.Refusal.TheVariants.{BadName, NoSuchFile, OutsideFile, OverLimit}
-use Rattle.idl_source.specs.Entries.{entry_of, entries_of, IsAt, IsGapFor}
-use Rattle.idl_source.specs.Name.{is_name}
-use Rattle.idl_source.specs.Texts.{Texts, after_put, after_remove, after_splice, after_splice_of, is_inside, is_over, is_splice_over, spliced}
+use Rattle.idl_source.specs.texts.Entries.{entry_of, entries_of, IsAt, IsGapFor}
+use Rattle.idl_source.specs.names.Name.{is_name}
+use Rattle.idl_source.specs.texts.Texts.{Texts, after_put, after_remove, after_splice, after_splice_of, is_inside, is_over, is_splice_over, spliced}
 use Rattle.idl_source.proofs.EntryLemmas.{holds}
 use Rattle.idl_source.proofs.Ordered.{find_found, find_gap, where_key-found}
 

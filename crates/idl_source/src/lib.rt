@@ -3,34 +3,24 @@
 //! Nothing here reads a disk: a file is a list of lines that a caller handed in.
 #![tactic(auto)]
 
-mod cutting;
-mod device;
-mod directory;
-mod entries;
-mod file;
-mod files;
-mod line;
-mod lines;
-mod memory;
-mod name;
-mod parts;
-mod path;
+pub mod devices;
+mod names;
 mod refusal;
-mod span;
+mod texts;
 
-pub use cutting::cut;
-pub use device::{ReadFailed, Sink, Source, WriteFailed, write_all};
-pub use directory::Directory;
-pub use file::File;
-pub use files::Files;
-pub use line::{Line, NEWLINE};
-pub use lines::Lines;
-pub use memory::{BufferSink, SliceSource};
-pub use name::Name;
-pub use parts::first_part;
-pub use path::{directory_at, is_rooted, join, normal_form};
+pub use devices::device::{Sink, Source};
+pub use names::directory::Directory;
+pub use names::name::Name;
+pub use names::parts::first_part;
+pub use names::path;
+pub use names::path::join;
+pub use names::span::Span;
 pub use refusal::Refusal;
-pub use span::Span;
+pub use texts::cutting::cut;
+pub use texts::file::File;
+pub use texts::files::Files;
+pub use texts::line::{Line, NEWLINE};
+pub use texts::lines::Lines;
 
 /// Bytes that a name has at most.
 pub const MAX_NAME: usize = 255;

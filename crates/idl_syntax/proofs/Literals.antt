@@ -1,20 +1,20 @@
 -- Literals, by the kinds of their tokens.
 use Rattle.std.proofs.Common.{◌≡◌, ℕ, true, false, List, [], ◌∷◌, Option, Some, None, is_some, Result, Ok, Err, refl, ap}
-use Rattle.idl_lex.specs.Kind.{kind_of, name_of}
-use Rattle.idl_lex.specs.Number.{integer_value}
-use Rattle.idl_lex.specs.Literal.{literal_value}
-use Rattle.idl_lex.specs.declared.kind.Kind.{Kind}
-use Rattle.idl_lex.specs.declared.kind.Kind.TheVariants as kind
+use Rattle.idl_lex.specs.kinds.Kind.{kind_of, name_of}
+use Rattle.idl_lex.specs.kinds.Number.{integer_value}
+use Rattle.idl_lex.specs.kinds.Literal.{literal_value}
+use Rattle.idl_lex.specs.declared.kinds.kind.Kind.{Kind}
+use Rattle.idl_lex.specs.declared.kinds.kind.Kind.TheVariants as kind
 use Rattle.idl_syntax.specs.declared.fault.SyntaxFault.{SyntaxFault}
 use Rattle.idl_syntax.specs.declared.fault.SyntaxFault.TheVariants as fault
 use Rattle.idl_syntax.specs.Gives.{Fails}
 use Rattle.idl_syntax.specs.Literal.{is_at_text, is_at_wide_text, is_text_kind, is_wide_text_kind, single_at, wide_text_at}
 use Rattle.idl_tree.specs.Lexeme.{Lexeme, Identifier, Integer, Character, WideCharacter, Text, WideText, one_character, lexeme_by, lexeme_of, lexemes, valued}
-use Rattle.idl_tree.specs.ReadConstruction.{several, all_with}
-use Rattle.idl_tree.specs.ReadExpression.{literal_at, pieces_at, text_literal, text_of, wide_text_literal, wide_text_of}
-use Rattle.idl_tree.specs.ReadInterface.{text_at}
-use Rattle.idl_tree.specs.Reading.{◌>>=◌, many_of}
-use Rattle.idl_tree.specs.Tests.{pick}
+use Rattle.idl_tree.specs.reading.ReadConstruction.{several, all_with}
+use Rattle.idl_tree.specs.reading.ReadExpression.{literal_at, pieces_at, text_literal, text_of, wide_text_literal, wide_text_of}
+use Rattle.idl_tree.specs.reading.ReadInterface.{text_at}
+use Rattle.idl_tree.specs.reading.Reading.{◌>>=◌, many_of}
+use Rattle.idl_tree.specs.reading.Tests.{pick}
 use Rattle.idl_tree.specs.declared.literal.Literal.{Literal}
 use Rattle.idl_tree.specs.declared.literal.Literal.TheVariants as literal
 use Rattle.idl_tree.specs.declared.several.Several.{Several}

@@ -1,9 +1,9 @@
 -- Where a name begins.
 use Rattle.std.proofs.Common.{◌≡◌, ℕ, List, true, Option, Some, None, refl}
-use Rattle.idl_lex.specs.declared.mark.Mark.TheVariants.{ColonColon}
+use Rattle.idl_lex.specs.declared.kinds.mark.Mark.TheVariants.{ColonColon}
 use Rattle.idl_tree.specs.Lexeme.{Lexeme, Identifier, Punctuation}
-use Rattle.idl_tree.specs.ReadName.{begins_name}
-use Rattle.idl_tree.specs.Tests.{identifier_of, is_mark}
+use Rattle.idl_tree.specs.reading.ReadName.{begins_name}
+use Rattle.idl_tree.specs.reading.Tests.{identifier_of, is_mark}
 
 pub begins_with_name : (t : Option Lexeme) (name : List ℕ) → identifier_of t ≡ Some name → begins_name t ≡ true
 begins_with_name (Some (Identifier found)) name h = refl

@@ -1,9 +1,9 @@
 -- What a whole reading says of the tokens of the code.
 use Rattle.std.proofs.Common.{◌≡◌, ℕ, ◌+◌, ◌<◌, List, [], ◌∷◌, length, Ok, Err, subst, arith}
 use Rattle.std.proofs.lemmas.List.{length-map}
-use Rattle.idl_tree.specs.Fault.{IsFaultAt}
+use Rattle.idl_tree.specs.reading.Fault.{IsFaultAt}
 use Rattle.idl_tree.specs.Lexeme.{Lexeme, Lexemes, lexeme_of, lexemes}
-use Rattle.idl_tree.specs.ReadUnit.{unit_at}
+use Rattle.idl_tree.specs.reading.ReadUnit.{unit_at}
 use Rattle.idl_tree.specs.Unit.{spell}
 use Rattle.idl_tree.specs.declared.unit.Tree.{Tree}
 

@@ -1,8 +1,8 @@
 -- The parts of names in pragmas.
 use Rattle.std.proofs.Common.{◌≡◌, ◌∙◌, ℕ, ◌<◌, ◌≤◌, ◌-◌, true, List, take, drop, get_or, [], ◌∷◌, ◌++◌, length, Option, None, Some, refl, ap, sym, arith, append_assoc}
 use Rattle.std.specs.Option.{option_map}
-use Rattle.idl_lex.specs.Kind.{kind_of}
-use Rattle.idl_lex.specs.Tokens.{Token}
+use Rattle.idl_lex.specs.kinds.Kind.{kind_of}
+use Rattle.idl_lex.specs.tokens.Tokens.{Token}
 use Rattle.idl_tree.specs.Pragma.{further_parts, is_separator, part_of, pragma_of, with_part}
 use Rattle.std.proofs.lemmas.List.{take_rest}
 

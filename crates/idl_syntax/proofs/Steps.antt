@@ -5,7 +5,7 @@ use Rattle.idl_syntax.specs.declared.fault.SyntaxFault.{SyntaxFault}
 use Rattle.idl_syntax.specs.declared.fault.SyntaxFault.TheVariants as fault
 use Rattle.idl_syntax.proofs.Turns.{rest_is}
 use Rattle.idl_tree.specs.Lexeme.{Lexemes, lexemes}
-use Rattle.idl_tree.specs.Reading.{Reader, ◌>>=◌}
+use Rattle.idl_tree.specs.reading.Reading.{Reader, ◌>>=◌}
 
 -- where reading fails, nothing is read after it
 step_fails : {A B : Type 0} (why : SyntaxFault) (read : Result A ℕ) (next : A → Result B ℕ) → Fails why read → Fails why (read >>= next)

@@ -1,14 +1,14 @@
 -- A loop over items: what it has read and what it is to read are what reading gives.
 use Rattle.std.proofs.Common.{◌≡◌, ℕ, zero, suc, ◌<◌, ◌-◌, Bool, true, false, List, [], ◌∷◌, ◌++◌, length, drop, Option, Some, None, is_some, Result, Ok, Err, refl, sym, ap, subst, ◌∙◌, append_assoc, append-nil, arith, slice_range, length-drop}
 use Rattle.std.proofs.lemmas.List.{length-map, take_all}
-use Rattle.idl_lex.specs.declared.mark.Mark.{Mark}
+use Rattle.idl_lex.specs.declared.kinds.mark.Mark.{Mark}
 use Rattle.idl_syntax.specs.declared.fault.SyntaxFault.{SyntaxFault}
 use Rattle.idl_syntax.specs.declared.fault.SyntaxFault.TheVariants as fault
 use Rattle.idl_syntax.specs.Gives.{Fails}
 use Rattle.idl_tree.specs.Lexeme.{Lexeme, lexeme_of, lexemes}
-use Rattle.idl_tree.specs.ReadExpression.{behind_with, step_with}
-use Rattle.idl_tree.specs.Reading.{Reader, ◌>>=◌, first, many_at, many_of}
-use Rattle.idl_tree.specs.Tests.{is_mark, pick}
+use Rattle.idl_tree.specs.reading.ReadExpression.{behind_with, step_with}
+use Rattle.idl_tree.specs.reading.Reading.{Reader, ◌>>=◌, first, many_at, many_of}
+use Rattle.idl_tree.specs.reading.Tests.{is_mark, pick}
 
 -- what was read, before what is read
 abbrev pub with_front : {A : Type 0} → List A → Result (List A × List Lexeme) ℕ → Result (List A × List Lexeme) ℕ

@@ -3,7 +3,7 @@ use Rattle.std.proofs.Common.{◌≡◌, ◌∙◌, ℕ, ◌+◌, ◌-◌, ◌*�
 use Rattle.std.specs.Prelude.{fold, nat_le}
 use Rattle.std.specs.List.{list_all}
 use Rattle.std.proofs.lemmas.Bool.{lt-leb}
-use Rattle.idl_lex.specs.Byte.{digit_value, is_digit}
+use Rattle.idl_lex.specs.bytes.Byte.{digit_value, is_digit}
 use Rattle.idl_tree.specs.Pragma.{version_number}
 
 abbrev spelled : ℕ → List ℕ → ℕ

@@ -4,7 +4,7 @@ use Rattle.std.specs.Borrow.{Bor}
 use Rattle.idl_syntax.specs.declared.fault.SyntaxFault.{SyntaxFault}
 use Rattle.idl_syntax.specs.declared.fault.SyntaxFault.TheVariants as fault
 use Rattle.idl_tree.specs.Lexeme.{Lexeme, lexemes}
-use Rattle.idl_tree.specs.Reading.{Reader, expect}
+use Rattle.idl_tree.specs.reading.Reading.{Reader, expect}
 
 -- a token to a contract is its bytes
 abbrev pub Tokens : Type 0

@@ -1,12 +1,12 @@
 -- Literals, by the kinds of their tokens.
 use Rattle.std.specs.Prelude.{ℕ, List, [], ◌∷◌, Bool, true, false, is_some, Ok}
-use Rattle.idl_lex.specs.Kind.{kind_of}
-use Rattle.idl_lex.specs.declared.kind.Kind.{Kind}
-use Rattle.idl_lex.specs.declared.kind.Kind.TheVariants as kind
-use Rattle.idl_tree.specs.ReadConstruction.{all_with}
-use Rattle.idl_tree.specs.ReadExpression.{wide_text_of, single_of, single_literal}
-use Rattle.idl_tree.specs.Reading.{Reader, ◌>>=◌}
-use Rattle.idl_tree.specs.Tests.{pick}
+use Rattle.idl_lex.specs.kinds.Kind.{kind_of}
+use Rattle.idl_lex.specs.declared.kinds.kind.Kind.{Kind}
+use Rattle.idl_lex.specs.declared.kinds.kind.Kind.TheVariants as kind
+use Rattle.idl_tree.specs.reading.ReadConstruction.{all_with}
+use Rattle.idl_tree.specs.reading.ReadExpression.{wide_text_of, single_of, single_literal}
+use Rattle.idl_tree.specs.reading.Reading.{Reader, ◌>>=◌}
+use Rattle.idl_tree.specs.reading.Tests.{pick}
 use Rattle.idl_tree.specs.declared.literal.Literal.{Literal}
 use Rattle.idl_tree.specs.declared.several.Several.{Several}
 

@@ -1,9 +1,9 @@
 -- The next token.
 use Rattle.std.specs.Prelude.{ℕ, List, Option, Some, None, Ok}
-use Rattle.idl_lex.specs.declared.mark.Mark.{Mark}
+use Rattle.idl_lex.specs.declared.kinds.mark.Mark.{Mark}
 use Rattle.idl_tree.specs.Lexeme.{Lexeme, Punctuation}
-use Rattle.idl_tree.specs.Reading.{Reader, ◌>>=◌, expect}
-use Rattle.idl_tree.specs.Tests.{identifier_at, is_mark}
+use Rattle.idl_tree.specs.reading.Reading.{Reader, ◌>>=◌, expect}
+use Rattle.idl_tree.specs.reading.Tests.{identifier_at, is_mark}
 
 -- the mark that a token is
 abbrev pub mark_of : Option Lexeme → Option Mark

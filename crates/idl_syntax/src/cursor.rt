@@ -3,14 +3,15 @@
 ghost use Rattle.std.specs.Prelude.{◌≡◌, ◌<◌, length, IfOk};
 ghost use Rattle.std.specs.Option.{option_copied};
 ghost use Rattle.idl_tree.specs.Lexeme.{lexemes};
-ghost use Rattle.idl_tree.specs.Reading.{first};
-ghost use Rattle.idl_tree.specs.Tests.{by_word, identifier_at, identifier_of, is_mark, is_word, keyword_of};
+ghost use Rattle.idl_tree.specs.reading.Reading.{first};
+ghost use Rattle.idl_tree.specs.reading.Tests.{by_word, identifier_at, identifier_of, is_mark, is_word, keyword_of};
 ghost use Rattle.idl_syntax.specs.Gives.{Advances, Passes, Reads};
 ghost use Rattle.idl_syntax.specs.Next.{closed_with, mark_of, named_with};
 
 use crate::fault::SyntaxFault;
 use idl_base::Bytes;
-use idl_lex::{Keyword, Kind, Mark, Token};
+use idl_lex::Token;
+use idl_lex::kinds::{Keyword, Kind, Mark};
 use std::alloc::AllocError;
 
 /// The mark that the next token is.

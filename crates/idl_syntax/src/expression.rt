@@ -1,12 +1,12 @@
 //! Expressions: a function for each rank of operators, and one for the operands behind its first.
 
 ghost use Rattle.std.specs.Prelude.{◌≡◌};
-ghost use Rattle.idl_lex.specs.declared.mark.Mark.TheVariants as mark;
+ghost use Rattle.idl_lex.specs.declared.kinds.mark.Mark.TheVariants as mark;
 ghost use Rattle.idl_tree.specs.Lexeme.{lexemes};
-ghost use Rattle.idl_tree.specs.ReadExpression.{and_with, behind_with, exclusive_or_with, expression_at, or_with, parentheses_with, primary_with, product_operator_of, product_with, shift_operator_of, shift_with, sum_operator_of, sum_with, unary_with};
-ghost use Rattle.idl_tree.specs.ReadName.{begins_name};
-ghost use Rattle.idl_tree.specs.Reading.{first, many_of};
-ghost use Rattle.idl_tree.specs.Tests.{is_mark};
+ghost use Rattle.idl_tree.specs.reading.ReadExpression.{and_with, behind_with, exclusive_or_with, expression_at, or_with, parentheses_with, primary_with, product_operator_of, product_with, shift_operator_of, shift_with, sum_operator_of, sum_with, unary_with};
+ghost use Rattle.idl_tree.specs.reading.ReadName.{begins_name};
+ghost use Rattle.idl_tree.specs.reading.Reading.{first, many_of};
+ghost use Rattle.idl_tree.specs.reading.Tests.{is_mark};
 ghost use Rattle.idl_syntax.specs.Gives.{Advances, Reads, Remains};
 ghost use Rattle.idl_syntax.specs.Steps.{steps_with};
 
@@ -16,16 +16,18 @@ use crate::literal::literal;
 use crate::name::scoped_name;
 use crate::operator::{product_operator, shift_operator, sum_operator, unary_operator};
 use idl_base::{Boxed, Seq};
-use idl_lex::{Mark, Token};
-use idl_tree::{
-    And, ExclusiveOr, Expression, Primary, Product, ProductOperator, Shift, ShiftOperator, Sum,
-    SumOperator, Unary,
+use idl_lex::Token;
+use idl_lex::kinds::Mark;
+use idl_tree::Expression;
+use idl_tree::expression::{
+    And, ExclusiveOr, Primary, Product, ProductOperator, Shift, ShiftOperator, Sum, SumOperator,
+    Unary,
 };
 use std::alloc::Global;
 
 /// An expression, with less than so many levels of parentheses.
 #[cycle(expression)]
-#[tactic(auto, unfolding(idl_tree::specs::ReadExpression::expression_at))]
+#[tactic(auto, unfolding(idl_tree::specs::reading::ReadExpression::expression_at))]
 pub fn expression(
     alloc: Global,
     depth: usize,
@@ -42,7 +44,7 @@ pub fn expression(
 
 /// Operands with `|` between them.
 #[cycle(expression)]
-#[tactic(auto, unfolding(idl_tree::specs::ReadExpression::parted_with))]
+#[tactic(auto, unfolding(idl_tree::specs::reading::ReadExpression::parted_with))]
 fn alternatives(
     alloc: Global,
     depth: usize,
@@ -80,7 +82,7 @@ fn more_alternatives(
 
 /// Operands with `^` between them.
 #[cycle(expression)]
-#[tactic(auto, unfolding(idl_tree::specs::ReadExpression::parted_with))]
+#[tactic(auto, unfolding(idl_tree::specs::reading::ReadExpression::parted_with))]
 fn exclusive_or(
     alloc: Global,
     depth: usize,
@@ -118,7 +120,7 @@ fn more_ands(
 
 /// Operands with `&` between them.
 #[cycle(expression)]
-#[tactic(auto, unfolding(idl_tree::specs::ReadExpression::parted_with))]
+#[tactic(auto, unfolding(idl_tree::specs::reading::ReadExpression::parted_with))]
 fn and(alloc: Global, depth: usize, tokens: &[Token]) -> Result<(And, &[Token]), SyntaxFault>
     ensures reads { Reads (and_with (expression_at depth)) tokens.now result }
     ensures shorter { Advances tokens.now result }
@@ -152,7 +154,7 @@ fn more_shifts(
 
 /// An operand, and shifts of it.
 #[cycle(expression)]
-#[tactic(auto, unfolding(idl_tree::specs::ReadExpression::chain_with))]
+#[tactic(auto, unfolding(idl_tree::specs::reading::ReadExpression::chain_with))]
 fn shift(alloc: Global, depth: usize, tokens: &[Token]) -> Result<(Shift, &[Token]), SyntaxFault>
     ensures reads { Reads (shift_with (expression_at depth)) tokens.now result }
     ensures shorter { Advances tokens.now result }
@@ -186,7 +188,7 @@ fn more_sums(
 
 /// An operand, and what is added or taken away.
 #[cycle(expression)]
-#[tactic(auto, unfolding(idl_tree::specs::ReadExpression::chain_with))]
+#[tactic(auto, unfolding(idl_tree::specs::reading::ReadExpression::chain_with))]
 fn sum(alloc: Global, depth: usize, tokens: &[Token]) -> Result<(Sum, &[Token]), SyntaxFault>
     ensures reads { Reads (sum_with (expression_at depth)) tokens.now result }
     ensures shorter { Advances tokens.now result }
@@ -220,7 +222,7 @@ fn more_products(
 
 /// An operand, and factors and divisors.
 #[cycle(expression)]
-#[tactic(auto, unfolding(idl_tree::specs::ReadExpression::chain_with))]
+#[tactic(auto, unfolding(idl_tree::specs::reading::ReadExpression::chain_with))]
 fn product(
     alloc: Global,
     depth: usize,
@@ -258,7 +260,7 @@ fn more_unaries(
 
 /// An operand, with at most one operator before it.
 #[cycle(expression)]
-#[tactic(auto, unfolding(idl_tree::specs::ReadExpression::unary_with))]
+#[tactic(auto, unfolding(idl_tree::specs::reading::ReadExpression::unary_with))]
 fn unary(alloc: Global, depth: usize, tokens: &[Token]) -> Result<(Unary, &[Token]), SyntaxFault>
     ensures reads { Reads (unary_with (primary_with (expression_at depth))) tokens.now result }
     ensures shorter { Advances tokens.now result }
@@ -275,7 +277,7 @@ fn unary(alloc: Global, depth: usize, tokens: &[Token]) -> Result<(Unary, &[Toke
 
 /// A name, a literal, or an expression in parentheses.
 #[cycle(expression)]
-#[tactic(auto, unfolding(idl_tree::specs::ReadExpression::primary_with))]
+#[tactic(auto, unfolding(idl_tree::specs::reading::ReadExpression::primary_with))]
 fn primary(
     alloc: Global,
     depth: usize,
@@ -307,7 +309,7 @@ fn is_at_name(tokens: &[Token]) -> bool
 
 /// An expression in parentheses.
 #[cycle(expression)]
-#[tactic(auto, unfolding(idl_tree::specs::ReadExpression::parentheses_with))]
+#[tactic(auto, unfolding(idl_tree::specs::reading::ReadExpression::parentheses_with))]
 fn parentheses(
     alloc: Global,
     depth: usize,

@@ -6,17 +6,12 @@
 //! that call one another, as deep as the unit nests: what nests more than 64 levels is refused before.
 #![tactic(auto)]
 
-mod attribute;
-mod construction;
 mod cursor;
-mod data_type;
-mod declarator;
+mod declarations;
 mod expression;
 mod fault;
-mod interface;
 mod literal;
 mod name;
-mod operation;
 mod operator;
 mod pragma;
 mod unit;

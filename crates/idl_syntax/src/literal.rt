@@ -2,18 +2,19 @@
 
 ghost use Rattle.std.specs.Prelude.{◌≡◌, is_some, Some, IfOk};
 ghost use Rattle.std.specs.Option.{option_map};
-ghost use Rattle.idl_lex.specs.Literal.{literal_value};
+ghost use Rattle.idl_lex.specs.kinds.Literal.{literal_value};
 ghost use Rattle.idl_tree.specs.Lexeme.{lexeme_of, lexemes, one_character, only_one};
-ghost use Rattle.idl_tree.specs.ReadExpression.{literal_at, text_of, wide_text_of, single_of, single_literal};
-ghost use Rattle.idl_tree.specs.ReadInterface.{text_at};
-ghost use Rattle.idl_tree.specs.Reading.{first, many_of};
-ghost use Rattle.idl_tree.specs.Tests.{pick};
+ghost use Rattle.idl_tree.specs.reading.ReadExpression.{literal_at, text_of, wide_text_of, single_of, single_literal};
+ghost use Rattle.idl_tree.specs.reading.ReadInterface.{text_at};
+ghost use Rattle.idl_tree.specs.reading.Reading.{first, many_of};
+ghost use Rattle.idl_tree.specs.reading.Tests.{pick};
 ghost use Rattle.idl_syntax.specs.Gives.{Advances, Reads, Remains};
 ghost use Rattle.idl_syntax.specs.Literal.{is_at_text, is_at_wide_text, single_at, wide_text_at};
 
 use crate::fault::SyntaxFault;
 use idl_base::Seq;
-use idl_lex::{Keyword, Kind, Token, decode, integer_value};
+use idl_lex::Token;
+use idl_lex::kinds::{Keyword, Kind, decode, integer_value};
 use idl_tree::{Literal, Several};
 use std::alloc::{AllocError, Global};
 
@@ -54,7 +55,7 @@ fn is_at_wide_text(tokens: &[Token]) -> bool
 }
 
 /// One narrow string literal or more, side by side.
-#[tactic(auto, unfolding(idl_tree::specs::ReadInterface::text_at, idl_tree::specs::ReadConstruction::all_with))]
+#[tactic(auto, unfolding(idl_tree::specs::reading::ReadInterface::text_at, idl_tree::specs::reading::ReadConstruction::all_with))]
 pub fn text(alloc: Global, tokens: &[Token]) -> Result<(Several<Seq<u16>>, &[Token]), SyntaxFault>
     ensures reads { Reads text_at tokens.now result }
     ensures shorter { Advances tokens.now result }
@@ -95,7 +96,7 @@ fn text_piece(alloc: Global, tokens: &[Token]) -> Result<Option<Seq<u16>>, Alloc
 }
 
 /// One wide string literal or more, side by side.
-#[tactic(auto, unfolding(idl_tree::specs::ReadConstruction::all_with))]
+#[tactic(auto, unfolding(idl_tree::specs::reading::ReadConstruction::all_with))]
 fn wide_text(alloc: Global, tokens: &[Token]) -> Result<(Several<Seq<u16>>, &[Token]), SyntaxFault>
     ensures reads { Reads wide_text_at tokens.now result }
     ensures shorter { Advances tokens.now result }

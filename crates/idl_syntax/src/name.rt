@@ -1,23 +1,24 @@
 //! Scoped names, and lists of names.
 
-ghost use Rattle.idl_lex.specs.declared.mark.Mark.TheVariants.{Comma};
-ghost use Rattle.idl_tree.specs.ReadConstruction.{listed_with};
-ghost use Rattle.idl_tree.specs.ReadExpression.{behind_with};
-ghost use Rattle.idl_tree.specs.ReadInterface.{list_at, more_names_at, raises_at, raises_if};
-ghost use Rattle.idl_tree.specs.ReadName.{name_at, part_at, parts_at};
-ghost use Rattle.idl_tree.specs.Reading.{many_of};
-ghost use Rattle.idl_tree.specs.Tests.{identifier_at, is_mark};
+ghost use Rattle.idl_lex.specs.declared.kinds.mark.Mark.TheVariants.{Comma};
+ghost use Rattle.idl_tree.specs.reading.ReadConstruction.{listed_with};
+ghost use Rattle.idl_tree.specs.reading.ReadExpression.{behind_with};
+ghost use Rattle.idl_tree.specs.reading.ReadInterface.{list_at, more_names_at, raises_at, raises_if};
+ghost use Rattle.idl_tree.specs.reading.ReadName.{name_at, part_at, parts_at};
+ghost use Rattle.idl_tree.specs.reading.Reading.{many_of};
+ghost use Rattle.idl_tree.specs.reading.Tests.{identifier_at, is_mark};
 ghost use Rattle.idl_syntax.specs.Gives.{Advances, Reads, Remains};
 
 use crate::cursor::{behind, behind_word, closed, identifier, is_at, is_at_word};
 use crate::fault::SyntaxFault;
 use idl_base::{Bytes, Seq};
-use idl_lex::{Keyword, Mark, Token};
+use idl_lex::Token;
+use idl_lex::kinds::{Keyword, Mark};
 use idl_tree::{ScopedName, Several};
 use std::alloc::Global;
 
 /// A scoped name, with or without a leading `::`.
-#[tactic(auto, unfolding(idl_tree::specs::ReadName::name_at))]
+#[tactic(auto, unfolding(idl_tree::specs::reading::ReadName::name_at))]
 pub fn scoped_name(alloc: Global, tokens: &[Token]) -> Result<(ScopedName, &[Token]), SyntaxFault>
     ensures reads { Reads name_at tokens.now result }
     ensures shorter { Advances tokens.now result }
@@ -35,7 +36,7 @@ pub fn scoped_name(alloc: Global, tokens: &[Token]) -> Result<(ScopedName, &[Tok
 }
 
 /// A further part of a name.
-#[tactic(auto, unfolding(idl_tree::specs::ReadName::part_at))]
+#[tactic(auto, unfolding(idl_tree::specs::reading::ReadName::part_at))]
 fn part(tokens: &[Token]) -> Result<(Bytes, &[Token]), SyntaxFault>
     ensures reads { Reads part_at tokens.now result }
     ensures shorter { Advances tokens.now result }
@@ -60,7 +61,7 @@ fn parts(alloc: Global, tokens: &[Token]) -> Result<(Seq<Bytes>, &[Token]), Synt
 }
 
 /// One scoped name or more, with commas between.
-#[tactic(auto, unfolding(idl_tree::specs::ReadExpression::parted_with))]
+#[tactic(auto, unfolding(idl_tree::specs::reading::ReadExpression::parted_with))]
 pub fn scoped_names(
     alloc: Global,
     tokens: &[Token],
@@ -92,7 +93,7 @@ fn more_scoped_names(
 }
 
 /// One identifier or more, with commas between.
-#[tactic(auto, unfolding(idl_tree::specs::ReadExpression::parted_with))]
+#[tactic(auto, unfolding(idl_tree::specs::reading::ReadExpression::parted_with))]
 pub fn identifiers(
     alloc: Global,
     tokens: &[Token],
@@ -124,7 +125,7 @@ pub fn more_identifiers(
 }
 
 /// Scoped names in parentheses.
-#[tactic(auto, unfolding(idl_tree::specs::ReadInterface::list_at))]
+#[tactic(auto, unfolding(idl_tree::specs::reading::ReadInterface::list_at))]
 fn scoped_name_list(
     alloc: Global,
     tokens: &[Token],
@@ -138,7 +139,7 @@ fn scoped_name_list(
 }
 
 /// A keyword and scoped names in parentheses.
-#[tactic(auto, unfolding(idl_tree::specs::ReadInterface::raises_at))]
+#[tactic(auto, unfolding(idl_tree::specs::reading::ReadInterface::raises_at))]
 pub fn raises(
     alloc: Global,
     word: Keyword,
@@ -152,7 +153,7 @@ pub fn raises(
 }
 
 /// The same, if the keyword stands there.
-#[tactic(auto, unfolding(idl_tree::specs::ReadInterface::raises_if))]
+#[tactic(auto, unfolding(idl_tree::specs::reading::ReadInterface::raises_if))]
 pub fn raises_if(
     alloc: Global,
     word: Keyword,

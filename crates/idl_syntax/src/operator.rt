@@ -2,12 +2,13 @@
 
 ghost use Rattle.std.specs.Prelude.{◌≡◌};
 ghost use Rattle.idl_tree.specs.Lexeme.{lexemes};
-ghost use Rattle.idl_tree.specs.ReadExpression.{product_operator_of, shift_operator_of, sum_operator_of, unary_operator_of};
-ghost use Rattle.idl_tree.specs.Reading.{first};
+ghost use Rattle.idl_tree.specs.reading.ReadExpression.{product_operator_of, shift_operator_of, sum_operator_of, unary_operator_of};
+ghost use Rattle.idl_tree.specs.reading.Reading.{first};
 
 use crate::cursor::punctuation;
-use idl_lex::{Mark, Token};
-use idl_tree::{ProductOperator, ShiftOperator, SumOperator, UnaryOperator};
+use idl_lex::Token;
+use idl_lex::kinds::Mark;
+use idl_tree::expression::{ProductOperator, ShiftOperator, SumOperator, UnaryOperator};
 
 /// The shift that the next token is.
 pub fn shift_operator(tokens: &[Token]) -> Option<ShiftOperator>

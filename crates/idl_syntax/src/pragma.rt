@@ -5,13 +5,14 @@
 
 ghost use Rattle.std.specs.Prelude.{◌≡◌, IfOk, Option, List, ℕ};
 ghost use Rattle.std.specs.Option.{option_copied, option_map};
-ghost use Rattle.idl_lex.specs.Kind.{kind_of};
+ghost use Rattle.idl_lex.specs.kinds.Kind.{kind_of};
 ghost use Rattle.idl_tree.specs.Pragma.{further_parts, id_of, is_separator, name_before, name_from, only, part_of, pragma_by, pragma_of, prefix_of, text_of, versioned};
 ghost use Rattle.idl_syntax.specs.Behind.{behind_view};
 
 use crate::version::version;
 use idl_base::{Bytes, Seq};
-use idl_lex::{Kind, Mark, Token, decode};
+use idl_lex::Token;
+use idl_lex::kinds::{Kind, Mark, decode};
 use idl_tree::{Pragma, ScopedName};
 use std::alloc::{AllocError, Global};
 

@@ -2,33 +2,37 @@
 
 ghost use Rattle.std.specs.Prelude.{◌≡◌, ◌<◌, ◌≤◌, length, IfOk};
 ghost use Rattle.idl_tree.specs.Lexeme.{lexemes};
-ghost use Rattle.idl_tree.specs.ReadConstruction.{construction_at, enumeration_at};
-ghost use Rattle.idl_tree.specs.ReadExpression.{expression_at};
-ghost use Rattle.idl_tree.specs.ReadInterface.{attribute_with, operation_with, readonly_attribute_with};
-ghost use Rattle.idl_tree.specs.ReadType.{type_at};
-ghost use Rattle.idl_tree.specs.ReadUnit.{constant_type_with, constant_with, ended_with, exception_with, native_at, structure_unit_with, typedef_with, union_unit_with, unit_at};
-ghost use Rattle.idl_tree.specs.declared.construction.Construction.TheVariants as construction;
+ghost use Rattle.idl_tree.specs.reading.ReadConstruction.{construction_at, enumeration_at};
+ghost use Rattle.idl_tree.specs.reading.ReadExpression.{expression_at};
+ghost use Rattle.idl_tree.specs.reading.ReadInterface.{attribute_with, operation_with, readonly_attribute_with};
+ghost use Rattle.idl_tree.specs.reading.ReadType.{type_at};
+ghost use Rattle.idl_tree.specs.reading.ReadUnit.{constant_type_with, constant_with, ended_with, exception_with, native_at, structure_unit_with, typedef_with, union_unit_with, unit_at};
+ghost use Rattle.idl_tree.specs.declared.declarations.construction.Construction.TheVariants as construction;
 ghost use Rattle.idl_tree.specs.declared.unit.Tree.TheVariants as tree;
 ghost use Rattle.idl_syntax.specs.Gives.{Advances, Reads, Remains};
 ghost use Rattle.idl_syntax.specs.Nested.{nested};
 
-use crate::attribute::{attribute, readonly_attribute};
-use crate::construction::{enumeration, member_type, members, structure_rest, union_rest};
 use crate::cursor::{behind, behind_word, closed, identifier, is_at, is_at_word, keyword, named};
-use crate::data_type::{discrete_type, string_type};
-use crate::declarator::declarators;
+use crate::declarations::attribute::{attribute, readonly_attribute};
+use crate::declarations::construction::{
+    enumeration, member_type, members, structure_rest, union_rest,
+};
+use crate::declarations::data_type::{discrete_type, string_type};
+use crate::declarations::declarator::declarators;
+use crate::declarations::interface::{closing, interface, module};
+use crate::declarations::operation::operation;
 use crate::expression::expression;
 use crate::fault::SyntaxFault;
-use crate::interface::{closing, interface, module};
 use crate::name::scoped_name;
-use crate::operation::operation;
 use idl_base::Bytes;
-use idl_lex::{Keyword, Mark, Token};
-use idl_tree::{Constant, ConstantType, Construction, Exception, Forward, Tree, Typedef};
+use idl_lex::Token;
+use idl_lex::kinds::{Keyword, Mark};
+use idl_tree::declarations::{Construction, Forward};
+use idl_tree::{Constant, ConstantType, Exception, Tree, Typedef};
 use std::alloc::Global;
 
 /// A unit, with parts of less than so many levels.
-#[tactic(auto, unfolding(idl_tree::specs::ReadUnit::unit_at, idl_tree::specs::ReadUnit::unit_with))]
+#[tactic(auto, unfolding(idl_tree::specs::reading::ReadUnit::unit_at, idl_tree::specs::reading::ReadUnit::unit_with))]
 pub fn unit(alloc: Global, depth: usize, tokens: &[Token]) -> Result<(Tree, &[Token]), SyntaxFault>
     ensures reads { Reads (unit_at depth) tokens.now result }
     ensures shorter { Advances tokens.now result }
@@ -53,7 +57,7 @@ pub fn unit(alloc: Global, depth: usize, tokens: &[Token]) -> Result<(Tree, &[To
 }
 
 /// A struct, or its declaration ahead.
-#[tactic(auto, unfolding(idl_tree::specs::ReadUnit::structure_unit_with, idl_tree::specs::ReadUnit::ended_with, idl_tree::specs::ReadUnit::ahead_at))]
+#[tactic(auto, unfolding(idl_tree::specs::reading::ReadUnit::structure_unit_with, idl_tree::specs::reading::ReadUnit::ended_with, idl_tree::specs::reading::ReadUnit::ahead_at))]
 #[inline(never)]
 fn structure_unit(
     alloc: Global,
@@ -82,7 +86,7 @@ fn structure_unit(
 }
 
 /// A union, or its declaration ahead.
-#[tactic(auto, unfolding(idl_tree::specs::ReadUnit::union_unit_with, idl_tree::specs::ReadUnit::ended_with, idl_tree::specs::ReadUnit::ahead_at))]
+#[tactic(auto, unfolding(idl_tree::specs::reading::ReadUnit::union_unit_with, idl_tree::specs::reading::ReadUnit::ended_with, idl_tree::specs::reading::ReadUnit::ahead_at))]
 #[inline(never)]
 fn union_unit(
     alloc: Global,
@@ -107,7 +111,7 @@ fn union_unit(
 }
 
 /// An enum.
-#[tactic(auto, unfolding(idl_tree::specs::ReadUnit::ended_with))]
+#[tactic(auto, unfolding(idl_tree::specs::reading::ReadUnit::ended_with))]
 fn enumeration_unit(alloc: Global, tokens: &[Token]) -> Result<(Tree, &[Token]), SyntaxFault>
     ensures reads { Reads (ended_with (λ e. tree.Construction (construction.Enumeration e)) enumeration_at)
         tokens.now result }
@@ -119,7 +123,7 @@ fn enumeration_unit(alloc: Global, tokens: &[Token]) -> Result<(Tree, &[Token]),
 }
 
 /// A typedef, without its `;`.
-#[tactic(auto, unfolding(idl_tree::specs::ReadUnit::typedef_with))]
+#[tactic(auto, unfolding(idl_tree::specs::reading::ReadUnit::typedef_with))]
 fn typedef(
     alloc: Global,
     depth: usize,
@@ -135,7 +139,7 @@ fn typedef(
 }
 
 /// A typedef.
-#[tactic(auto, unfolding(idl_tree::specs::ReadUnit::ended_with))]
+#[tactic(auto, unfolding(idl_tree::specs::reading::ReadUnit::ended_with))]
 #[inline(never)]
 fn typedef_unit(
     alloc: Global,
@@ -150,7 +154,7 @@ fn typedef_unit(
 }
 
 /// `native` and a name, without the `;`.
-#[tactic(auto, unfolding(idl_tree::specs::ReadUnit::native_at))]
+#[tactic(auto, unfolding(idl_tree::specs::reading::ReadUnit::native_at))]
 fn native(tokens: &[Token]) -> Result<(Bytes, &[Token]), SyntaxFault>
     ensures reads { Reads native_at tokens.now result }
     ensures shorter { Advances tokens.now result }
@@ -160,7 +164,7 @@ fn native(tokens: &[Token]) -> Result<(Bytes, &[Token]), SyntaxFault>
 }
 
 /// A native type.
-#[tactic(auto, unfolding(idl_tree::specs::ReadUnit::ended_with))]
+#[tactic(auto, unfolding(idl_tree::specs::reading::ReadUnit::ended_with))]
 fn native_unit(tokens: &[Token]) -> Result<(Tree, &[Token]), SyntaxFault>
     ensures reads { Reads (ended_with tree.Native native_at) tokens.now result }
     ensures shorter { Advances tokens.now result }
@@ -170,7 +174,7 @@ fn native_unit(tokens: &[Token]) -> Result<(Tree, &[Token]), SyntaxFault>
 }
 
 /// The type of a constant.
-#[tactic(auto, unfolding(idl_tree::specs::ReadUnit::constant_type_with))]
+#[tactic(auto, unfolding(idl_tree::specs::reading::ReadUnit::constant_type_with))]
 fn constant_type(
     alloc: Global,
     depth: usize,
@@ -196,7 +200,7 @@ fn constant_type(
 }
 
 /// A constant, without its `;`.
-#[tactic(auto, unfolding(idl_tree::specs::ReadUnit::constant_with))]
+#[tactic(auto, unfolding(idl_tree::specs::reading::ReadUnit::constant_with))]
 fn constant(
     alloc: Global,
     depth: usize,
@@ -214,7 +218,7 @@ fn constant(
 }
 
 /// A constant.
-#[tactic(auto, unfolding(idl_tree::specs::ReadUnit::ended_with))]
+#[tactic(auto, unfolding(idl_tree::specs::reading::ReadUnit::ended_with))]
 #[inline(never)]
 fn constant_unit(
     alloc: Global,
@@ -230,7 +234,7 @@ fn constant_unit(
 }
 
 /// An exception, without its `;`.
-#[tactic(auto, unfolding(idl_tree::specs::ReadUnit::exception_with))]
+#[tactic(auto, unfolding(idl_tree::specs::reading::ReadUnit::exception_with))]
 fn exception(
     alloc: Global,
     depth: usize,
@@ -247,7 +251,7 @@ fn exception(
 }
 
 /// An exception.
-#[tactic(auto, unfolding(idl_tree::specs::ReadUnit::ended_with))]
+#[tactic(auto, unfolding(idl_tree::specs::reading::ReadUnit::ended_with))]
 #[inline(never)]
 fn exception_unit(
     alloc: Global,
@@ -263,7 +267,7 @@ fn exception_unit(
 }
 
 /// An attribute that is read alone.
-#[tactic(auto, unfolding(idl_tree::specs::ReadUnit::ended_with))]
+#[tactic(auto, unfolding(idl_tree::specs::reading::ReadUnit::ended_with))]
 #[inline(never)]
 fn readonly_attribute_unit(
     alloc: Global,
@@ -279,7 +283,7 @@ fn readonly_attribute_unit(
 }
 
 /// An attribute that is read and written.
-#[tactic(auto, unfolding(idl_tree::specs::ReadUnit::ended_with))]
+#[tactic(auto, unfolding(idl_tree::specs::reading::ReadUnit::ended_with))]
 #[inline(never)]
 fn attribute_unit(
     alloc: Global,
@@ -295,7 +299,7 @@ fn attribute_unit(
 }
 
 /// An operation.
-#[tactic(auto, unfolding(idl_tree::specs::ReadUnit::ended_with))]
+#[tactic(auto, unfolding(idl_tree::specs::reading::ReadUnit::ended_with))]
 #[inline(never)]
 fn operation_unit(
     alloc: Global,

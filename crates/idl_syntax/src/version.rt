@@ -1,7 +1,7 @@
 //! Versions, as a pragma gives them.
 
 ghost use Rattle.std.specs.Prelude.{◌≡◌, ◌<◌, IfSome, length, position};
-ghost use Rattle.idl_lex.specs.Byte.{is_digit};
+ghost use Rattle.idl_lex.specs.bytes.Byte.{is_digit};
 ghost use Rattle.idl_tree.specs.Pragma.{is_dot, version_number, version_of};
 
 /// The most that a number of a version may be.

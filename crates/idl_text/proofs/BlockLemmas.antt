@@ -7,15 +7,15 @@ use Rattle.std.specs.List.{Contains, slice_index_or}
 use Rattle.idl_lex.proofs.LogicalLemmas.{Begins-some, first_then, joined_count-some}
 use Rattle.idl_text.proofs.MovedLemmas.{joined-moved, tokens_after-moved}
 use Rattle.idl_text.specs.Block.{AreBlocks, AreBlocksOf, IsApart, IsBlock, lines_in_blocks, tokens_in_blocks, tokens_there}
-use Rattle.idl_lex.specs.Context.{line_start}
-use Rattle.idl_lex.specs.Lexer.{ended}
-use Rattle.idl_lex.specs.Logical.{continued, joined_count}
+use Rattle.idl_lex.specs.bytes.Context.{line_start}
+use Rattle.idl_lex.specs.tokens.Lexer.{ended}
+use Rattle.idl_lex.specs.tokens.Logical.{continued, joined_count}
 use Rattle.idl_text.specs.Moved.{moved_token, moved_tokens}
-use Rattle.idl_lex.specs.Text.{is_continued, joined}
-use Rattle.idl_lex.specs.Tokens.{tokens_after, tokens_of}
-use Rattle.idl_text.specs.declared.block.Block.{Block}
-use Rattle.idl_text.specs.declared.block.PlacedBlock.{PlacedBlock}
-use Rattle.idl_lex.specs.declared.token.PlacedToken.{PlacedToken}
+use Rattle.idl_lex.specs.bytes.Text.{is_continued, joined}
+use Rattle.idl_lex.specs.tokens.Tokens.{tokens_after, tokens_of}
+use Rattle.idl_text.specs.declared.tokens.block.Block.{Block}
+use Rattle.idl_text.specs.declared.tokens.block.PlacedBlock.{PlacedBlock}
+use Rattle.idl_lex.specs.declared.tokens.token.PlacedToken.{PlacedToken}
 
 -- ---- tokens of lines
 

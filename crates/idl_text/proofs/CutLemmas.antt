@@ -2,15 +2,15 @@
 use Rattle.std.proofs.Common.{◌≡◌, ◌∙◌, ◌++◌, ◌↔◌, ℕ, zero, suc, List, [], ◌∷◌, drop, length, take, refl, sym, ap, subst, arith}
 use Rattle.idl_lex.proofs.PieceLemmas.{further-within, is_piece-further, largest-is, longer-fails, longest-further}
 use Rattle.idl_lex.proofs.TokensLemmas.{bytes_of-take, from_piece, length-bytes_of, tokens_after-drop, tokens_after-nil, tokens_after-piece}
-use Rattle.idl_lex.specs.Context.{is_include, context_after}
+use Rattle.idl_lex.specs.bytes.Context.{is_include, context_after}
 use Rattle.idl_text.specs.Cut.{first_bytes, AreTokensOf, IsLongest}
 use Rattle.idl_text.specs.Cut.AreTokensOf.{nothing, piece}
-use Rattle.idl_lex.specs.Piece.{is_piece, longest}
-use Rattle.idl_lex.specs.Scan.{further}
-use Rattle.idl_lex.specs.Text.{Placed, bytes_of}
-use Rattle.idl_lex.specs.Tokens.{token_if, tokens_after}
-use Rattle.idl_lex.specs.declared.context.Context.{Context}
-use Rattle.idl_lex.specs.declared.token.PlacedToken.{PlacedToken}
+use Rattle.idl_lex.specs.bytes.Piece.{is_piece, longest}
+use Rattle.idl_lex.specs.bytes.Scan.{further}
+use Rattle.idl_lex.specs.bytes.Text.{Placed, bytes_of}
+use Rattle.idl_lex.specs.tokens.Tokens.{token_if, tokens_after}
+use Rattle.idl_lex.specs.declared.bytes.context.Context.{Context}
+use Rattle.idl_lex.specs.declared.tokens.token.PlacedToken.{PlacedToken}
 
 -- the further bytes of the longest piece
 abbrev rest_of : Context → Placed → List Placed → ℕ

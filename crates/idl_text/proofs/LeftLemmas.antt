@@ -2,7 +2,7 @@
 use Rattle.std.proofs.Common.{◌≡◌, ◌∙◌, ◌+◌, ◌≤◌, ◌++◌, ℕ, List, ap, arith, drop, length, length-append, sym}
 use Rattle.std.proofs.Math.Seq.{drop-append_seam}
 use Rattle.std.proofs.lemmas.List.{drop-drop, length-drop}
-use Rattle.idl_lex.specs.declared.token.PlacedToken.{PlacedToken}
+use Rattle.idl_lex.specs.declared.tokens.token.PlacedToken.{PlacedToken}
 
 pub behind-first : (tokens left line rest : List PlacedToken) (at count : ℕ) → left ≡ drop at tokens → left ≡ line ++ rest → count ≡ length line → rest ≡ drop (at + count) tokens
 behind-first tokens left line rest at count is all size =

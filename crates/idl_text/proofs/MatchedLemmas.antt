@@ -4,18 +4,18 @@ use Rattle.std.proofs.Math.Seq.{drop-append_seam}
 use Rattle.std.proofs.lemmas.List.{append-nil, drop-append-le, take-append-le, take_all, length-drop}
 use Rattle.std.proofs.lemmas.List.Elements.{All-cons, All-head, All-nil, All-push, All-tail, All-weaker}
 use Rattle.std.specs.List.{All}
-use Rattle.idl_lex.specs.declared.token.PlacedToken.{PlacedToken}
+use Rattle.idl_lex.specs.declared.tokens.token.PlacedToken.{PlacedToken}
 use Rattle.idl_text.specs.Jump.{IsJump, IsNextOfGroup, fault_at}
 use Rattle.idl_text.specs.Line.{Directive, Line, Directed, Text}
 use Rattle.idl_text.specs.Matching.{AreOpen, IsMatched, IsSpan, span_of}
 use Rattle.idl_text.specs.Tree.{IsBranch, is_else}
 use Rattle.idl_text.specs.TreeLaw.{IsLineAlone}
-use Rattle.idl_text.specs.declared.branch.BranchSpan.{BranchSpan}
-use Rattle.idl_text.specs.declared.branch.OpenBranch.{OpenBranch}
-use Rattle.idl_text.specs.declared.fault.GroupFault.{GroupFault}
-use Rattle.idl_text.specs.declared.fault.Misplaced.TheVariants.{OutOfPlace, NotClosed}
-use Rattle.idl_text.specs.declared.kind.DirectiveKind.TheVariants.{Endif, Opening}
-use Rattle.idl_text.specs.declared.kind.Test.{Test}
+use Rattle.idl_text.specs.declared.groups.branch.BranchSpan.{BranchSpan}
+use Rattle.idl_text.specs.declared.groups.branch.OpenBranch.{OpenBranch}
+use Rattle.idl_text.specs.declared.groups.fault.GroupFault.{GroupFault}
+use Rattle.idl_text.specs.declared.groups.fault.Misplaced.TheVariants.{OutOfPlace, NotClosed}
+use Rattle.idl_text.specs.declared.groups.kind.DirectiveKind.TheVariants.{Endif, Opening}
+use Rattle.idl_text.specs.declared.groups.kind.Test.{Test}
 use Rattle.idl_text.proofs.MatchingLemmas.{open-alone, open-branch, open-endif, open-opening, open-stray, open-unclosed}
 
 -- the end of a list, behind as many as there are before it

@@ -6,11 +6,11 @@ use Rattle.idl_text.specs.Line.{Directive, Line, Directed}
 use Rattle.idl_text.specs.Matching.{AreOpen, IsBegun, IsTree}
 use Rattle.idl_text.specs.Tree.{IsBranch, Tree, Leaf, Stray, Group as group_tree, Forest, Empty, Grow, Branches, Closed, Unclosed, Branch, append, is_else}
 use Rattle.idl_text.specs.TreeLaw.{Inside, IsFormed, IsLineAlone, IsTreeFormed, lines_in_branches, lines_in_forest, lines_in_tree}
-use Rattle.idl_text.specs.declared.branch.OpenBranch.{OpenBranch}
-use Rattle.idl_text.specs.declared.fault.GroupFault.{GroupFault}
-use Rattle.idl_text.specs.declared.fault.Misplaced.TheVariants.{OutOfPlace, NotClosed}
-use Rattle.idl_text.specs.declared.kind.DirectiveKind.TheVariants.{Endif, Opening}
-use Rattle.idl_text.specs.declared.kind.Test.{Test}
+use Rattle.idl_text.specs.declared.groups.branch.OpenBranch.{OpenBranch}
+use Rattle.idl_text.specs.declared.groups.fault.GroupFault.{GroupFault}
+use Rattle.idl_text.specs.declared.groups.fault.Misplaced.TheVariants.{OutOfPlace, NotClosed}
+use Rattle.idl_text.specs.declared.groups.kind.DirectiveKind.TheVariants.{Endif, Opening}
+use Rattle.idl_text.specs.declared.groups.kind.Test.{Test}
 use Rattle.idl_text.proofs.TreeLawLemmas.{formed-append, lines_in_forest-append}
 
 faults_in-append : (f g : Forest) → faults_in (append f g) ≡ faults_in f ++ faults_in g

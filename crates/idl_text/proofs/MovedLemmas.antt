@@ -3,14 +3,14 @@ use Rattle.std.proofs.Common.{◌≡◌, ◌∙◌, ◌+◌, ◌-◌, ◌++◌, 
 use Rattle.std.specs.Prelude.{if◌then◌else◌}
 use Rattle.std.proofs.lemmas.List.{map-append, take-map}
 use Rattle.std.proofs.lemmas.Simd.{map-map}
-use Rattle.idl_source.specs.Line.{newline}
-use Rattle.idl_lex.specs.Context.{context_after, is_gap, is_include}
+use Rattle.idl_source.specs.texts.Line.{newline}
+use Rattle.idl_lex.specs.bytes.Context.{context_after, is_gap, is_include}
 use Rattle.idl_text.specs.Moved.{moved_byte, moved_text, moved_token, moved_tokens}
-use Rattle.idl_lex.specs.Piece.{is_piece, longest}
-use Rattle.idl_lex.specs.Text.{Placed, bytes_of, front, is_continued, joined, numbered}
-use Rattle.idl_lex.specs.Tokens.{piece_rest, spelled, token_if, token_of, tokens_after, tokens_in}
-use Rattle.idl_lex.specs.declared.context.Context.{Context}
-use Rattle.idl_lex.specs.declared.token.PlacedToken.{PlacedToken}
+use Rattle.idl_lex.specs.bytes.Piece.{is_piece, longest}
+use Rattle.idl_lex.specs.bytes.Text.{Placed, bytes_of, front, is_continued, joined, numbered}
+use Rattle.idl_lex.specs.tokens.Tokens.{piece_rest, spelled, token_if, token_of, tokens_after, tokens_in}
+use Rattle.idl_lex.specs.declared.bytes.context.Context.{Context}
+use Rattle.idl_lex.specs.declared.tokens.token.PlacedToken.{PlacedToken}
 
 -- ---- texts
 

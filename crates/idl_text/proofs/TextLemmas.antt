@@ -8,9 +8,9 @@ use Rattle.std.specs.List.{All, flat_map}
 use Rattle.std.specs.Str.{bytes_eq}
 use Rattle.idl_text.specs.Block.{tokens_in_blocks}
 use Rattle.idl_text.specs.Moved.{moved_token, moved_tokens}
-use Rattle.idl_lex.specs.Tokens.{BeginsLine, Token, followers_on_line, is_text, lines_after, lines_of, tokens_in}
-use Rattle.idl_text.specs.declared.block.PlacedBlock.{PlacedBlock}
-use Rattle.idl_lex.specs.declared.token.PlacedToken.{PlacedToken}
+use Rattle.idl_lex.specs.tokens.Tokens.{BeginsLine, Token, followers_on_line, is_text, lines_after, lines_of, tokens_in}
+use Rattle.idl_text.specs.declared.tokens.block.PlacedBlock.{PlacedBlock}
+use Rattle.idl_lex.specs.declared.tokens.token.PlacedToken.{PlacedToken}
 use Rattle.idl_text.proofs.WalkLemmas.{IsHere, begins-append, begins-behind, followers-front, followers-own}
 
 -- a line of text

@@ -4,9 +4,9 @@ use Rattle.std.proofs.lemmas.List.{append-nil}
 use Rattle.idl_text.specs.Line.{Directive, Line, Text, NullDirective, Directed}
 use Rattle.idl_text.specs.Tree.{IsBranch, IsOfGroup, Tree, Leaf, Stray, Group, Forest, Empty, Grow, Branches, Closed, Unclosed, Branch, Tail, AtEnd, At, Part, Closing, append, before, close, directive_before, group_before, grown, is_else, is_endif, part, strays, tree}
 use Rattle.idl_text.specs.TreeLaw.{Around, Outside, Inside, AreFormed, IsAlone, IsFormed, IsTreeFormed, MayStray, lines_in_branches, lines_in_forest, lines_in_tree}
-use Rattle.idl_text.specs.declared.kind.DirectiveKind.{DirectiveKind}
-use Rattle.idl_text.specs.declared.kind.DirectiveKind.TheVariants.{Alone, Opening, Elif, Else, Endif}
-use Rattle.idl_text.specs.declared.kind.Test.{Test}
+use Rattle.idl_text.specs.declared.groups.kind.DirectiveKind.{DirectiveKind}
+use Rattle.idl_text.specs.declared.groups.kind.DirectiveKind.TheVariants.{Alone, Opening, Elif, Else, Endif}
+use Rattle.idl_text.specs.declared.groups.kind.Test.{Test}
 use Rattle.idl_text.proofs.TreeLemmas.{before-of_group, body_grown, branch_before, close-branch, close-endif, close-Grow, close-stray, ending, of_group-branch, strays-Grow}
 
 -- what holds of each way to go on at a directive of a group

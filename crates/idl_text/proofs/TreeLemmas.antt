@@ -2,9 +2,9 @@
 use Rattle.std.proofs.Common.{◌≡◌, Bool, true, false, if◌then◌else◌, refl, ap, ◌∙◌}
 use Rattle.idl_text.specs.Line.{Directive, Directed}
 use Rattle.idl_text.specs.Tree.{IsBranch, IsOfGroup, Tree, Leaf, Stray, Forest, Empty, Grow, Closed, Branch, Tail, AtEnd, At, Part, Closing, append, before, is_endif, is_else, close, directive_before, grown, strays}
-use Rattle.idl_text.specs.declared.kind.DirectiveKind.{DirectiveKind}
-use Rattle.idl_text.specs.declared.kind.DirectiveKind.TheVariants.{Alone, Opening, Elif, Else, Endif}
-use Rattle.idl_text.specs.declared.kind.Plain.{Plain}
+use Rattle.idl_text.specs.declared.groups.kind.DirectiveKind.{DirectiveKind}
+use Rattle.idl_text.specs.declared.groups.kind.DirectiveKind.TheVariants.{Alone, Opening, Elif, Else, Endif}
+use Rattle.idl_text.specs.declared.groups.kind.Plain.{Plain}
 
 -- a tree before the group's end
 abbrev pub body_grown : Tree → Closing → Closing

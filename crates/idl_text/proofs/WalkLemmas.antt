@@ -9,20 +9,20 @@ use Rattle.std.proofs.lemmas.Option.{slice_get-get_or, slice_get-map}
 use Rattle.std.specs.List.{All, AllWithin, drop-map, prefix_len, slice_get, slice_range}
 use Rattle.std.specs.Option.{option_map}
 use Rattle.std.specs.List.Sorted.{IsNonDecreasingBy}
-use Rattle.idl_source.specs.Line.{newline}
+use Rattle.idl_source.specs.texts.Line.{newline}
 use Rattle.idl_text.proofs.BlockLemmas.{AreBlocks-at, tokens_in-all, tokens_in-more}
 use Rattle.idl_base.proofs.PartLemmas.{length-part, part-map}
 use Rattle.idl_lex.proofs.TokensLemmas.{after_gap, after_token, lines_of-first}
 use Rattle.idl_text.specs.Block.{AreBlocks, AreBlocksOf, AreOfSomeFile, IsPlace, tokens_in_blocks, tokens_there}
-use Rattle.idl_lex.specs.Context.{context_after, is_gap, is_newline, is_nothing, line_start}
+use Rattle.idl_lex.specs.bytes.Context.{context_after, is_gap, is_newline, is_nothing, line_start}
 use Rattle.idl_text.specs.Moved.{moved_token, moved_tokens}
-use Rattle.idl_lex.specs.Text.{Placed, bytes_of, front, is_continued, joined, numbered}
-use Rattle.idl_lex.specs.Tokens.{BeginsLine, followers_on_line, lines_of, piece_rest, spelled, token_if, token_of, tokens_after, tokens_of}
-use Rattle.idl_lex.specs.Apart.{place_of, placed_at}
-use Rattle.idl_text.specs.declared.block.PlacedBlock.{PlacedBlock}
-use Rattle.idl_lex.specs.declared.block_tokens.TokenPlace.{TokenPlace}
-use Rattle.idl_lex.specs.declared.context.Context.{Context}
-use Rattle.idl_lex.specs.declared.token.PlacedToken.{PlacedToken}
+use Rattle.idl_lex.specs.bytes.Text.{Placed, bytes_of, front, is_continued, joined, numbered}
+use Rattle.idl_lex.specs.tokens.Tokens.{BeginsLine, followers_on_line, lines_of, piece_rest, spelled, token_if, token_of, tokens_after, tokens_of}
+use Rattle.idl_lex.specs.tokens.Apart.{place_of, placed_at}
+use Rattle.idl_text.specs.declared.tokens.block.PlacedBlock.{PlacedBlock}
+use Rattle.idl_lex.specs.declared.tokens.block_tokens.TokenPlace.{TokenPlace}
+use Rattle.idl_lex.specs.declared.bytes.context.Context.{Context}
+use Rattle.idl_lex.specs.declared.tokens.token.PlacedToken.{PlacedToken}
 
 -- ---- the lines that tokens stand on
 

@@ -2,10 +2,10 @@
 use Rattle.std.specs.Prelude.{◌≡◌, ◌⊎◌, ◌≤◌, ◌<◌, ◌+◌, ◌^◌, ℕ, List, [], ◌∷◌, ◌++◌, drop, length, take}
 use Rattle.std.specs.List.{flat_map, sum_by}
 use Rattle.idl_text.specs.Moved.{moved_tokens}
-use Rattle.idl_lex.specs.Tokens.{tokens_of}
-use Rattle.idl_text.specs.declared.block.Block.{Block}
-use Rattle.idl_text.specs.declared.block.PlacedBlock.{PlacedBlock}
-use Rattle.idl_lex.specs.declared.token.PlacedToken.{PlacedToken}
+use Rattle.idl_lex.specs.tokens.Tokens.{tokens_of}
+use Rattle.idl_text.specs.declared.tokens.block.Block.{Block}
+use Rattle.idl_text.specs.declared.tokens.block.PlacedBlock.{PlacedBlock}
+use Rattle.idl_lex.specs.declared.tokens.token.PlacedToken.{PlacedToken}
 
 -- Lines that stand apart: whatever lines follow them, those before have the tokens of a file of
 -- their own, and so have those that follow, but for where they stand.

@@ -1,12 +1,12 @@
 -- What tokens stand in a text, as a relation: pieces end to end are the text, and none of them can
 -- be longer.
 use Rattle.std.specs.Prelude.{◌≡◌, ℕ, suc, ◌<◌, ◌≤◌, true, false, List, [], ◌∷◌, ◌++◌, length, take, drop}
-use Rattle.idl_lex.specs.Context.{is_include, context_after}
-use Rattle.idl_lex.specs.Piece.{is_piece}
-use Rattle.idl_lex.specs.Text.{Placed, bytes_of}
-use Rattle.idl_lex.specs.Tokens.{token_if}
-use Rattle.idl_lex.specs.declared.context.Context.{Context}
-use Rattle.idl_lex.specs.declared.token.PlacedToken.{PlacedToken}
+use Rattle.idl_lex.specs.bytes.Context.{is_include, context_after}
+use Rattle.idl_lex.specs.bytes.Piece.{is_piece}
+use Rattle.idl_lex.specs.bytes.Text.{Placed, bytes_of}
+use Rattle.idl_lex.specs.tokens.Tokens.{token_if}
+use Rattle.idl_lex.specs.declared.bytes.context.Context.{Context}
+use Rattle.idl_lex.specs.declared.tokens.token.PlacedToken.{PlacedToken}
 
 -- the first n bytes of a text
 abbrev pub first_bytes : ℕ → List Placed → List ℕ

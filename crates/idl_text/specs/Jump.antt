@@ -4,10 +4,10 @@ use Rattle.std.specs.Prelude.{◌≡◌, ◌⊎◌, Bool, false, List, [], ◌�
 use Rattle.idl_text.specs.Line.{Directive, Line, Text, NullDirective, Directed}
 use Rattle.idl_text.specs.Tree.{IsBranch, Tree, Leaf, Stray, Group, Forest, Empty, Grow, Branches, Closed, Unclosed, Branch}
 use Rattle.idl_text.specs.TreeLaw.{Inside, IsFormed, lines_in_forest}
-use Rattle.idl_text.specs.declared.fault.GroupFault.{GroupFault}
-use Rattle.idl_text.specs.declared.fault.Misplaced.{Misplaced}
-use Rattle.idl_text.specs.declared.fault.Misplaced.TheVariants.{OutOfPlace, NotClosed}
-use Rattle.idl_text.specs.declared.kind.DirectiveKind.TheVariants.{Endif}
+use Rattle.idl_text.specs.declared.groups.fault.GroupFault.{GroupFault}
+use Rattle.idl_text.specs.declared.groups.fault.Misplaced.{Misplaced}
+use Rattle.idl_text.specs.declared.groups.fault.Misplaced.TheVariants.{OutOfPlace, NotClosed}
+use Rattle.idl_text.specs.declared.groups.kind.DirectiveKind.TheVariants.{Endif}
 
 -- a fault that is told at a directive
 abbrev pub fault_at : Misplaced → Directive → GroupFault

@@ -1,13 +1,13 @@
 -- The lines of a file, as the preprocessor reads them.
 use Rattle.std.specs.Prelude.{ℕ, List, [], ◌∷◌, codes, map, if◌then◌else◌, unwrap_or}
 use Rattle.std.specs.Str.{bytes_eq}
-use Rattle.idl_lex.specs.Tokens.{lines_of, tokens_of}
-use Rattle.idl_lex.specs.WordTable.{value_of}
-use Rattle.idl_lex.specs.declared.token.PlacedToken.{PlacedToken}
-use Rattle.idl_text.specs.declared.kind.DirectiveKind.{DirectiveKind}
-use Rattle.idl_text.specs.declared.kind.DirectiveKind.TheVariants.{Alone, Opening, Elif, Else, Endif}
-use Rattle.idl_text.specs.declared.kind.Plain.TheVariants.{Include, Define, Undef, Error, Pragma, Ignored, Unknown}
-use Rattle.idl_text.specs.declared.kind.Test.TheVariants.{If, Ifdef, Ifndef}
+use Rattle.idl_lex.specs.tokens.Tokens.{lines_of, tokens_of}
+use Rattle.idl_lex.specs.kinds.WordTable.{value_of}
+use Rattle.idl_lex.specs.declared.tokens.token.PlacedToken.{PlacedToken}
+use Rattle.idl_text.specs.declared.groups.kind.DirectiveKind.{DirectiveKind}
+use Rattle.idl_text.specs.declared.groups.kind.DirectiveKind.TheVariants.{Alone, Opening, Elif, Else, Endif}
+use Rattle.idl_text.specs.declared.groups.kind.Plain.TheVariants.{Include, Define, Undef, Error, Pragma, Ignored, Unknown}
+use Rattle.idl_text.specs.declared.groups.kind.Test.TheVariants.{If, Ifdef, Ifndef}
 
 -- a directive: its kind, the number of its line, its word, and the tokens after that
 pub record Directive : Type 0 where

@@ -1,16 +1,16 @@
 -- How far the groups of a file are matched: the words for the code's own steps.
 use Rattle.std.specs.Prelude.{◌≡◌, ◌+◌, ◌≤◌, ℕ, Bool, List, [], ◌∷◌, ◌++◌, drop, length, slice_range}
 use Rattle.std.specs.List.{All}
-use Rattle.idl_lex.specs.declared.token.PlacedToken.{PlacedToken}
+use Rattle.idl_lex.specs.declared.tokens.token.PlacedToken.{PlacedToken}
 use Rattle.idl_text.specs.Jump.{IsJump, IsPassed, faults_in, faults_in_branches, faults_in_tree}
 use Rattle.idl_text.specs.Line.{Directive, Line, Directed, lines_from}
 use Rattle.idl_text.specs.Tree.{Tree, Forest, Branches}
 use Rattle.idl_text.specs.TreeLaw.{AreFormed, Around, Inside, IsFormed, IsTreeFormed, lines_in_branches, lines_in_forest, lines_in_tree}
-use Rattle.idl_text.specs.declared.branch.BranchSpan.{BranchSpan}
-use Rattle.idl_text.specs.declared.branch.OpenBranch.{OpenBranch}
-use Rattle.idl_text.specs.declared.fault.GroupFault.{GroupFault}
-use Rattle.idl_text.specs.declared.matching.Matching.{Matching}
-use Rattle.idl_text.specs.declared.table.BranchTable.{BranchTable}
+use Rattle.idl_text.specs.declared.groups.branch.BranchSpan.{BranchSpan}
+use Rattle.idl_text.specs.declared.groups.branch.OpenBranch.{OpenBranch}
+use Rattle.idl_text.specs.declared.groups.fault.GroupFault.{GroupFault}
+use Rattle.idl_text.specs.declared.groups.matching.Matching.{Matching}
+use Rattle.idl_text.specs.declared.groups.table.BranchTable.{BranchTable}
 
 -- the lines from each place on
 abbrev pub lines_at : List PlacedToken → ℕ → List Line

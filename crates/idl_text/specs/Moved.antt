@@ -1,7 +1,7 @@
 -- Texts and tokens that stand elsewhere: so many lines further down.
 use Rattle.std.specs.Prelude.{ℕ, ◌+◌, List, map}
-use Rattle.idl_lex.specs.Text.{Placed}
-use Rattle.idl_lex.specs.declared.token.PlacedToken.{PlacedToken}
+use Rattle.idl_lex.specs.bytes.Text.{Placed}
+use Rattle.idl_lex.specs.declared.tokens.token.PlacedToken.{PlacedToken}
 
 -- a byte so many lines further down
 abbrev pub moved_byte : ℕ → Placed → Placed

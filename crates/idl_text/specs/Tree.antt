@@ -2,9 +2,9 @@
 -- says which tree that is, however it is made.
 use Rattle.std.specs.Prelude.{Bool, true, false, List, [], ◌∷◌, if◌then◌else◌}
 use Rattle.idl_text.specs.Line.{Directive, Line, Text, NullDirective, Directed}
-use Rattle.idl_text.specs.declared.kind.DirectiveKind.{DirectiveKind}
-use Rattle.idl_text.specs.declared.kind.DirectiveKind.TheVariants.{Alone, Opening, Elif, Else, Endif}
-use Rattle.idl_text.specs.declared.kind.Test.{Test}
+use Rattle.idl_text.specs.declared.groups.kind.DirectiveKind.{DirectiveKind}
+use Rattle.idl_text.specs.declared.groups.kind.DirectiveKind.TheVariants.{Alone, Opening, Elif, Else, Endif}
+use Rattle.idl_text.specs.declared.groups.kind.Test.{Test}
 
 mutual
   -- a line of its own, a directive of a group that stands in none, or a group: its opening

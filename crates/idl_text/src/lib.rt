@@ -4,26 +4,14 @@
 //! Nothing here knows what is told of a file, or which branches are taken.
 #![tactic(auto)]
 
-mod block;
-mod blocks;
-mod branch;
-mod directive;
-mod fault;
-mod file_tokens;
-mod grouped;
-mod kind;
-mod lexed;
-mod matching;
-mod table;
-mod token_range;
-mod tokens_left;
-mod tree;
+mod groups;
+mod tokens;
 
-pub use fault::{GroupFault, Misplaced};
-pub use file_tokens::{FileToken, FileTokens};
-pub use grouped::{GroupedTokens, LinesLeft};
-pub use kind::{DirectiveKind, Plain, Test};
-pub use lexed::{Lexed, lex, longest_pieces};
-pub use token_range::TokenRange;
-pub use tokens_left::TokensLeft;
-pub use tree::tree_of_lines;
+pub use groups::fault::{GroupFault, Misplaced};
+pub use groups::grouped::{GroupedTokens, LinesLeft};
+pub use groups::kind::{DirectiveKind, Plain, Test};
+pub use groups::tree::tree_of_lines;
+pub use tokens::file_tokens::{FileToken, FileTokens};
+pub use tokens::lexed::{Lexed, lex, longest_pieces};
+pub use tokens::token_range::TokenRange;
+pub use tokens::tokens_left::TokensLeft;

@@ -7,8 +7,8 @@ use Rattle.std.proofs.lemmas.List.Elements.{All-cons, All-filter, All-head, All-
 use Rattle.std.proofs.lemmas.List.Folds.{flat_map-map}
 use Rattle.clap.proofs.WalkLemmas.{list_any-map}
 use Rattle.idl_make.specs.Make.{IfThere, IsMakeRule, Need, Rule, There, is_make_name, name_in, rule_text, rules_text}
-use Rattle.idl_session.specs.Replies.{whole_line}
-use Rattle.idl_source.specs.Texts.{Texts}
+use Rattle.idl_session.specs.replies.Replies.{whole_line}
+use Rattle.idl_source.specs.texts.Texts.{Texts}
 use Rattle.idl_workspace.specs.Asked.{asked_over}
 use Rattle.idl_workspace.specs.Bank.{bank_of}
 use Rattle.idl_workspace.specs.Compile.{compiled_root}

@@ -1,7 +1,7 @@
 -- What `explain` answers.
 use Rattle.std.specs.Prelude.{◌≡◌, ◌++◌, ℕ, List, [], Contains, Option, None, Some, codes, map}
 use Rattle.std.specs.List.{flat_map}
-use Rattle.idl_source.specs.Device.{append}
+use Rattle.idl_source.specs.devices.Device.{append}
 use Rattle.idl_explain.specs.Explained.{Names, headline, shown, topic_of}
 use Rattle.idl_explain.specs.declared.explanation.Explanation.{Explanation}
 use Rattle.idl_explain.specs.declared.explanation.Topic.{Topic}

@@ -3,8 +3,8 @@ use Rattle.std.specs.Prelude.{◌≡◌, ◌-◌, ◌&&◌, ◌||◌, ℕ, Bool,
 use Rattle.std.specs.FinMap as finite
 use Rattle.std.specs.List.{flat_map}
 use Rattle.std.specs.Str.{bytes_eq}
-use Rattle.idl_source.specs.Device.{append}
-use Rattle.idl_source.specs.Texts.{Texts}
+use Rattle.idl_source.specs.devices.Device.{append}
+use Rattle.idl_source.specs.texts.Texts.{Texts}
 use Rattle.idl_workspace.specs.Asked.{asked_over}
 use Rattle.idl_workspace.specs.Bank.{bank_of}
 use Rattle.idl_workspace.specs.Made.{rootless}

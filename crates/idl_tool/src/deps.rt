@@ -1,7 +1,7 @@
 //! Rules of make from the files that roots ask for.
 
 ghost use Rattle.std.specs.Prelude.{◌≡◌, ◌++◌, ◌∷◌, ◌≤◌, ◌<◌, ◌+◌, ◌-◌, ◌^◌, [], All, IfOk, IsTrue, OnOk, codes, filter, flat_map, if◌then◌else◌, map};
-ghost use Rattle.idl_source.specs.Device.{append};
+ghost use Rattle.idl_source.specs.devices.Device.{append};
 ghost use Rattle.idl_program.specs.Rows.{are_faulty, lines_with};
 ghost use Rattle.idl_program.specs.declared.failure.Status.TheVariants.{Faulty, Sound};
 ghost use Rattle.idl_tool.specs.Deps.{IsServed, empty_rule, is_other, need_of, rules_in, stem, target_of};

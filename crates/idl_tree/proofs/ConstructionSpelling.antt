@@ -1,30 +1,30 @@
 -- The spelling of structs, unions and enums by those of their parts.
 use Rattle.std.proofs.Common.{◌≡◌, ◌∙◌, ℕ, List, [], ◌∷◌, ◌++◌, sym, ap, arith, length, subst, ◌<◌}
 use Rattle.std.proofs.lemmas.List.{length-append}
-use Rattle.idl_lex.specs.declared.keyword.Keyword.TheVariants as word
-use Rattle.idl_lex.specs.declared.mark.Mark.TheVariants as mark
+use Rattle.idl_lex.specs.declared.kinds.keyword.Keyword.TheVariants as word
+use Rattle.idl_lex.specs.declared.kinds.mark.Mark.TheVariants as mark
 use Rattle.idl_tree.specs.Construction.{spell_enumeration, spell_discriminator, spell_label, construction_step, member_type_step, case_step, member_step, structure_step, union_step, spell_construction, spell_member_type, spell_case, spell_member, spell_structure, spell_union}
 use Rattle.idl_tree.specs.DataType.{spell_type, spell_declarator}
 use Rattle.idl_tree.specs.Lexeme.{Lexemes, Word, Punctuation, Identifier, Lexeme}
-use Rattle.idl_tree.specs.ReadConstruction.{made_member, made_structure, made_case, made_union}
+use Rattle.idl_tree.specs.reading.ReadConstruction.{made_member, made_structure, made_case, made_union}
 use Rattle.idl_tree.specs.Several.{spell_listed, spell_all}
-use Rattle.idl_tree.specs.declared.construction.Case.{Case}
-use Rattle.idl_tree.specs.declared.construction.Construction.{Construction, fold-Construction}
-use Rattle.idl_tree.specs.declared.construction.Construction.TheFolds.{fold-MemberType, fold-roll-Construction, fold-roll-MemberType, fold-roll-Case, fold-roll-Member, fold-roll-Structure, fold-roll-Union, fold_out-Case, fold_out-Member}
-use Rattle.idl_tree.specs.declared.construction.Construction.TheOpen.{Construction-F, MemberType-F, Member-F, Case-F}
-use Rattle.idl_tree.specs.declared.construction.Construction.TheVariants.{rolls-Structure, rolls-Union, rolls-Enumeration}
-use Rattle.idl_tree.specs.declared.construction.Construction.TheVariants as construction
-use Rattle.idl_tree.specs.declared.construction.Discriminator.{Discriminator}
-use Rattle.idl_tree.specs.declared.construction.Enumeration.{Enumeration}
-use Rattle.idl_tree.specs.declared.construction.Label.{Label}
-use Rattle.idl_tree.specs.declared.construction.Member.{Member}
-use Rattle.idl_tree.specs.declared.construction.MemberType.{MemberType}
-use Rattle.idl_tree.specs.declared.construction.MemberType.TheVariants.{rolls-Type, rolls-Construction}
-use Rattle.idl_tree.specs.declared.construction.MemberType.TheVariants as member_type
-use Rattle.idl_tree.specs.declared.construction.Structure.{Structure}
-use Rattle.idl_tree.specs.declared.construction.Union.{Union}
-use Rattle.idl_tree.specs.declared.data_type.DataType.{DataType}
-use Rattle.idl_tree.specs.declared.declarator.Declarator.{Declarator}
+use Rattle.idl_tree.specs.declared.declarations.construction.Case.{Case}
+use Rattle.idl_tree.specs.declared.declarations.construction.Construction.{Construction, fold-Construction}
+use Rattle.idl_tree.specs.declared.declarations.construction.Construction.TheFolds.{fold-MemberType, fold-roll-Construction, fold-roll-MemberType, fold-roll-Case, fold-roll-Member, fold-roll-Structure, fold-roll-Union, fold_out-Case, fold_out-Member}
+use Rattle.idl_tree.specs.declared.declarations.construction.Construction.TheOpen.{Construction-F, MemberType-F, Member-F, Case-F}
+use Rattle.idl_tree.specs.declared.declarations.construction.Construction.TheVariants.{rolls-Structure, rolls-Union, rolls-Enumeration}
+use Rattle.idl_tree.specs.declared.declarations.construction.Construction.TheVariants as construction
+use Rattle.idl_tree.specs.declared.declarations.construction.Discriminator.{Discriminator}
+use Rattle.idl_tree.specs.declared.declarations.construction.Enumeration.{Enumeration}
+use Rattle.idl_tree.specs.declared.declarations.construction.Label.{Label}
+use Rattle.idl_tree.specs.declared.declarations.construction.Member.{Member}
+use Rattle.idl_tree.specs.declared.declarations.construction.MemberType.{MemberType}
+use Rattle.idl_tree.specs.declared.declarations.construction.MemberType.TheVariants.{rolls-Type, rolls-Construction}
+use Rattle.idl_tree.specs.declared.declarations.construction.MemberType.TheVariants as member_type
+use Rattle.idl_tree.specs.declared.declarations.construction.Structure.{Structure}
+use Rattle.idl_tree.specs.declared.declarations.construction.Union.{Union}
+use Rattle.idl_tree.specs.declared.declarations.data_type.DataType.{DataType}
+use Rattle.idl_tree.specs.declared.declarations.declarator.Declarator.{Declarator}
 use Rattle.idl_tree.specs.declared.several.Several.{Several}
 use Rattle.idl_tree.proofs.Many.{many_spell}
 use Rattle.idl_tree.proofs.SpellLemmas.{flat_map-map}

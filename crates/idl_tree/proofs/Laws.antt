@@ -2,7 +2,7 @@
 use Rattle.std.proofs.Common.{◌≡◌, ℕ, zero, suc, ◌+◌, ◌<◌, ◌≤◌, Bool, true, false, cond, List, [], ◌∷◌, ◌++◌, length, Option, Some, None, Result, Ok, Err, refl, sym, ap, subst, ◌∙◌, append_assoc, arith, ◌⊎◌, inl, inr}
 use Rattle.std.proofs.lemmas.List.{length-append}
 use Rattle.idl_tree.specs.Lexeme.{Lexeme}
-use Rattle.idl_tree.specs.Reading.{Reader, ◌>>=◌, first, expect}
+use Rattle.idl_tree.specs.reading.Reading.{Reader, ◌>>=◌, first, expect}
 
 -- ---- results
 

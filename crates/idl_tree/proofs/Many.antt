@@ -2,7 +2,7 @@
 use Rattle.std.proofs.Common.{◌≡◌, ℕ, zero, suc, ◌<◌, Bool, true, false, List, [], ◌∷◌, ◌++◌, length, Option, Result, Ok, Err, refl, sym, ap, subst, ◌∙◌, append_assoc, append-nil, arith, inl, inr}
 use Rattle.std.proofs.lemmas.List.{length-append}
 use Rattle.idl_tree.specs.Lexeme.{Lexeme}
-use Rattle.idl_tree.specs.Reading.{Reader, ◌>>=◌, first, many_at, many_of}
+use Rattle.idl_tree.specs.reading.Reading.{Reader, ◌>>=◌, first, many_at, many_of}
 use Rattle.idl_tree.proofs.Laws.{ok, ok_is, ok_err, bind_ok, bind_err, Failed, in_first, in_second, chosen, first-append, Room, room_rest, Read, Laws, same}
 
 abbrev pub many_spell : {A : Type 0} → (A → List Lexeme) → List A → List Lexeme

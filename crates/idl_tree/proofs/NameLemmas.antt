@@ -1,7 +1,7 @@
 -- How many tokens a name is, and the bounds of its parts.
 use Rattle.std.proofs.Common.{◌≡◌, ℕ, suc, ◌+◌, ◌*◌, Bool, true, false, cond, List, [], ◌∷◌, ◌++◌, length, flat_map, refl, ap, arith}
 use Rattle.idl_tree.specs.NameParts.{last_at}
-use Rattle.idl_lex.specs.declared.mark.Mark.TheVariants.{ColonColon}
+use Rattle.idl_lex.specs.declared.kinds.mark.Mark.TheVariants.{ColonColon}
 use Rattle.idl_tree.specs.Interface.{spell_text}
 use Rattle.idl_tree.specs.Lexeme.{Lexemes, Punctuation, Identifier, Text}
 use Rattle.idl_tree.specs.Name.{spell_leading, spell_name}

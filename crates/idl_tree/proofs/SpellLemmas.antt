@@ -1,10 +1,10 @@
 -- The spelling of a tree by those of its parts.
 use Rattle.std.proofs.Common.{◌≡◌, ◌∙◌, List, [], ◌∷◌, ◌++◌, flat_map, map, Option, refl, sym, ap}
-use Rattle.idl_lex.specs.declared.mark.Mark.TheVariants as mark
+use Rattle.idl_lex.specs.declared.kinds.mark.Mark.TheVariants as mark
 use Rattle.idl_tree.specs.Expression.{primary_step, and_step, exclusive_or_step, expression_step, product_step, shift_step, sum_step, unary_step, product_mark, sum_mark, shift_mark, spell_unary_operator, spell_expression, spell_exclusive_or, spell_and, spell_shift, spell_sum, spell_product, spell_unary, spell_primary, spell_literal}
 use Rattle.idl_tree.specs.Lexeme.{Lexemes, Punctuation}
 use Rattle.idl_tree.specs.Name.{spell_name}
-use Rattle.idl_tree.specs.ReadExpression.{made_unary, made_product, made_sum, made_shift, made_and, made_exclusive_or, made_expression}
+use Rattle.idl_tree.specs.reading.ReadExpression.{made_unary, made_product, made_sum, made_shift, made_and, made_exclusive_or, made_expression}
 use Rattle.idl_tree.specs.declared.expression.And.{And}
 use Rattle.idl_tree.specs.declared.expression.ExclusiveOr.{ExclusiveOr}
 use Rattle.idl_tree.specs.declared.expression.Expression.{Expression}

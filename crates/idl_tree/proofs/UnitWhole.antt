@@ -1,12 +1,12 @@
 -- What reading of a whole unit says: the tree that is spelled so, or where no tree goes on.
 use Rattle.std.proofs.Common.{Err, Ok, [], length, ℕ, ◌<◌, ◌∷◌, ◌≡◌}
-use Rattle.idl_tree.specs.Fault.{IsFaultAt}
+use Rattle.idl_tree.specs.reading.Fault.{IsFaultAt}
 use Rattle.idl_tree.specs.Lexeme.{Lexeme, Lexemes}
-use Rattle.idl_tree.specs.ReadUnit.{unit_at}
+use Rattle.idl_tree.specs.reading.ReadUnit.{unit_at}
 use Rattle.idl_tree.specs.Unit.{spell}
 use Rattle.idl_tree.specs.declared.unit.Tree.{Tree}
-use Rattle.idl_tree.proofs.UnitAgain.{unit_again}
-use Rattle.idl_tree.proofs.UnitLaws.{unit_laws}
+use Rattle.idl_tree.proofs.ReadAgain.UnitAgain.{unit_again}
+use Rattle.idl_tree.proofs.Readers.UnitLaws.{unit_laws}
 use Rattle.idl_tree.proofs.Whole.{whole_fault, whole_found, whole_rest, whole_unique}
 
 -- a unit of which nothing is left is the spelling of its tree

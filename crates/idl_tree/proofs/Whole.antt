@@ -1,9 +1,9 @@
 -- Reading of all tokens.
 use Rattle.std.proofs.Common.{◌≡◌, ℕ, suc, ◌+◌, ◌<◌, List, [], ◌∷◌, ◌++◌, length, Result, Ok, Err, refl, sym, ap, subst, ◌∙◌, append_assoc, append-nil, arith}
 use Rattle.std.proofs.lemmas.List.{length-append}
-use Rattle.idl_tree.specs.Fault.{IsFaultAt}
+use Rattle.idl_tree.specs.reading.Fault.{IsFaultAt}
 use Rattle.idl_tree.specs.Lexeme.{Lexeme}
-use Rattle.idl_tree.specs.Reading.{Reader, first}
+use Rattle.idl_tree.specs.reading.Reading.{Reader, first}
 use Rattle.idl_tree.proofs.Laws.{ok, ok_is, ok_err, Room, Laws, same}
 
 pub split_same : (a c b d : List Lexeme) → a ++ b ≡ c ++ d → length b ≡ length d → (a ≡ c) × (b ≡ d)

@@ -1,25 +1,25 @@
 -- Structs, unions and enums.
 use Rattle.std.specs.Prelude.{[], ◌∷◌, ◌++◌, flat_map}
-use Rattle.idl_lex.specs.declared.keyword.Keyword.TheVariants as word
-use Rattle.idl_lex.specs.declared.mark.Mark.TheVariants as mark
+use Rattle.idl_lex.specs.declared.kinds.keyword.Keyword.TheVariants as word
+use Rattle.idl_lex.specs.declared.kinds.mark.Mark.TheVariants as mark
 use Rattle.idl_tree.specs.DataType.{spell_discrete, spell_type, spell_declarator}
 use Rattle.idl_tree.specs.Expression.{spell_expression}
 use Rattle.idl_tree.specs.Lexeme.{Lexemes, Word, Punctuation, Identifier}
 use Rattle.idl_tree.specs.Name.{spell_name}
 use Rattle.idl_tree.specs.Several.{spell_listed, spell_all}
-use Rattle.idl_tree.specs.declared.construction.Case.{Case}
-use Rattle.idl_tree.specs.declared.construction.Construction.{Construction}
-use Rattle.idl_tree.specs.declared.construction.Construction.TheFolds.{fold-Construction, fold-Member, fold-MemberType, fold-Case, fold-Structure, fold-Union}
-use Rattle.idl_tree.specs.declared.construction.Construction.TheOpen.{MemberType-F, Construction-F, Structure-F, Member-F, Union-F, Case-F}
-use Rattle.idl_tree.specs.declared.construction.Discriminator.{Discriminator}
-use Rattle.idl_tree.specs.declared.construction.Discriminator.TheVariants as discriminator
-use Rattle.idl_tree.specs.declared.construction.Enumeration.{Enumeration}
-use Rattle.idl_tree.specs.declared.construction.Label.{Label}
-use Rattle.idl_tree.specs.declared.construction.Label.TheVariants as label
-use Rattle.idl_tree.specs.declared.construction.Member.{Member}
-use Rattle.idl_tree.specs.declared.construction.MemberType.{MemberType}
-use Rattle.idl_tree.specs.declared.construction.Structure.{Structure}
-use Rattle.idl_tree.specs.declared.construction.Union.{Union}
+use Rattle.idl_tree.specs.declared.declarations.construction.Case.{Case}
+use Rattle.idl_tree.specs.declared.declarations.construction.Construction.{Construction}
+use Rattle.idl_tree.specs.declared.declarations.construction.Construction.TheFolds.{fold-Construction, fold-Member, fold-MemberType, fold-Case, fold-Structure, fold-Union}
+use Rattle.idl_tree.specs.declared.declarations.construction.Construction.TheOpen.{MemberType-F, Construction-F, Structure-F, Member-F, Union-F, Case-F}
+use Rattle.idl_tree.specs.declared.declarations.construction.Discriminator.{Discriminator}
+use Rattle.idl_tree.specs.declared.declarations.construction.Discriminator.TheVariants as discriminator
+use Rattle.idl_tree.specs.declared.declarations.construction.Enumeration.{Enumeration}
+use Rattle.idl_tree.specs.declared.declarations.construction.Label.{Label}
+use Rattle.idl_tree.specs.declared.declarations.construction.Label.TheVariants as label
+use Rattle.idl_tree.specs.declared.declarations.construction.Member.{Member}
+use Rattle.idl_tree.specs.declared.declarations.construction.MemberType.{MemberType}
+use Rattle.idl_tree.specs.declared.declarations.construction.Structure.{Structure}
+use Rattle.idl_tree.specs.declared.declarations.construction.Union.{Union}
 
 -- "enum" ID "{" ID/"," "}"
 abbrev pub spell_enumeration : Enumeration → Lexemes

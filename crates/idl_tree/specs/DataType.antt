@@ -1,22 +1,22 @@
 -- Types and declared names.
 use Rattle.std.specs.Prelude.{Bool, true, false, [], ◌∷◌, ◌++◌, flat_map, Option, None, Some}
-use Rattle.idl_lex.specs.declared.keyword.Keyword.TheVariants as word
-use Rattle.idl_lex.specs.declared.mark.Mark.TheVariants as mark
+use Rattle.idl_lex.specs.declared.kinds.keyword.Keyword.TheVariants as word
+use Rattle.idl_lex.specs.declared.kinds.mark.Mark.TheVariants as mark
 use Rattle.idl_tree.specs.Expression.{spell_expression}
 use Rattle.idl_tree.specs.Lexeme.{Lexemes, Word, Punctuation, Identifier}
 use Rattle.idl_tree.specs.Name.{spell_name}
-use Rattle.idl_tree.specs.declared.data_type.BasicType.{BasicType}
-use Rattle.idl_tree.specs.declared.data_type.BasicType.TheVariants as basic
-use Rattle.idl_tree.specs.declared.data_type.DataType.{DataType, fold-DataType}
-use Rattle.idl_tree.specs.declared.data_type.DataType.TheOpen.{DataType-F, Sequence-F}
-use Rattle.idl_tree.specs.declared.data_type.DiscreteType.{DiscreteType}
-use Rattle.idl_tree.specs.declared.data_type.DiscreteType.TheVariants as discrete
-use Rattle.idl_tree.specs.declared.data_type.IntegerSize.{IntegerSize}
-use Rattle.idl_tree.specs.declared.data_type.IntegerSize.TheVariants.{Short, Long, LongLong}
-use Rattle.idl_tree.specs.declared.data_type.PlainType.{PlainType}
-use Rattle.idl_tree.specs.declared.data_type.PlainType.TheVariants as plain
-use Rattle.idl_tree.specs.declared.data_type.StringType.{StringType}
-use Rattle.idl_tree.specs.declared.declarator.Declarator.{Declarator}
+use Rattle.idl_tree.specs.declared.declarations.data_type.BasicType.{BasicType}
+use Rattle.idl_tree.specs.declared.declarations.data_type.BasicType.TheVariants as basic
+use Rattle.idl_tree.specs.declared.declarations.data_type.DataType.{DataType, fold-DataType}
+use Rattle.idl_tree.specs.declared.declarations.data_type.DataType.TheOpen.{DataType-F, Sequence-F}
+use Rattle.idl_tree.specs.declared.declarations.data_type.DiscreteType.{DiscreteType}
+use Rattle.idl_tree.specs.declared.declarations.data_type.DiscreteType.TheVariants as discrete
+use Rattle.idl_tree.specs.declared.declarations.data_type.IntegerSize.{IntegerSize}
+use Rattle.idl_tree.specs.declared.declarations.data_type.IntegerSize.TheVariants.{Short, Long, LongLong}
+use Rattle.idl_tree.specs.declared.declarations.data_type.PlainType.{PlainType}
+use Rattle.idl_tree.specs.declared.declarations.data_type.PlainType.TheVariants as plain
+use Rattle.idl_tree.specs.declared.declarations.data_type.StringType.{StringType}
+use Rattle.idl_tree.specs.declared.declarations.declarator.Declarator.{Declarator}
 use Rattle.idl_tree.specs.declared.expression.Expression.{Expression}
 
 abbrev pub spell_sign : Bool → Lexemes

@@ -1,28 +1,28 @@
 -- Interfaces, attributes, operations and declarations ahead.
 use Rattle.std.specs.Prelude.{ℕ, Bool, true, false, List, [], ◌∷◌, ◌++◌, Option, None, Some}
-use Rattle.idl_lex.specs.declared.keyword.Keyword.TheVariants as word
-use Rattle.idl_lex.specs.declared.mark.Mark.TheVariants as mark
+use Rattle.idl_lex.specs.declared.kinds.keyword.Keyword.TheVariants as word
+use Rattle.idl_lex.specs.declared.kinds.mark.Mark.TheVariants as mark
 use Rattle.idl_tree.specs.DataType.{spell_type}
 use Rattle.idl_tree.specs.Lexeme.{Lexemes, Word, Punctuation, Identifier, Text}
 use Rattle.idl_tree.specs.Name.{spell_name}
 use Rattle.idl_tree.specs.Several.{spell_listed, spell_all, spell_if}
-use Rattle.idl_tree.specs.declared.attribute.Attribute.{Attribute}
-use Rattle.idl_tree.specs.declared.attribute.AttributeNames.{AttributeNames}
-use Rattle.idl_tree.specs.declared.attribute.AttributeNames.TheVariants as names
-use Rattle.idl_tree.specs.declared.attribute.AttributeRaises.{AttributeRaises}
-use Rattle.idl_tree.specs.declared.attribute.AttributeRaises.TheVariants.{Get, Set}
-use Rattle.idl_tree.specs.declared.attribute.ReadonlyAttribute.{ReadonlyAttribute}
-use Rattle.idl_tree.specs.declared.attribute.ReadonlyNames.{ReadonlyNames}
-use Rattle.idl_tree.specs.declared.attribute.ReadonlyNames.TheVariants as readonly
-use Rattle.idl_tree.specs.declared.data_type.DataType.{DataType}
-use Rattle.idl_tree.specs.declared.interface.Forward.{Forward}
-use Rattle.idl_tree.specs.declared.interface.Forward.TheVariants as forward
-use Rattle.idl_tree.specs.declared.interface.Interface.{Interface}
+use Rattle.idl_tree.specs.declared.declarations.attribute.Attribute.{Attribute}
+use Rattle.idl_tree.specs.declared.declarations.attribute.AttributeNames.{AttributeNames}
+use Rattle.idl_tree.specs.declared.declarations.attribute.AttributeNames.TheVariants as names
+use Rattle.idl_tree.specs.declared.declarations.attribute.AttributeRaises.{AttributeRaises}
+use Rattle.idl_tree.specs.declared.declarations.attribute.AttributeRaises.TheVariants.{Get, Set}
+use Rattle.idl_tree.specs.declared.declarations.attribute.ReadonlyAttribute.{ReadonlyAttribute}
+use Rattle.idl_tree.specs.declared.declarations.attribute.ReadonlyNames.{ReadonlyNames}
+use Rattle.idl_tree.specs.declared.declarations.attribute.ReadonlyNames.TheVariants as readonly
+use Rattle.idl_tree.specs.declared.declarations.data_type.DataType.{DataType}
+use Rattle.idl_tree.specs.declared.declarations.interface.Forward.{Forward}
+use Rattle.idl_tree.specs.declared.declarations.interface.Forward.TheVariants as forward
+use Rattle.idl_tree.specs.declared.declarations.interface.Interface.{Interface}
 use Rattle.idl_tree.specs.declared.name.ScopedName.{ScopedName}
-use Rattle.idl_tree.specs.declared.operation.Direction.{Direction}
-use Rattle.idl_tree.specs.declared.operation.Direction.TheVariants.{In, Out, InOut}
-use Rattle.idl_tree.specs.declared.operation.Operation.{Operation}
-use Rattle.idl_tree.specs.declared.operation.Parameter.{Parameter}
+use Rattle.idl_tree.specs.declared.declarations.operation.Direction.{Direction}
+use Rattle.idl_tree.specs.declared.declarations.operation.Direction.TheVariants.{In, Out, InOut}
+use Rattle.idl_tree.specs.declared.declarations.operation.Operation.{Operation}
+use Rattle.idl_tree.specs.declared.declarations.operation.Parameter.{Parameter}
 use Rattle.idl_tree.specs.declared.several.Several.{Several}
 
 abbrev pub spell_local : Bool → Lexemes

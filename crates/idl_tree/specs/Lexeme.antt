@@ -1,12 +1,12 @@
 -- Tokens, as the grammar knows them.
 use Rattle.std.specs.Prelude.{ℕ, List, [], ◌∷◌, map, Option, None, Some}
-use Rattle.idl_lex.specs.Kind.{kind_of, name_of}
-use Rattle.idl_lex.specs.Literal.{literal_value}
-use Rattle.idl_lex.specs.Number.{integer_value}
-use Rattle.idl_lex.specs.declared.keyword.Keyword.{Keyword}
-use Rattle.idl_lex.specs.declared.kind.Kind.{Kind}
-use Rattle.idl_lex.specs.declared.kind.Kind.TheVariants as kind
-use Rattle.idl_lex.specs.declared.mark.Mark.{Mark}
+use Rattle.idl_lex.specs.kinds.Kind.{kind_of, name_of}
+use Rattle.idl_lex.specs.kinds.Literal.{literal_value}
+use Rattle.idl_lex.specs.kinds.Number.{integer_value}
+use Rattle.idl_lex.specs.declared.kinds.keyword.Keyword.{Keyword}
+use Rattle.idl_lex.specs.declared.kinds.kind.Kind.{Kind}
+use Rattle.idl_lex.specs.declared.kinds.kind.Kind.TheVariants as kind
+use Rattle.idl_lex.specs.declared.kinds.mark.Mark.{Mark}
 
 -- A keyword, a mark, an identifier without its escape, a literal by its value, or what stands in
 -- no tree.

@@ -1,6 +1,6 @@
 -- Scoped names.
 use Rattle.std.specs.Prelude.{Bool, true, false, [], ◌∷◌, ◌++◌, flat_map}
-use Rattle.idl_lex.specs.declared.mark.Mark.TheVariants.{ColonColon}
+use Rattle.idl_lex.specs.declared.kinds.mark.Mark.TheVariants.{ColonColon}
 use Rattle.idl_tree.specs.Lexeme.{Lexemes, Punctuation, Identifier}
 use Rattle.idl_tree.specs.declared.name.ScopedName.{ScopedName}
 

@@ -3,14 +3,14 @@ use Rattle.std.specs.Prelude.{ℕ, Bool, true, false, ◌&&◌, List, [], ◌∷
 use Rattle.std.specs.List.{before_first, after_first, list_all}
 use Rattle.std.specs.Option.{option_map}
 use Rattle.std.specs.Str.{bytes_eq}
-use Rattle.idl_lex.specs.Byte.{is_digit}
-use Rattle.idl_lex.specs.Kind.{kind_of, name_of}
-use Rattle.idl_lex.specs.Literal.{literal_value}
-use Rattle.idl_lex.specs.Number.{number}
-use Rattle.idl_lex.specs.Tokens.{Token}
-use Rattle.idl_lex.specs.declared.kind.Kind.{Kind}
-use Rattle.idl_lex.specs.declared.kind.Kind.TheVariants.{Miscased, String, Punctuation}
-use Rattle.idl_lex.specs.declared.mark.Mark.TheVariants.{ColonColon}
+use Rattle.idl_lex.specs.bytes.Byte.{is_digit}
+use Rattle.idl_lex.specs.kinds.Kind.{kind_of, name_of}
+use Rattle.idl_lex.specs.kinds.Literal.{literal_value}
+use Rattle.idl_lex.specs.kinds.Number.{number}
+use Rattle.idl_lex.specs.tokens.Tokens.{Token}
+use Rattle.idl_lex.specs.declared.kinds.kind.Kind.{Kind}
+use Rattle.idl_lex.specs.declared.kinds.kind.Kind.TheVariants.{Miscased, String, Punctuation}
+use Rattle.idl_lex.specs.declared.kinds.mark.Mark.TheVariants.{ColonColon}
 use Rattle.idl_tree.specs.declared.name.ScopedName.{ScopedName}
 use Rattle.idl_tree.specs.declared.pragma.Pragma.{Pragma}
 use Rattle.idl_tree.specs.declared.pragma.Pragma.TheVariants.{Prefix, Id, Version}

@@ -1,6 +1,6 @@
 -- One or more.
 use Rattle.std.specs.Prelude.{[], ◌∷◌, ◌++◌, flat_map, Option, None, Some}
-use Rattle.idl_lex.specs.declared.mark.Mark.TheVariants.{Comma}
+use Rattle.idl_lex.specs.declared.kinds.mark.Mark.TheVariants.{Comma}
 use Rattle.idl_tree.specs.Lexeme.{Lexemes, Punctuation}
 use Rattle.idl_tree.specs.declared.several.Several.{Several}
 

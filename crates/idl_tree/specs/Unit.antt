@@ -1,7 +1,7 @@
 -- Units: one equation for each line of the grammar.
 use Rattle.std.specs.Prelude.{[], ◌∷◌, ◌++◌, flat_map}
-use Rattle.idl_lex.specs.declared.keyword.Keyword.TheVariants as word
-use Rattle.idl_lex.specs.declared.mark.Mark.TheVariants as mark
+use Rattle.idl_lex.specs.declared.kinds.keyword.Keyword.TheVariants as word
+use Rattle.idl_lex.specs.declared.kinds.mark.Mark.TheVariants as mark
 use Rattle.idl_tree.specs.Construction.{spell_construction, spell_member, spell_member_type}
 use Rattle.idl_tree.specs.DataType.{spell_discrete, spell_string, spell_declarator}
 use Rattle.idl_tree.specs.Expression.{spell_expression}

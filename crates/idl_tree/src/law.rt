@@ -3,9 +3,9 @@
 //! Each function does nothing: it carries its laws as clauses.
 
 ghost use Rattle.std.specs.Prelude.{◌≡◌, ◌<◌, ◌∷◌, [], ℕ, length, Ok, Err};
-ghost use Rattle.idl_tree.specs.Fault.{IsFaultAt};
+ghost use Rattle.idl_tree.specs.reading.Fault.{IsFaultAt};
 ghost use Rattle.idl_tree.specs.Lexeme.{Lexeme, Lexemes};
-ghost use Rattle.idl_tree.specs.ReadUnit.{unit_at};
+ghost use Rattle.idl_tree.specs.reading.ReadUnit.{unit_at};
 ghost use Rattle.idl_tree.specs.Unit.{spell};
 ghost use Rattle.idl_tree.specs.declared.unit.Tree.{Tree};
 

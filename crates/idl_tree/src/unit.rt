@@ -1,13 +1,13 @@
 //! Units.
 
-use crate::attribute::{Attribute, ReadonlyAttribute};
-use crate::construction::{Construction, Member, MemberType};
-use crate::data_type::{DiscreteType, StringType};
-use crate::declarator::Declarator;
+use crate::declarations::attribute::{Attribute, ReadonlyAttribute};
+use crate::declarations::construction::{Construction, Member, MemberType};
+use crate::declarations::data_type::{DiscreteType, StringType};
+use crate::declarations::declarator::Declarator;
+use crate::declarations::interface::{Forward, Interface};
+use crate::declarations::operation::Operation;
 use crate::expression::Expression;
-use crate::interface::{Forward, Interface};
 use crate::name::ScopedName;
-use crate::operation::Operation;
 use crate::several::Several;
 use idl_base::{Bytes, Seq};
 

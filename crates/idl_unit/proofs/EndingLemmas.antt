@@ -3,11 +3,11 @@ use Rattle.std.proofs.Common.{◌≡◌, ◌≢◌, ◌∙◌, ℕ, zero, suc, �
 use Rattle.std.proofs.lemmas.List.{drop_all, drop_more, take_all, take_more}
 use Rattle.std.proofs.lemmas.Bool.{ne_eqb, eq-eqb}
 use Rattle.std.specs.Prelude.{count_by, fold}
-use Rattle.idl_lex.specs.Tokens.{Token}
+use Rattle.idl_lex.specs.tokens.Tokens.{Token}
 use Rattle.idl_unit.specs.Ending.{begins, closes, edge, ends, ends_by, ends_in, is_balanced, is_empty, is_interface, is_semicolon, opens, role, role_of, rule_by, rule_of, token_units}
-use Rattle.idl_lex.specs.declared.keyword.Keyword.{Keyword}
-use Rattle.idl_lex.specs.declared.keyword.Keyword.TheVariants as keyword
-use Rattle.idl_lex.specs.declared.kind.Kind.TheVariants.{Accepted}
+use Rattle.idl_lex.specs.declared.kinds.keyword.Keyword.{Keyword}
+use Rattle.idl_lex.specs.declared.kinds.keyword.Keyword.TheVariants as keyword
+use Rattle.idl_lex.specs.declared.kinds.kind.Kind.TheVariants.{Accepted}
 use Rattle.idl_unit.specs.declared.role.Role.{Role}
 use Rattle.idl_unit.specs.declared.role.Role.TheVariants.{OpenBrace, CloseBrace, Semicolon, Module, Interface, Local, Other}
 use Rattle.idl_unit.specs.declared.role.Rule.{Rule}

@@ -2,7 +2,7 @@
 use Rattle.std.proofs.Common.{◌≡◌, ◌≢◌, ◌∙◌, ◌<◌, ◌≤◌, ℕ, Bool, true, false, ltb, List, [], ◌∷◌, ◌++◌, append_assoc, drop, length, length-drop, take, refl, sym, ap, subst, arith}
 use Rattle.std.proofs.lemmas.Bool.{ltb-false, ltb-true}
 use Rattle.std.proofs.lemmas.List.{drop-append-le, length-take-le, take-append-drop, take-append-le, take_all}
-use Rattle.idl_lex.specs.Tokens.{Token}
+use Rattle.idl_lex.specs.tokens.Tokens.{Token}
 use Rattle.idl_unit.specs.Ending.{ends, ends_by, role, rule_by, rule_of, token_units}
 use Rattle.idl_unit.specs.Parts.{IsCutInto, IsPart}
 use Rattle.idl_unit.specs.declared.role.Role.{Role}

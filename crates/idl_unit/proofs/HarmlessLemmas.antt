@@ -7,12 +7,12 @@ use Rattle.std.proofs.lemmas.List.{length-map}
 use Rattle.std.proofs.lemmas.List.Folds.{list_all-map}
 use Rattle.std.proofs.lemmas.List.Sums.{count_by-le-length}
 use Rattle.idl_fault.specs.declared.code.Code.TheVariants.{MixedWidths, LeftOut}
-use Rattle.idl_lex.specs.Kind.{kind_of}
-use Rattle.idl_lex.specs.Tokens.{Token}
-use Rattle.idl_lex.specs.declared.keyword.Keyword.{Keyword}
-use Rattle.idl_lex.specs.declared.keyword.Keyword.TheVariants as keyword
-use Rattle.idl_lex.specs.declared.kind.Kind.{Kind}
-use Rattle.idl_lex.specs.declared.kind.Kind.TheVariants.{Accepted, Refused, Miscased, Identifier, Escaped, Integer, Character, WideCharacter, String, WideString, Punctuation, HeaderName, Preprocessing, Bad}
+use Rattle.idl_lex.specs.kinds.Kind.{kind_of}
+use Rattle.idl_lex.specs.tokens.Tokens.{Token}
+use Rattle.idl_lex.specs.declared.kinds.keyword.Keyword.{Keyword}
+use Rattle.idl_lex.specs.declared.kinds.keyword.Keyword.TheVariants as keyword
+use Rattle.idl_lex.specs.declared.kinds.kind.Kind.{Kind}
+use Rattle.idl_lex.specs.declared.kinds.kind.Kind.TheVariants.{Accepted, Refused, Miscased, Identifier, Escaped, Integer, Character, WideCharacter, String, WideString, Punctuation, HeaderName, Preprocessing, Bad}
 use Rattle.idl_unit.specs.Faults.{least_fault}
 use Rattle.idl_unit.specs.TokenRules.{code_if, codes_beside, fault_at, faults_after, first, is_const, is_harmless, is_left_out, is_long, is_other_width, is_too_deep, nests, token_codes, token_faults, unnests}
 

@@ -5,10 +5,10 @@ use Rattle.std.specs.List.{enumerate_from}
 use Rattle.std.proofs.lemmas.List.{append-nil, nil_from_length}
 use Rattle.idl_event.proofs.ApartLemmas.{length-sites_in}
 use Rattle.idl_event.specs.Apart.{Numbered, sites_in, tokens_in}
-use Rattle.idl_event.specs.declared.event.Event.{Event}
-use Rattle.idl_event.specs.declared.event.Event.TheVariants as event
-use Rattle.idl_event.specs.declared.site.Site.{Site}
-use Rattle.idl_lex.specs.Tokens.{Token}
+use Rattle.idl_event.specs.declared.told.event.Event.{Event}
+use Rattle.idl_event.specs.declared.told.event.Event.TheVariants as event
+use Rattle.idl_event.specs.declared.told.site.Site.{Site}
+use Rattle.idl_lex.specs.tokens.Tokens.{Token}
 use Rattle.idl_unit.specs.Ending.{ends, token_units}
 use Rattle.idl_unit.specs.Held.{other_in, text_in, text_sites}
 use Rattle.idl_unit.specs.Parts.{AreParts, IsCutInto, joined}

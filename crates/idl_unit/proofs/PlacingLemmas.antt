@@ -5,10 +5,10 @@ use Rattle.std.proofs.lemmas.Bool.{ne_eqb, lt-ltb}
 use Rattle.std.proofs.lemmas.List.{append-nil, drop-append-le, drop-drop, drop_all, drop_at, length_push, take_at}
 use Rattle.idl_event.proofs.ApartLemmas.{length-sites_in}
 use Rattle.idl_event.specs.Apart.{Numbered, others_in, site_at, site_in, sites_in, token_in, tokens_in}
-use Rattle.idl_event.specs.declared.event.Event.TheVariants as event
+use Rattle.idl_event.specs.declared.told.event.Event.TheVariants as event
 use Rattle.idl_fault.specs.declared.place.Place.{Place}
-use Rattle.idl_event.specs.declared.site.Site.{Site}
-use Rattle.idl_lex.specs.Tokens.{Token}
+use Rattle.idl_event.specs.declared.told.site.Site.{Site}
+use Rattle.idl_lex.specs.tokens.Tokens.{Token}
 use Rattle.idl_unit.specs.Cut.{parts_after}
 use Rattle.idl_unit.specs.Ending.{ends, is_empty, token_units}
 use Rattle.idl_unit.specs.Placing.{Ahead, IsFront, IsWithin, after_begun, after_token, ahead, begun, begun_of, placed, to_come}

@@ -6,12 +6,12 @@ use Rattle.std.proofs.lemmas.List.Sums.{sum_by-cons, count_by-le-length}
 use Rattle.idl_fault.specs.Code.{number_of}
 use Rattle.idl_fault.specs.declared.code.Code.{Code}
 use Rattle.idl_fault.specs.declared.code.Code.TheVariants.{MixedWidths, LeftOut, NestedTooDeep, LikeKeyword}
-use Rattle.idl_lex.specs.Kind.{kind_of}
-use Rattle.idl_lex.specs.Tokens.{Token}
-use Rattle.idl_lex.specs.declared.kind.Defect.{Defect}
-use Rattle.idl_lex.specs.declared.kind.Defect.TheVariants as defect
-use Rattle.idl_lex.specs.declared.kind.Kind.{Kind}
-use Rattle.idl_lex.specs.declared.kind.Kind.TheVariants.{Accepted, Refused, Miscased, Identifier, Escaped, Integer, Character, WideCharacter, String, WideString, Punctuation, HeaderName, Preprocessing, Bad}
+use Rattle.idl_lex.specs.kinds.Kind.{kind_of}
+use Rattle.idl_lex.specs.tokens.Tokens.{Token}
+use Rattle.idl_lex.specs.declared.kinds.kind.Defect.{Defect}
+use Rattle.idl_lex.specs.declared.kinds.kind.Defect.TheVariants as defect
+use Rattle.idl_lex.specs.declared.kinds.kind.Kind.{Kind}
+use Rattle.idl_lex.specs.declared.kinds.kind.Kind.TheVariants.{Accepted, Refused, Miscased, Identifier, Escaped, Integer, Character, WideCharacter, String, WideString, Punctuation, HeaderName, Preprocessing, Bad}
 use Rattle.idl_unit.specs.Faults.{least_fault, lesser_fault}
 use Rattle.idl_unit.specs.TokenRules.{code_if, codes_beside, defect_code, fault_at, faults_after, first, is_left_out, is_other_width, is_too_deep, nests, token_codes, token_faults, unnests}
 use Rattle.idl_unit.specs.declared.fault.Fault.{Fault}

@@ -1,11 +1,11 @@
 -- Where a unit of tokens ends.
 use Rattle.std.specs.Prelude.{Bool, true, false, ◌&&◌, ◌||◌, List, [], ◌∷◌, ◌++◌, count_by, nat_eq, not, if◌then◌else◌}
-use Rattle.idl_lex.specs.Kind.{kind_of}
-use Rattle.idl_lex.specs.Tokens.{Token}
-use Rattle.idl_lex.specs.declared.keyword.Keyword.TheVariants as keyword
-use Rattle.idl_lex.specs.declared.kind.Kind.{Kind}
-use Rattle.idl_lex.specs.declared.kind.Kind.TheVariants.{Accepted, Punctuation}
-use Rattle.idl_lex.specs.declared.mark.Mark.TheVariants as mark
+use Rattle.idl_lex.specs.kinds.Kind.{kind_of}
+use Rattle.idl_lex.specs.tokens.Tokens.{Token}
+use Rattle.idl_lex.specs.declared.kinds.keyword.Keyword.TheVariants as keyword
+use Rattle.idl_lex.specs.declared.kinds.kind.Kind.{Kind}
+use Rattle.idl_lex.specs.declared.kinds.kind.Kind.TheVariants.{Accepted, Punctuation}
+use Rattle.idl_lex.specs.declared.kinds.mark.Mark.TheVariants as mark
 use Rattle.idl_unit.specs.Cut.{parts}
 use Rattle.idl_unit.specs.declared.role.Role.{Role}
 use Rattle.idl_unit.specs.declared.role.Role.TheVariants.{OpenBrace, CloseBrace, Semicolon, Module, Interface, Local, Other}

@@ -1,9 +1,9 @@
 -- Words for the steps of the cut of events.
 use Rattle.std.specs.Prelude.{◌≡◌, ℕ, ◌-◌, ◌<◌, ◌≤◌, IfSome, List, [], ◌∷◌, ◌++◌, drop, length, nat_eq, nat_lt, take, if◌then◌else◌}
 use Rattle.idl_event.specs.Apart.{Numbered}
-use Rattle.idl_event.specs.declared.event.Event.TheVariants as event
-use Rattle.idl_event.specs.declared.site.Site.{Site}
-use Rattle.idl_lex.specs.Tokens.{Token}
+use Rattle.idl_event.specs.declared.told.event.Event.TheVariants as event
+use Rattle.idl_event.specs.declared.told.site.Site.{Site}
+use Rattle.idl_lex.specs.tokens.Tokens.{Token}
 use Rattle.idl_unit.specs.Ending.{token_units}
 use Rattle.idl_unit.specs.Units.{unit_in}
 use Rattle.idl_unit.specs.declared.cut.Cut.{Cut}

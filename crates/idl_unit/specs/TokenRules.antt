@@ -2,14 +2,14 @@
 use Rattle.std.specs.Prelude.{ℕ, ◌+◌, Bool, true, false, ◌&&◌, ◌||◌, List, [], ◌∷◌, ◌++◌, count_by, length, map, nat_lt, not, drop, Option, None, Some, if◌then◌else◌}
 use Rattle.idl_fault.specs.declared.code.Code.{Code}
 use Rattle.idl_fault.specs.declared.code.Code.TheVariants.{BadToken, UnclosedLiteral, NotOneCharacter, BadEscape, MalformedInteger, FloatingLiteral, IntegerTooLarge, MixedWidths, UnclosedComment, LeftOut, NestedTooDeep, LikeKeyword}
-use Rattle.idl_lex.specs.Kind.{kind_of}
-use Rattle.idl_lex.specs.Tokens.{Token}
-use Rattle.idl_lex.specs.declared.keyword.Keyword.TheVariants.{Const, Double, Float, Long}
-use Rattle.idl_lex.specs.declared.kind.Defect.{Defect}
-use Rattle.idl_lex.specs.declared.kind.Defect.TheVariants as defect
-use Rattle.idl_lex.specs.declared.kind.Kind.{Kind}
-use Rattle.idl_lex.specs.declared.kind.Kind.TheVariants.{Accepted, Refused, Miscased, String, WideString, Punctuation, Preprocessing, Bad}
-use Rattle.idl_lex.specs.declared.mark.Mark.TheVariants.{OpenBrace, OpenParenthesis, OpenBracket, Less, CloseBrace, CloseParenthesis, CloseBracket, Greater}
+use Rattle.idl_lex.specs.kinds.Kind.{kind_of}
+use Rattle.idl_lex.specs.tokens.Tokens.{Token}
+use Rattle.idl_lex.specs.declared.kinds.keyword.Keyword.TheVariants.{Const, Double, Float, Long}
+use Rattle.idl_lex.specs.declared.kinds.kind.Defect.{Defect}
+use Rattle.idl_lex.specs.declared.kinds.kind.Defect.TheVariants as defect
+use Rattle.idl_lex.specs.declared.kinds.kind.Kind.{Kind}
+use Rattle.idl_lex.specs.declared.kinds.kind.Kind.TheVariants.{Accepted, Refused, Miscased, String, WideString, Punctuation, Preprocessing, Bad}
+use Rattle.idl_lex.specs.declared.kinds.mark.Mark.TheVariants.{OpenBrace, OpenParenthesis, OpenBracket, Less, CloseBrace, CloseParenthesis, CloseBracket, Greater}
 use Rattle.idl_unit.specs.declared.fault.Fault.{Fault}
 
 -- the code of a bad token

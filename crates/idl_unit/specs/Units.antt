@@ -2,10 +2,10 @@
 use Rattle.std.specs.Prelude.{Bool, ◌||◌, List, [], ◌∷◌, ◌++◌, flat_map, not}
 use Rattle.std.specs.List.{enumerate_from}
 use Rattle.idl_event.specs.Apart.{Numbered, site_at, sites_in, tokens_in}
-use Rattle.idl_event.specs.declared.event.Event.{Event}
-use Rattle.idl_event.specs.declared.event.Event.TheVariants as event
-use Rattle.idl_event.specs.declared.site.Site.{Site}
-use Rattle.idl_lex.specs.Tokens.{Token}
+use Rattle.idl_event.specs.declared.told.event.Event.{Event}
+use Rattle.idl_event.specs.declared.told.event.Event.TheVariants as event
+use Rattle.idl_event.specs.declared.told.site.Site.{Site}
+use Rattle.idl_lex.specs.tokens.Tokens.{Token}
 use Rattle.idl_unit.specs.Cut.{parts}
 use Rattle.idl_unit.specs.Ending.{ends, is_empty}
 use Rattle.idl_unit.specs.declared.unit.Unit.{Unit as RootUnit}

@@ -4,7 +4,7 @@ ghost use Rattle.std.specs.Prelude.{◌≡◌, ◌∷◌, ◌++◌, ◌≤◌, �
 ghost use Rattle.std.specs.List.{enumerate_from};
 ghost use Rattle.idl_event.specs.Apart.{Numbered, site_at, sites_in, tokens_in};
 ghost use Rattle.idl_event.specs.Told.{event_told};
-ghost use Rattle.idl_lex.specs.Tokens.{Token as Bytes};
+ghost use Rattle.idl_lex.specs.tokens.Tokens.{Token as Bytes};
 ghost use Rattle.idl_unit.specs.Ending.{token_units};
 ghost use Rattle.idl_unit.specs.Placing.{ahead, after_token, begun, IsFirstUnit, IsFront, IsWithin, to_come};
 ghost use Rattle.idl_unit.specs.Units.{units_of};

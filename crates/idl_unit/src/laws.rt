@@ -3,8 +3,8 @@
 ghost use Rattle.std.specs.Prelude.{◌≡◌, ◌∷◌, ◌++◌, [], List, false, flat_map};
 ghost use Rattle.std.specs.List.{enumerate_from};
 ghost use Rattle.idl_event.specs.Apart.{sites_in, tokens_in};
-ghost use Rattle.idl_event.specs.declared.event.Event.{Event};
-ghost use Rattle.idl_lex.specs.Tokens.{Token};
+ghost use Rattle.idl_event.specs.declared.told.event.Event.{Event};
+ghost use Rattle.idl_lex.specs.tokens.Tokens.{Token};
 ghost use Rattle.idl_unit.specs.Ending.{ends, token_units};
 ghost use Rattle.idl_unit.specs.Held.{other_in, text_in, text_sites};
 ghost use Rattle.idl_unit.specs.Parts.{IsCutInto, joined};

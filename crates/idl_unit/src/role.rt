@@ -2,9 +2,10 @@
 
 ghost use Rattle.std.specs.Prelude.{◌≡◌};
 ghost use Rattle.idl_unit.specs.Ending.{begins, edge, is_interface, role, role_of, rule_of};
-ghost use Rattle.idl_lex.specs.declared.kind.Kind.TheVariants.{Punctuation};
+ghost use Rattle.idl_lex.specs.declared.kinds.kind.Kind.TheVariants.{Punctuation};
 
-use idl_lex::{Keyword, Kind, Mark, Token};
+use idl_lex::Token;
+use idl_lex::kinds::{Keyword, Kind, Mark};
 
 /// What a token is for the cut.
 #[derive(Clone, Copy)]

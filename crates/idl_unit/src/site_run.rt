@@ -20,7 +20,7 @@ const _: () = prove!(size_of::<SiteRun>() <= 16);
 
 impl Model for SiteRun {
     ghost use Rattle.std.specs.Prelude.{◌≤◌, List, length, slice_range};
-    ghost use Rattle.idl_event.specs.declared.site.Site.{Site};
+    ghost use Rattle.idl_event.specs.declared.told.site.Site.{Site};
 
     ghost Value = { List Site };
 

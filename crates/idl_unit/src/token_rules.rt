@@ -3,13 +3,14 @@
 ghost use Rattle.std.specs.Prelude.{◌≡◌, ◌<◌, ◌+◌, ◌-◌, ◌^◌, Some, None, cond, length, nat_lt, IfSome};
 ghost use Rattle.std.specs.List.{list_all};
 ghost use Rattle.std.specs.Option.{option_to_list};
-ghost use Rattle.idl_lex.specs.Kind.{kind_of};
+ghost use Rattle.idl_lex.specs.kinds.Kind.{kind_of};
 ghost use Rattle.idl_unit.specs.Faults.{least_fault};
 ghost use Rattle.idl_unit.specs.TokenRules.{bad_codes, codes_beside, defect_code, first, is_const, is_harmless, is_left_out, is_long, is_other_width, nests, token_faults, unnests};
 
 use crate::fault::Fault;
 use idl_fault::Code;
-use idl_lex::{Defect, Keyword, Kind, Mark, Token};
+use idl_lex::Token;
+use idl_lex::kinds::{Defect, Keyword, Kind, Mark};
 
 /// How deep brackets may stand in one another.
 pub const MAX_NESTING: usize = 64;

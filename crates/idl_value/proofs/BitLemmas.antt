@@ -8,7 +8,7 @@ use Rattle.std.specs.Int.{bit_at}
 use lib.Bits.{or_add_and, xor_add_and, and_lt, or_lt, xor_lt, or_comm, xor_comm, and_step}
 use mir.Syntax.{w128}
 use mir.Val.{SFits}
-use Rattle.idl_value.specs.Bits.{bit_of, bit_without, whole_and, whole_or, whole_xor}
+use Rattle.idl_value.specs.integers.Bits.{bit_of, bit_without, whole_and, whole_or, whole_xor}
 
 -- `2 ^ k - suc n` has the other bits of n
 module _ (k a b : ℕ) (p : a < 2 ^ k) (q : b < 2 ^ k) where

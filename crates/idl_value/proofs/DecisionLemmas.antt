@@ -12,8 +12,8 @@ use Rattle.idl_value.specs.declared.integer.IntegerKind.TheVariants.{UnsignedLon
 use Rattle.idl_value.specs.declared.operator.Operator.{Operator}
 use Rattle.idl_value.specs.declared.outcome.Code.{Code}
 use Rattle.idl_value.specs.declared.outcome.Code.TheVariants.{OutOfRange}
-use Rattle.idl_value.specs.declared.target.Target.{Target}
-use Rattle.idl_value.specs.declared.target.Target.TheVariants as target
+use Rattle.idl_value.specs.declared.constant_type.Target.{Target}
+use Rattle.idl_value.specs.declared.constant_type.Target.TheVariants as target
 use Rattle.idl_value.specs.declared.value.Value.{Value}
 use Rattle.idl_value.specs.declared.value.Value.TheVariants as value
 use Rattle.idl_value.specs.declared.walk.Place.{Place}

@@ -10,7 +10,7 @@ use Rattle.idl_value.specs.declared.operator.Operator.{Operator}
 use Rattle.idl_value.specs.declared.outcome.Code.{Code}
 use Rattle.idl_value.specs.declared.outcome.Code.TheVariants.{OutOfRange}
 use Rattle.idl_value.specs.declared.outcome.Fault.{Fault}
-use Rattle.idl_value.specs.declared.target.Target.{Target}
+use Rattle.idl_value.specs.declared.constant_type.Target.{Target}
 use Rattle.idl_value.specs.declared.value.Value.{Value}
 use Rattle.idl_value.specs.declared.walk.Place.{Place}
 use Rattle.idl_value.proofs.SizeLemmas.{size, links_size, expression_term-size, literal-length}

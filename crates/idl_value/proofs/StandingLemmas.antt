@@ -4,14 +4,14 @@ use Rattle.std.proofs.Math.Seq.{drop-append_seam}
 use Rattle.std.proofs.lemmas.List.{append-nil, length-append}
 use Rattle.std.proofs.lemmas.List.Elements.{All-append, All-cons, All-nil, All-weaker}
 use Rattle.std.specs.Prelude.{◌⊎◌, All, not}
-use Rattle.idl_lex.specs.declared.mark.Mark.{Mark}
-use Rattle.idl_lex.specs.declared.mark.Mark.TheVariants as mark
+use Rattle.idl_lex.specs.declared.kinds.mark.Mark.{Mark}
+use Rattle.idl_lex.specs.declared.kinds.mark.Mark.TheVariants as mark
 use Rattle.idl_tree.proofs.Many.{many_spell}
 use Rattle.idl_tree.proofs.SpellLemmas.{spell_and-made, spell_exclusive_or-made, spell_expression-made, spell_primary-literal, spell_primary-name, spell_primary-parentheses, spell_product-made, spell_shift-made, spell_sum-made, spell_unary-made}
 use Rattle.idl_tree.specs.Expression.{product_mark, shift_mark, spell_and, spell_exclusive_or, spell_expression, spell_literal, spell_primary, spell_product, spell_shift, spell_sum, spell_unary, spell_unary_operator, sum_mark}
 use Rattle.idl_tree.specs.Lexeme.{Lexemes, Word, Punctuation, Identifier, Integer, Character, WideCharacter, Text, WideText, Other}
 use Rattle.idl_tree.specs.Name.{spell_leading, spell_name}
-use Rattle.idl_tree.specs.ReadExpression.{made_and, made_exclusive_or, made_expression, made_product, made_shift, made_sum, made_unary}
+use Rattle.idl_tree.specs.reading.ReadExpression.{made_and, made_exclusive_or, made_expression, made_product, made_shift, made_sum, made_unary}
 use Rattle.idl_tree.specs.declared.expression.And.{And, roll-And}
 use Rattle.idl_tree.specs.declared.expression.ExclusiveOr.{ExclusiveOr, roll-ExclusiveOr}
 use Rattle.idl_tree.specs.declared.expression.Expression.{Expression, roll-Expression}
@@ -43,7 +43,7 @@ use Rattle.idl_value.specs.declared.operator.Operator.TheVariants as operator
 use Rattle.idl_value.specs.declared.outcome.Code.{Code}
 use Rattle.idl_value.specs.declared.outcome.Code.TheVariants.{OutOfRange}
 use Rattle.idl_value.specs.declared.outcome.Fault.{Fault}
-use Rattle.idl_value.specs.declared.target.Target.{Target}
+use Rattle.idl_value.specs.declared.constant_type.Target.{Target}
 use Rattle.idl_value.specs.declared.value.Value.{Value}
 use Rattle.idl_value.specs.declared.walk.Place.{Place}
 use Rattle.idl_value.proofs.OrderLemmas.{Below, read-token}

@@ -1,6 +1,6 @@
 -- The terms of expressions by those of their operands.
 use Rattle.std.proofs.Common.{◌≡◌, ◌∙◌, List, [], ◌∷◌, Option, map, ap, refl, sym}
-use Rattle.idl_tree.specs.ReadExpression.{made_and, made_exclusive_or, made_expression, made_product, made_shift, made_sum, made_unary}
+use Rattle.idl_tree.specs.reading.ReadExpression.{made_and, made_exclusive_or, made_expression, made_product, made_shift, made_sum, made_unary}
 use Rattle.idl_tree.specs.declared.expression.And.{And, out-And}
 use Rattle.idl_tree.specs.declared.expression.ExclusiveOr.{ExclusiveOr, out-ExclusiveOr}
 use Rattle.idl_tree.specs.declared.expression.Expression.{Expression, out-Expression}

@@ -7,7 +7,7 @@ use Rattle.idl_tree.specs.declared.literal.Literal.{Literal}
 use Rattle.idl_tree.specs.declared.literal.Literal.TheVariants as literal
 use Rattle.idl_tree.specs.declared.several.Several.{Several}
 use Rattle.idl_value.specs.Equal.{path_eq}
-use Rattle.idl_value.specs.Integer.{holds}
+use Rattle.idl_value.specs.integers.Integer.{holds}
 use Rattle.idl_value.specs.Operate.{in_parts, operate, operate_sign}
 use Rattle.idl_value.specs.Term.{Term, Named, Literally, Parenthesised, Signed, Chain, Links, End, Link, expression_term}
 use Rattle.idl_value.specs.declared.integer.IntegerKind.{IntegerKind}
@@ -18,8 +18,8 @@ use Rattle.idl_value.specs.declared.outcome.Code.TheVariants.{WrongKind, OutOfRa
 use Rattle.idl_value.specs.declared.outcome.Fault.{Fault}
 use Rattle.idl_value.specs.declared.outcome.Outcome.{Outcome}
 use Rattle.idl_value.specs.declared.outcome.Outcome.TheVariants as outcome
-use Rattle.idl_value.specs.declared.target.Target.{Target}
-use Rattle.idl_value.specs.declared.target.Target.TheVariants as target
+use Rattle.idl_value.specs.declared.constant_type.Target.{Target}
+use Rattle.idl_value.specs.declared.constant_type.Target.TheVariants as target
 use Rattle.idl_value.specs.declared.value.Value.{Value}
 use Rattle.idl_value.specs.declared.value.Value.TheVariants as value
 use Rattle.idl_value.specs.declared.walk.Place.{Place}

@@ -5,9 +5,9 @@ use Rattle.std.specs.Cmp.Lexicographic.{bytes_decides, pointwise_decides}
 use Rattle.std.proofs.Common.{ap}
 use Rattle.idl_base.specs.Exact.{both, same_bool, same_integer, same_list, same_number, same_option}
 use Rattle.idl_value.specs.Equal.{path_eq, target_eq, text_eq, value_eq}
-use Rattle.idl_value.specs.SameInteger.{same_integer_kind}
-use Rattle.idl_value.specs.declared.target.Target.{Target}
-use Rattle.idl_value.specs.declared.target.Target.TheVariants as target
+use Rattle.idl_value.specs.integers.SameInteger.{same_integer_kind}
+use Rattle.idl_value.specs.declared.constant_type.Target.{Target}
+use Rattle.idl_value.specs.declared.constant_type.Target.TheVariants as target
 use Rattle.idl_value.specs.declared.value.Value.{Value}
 use Rattle.idl_value.specs.declared.value.Value.TheVariants as value
 

@@ -1,15 +1,13 @@
-pub mod Bits
+pub mod ConstantType
 pub mod Digest
 pub mod Equal
 pub mod Evaluation
 pub mod Exact
-pub mod Integer
 pub mod Names
 pub mod Operate
 pub mod Order
-pub mod SameInteger
 pub mod Spelled
 pub mod Standing
-pub mod Target
 pub mod Term
 pub mod Walk
+pub mod integers

@@ -3,8 +3,8 @@ use Rattle.std.specs.Prelude.{zero, ◌-◌, ◌/◌, ◌^◌, ℤ, pos, negsuc,
 use Rattle.std.specs.Prelude.{Result, Ok, Err}
 use Rattle.idl_tree.specs.declared.expression.UnaryOperator.{UnaryOperator}
 use Rattle.idl_tree.specs.declared.expression.UnaryOperator.TheVariants as unary
-use Rattle.idl_value.specs.Bits.{whole_and, whole_or, whole_xor}
-use Rattle.idl_value.specs.Integer.{width, is_signed, power, holds_part}
+use Rattle.idl_value.specs.integers.Bits.{whole_and, whole_or, whole_xor}
+use Rattle.idl_value.specs.integers.Integer.{width, is_signed, power, holds_part}
 use Rattle.idl_value.specs.declared.integer.IntegerKind.{IntegerKind}
 use Rattle.idl_value.specs.declared.operator.Operator.{Operator}
 use Rattle.idl_value.specs.declared.operator.Operator.TheVariants.{Or, ExclusiveOr, And, ShiftLeft, ShiftRight, Add, Subtract, Multiply, Divide, Remainder}

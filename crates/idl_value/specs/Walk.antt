@@ -9,9 +9,9 @@ use Rattle.idl_value.specs.declared.outcome.Code.{Code}
 use Rattle.idl_value.specs.declared.outcome.Code.TheVariants.{NotPositive, OutOfRange}
 use Rattle.idl_value.specs.declared.outcome.Outcome.{Outcome}
 use Rattle.idl_value.specs.declared.outcome.Outcome.TheVariants as outcome
-use Rattle.idl_value.specs.declared.part.Part.{Part}
-use Rattle.idl_value.specs.declared.part.Part.TheVariants as part
-use Rattle.idl_value.specs.declared.target.Target.{Target}
+use Rattle.idl_value.specs.declared.part_value.Part.{Part}
+use Rattle.idl_value.specs.declared.part_value.Part.TheVariants as part
+use Rattle.idl_value.specs.declared.constant_type.Target.{Target}
 use Rattle.idl_value.specs.declared.value.Value.{Value}
 use Rattle.idl_value.specs.declared.value.Value.TheVariants as value
 use Rattle.idl_value.specs.declared.walk.Place.{Place}

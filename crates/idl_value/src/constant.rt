@@ -4,10 +4,10 @@ ghost use Rattle.std.specs.Prelude.{◌≡◌, ◌∷◌, [], IfOk, length};
 ghost use Rattle.idl_value.specs.Evaluation.{Faulty, ahead, bound_of, fault, first_of, joined, literal_value, value_of};
 ghost use Rattle.idl_value.specs.Walk.{held_outcome, is_held_outcome, positive_outcome, seen};
 
+use crate::constant_type::Target;
 use crate::integer::IntegerKind;
 use crate::outcome::{Code, Fault, Outcome};
-use crate::part::Part;
-use crate::target::Target;
+use crate::part_value::Part;
 use crate::value::Value;
 use crate::walk::{Place, Scene};
 use idl_base::Seq;

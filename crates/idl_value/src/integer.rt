@@ -2,8 +2,8 @@
 
 ghost use Rattle.std.specs.Prelude.{◌≡◌};
 ghost use Rattle.std.specs.Cmp.{on_equiv, on_per, partial_equiv_from_equiv, nat_eq_equiv};
-ghost use Rattle.idl_value.specs.Integer.{greatest, holds, holds_part, is_signed, least, power, width};
-ghost use Rattle.idl_value.specs.SameInteger.{integer_number, integer_eq, same_integer_kind};
+ghost use Rattle.idl_value.specs.integers.Integer.{greatest, holds, holds_part, is_signed, least, power, width};
+ghost use Rattle.idl_value.specs.integers.SameInteger.{integer_number, integer_eq, same_integer_kind};
 
 use idl_base::Datum;
 

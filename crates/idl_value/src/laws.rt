@@ -20,7 +20,7 @@ ghost use Rattle.idl_value.specs.Order.{IsAscending};
 ghost use Rattle.idl_value.specs.Standing.{bears};
 ghost use Rattle.idl_value.specs.Term.{expression_term};
 ghost use Rattle.idl_value.specs.declared.outcome.Code.TheVariants.{OutOfRange};
-ghost use Rattle.idl_value.specs.declared.target.Target.{Target};
+ghost use Rattle.idl_value.specs.declared.constant_type.Target.{Target};
 
 /// The faults of an expression stand at tokens of its own, each at a later one than the fault before it. So the first is the
 /// least, and no two are decided at one token.

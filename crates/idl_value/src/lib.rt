@@ -5,22 +5,22 @@
 #![tactic(auto)]
 
 mod constant;
+mod constant_type;
 mod integer;
 mod laws;
 mod operator;
 mod outcome;
-mod part;
+mod part_value;
 mod spelling;
-mod target;
 mod value;
 mod walk;
 mod whole;
 
 pub use constant::{evaluate, evaluate_bound, joined, literal_value};
+pub use constant_type::Target;
 pub use integer::IntegerKind;
 pub use laws::{ascending, counting, deciding, standing};
 pub use operator::Operator;
 pub use outcome::{Code, Fault, Outcome};
 pub use spelling::{push_name, push_part, push_value};
-pub use target::Target;
 pub use value::Value;

@@ -6,7 +6,7 @@ ghost use Rattle.idl_value.specs.Operate.{complement, divided, in_parts, operate
 use crate::integer::IntegerKind;
 use crate::outcome::Code;
 use crate::whole;
-use idl_tree::UnaryOperator;
+use idl_tree::expression::UnaryOperator;
 
 /// An operator between two operands.
 #[derive(Clone, Copy)]

@@ -7,15 +7,16 @@ ghost use Rattle.idl_value.specs.Evaluation.{ahead, behind, operand_at};
 ghost use Rattle.idl_value.specs.Term.{Literally, Named, and_term, before_last, exclusive_or_term, expression_term, primary_term, product_operator, product_term, shift_operator, shift_term, sum_operator, sum_term, unary_term};
 ghost use Rattle.idl_value.specs.Walk.{stepped, walk_operator, walk_term};
 
+use crate::constant_type::Target;
 use crate::operator::Operator;
-use crate::part::{Part, Sited, literal_part, named_part};
-use crate::target::Target;
+use crate::part_value::{Part, Sited, literal_part, named_part};
 use crate::value::Value;
 use idl_base::Seq;
-use idl_tree::{
-    And, ExclusiveOr, Expression, Literal, Primary, Product, ProductOperator, ScopedName, Several,
-    Shift, ShiftOperator, Sum, SumOperator, Unary,
+use idl_tree::expression::{
+    And, ExclusiveOr, Primary, Product, ProductOperator, Shift, ShiftOperator, Sum, SumOperator,
+    Unary,
 };
+use idl_tree::{Expression, Literal, ScopedName, Several};
 
 /// How many tokens of an expression stand before a part of it, and how many names.
 #[derive(Clone, Copy)]

@@ -1,7 +1,7 @@
 //! The bit operators on two's complement without end.
 
 ghost use Rattle.std.specs.Prelude.{◌≡◌, ℕ, ◌+◌, ◌%◌, min, max};
-ghost use Rattle.idl_value.specs.Bits.{bit_of, whole_and, whole_or, whole_xor};
+ghost use Rattle.idl_value.specs.integers.Bits.{bit_of, whole_and, whole_or, whole_xor};
 
 /// Bit by bit, 1 where both are.
 pub fn and(a: i128, b: i128) -> i128

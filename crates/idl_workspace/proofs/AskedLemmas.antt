@@ -9,9 +9,9 @@ use Rattle.std.specs.List.{list_any, slice_get}
 use Rattle.std.specs.Map.{keys_of, lookup}
 use Rattle.std.specs.Option.{IfNone, IfSome, option_copied, option_map, option_to_list}
 use Rattle.std.specs.Str.{bytes_eq}
-use Rattle.idl_event.specs.declared.key.Answer.{Answer}
-use Rattle.idl_event.specs.declared.key.Key.{Key}
-use Rattle.idl_event.specs.declared.key.Key.TheVariants as key
+use Rattle.idl_event.specs.declared.asked.key.Answer.{Answer}
+use Rattle.idl_event.specs.declared.asked.key.Key.{Key}
+use Rattle.idl_event.specs.declared.asked.key.Key.TheVariants as key
 use Rattle.idl_workspace.specs.Asked.{asked_file, asked_files, asked_over}
 use Rattle.idl_workspace.specs.UpToDate.{AreKept, IsKept}
 use Rattle.idl_workspace.specs.declared.kept_root.KeptRoot.{KeptRoot}

@@ -5,12 +5,12 @@ use Rattle.std.specs.FinMap as finite
 use Rattle.std.specs.Map.{lookup}
 use Rattle.std.specs.Option.{option_map}
 use Rattle.std.specs.Str.{bytes_eq}
-use Rattle.idl_event.specs.declared.key.Answer.TheVariants as answer
-use Rattle.idl_event.specs.declared.key.Key.{Key}
-use Rattle.idl_event.specs.declared.key.Key.TheVariants as key
+use Rattle.idl_event.specs.declared.asked.key.Answer.TheVariants as answer
+use Rattle.idl_event.specs.declared.asked.key.Key.{Key}
+use Rattle.idl_event.specs.declared.asked.key.Key.TheVariants as key
 use Rattle.idl_event.specs.Key.{key_eq}
 use Rattle.idl_memo.specs.Cause.{changed}
-use Rattle.idl_source.specs.Texts.{Texts}
+use Rattle.idl_source.specs.texts.Texts.{Texts}
 use Rattle.idl_workspace.specs.Bank.{IsSameBeside, bank_of}
 use Rattle.idl_workspace.specs.Project.{Inputs, Macros}
 

@@ -4,8 +4,8 @@ use Rattle.std.proofs.lemmas.Map.Text.{is_eq-slice_cmp}
 use Rattle.std.specs.Cmp.Lexicographic.{nat_list_cmp_total, nat_list_eq_equiv}
 use Rattle.std.specs.FinMap as finite
 use Rattle.std.specs.FinMap.{get-insert, get-remove}
-use Rattle.idl_source.specs.Name.{is_name}
-use Rattle.idl_source.specs.Texts.{Texts, after_put, after_splice, after_splice_of, after_remove, is_over, is_inside, is_splice_over, spliced}
+use Rattle.idl_source.specs.names.Name.{is_name}
+use Rattle.idl_source.specs.texts.Texts.{Texts, after_put, after_splice, after_splice_of, after_remove, is_over, is_inside, is_splice_over, spliced}
 use Rattle.idl_source.specs.declared.refusal.Refusal.TheVariants.{BadName, NoSuchFile, OutsideFile, OverLimit}
 use Rattle.idl_workspace.specs.Bank.{IsSameBeside}
 

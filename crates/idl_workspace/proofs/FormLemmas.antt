@@ -15,9 +15,9 @@ use Rattle.std.specs.Set.{remove_key}
 use Rattle.std.specs.Str.{bytes_eq}
 use Rattle.indexmap.specs.IndexMap.{insert_entry}
 use Rattle.idl_macro.specs.Words.{is_macro_word}
-use Rattle.idl_source.specs.Directory.{is_directory}
-use Rattle.idl_source.specs.Name.{is_name}
-use Rattle.idl_source.specs.Texts.{Texts, after_put, after_remove, after_splice, after_splice_of, is_inside, is_over, is_splice_over, spliced}
+use Rattle.idl_source.specs.names.Directory.{is_directory}
+use Rattle.idl_source.specs.names.Name.{is_name}
+use Rattle.idl_source.specs.texts.Texts.{Texts, after_put, after_remove, after_splice, after_splice_of, is_inside, is_over, is_splice_over, spliced}
 use Rattle.idl_source.specs.declared.refusal.Refusal.TheVariants.{BadName, NoSuchFile, OutsideFile, OverLimit, BadMacro, NoSuchRoot, RootThere}
 use Rattle.idl_workspace.specs.Edits.{Edit, Put, Splice, Remove, Define, Undef, Search, AddRoot, DropRoot, after, is_macro_over, macros_with, macros_without, roots_with, roots_without, search_list}
 use Rattle.idl_workspace.specs.Project.{Macros, Project, is_defined, is_root, no_project, with_files, with_macros, with_roots, with_search}

@@ -5,12 +5,12 @@ use Rattle.std.specs.Map.{keys_of}
 use Rattle.std.specs.Option.{option_eq}
 use Rattle.std.specs.Str.{bytes_eq}
 use Rattle.idl_event.specs.Key.{key_eq}
-use Rattle.idl_event.specs.contracts.key.AnswerPartialEq.TheImpl.{ghosts}
-use Rattle.idl_event.specs.declared.event.Event.{Event}
-use Rattle.idl_event.specs.declared.key.Answer.{Answer}
-use Rattle.idl_event.specs.declared.key.Answer.TheVariants as answer
-use Rattle.idl_event.specs.declared.key.Key.{Key}
-use Rattle.idl_event.specs.declared.key.Key.TheVariants as key
+use Rattle.idl_event.specs.contracts.asked.key.AnswerPartialEq.TheImpl.{ghosts}
+use Rattle.idl_event.specs.declared.told.event.Event.{Event}
+use Rattle.idl_event.specs.declared.asked.key.Answer.{Answer}
+use Rattle.idl_event.specs.declared.asked.key.Answer.TheVariants as answer
+use Rattle.idl_event.specs.declared.asked.key.Key.{Key}
+use Rattle.idl_event.specs.declared.asked.key.Key.TheVariants as key
 use Rattle.idl_memo.specs.Fresh.{asked_among, compared_among, fresh_among, is_alike, stale_among, stale_at}
 use Rattle.idl_memo.specs.Meter.{ComparesOnly, compared_after}
 use Rattle.idl_memo.specs.Renewal.{IsTold}

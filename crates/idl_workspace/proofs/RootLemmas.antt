@@ -12,10 +12,10 @@ use Rattle.std.proofs.lemmas.Map.Views.{All-map-remove_entry, list_any-from_Cont
 use Rattle.std.specs.Str.{bytes_eq}
 use Rattle.std.specs.Cmp.Lexicographic.{bytes_decides, nat_list_eq_equiv}
 use Rattle.idl_event.specs.Key.{key_eq}
-use Rattle.idl_event.specs.declared.key.Answer.{Answer}
-use Rattle.idl_event.specs.declared.key.Key.{Key}
+use Rattle.idl_event.specs.declared.asked.key.Answer.{Answer}
+use Rattle.idl_event.specs.declared.asked.key.Key.{Key}
 use Rattle.idl_memo.specs.Cause.{changed}
-use Rattle.idl_source.specs.Name.{is_name}
+use Rattle.idl_source.specs.names.Name.{is_name}
 use Rattle.idl_workspace.specs.Compile.{compile_over}
 use Rattle.idl_workspace.specs.Bank.{bank_of}
 use Rattle.idl_workspace.specs.Project.{Inputs, Project, no_inputs}

@@ -1,8 +1,8 @@
 -- The files that a root asks for, whether they are there or not.
 use Rattle.std.specs.Prelude.{ℕ, List, [], ◌∷◌, Option, flat_map, if◌then◌else◌}
-use Rattle.idl_event.specs.declared.key.Answer.{Answer}
-use Rattle.idl_event.specs.declared.key.Key.{Key}
-use Rattle.idl_event.specs.declared.key.Key.TheVariants.{Macro, File, Search}
+use Rattle.idl_event.specs.declared.asked.key.Answer.{Answer}
+use Rattle.idl_event.specs.declared.asked.key.Key.{Key}
+use Rattle.idl_event.specs.declared.asked.key.Key.TheVariants.{Macro, File, Search}
 use Rattle.idl_prep.specs.Root.{expanded}
 use Rattle.idl_workspace.specs.Bank.{bank_of}
 use Rattle.idl_workspace.specs.Project.{Project, is_root}

@@ -5,10 +5,10 @@ use Rattle.std.specs.Map.{remove_entry}
 use Rattle.std.specs.Set.{remove_key}
 use Rattle.std.specs.Str.{bytes_eq}
 use Rattle.indexmap.specs.IndexMap.{insert_entry}
-use Rattle.idl_source.specs.Directory.{is_directory}
+use Rattle.idl_source.specs.names.Directory.{is_directory}
 use Rattle.idl_source.specs.Limits.{longest_body, longest_line, most_directories, most_lines, most_macros, most_roots}
-use Rattle.idl_source.specs.Name.{is_name}
-use Rattle.idl_source.specs.Texts.{after_put, after_splice, after_remove}
+use Rattle.idl_source.specs.names.Name.{is_name}
+use Rattle.idl_source.specs.texts.Texts.{after_put, after_splice, after_remove}
 use Rattle.idl_source.specs.declared.refusal.Refusal.{Refusal}
 use Rattle.idl_source.specs.declared.refusal.Refusal.TheVariants.{BadName, OverLimit, BadMacro, NoSuchRoot, RootThere}
 use Rattle.idl_workspace.specs.Project.{Macros, Project, is_defined, is_root, with_files, with_macros, with_search, with_roots}

@@ -5,7 +5,7 @@ use Rattle.std.specs.FinMap as map
 use Rattle.std.specs.List.{list_any}
 use Rattle.std.specs.Map.{keys_of}
 use Rattle.std.specs.Str.{bytes_eq}
-use Rattle.idl_source.specs.Texts.{Texts, texts_code}
+use Rattle.idl_source.specs.texts.Texts.{Texts, texts_code}
 
 -- macros, each once: its word and its body, in the order in which they were first defined
 abbrev pub Macros : Type 0

@@ -2,8 +2,8 @@
 use Rattle.std.specs.Prelude.{◌≡◌, ℕ, List, Option}
 use Rattle.std.specs.Map.{keys_of}
 use Rattle.idl_event.specs.Key.{key_eq}
-use Rattle.idl_event.specs.declared.key.Answer.{Answer}
-use Rattle.idl_event.specs.declared.key.Key.{Key}
+use Rattle.idl_event.specs.declared.asked.key.Answer.{Answer}
+use Rattle.idl_event.specs.declared.asked.key.Key.{Key}
 use Rattle.idl_memo.specs.Cause.{changed}
 use Rattle.idl_workspace.specs.Bank.{bank_of}
 use Rattle.idl_workspace.specs.Project.{Project}

@@ -3,12 +3,12 @@ use Rattle.std.specs.Prelude.{◌≡◌, ℕ, Bool, List, All, Option, None, Som
 use Rattle.std.specs.Coded.{Coded, code_by, coded×, coded_ℕ}
 use Rattle.std.specs.Map.{keys_of}
 use Rattle.std.specs.Option.{option_map}
-use Rattle.idl_event.specs.declared.key.Answer.{Answer}
+use Rattle.idl_event.specs.declared.asked.key.Answer.{Answer}
 use Rattle.idl_event.specs.Key.{key_eq}
-use Rattle.idl_event.specs.declared.key.Key.{Key}
+use Rattle.idl_event.specs.declared.asked.key.Key.{Key}
 use Rattle.idl_memo.specs.Kept.{HoldsOver}
 use Rattle.idl_prep.specs.Root.{expansion}
-use Rattle.idl_root.specs.declared.finding.Finding.{Finding}
+use Rattle.idl_root.specs.declared.compiling.finding.Finding.{Finding}
 use Rattle.idl_workspace.specs.Bank.{bank_of}
 use Rattle.idl_workspace.specs.Compile.{compiled_root, compile_over}
 use Rattle.idl_workspace.specs.Project.{Inputs, Project, project_code, is_root}

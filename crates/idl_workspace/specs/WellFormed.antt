@@ -5,8 +5,8 @@ use Rattle.std.specs.List.{IsDistinct}
 use Rattle.std.specs.Map.{keys_of}
 use Rattle.std.specs.Str.{bytes_eq}
 use Rattle.idl_macro.specs.Words.{is_macro_word}
-use Rattle.idl_source.specs.Directory.{is_directory}
-use Rattle.idl_source.specs.Name.{is_name}
+use Rattle.idl_source.specs.names.Directory.{is_directory}
+use Rattle.idl_source.specs.names.Name.{is_name}
 use Rattle.idl_workspace.specs.Project.{Project}
 use Rattle.idl_workspace.specs.WithinLimits.{IsWithinLimits}
 

@@ -5,9 +5,9 @@ use Rattle.std.specs.List.{list_any}
 use Rattle.std.specs.Option.{option_eq}
 use Rattle.std.specs.Str.{bytes_eq}
 use Rattle.idl_event.specs.Key.{key_eq}
-use Rattle.idl_event.specs.declared.key.Answer.{Answer}
-use Rattle.idl_event.specs.declared.key.Answer.TheVariants.{Macro, File, Search}
-use Rattle.idl_event.specs.declared.key.Key.{Key}
+use Rattle.idl_event.specs.declared.asked.key.Answer.{Answer}
+use Rattle.idl_event.specs.declared.asked.key.Answer.TheVariants.{Macro, File, Search}
+use Rattle.idl_event.specs.declared.asked.key.Key.{Key}
 use Rattle.idl_memo.specs.Fresh.{compared_among, fresh_among}
 use Rattle.idl_memo.specs.Meter.{compared_after}
 use Rattle.idl_prep.specs.Root.{expansion}

@@ -8,8 +8,8 @@ ghost use Rattle.std.specs.FinMap as finite;
 ghost use Rattle.std.specs.Str.{bytes_eq};
 ghost use Rattle.indexmap.specs.IndexMap.{insert_entry};
 ghost use Rattle.idl_event.specs.Key.{key_eq};
-ghost use Rattle.idl_event.specs.declared.key.Answer.TheVariants as answers;
-ghost use Rattle.idl_event.specs.declared.key.Key.TheVariants as keys;
+ghost use Rattle.idl_event.specs.declared.asked.key.Answer.TheVariants as answers;
+ghost use Rattle.idl_event.specs.declared.asked.key.Key.TheVariants as keys;
 ghost use Rattle.idl_memo.specs.Cause.{changed};
 ghost use Rattle.idl_workspace.specs.Bank.{IsSameBeside, bank_of};
 ghost use Rattle.idl_workspace.specs.Edits.{macros_with};
@@ -44,7 +44,7 @@ impl Model for SessionBank {
     ghost use Rattle.std.specs.Map.{lookup};
     ghost use Rattle.std.specs.Option.{option_map};
     ghost use Rattle.std.specs.Str.{bytes_eq};
-    ghost use Rattle.idl_event.specs.declared.key.Answer.TheVariants as answers;
+    ghost use Rattle.idl_event.specs.declared.asked.key.Answer.TheVariants as answers;
     ghost use Rattle.idl_prep.specs.Include.{directories_in};
     ghost use Rattle.idl_workspace.specs.Project.{Inputs, inputs_code};
 

@@ -2,7 +2,7 @@
 
 ghost use Rattle.std.specs.Prelude.{◌≡◌, ◌≢◌, Ok, Err, map, IfOk, IfErr};
 ghost use Rattle.std.specs.List.{list_all};
-ghost use Rattle.idl_source.specs.Directory.{is_directory};
+ghost use Rattle.idl_source.specs.names.Directory.{is_directory};
 ghost use Rattle.idl_workspace.specs.Edits.{search_list};
 
 use crate::limits::MAX_DIRECTORIES;

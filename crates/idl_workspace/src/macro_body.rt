@@ -1,7 +1,7 @@
 //! The bodies of the session's macros.
 
 ghost use Rattle.std.specs.Prelude.{◌≡◌, ◌∷◌, [], IfOk};
-ghost use Rattle.idl_event.specs.declared.key.Answer.TheVariants as answers;
+ghost use Rattle.idl_event.specs.declared.asked.key.Answer.TheVariants as answers;
 
 use idl_event::{Answer, LexedLine};
 use idl_source::Line;
@@ -16,7 +16,7 @@ pub struct MacroBody {
 
 impl Model for MacroBody {
     ghost use Rattle.std.specs.Prelude.{◌≡◌, ◌∷◌, [], List, ℕ};
-    ghost use Rattle.idl_event.specs.declared.key.Answer.TheVariants as answers;
+    ghost use Rattle.idl_event.specs.declared.asked.key.Answer.TheVariants as answers;
 
     ghost Value = { List ℕ };
 

@@ -2,8 +2,8 @@
 
 ghost use Rattle.std.specs.Prelude.{◌≡◌, ℕ, List, [], true, Ok, Err, IfOk, IfNone, IfSome, IsTrue, map};
 ghost use Rattle.std.specs.Option.{option_copied};
-ghost use Rattle.idl_source.specs.Name.{is_name};
-ghost use Rattle.idl_event.specs.declared.key.Key.TheVariants as keys;
+ghost use Rattle.idl_source.specs.names.Name.{is_name};
+ghost use Rattle.idl_event.specs.declared.asked.key.Key.TheVariants as keys;
 ghost use Rattle.idl_workspace.specs.Asked.{asked_files, asked_of};
 ghost use Rattle.idl_workspace.specs.Bank.{IsSameBeside};
 ghost use Rattle.idl_workspace.specs.Project.{no_project, with_files};

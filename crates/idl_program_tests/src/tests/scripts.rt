@@ -3,7 +3,7 @@
 ghost use Rattle.std.specs.Prelude.{◌≡◌, IfOk};
 
 use idl_session::{Session, run};
-use idl_source::{BufferSink, SliceSource};
+use idl_source::devices::{BufferSink, SliceSource};
 use std::alloc::{AllocError, AllocGlobal, Global};
 use std::process::Abort;
 use std::test::Fail;

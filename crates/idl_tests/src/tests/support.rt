@@ -3,7 +3,8 @@
 ghost use Rattle.std.specs.Prelude.{◌≡◌, IfOk};
 
 use idl_session::{Session, run};
-use idl_source::{BufferSink, File, Line, MAX_LINES, SliceSource};
+use idl_source::devices::{BufferSink, SliceSource};
+use idl_source::{File, Line, MAX_LINES};
 use std::alloc::{AllocError, AllocGlobal, Global};
 use std::process::Abort;
 use std::test::Fail;

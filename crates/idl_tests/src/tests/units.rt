@@ -1,6 +1,6 @@
 //! The units of a text: every production of the grammar, what is long or deep, and the faults of units.
 
-use super::expansions::expansion_of;
+use super::sources::expansions::expansion_of;
 use super::support::{Telling, are_told};
 use idl_syntax::{SyntaxFault, UnitTree, parse};
 use idl_tree::{Pragma, ScopedName};

@@ -1,8 +1,8 @@
 use Rattle.std.proofs.Common.{sym, ap, ◌∙◌, ◌++◌, ◌+◌, ◌∷◌, [], drop, map, append_assoc}
 use Rattle.idl_env.specs.Facts.{entity_key}
-use Rattle.idl_env.specs.Key.{key_digest}
+use Rattle.idl_env.specs.keys.Key.{key_digest}
 use Rattle.idl_env.proofs.ApartLemmas.{entity_digest-is}
-use Rattle.idl_env.proofs.PlaceLemmas.{from_here}
+use Rattle.idl_env.proofs.AnswerLaws.PlaceLemmas.{from_here}
 use Rattle.idl_env.proofs.apart.put_entities.Goals as goal
 
 pub loop-path-preserved : goal.loop-path-preserved

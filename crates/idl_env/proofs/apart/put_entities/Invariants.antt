@@ -1,6 +1,6 @@
 use Rattle.std.proofs.Common.{◌≡◌, ◌++◌, drop, map}
 use Rattle.idl_env.specs.Facts.{entity_key}
-use Rattle.idl_env.specs.Key.{key_digest}
+use Rattle.idl_env.specs.keys.Key.{key_digest}
 use Rattle.idl_env.proofs.apart.put_entities.Given as goal
 
 -- those so far and those of the rest are all

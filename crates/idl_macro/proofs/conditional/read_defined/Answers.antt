@@ -3,7 +3,7 @@ use Rattle.std.specs.Option.{option_copied}
 use Rattle.std.proofs.lemmas.List.{nil_from_length}
 use Rattle.idl_memo.specs.Query.{Done}
 use Rattle.idl_event.specs.Expanding.{arrival, arrived}
-use Rattle.idl_lex.specs.Tokens.{Token}
+use Rattle.idl_lex.specs.tokens.Tokens.{Token}
 use Rattle.idl_macro.specs.Condition.{defined_read, truth}
 use Rattle.idl_macro.specs.Macros.{macro_of}
 use Rattle.idl_macro.specs.Replace.{followed_by}

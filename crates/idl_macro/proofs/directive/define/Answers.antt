@@ -2,7 +2,7 @@ use Rattle.std.proofs.Common.{None, Some, true, false, ap, ◌∙◌}
 use Rattle.std.proofs.lemmas.Result.{on_ok_weaker}
 use Rattle.std.specs.Option.{option_copied}
 use Rattle.idl_event.specs.Expanding.{arrival, arrived}
-use Rattle.idl_lex.specs.Tokens.{tokens_in}
+use Rattle.idl_lex.specs.tokens.Tokens.{tokens_in}
 use Rattle.idl_macro.specs.Directives.{differs, saying}
 use Rattle.idl_macro.proofs.DirectiveLemmas.{arrival-define, define-by}
 use Rattle.idl_macro.proofs.directive.define.Goals as goal

@@ -2,8 +2,8 @@ use Rattle.std.proofs.Common.{◌≡◌, ◌<◌, ◌+◌, [], List, Option, Non
 use Rattle.std.proofs.lemmas.List.{drop_more, get_or-map, length-map}
 use Rattle.std.specs.Option.{option_copied}
 use Rattle.idl_event.specs.Expanding.{Reached, arrival, arrived, reached}
-use Rattle.idl_lex.specs.Tokens.{Token}
-use Rattle.idl_lex.specs.declared.token.PlacedToken.{PlacedToken}
+use Rattle.idl_lex.specs.tokens.Tokens.{Token}
+use Rattle.idl_lex.specs.declared.tokens.token.PlacedToken.{PlacedToken}
 use Rattle.idl_macro.specs.Replace.{replacement}
 use Rattle.idl_macro.proofs.AgainLemmas.{no_value}
 use Rattle.idl_macro.proofs.PlainLemmas.{passed-asked, passed-next}

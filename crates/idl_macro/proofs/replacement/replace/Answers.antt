@@ -10,9 +10,9 @@ use Rattle.idl_event.specs.Expanding.{reached}
 use Rattle.idl_event.specs.Items.{rules}
 use Rattle.idl_event.specs.Key.{key_eq}
 use Rattle.idl_event.specs.Limits.{turns_at_most}
-use Rattle.idl_event.specs.declared.allowance.Allowance.{Allowance}
-use Rattle.idl_event.specs.declared.event.Item.TheVariants.{Turn}
-use Rattle.idl_lex.specs.Tokens.{Token}
+use Rattle.idl_event.specs.declared.told.allowance.Allowance.{Allowance}
+use Rattle.idl_event.specs.declared.told.event.Item.TheVariants.{Turn}
+use Rattle.idl_lex.specs.tokens.Tokens.{Token}
 use Rattle.idl_macro.specs.Output.{given, given_more, item_of}
 use Rattle.idl_macro.specs.Replace.{replacement}
 use Rattle.idl_macro.proofs.AllowanceLemmas.{IsWithinTurns, IsWithinTurns-closed, IsWithinTurns-put, IsWithinTurns-room, IsWithinTurns-turn, left-step, left_by, not_over, replacement-found, work_left, work_left-put, work_left-turn}

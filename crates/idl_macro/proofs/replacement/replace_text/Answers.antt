@@ -1,7 +1,7 @@
 use Rattle.std.proofs.Common.{◌≡◌, [], ◌∷◌, sym, ap, ◌∙◌, List, drop, refl, subst, take, arith}
 use Rattle.idl_event.specs.Expanding.{after_text, reached}
 use Rattle.idl_fault.specs.declared.place.Place.{Place}
-use Rattle.idl_lex.specs.declared.token.PlacedToken.{PlacedToken}
+use Rattle.idl_lex.specs.declared.tokens.token.PlacedToken.{PlacedToken}
 use Rattle.idl_macro.specs.Replace.{place_at, text}
 use Rattle.idl_macro.specs.declared.replacement.Output.TheVariants.{Text}
 use Rattle.idl_macro.proofs.ReplaceLemmas.{reached-text-first, reached-text-nil}

@@ -2,7 +2,7 @@ use Rattle.std.proofs.Common.{◌≡◌, IfOk, List, Option, reverse, sym, ap, s
 use Rattle.std.specs.Map.{keys_of}
 use Rattle.std.specs.Option.{option_copied}
 use Rattle.idl_event.specs.Expanding.{Reached, arrival, arrived}
-use Rattle.idl_lex.specs.Tokens.{Token}
+use Rattle.idl_lex.specs.tokens.Tokens.{Token}
 use Rattle.idl_macro.specs.Macros.{macro_of}
 use Rattle.idl_macro.proofs.MacroLemmas.{hidden-entries, replacement-hidden, replacement-no_word, replacement-word}
 use Rattle.idl_macro.proofs.replacement.replacement.Goals as goal

@@ -1,5 +1,5 @@
 use Rattle.std.proofs.Common.{◌≡◌, ◌||◌, drop}
-use Rattle.idl_source.specs.Device.{append}
+use Rattle.idl_source.specs.devices.Device.{append}
 use Rattle.idl_program.specs.Rows.{are_faulty, lines_with, output_of}
 use Rattle.idl_program.proofs.program.show_all.Given as goal
 

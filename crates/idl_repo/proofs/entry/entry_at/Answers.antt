@@ -4,7 +4,7 @@ use Rattle.idl_memo.specs.Query.{noted, outcome, run}
 use Rattle.idl_repo.proofs.EntryLaws.{entry-told}
 use Rattle.idl_repo.specs.Entry.{entry, entry_in, pushed_entry}
 use Rattle.idl_env.specs.Facts.{answers, entity_in, entity_key}
-use Rattle.idl_env.specs.Key.{key_eq}
+use Rattle.idl_env.specs.keys.Key.{key_eq}
 use Rattle.idl_repo.proofs.entry.entry_at.Goals as goal
 
 pub returns : goal.returns

@@ -1,5 +1,5 @@
-use Rattle.idl_scope.proofs.LookupLaws.{denotes}
-use Rattle.idl_scope.proofs.DenotesOnce.{denotes_once}
+use Rattle.idl_scope.proofs.LookupLaws.LookupLaws.{denotes}
+use Rattle.idl_scope.proofs.LookupLaws.DenotesOnce.{denotes_once}
 use Rattle.idl_scope.proofs.laws.denotation.Goals as goal
 
 pub returns-clause-denoted : goal.returns-clause-denoted

@@ -1,4 +1,4 @@
-use Rattle.idl_scope.proofs.LookupLaws.{has-all, has-once, through-all}
+use Rattle.idl_scope.proofs.LookupLaws.LookupLaws.{has-all, has-once, through-all}
 use Rattle.idl_scope.proofs.laws.found_in_a_scope.Goals as goal
 
 pub returns-clause-all : goal.returns-clause-all

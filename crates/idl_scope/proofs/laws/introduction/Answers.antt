@@ -1,4 +1,4 @@
-use Rattle.idl_scope.proofs.LookupLaws.{reaches}
+use Rattle.idl_scope.proofs.LookupLaws.LookupLaws.{reaches}
 use Rattle.idl_scope.proofs.laws.introduction.Goals as goal
 
 pub returns : goal.returns

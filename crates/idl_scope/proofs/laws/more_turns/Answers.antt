@@ -1,4 +1,4 @@
-use Rattle.idl_scope.proofs.LookupLaws.{denoted-more, has-more}
+use Rattle.idl_scope.proofs.LookupLaws.LookupLaws.{denoted-more, has-more}
 use Rattle.idl_scope.proofs.laws.more_turns.Goals as goal
 
 pub returns-clause-has : goal.returns-clause-has

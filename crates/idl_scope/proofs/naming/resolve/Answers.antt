@@ -2,10 +2,10 @@ use Rattle.idl_scope.specs.Meaning.{Denotes, entity_found, seen}
 use Rattle.std.proofs.Common.{ℕ, ◌≡◌}
 use Rattle.idl_memo.specs.Query.{run}
 use Rattle.idl_env.specs.Facts.{answers}
-use Rattle.idl_env.specs.Key.{key_eq}
+use Rattle.idl_env.specs.keys.Key.{key_eq}
 use Rattle.idl_scope.specs.Lookup.{denoted, under}
 use Rattle.idl_env.specs.Turns.{HasTurnsFor}
-use Rattle.idl_scope.proofs.LookupLaws.{IfSettled-always, denoted-from, denotes-run, reaches-run}
+use Rattle.idl_scope.proofs.LookupLaws.LookupLaws.{IfSettled-always, denoted-from, denotes-run, reaches-run}
 use Rattle.idl_scope.proofs.naming.resolve.Goals as goal
 
 pub returns-clause-denotes : goal.returns-clause-denotes

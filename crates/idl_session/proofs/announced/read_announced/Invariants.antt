@@ -1,6 +1,6 @@
 use Rattle.std.proofs.Common.{◌≡◌, ◌≤◌}
 use Rattle.idl_session.specs.Streams.{stream_of, fuel}
-use Rattle.idl_session.specs.Announced.{IsGathering}
+use Rattle.idl_session.specs.replies.Announced.{IsGathering}
 use Rattle.idl_session.proofs.announced.read_announced.Given as goal
 
 abbrev pub invariant-loop-i : goal.invariant-loop-i

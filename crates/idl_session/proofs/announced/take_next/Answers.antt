@@ -1,7 +1,7 @@
 use Rattle.std.proofs.Common.{◌≡◌, true, None, subst}
 use Rattle.idl_session.proofs.AnnouncedLemmas.{gathers-kept}
 use Rattle.idl_session.proofs.ReplyLemmas.{on_err}
-use Rattle.idl_session.specs.Announced.{Gathers}
+use Rattle.idl_session.specs.replies.Announced.{Gathers}
 use Rattle.idl_session.specs.Streams.{Fed, stream_of, IsOver, FailsWithin}
 use Rattle.idl_session.specs.declared.announced.Announced.{Announced}
 use Rattle.idl_session.proofs.announced.take_next.Goals as goal

@@ -1,7 +1,7 @@
 use Rattle.std.proofs.Common.{◌≡◌, ◌∷◌, List, ℕ, Option, None, Some, Bor, IfSome, eqb, []}
 use Rattle.std.specs.List.{slice_split}
 use Rattle.std.specs.Option.{MatchOption}
-use Rattle.idl_source.specs.Line.{IsLine}
+use Rattle.idl_source.specs.texts.Line.{IsLine}
 use Rattle.idl_session.proofs.HeadingLemmas.{IsLine-rest}
 use Rattle.idl_session.proofs.heading.parse.Goals as goal
 

@@ -2,9 +2,9 @@ use Rattle.std.proofs.Common.{◌≡◌, ◌++◌, ◌∙◌, ◌+◌, [], List,
 use Rattle.std.specs.List.{flat_map}
 use Rattle.std.proofs.lemmas.Result.{on_err_weaker}
 use Rattle.std.proofs.lemmas.List.{take_all}
-use Rattle.idl_source.specs.Device.{WritesPart}
+use Rattle.idl_source.specs.devices.Device.{WritesPart}
 use Rattle.idl_session.specs.Gathering.{Sends}
-use Rattle.idl_session.specs.Replies.{whole_line}
+use Rattle.idl_session.specs.replies.Replies.{whole_line}
 use Rattle.idl_session.proofs.ReplyLemmas.{on_err, sends-more, sends-part, sends-end-part, lines-more, lines-part}
 use Rattle.idl_session.proofs.reply.write_lines.Goals as goal
 

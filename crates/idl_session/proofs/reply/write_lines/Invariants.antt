@@ -1,6 +1,6 @@
 use Rattle.std.proofs.Common.{◌≡◌, ◌++◌, [], take}
 use Rattle.std.specs.List.{flat_map}
-use Rattle.idl_session.specs.Replies.{whole_line}
+use Rattle.idl_session.specs.replies.Replies.{whole_line}
 use Rattle.idl_session.specs.Gathering.{Sends}
 use Rattle.idl_session.proofs.reply.write_lines.Given as goal
 

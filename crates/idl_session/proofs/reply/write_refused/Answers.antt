@@ -1,7 +1,7 @@
 use Rattle.std.proofs.Common.{◌≡◌, ◌++◌, ◌∙◌, List, ℕ, ap, subst, codes}
 use Rattle.std.proofs.lemmas.Result.{on_err_weaker}
 use Rattle.idl_session.specs.Gathering.{Sends}
-use Rattle.idl_session.specs.Replies.{number_line, refused_reply}
+use Rattle.idl_session.specs.replies.Replies.{number_line, refused_reply}
 use Rattle.idl_session.proofs.ReplyLemmas.{sends-end-part}
 use Rattle.idl_session.proofs.reply.write_refused.Goals as goal
 

@@ -1,11 +1,11 @@
 use Rattle.std.proofs.Common.{◌≡◌, List, ℕ, Option, IfErr, refl, subst, rules}
-use Rattle.idl_source.specs.Device.{append, WritesPart}
+use Rattle.idl_source.specs.devices.Device.{append, WritesPart}
 use Rattle.idl_source.specs.declared.refusal.Refusal.TheVariants as refusal
 use Rattle.idl_workspace.specs.declared.work.Work.{Work}
 use Rattle.idl_session.specs.Headings.{edit_by}
-use Rattle.idl_session.specs.Replies.{refused_reply, edit_reply, query_reply, work_reply}
+use Rattle.idl_session.specs.replies.Replies.{refused_reply, edit_reply, query_reply, work_reply}
 use Rattle.idl_session.specs.Requests.{Malformed, Make, Ask, TellWork, request_kept}
-use Rattle.idl_session.specs.Rows.{rows_for}
+use Rattle.idl_session.specs.replies.Rows.{rows_for}
 use Rattle.idl_session.specs.Serving.{Standing}
 use Rattle.idl_session.specs.declared.stop.Stop.TheVariants.{WriteFailed}
 use Rattle.idl_session.proofs.ServeLemmas.{serves-alone, cut-write}

@@ -1,12 +1,12 @@
 use Rattle.std.proofs.Common.{[], ◌∷◌, ◌++◌, ap, arith, length, refl, ◌≡◌}
-use Rattle.idl_lex.specs.declared.mark.Mark.TheVariants as mark
+use Rattle.idl_lex.specs.declared.kinds.mark.Mark.TheVariants as mark
 use Rattle.idl_site.specs.ConstructionParts.{case_parts, discriminator_parts, label_parts, member_parts, member_type_parts}
 use Rattle.idl_site.specs.Part.{ScopeEnds, all_parts, listed, punctuation}
 use Rattle.idl_site.specs.TypeParts.{declarator_parts}
 use Rattle.idl_site.specs.declared.site.Declaration.TheVariants as declaration
 use Rattle.idl_site.specs.declared.site.Site.TheVariants as site
-use Rattle.idl_tree.specs.declared.construction.Structure.{out-Structure}
-use Rattle.idl_tree.specs.declared.construction.Union.{out-Union}
+use Rattle.idl_tree.specs.declared.declarations.construction.Structure.{out-Structure}
+use Rattle.idl_tree.specs.declared.declarations.construction.Union.{out-Union}
 use Rattle.idl_site.proofs.ConstructionEquations.{case_parts-out, construction_parts-structure, construction_parts-union, member_parts-out, member_type_parts-construction, structure_opening, structure_parts-out, union_brace, union_opening, union_parts-out}
 use Rattle.idl_site.proofs.PushLemmas.{pushes-append, pushes-close, pushes-close_behind, pushes-one}
 use Rattle.idl_site.proofs.construction.+construction.Goals as goal

@@ -1,14 +1,14 @@
 use Rattle.std.proofs.Common.{[], ◌∷◌, ◌++◌, take}
 use Rattle.std.specs.List.{flat_map}
-use Rattle.idl_lex.specs.declared.keyword.Keyword.TheVariants as word
-use Rattle.idl_lex.specs.declared.mark.Mark.TheVariants as mark
+use Rattle.idl_lex.specs.declared.kinds.keyword.Keyword.TheVariants as word
+use Rattle.idl_lex.specs.declared.kinds.mark.Mark.TheVariants as mark
 use Rattle.idl_site.specs.ConstructionParts.{case_parts, discriminator_parts, member_parts}
 use Rattle.idl_site.specs.Item.{Pushes}
 use Rattle.idl_site.specs.Part.{Plain, Declares, ScopeBegins, keyword_part, punctuation}
 use Rattle.idl_site.specs.declared.site.Declaration.TheVariants as declaration
 use Rattle.idl_tree.specs.Lexeme.{Word, Punctuation}
-use Rattle.idl_tree.specs.declared.construction.Structure.{out-Structure}
-use Rattle.idl_tree.specs.declared.construction.Union.{out-Union}
+use Rattle.idl_tree.specs.declared.declarations.construction.Structure.{out-Structure}
+use Rattle.idl_tree.specs.declared.declarations.construction.Union.{out-Union}
 use Rattle.idl_site.proofs.construction.+construction.Given as goal
 
 abbrev pub invariant-push_structure-loop-member : goal.invariant-push_structure-loop-member

@@ -1,5 +1,5 @@
 use Rattle.std.proofs.Common.{[], ◌∷◌, ap, arith, get_or, length, refl, subst, ◌≡◌}
-use Rattle.idl_lex.specs.declared.mark.Mark.TheVariants.{Comma}
+use Rattle.idl_lex.specs.declared.kinds.mark.Mark.TheVariants.{Comma}
 use Rattle.idl_site.specs.Part.{punctuation}
 use Rattle.idl_site.specs.TypeParts.{declarator_parts}
 use Rattle.idl_site.specs.declared.site.Site.TheVariants.{Tokens}

@@ -1,6 +1,6 @@
 use Rattle.std.proofs.Common.{◌∷◌, ◌++◌, take}
 use Rattle.std.specs.List.{flat_map}
-use Rattle.idl_lex.specs.declared.mark.Mark.TheVariants.{Comma}
+use Rattle.idl_lex.specs.declared.kinds.mark.Mark.TheVariants.{Comma}
 use Rattle.idl_site.specs.Item.{Pushes}
 use Rattle.idl_site.specs.Part.{punctuation}
 use Rattle.idl_site.specs.TypeParts.{declarator_parts}

@@ -1,5 +1,5 @@
 use Rattle.std.proofs.Common.{[], ◌∷◌, ◌++◌, ap, arith, get_or, length, refl, subst, ◌≡◌}
-use Rattle.idl_lex.specs.declared.mark.Mark.TheVariants.{Ampersand, Bar, Caret, OpenParenthesis, CloseParenthesis}
+use Rattle.idl_lex.specs.declared.kinds.mark.Mark.TheVariants.{Ampersand, Bar, Caret, OpenParenthesis, CloseParenthesis}
 use Rattle.idl_site.specs.ExpressionParts.{and_parts, exclusive_or_parts, expression_parts, operator_parts, primary_parts, product_parts, shift_parts, sum_parts, unary_parts}
 use Rattle.idl_site.specs.Item.{Pushes}
 use Rattle.idl_site.specs.Part.{punctuation}

@@ -1,6 +1,6 @@
 use Rattle.std.proofs.Common.{◌∷◌, ◌++◌, take}
 use Rattle.std.specs.List.{flat_map}
-use Rattle.idl_lex.specs.declared.mark.Mark.TheVariants.{Ampersand, Bar, Caret}
+use Rattle.idl_lex.specs.declared.kinds.mark.Mark.TheVariants.{Ampersand, Bar, Caret}
 use Rattle.idl_site.specs.ExpressionParts.{and_parts, exclusive_or_parts, product_parts, shift_parts, sum_parts, unary_parts}
 use Rattle.idl_site.specs.Item.{Pushes}
 use Rattle.idl_site.specs.Part.{punctuation}

@@ -1,5 +1,5 @@
 use Rattle.std.proofs.Common.{[], ◌∷◌, ◌++◌, refl}
-use Rattle.idl_lex.specs.declared.mark.Mark.TheVariants.{CloseParenthesis, OpenParenthesis}
+use Rattle.idl_lex.specs.declared.kinds.mark.Mark.TheVariants.{CloseParenthesis, OpenParenthesis}
 use Rattle.idl_site.specs.Part.{Declares, Parts, ScopeBegins, ScopeEnds, if_some, listed, punctuation}
 use Rattle.idl_site.specs.UnitParts.{context_parts, oneway_parts, parameter_parts, raises_parts, result_parts}
 use Rattle.idl_site.specs.declared.site.Declaration.TheVariants as declaration

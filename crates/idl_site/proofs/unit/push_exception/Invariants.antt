@@ -1,7 +1,7 @@
 use Rattle.std.proofs.Common.{◌∷◌, take}
 use Rattle.std.specs.List.{flat_map}
-use Rattle.idl_lex.specs.declared.keyword.Keyword.TheVariants as word
-use Rattle.idl_lex.specs.declared.mark.Mark.TheVariants.{OpenBrace}
+use Rattle.idl_lex.specs.declared.kinds.keyword.Keyword.TheVariants as word
+use Rattle.idl_lex.specs.declared.kinds.mark.Mark.TheVariants.{OpenBrace}
 use Rattle.idl_site.specs.ConstructionParts.{member_parts}
 use Rattle.idl_site.specs.Item.{Pushes}
 use Rattle.idl_site.specs.Part.{Declares, ScopeBegins, keyword_part, punctuation}

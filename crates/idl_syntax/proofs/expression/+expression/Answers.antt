@@ -1,6 +1,6 @@
 use Rattle.std.proofs.Common.{arith, refl, sym, ◌∙◌}
 use Rattle.std.proofs.lemmas.Result.{err_from_is_err_and}
-use Rattle.idl_tree.specs.ReadExpression.{product_operator_of, shift_operator_of, sum_operator_of}
+use Rattle.idl_tree.specs.reading.ReadExpression.{product_operator_of, shift_operator_of, sum_operator_of}
 use Rattle.idl_syntax.proofs.Turns.{turns_start, turns_stop, loop_behind, loop_behind_fails, loop_operator, loop_operator_ends, loop_operator_fails}
 use Rattle.idl_syntax.proofs.expression.+expression.Goals as goal
 

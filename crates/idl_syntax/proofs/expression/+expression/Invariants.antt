@@ -1,9 +1,9 @@
 use Rattle.std.proofs.Common.{◌≤◌, ◌+◌, ◌*◌, length, is_some}
-use Rattle.idl_lex.specs.declared.mark.Mark.TheVariants as mark
+use Rattle.idl_lex.specs.declared.kinds.mark.Mark.TheVariants as mark
 use Rattle.idl_tree.specs.Lexeme.{lexemes}
-use Rattle.idl_tree.specs.ReadExpression.{and_with, behind_with, exclusive_or_with, expression_at, primary_with, product_operator_of, product_with, shift_operator_of, shift_with, step_with, sum_operator_of, sum_with, unary_with}
-use Rattle.idl_tree.specs.Reading.{many_of}
-use Rattle.idl_tree.specs.Tests.{is_mark}
+use Rattle.idl_tree.specs.reading.ReadExpression.{and_with, behind_with, exclusive_or_with, expression_at, primary_with, product_operator_of, product_with, shift_operator_of, shift_with, step_with, sum_operator_of, sum_with, unary_with}
+use Rattle.idl_tree.specs.reading.Reading.{many_of}
+use Rattle.idl_tree.specs.reading.Tests.{is_mark}
 use Rattle.idl_syntax.proofs.Turns.{Turns}
 use Rattle.idl_syntax.proofs.expression.+expression.Given as goal
 

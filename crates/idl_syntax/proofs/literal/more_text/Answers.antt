@@ -1,5 +1,5 @@
 use Rattle.std.proofs.Common.{arith, refl, sym, ◌∙◌}
-use Rattle.idl_tree.specs.ReadExpression.{text_of}
+use Rattle.idl_tree.specs.reading.ReadExpression.{text_of}
 use Rattle.idl_syntax.proofs.Turns.{turns_start, loop_pick, loop_pick_ends}
 use Rattle.idl_syntax.proofs.literal.more_text.Goals as goal
 

@@ -1,8 +1,8 @@
 use Rattle.std.proofs.Common.{length, ◌≤◌, is_some}
 use Rattle.idl_tree.specs.Lexeme.{lexemes}
-use Rattle.idl_tree.specs.ReadExpression.{wide_text_of}
-use Rattle.idl_tree.specs.Reading.{many_of}
-use Rattle.idl_tree.specs.Tests.{pick}
+use Rattle.idl_tree.specs.reading.ReadExpression.{wide_text_of}
+use Rattle.idl_tree.specs.reading.Reading.{many_of}
+use Rattle.idl_tree.specs.reading.Tests.{pick}
 use Rattle.idl_syntax.proofs.Turns.{Turns}
 use Rattle.idl_syntax.proofs.literal.more_wide_text.Given as goal
 

@@ -1,9 +1,9 @@
 use Rattle.std.proofs.Common.{length, ◌≤◌}
-use Rattle.idl_lex.specs.declared.mark.Mark.TheVariants.{Comma}
+use Rattle.idl_lex.specs.declared.kinds.mark.Mark.TheVariants.{Comma}
 use Rattle.idl_tree.specs.Lexeme.{lexemes}
-use Rattle.idl_tree.specs.ReadExpression.{behind_with}
-use Rattle.idl_tree.specs.Tests.{identifier_at, is_mark}
-use Rattle.idl_tree.specs.Reading.{many_of}
+use Rattle.idl_tree.specs.reading.ReadExpression.{behind_with}
+use Rattle.idl_tree.specs.reading.Tests.{identifier_at, is_mark}
+use Rattle.idl_tree.specs.reading.Reading.{many_of}
 use Rattle.idl_syntax.proofs.Turns.{Turns}
 use Rattle.idl_syntax.proofs.name.more_identifiers.Given as goal
 

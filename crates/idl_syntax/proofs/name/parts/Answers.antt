@@ -1,5 +1,5 @@
 use Rattle.std.proofs.Common.{arith, sym, ◌∙◌}
-use Rattle.idl_tree.specs.ReadName.{parts_at}
+use Rattle.idl_tree.specs.reading.ReadName.{parts_at}
 use Rattle.std.proofs.lemmas.Result.{err_from_is_err_and}
 use Rattle.idl_syntax.proofs.Turns.{turns_start, turns_stop, turns_fail, loop_step}
 use Rattle.idl_syntax.proofs.name.parts.Goals as goal

@@ -1,8 +1,8 @@
 use Rattle.std.proofs.Common.{length, ◌≤◌}
-use Rattle.idl_lex.specs.declared.mark.Mark.TheVariants.{ColonColon}
+use Rattle.idl_lex.specs.declared.kinds.mark.Mark.TheVariants.{ColonColon}
 use Rattle.idl_tree.specs.Lexeme.{lexemes}
-use Rattle.idl_tree.specs.ReadName.{part_at, parts_at}
-use Rattle.idl_tree.specs.Tests.{is_mark}
+use Rattle.idl_tree.specs.reading.ReadName.{part_at, parts_at}
+use Rattle.idl_tree.specs.reading.Tests.{is_mark}
 use Rattle.idl_syntax.proofs.Turns.{Turns}
 use Rattle.idl_syntax.proofs.name.parts.Given as goal
 

@@ -1,5 +1,5 @@
 use Rattle.std.proofs.Common.{◌∙◌, ap, sym}
-use Rattle.idl_lex.specs.Kind.{kind_of}
+use Rattle.idl_lex.specs.kinds.Kind.{kind_of}
 use Rattle.idl_tree.specs.Pragma.{is_separator, part_of}
 use Rattle.idl_syntax.proofs.PragmaLemmas.{part_taken}
 use Rattle.idl_syntax.proofs.pragma.further_parts.Goals as goal

@@ -6,7 +6,7 @@ use Rattle.idl_syntax.specs.declared.fault.SyntaxFault.TheVariants as fault
 use Rattle.idl_syntax.proofs.Parses.{fault_found, rest_found}
 use Rattle.idl_syntax.proofs.Stops.{some-left, stops-at}
 use Rattle.idl_tree.specs.Lexeme.{lexemes}
-use Rattle.idl_tree.specs.ReadUnit.{unit_at}
+use Rattle.idl_tree.specs.reading.ReadUnit.{unit_at}
 use Rattle.idl_unit.specs.Faults.{least_fault}
 use Rattle.idl_unit.specs.TokenRules.{token_faults}
 use Rattle.idl_syntax.proofs.unit_tree.tokens_tree.Goals as goal

@@ -1,5 +1,5 @@
 use Rattle.std.proofs.Common.{◌∙◌, ℕ, All, List, Some, ap, flat_map, if◌then◌else◌, subst, sym}
-use Rattle.idl_source.specs.Device.{append}
+use Rattle.idl_source.specs.devices.Device.{append}
 use Rattle.idl_program.specs.Loading.{AreCompiled}
 use Rattle.idl_program.specs.Options.{AreAsked}
 use Rattle.idl_program.specs.Rows.{are_faulty, lines_with}

@@ -1,4 +1,4 @@
-use Rattle.idl_tree.proofs.UnitAgain.{unit_again}
+use Rattle.idl_tree.proofs.ReadAgain.UnitAgain.{unit_again}
 use Rattle.idl_tree.proofs.UnitWhole.{unit_found, unit_fault, unit_rest}
 use Rattle.idl_tree.proofs.law.reading.Goals as goal
 

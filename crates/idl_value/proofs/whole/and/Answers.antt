@@ -1,5 +1,5 @@
 use Rattle.std.proofs.Common.{ap, ◌∙◌}
-use Rattle.idl_value.specs.Bits.{bit_of}
+use Rattle.idl_value.specs.integers.Bits.{bit_of}
 use Rattle.idl_value.proofs.BitLemmas.{and_is, bit_of_and}
 use Rattle.idl_value.proofs.whole.and.Goals as goal
 

@@ -1,5 +1,5 @@
 use Rattle.std.proofs.Common.{ap, ◌∙◌}
-use Rattle.idl_value.specs.Bits.{bit_of}
+use Rattle.idl_value.specs.integers.Bits.{bit_of}
 use Rattle.idl_value.proofs.BitLemmas.{xor_is, bit_of_xor}
 use Rattle.idl_value.proofs.whole.xor.Goals as goal
 

@@ -4,7 +4,7 @@ use Rattle.std.proofs.lemmas.List.{length-map, take_all}
 use Rattle.std.proofs.lemmas.List.Folds.{list_all-map}
 use Rattle.std.proofs.lemmas.List.Sums.{AllPass-from_list_all}
 use Rattle.std.specs.List.{list_all}
-use Rattle.idl_source.specs.Directory.{is_directory}
+use Rattle.idl_source.specs.names.Directory.{is_directory}
 use Rattle.idl_source.specs.declared.refusal.Refusal.TheVariants.{BadName, OverLimit}
 use Rattle.idl_workspace.specs.Edits.{search_list}
 use Rattle.idl_workspace.proofs.directories.directories.Goals as goal

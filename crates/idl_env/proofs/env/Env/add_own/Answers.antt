@@ -1,7 +1,7 @@
 use Rattle.std.proofs.Common.{◌+◌, ◌<◌, ◌∷◌, ◌++◌, [], length, sym, ap, ◌∙◌, arith}
 use Rattle.idl_env.specs.Facts.{World, after, count_in, world}
 use Rattle.idl_env.specs.Held.{held}
-use Rattle.idl_env.proofs.CountLemmas.{count-world, world-push}
+use Rattle.idl_env.proofs.AnswerLaws.CountLemmas.{count-world, world-push}
 use Rattle.idl_env.proofs.DeclaredLemmas.{counted-after}
 use Rattle.idl_env.proofs.env.Env.add_own.Goals as goal
 

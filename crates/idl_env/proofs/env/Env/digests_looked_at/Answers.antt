@@ -2,7 +2,7 @@ use Rattle.std.proofs.Common.{sym, ap, ◌∙◌, ◌∷◌, []}
 use Rattle.std.proofs.lemmas.List.{nil_from_length}
 use Rattle.idl_env.specs.Facts.{scopes_in, with_additions, world}
 use Rattle.idl_env.specs.Outside.{gathered_at, looked_at, looked_at_by}
-use Rattle.idl_env.specs.declared.key.Key.TheVariants as key
+use Rattle.idl_env.specs.declared.keys.key.Key.TheVariants as key
 use Rattle.idl_env.proofs.ApartLemmas.{digests-told, looked_at_by-closing}
 use Rattle.idl_env.proofs.env.Env.digests_looked_at.Goals as goal
 

@@ -1,7 +1,7 @@
 use Rattle.std.proofs.Common.{rules, ◌≡◌, ◌∙◌, Some}
 use Rattle.idl_env.specs.Facts.{answers, scopes_in}
 use Rattle.idl_env.specs.Held.{closable}
-use Rattle.idl_env.specs.declared.key.Key.TheVariants as key
+use Rattle.idl_env.specs.declared.keys.key.Key.TheVariants as key
 use Rattle.idl_env.proofs.ApartLemmas.{closable-innermost, entity_digest-is}
 use Rattle.idl_env.proofs.env.Env.digests_of_innermost.Goals as goal
 

@@ -2,7 +2,7 @@ use Rattle.std.proofs.Common.{length, sym, ap, ◌∙◌, arith}
 use Rattle.idl_env.specs.Facts.{world}
 use Rattle.idl_env.specs.Held.{held}
 use Rattle.idl_env.specs.Turns.{declared_named}
-use Rattle.idl_env.proofs.CountLemmas.{world-none}
+use Rattle.idl_env.proofs.AnswerLaws.CountLemmas.{world-none}
 use Rattle.idl_env.proofs.env.Env.new.Goals as goal
 
 pub invariant_of-result : goal.invariant_of-result

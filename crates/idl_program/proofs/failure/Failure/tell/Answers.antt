@@ -1,8 +1,8 @@
 use Rattle.std.proofs.Common.{◌≡◌, ◌∙◌, ◌++◌, ◌∷◌, [], ℕ, List, ap, codes, subst, sym}
 use Rattle.std.proofs.lemmas.Result.{on_ok_weaker}
 use Rattle.std.specs.Result.{OnOk}
-use Rattle.idl_session.specs.Replies.{whole_line}
-use Rattle.idl_source.specs.Device.{append}
+use Rattle.idl_session.specs.replies.Replies.{whole_line}
+use Rattle.idl_source.specs.devices.Device.{append}
 use Rattle.idl_source.proofs.DeviceLemmas.{append-append}
 use Rattle.idl_program.specs.Messages.{message_of}
 use Rattle.idl_program.specs.declared.failure.Failure.{Failure}

@@ -5,8 +5,8 @@ use Rattle.idl_repo.proofs.WriteLemmas.{grows-as, grows-id-as, grows-then, id-th
 use Rattle.idl_repo.specs.Row.{kind_word, path_text}
 use Rattle.idl_repo.specs.TypeCode.{kind_in, rest_pieces}
 use Rattle.idl_env.specs.Facts.{answers}
-use Rattle.idl_env.specs.Key.{key_eq}
-use Rattle.idl_env.specs.declared.key.Key.TheVariants as key
+use Rattle.idl_env.specs.keys.Key.{key_eq}
+use Rattle.idl_env.specs.declared.keys.key.Key.TheVariants as key
 use Rattle.idl_repo.proofs.row.RowWriter.push_row.Goals as goal
 
 pub returns-in_ok-push_bases-in-Some : goal.returns-in_ok-push_bases-in-Some

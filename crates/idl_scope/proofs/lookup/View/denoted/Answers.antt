@@ -2,7 +2,7 @@ use Rattle.std.proofs.Common.{sym, ap, ◌∙◌, Ok, Err}
 use Rattle.std.specs.Prelude.{if◌then◌else◌}
 use Rattle.idl_env.specs.Facts.{answers}
 use Rattle.idl_scope.specs.Lookup.{further, reach}
-use Rattle.idl_scope.proofs.RunLemmas.{denoted_on, from_first_on, runs}
+use Rattle.idl_scope.proofs.LookupLaws.RunLemmas.{denoted_on, from_first_on, runs}
 use Rattle.idl_scope.proofs.lookup.View.denoted.Goals as goal
 
 pub returns-in-Err : goal.returns-in-Err

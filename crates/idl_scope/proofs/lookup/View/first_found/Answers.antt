@@ -4,7 +4,7 @@ use Rattle.idl_env.specs.Facts.{answers, global_scope}
 use Rattle.idl_scope.specs.Finds.{those}
 use Rattle.idl_scope.specs.Lookup.{has, outward, searched}
 use Rattle.idl_entity.specs.declared.kind.Kind.TheVariants.{Module}
-use Rattle.idl_scope.proofs.RunLemmas.{outward_alone, runs}
+use Rattle.idl_scope.proofs.LookupLaws.RunLemmas.{outward_alone, runs}
 use Rattle.idl_scope.proofs.lookup.View.first_found.Goals as goal
 
 pub returns-then-name : goal.returns-then-name

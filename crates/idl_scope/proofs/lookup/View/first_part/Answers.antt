@@ -1,9 +1,9 @@
 use Rattle.std.proofs.Common.{sym, ◌∙◌}
-use Rattle.idl_lex.specs.Keywords.{folded}
+use Rattle.idl_lex.specs.kinds.Keywords.{folded}
 use Rattle.idl_env.specs.Facts.{answers}
 use Rattle.idl_scope.specs.Finds.{those}
 use Rattle.idl_scope.specs.Lookup.{judged, outward, placed, searched}
-use Rattle.idl_scope.proofs.RunLemmas.{part_on}
+use Rattle.idl_scope.proofs.LookupLaws.RunLemmas.{part_on}
 use Rattle.idl_scope.proofs.lookup.View.first_part.Goals as goal
 
 pub returns : goal.returns

@@ -2,7 +2,7 @@ use Rattle.std.proofs.Common.{◌≡◌, ◌∷◌, sym, ap, ◌∙◌, true, fa
 use Rattle.idl_env.specs.Facts.{answers}
 use Rattle.idl_scope.specs.Finds.{those}
 use Rattle.idl_scope.specs.Lookup.{is_nothing, outward}
-use Rattle.idl_scope.proofs.RunLemmas.{outward_found, outward_on, runs}
+use Rattle.idl_scope.proofs.LookupLaws.RunLemmas.{outward_found, outward_on, runs}
 use Rattle.idl_scope.proofs.lookup.View.found_outward.Goals as goal
 
 pub returns-then-not-is_nothing : goal.returns-then-not-is_nothing

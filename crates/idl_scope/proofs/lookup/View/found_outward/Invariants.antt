@@ -1,7 +1,7 @@
 use Rattle.std.proofs.Common.{◌≡◌, ℕ, ◌≤◌, length}
 use Rattle.idl_env.specs.Facts.{answers}
 use Rattle.idl_scope.specs.Lookup.{outward}
-use Rattle.idl_scope.proofs.RunLemmas.{runs}
+use Rattle.idl_scope.proofs.LookupLaws.RunLemmas.{runs}
 use Rattle.idl_scope.proofs.lookup.View.found_outward.Given as goal
 
 -- what is left, over the log so far, is the whole

@@ -1,10 +1,10 @@
 use Rattle.std.proofs.Common.{sym, ap, ◌∙◌, ◌+◌, drop, Ok, Err}
 use Rattle.idl_env.specs.Facts.{answers}
-use Rattle.idl_lex.specs.Keywords.{folded}
+use Rattle.idl_lex.specs.kinds.Keywords.{folded}
 use Rattle.idl_entity.specs.Kind.{is_scope}
 use Rattle.idl_scope.specs.Lookup.{further, has, part_of}
-use Rattle.idl_env.proofs.PlaceLemmas.{from_here}
-use Rattle.idl_scope.proofs.RunLemmas.{further_on, runs}
+use Rattle.idl_env.proofs.AnswerLaws.PlaceLemmas.{from_here}
+use Rattle.idl_scope.proofs.LookupLaws.RunLemmas.{further_on, runs}
 use Rattle.idl_scope.proofs.lookup.View.further.Goals as goal
 
 pub returns-in-Err : goal.returns-in-Err

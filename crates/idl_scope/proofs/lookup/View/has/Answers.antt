@@ -1,7 +1,7 @@
 use Rattle.std.proofs.Common.{◌∙◌}
 use Rattle.std.proofs.lemmas.Result.{IfOk-weaker}
 use Rattle.idl_scope.specs.Finds.{those}
-use Rattle.idl_scope.proofs.LookupLaws.{has-from}
+use Rattle.idl_scope.proofs.LookupLaws.LookupLaws.{has-from}
 use Rattle.idl_scope.proofs.lookup.View.has.Goals as goal
 
 pub returns : goal.returns

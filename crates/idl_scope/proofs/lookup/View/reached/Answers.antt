@@ -7,7 +7,7 @@ use Rattle.std.specs.Prelude.{length, slice_get}
 use Rattle.std.specs.Option.{option_copied}
 use Rattle.idl_env.specs.Facts.{answers, joined}
 use Rattle.idl_scope.specs.Lookup.{walk}
-use Rattle.idl_scope.proofs.RunLemmas.{runs, walk_end, walk_on}
+use Rattle.idl_scope.proofs.LookupLaws.RunLemmas.{runs, walk_end, walk_on}
 use Rattle.idl_scope.proofs.lookup.View.reached.Goals as goal
 
 pub bases-init : goal.bases-init

@@ -1,6 +1,6 @@
 use Rattle.std.proofs.Common.{◌≡◌, ◌∙◌, [], ap, rules}
 use Rattle.std.proofs.lemmas.Result.{on_ok_weaker, on_err_weaker}
-use Rattle.idl_source.specs.Device.{append}
+use Rattle.idl_source.specs.devices.Device.{append}
 use Rattle.idl_session.proofs.ReplyLemmas.{sends-all, part-after}
 use Rattle.idl_session.proofs.reply.Reply.push.Goals as goal
 

@@ -1,7 +1,7 @@
 use Rattle.std.proofs.Common.{◌≡◌, ◌++◌, ◌∙◌, List, ℕ, subst}
 use Rattle.std.proofs.lemmas.Result.{on_ok_weaker, on_err_weaker}
 use Rattle.std.specs.Fmt.{decimal}
-use Rattle.idl_source.specs.Device.{WritesPart}
+use Rattle.idl_source.specs.devices.Device.{WritesPart}
 use Rattle.idl_session.specs.Gathering.{Sends}
 use Rattle.idl_session.proofs.ReplyLemmas.{sends-more, sends-part}
 use Rattle.idl_session.proofs.reply.Reply.push_number.Goals as goal

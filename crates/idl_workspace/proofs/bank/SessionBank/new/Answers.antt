@@ -6,9 +6,9 @@ use Rattle.std.specs.Option.{option_map}
 use Rattle.std.specs.Ordering.{nat_cmp}
 use Rattle.std.specs.Cmp.Lexicographic.{slice_cmp}
 use Rattle.std.specs.Str.{bytes_eq}
-use Rattle.idl_event.specs.declared.key.Answer.{Answer}
-use Rattle.idl_event.specs.declared.key.Answer.TheVariants as answers
-use Rattle.idl_source.specs.Texts.{Texts}
+use Rattle.idl_event.specs.declared.asked.key.Answer.{Answer}
+use Rattle.idl_event.specs.declared.asked.key.Answer.TheVariants as answers
+use Rattle.idl_source.specs.texts.Texts.{Texts}
 use Rattle.idl_workspace.proofs.bank.SessionBank.new.Goals as goal
 
 pub invariant_of-result : goal.invariant_of-result

@@ -1,12 +1,12 @@
 use Rattle.std.proofs.Common.{◌≡◌, ◌∙◌, List, ℕ, Option, Some, sym, ap}
 use Rattle.std.specs.FinMap as finite
 use Rattle.std.specs.Option.{option_map}
-use Rattle.idl_event.specs.declared.key.Answer.{Answer}
-use Rattle.idl_event.specs.declared.key.Answer.TheVariants as answers
-use Rattle.idl_event.specs.declared.key.Key.TheVariants as keys
+use Rattle.idl_event.specs.declared.asked.key.Answer.{Answer}
+use Rattle.idl_event.specs.declared.asked.key.Answer.TheVariants as answers
+use Rattle.idl_event.specs.declared.asked.key.Key.TheVariants as keys
 use Rattle.idl_event.specs.Key.{key_eq}
 use Rattle.idl_memo.specs.Cause.{changed}
-use Rattle.idl_source.specs.Texts.{Texts}
+use Rattle.idl_source.specs.texts.Texts.{Texts}
 use Rattle.idl_prep.specs.Include.{directories_in}
 use Rattle.idl_workspace.specs.Bank.{IsSameBeside, bank_of}
 use Rattle.idl_workspace.specs.Project.{Inputs}

@@ -8,12 +8,12 @@ use Rattle.std.specs.Map.{keys_of}
 use Rattle.std.specs.Option.{option_eq}
 use Rattle.std.specs.Prelude.{nat_le}
 use Rattle.std.specs.Str.{bytes_eq}
-use Rattle.idl_event.specs.contracts.key.AnswerPartialEq.TheImpl.{ghosts}
+use Rattle.idl_event.specs.contracts.asked.key.AnswerPartialEq.TheImpl.{ghosts}
 use Rattle.idl_memo.specs.Fresh.{fresh_among}
 use Rattle.idl_memo.specs.declared.meter.Meter.{Meter}
 use Rattle.idl_prep.specs.Root.{expansion}
 use Rattle.idl_source.specs.Limits.{most_roots}
-use Rattle.idl_source.specs.Name.{is_name}
+use Rattle.idl_source.specs.names.Name.{is_name}
 use Rattle.idl_source.specs.declared.refusal.Refusal.{Refusal}
 use Rattle.idl_source.specs.declared.refusal.Refusal.TheVariants.{BadName, OverLimit, RootThere}
 use Rattle.idl_workspace.specs.Bank.{bank_of}

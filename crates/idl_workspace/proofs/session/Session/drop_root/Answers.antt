@@ -4,7 +4,7 @@ use Rattle.std.specs.Str.{bytes_eq}
 use Rattle.idl_workspace.specs.Bank.{bank_of}
 use Rattle.std.specs.Set.{remove_key}
 use Rattle.indexmap.proofs.CallerLemmas.{keys-shift_remove_entry}
-use Rattle.idl_source.specs.Name.{is_name}
+use Rattle.idl_source.specs.names.Name.{is_name}
 use Rattle.idl_source.specs.declared.refusal.Refusal.{Refusal}
 use Rattle.idl_source.specs.declared.refusal.Refusal.TheVariants.{BadName, NoSuchRoot}
 use Rattle.idl_workspace.specs.Edits.{DropRoot, after, result_map, roots_without}

@@ -1,6 +1,6 @@
 use Rattle.std.proofs.Common.{◌≡◌, ◌∙◌, Ok, ap, subst, sym}
 use Rattle.std.specs.Map.{keys_of}
-use Rattle.idl_source.specs.Texts.{Texts, after_splice}
+use Rattle.idl_source.specs.texts.Texts.{Texts, after_splice}
 use Rattle.idl_workspace.specs.Bank.{IsSameBeside}
 use Rattle.idl_workspace.specs.Edits.{Splice, after, result_map}
 use Rattle.idl_workspace.specs.Project.{Project, with_files}

@@ -1,5 +1,5 @@
 use Rattle.std.proofs.Common.{◌≡◌, ◌∙◌, ℕ, List, Ok, ap, subst, sym}
-use Rattle.idl_source.specs.Texts.{Texts, after_put}
+use Rattle.idl_source.specs.texts.Texts.{Texts, after_put}
 use Rattle.idl_workspace.specs.Bank.{IsSameBeside}
 use Rattle.idl_workspace.specs.Edits.{Put, after, result_map}
 use Rattle.idl_workspace.specs.Made.{rootless}

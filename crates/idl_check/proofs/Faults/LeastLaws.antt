@@ -1,0 +1,174 @@
+-- The fault that is told of a unit is the least of all.
+use Rattle.std.proofs.Common.{◌≡◌, ◌∙◌, ℕ, ◌+◌, ◌^◌, ◌<◌, ◌≤◌, Bool, true, false, cond, List, [], ◌∷◌, ◌++◌, length, Option, None, Some, Result, Ok, Err, refl, sym, ap, subst, arith}
+use Rattle.std.proofs.lemmas.List.{length-map}
+use Rattle.std.proofs.lemmas.List.Elements.{All-cons, All-nil}
+use Rattle.std.specs.Prelude.{All, flat_map, not}
+use Rattle.idl_check.specs.walk.AllFaults.{further_faults, given_faults, name_faults, or_else, said_faults, site_faults, unit_faults}
+use Rattle.idl_check.specs.tables.Codes.{faults_by}
+use Rattle.idl_check.specs.ids.Identifying.{given}
+use Rattle.idl_check.specs.walk.Judging.{FitsMemory}
+use Rattle.idl_tree.specs.NameParts.{last_at, part_at}
+use Rattle.idl_check.specs.tables.Rules.{has_id, is_id, is_misplaced}
+use Rattle.idl_check.specs.ids.Pragmas.{Said, about, id_faults, refused_for, said, said_by, text_faults, unnamed_faults}
+use Rattle.idl_check.specs.walk.Sections.{section_sites}
+use Rattle.idl_check.specs.tables.Using.{name_code}
+use Rattle.idl_check.specs.walk.Verdict.{first_faults, tree_of, verdict}
+use Rattle.idl_check.specs.walk.Walk.{first_walk}
+use Rattle.idl_fault.specs.declared.code.Code.TheVariants.{BadIdText, MisplacedUnit, NoRepositoryId, NoTree}
+use Rattle.idl_lex.specs.tokens.Tokens.{Token}
+use Rattle.idl_memo.proofs.QueryLaws.{outcome-and_then}
+use Rattle.idl_memo.specs.Query.{Done, outcome}
+use Rattle.idl_env.specs.Facts.{scopes_in}
+use Rattle.idl_scope.specs.Lookup.{by_result, denoted}
+use Rattle.idl_env.specs.declared.answering.answer.Answer.{Answer}
+use Rattle.idl_env.specs.declared.answering.answer.Scope.{Scope}
+use Rattle.idl_entity.specs.declared.entity.Entity.{Entity}
+use Rattle.idl_scope.specs.declared.fault.NameFault.{NameFault}
+use Rattle.idl_scope.specs.declared.fault.NameFault.TheVariants.{At, Memory}
+use Rattle.idl_scope.specs.declared.found.Found.{Found}
+use Rattle.idl_env.specs.declared.keys.key.Key.{Key}
+use Rattle.idl_env.specs.declared.keys.key.Key.TheVariants.{Cursor}
+use Rattle.idl_site.proofs.UnitSpelling.{counted, unit_spells}
+use Rattle.idl_site.specs.Item.{items, items_length}
+use Rattle.idl_site.specs.UnitParts.{unit_parts}
+use Rattle.idl_syntax.specs.Parse.{pragma_faults}
+use Rattle.idl_tree.specs.Lexeme.{lexeme_of, lexemes}
+use Rattle.idl_tree.specs.Pragma.{pragma_of}
+use Rattle.idl_tree.specs.Unit.{spell}
+use Rattle.idl_tree.specs.declared.name.ScopedName.{ScopedName}
+use Rattle.idl_tree.specs.declared.pragma.Pragma.{Pragma}
+use Rattle.idl_tree.specs.declared.pragma.Pragma.TheVariants as pragma
+use Rattle.idl_tree.specs.declared.unit.Tree.{Tree}
+use Rattle.idl_unit.specs.Faults.{least_fault}
+use Rattle.idl_unit.specs.TokenRules.{fault_at}
+use Rattle.idl_unit.specs.declared.fault.Fault.{Fault}
+use Rattle.idl_unit.specs.declared.unit.UnitText.{UnitText}
+use Rattle.idl_unit.specs.declared.unit.UnitText.TheVariants as unit
+use Rattle.idl_check.proofs.Faults.AlikeLemmas.{AreAlike, alike-append, alike-led}
+use Rattle.idl_check.proofs.Nests.UnitNesting.{unit-whole}
+use Rattle.idl_check.proofs.Faults.FaultOrder.{Leads, leads-later}
+use Rattle.idl_check.proofs.Faults.LeastFault.{least-none}
+use Rattle.idl_check.proofs.PartLemmas.{IsUpTo, denoted-IsUpTo}
+use Rattle.idl_check.proofs.PragmaLaws.PragmaLaws.{about_by, least-is}
+use Rattle.idl_check.proofs.Faults.SectionLaws.{sections-told}
+use Rattle.idl_check.proofs.Visits.VerdictLaws.{tree-spelled}
+use Rattle.idl_check.proofs.Faults.VisitFaults.{visit_faults, visit_further_faults, visit_name_faults, visit_unit_faults}
+use Rattle.idl_check.proofs.Visits.WalkLaws.{none-append}
+use Rattle.idl_check.proofs.Visits.WholeLaws.{none-whole}
+
+-- faults with the same least one, and none where the others are none
+abbrev pub TellsAlike : List Fault → List Fault → Type 0
+TellsAlike fs gs = (least_fault fs ≡ least_fault gs) × (fs ≡ [] → gs ≡ [])
+
+text-led : (b : Bool) (n : ℕ) (f : Fault) → f.index < n → All (Leads f) (faults_by n ((b, BadIdText) ∷ []))
+text-led true n f lt = All-cons (Leads f) (fault_at n BadIdText) [] (leads-later f (fault_at n BadIdText) lt) (All-nil (Leads f))
+text-led false n f lt = All-nil (Leads f)
+
+-- a fault at the name counts before that of the text
+text-behind : (at : ℕ) (text : List ℕ) (f : Fault) → f.index ≤ at → TellsAlike (f ∷ []) (f ∷ text_faults at text)
+text-behind at text f le =
+    (sym (alike-led f (text_faults at text) (text-led (not (is_id text)) (at + 1) f (omega (arith, le))) None), λ none. cc)
+
+module _ (turns : ℕ) (answers : Key → Option Answer) where
+  -- ---- units of tokens
+
+  sites-tell : (tokens : List Token) (tree : Tree) → lexemes tokens ≡ spell tree → length tokens < 2 ^ 64 → (scopes : List Scope)
+      → AreAlike (visit_faults turns answers (items (unit_parts tree)) (first_walk scopes)) (site_faults turns answers (items (unit_parts tree)) (first_walk scopes))
+  sites-tell tokens tree spelled fits scopes =
+      let b = (unit-whole tree).bracketed in
+      let w = first_walk scopes in
+      let count : items_length (items (unit_parts tree)) ≡ length tokens = counted (unit_parts tree) ∙ ap length (unit_spells tree) ∙ sym (ap length spelled) ∙ length-map tokens lexeme_of in
+      let same : items_length (flat_map section_sites b.sections) ≡ items_length (items (unit_parts tree)) = ap items_length (sym b.are) in
+      subst (λ xs. AreAlike (visit_faults turns answers xs w) (site_faults turns answers xs w)) (sym b.are)
+      (sections-told turns answers b.sections b.formed w refl refl (omega (arith, same, count, fits)))
+
+  names-none : (scopes : List Scope) (tree : Tree) → visit_name_faults turns answers scopes tree ≡ [] → name_faults turns answers scopes tree ≡ []
+  names-none scopes tree h =
+      let m = cond (is_misplaced tree scopes) (fault_at 0 MisplacedUnit ∷ []) [] in
+      let parts = none-append m (visit_faults turns answers (items (unit_parts tree)) (first_walk scopes)) h in
+      ap (λ fs. fs ++ site_faults turns answers (items (unit_parts tree)) (first_walk scopes)) parts.0
+      ∙ none-whole turns answers (items (unit_parts tree)) (first_walk scopes) parts.1
+
+  -- by the tree
+  abbrev told_by : List Scope → Result Tree ℕ → List Fault
+  told_by scopes r = elim r [ Err place ↦ fault_at place NoTree ∷ [] | Ok tree ↦ visit_name_faults turns answers scopes tree ]
+
+  abbrev all_by : List Scope → Result Tree ℕ → List Fault
+  all_by scopes r = elim r [ Err place ↦ fault_at place NoTree ∷ [] | Ok tree ↦ name_faults turns answers scopes tree ]
+
+  further-least : (tokens : List Token) → length tokens < 2 ^ 64 → (scopes : List Scope) (r : Result Tree ℕ) → tree_of tokens ≡ r → least_fault (told_by scopes r) ≡ least_fault (all_by scopes r)
+  further-least tokens fits scopes (Err place) h = refl
+  further-least tokens fits scopes (Ok tree) h =
+      let m = cond (is_misplaced tree scopes) (fault_at 0 MisplacedUnit ∷ []) [] in
+      alike-append m m (visit_faults turns answers (items (unit_parts tree)) (first_walk scopes)) (site_faults turns answers (items (unit_parts tree)) (first_walk scopes))
+      (λ o. refl) (sites-tell tokens tree (tree-spelled tokens tree h) fits scopes) None
+
+  further-none : (scopes : List Scope) (r : Result Tree ℕ) → told_by scopes r ≡ [] → all_by scopes r ≡ []
+  further-none scopes (Err place) h = cc
+  further-none scopes (Ok tree) h = names-none scopes tree h
+
+  else-least : (fs gs hs : List Fault) → least_fault gs ≡ least_fault hs → least_fault (or_else turns answers fs gs) ≡ least_fault (or_else turns answers fs hs)
+  else-least [] gs hs h = h
+  else-least (f ∷ fs) gs hs h = refl
+
+  else-none : (fs gs hs : List Fault) → (gs ≡ [] → hs ≡ []) → or_else turns answers fs gs ≡ [] → or_else turns answers fs hs ≡ []
+  else-none [] gs hs h none = h none
+  else-none (f ∷ fs) gs hs h none = cc
+
+  -- ---- pragmas
+
+  module _ (name : ScopedName) (text : List ℕ) where
+    abbrev at : ℕ
+    at = last_at 2 name
+
+    entity-tells : (e : Entity) (b : Bool)
+        → TellsAlike (outcome (about_by turns answers [] 0 at (id_faults at text) (given text) e b) answers).faults
+        (cond b (outcome (about_by turns answers [] 0 at (id_faults at text) (given text) e b) answers).faults (fault_at at NoRepositoryId ∷ text_faults at text))
+    entity-tells e true = (refl, λ none. none)
+    entity-tells e false = text-behind at text (fault_at at NoRepositoryId) (omega arith)
+
+    given-tell : (r : Result Found NameFault) → IsUpTo (length name.rest) r
+        → TellsAlike (outcome (by_result r (λ found. about at (id_faults at text) (given text) found.entity) (λ fault. Done (refused_for (unnamed_faults name fault)))) answers).faults
+        (given_faults turns answers name text r)
+    given-tell (Ok found) up = entity-tells found.entity (has_id found.entity.kind)
+    given-tell (Err (At why part)) up = text-behind at text (fault_at (part_at 2 name part) (name_code why)) (omega (arith, up))
+    given-tell (Err Memory) up = absurd up
+
+    id-tells : (scopes : List Scope) → TellsAlike (outcome (said turns scopes (pragma.Id name text)) answers).faults (said_faults turns answers scopes (Some (pragma.Id name text)))
+    id-tells scopes =
+        let query = denoted turns scopes name in
+        let r = outcome query answers in
+        subst (λ fs. TellsAlike fs (given_faults turns answers name text r))
+        (ap (λ (s : Said). s.faults)
+        (sym (outcome-and_then query (λ r. by_result r (λ found. about at (id_faults at text) (given text) found.entity) (λ fault. Done (refused_for (unnamed_faults name fault)))) answers)))
+        (given-tell r (denoted-IsUpTo turns answers scopes name))
+
+  said-tell : (scopes : List Scope) (p : Option Pragma) → TellsAlike (outcome (said_by turns scopes p) answers).faults (said_faults turns answers scopes p)
+  said-tell scopes None = (refl, λ none. none)
+  said-tell scopes (Some (pragma.Prefix text)) = (refl, λ none. none)
+  said-tell scopes (Some (pragma.Id name text)) = id-tells name text scopes
+  said-tell scopes (Some (pragma.Version name major minor)) = (refl, λ none. none)
+
+  -- ---- any unit
+
+  unit-least : (text : UnitText) → FitsMemory text → least_fault (visit_unit_faults turns answers text) ≡ least_fault (unit_faults turns answers text)
+  unit-least (unit.Tokens tokens) fits =
+      let scopes = scopes_in (answers Cursor) in
+      else-least (first_faults tokens scopes) (visit_further_faults turns answers tokens scopes) (further_faults turns answers tokens scopes) (further-least tokens fits scopes (tree_of tokens) refl)
+  unit-least (unit.Pragma tokens inside) fits =
+      let scopes = scopes_in (answers Cursor) in
+      else-least (pragma_faults tokens inside) (outcome (said_by turns scopes (pragma_of tokens)) answers).faults (said_faults turns answers scopes (pragma_of tokens)) (said-tell scopes (pragma_of tokens)).0
+
+  unit-none : (text : UnitText) → visit_unit_faults turns answers text ≡ [] → unit_faults turns answers text ≡ []
+  unit-none (unit.Tokens tokens) =
+      let scopes = scopes_in (answers Cursor) in
+      else-none (first_faults tokens scopes) (visit_further_faults turns answers tokens scopes) (further_faults turns answers tokens scopes) (further-none scopes (tree_of tokens))
+  unit-none (unit.Pragma tokens inside) =
+      let scopes = scopes_in (answers Cursor) in
+      else-none (pragma_faults tokens inside) (outcome (said_by turns scopes (pragma_of tokens)) answers).faults (said_faults turns answers scopes (pragma_of tokens)) (said-tell scopes (pragma_of tokens)).1
+
+pub least-whole : (turns : ℕ) (text : UnitText) (answers : Key → Option Answer) → FitsMemory text → (outcome (verdict turns text) answers).fault ≡ least_fault (unit_faults turns answers text)
+least-whole turns text answers fits = least-is turns text answers ∙ unit-least turns answers text fits
+
+pub none-at-all : (turns : ℕ) (text : UnitText) (answers : Key → Option Answer) → (outcome (verdict turns text) answers).fault ≡ None → unit_faults turns answers text ≡ []
+none-at-all turns text answers h = unit-none turns answers text (least-none (visit_unit_faults turns answers text) (sym (least-is turns text answers) ∙ h))

@@ -1,0 +1,80 @@
+-- Sites are bracketed part by part.
+use Rattle.std.proofs.Common.{◌≡◌, ◌∙◌, ℕ, true, List, [], ◌∷◌, ◌++◌, append_assoc, flat_map, refl, sym, ap}
+use Rattle.std.proofs.lemmas.Grind.{flat_map-append}
+use Rattle.std.proofs.lemmas.List.{append-nil, map-append}
+use Rattle.std.proofs.lemmas.List.Elements.{All-append, All-cons, All-nil}
+use Rattle.idl_check.specs.walk.Sections.{AreBracketed, IsFormed, Single, Returned, Whole, is_single, is_tokens, section_sites}
+use Rattle.idl_site.specs.ExpressionParts.{expression_parts, value_parts}
+use Rattle.idl_site.specs.Item.{Item, item_of, items}
+use Rattle.idl_site.specs.Part.{Part, Parts, GivesBack, ValueEnds, Part as item}
+use Rattle.idl_site.specs.declared.site.Target.{Target as Purpose}
+use Rattle.idl_site.specs.declared.site.Use.{Use}
+use Rattle.idl_tree.specs.Lexeme.{Lexemes}
+use Rattle.idl_tree.specs.declared.expression.Expression.{Expression}
+use Rattle.idl_tree.specs.declared.name.ScopedName.{ScopedName}
+
+pub bracketed-none : AreBracketed []
+bracketed-none = record { sections = []; formed = All-nil IsFormed; are = refl }
+
+pub bracketed-follow : (p q : Parts) → AreBracketed (items p) → AreBracketed (items q) → AreBracketed (items (p ++ q))
+bracketed-follow p q a b =
+    let s = a.sections in
+    let t = b.sections in
+    record {
+      sections = s ++ t;
+      formed = All-append IsFormed s t a.formed b.formed;
+      are =
+          map-append item_of p q ∙ ap (λ (xs : List Item). xs ++ items q) a.are ∙ ap (λ (xs : List Item). flat_map section_sites s ++ xs) b.are
+          ∙ sym (flat_map-append section_sites s t);
+    }
+
+pub bracketed-before : (x : Part Lexemes) (p : Parts) → is_single (item_of x) ≡ true → AreBracketed (items p) → AreBracketed (items (x ∷ p))
+bracketed-before x p h b = record {
+  sections = Single (item_of x) ∷ b.sections;
+  formed = All-cons IsFormed (Single (item_of x)) b.sections h b.formed;
+  are = ap (λ (xs : List Item). item_of x ∷ xs) b.are;
+}
+
+pub bracketed-back : (x : Part Lexemes) (p : Parts) → is_tokens (item_of x) ≡ true → AreBracketed (items p) → AreBracketed (items (GivesBack ∷ x ∷ p))
+bracketed-back x p h b = record {
+  sections = Returned (item_of x) ∷ b.sections;
+  formed = All-cons IsFormed (Returned (item_of x)) b.sections h b.formed;
+  are = ap (λ (xs : List Item). item_of GivesBack ∷ item_of x ∷ xs) b.are;
+}
+
+pub bracketed-value : (way : Purpose) (e : Expression) → AreBracketed (items (value_parts way e))
+bracketed-value way e = record {
+  sections = Whole way e ∷ [];
+  formed = All-cons IsFormed (Whole way e) [] tt (All-nil IsFormed);
+  are = sym (append-nil (items (value_parts way e)));
+}
+
+-- ---- sites of tokens
+
+-- a claim on each of the two sites that are such
+pub tokens-case : (P : Item → Type 0) → ((n : ℕ) → P (item.Plain n)) → ((way : Use) (name : ScopedName) → P (item.Uses way name)) → (x : Item) → is_tokens x ≡ true → P x
+tokens-case P tokens used (item.Plain n) h = tokens n
+tokens-case P tokens used (item.Declares way name) h = cc
+tokens-case P tokens used (item.Uses way name) h = used way name
+tokens-case P tokens used (item.Says text) h = cc
+tokens-case P tokens used item.ValueBegins h = cc
+tokens-case P tokens used (item.ValueEnds way e) h = cc
+tokens-case P tokens used (item.ScopeBegins way name) h = cc
+tokens-case P tokens used item.ScopeEnds h = cc
+tokens-case P tokens used (item.TypeEnds shape) h = cc
+tokens-case P tokens used item.ArrayEnds h = cc
+tokens-case P tokens used (item.Enumerates names) h = cc
+tokens-case P tokens used (item.Switches discrete) h = cc
+tokens-case P tokens used item.Default h = cc
+tokens-case P tokens used item.GivesBack h = cc
+
+pub tokens-single : (x : Item) → is_tokens x ≡ true → is_single x ≡ true
+tokens-single = tokens-case (λ x. is_single x ≡ true) (λ n. refl) (λ way name. refl)
+
+-- ---- the sites of an expression
+
+-- behind its beginning
+pub value-sites : (way : Purpose) (e : Expression) (sites : List Item) → items (value_parts way e) ++ sites ≡ item.ValueBegins ∷ (items (expression_parts e) ++ item.ValueEnds way e ∷ sites)
+value-sites way e sites =
+    ap (λ (xs : List Item). item.ValueBegins ∷ (xs ++ sites)) (map-append item_of (expression_parts e) (ValueEnds way e ∷ []))
+    ∙ ap (λ (xs : List Item). item.ValueBegins ∷ xs) (append_assoc (items (expression_parts e)) (item.ValueEnds way e ∷ []) sites)

@@ -1,0 +1,135 @@
+-- The three steps of a verdict, run.
+use Rattle.std.proofs.Common.{◌≡◌, ℕ, true, false, cond, List, [], ◌∷◌, ◌++◌, Option, None, Some, Ok, Err, refl, sym, ap, ◌∙◌, arith, ◌≤◌}
+use Rattle.std.proofs.lemmas.Option.{same_Some}
+use Rattle.std.proofs.lemmas.List.{length-map}
+use Rattle.std.specs.Prelude.{fold, length}
+use Rattle.idl_check.proofs.Faults.LeastFault.{least-none}
+use Rattle.idl_memo.specs.Query.{Ask, Done, Tell, and_then}
+use Rattle.idl_memo.proofs.QueryLaws.{run-and_then_at}
+use Rattle.idl_check.proofs.Visits.VisitLemmas.{runs_over}
+use Rattle.idl_check.specs.walk.Placing.{faulty_step, opening_faults, step_of}
+use Rattle.idl_check.specs.tables.Rules.{is_misplaced}
+use Rattle.idl_check.specs.walk.Verdict.{asking, by_names, by_tree, faulty, first_faults, first_part, judged, misplaced, refused, sound, token_verdict, tree_of}
+use Rattle.idl_check.specs.walk.Walk.{Walk, first_walk, walk}
+use Rattle.idl_check.specs.declared.walk.verdict.Verdict.{Verdict}
+use Rattle.idl_fault.specs.declared.code.Code.TheVariants.{NoTree, MisplacedUnit}
+use Rattle.idl_lex.specs.kinds.Keywords.{folded}
+use Rattle.idl_lex.specs.tokens.Tokens.{Token}
+use Rattle.idl_env.specs.Facts.{path_around, UnitFacts}
+use Rattle.idl_env.specs.keys.Key.{key_eq}
+use Rattle.idl_scope.specs.Lookup.{Lookup, outward, under}
+use Rattle.idl_env.specs.declared.answering.answer.Answer.{Answer}
+use Rattle.idl_env.specs.declared.answering.answer.Scope.{Scope}
+use Rattle.idl_entity.specs.declared.entity.Entity.{Entity}
+use Rattle.idl_env.specs.declared.keys.key.Key.{Key}
+use Rattle.idl_env.specs.declared.keys.key.Key.TheVariants.{Nameless}
+use Rattle.idl_entity.specs.declared.kind.Kind.{Kind}
+use Rattle.idl_site.specs.Item.{items, items_length}
+use Rattle.idl_site.specs.UnitParts.{unit_parts}
+use Rattle.idl_site.proofs.UnitSpelling.{counted, unit_spells}
+use Rattle.idl_tree.specs.Lexeme.{lexeme_of, lexemes}
+use Rattle.idl_tree.specs.Unit.{spell}
+use Rattle.idl_tree.specs.declared.unit.Tree.{Tree}
+use Rattle.idl_unit.specs.Faults.{least_fault, lesser_fault}
+use Rattle.idl_unit.specs.TokenRules.{fault_at, token_faults}
+use Rattle.idl_env.specs.Turns.{HasTurnsFor, turns_for}
+use Rattle.idl_env.specs.declared.additions.addition.Step.TheVariants.{Stays}
+use Rattle.idl_unit.specs.declared.fault.Fault.{Fault}
+
+-- turns for the facts are turns for them and nothing more
+pub turns-none : (facts : List UnitFacts) (own : UnitFacts) (turns : ℕ) → own ≡ record { additions = []; step = Stays } → turns_for facts ≤ turns → HasTurnsFor facts own.additions turns
+turns-none facts own turns none h = rw none (omega (arith, h))
+
+-- a lookup under no additions
+pub under-none : {A : Type 0} (q : Lookup A) → under [] q ≡ q
+under-none (Done a) = refl
+under-none (Ask k next) = λ i. Ask k (λ v. under-none (next v) i)
+under-none (Tell x q) = ap (Tell x) (under-none q)
+
+module _ (bank : Key → Option Answer) (tokens : List Token) where
+  -- a faulty unit, by what it would open
+  abbrev refused_by : Fault → Option Kind → Lookup Verdict
+  refused_by fault o =
+      elim o [
+        | None ↦ Done (faulty fault (faulty_step tokens))
+        | Some kind ↦ Ask Nameless (λ count. Done (faulty fault (faulty_step tokens)))
+      ]
+
+-- the least of faults, with one more
+fold-more : (f g : Fault) (faults : List Fault) → fold lesser_fault f (faults ++ g ∷ []) ≡ lesser_fault (fold lesser_fault f faults) g
+fold-more f g [] = refl
+fold-more f g (h ∷ faults) = fold-more (lesser_fault f h) g faults
+
+pub least_fault-more : (faults : List Fault) (f g : Fault) → least_fault faults ≡ Some f → least_fault (faults ++ g ∷ []) ≡ Some (lesser_fault f g)
+least_fault-more [] f g h = cc
+least_fault-more (x ∷ faults) f g h = ap Some (fold-more x g faults ∙ ap (λ y. lesser_fault y g) (same_Some (fold lesser_fault x faults) f h))
+
+-- the faults of the first step, where the rules of tokens find none
+pub first_faults-opening : (tokens : List Token) (scopes : List Scope) (faults : List Fault) → least_fault (token_faults tokens) ≡ None → faults ≡ opening_faults tokens scopes
+    → first_faults tokens scopes ≡ faults
+first_faults-opening tokens scopes faults h is = λ i. least-none (token_faults tokens) h i ++ sym is i
+
+-- the sites of a unit are as many tokens as it has
+pub sites-length : (tokens : List Token) (tree : Tree) → lexemes tokens ≡ spell tree → items_length (items (unit_parts tree)) ≡ length tokens
+sites-length tokens tree h =
+    let parts = counted (unit_parts tree) in
+    let spelled = ap length (unit_spells tree) in
+    let all = ap length h in
+    omega (arith, parts, spelled, all, length-map tokens lexeme_of)
+
+-- the steps
+pub first_step : (turns : ℕ) (tokens : List Token) (scopes : List Scope) (fault : Fault) → least_fault (first_faults tokens scopes) ≡ Some fault
+    → token_verdict turns tokens scopes ≡ refused tokens fault
+first_step turns tokens scopes fault h = ap (λ o. elim o [ Some fault ↦ refused tokens fault | None ↦ by_tree turns tokens scopes ]) h
+
+pub second_step : (turns : ℕ) (tokens : List Token) (scopes : List Scope) (place : ℕ) → least_fault (first_faults tokens scopes) ≡ None
+    → tree_of tokens ≡ Err place → token_verdict turns tokens scopes ≡ refused tokens (fault_at place NoTree)
+second_step turns tokens scopes place h none =
+    ap (λ o. elim o [ Some fault ↦ refused tokens fault | None ↦ by_tree turns tokens scopes ]) h
+    ∙ ap (λ r. elim r [ Err at ↦ refused tokens (fault_at at NoTree) | Ok tree ↦ by_names turns tokens scopes tree ]) none
+
+pub third_step : (turns : ℕ) (tokens : List Token) (scopes : List Scope) (tree : Tree) → least_fault (first_faults tokens scopes) ≡ None
+    → tree_of tokens ≡ Ok tree → token_verdict turns tokens scopes ≡ by_names turns tokens scopes tree
+third_step turns tokens scopes tree h some =
+    ap (λ o. elim o [ Some fault ↦ refused tokens fault | None ↦ by_tree turns tokens scopes ]) h
+    ∙ ap (λ r. elim r [ Err at ↦ refused tokens (fault_at at NoTree) | Ok tree ↦ by_names turns tokens scopes tree ]) some
+
+-- a unit that stands where it may not
+pub is_misplaced_by : (turns : ℕ) (tokens : List Token) (scopes : List Scope) (tree : Tree) → is_misplaced tree scopes ≡ true
+    → by_names turns tokens scopes tree ≡ misplaced turns tokens scopes tree
+is_misplaced_by turns tokens scopes tree h =
+    ap (λ b. cond b (misplaced turns tokens scopes tree) (and_then (walk turns (items (unit_parts tree)) (first_walk scopes)) (λ w. judged tokens scopes tree w))) h
+
+-- and one that doesn't
+pub is_placed_by : (turns : ℕ) (tokens : List Token) (scopes : List Scope) (tree : Tree) → is_misplaced tree scopes ≡ false
+    → by_names turns tokens scopes tree ≡ and_then (walk turns (items (unit_parts tree)) (first_walk scopes)) (λ w. judged tokens scopes tree w)
+is_placed_by turns tokens scopes tree h =
+    ap (λ b. cond b (misplaced turns tokens scopes tree) (and_then (walk turns (items (unit_parts tree)) (first_walk scopes)) (λ w. judged tokens scopes tree w))) h
+
+module _ (bank : Key → Option Answer) (turns : ℕ) (tokens : List Token) (scopes : List Scope) (tree : Tree) where
+  -- what its first token asks
+  abbrev first_asks : Option (List ℕ) → Lookup (List Entity)
+  first_asks o = elim o [ None ↦ Done [] | Some name ↦ outward turns scopes (folded name) ]
+
+  pub misplaced_asking : (log : List (Key × Option Answer)) (name : List ℕ) (after : List (Key × Option Answer)) → first_part (items (unit_parts tree)) ≡ Some name
+      → after ≡ (runs_over bank (outward turns scopes (folded name)) log).1
+      → runs_over bank (misplaced turns tokens scopes tree) log ≡ runs_over bank (refused tokens (fault_at 0 MisplacedUnit)) after
+  misplaced_asking log name after h asks =
+      ap (λ o. runs_over bank (and_then (first_asks o) (λ found. refused tokens (fault_at 0 MisplacedUnit))) log) h
+      ∙ run-and_then_at key_eq (outward turns scopes (folded name)) (λ found. refused tokens (fault_at 0 MisplacedUnit)) bank log
+      (runs_over bank (outward turns scopes (folded name)) log).0 after (λ i. ((runs_over bank (outward turns scopes (folded name)) log).0, asks i))
+
+  -- a walk that comes to this, from here on
+  pub judged_from : (log : List (Key × Option Answer)) (from w : Walk) (after : List (Key × Option Answer))
+      → (w, after) ≡ runs_over bank (walk turns (items (unit_parts tree)) from) log
+      → runs_over bank (and_then (walk turns (items (unit_parts tree)) from) (λ w. judged tokens scopes tree w)) log ≡ runs_over bank (judged tokens scopes tree w) after
+  judged_from log from w after gives =
+      run-and_then_at key_eq (walk turns (items (unit_parts tree)) from) (λ w. judged tokens scopes tree w) bank log w after gives
+
+  pub judged_faulty : (w : Walk) (fault : Fault) → w.fault ≡ Some fault → judged tokens scopes tree w ≡ refused tokens fault
+  judged_faulty w fault h =
+      ap (λ o. elim o [ Some fault ↦ refused tokens fault | None ↦ asking (step_of tree (path_around scopes)) (sound tokens scopes tree w) ]) h
+
+  pub judged_sound : (w : Walk) → w.fault ≡ None → judged tokens scopes tree w ≡ asking (step_of tree (path_around scopes)) (sound tokens scopes tree w)
+  judged_sound w h =
+      ap (λ o. elim o [ Some fault ↦ refused tokens fault | None ↦ asking (step_of tree (path_around scopes)) (sound tokens scopes tree w) ]) h

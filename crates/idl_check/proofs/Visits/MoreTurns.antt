@@ -1,0 +1,301 @@
+-- More turns than the facts before a unit need change neither its verdict nor what is logged for it.
+use Rattle.std.proofs.Common.{◌≡◌, ◌∙◌, ℕ, suc, ◌+◌, ◌≤◌, Bool, true, false, cond, List, [], ◌∷◌, ◌++◌, Option, None, Some, Result, Ok, Err, is_some, refl, sym, ap, arith, length-append}
+use Rattle.std.specs.List.{list_any}
+use Rattle.idl_memo.specs.Query.{Ask, Done, and_then, noted, run}
+use Rattle.idl_memo.proofs.QueryLaws.{run-and_then_at}
+use Rattle.idl_check.proofs.Visits.JudgeLemmas.{under-none}
+use Rattle.idl_check.proofs.TypeLemmas.{behind-same}
+use Rattle.idl_check.proofs.Visits.VisitLemmas.{turns-here}
+use Rattle.idl_check.specs.tables.Declaring.{entity_of, inherited, standing}
+use Rattle.idl_check.specs.ids.Identifying.{ids_of}
+use Rattle.idl_check.specs.ids.Pragmas.{said_by}
+use Rattle.idl_check.specs.told.Types.{behind_typedefs, is_looked_through, looked_through}
+use Rattle.idl_check.specs.walk.Verdict.{by_names, by_tree, faulty, first_faults, first_part, judged, misplaced, pragma_judged, pragma_verdict, refused, token_verdict, tree_of, verdict}
+use Rattle.idl_check.specs.walk.Walk.{Visit, Walk, declared_visit, first_walk, given_back, head_of, head_visit, is_over, noted_in, passed, past_name, quiet, turns_at, unfound_visit, used, used_visit, visit, walk, with_oneway}
+use Rattle.idl_check.specs.tables.Rules.{is_misplaced}
+use Rattle.idl_check.specs.declared.tables.standing.Standing.{Standing}
+use Rattle.idl_check.specs.declared.walk.verdict.Verdict.{Verdict}
+use Rattle.idl_fault.specs.declared.code.Code.TheVariants.{NoTree, MisplacedUnit}
+use Rattle.idl_lex.specs.kinds.Keywords.{folded}
+use Rattle.idl_lex.specs.tokens.Tokens.{Token}
+use Rattle.idl_scope.proofs.LookupLaws.LookupLaws.{denoted-more, outward-more, reached-more, seen-declared}
+use Rattle.idl_scope.proofs.LookupLaws.RunLemmas.{runs, seen_at}
+use Rattle.idl_scope.proofs.LookupLaws.TurnsLaws.{AreSame, and_then-same as under-same}
+use Rattle.idl_entity.specs.Entity.{is_operation}
+use Rattle.idl_env.specs.Facts.{UnitFacts, answers, entity_in, entity_key, scopes_in}
+use Rattle.idl_env.specs.keys.Key.{key_eq}
+use Rattle.idl_entity.specs.Kind.{inherits}
+use Rattle.idl_scope.specs.Lookup.{Lookup, bases_of, by_result, denoted, outward, reached, under}
+use Rattle.idl_entity.specs.Path.{name_of}
+use Rattle.idl_env.specs.Turns.{HasTurnsFor, declared_among, declared_named, turns_for}
+use Rattle.idl_env.specs.declared.additions.addition.Step.TheVariants.{Stays}
+use Rattle.idl_env.specs.declared.answering.answer.Answer.{Answer}
+use Rattle.idl_env.specs.declared.answering.answer.Scope.{Scope}
+use Rattle.idl_entity.specs.declared.entity.Entity.{Entity}
+use Rattle.idl_scope.specs.declared.fault.NameFault.{NameFault}
+use Rattle.idl_scope.specs.declared.found.Found.{Found}
+use Rattle.idl_env.specs.declared.keys.key.Key.{Key}
+use Rattle.idl_env.specs.declared.keys.key.Key.TheVariants.{Cursor, Declared, Introduced}
+use Rattle.idl_site.specs.Item.{Item, items}
+use Rattle.idl_site.specs.Part.{Part as item}
+use Rattle.idl_site.specs.UnitParts.{unit_parts}
+use Rattle.idl_site.specs.declared.site.Declaration.{Declaration}
+use Rattle.idl_site.specs.declared.site.Use.{Use}
+use Rattle.idl_syntax.specs.Parse.{pragma_faults}
+use Rattle.idl_tree.specs.Pragma.{pragma_of}
+use Rattle.idl_tree.specs.declared.name.ScopedName.{ScopedName}
+use Rattle.idl_tree.specs.declared.pragma.Pragma.{Pragma}
+use Rattle.idl_tree.specs.declared.pragma.Pragma.TheVariants as pragma
+use Rattle.idl_tree.specs.declared.unit.Tree.{Tree}
+use Rattle.idl_unit.specs.Faults.{least_fault}
+use Rattle.idl_unit.specs.TokenRules.{fault_at, first}
+use Rattle.idl_unit.specs.declared.fault.Fault.{Fault}
+use Rattle.idl_unit.specs.declared.unit.UnitText.{UnitText}
+use Rattle.idl_unit.specs.declared.unit.UnitText.TheVariants as unit
+
+module _ (facts : List UnitFacts) (turns : ℕ) (enough : turns_for facts ≤ turns) (extra : ℕ) where
+  -- two queries that give the same and log the same, over any log
+  abbrev Same : {A : Type 0} → Lookup A → Lookup A → Type 0
+  Same q r = (log : List (Key × Option Answer)) → run key_eq q (answers facts) log ≡ run key_eq r (answers facts) log
+
+  and_then-same : {A B : Type 0} (q r : Lookup A) (f h : A → Lookup B) → Same q r → ((a : A) → Same (f a) (h a)) → Same (and_then q f) (and_then r h)
+  and_then-same q r f h one on log =
+      let a = (run key_eq q (answers facts) log).0 in
+      let after = (run key_eq q (answers facts) log).1 in
+      run-and_then_at key_eq q f (answers facts) log a after refl
+      ∙ on a after
+      ∙ sym (run-and_then_at key_eq r h (answers facts) log a after (one log))
+
+  -- ---- under what the unit's earlier tokens add
+
+  module _ (w : Walk) where
+    moved : turns_at (turns + extra) w ≡ turns_at turns w + extra
+    moved = omega arith
+
+    here : HasTurnsFor facts w.own (turns_at turns w)
+    here = turns-here facts w.own turns enough
+
+    denoted_at : (cursor : List Scope) (name : ScopedName) → Same (under w.own (denoted (turns_at (turns + extra) w) cursor name)) (under w.own (denoted (turns_at turns w) cursor name))
+    denoted_at cursor name log =
+        ap (λ n. run key_eq (under w.own (denoted n cursor name)) (answers facts) log) moved
+        ∙ denoted-more facts w.own (turns_at turns w) here extra cursor name log
+
+    inherited_at : (s : Scope) (n : List ℕ) → AreSame w.own (answers facts) (inherited (turns_at (turns + extra) w) s n) (inherited (turns_at turns w) s n)
+    inherited_at s n log = by_kind (inherits s.kind)
+      where
+        by_kind : (b : Bool) → runs w.own (answers facts) (cond b (Ask (entity_key s.path) (λ scope. reached (turns_at (turns + extra) w) n (bases_of (entity_in scope)))) (Done [])) log
+            ≡ runs w.own (answers facts) (cond b (Ask (entity_key s.path) (λ scope. reached (turns_at turns w) n (bases_of (entity_in scope)))) (Done [])) log
+        by_kind true =
+            let there = bases_of (entity_in (seen_at w.own (answers facts) (entity_key s.path))) in
+            ap (λ t. runs w.own (answers facts) (reached t n there) (noted key_eq (answers facts) log (entity_key s.path))) moved
+            ∙ reached-more facts w.own (turns_at turns w) here extra n s.path (noted key_eq (answers facts) log (entity_key s.path))
+        by_kind false = refl
+
+    standing_at : (s : Scope) (e : Entity) → Same (under w.own (standing (turns_at (turns + extra) w) s e)) (under w.own (standing (turns_at turns w) s e))
+    standing_at s e log =
+        let n = folded (name_of e.path) in
+        let seen = seen_at w.own (answers facts) in
+        let there = entity_in (seen (Declared n s.path)) in
+        let told : List Entity → Lookup Standing = λ found. and_then (ids_of there e) (λ ids. Done (record {
+          there = there;
+          is_used = is_some (seen (Introduced n s.path s.body));
+          is_inherited = list_any is_operation found;
+          ids = ids;
+        })) in
+        under-same w.own (answers facts) (inherited (turns_at (turns + extra) w) s n) (inherited (turns_at turns w) s n) told told
+        (inherited_at s n) (λ found log. refl)
+        (noted key_eq (answers facts) (noted key_eq (answers facts) log (Declared n s.path)) (Introduced n s.path s.body))
+
+    looked_at : (way : Use) (e : Entity) → Same (under w.own (looked_through (turns_at (turns + extra) w) way e)) (under w.own (looked_through (turns_at turns w) way e))
+    unfolding looked_through
+    looked_at way e log = by_way (is_looked_through way)
+      where
+        places : List (List (List ℕ))
+        places = declared_named facts ++ declared_among w.own
+
+        by_way : (b : Bool) → runs w.own (answers facts) (cond b (behind_typedefs (suc (turns_at (turns + extra) w)) e e) (Done e)) log
+            ≡ runs w.own (answers facts) (cond b (behind_typedefs (suc (turns_at turns w)) e e) (Done e)) log
+        by_way true =
+            let l = length-append (declared_named facts) (declared_among w.own) in
+            behind-same w.own (answers facts) e places (seen-declared facts w.own) (suc (turns_at (turns + extra) w)) (suc (turns_at turns w)) e log
+            (omega (arith, l, enough)) (omega (arith, l, enough))
+        by_way false = refl
+
+    used_at : (way : Use) (name : ScopedName) → Same (used (turns + extra) way name w) (used turns way name w)
+    unfolding used
+    used_at way name =
+        and_then-same (under w.own (denoted (turns_at (turns + extra) w) w.cursor name)) (under w.own (denoted (turns_at turns w) w.cursor name)) (on (turns + extra)) (on turns)
+        (denoted_at w.cursor name) goes
+      where
+        on : ℕ → Result Found NameFault → Lookup Visit
+        on t r = by_result r
+            (λ found. and_then (under w.own (looked_through (turns_at t w) way found.entity)) (λ behind. Done (used_visit w way name found behind)))
+            (λ fault. Done (unfound_visit w way name fault))
+
+        goes : (r : Result Found NameFault) → Same (on (turns + extra) r) (on turns r)
+        goes (Ok found) =
+            and_then-same (under w.own (looked_through (turns_at (turns + extra) w) way found.entity)) (under w.own (looked_through (turns_at turns w) way found.entity))
+            (λ behind. Done (used_visit w way name found behind)) (λ behind. Done (used_visit w way name found behind))
+            (looked_at way found.entity) (λ behind log. refl)
+        goes (Err fault) = λ log. refl
+
+    given_at : (way : Use) (name : ScopedName) → Same (given_back (turns + extra) way name w) (given_back turns way name w)
+    unfolding given_back
+    given_at way name log = by_global name.is_global
+      where
+        parts : ℕ → List (List ℕ) → Lookup Visit
+        parts t rest = elim rest as (λ _. Lookup Visit) [
+          | [] ↦ and_then (used t way name w) (λ v. Done (with_oneway w.at v))
+          | part ∷ more ↦ and_then (under w.own (denoted (turns_at t w) w.cursor (head_of name))) (λ r. Done (with_oneway w.at (head_visit name w r)))
+        ]
+
+        by_parts : (rest : List (List ℕ)) → Same (parts (turns + extra) rest) (parts turns rest)
+        by_parts [] =
+            and_then-same (used (turns + extra) way name w) (used turns way name w) (λ v. Done (with_oneway w.at v)) (λ v. Done (with_oneway w.at v)) (used_at way name) (λ v log. refl)
+        by_parts (part ∷ more) =
+            and_then-same (under w.own (denoted (turns_at (turns + extra) w) w.cursor (head_of name))) (under w.own (denoted (turns_at turns w) w.cursor (head_of name)))
+            (λ r. Done (with_oneway w.at (head_visit name w r))) (λ r. Done (with_oneway w.at (head_visit name w r)))
+            (denoted_at w.cursor (head_of name)) (λ r log. refl)
+
+        by_global : (b : Bool) → run key_eq (cond b (Done (with_oneway w.at (quiet (past_name name w)))) (parts (turns + extra) name.rest)) (answers facts) log
+            ≡ run key_eq (cond b (Done (with_oneway w.at (quiet (past_name name w)))) (parts turns name.rest)) (answers facts) log
+        by_global true = refl
+        by_global false = by_parts name.rest log
+
+    declared_at : (way : Declaration) (name : List ℕ) → Same (visit (turns + extra) (item.Declares way name) w) (visit turns (item.Declares way name) w)
+    unfolding visit
+    declared_at way name log = by_first (first w.cursor)
+      where
+        declaring : ℕ → Option Scope → Lookup Visit
+        declaring t o = elim o as (λ _. Lookup Visit) [
+          | None ↦ Done (quiet (passed 1 w))
+          | Some s ↦ and_then (under w.own (standing (turns_at t w) s (entity_of w.written way name s.path)))
+              (λ there. Done (declared_visit w way s (entity_of w.written way name s.path) there))
+        ]
+
+        by_first : (o : Option Scope) → run key_eq (declaring (turns + extra) o) (answers facts) log ≡ run key_eq (declaring turns o) (answers facts) log
+        by_first None = refl
+        by_first (Some s) =
+            let e = entity_of w.written way name s.path in
+            and_then-same (under w.own (standing (turns_at (turns + extra) w) s e)) (under w.own (standing (turns_at turns w) s e))
+            (λ there. Done (declared_visit w way s e there)) (λ there. Done (declared_visit w way s e there))
+            (standing_at s e) (λ there log. refl) log
+
+    used_name_at : (way : Use) (name : ScopedName) → Same (visit (turns + extra) (item.Uses way name) w) (visit turns (item.Uses way name) w)
+    unfolding visit
+    used_name_at way name log = by_given w.gives_back
+      where
+        by_given : (b : Bool) → run key_eq (cond b (given_back (turns + extra) way name w) (used (turns + extra) way name w)) (answers facts) log
+            ≡ run key_eq (cond b (given_back turns way name w) (used turns way name w)) (answers facts) log
+        by_given true = given_at way name log
+        by_given false = used_at way name log
+
+    pub visit-same : (site : Item) → Same (visit (turns + extra) site w) (visit turns site w)
+    unfolding visit
+    visit-same (item.Declares way name) = declared_at way name
+    visit-same (item.Uses way name) = used_name_at way name
+    visit-same other = λ log. refl
+
+  -- ---- a unit
+
+  walk-same : (sites : List Item) (w : Walk) → Same (walk (turns + extra) sites w) (walk turns sites w)
+  unfolding walk
+  walk-same [] w log = refl
+  walk-same (site ∷ sites) w log = by_over (is_over w) (λ v. walk-same sites (noted_in v w.fault))
+    where
+      by_over : (b : Bool) → ((v : Visit) → Same (walk (turns + extra) sites (noted_in v w.fault)) (walk turns sites (noted_in v w.fault)))
+          → run key_eq (cond b (Done w) (and_then (visit (turns + extra) site w) (λ v. walk (turns + extra) sites (noted_in v w.fault)))) (answers facts) log
+          ≡ run key_eq (cond b (Done w) (and_then (visit turns site w) (λ v. walk turns sites (noted_in v w.fault)))) (answers facts) log
+      by_over true on = refl
+      by_over false on =
+          and_then-same (visit (turns + extra) site w) (visit turns site w) (λ v. walk (turns + extra) sites (noted_in v w.fault)) (λ v. walk turns sites (noted_in v w.fault))
+          (visit-same w site) on log
+
+  bare : HasTurnsFor facts [] turns
+  bare = omega (arith, enough)
+
+  outward-plain : (scopes : List Scope) (n : List ℕ) → Same (outward (turns + extra) scopes n) (outward turns scopes n)
+  outward-plain scopes n log =
+      ap (λ q. run key_eq q (answers facts) log) (sym (under-none (outward (turns + extra) scopes n)))
+      ∙ outward-more facts [] turns bare extra scopes n log
+      ∙ ap (λ q. run key_eq q (answers facts) log) (under-none (outward turns scopes n))
+
+  denoted-plain : (scopes : List Scope) (name : ScopedName) → Same (denoted (turns + extra) scopes name) (denoted turns scopes name)
+  denoted-plain scopes name log =
+      ap (λ q. run key_eq q (answers facts) log) (sym (under-none (denoted (turns + extra) scopes name)))
+      ∙ denoted-more facts [] turns bare extra scopes name log
+      ∙ ap (λ q. run key_eq q (answers facts) log) (under-none (denoted turns scopes name))
+
+  misplaced-same : (tokens : List Token) (scopes : List Scope) (tree : Tree) → Same (misplaced (turns + extra) tokens scopes tree) (misplaced turns tokens scopes tree)
+  misplaced-same tokens scopes tree =
+      and_then-same (there (turns + extra) (first_part (items (unit_parts tree)))) (there turns (first_part (items (unit_parts tree))))
+      (λ found. refused tokens (fault_at 0 MisplacedUnit)) (λ found. refused tokens (fault_at 0 MisplacedUnit))
+      (by_part (first_part (items (unit_parts tree)))) (λ found log. refl)
+    where
+      there : ℕ → Option (List ℕ) → Lookup (List Entity)
+      there t o = elim o as (λ _. Lookup (List Entity)) [ None ↦ Done [] | Some name ↦ outward t scopes (folded name) ]
+
+      by_part : (o : Option (List ℕ)) → Same (there (turns + extra) o) (there turns o)
+      by_part None = λ log. refl
+      by_part (Some name) = outward-plain scopes (folded name)
+
+  by_names-same : (tokens : List Token) (scopes : List Scope) (tree : Tree) → Same (by_names (turns + extra) tokens scopes tree) (by_names turns tokens scopes tree)
+  by_names-same tokens scopes tree log = by_place (is_misplaced tree scopes)
+    where
+      walked : ℕ → Lookup Verdict
+      walked t = and_then (walk t (items (unit_parts tree)) (first_walk scopes)) (λ w. judged tokens scopes tree w)
+
+      by_place : (b : Bool) → run key_eq (cond b (misplaced (turns + extra) tokens scopes tree) (walked (turns + extra))) (answers facts) log
+          ≡ run key_eq (cond b (misplaced turns tokens scopes tree) (walked turns)) (answers facts) log
+      by_place true = misplaced-same tokens scopes tree log
+      by_place false =
+          and_then-same (walk (turns + extra) (items (unit_parts tree)) (first_walk scopes)) (walk turns (items (unit_parts tree)) (first_walk scopes))
+          (λ w. judged tokens scopes tree w) (λ w. judged tokens scopes tree w) (walk-same (items (unit_parts tree)) (first_walk scopes)) (λ w log. refl) log
+
+  by_tree-same : (tokens : List Token) (scopes : List Scope) → Same (by_tree (turns + extra) tokens scopes) (by_tree turns tokens scopes)
+  by_tree-same tokens scopes log = by_spelling (tree_of tokens)
+    where
+      read : ℕ → Result Tree ℕ → Lookup Verdict
+      read t r = elim r as (λ _. Lookup Verdict) [ Err place ↦ refused tokens (fault_at place NoTree) | Ok tree ↦ by_names t tokens scopes tree ]
+
+      by_spelling : (r : Result Tree ℕ) → run key_eq (read (turns + extra) r) (answers facts) log ≡ run key_eq (read turns r) (answers facts) log
+      by_spelling (Err place) = refl
+      by_spelling (Ok tree) = by_names-same tokens scopes tree log
+
+  token_verdict-same : (tokens : List Token) (scopes : List Scope) → Same (token_verdict (turns + extra) tokens scopes) (token_verdict turns tokens scopes)
+  token_verdict-same tokens scopes log = by_fault (least_fault (first_faults tokens scopes))
+    where
+      checked : ℕ → Option Fault → Lookup Verdict
+      checked t o = elim o as (λ _. Lookup Verdict) [ Some fault ↦ refused tokens fault | None ↦ by_tree t tokens scopes ]
+
+      by_fault : (o : Option Fault) → run key_eq (checked (turns + extra) o) (answers facts) log ≡ run key_eq (checked turns o) (answers facts) log
+      by_fault (Some fault) = refl
+      by_fault None = by_tree-same tokens scopes log
+
+  said_by-same : (scopes : List Scope) (o : Option Pragma) → Same (said_by (turns + extra) scopes o) (said_by turns scopes o)
+  said_by-same scopes None = λ log. refl
+  said_by-same scopes (Some (pragma.Prefix text)) = λ log. refl
+  said_by-same scopes (Some (pragma.Id name text)) =
+      and_then-same (denoted (turns + extra) scopes name) (denoted turns scopes name) _ _ (denoted-plain scopes name) (λ r log. refl)
+  said_by-same scopes (Some (pragma.Version name major minor)) =
+      and_then-same (denoted (turns + extra) scopes name) (denoted turns scopes name) _ _ (denoted-plain scopes name) (λ r log. refl)
+
+  pragma_judged-same : (tokens : List Token) (inside : Bool) (scopes : List Scope) → Same (pragma_judged (turns + extra) tokens inside scopes) (pragma_judged turns tokens inside scopes)
+  pragma_judged-same tokens inside scopes log = by_fault (least_fault (pragma_faults tokens inside))
+    where
+      spoken : ℕ → Option Fault → Lookup Verdict
+      spoken t o = elim o as (λ _. Lookup Verdict) [
+        | Some fault ↦ Done (faulty fault Stays)
+        | None ↦ and_then (said_by t scopes (pragma_of tokens)) (λ s. Done (pragma_verdict s))
+      ]
+
+      by_fault : (o : Option Fault) → run key_eq (spoken (turns + extra) o) (answers facts) log ≡ run key_eq (spoken turns o) (answers facts) log
+      by_fault (Some fault) = refl
+      by_fault None =
+          and_then-same (said_by (turns + extra) scopes (pragma_of tokens)) (said_by turns scopes (pragma_of tokens)) (λ s. Done (pragma_verdict s)) (λ s. Done (pragma_verdict s))
+          (said_by-same scopes (pragma_of tokens)) (λ s log. refl) log
+
+  pub verdict-same : (text : UnitText) → Same (verdict (turns + extra) text) (verdict turns text)
+  unfolding verdict
+  verdict-same (unit.Tokens tokens) log = token_verdict-same tokens (scopes_in (answers facts Cursor)) (noted key_eq (answers facts) log Cursor)
+  verdict-same (unit.Pragma tokens inside) log = pragma_judged-same tokens inside (scopes_in (answers facts Cursor)) (noted key_eq (answers facts) log Cursor)

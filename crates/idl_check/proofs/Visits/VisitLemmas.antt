@@ -1,0 +1,185 @@
+-- Runs of a walk and of its sites.
+use Rattle.std.proofs.Common.{◌≡◌, ◌∙◌, ℕ, true, false, cond, List, [], ◌∷◌, Option, None, Some, Result, Ok, Err, refl, sym, ap, ◌+◌, ◌≤◌, arith}
+use Rattle.std.specs.Prelude.{Bool, OnOk, slice_get}
+use Rattle.idl_memo.specs.Query.{Done, and_then, run}
+use Rattle.idl_memo.proofs.QueryLaws.{run-and_then, run-and_then_at}
+use Rattle.idl_check.specs.walk.Held.{given_noted, head_noted, used_noted, visited}
+use Rattle.idl_check.specs.tables.Declaring.{entity_of, standing}
+use Rattle.idl_check.specs.told.Types.{looked_through}
+use Rattle.idl_check.specs.walk.Walk.{turns_at, Visit, Walk, past_name, declared_visit, given_back, head_of, head_visit, is_over, noted_in, passed, quiet, unfound_visit, used, used_visit, visit, walk, with_oneway}
+use Rattle.idl_check.specs.declared.tables.standing.Standing.{Standing}
+use Rattle.idl_env.specs.keys.Key.{key_eq}
+use Rattle.idl_scope.specs.Lookup.{Lookup, by_result, denoted, under}
+use Rattle.idl_env.specs.declared.answering.answer.Answer.{Answer}
+use Rattle.idl_env.specs.declared.answering.answer.Scope.{Scope}
+use Rattle.idl_entity.specs.declared.entity.Entity.{Entity}
+use Rattle.idl_scope.specs.declared.fault.NameFault.{NameFault}
+use Rattle.idl_scope.specs.declared.found.Found.{Found}
+use Rattle.idl_env.specs.declared.keys.key.Key.{Key}
+use Rattle.idl_site.specs.Item.{Item}
+use Rattle.idl_site.specs.Part.{Part as item}
+use Rattle.idl_site.specs.declared.site.Declaration.{Declaration}
+use Rattle.idl_site.specs.declared.site.Use.{Use}
+use Rattle.idl_tree.specs.declared.name.ScopedName.{ScopedName}
+use Rattle.idl_unit.specs.TokenRules.{first}
+use Rattle.idl_unit.specs.declared.fault.Fault.{Fault}
+use Rattle.idl_env.specs.Facts.{UnitFacts}
+use Rattle.idl_env.specs.Turns.{HasTurnsFor, turns_among, turns_for}
+use Rattle.idl_env.specs.declared.additions.addition.Addition.{Addition}
+use Rattle.idl_check.proofs.Faults.NotedLemmas.{noted_in-one_way, one_way}
+
+-- turns for the facts before a unit are, with those for its tokens so far, turns for both
+pub turns-here : (facts : List UnitFacts) (own : List Addition) (turns : ℕ) → turns_for facts ≤ turns → HasTurnsFor facts own (turns + turns_among own)
+turns-here facts own turns h = omega (arith, h)
+
+-- the innermost of scopes
+pub first-at : {A : Type 0} (xs : List A) → first xs ≡ slice_get xs 0
+first-at [] = refl
+first-at (x ∷ xs) = refl
+
+-- what always holds, holds on success
+pub OnOk-always : {T E P : Type 0} (r : Result T E) → P → OnOk r P
+OnOk-always (Ok x) p = p
+OnOk-always (Err e) p = tt
+
+module _ (bank : Key → Option Answer) where
+  -- a run over a bank
+  abbrev pub runs_over : {A : Type 0} → Lookup A → List (Key × Option Answer) → A × List (Key × Option Answer)
+  runs_over q log = run key_eq q bank log
+
+  -- a site by what it asks
+  pub visited_by : {X : Type 0} (q : Lookup X) (g : X → Visit) (fault : Option Fault) (log : List (Key × Option Answer)) (x : X) (after : List (Key × Option Answer))
+      → (x, after) ≡ runs_over q log
+      → runs_over (and_then (and_then q (λ x. Done (g x))) (λ v. Done (noted_in v fault))) log ≡ (noted_in (g x) fault, after)
+  visited_by q g fault log x after h =
+      run-and_then_at key_eq (and_then q (λ x. Done (g x))) (λ v. Done (noted_in v fault)) bank log (g x) after
+      (sym (run-and_then_at key_eq q (λ x. Done (g x)) bank log x after h))
+
+  -- and one in a scope, by what stands there under it
+  pub declared_in : (turns : ℕ) (way : Declaration) (name : List ℕ) (w : Walk) (log : List (Key × Option Answer)) (s : Scope) (there : Standing) (after : List (Key × Option Answer))
+      → first w.cursor ≡ Some s → (there, after) ≡ runs_over (under w.own (standing (turns_at turns w) s (entity_of w.written way name s.path))) log
+      → runs_over (visited turns (item.Declares way name) w) log ≡ (noted_in (declared_visit w way s (entity_of w.written way name s.path) there) w.fault, after)
+  unfolding visit
+  declared_in turns way name w log s there after h gives =
+      ap (λ o. runs_over (and_then (elim o [
+        | None ↦ Done (quiet (passed 1 w))
+        | Some s ↦ and_then (under w.own (standing (turns_at turns w) s (entity_of w.written way name s.path)))
+            (λ there. Done (declared_visit w way s (entity_of w.written way name s.path) there))
+      ]) (λ v. Done (noted_in v w.fault))) log) h
+      ∙ visited_by (under w.own (standing (turns_at turns w) s (entity_of w.written way name s.path))) (declared_visit w way s (entity_of w.written way name s.path)) w.fault log there after gives
+
+  -- a used name, by what it denotes and what stands behind that
+  abbrev by_found : ℕ → Use → ScopedName → Walk → Result Found NameFault → Lookup Visit
+  by_found turns way name w r =
+      by_result r
+      (λ found. and_then (under w.own (looked_through (turns_at turns w) way found.entity)) (λ behind. Done (used_visit w way name found behind)))
+      (λ fault. Done (unfound_visit w way name fault))
+
+  pub used_by : (turns : ℕ) (way : Use) (name : ScopedName) (w : Walk) (log : List (Key × Option Answer)) (found : Found) (middle : List (Key × Option Answer)) (behind : Entity) (after : List (Key × Option Answer))
+      → (Ok found, middle) ≡ runs_over (under w.own (denoted (turns_at turns w) w.cursor name)) log
+      → (behind, after) ≡ runs_over (under w.own (looked_through (turns_at turns w) way found.entity)) middle
+      → runs_over (used_noted turns way name w) log ≡ (noted_in (used_visit w way name found behind) w.fault, after)
+  unfolding used
+  used_by turns way name w log found middle behind after gives through =
+      let found_by = under w.own (denoted (turns_at turns w) w.cursor name) in
+      let behind_by = under w.own (looked_through (turns_at turns w) way found.entity) in
+      run-and_then_at key_eq (and_then found_by (by_found turns way name w)) (λ v. Done (noted_in v w.fault)) bank log (used_visit w way name found behind) after
+      (sym (run-and_then_at key_eq found_by (by_found turns way name w) bank log (Ok found) middle gives
+      ∙ run-and_then_at key_eq behind_by (λ b. Done (used_visit w way name found b)) bank middle behind after through))
+
+  -- and one that denotes nothing
+  pub unfound_by : (turns : ℕ) (way : Use) (name : ScopedName) (w : Walk) (log : List (Key × Option Answer)) (fault : NameFault) (after : List (Key × Option Answer))
+      → (Err fault, after) ≡ runs_over (under w.own (denoted (turns_at turns w) w.cursor name)) log
+      → runs_over (used_noted turns way name w) log ≡ (noted_in (unfound_visit w way name fault) w.fault, after)
+  unfolding used
+  unfound_by turns way name w log fault after gives =
+      let found_by = under w.own (denoted (turns_at turns w) w.cursor name) in
+      run-and_then_at key_eq (and_then found_by (by_found turns way name w)) (λ v. Done (noted_in v w.fault)) bank log (unfound_visit w way name fault) after
+      (sym (run-and_then_at key_eq found_by (by_found turns way name w) bank log (Err fault) after gives))
+
+  -- one that isn't given back by a oneway operation
+  pub named_plain : (turns : ℕ) (way : Use) (name : ScopedName) (w : Walk) (log : List (Key × Option Answer)) → w.gives_back ≡ false
+      → runs_over (visited turns (item.Uses way name) w) log ≡ runs_over (used_noted turns way name w) log
+  unfolding visit
+  named_plain turns way name w log h = ap (λ b. runs_over (and_then (cond b (given_back turns way name w) (used turns way name w)) (λ v. Done (noted_in v w.fault))) log) h
+
+  -- what is given back, by the same without that
+  one_way_by : {X : Type 0} (q : Lookup X) (g : X → Visit) (at : ℕ) (fault : Option Fault) (log : List (Key × Option Answer)) (next : Walk) (after : List (Key × Option Answer))
+      → (next, after) ≡ runs_over (and_then q (λ x. Done (noted_in (g x) fault))) log
+      → runs_over (and_then (and_then q (λ x. Done (with_oneway at (g x)))) (λ v. Done (noted_in v fault))) log ≡ (one_way at next, after)
+  one_way_by q g at fault log next after h =
+      let r = runs_over q log in
+      visited_by q (λ x. with_oneway at (g x)) fault log r.0 r.1 refl
+      ∙ (λ i. (noted_in-one_way at (g r.0) fault i, r.1))
+      ∙ ap (λ (p : Walk × List (Key × Option Answer)). (one_way at p.0, p.1)) (sym (h ∙ run-and_then key_eq q (λ x. Done (noted_in (g x) fault)) bank log))
+
+  abbrev given_visit : ℕ → Use → ScopedName → Walk → Bool → List (List ℕ) → Lookup Visit
+  given_visit turns way name w is_global parts =
+      cond is_global (Done (with_oneway w.at (quiet (past_name name w)))) (elim parts [
+        | [] ↦ and_then (used turns way name w) (λ v. Done (with_oneway w.at v))
+        | part ∷ parts ↦ and_then (under w.own (denoted (turns_at turns w) w.cursor (head_of name)))
+            (λ r. Done (with_oneway w.at (head_visit name w r)))
+      ])
+
+  abbrev given_walk : ℕ → Use → ScopedName → Walk → Bool → List (List ℕ) → Lookup Walk
+  given_walk turns way name w is_global parts =
+      cond is_global (Done (past_name name w)) (elim parts
+      [ [] ↦ used_noted turns way name w | part ∷ parts ↦ head_noted turns name w ])
+
+  given_same : (turns : ℕ) (way : Use) (name : ScopedName) (w : Walk) (is_global : Bool) (parts : List (List ℕ)) (log : List (Key × Option Answer)) (next : Walk) (after : List (Key × Option Answer))
+      → (next, after) ≡ runs_over (given_walk turns way name w is_global parts) log
+      → runs_over (and_then (given_visit turns way name w is_global parts) (λ v. Done (noted_in v w.fault))) log ≡ (one_way w.at next, after)
+  given_same turns way name w true parts log next after h = ap (λ (p : Walk × List (Key × Option Answer)). (one_way w.at p.0, p.1)) (sym h)
+  given_same turns way name w false [] log next after h = one_way_by (used turns way name w) (λ v. v) w.at w.fault log next after h
+  given_same turns way name w false (part ∷ parts) log next after h =
+      one_way_by (under w.own (denoted (turns_at turns w) w.cursor (head_of name))) (head_visit name w) w.at w.fault log next after h
+
+  -- a name that is given back
+  pub given_by : (turns : ℕ) (way : Use) (name : ScopedName) (w : Walk) (log : List (Key × Option Answer)) (next : Walk) (after : List (Key × Option Answer))
+      → w.gives_back ≡ true → (next, after) ≡ runs_over (given_noted turns way name w) log
+      → runs_over (visited turns (item.Uses way name) w) log ≡ (one_way w.at next, after)
+  unfolding visit given_back
+  given_by turns way name w log next after gives h =
+      ap (λ b. runs_over (and_then (cond b (given_back turns way name w) (used turns way name w)) (λ v. Done (noted_in v w.fault))) log) gives
+      ∙ given_same turns way name w name.is_global name.rest log next after h
+
+  -- of the first part of a name, by what it denotes
+  pub head_by : (turns : ℕ) (name : ScopedName) (w : Walk) (log : List (Key × Option Answer)) (r : Result Found NameFault) (after : List (Key × Option Answer))
+      → (r, after) ≡ runs_over (under w.own (denoted (turns_at turns w) w.cursor (head_of name))) log
+      → runs_over (head_noted turns name w) log ≡ (noted_in (head_visit name w r) w.fault, after)
+  head_by turns name w log r after h =
+      run-and_then_at key_eq (under w.own (denoted (turns_at turns w) w.cursor (head_of name))) (λ r. Done (noted_in (head_visit name w r) w.fault)) bank log r after h
+
+  -- a walk that is over
+  pub walk_over : (turns : ℕ) (sites : List Item) (w : Walk) (log : List (Key × Option Answer)) → is_over w ≡ true → runs_over (walk turns sites w) log ≡ (w, log)
+  unfolding walk
+  walk_over turns [] w log h = refl
+  walk_over turns (site ∷ sites) w log h = ap (λ b. runs_over (cond b (Done w) (and_then (visit turns site w) (λ v. walk turns sites (noted_in v w.fault)))) log) h
+
+  -- a walk with no site left
+  pub walk_end : (turns : ℕ) (w : Walk) (log : List (Key × Option Answer)) → runs_over (walk turns [] w) log ≡ (w, log)
+  unfolding walk
+  walk_end turns w log = refl
+
+  -- one site more
+  pub walk_on : (turns : ℕ) (site : Item) (sites : List Item) (w : Walk) (log : List (Key × Option Answer)) (next : Walk) (after : List (Key × Option Answer))
+      → is_over w ≡ false → (next, after) ≡ runs_over (visited turns site w) log
+      → runs_over (walk turns (site ∷ sites) w) log ≡ runs_over (walk turns sites next) after
+  unfolding walk
+  walk_on turns site sites w log next after h gives =
+      ap (λ b. runs_over (cond b (Done w) (and_then (visit turns site w) (λ v. walk turns sites (noted_in v w.fault)))) log) h
+      ∙ run-and_then key_eq (visit turns site w) (λ v. walk turns sites (noted_in v w.fault)) bank log
+      ∙ ap (λ (p : Walk × List (Key × Option Answer)). runs_over (walk turns sites p.0) p.1)
+      (sym (gives ∙ run-and_then key_eq (visit turns site w) (λ v. Done (noted_in v w.fault)) bank log))
+
+-- of a name of several parts that is given back, its first part alone is looked at
+given-by : (turns : ℕ) (way : Use) (name : ScopedName) (w : Walk) (rest : List (List ℕ)) → (rest ≡ [] → ⊥)
+    → elim rest as (λ _. Lookup Walk) [ [] ↦ used_noted turns way name w | part ∷ parts ↦ head_noted turns name w ] ≡ head_noted turns name w
+given-by turns way name w [] some = absurd (some refl)
+given-by turns way name w (part ∷ parts) some = refl
+
+pub given-head : (bank : Key → Option Answer) (turns : ℕ) (way : Use) (name : ScopedName) (w : Walk) (log : List (Key × Option Answer)) → name.is_global ≡ false → (name.rest ≡ [] → ⊥)
+    → run key_eq (given_noted turns way name w) bank log ≡ run key_eq (head_noted turns name w) bank log
+given-head bank turns way name w log local some =
+    ap (λ b. run key_eq (cond b (Done (past_name name w)) (elim name.rest as (λ _. Lookup Walk) [ [] ↦ used_noted turns way name w | part ∷ parts ↦ head_noted turns name w ])) bank log) local
+    ∙ ap (λ q. run key_eq q bank log) (given-by turns way name w name.rest some)

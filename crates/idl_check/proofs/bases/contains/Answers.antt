@@ -1,6 +1,0 @@
-use Rattle.std.proofs.Common.{◌∙◌}
-use Rattle.idl_env.proofs.QueueLemmas.{contains-list_any}
-use Rattle.idl_check.proofs.bases.contains.Goals as goal
-
-pub returns : goal.returns
-returns c = c.contains.ensures ∙ contains-list_any c.args.paths.now c.args.path.now

@@ -1,6 +1,0 @@
-use Rattle.std.proofs.Common.{◌≡◌, ◌++◌, drop}
-use Rattle.std.specs.Map.{keys_of}
-use Rattle.idl_check.proofs.bases.listed.Given as goal
-
-abbrev pub invariant-loop-index : goal.invariant-loop-index
-invariant-loop-index l = l.paths.items ++ keys_of (drop l.index l.table) ≡ keys_of l.table

@@ -1,0 +1,116 @@
+-- All faults of a unit, as if none ended the search for others: each of an expression, those of the
+-- whole name that a oneway operation gives back, and that of an id's text whatever its name is. The
+-- one that is told is the least.
+use Rattle.std.specs.Prelude.{ℕ, ◌+◌, List, [], ◌∷◌, ◌++◌, map, Option, None, Some, Result, Ok, Err, if◌then◌else◌}
+use Rattle.idl_check.specs.ids.Identifying.{given}
+use Rattle.idl_tree.specs.NameParts.{last_at}
+use Rattle.idl_check.specs.tables.Rules.{has_id, is_misplaced}
+use Rattle.idl_check.specs.ids.Pragmas.{about, id_faults, said, text_faults, unnamed_faults}
+use Rattle.idl_check.specs.told.Values.{code_of}
+use Rattle.idl_check.specs.walk.Verdict.{first_faults, tree_of}
+use Rattle.idl_check.specs.walk.Walk.{Visit, Walk, evaluation_at, first_walk, is_repeated, used, visit, with_oneway}
+use Rattle.idl_fault.specs.declared.code.Code.TheVariants.{MisplacedUnit, NoRepositoryId, NoTree, RepeatedLabel}
+use Rattle.idl_lex.specs.tokens.Tokens.{Token}
+use Rattle.idl_memo.specs.Query.{outcome}
+use Rattle.idl_env.specs.Facts.{scopes_in}
+use Rattle.idl_scope.specs.Lookup.{denoted}
+use Rattle.idl_env.specs.declared.answering.answer.Answer.{Answer}
+use Rattle.idl_env.specs.declared.answering.answer.Scope.{Scope}
+use Rattle.idl_scope.specs.declared.fault.NameFault.{NameFault}
+use Rattle.idl_scope.specs.declared.found.Found.{Found}
+use Rattle.idl_env.specs.declared.keys.key.Key.{Key}
+use Rattle.idl_env.specs.declared.keys.key.Key.TheVariants.{Cursor}
+use Rattle.idl_site.specs.Item.{Item, items}
+use Rattle.idl_site.specs.Part.{Part as item}
+use Rattle.idl_site.specs.UnitParts.{unit_parts}
+use Rattle.idl_site.specs.declared.site.Target.{Target as Purpose}
+use Rattle.idl_site.specs.declared.site.Use.{Use}
+use Rattle.idl_syntax.specs.Parse.{pragma_faults}
+use Rattle.idl_tree.specs.Pragma.{pragma_of}
+use Rattle.idl_tree.specs.declared.name.ScopedName.{ScopedName}
+use Rattle.idl_tree.specs.declared.pragma.Pragma.{Pragma}
+use Rattle.idl_tree.specs.declared.pragma.Pragma.TheVariants as pragma
+use Rattle.idl_tree.specs.declared.unit.Tree.{Tree}
+use Rattle.idl_unit.specs.TokenRules.{fault_at}
+use Rattle.idl_unit.specs.declared.fault.Fault.{Fault}
+use Rattle.idl_unit.specs.declared.unit.UnitText.{UnitText}
+use Rattle.idl_unit.specs.declared.unit.UnitText.TheVariants as unit
+use Rattle.idl_value.specs.Evaluation.{Evaluation, Valued, Faulty}
+use Rattle.idl_value.specs.declared.outcome.Fault.{Fault as ValueFault}
+
+-- the number of an expression's first token
+abbrev pub first_token : Walk → ℕ
+first_token w = elim w.values.begin [ None ↦ w.at | Some at ↦ at ]
+
+-- a fault of it, at its token
+abbrev pub placed_at : ℕ → ValueFault → Fault
+placed_at at f = fault_at (at + f.token) (code_of f.code)
+
+-- the faults of an expression that comes to this; one with a value may be a label that is there
+abbrev pub evaluation_faults : Walk → Purpose → Evaluation → List Fault
+evaluation_faults w way (Valued v) =
+    if is_repeated w way v then fault_at (first_token w) RepeatedLabel ∷ [] else []
+evaluation_faults w way (Faulty faults) = map (placed_at (first_token w)) faults
+
+module _ (turns : ℕ) (answers : Key → Option Answer) where
+  -- a used name, which is looked at whole where a oneway operation gives it back, too
+  abbrev pub name_visit : Use → ScopedName → Walk → Visit
+  name_visit way name w =
+      let v = outcome (used turns way name w) answers in
+      if w.gives_back then with_oneway w.at v else v
+
+  -- all that comes of a site
+  abbrev pub whole_visit : Item → Walk → Visit
+  whole_visit (item.Uses way name) w = name_visit way name w
+  whole_visit (item.ValueEnds way e) w = record {
+    faults = evaluation_faults w way (evaluation_at w way e);
+    after = (outcome (visit turns (item.ValueEnds way e) w) answers).after;
+  }
+  whole_visit site w = outcome (visit turns site w) answers
+
+  -- the faults of sites, from where a walk has come to
+  abbrev pub site_faults : List Item → Walk → List Fault
+  site_faults [] w = []
+  site_faults (site ∷ sites) w =
+      let v = whole_visit site w in v.faults ++ site_faults sites v.after
+
+  -- those of the third step: the unit's place is told at its first token
+  abbrev pub name_faults : List Scope → Tree → List Fault
+  name_faults scopes tree =
+      (if is_misplaced tree scopes then fault_at 0 MisplacedUnit ∷ [] else [])
+      ++ site_faults (items (unit_parts tree)) (first_walk scopes)
+
+  -- those of the first step that has any
+  abbrev pub or_else : List Fault → List Fault → List Fault
+  or_else [] further = further
+  or_else (f ∷ faults) further = f ∷ faults
+
+  abbrev pub further_faults : List Token → List Scope → List Fault
+  further_faults tokens scopes =
+      elim (tree_of tokens)
+      [ Err place ↦ fault_at place NoTree ∷ [] | Ok tree ↦ name_faults scopes tree ]
+
+  -- those of an id that is given to what a name denotes
+  abbrev pub given_faults : ScopedName → List ℕ → Result Found NameFault → List Fault
+  given_faults name text (Err fault) =
+      unnamed_faults name fault ++ text_faults (last_at 2 name) text
+  given_faults name text (Ok found) =
+      let at = last_at 2 name in
+      if has_id found.entity.kind
+      then (outcome (about at (id_faults at text) (given text) found.entity) answers).faults
+      else fault_at at NoRepositoryId ∷ text_faults at text
+
+  -- those of a pragma in these scopes
+  abbrev pub said_faults : List Scope → Option Pragma → List Fault
+  said_faults scopes None = []
+  said_faults scopes (Some (pragma.Id name text)) =
+      given_faults name text (outcome (denoted turns scopes name) answers)
+  said_faults scopes (Some other) = (outcome (said turns scopes other) answers).faults
+
+  abbrev pub unit_faults : UnitText → List Fault
+  unit_faults (unit.Tokens tokens) =
+      let scopes = scopes_in (answers Cursor) in
+      or_else (first_faults tokens scopes) (further_faults tokens scopes)
+  unit_faults (unit.Pragma tokens inside) =
+      or_else (pragma_faults tokens inside)
+      (said_faults (scopes_in (answers Cursor)) (pragma_of tokens))

@@ -1,0 +1,100 @@
+-- How a walk is kept, and one site of it; and what a pragma says.
+use Rattle.std.specs.Prelude.{ℕ, ◌+◌, ◌≤◌, List, [], ◌∷◌, Option, None, Some, Result, Ok, Err, if◌then◌else◌}
+use Rattle.idl_check.specs.tables.Declaring.{Written}
+use Rattle.idl_check.specs.ids.Pragmas.{Said, refused_for, said}
+use Rattle.idl_check.specs.Apart.{boxed_or}
+use Rattle.idl_check.specs.told.Values.{Values, nothing_kept}
+use Rattle.idl_check.specs.walk.Walk.{turns_at, Walk, past_name, head_of, head_visit, noted_in, used, visit}
+use Rattle.idl_check.specs.declared.tables.declaring.Written.{Written as LastWritten}
+use Rattle.idl_check.specs.walk.Verdict.{pragma_verdict}
+use Rattle.idl_check.specs.declared.ids.pragmas.Named.{Named}
+use Rattle.idl_check.specs.declared.told.values.Values.{Values as ToldValues}
+use Rattle.idl_check.specs.declared.walk.verdict.Verdict.{Verdict}
+use Rattle.idl_check.specs.declared.walk.walker.Walker.{Walker}
+use Rattle.idl_memo.specs.Query.{Done, and_then}
+use Rattle.idl_scope.specs.Lookup.{Lookup, denoted, under}
+use Rattle.idl_env.specs.declared.additions.addition.Addition.TheVariants.{Identifies}
+use Rattle.idl_env.specs.declared.additions.addition.Step.TheVariants.{Stays}
+use Rattle.idl_env.specs.declared.answering.answer.Scope.{Scope}
+use Rattle.idl_entity.specs.declared.identity.FixedIdentity.{FixedIdentity}
+use Rattle.idl_entity.specs.declared.identity.Identity.{Identity}
+use Rattle.idl_site.specs.Item.{Item, items_length}
+use Rattle.idl_site.specs.declared.site.Use.{Use}
+use Rattle.idl_tree.specs.declared.name.ScopedName.{ScopedName}
+use Rattle.idl_tree.specs.declared.pragma.Pragma.{Pragma}
+use Rattle.idl_unit.specs.declared.fault.Fault.{Fault}
+
+abbrev pub held_values : ToldValues → Values
+held_values values = record {
+  begin = values.begin;
+  operands = (boxed_or nothing_kept values.kept).operands;
+  told = (boxed_or nothing_kept values.kept).told;
+  bound = values.bound;
+  lengths = (boxed_or nothing_kept values.kept).lengths;
+  constant = values.constant;
+}
+
+abbrev pub held_written : LastWritten → Written
+held_written written = record {
+  data_type = written.data_type;
+  constants = written.constants;
+  enumeration = written.enumeration;
+  enumerators = written.enumerators;
+}
+
+abbrev pub held : Walker → Walk
+held w = record {
+  at = w.at;
+  cursor = w.cursor;
+  own = w.own.additions;
+  begun = w.begun;
+  bases = w.bases;
+  written = held_written w.written;
+  last = w.last;
+  bodies = w.bodies;
+  clauses = w.clauses;
+  unions = w.unions.items;
+  gives_back = w.gives_back;
+  found = w.found;
+  values = held_values w.values;
+  fault = w.fault;
+}
+
+-- a site, whose first fault is noted
+abbrev pub visited : ℕ → Item → Walk → Lookup Walk
+visited turns site w = and_then (visit turns site w) (λ v. Done (noted_in v w.fault))
+
+-- the same of a used name by itself, of the first token of one that is given back, and of all that
+-- is looked at of one
+abbrev pub used_noted : ℕ → Use → ScopedName → Walk → Lookup Walk
+used_noted turns way name w = and_then (used turns way name w) (λ v. Done (noted_in v w.fault))
+
+abbrev pub head_noted : ℕ → ScopedName → Walk → Lookup Walk
+head_noted turns name w =
+    and_then (under w.own (denoted (turns_at turns w) w.cursor (head_of name)))
+    (λ r. Done (noted_in (head_visit name w r) w.fault))
+
+abbrev pub given_noted : ℕ → Use → ScopedName → Walk → Lookup Walk
+given_noted turns way name w =
+    if name.is_global then Done (past_name name w)
+    else elim name.rest
+    [ [] ↦ used_noted turns way name w | part ∷ parts ↦ head_noted turns name w ]
+
+-- the numbers of the tokens of these sites fit into a word
+abbrev pub HasRoomFor : Walk → List Item → Type 0
+HasRoomFor w sites = w.at + items_length sites ≤ 18446744073709551615
+
+-- a pragma, by what it says
+abbrev pub spoken : ℕ → List Scope → Pragma → Lookup Verdict
+spoken turns scopes p = and_then (said turns scopes p) (λ s. Done (pragma_verdict s))
+
+-- what a pragma says of what its name denotes, or of the name's fault
+abbrev pub said_of : (Identity → List Fault) → (Identity → FixedIdentity)
+    → Result (Option Named) Fault → Said
+said_of faults change (Ok None) = refused_for []
+said_of faults change (Ok (Some n)) = record {
+  faults = faults n.identity;
+  additions = Identifies n.path (change n.identity) ∷ [];
+  step = Stays;
+}
+said_of faults change (Err fault) = refused_for (fault ∷ [])

@@ -1,0 +1,164 @@
+-- The verdict of a unit: its fault, what it adds, and its row in the dump. A fault is found in
+-- three steps: the rules of tokens, the tree, and the rules over tree and names.
+use Rattle.std.specs.Prelude.{ℕ, Bool, suc, ◌-◌, List, [], ◌∷◌, ◌++◌, length, max, false, Option, None, Some, Result, Ok, Err, if◌then◌else◌}
+use Rattle.idl_check.specs.told.Bodies.{raising}
+use Rattle.idl_check.specs.tables.Declaring.{finished, with_finished}
+use Rattle.idl_check.specs.walk.Placing.{faulty_step, opened_kind, opening_faults, step_of}
+use Rattle.idl_check.specs.tables.Rules.{depth, is_misplaced}
+use Rattle.idl_check.specs.ids.Pragmas.{Said, said_by}
+use Rattle.idl_dump.specs.Row.{Rest, row_of}
+use Rattle.idl_check.specs.walk.Walk.{Walk, first_walk, walk}
+use Rattle.idl_check.specs.declared.walk.verdict.Verdict.{Verdict}
+use Rattle.idl_fault.specs.declared.code.Code.TheVariants.{NoTree, MisplacedUnit}
+use Rattle.idl_lex.specs.kinds.Keywords.{folded}
+use Rattle.idl_lex.specs.tokens.Tokens.{Token}
+use Rattle.idl_memo.specs.Query.{Done, Ask, and_then}
+use Rattle.idl_env.specs.Facts.{path_around, scopes_in}
+use Rattle.idl_scope.specs.Lookup.{Lookup, outward}
+use Rattle.idl_env.specs.declared.additions.addition.Step.{Step}
+use Rattle.idl_env.specs.declared.additions.addition.Step.TheVariants.{Stays, Opens}
+use Rattle.idl_env.specs.declared.answering.answer.Scope.{Scope}
+use Rattle.idl_env.specs.declared.keys.key.Key.TheVariants.{Cursor, Opened, Nameless}
+use Rattle.idl_site.specs.Item.{Item, items}
+use Rattle.idl_site.specs.Part.{Part as item}
+use Rattle.idl_site.specs.UnitParts.{unit_parts}
+use Rattle.idl_syntax.specs.Parse.{pragma_faults}
+use Rattle.idl_tree.specs.Lexeme.{Lexeme, lexemes}
+use Rattle.idl_tree.specs.Pragma.{pragma_of}
+use Rattle.idl_tree.specs.reading.ReadUnit.{unit_at}
+use Rattle.idl_tree.specs.declared.unit.Tree.{Tree}
+use Rattle.idl_tree.specs.declared.unit.Tree.TheVariants as tree
+use Rattle.idl_unit.specs.Faults.{least_fault}
+use Rattle.idl_unit.specs.TokenRules.{fault_at, token_faults}
+use Rattle.idl_unit.specs.declared.fault.Fault.{Fault}
+use Rattle.idl_unit.specs.declared.unit.UnitText.{UnitText}
+use Rattle.idl_unit.specs.declared.unit.UnitText.TheVariants as unit
+
+-- what a unit with this fault adds: nothing but what it does to the open scopes
+abbrev pub faulty : Fault → Step → Verdict
+faulty fault step = record {
+  fault = Some fault;
+  writes = record { additions = []; step = step };
+  row = None;
+}
+
+-- a faulty unit of tokens; for an opening it is asked how many nameless scopes there were
+abbrev pub refused : List Token → Fault → Lookup Verdict
+refused tokens fault =
+    elim (opened_kind tokens) [
+      | None ↦ Done (faulty fault (faulty_step tokens))
+      | Some kind ↦ Ask Nameless (λ count. Done (faulty fault (faulty_step tokens)))
+    ]
+
+-- how many scopes are open around a unit: around a closing, those open after it
+abbrev pub row_depth : Tree → List Scope → ℕ
+row_depth tree.Closing scopes = depth scopes - 1
+row_depth other scopes = depth scopes
+
+-- of what its row is made
+abbrev pub rest_of : List Token → Walk → Rest
+rest_of tokens w =
+    record { tokens = tokens; found = w.found; values = w.values.told; in_value = false }
+
+-- a unit without fault, over which a walk has come to this
+abbrev pub sound : List Token → List Scope → Tree → Walk → Verdict
+sound tokens scopes tree w = record {
+  fault = None;
+  writes = record {
+    additions =
+        with_finished (finished w.bases.paths w.values.constant w.clauses) w.own
+        (w.begun ++ raising w.last w.clauses);
+    step = step_of tree (path_around scopes);
+  };
+  row = Some (row_of (row_depth tree scopes) (items (unit_parts tree)) (rest_of tokens w));
+}
+
+-- of a scope that is opened it is asked how often it was before
+abbrev pub asking : Step → Verdict → Lookup Verdict
+asking (Opens path kind) verdict = Ask (Opened path) (λ count. Done verdict)
+asking other verdict = Done verdict
+
+-- what a walk comes to
+abbrev pub judged : List Token → List Scope → Tree → Walk → Lookup Verdict
+judged tokens scopes tree w =
+    elim w.fault [
+      | Some fault ↦ refused tokens fault
+      | None ↦ asking (step_of tree (path_around scopes)) (sound tokens scopes tree w)
+    ]
+
+-- the part of a name with which the sites begin, if they do
+abbrev pub first_part : List Item → Option (List ℕ)
+first_part (item.Uses way name ∷ sites) = if name.is_global then None else Some name.first
+first_part others = None
+
+-- a unit that its scope doesn't hold: what its first token asks is asked, and no more
+abbrev pub misplaced : ℕ → List Token → List Scope → Tree → Lookup Verdict
+misplaced turns tokens scopes tree =
+    and_then
+    (elim (first_part (items (unit_parts tree)))
+    [ None ↦ Done [] | Some name ↦ outward turns scopes (folded name) ])
+    (λ found. refused tokens (fault_at 0 MisplacedUnit))
+
+-- the third step
+abbrev pub by_names : ℕ → List Token → List Scope → Tree → Lookup Verdict
+by_names turns tokens scopes tree =
+    if is_misplaced tree scopes then misplaced turns tokens scopes tree
+    else and_then (walk turns (items (unit_parts tree)) (first_walk scopes))
+    (λ w. judged tokens scopes tree w)
+
+-- what reading gives over so many tokens: the tree that all of them spell, or else the number of
+-- the one at which they stop being the beginning of one, and of the last where none is left
+abbrev pub whole : ℕ → Result (Tree × List Lexeme) ℕ → Result Tree ℕ
+whole count (Ok (tree, [])) = Ok tree
+whole count (Ok (tree, next ∷ more)) = Err (count - length (next ∷ more))
+whole count (Err left) = Err (count - max left 1)
+
+abbrev pub tree_of : List Token → Result Tree ℕ
+tree_of tokens = whole (length tokens) (unit_at (suc (length tokens)) (lexemes tokens))
+
+-- the second step, and then the third
+abbrev pub by_tree : ℕ → List Token → List Scope → Lookup Verdict
+by_tree turns tokens scopes =
+    elim (tree_of tokens) [
+      | Err place ↦ refused tokens (fault_at place NoTree)
+      | Ok tree ↦ by_names turns tokens scopes tree
+    ]
+
+-- the faults of the first step
+abbrev pub first_faults : List Token → List Scope → List Fault
+first_faults tokens scopes = token_faults tokens ++ opening_faults tokens scopes
+
+-- a unit of tokens in these scopes
+abbrev pub token_verdict : ℕ → List Token → List Scope → Lookup Verdict
+token_verdict turns tokens scopes =
+    elim (least_fault (first_faults tokens scopes)) [
+      | Some fault ↦ refused tokens fault
+      | None ↦ by_tree turns tokens scopes
+    ]
+
+-- a pragma that says this
+abbrev pub pragma_verdict : Said → Verdict
+pragma_verdict s =
+    elim (least_fault s.faults) [
+      | Some fault ↦ faulty fault Stays
+      | None ↦ record {
+        fault = None;
+        writes = record { additions = s.additions; step = s.step };
+        row = None;
+      }
+    ]
+
+-- a pragma inside a unit of tokens or outside, in these scopes
+abbrev pub pragma_judged : ℕ → List Token → Bool → List Scope → Lookup Verdict
+pragma_judged turns tokens inside scopes =
+    elim (least_fault (pragma_faults tokens inside)) [
+      | Some fault ↦ Done (faulty fault Stays)
+      | None ↦ and_then (said_by turns scopes (pragma_of tokens)) (λ s. Done (pragma_verdict s))
+    ]
+
+-- a unit
+unfoldable pub verdict : ℕ → UnitText → Lookup Verdict
+verdict turns (unit.Tokens tokens) =
+    Ask Cursor (λ cursor. token_verdict turns tokens (scopes_in cursor))
+verdict turns (unit.Pragma tokens inside) =
+    Ask Cursor (λ cursor. pragma_judged turns tokens inside (scopes_in cursor))

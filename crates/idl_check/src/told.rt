@@ -1,0 +1,8 @@
+//! What is known of a unit so far.
+
+pub(crate) mod bodies;
+pub(crate) mod cursor;
+pub(crate) mod labels;
+pub(crate) mod last_type;
+pub(crate) mod types;
+pub(crate) mod values;

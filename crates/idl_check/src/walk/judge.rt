@@ -1,0 +1,351 @@
+//! The verdict of a unit of tokens.
+
+ghost use Rattle.std.specs.Prelude.{◌≡◌, ◌≤◌, ◌++◌, ◌-◌, [], ℕ, IfOk, List, None, OnOk, Some, length, map};
+ghost use Rattle.idl_check.specs.walk.Held.{HasRoomFor, held};
+ghost use Rattle.idl_check.specs.walk.Placing.{opening_faults, step_of};
+ghost use Rattle.idl_check.specs.walk.Verdict.{asking, by_names, first_part, judged, misplaced, refused, row_depth, sound, token_verdict};
+ghost use Rattle.idl_check.specs.walk.Walk.{walk};
+ghost use Rattle.idl_memo.specs.Query.{and_then, run};
+ghost use Rattle.idl_env.specs.Facts.{answers, path_around};
+ghost use Rattle.idl_env.specs.keys.Key.{key_eq};
+ghost use Rattle.idl_env.specs.Turns.{turns_for};
+ghost use Rattle.idl_site.specs.Item.{item_at, items, items_length};
+ghost use Rattle.idl_site.specs.UnitParts.{unit_parts};
+ghost use Rattle.idl_syntax.specs.Parse.{IsTreeOf, StopsAt};
+ghost use Rattle.idl_tree.specs.Lexeme.{lexemes};
+ghost use Rattle.idl_tree.specs.Unit.{spell};
+ghost use Rattle.idl_tree.specs.declared.unit.Tree.{Tree as UnitsTree};
+ghost use Rattle.idl_check.specs.declared.walk.verdict.Verdict.{Verdict as UnitVerdict};
+ghost use Rattle.idl_lex.specs.kinds.Keywords.{folded};
+ghost use Rattle.idl_scope.specs.Lookup.{outward};
+ghost use Rattle.std.specs.Option.{option_map};
+ghost use Rattle.idl_unit.specs.Faults.{least_fault};
+ghost use Rattle.idl_unit.specs.TokenRules.{fault_at, token_faults};
+ghost use Rattle.idl_unit.specs.declared.fault.Fault.{Fault as UnitFault};
+ghost use Rattle.idl_unit.specs.declared.unit.UnitText.TheVariants as unit;
+ghost use Rattle.idl_fault.specs.declared.code.Code.TheVariants.{MisplacedUnit, NoTree};
+
+use crate::tables::codes::lesser;
+use crate::walk::placing::{depth, faulty_step, is_misplaced, opened_kind, opening_fault, step_of};
+use crate::walk::scratch::Scratch;
+use crate::walk::verdict::{Verdict, adding};
+use crate::walk::walker::Walker;
+use idl_base::Bytes;
+use idl_dump::{Rest, write_row};
+use idl_entity::Path;
+use idl_entity::paths::folded_name;
+use idl_env::{DigestedKey, Env, Facts, OpenScopes, Step};
+use idl_fault::Code;
+use idl_lex::Token;
+use idl_memo::Journal;
+use idl_scope::View;
+use idl_site::{Site, sites};
+use idl_syntax::{SyntaxFault, UnitTree, parse};
+use idl_tree::Tree;
+use idl_unit::{Fault, UnitText};
+use std::alloc::AllocError;
+
+/// A unit of tokens, in the scopes that are open around it.
+#[derive(Clone, Copy)]
+pub struct Judge<'a> {
+    pub env: &'a Env,
+    pub tokens: &'a [Token],
+    pub scopes: &'a OpenScopes,
+}
+
+// A unit that has a tree, and the sites of that tree.
+#[derive(Clone, Copy)]
+struct Sited<'t> {
+    judge: Judge<'t>,
+    tree: &'t Tree,
+    sites: &'t [Site<'t>],
+}
+
+impl<'a> Judge<'a> {
+    /// The verdict of the unit, whose text this is.
+    pub fn verdict(
+        self,
+        scratch: &mut Scratch,
+        log: &mut Journal<Env>,
+        text: &UnitText,
+    ) -> Result<Verdict, AllocError>
+        requires { text.now ≡ unit.Tokens self.tokens.now }
+        ensures { IfOk result (λ v. (turns : ℕ) → turns_for self.entry.env.now ≤ turns →
+            (v, log.new)
+            ≡ run key_eq (token_verdict turns self.entry.tokens.now self.entry.scopes.now)
+            (answers self.entry.env.now) log.old) }
+    {
+        match parse(self.env.alloc(), text) {
+            Ok(tree) => self.with_tree(scratch, log, &tree),
+            Err(SyntaxFault::Rule(fault)) => self.refused(log, self.with_opening(fault)),
+            Err(SyntaxFault::NoTree(left)) => self.without_tree(log, left),
+            Err(SyntaxFault::Memory) => Err(AllocError),
+        }
+    }
+
+    // The least fault of the first step, where this is that of the tokens.
+    fn with_opening(self, fault: Fault) -> Fault
+        ensures { (faults : List UnitFault) → least_fault faults ≡ Some fault
+            → least_fault (faults ++ opening_faults self.entry.tokens.now self.entry.scopes.now)
+            ≡ Some result }
+    {
+        match opening_fault(self.tokens, self.scopes) {
+            Some(other) => lesser(fault, other),
+            None => fault,
+        }
+    }
+
+    // The verdict of a unit that no rule of tokens refuses, but that has no tree: from the token at which that shows so many are
+    // left.
+    fn without_tree(self, log: &mut Journal<Env>, left: usize) -> Result<Verdict, AllocError>
+        requires rules { least_fault (token_faults self.tokens.now) ≡ None }
+        requires stops { StopsAt self.tokens.now (length self.tokens.now - left) }
+        ensures { IfOk result (λ v. (turns : ℕ) → turns_for self.entry.env.now ≤ turns →
+            (v, log.new)
+            ≡ run key_eq (token_verdict turns self.entry.tokens.now self.entry.scopes.now)
+            (answers self.entry.env.now) log.old) }
+    {
+        match opening_fault(self.tokens, self.scopes) {
+            Some(fault) => self.refused(log, fault),
+            None => self.refused(log, no_tree(self.tokens, left)),
+        }
+    }
+
+    // The verdict of a unit that has a tree, and that no rule of tokens refuses.
+    fn with_tree(
+        self,
+        scratch: &mut Scratch,
+        log: &mut Journal<Env>,
+        tree: &UnitTree,
+    ) -> Result<Verdict, AllocError>
+        requires rules { least_fault (token_faults self.tokens.now) ≡ None }
+        requires tree { IsTreeOf (unit.Tokens self.tokens.now) tree.now }
+        ensures { IfOk result (λ v. (turns : ℕ) → turns_for self.entry.env.now ≤ turns →
+            (v, log.new)
+            ≡ run key_eq (token_verdict turns self.entry.tokens.now self.entry.scopes.now)
+            (answers self.entry.env.now) log.old) }
+    {
+        if let Some(fault) = opening_fault(self.tokens, self.scopes) {
+            return self.refused(log, fault);
+        }
+        match tree {
+            UnitTree::Tokens(tree) => self.by_names(scratch, log, tree),
+            UnitTree::Pragma(_pragma) => Err(AllocError),
+        }
+    }
+
+    // The verdict of a faulty unit.
+    fn refused(self, log: &mut Journal<Env>, fault: Fault) -> Result<Verdict, AllocError>
+        ensures { IfOk result (λ v.
+            (v, log.new)
+            ≡ run key_eq (refused self.entry.tokens.now fault)
+            (answers self.entry.env.now) log.old) }
+    {
+        if opened_kind(self.tokens).is_some() {
+            log.ask(&DigestedKey::nameless(), self.env)?;
+            return adding(self.env.alloc(), Some(fault), faulty_step(self.tokens));
+        }
+        adding(self.env.alloc(), Some(fault), faulty_step(self.tokens))
+    }
+
+    // The verdict of a unit that has this tree.
+    fn by_names(
+        self,
+        scratch: &mut Scratch,
+        log: &mut Journal<Env>,
+        tree: &Tree,
+    ) -> Result<Verdict, AllocError>
+        requires { lexemes self.tokens.now ≡ spell tree.now }
+        ensures { IfOk result (λ v. (turns : ℕ) → turns_for self.entry.env.now ≤ turns →
+            (v, log.new)
+            ≡ run key_eq (by_names turns self.entry.tokens.now self.entry.scopes.now tree.now)
+            (answers self.entry.env.now) log.old) }
+    {
+        let sites = sites(self.env.alloc(), tree)?;
+        if is_misplaced(tree, self.scopes) {
+            return self.misplaced(log, sites.as_slice());
+        }
+        let unit = Sited {
+            judge: self,
+            tree,
+            sites: sites.as_slice(),
+        };
+        let mut walker = Walker::new(self.env, self.scopes, scratch);
+        unit.walked(scratch, log, &mut walker)
+    }
+
+    // The verdict of a unit that its scope doesn't hold.
+    fn misplaced(self, log: &mut Journal<Env>, sites: &[Site<'_>]) -> Result<Verdict, AllocError>
+        ensures { IfOk result (λ v. (turns : ℕ) → turns_for self.entry.env.now ≤ turns →
+            (tree : UnitsTree) → map item_at sites.now ≡ items (unit_parts tree) →
+            (v, log.new)
+            ≡ run key_eq (misplaced turns self.entry.tokens.now self.entry.scopes.now tree)
+            (answers self.entry.env.now) log.old) }
+    {
+        if let Some(name) = first_part(sites) {
+            self.ask_outward(log, name)?;
+            return self.refused(log, at_first(Code::MisplacedUnit));
+        }
+        self.refused(log, at_first(Code::MisplacedUnit))
+    }
+
+    // Asks what the first part of a name asks.
+    fn ask_outward(self, log: &mut Journal<Env>, name: &[u8]) -> Result<(), AllocError>
+        ensures { OnOk result ((turns : ℕ) → turns_for self.entry.env.now ≤ turns →
+            log.new
+            ≡ (run key_eq (outward turns self.entry.scopes.now (folded name.now))
+            (answers self.entry.env.now) log.old).1) }
+    {
+        let own = Facts::new(self.env.alloc());
+        let view = View {
+            env: self.env,
+            own: &own,
+        };
+        let folded = folded_name(self.env.alloc(), name)?;
+        view.outward(log, self.scopes, &folded)?;
+        Ok(())
+    }
+
+    // Of a scope that is opened it is asked how often it was before.
+    fn ask_step(self, log: &mut Journal<Env>, step: &Step) -> Result<(), AllocError>
+        ensures { OnOk result ((v : UnitVerdict) →
+            (v, log.new) ≡ run key_eq (asking step.now v) (answers self.entry.env.now) log.old) }
+    {
+        match step {
+            Step::Opens(path, _kind) => {
+                let key = DigestedKey::opened(self.env.alloc(), path)?;
+                log.ask(&key, self.env)?;
+                Ok(())
+            }
+            Step::Stays
+            | Step::OpensNameless(_)
+            | Step::Closes
+            | Step::Prefixes(_)
+            | Step::Enters
+            | Step::Leaves => Ok(()),
+        }
+    }
+}
+
+impl<'t> Sited<'t> {
+    // The verdict of a unit that its scope holds, over whose sites this walk goes.
+    fn walked(
+        self,
+        scratch: &mut Scratch,
+        log: &mut Journal<Env>,
+        walker: &mut Walker<'_>,
+    ) -> Result<Verdict, AllocError>
+        requires sites { map item_at self.sites.now ≡ items (unit_parts self.tree.now) }
+        requires room { HasRoomFor (held walker.old) (map item_at self.sites.now) }
+        requires env { walker.old.env.now ≡ self.judge.env.now }
+        ensures { IfOk result (λ v. (turns : ℕ) → turns_for self.entry.judge.env.now ≤ turns →
+            (v, log.new)
+            ≡ run key_eq
+            (and_then (walk turns (items (unit_parts self.entry.tree.now)) (held walker.old))
+            (λ w. judged self.entry.judge.tokens.now self.entry.judge.scopes.now self.entry.tree.now w))
+            (answers self.entry.judge.env.now) log.old) }
+    {
+        walker.walk(log, self.sites)?;
+        match walker.fault {
+            Some(fault) => self.judge.refused(log, fault),
+            None => self.sound(scratch, log, walker),
+        }
+    }
+
+    // The verdict of a unit without fault, over which a walk has come so far.
+    fn sound(
+        self,
+        scratch: &mut Scratch,
+        log: &mut Journal<Env>,
+        walker: &mut Walker<'_>,
+    ) -> Result<Verdict, AllocError>
+        requires sites { map item_at self.sites.now ≡ items (unit_parts self.tree.now) }
+        requires room { items_length (map item_at self.sites.now) ≤ 18446744073709551615 }
+        ensures { IfOk result (λ v.
+            (v, log.new)
+            ≡ run key_eq
+            (asking (step_of self.entry.tree.now (path_around self.entry.judge.scopes.now))
+            (sound self.entry.judge.tokens.now self.entry.judge.scopes.now self.entry.tree.now
+            (held walker.old)))
+            (answers self.entry.judge.env.now) log.old) }
+    {
+        let rest = Rest {
+            tokens: self.judge.tokens,
+            found: walker.found.as_slice(),
+            values: walker.values.told(),
+            in_value: false,
+        };
+        write_row(
+            &mut scratch.row,
+            row_depth(self.tree, self.judge.scopes),
+            self.sites,
+            rest,
+        )?;
+        let step = self.step(&walker.own)?;
+        self.judge.ask_step(log, &step)?;
+        walker.finish_facts(step)?;
+        let writes = scratch.room.hold(&mut walker.own)?;
+        let row = Bytes::from_slice(self.judge.env.alloc(), scratch.row.as_slice())?;
+        Ok(Verdict {
+            fault: None,
+            writes,
+            row: Some(row),
+        })
+    }
+
+    // What the unit does to the open scopes, where it adds this.
+    fn step(self, own: &Facts) -> Result<Step, AllocError>
+        ensures { IfOk result (λ step. step
+            ≡ step_of self.entry.tree.now (path_around self.entry.judge.scopes.now)) }
+    {
+        let around = path_around(self.judge.scopes)?;
+        step_of(self.judge.env.alloc(), own, self.tree, &around)
+    }
+}
+
+// The path of the innermost of these scopes.
+fn path_around(scopes: &OpenScopes) -> Result<Path, AllocError>
+    ensures { IfOk result (λ path. path ≡ path_around scopes.now) }
+{
+    match scopes.innermost() {
+        Some(innermost) => innermost.path.clone(),
+        None => Ok(Path::global()),
+    }
+}
+
+// How many scopes are open around a unit.
+fn row_depth(tree: &Tree, scopes: &OpenScopes) -> usize
+    ensures { result ≡ row_depth tree.now scopes.now }
+{
+    match tree {
+        Tree::Closing => depth(scopes).saturating_sub(1),
+        _ => depth(scopes),
+    }
+}
+
+// The fault of a unit that has no tree, where so many of its tokens are left.
+fn no_tree(tokens: &[Token], left: usize) -> Fault
+    ensures { result ≡ fault_at (length tokens.now - left) NoTree }
+{
+    Fault {
+        index: tokens.len().saturating_sub(left),
+        code: Code::NoTree,
+    }
+}
+
+// A fault at the first token.
+fn at_first(code: Code) -> Fault
+    ensures { result ≡ fault_at 0 code }
+{
+    Fault { index: 0, code }
+}
+
+// The part of a name with which the sites begin, if they do.
+fn first_part<'a>(sites: &[Site<'a>]) -> Option<&'a [u8]>
+    ensures { option_map (λ name. name.now) result ≡ first_part (map item_at sites.now) }
+{
+    match sites.first()? {
+        Site::Used(_, name) if !name.is_global => Some(name.first.as_bytes()),
+        _ => None,
+    }
+}

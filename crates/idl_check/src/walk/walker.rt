@@ -1,0 +1,370 @@
+//! The walk over the sites of a unit.
+
+ghost use Rattle.std.specs.Prelude.{◌≡◌, ◌≤◌, ◌+◌, ◌∷◌, ◌++◌, [], ℕ, OnOk, Some, drop, map, option_to_list, take, true};
+ghost use Rattle.idl_check.specs.told.Bodies.{begun_body, raising, with_context};
+ghost use Rattle.idl_check.specs.tables.Declaring.{finished, with_finished};
+ghost use Rattle.idl_check.specs.walk.Held.{HasRoomFor, held, visited};
+ghost use Rattle.idl_check.specs.walk.Walk.{faulty_if, first_walk, is_over, noted, noted_in, passed, scope_visit, walk, with_scope};
+ghost use Rattle.idl_check.specs.told.Labels.{is_idle};
+ghost use Rattle.idl_fault.specs.declared.code.Code.TheVariants.{BadOneway, UselessDefault};
+ghost use Rattle.std.specs.List.{list_any};
+ghost use Rattle.idl_memo.specs.Query.{run};
+ghost use Rattle.idl_env.specs.Facts.{answers};
+ghost use Rattle.idl_env.specs.keys.Key.{key_eq};
+ghost use Rattle.idl_env.specs.Turns.{turns_for};
+ghost use Rattle.idl_site.specs.Item.{item_at, item_length};
+ghost use Rattle.idl_site.specs.Part.{Part as item};
+ghost use Rattle.idl_unit.specs.TokenRules.{fault_at};
+
+use crate::tables::bases::Bases;
+use crate::tables::codes::lesser;
+use crate::tables::declaring::{Ending, Written, finished, kind_of, path_in};
+use crate::told::bodies::{Body, Clauses, Nest, end_innermost};
+use crate::told::cursor::Cursor;
+use crate::told::labels::Labels;
+use crate::told::values::Values;
+use crate::walk::scratch::Scratch;
+use idl_base::{Bytes, Seq, Shared};
+use idl_entity::{Entity, Kind, Path};
+use idl_env::{Addition, Env, Facts, OpenScopes, Scope, Step};
+use idl_fault::Code;
+use idl_memo::Journal;
+use idl_scope::View;
+use idl_site::{Declaration, Site};
+use idl_tree::Several;
+use idl_unit::Fault;
+use std::alloc::{AllocError, Global};
+
+/// How far a walk has come. Of its many fields most are empty, so each is dropped where it stands.
+#[derive(Drop)]
+pub struct Walker<'a> {
+    pub env: &'a Env,
+    /// The number of the next token.
+    pub at: usize,
+    /// The scopes around it, the innermost first.
+    pub cursor: Cursor<'a>,
+    /// What the tokens before it add.
+    pub own: Facts,
+    /// Those of the declared names that the unit's end finishes.
+    pub begun: Seq<Shared<Entity>>,
+    pub bases: Bases,
+    /// What the next names are declared with.
+    pub written: Written,
+    /// What was declared last.
+    pub last: Option<Shared<Entity>>,
+    /// The scopes of the unit around it, the innermost first.
+    pub bodies: Nest,
+    pub clauses: Clauses,
+    /// The labels of the unions around it, the innermost first.
+    pub unions: Vec<Labels>,
+    /// Whether what the next token begins is given back by a oneway operation.
+    pub gives_back: bool,
+    /// The paths of what the used names denote, in order.
+    pub found: Seq<Path>,
+    pub values: Values,
+    /// The least fault so far.
+    pub fault: Option<Fault>,
+}
+
+impl<'a> Walker<'a> {
+    /// Before the first site of a unit, in these scopes. What is added takes the room that there is.
+    pub fn new(env: &'a Env, scopes: &'a OpenScopes, scratch: &mut Scratch) -> Walker<'a>
+        ensures walk { held result ≡ first_walk scopes.now }
+        ensures env { result.env.now ≡ env.now }
+    {
+        let alloc = env.alloc();
+        Walker {
+            env,
+            at: 0,
+            cursor: Cursor::new(scopes),
+            own: Facts::within(alloc, &mut scratch.room),
+            begun: Seq::new(alloc),
+            bases: Bases::new(),
+            written: Written::new(alloc),
+            last: None,
+            bodies: Nest::new(alloc),
+            clauses: Clauses::new(alloc),
+            unions: Vec::new(alloc),
+            gives_back: false,
+            found: Seq::new(alloc),
+            values: Values::new(alloc),
+            fault: None,
+        }
+    }
+
+    /// Walks over sites.
+    pub fn walk(&mut self, log: &mut Journal<Env>, sites: &[Site<'_>]) -> Result<(), AllocError>
+        requires { HasRoomFor (held self.old) (map item_at sites.now) }
+        ensures walked { OnOk result ((turns : ℕ) → turns_for self.old.env.now ≤ turns →
+            (held self.new, log.new)
+            ≡ run key_eq (walk turns (map item_at sites.now) (held self.old))
+            (answers self.old.env.now) log.old) }
+        ensures env { OnOk result (self.new.env.now ≡ self.old.env.now) }
+    {
+        for site in sites {
+            if self.is_over() {
+                return Ok(());
+            }
+            self.visit(log, site)?;
+        }
+        Ok(())
+    }
+
+    // Nothing more is asked behind the token of a fault, but to the end of an expression.
+    fn is_over(&self) -> bool
+        ensures { result ≡ is_over (held self.now) }
+    {
+        match self.fault {
+            Some(fault) => fault.index < self.at && self.values.begin.is_none(),
+            None => false,
+        }
+    }
+
+    /// Notes a fault of a token, unless a lesser one was noted.
+    pub fn note(&mut self, index: usize, code: Option<Code>)
+        ensures { self.new
+            ≡ record self.old {
+              fault = noted self.old.fault (map (fault_at index) (option_to_list code));
+            } }
+    {
+        let Some(code) = code else {
+            return;
+        };
+        let fault = Fault { index, code };
+        self.fault = Some(least_of(self.fault, fault));
+    }
+
+    // A site. Most are tokens.
+    #[tactic(auto, unfolding(crate::specs::walk::Walk::visit))]
+    fn visit(&mut self, log: &mut Journal<Env>, site: &Site<'_>) -> Result<(), AllocError>
+        requires { HasRoomFor (held self.old) (item_at site.now ∷ []) }
+        ensures visited { OnOk result ((turns : ℕ) → turns_for self.old.env.now ≤ turns →
+            (held self.new, log.new)
+            ≡ run key_eq (visited turns (item_at site.now) (held self.old))
+            (answers self.old.env.now) log.old) }
+        ensures at { OnOk result (self.new.at ≡ self.old.at + item_length (item_at site.now)) }
+        ensures env { OnOk result (self.new.env.now ≡ self.old.env.now) }
+    {
+        match *site {
+            Site::Tokens(count) => self.pass(count),
+            _ => self.visit_any(log, site),
+        }
+    }
+
+    // A site, whatever it is.
+    #[inline(never)]
+    #[tactic(auto, unfolding(crate::specs::walk::Walk::visit))]
+    fn visit_any(&mut self, log: &mut Journal<Env>, site: &Site<'_>) -> Result<(), AllocError>
+        requires { HasRoomFor (held self.old) (item_at site.now ∷ []) }
+        ensures visited { OnOk result ((turns : ℕ) → turns_for self.old.env.now ≤ turns →
+            (held self.new, log.new)
+            ≡ run key_eq (visited turns (item_at site.now) (held self.old))
+            (answers self.old.env.now) log.old) }
+        ensures at { OnOk result (self.new.at ≡ self.old.at + item_length (item_at site.now)) }
+        ensures env { OnOk result (self.new.env.now ≡ self.old.env.now) }
+    {
+        match *site {
+            Site::Declared(way, name) => self.declare(log, way, name),
+            Site::Used(way, name) => self.use_name(log, way, name),
+            Site::ScopeBegins(way, name) => self.begin_scope(way, name),
+            Site::Tokens(count) => self.pass(count),
+            Site::Joined(text) => self.join(text),
+            Site::ScopeEnds => self.end_scope(),
+            Site::ValueBegins => self.begin_value(),
+            Site::ValueEnds(way, expression) => self.end_value(way, expression),
+            Site::TypeEnds(shape) => self.end_type(shape),
+            Site::ArrayEnds => self.end_array(),
+            Site::Enumerates(names) => self.enumerate(names),
+            Site::Switches(discrete) => self.switch(discrete),
+            Site::Default => self.label_default(),
+            Site::GivesBack => self.give_back(),
+        }
+    }
+
+    // So many tokens.
+    fn pass(&mut self, count: usize) -> Result<(), AllocError>
+        requires { self.old.at + count ≤ 18446744073709551615 }
+        ensures visit { held self.new
+            ≡ noted_in
+            (faulty_if self.old.gives_back BadOneway (held self.old)
+            (passed count (held self.old))) self.old.fault }
+        ensures at { self.new.at ≡ self.old.at + count }
+        ensures env { self.new.env.now ≡ self.old.env.now }
+    {
+        let at = self.at;
+        let is_given_back = self.gives_back;
+        self.at += count;
+        self.gives_back = false;
+        if is_given_back {
+            self.note(at, Some(Code::BadOneway));
+            return Ok(());
+        }
+        Ok(())
+    }
+
+    // String literals, which are joined: a text of a context.
+    fn join(&mut self, text: &Several<Seq<u16>>) -> Result<(), AllocError>
+        requires { HasRoomFor (held self.old) (item.Says text.now ∷ []) }
+        ensures visit { OnOk result
+            (held self.new
+            ≡ noted_in
+            (faulty_if self.old.gives_back BadOneway (held self.old)
+            (record (passed (item_length (item.Says text.now)) (held self.old)) {
+              clauses = with_context text.now self.old.clauses;
+            })) self.old.fault) }
+        ensures at { OnOk result
+            (self.new.at ≡ self.old.at + item_length (item.Says text.now)) }
+        ensures env { OnOk result (self.new.env.now ≡ self.old.env.now) }
+    {
+        self.clauses.add_context(self.env.alloc(), text)?;
+        self.pass(1 + text.rest.len())
+    }
+
+    // What the next token begins is given back by a oneway operation.
+    fn give_back(&mut self) -> Result<(), AllocError>
+        ensures { self.new ≡ record self.old { gives_back = true } }
+    {
+        self.gives_back = true;
+        Ok(())
+    }
+
+    /// The environment under what the tokens so far add.
+    pub fn view(&self) -> View<'_>
+        ensures env { result.env.now ≡ self.now.env.now }
+        ensures own { result.own.now ≡ self.now.own }
+    {
+        View {
+            env: self.env,
+            own: &self.own,
+        }
+    }
+
+    // The scope of what is declared so begins.
+    fn begin_scope(&mut self, way: Declaration, name: &Bytes) -> Result<(), AllocError>
+        ensures walk { OnOk result
+            (held self.new
+            ≡ record (held self.old) {
+              cursor = with_scope way name.now self.old.cursor;
+              bodies =
+                  begun_body self.old.last self.old.written.data_type
+                  ∷ self.old.bodies;
+            }) }
+        ensures env { OnOk result (self.new.env.now ≡ self.old.env.now) }
+    {
+        let alloc = self.env.alloc();
+        let body = Body::new(alloc, &self.last, &self.written.data_type)?;
+        self.bodies.begin(body)?;
+        let Some(innermost) = self.cursor.innermost() else {
+            return Ok(());
+        };
+        let path = path_in(alloc, &self.own, name, &innermost.path)?;
+        let scope = Scope {
+            path,
+            kind: kind_of(way),
+            body: 1,
+        };
+        self.cursor.begin(alloc, scope)
+    }
+
+    // It ends: it is a type from then on. The labels of a union are complete.
+    fn end_scope(&mut self) -> Result<(), AllocError>
+        ensures visit { OnOk result
+            (held self.new ≡ noted_in (scope_visit (held self.old)) self.old.fault) }
+        ensures at { OnOk result (self.new.at ≡ self.old.at) }
+        ensures env { OnOk result (self.new.env.now ≡ self.old.env.now) }
+    {
+        let Some(innermost) = self.cursor.innermost() else {
+            return Ok(());
+        };
+        let path = innermost.path.clone()?;
+        let is_union = innermost.kind == Kind::Union;
+        let alloc = self.env.alloc();
+        self.written.name_type(path);
+        end_innermost(alloc, &mut self.bodies, &self.clauses, &mut self.begun)?;
+        self.cursor.end()?;
+        if is_union { self.end_union() } else { Ok(()) }
+    }
+
+    // The labels of the innermost union are complete.
+    fn end_union(&mut self) -> Result<(), AllocError>
+        ensures visit { OnOk result
+            (held self.new
+            ≡ noted_in
+            (faulty_if (list_any is_idle (take 1 self.old.unions.items)) UselessDefault
+            (held self.old)
+            (record (held self.old) { unions = drop 1 self.old.unions.items })) self.old.fault) }
+        ensures at { OnOk result (self.new.at ≡ self.old.at) }
+        ensures env { OnOk result (self.new.env.now ≡ self.old.env.now) }
+    {
+        if self.unions.is_empty() {
+            return Ok(());
+        }
+        let labels = self.unions.remove(0);
+        if labels.is_idle() {
+            self.note(self.at, Some(Code::UselessDefault));
+            return Ok(());
+        }
+        Ok(())
+    }
+
+    /// What a unit without fault adds stands there, where it does this to the open scopes.
+    pub fn finish_facts(&mut self, step: Step) -> Result<(), AllocError>
+        ensures { OnOk result
+            (self.new.own
+            ≡ record {
+              additions =
+                  with_finished
+                  (finished self.old.bases.paths self.old.values.constant self.old.clauses)
+                  self.old.own.additions
+                  (self.old.begun ++ raising self.old.last self.old.clauses);
+              step = step;
+            }) }
+    {
+        let alloc = self.env.alloc();
+        self.own.then(step);
+        self.clauses.add_raising(&mut self.begun, &self.last)?;
+        let begun = self.begun.as_slice();
+        if begun.is_empty() {
+            return Ok(());
+        }
+        let paths = self.bases.paths(alloc)?;
+        let ending = Ending {
+            bases: &paths,
+            value: &self.values.constant,
+            clauses: &self.clauses,
+        };
+        finish(alloc, &mut self.own, ending, begun)
+    }
+}
+
+// The least of a fault and of the one before, if there was one.
+fn least_of(before: Option<Fault>, fault: Fault) -> Fault
+    ensures { Some result ≡ noted before (fault ∷ []) }
+{
+    match before {
+        Some(before) => lesser(before, fault),
+        None => fault,
+    }
+}
+
+// Puts in what has begun, as the unit's end finishes it.
+fn finish(
+    alloc: Global,
+    own: &mut Facts,
+    ending: Ending<'_>,
+    begun: &[Shared<Entity>],
+) -> Result<(), AllocError>
+    ensures { OnOk result
+        (own.new
+        ≡ record own.old {
+          additions =
+              with_finished
+              (finished ending.entry.bases.now ending.entry.value.now ending.entry.clauses.now)
+              own.old.additions begun.now;
+        }) }
+{
+    for entity in begun {
+        own.add(Addition::Declares(finished(alloc, ending, entity)?))?;
+    }
+    Ok(())
+}

@@ -1,0 +1,103 @@
+//! Names of paths, lent.
+
+ghost use Rattle.std.specs.Prelude.{◌≡◌, ◌↔◌, ◌∷◌, [], IfSome, IsTrue, None};
+ghost use Rattle.std.specs.Option.{option_copied};
+ghost use Rattle.idl_entity.specs.Identity.{is_within};
+ghost use Rattle.idl_entity.specs.Path.{names_of, path_eq, path_of};
+
+use crate::paths::path::{Part, Path, are_alike};
+use std::marker::Model;
+use std::rc::Rc;
+
+/// Names of a path that are lent: to every contract the list of them, from one of them on, the innermost first.
+#[derive(Drop)]
+pub struct Names<'a> {
+    innermost: Option<&'a Part>,
+}
+
+impl<'a> Model for Names<'a> {
+    ghost use Rattle.std.specs.Prelude.{List, ℕ};
+    ghost use Rattle.std.specs.Option.{option_copied};
+    ghost use Rattle.idl_entity.specs.Path.{names_of};
+
+    ghost Value = { List (List ℕ) };
+
+    ghost view = { λ names. names_of (option_copied names.innermost) };
+}
+
+impl<'a> Names<'a> {
+    /// No names.
+    pub fn none() -> Names<'a>
+        ensures { result ≡ [] }
+    {
+        Names { innermost: None }
+    }
+
+    /// Those of the path that ends in this part.
+    pub(crate) fn from(part: &'a Part) -> Names<'a>
+        ensures { result ≡ part.now.0 ∷ part.now.1 }
+    {
+        Names {
+            innermost: Some(part),
+        }
+    }
+
+    /// Those of the path to which this link leads.
+    pub(crate) fn of(link: &'a Option<Rc<Part>>) -> Names<'a>
+        ensures { result ≡ path_of link.now }
+    {
+        match link {
+            Some(shared) => Names::from(shared),
+            None => Names::none(),
+        }
+    }
+
+    /// The first name, and those behind it; nothing where there is none.
+    pub fn split_first(self) -> Option<(&'a [u8], Names<'a>)>
+        ensures some { IfSome result (λ p. self.entry ≡ p.0.now ∷ p.1) }
+        ensures none { result ≡ None → self.entry ≡ [] }
+    {
+        let part = self.innermost?;
+        Some((part.name().as_bytes(), part.around()))
+    }
+
+    /// Whether there is no name.
+    pub fn is_empty(&self) -> bool
+        ensures { IsTrue result ↔ (self.now ≡ []) }
+    {
+        self.innermost.is_none()
+    }
+
+    /// Whether they are those.
+    pub(crate) fn are_those(&self, others: &Names<'_>) -> bool
+        ensures { result ≡ path_eq self.now others.now }
+    {
+        match (self.innermost, others.innermost) {
+            (Some(mine), Some(theirs)) => are_alike(mine, theirs),
+            (None, None) => true,
+            _ => false,
+        }
+    }
+
+    /// Whether they are the names of a path.
+    pub fn are_of(&self, path: &Path) -> bool
+        ensures { result ≡ path_eq self.now path.now }
+    {
+        self.are_those(&path.lent())
+    }
+
+    /// Whether they are those of a scope's path or of one in it.
+    #[tactic(auto, using(crate::proofs::IdLemmas::within_here, crate::proofs::IdLemmas::within_none, crate::proofs::IdLemmas::within_further))]
+    pub(crate) fn are_within(self, scope: &Path) -> bool
+        ensures { result ≡ is_within self.entry scope.now }
+    {
+        let mut names = self;
+        while !names.are_of(scope) {
+            let Some((_name, around)) = names.split_first() else {
+                return false;
+            };
+            names = around;
+        }
+        true
+    }
+}

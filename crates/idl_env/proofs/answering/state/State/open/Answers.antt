@@ -1,0 +1,29 @@
+use Rattle.std.proofs.Common.{◌≡◌, sym, ap, ◌∙◌, ◌++◌, ◌∷◌, [], refl, subst}
+use Rattle.idl_env.specs.Facts.{after_opening, with_answer}
+use Rattle.idl_env.specs.Held.{IsAmongOthers, held}
+use Rattle.idl_env.specs.declared.answering.answer.Answer.TheVariants.{Open, Count}
+use Rattle.idl_env.specs.declared.keys.key.Key.TheVariants.{Cursor, Opened}
+use Rattle.idl_env.specs.declared.answering.state.State.{State}
+use Rattle.idl_env.proofs.AnswerLaws.StateLemmas.{held-opening, kept}
+use Rattle.idl_env.proofs.answering.state.State.open.Goals as goal
+
+pub insert-requires : goal.insert-requires
+insert-requires c = subst IsAmongOthers (sym c.in_ok-key.ensures) tt
+
+pub returns : goal.returns
+returns c =
+    let state = c.args.self.now in
+    let entries = state.answers in
+    let scope = c.in_ok-scope.scope in
+    let put : kept c.insert.new.self ≡ with_answer (Opened scope.path) (Count scope.body) (kept entries) =
+    (λ i k. c.in_ok-insert.ensures k i)
+    ∙ ap (λ q. with_answer q (Count scope.body) (kept entries)) c.in_ok-key.ensures in
+    let both : kept c.put_cursor.new.self ≡ with_answer Cursor (Open c.in_ok-scopes.scopes) (with_answer (Opened scope.path) (Count scope.body) (kept entries)) =
+    (λ i k. c.put_cursor.ensures k i) ∙ ap (with_answer Cursor (Open c.in_ok-scopes.scopes)) put in
+    let outer = c.cursor.ensures in
+    let opened = ap Open (c.in_ok-scopes.ensures ∙ ap (λ scopes. scope ∷ scopes) outer) in
+    let within = c.in_ok-push.ensures.items ∙ ap (λ own. state.inside.items ++ own ∷ []) c.new.ensures in
+    let before = c.in_ok-push-2.ensures.items ∙ ap (λ prefix. state.opened ++ prefix ∷ []) c.in_ok-prefix.ensures in
+    let after : State = record { answers = c.put_cursor.new.self; inside = c.push.new.self; opened = c.push-2.new.self; entered = state.entered } in
+    held-opening state after scope (Open c.in_ok-scopes.scopes) opened both within before refl
+    ∙ ap (after_opening (held state)) c.in_ok-scope.ensures

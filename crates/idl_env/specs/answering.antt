@@ -1,0 +1,3 @@
+-- What is answered, and how an addition changes it.
+pub mod OpenScopes
+pub mod Scope

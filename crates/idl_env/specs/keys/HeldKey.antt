@@ -1,0 +1,17 @@
+-- Keys as they are held.
+use Rattle.idl_env.specs.Facts.{entity_key}
+use Rattle.idl_env.specs.declared.keys.held_key.HeldKey.{HeldKey}
+use Rattle.idl_env.specs.declared.keys.held_key.HeldKey.TheVariants.{Cursor, Entity, Introduced, Opened, Nameless, Prefix, IdOf, Whole}
+use Rattle.idl_env.specs.declared.keys.key.Key.{Key}
+use Rattle.idl_env.specs.declared.keys.key.Key.TheVariants as key
+
+-- the key that is held
+abbrev pub key_in : HeldKey → Key
+key_in Cursor = key.Cursor
+key_in (Entity path) = entity_key path
+key_in (Introduced name path) = key.Introduced name path 1
+key_in (Opened path) = key.Opened path
+key_in Nameless = key.Nameless
+key_in Prefix = key.Prefix
+key_in (IdOf path) = key.IdOf path
+key_in (Whole whole) = whole.value

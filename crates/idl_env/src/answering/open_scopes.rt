@@ -1,0 +1,198 @@
+//! The scopes that are open.
+
+ghost use Rattle.std.specs.Prelude.{◌≡◌, ◌<◌, ◌∷◌, [], IfOk, IfSome, None, length, slice_get};
+ghost use Rattle.std.specs.Option.{option_copied};
+ghost use Rattle.std.specs.Cmp.Lexicographic.{lists_equiv, lists_per, pointwise};
+ghost use Rattle.idl_base.specs.Exact.{same_list};
+ghost use Rattle.idl_env.specs.answering.Scope.{same_scope, scope_eq};
+ghost use Rattle.idl_env.specs.answering.OpenScopes.{scopes_of};
+ghost use Rattle.idl_env.specs.contracts.answering.answer.ScopeEq.TheImpl.Laws.{laws-law as scope_equiv};
+ghost use Rattle.idl_env.specs.contracts.answering.answer.ScopePartialEq.TheImpl.Laws.{laws-law as scope_per};
+
+use crate::answering::answer::Scope;
+use crate::answering::count::one_more;
+use idl_base::Datum;
+use std::alloc::{AllocError, Global};
+use std::marker::Model;
+use std::rc::Rc;
+
+/// Open scopes, the innermost first. To every contract it is the list of them.
+///
+/// A copy is a pointer, and so are those outward of the innermost: one more scope that is opened, or one less, copies none.
+#[derive(Drop)]
+#[cycle(open_scopes)]
+pub struct OpenScopes {
+    innermost: Option<Rc<Opened>>,
+}
+
+impl Model for OpenScopes {
+    ghost use Rattle.std.specs.Prelude.{List, ◌*◌, length};
+    ghost use Rattle.std.proofs.Common.{arith};
+    ghost use Rattle.idl_env.specs.answering.OpenScopes.{scopes_of};
+    ghost use Rattle.idl_env.specs.declared.answering.answer.Scope.{Scope};
+
+    ghost Value = { List Scope };
+
+    ghost view = { λ scopes. scopes_of scopes.innermost };
+
+    ghost size = { λ scopes. 2 * length scopes };
+
+    ghost size_decreases = { λ a h. Prim.grind arith };
+}
+
+// An open scope with those outward of it, and how many these and it are.
+#[cycle(open_scopes)]
+struct Opened {
+    scope: Scope,
+    outer: OpenScopes,
+    count: usize,
+}
+
+impl Model for Opened {
+    ghost use Rattle.std.specs.Prelude.{List, ◌≡◌, ◌<◌, ◌+◌, ◌*◌, length};
+    ghost use Rattle.std.proofs.Common.{arith};
+    ghost use Rattle.idl_env.specs.declared.answering.answer.Scope.{Scope};
+
+    ghost Value = { Scope × List Scope };
+
+    ghost view = { λ opened. (opened.scope, opened.outer) };
+
+    ghost invariant = { λ opened.
+        (opened.count ≡ length opened.outer + 1) × (length opened.outer < 18446744073709551615) };
+
+    ghost size = { λ seen. 2 * length seen.1 + 1 };
+
+    ghost size_decreases = { λ a h. Prim.grind arith };
+}
+
+// A loop, so that many open scopes are dropped in little stack.
+impl Drop for Opened {
+    fn drop(self) {
+        let mut link = self.into_outer();
+        while let Some(shared) = link {
+            link = match Rc::into_inner(shared) {
+                Some(opened) => opened.into_outer(),
+                None => None,
+            };
+        }
+    }
+}
+
+impl Opened {
+    // Those outward of its scope, which is dropped.
+    fn into_outer(self) -> Option<Rc<Opened>>
+        ensures { scopes_of result ≡ self.1 }
+    {
+        let Opened {
+            scope: _scope,
+            outer,
+            count: _count,
+        } = self;
+        outer.innermost
+    }
+}
+
+impl OpenScopes {
+    /// None is open. It takes no memory.
+    pub fn none() -> OpenScopes
+        ensures { result ≡ [] }
+    {
+        OpenScopes { innermost: None }
+    }
+
+    /// This scope, which is the innermost, and then these.
+    pub fn with(&self, alloc: Global, scope: Scope) -> Result<OpenScopes, AllocError>
+        ensures { IfOk result (λ scopes. scopes ≡ scope ∷ self.now) }
+    {
+        let count = one_more(self.len())?;
+        let outer = self.clone()?;
+        let opened = Rc::new(
+            alloc,
+            Opened {
+                scope,
+                outer,
+                count,
+            },
+        )?;
+        Ok(OpenScopes {
+            innermost: Some(opened),
+        })
+    }
+
+    /// The innermost, and those outward of it; nothing where none is open.
+    #[inline]
+    pub fn split_first(&self) -> Option<(&Scope, &OpenScopes)>
+        ensures some { IfSome result (λ p. self.now ≡ p.0.now ∷ p.1.now) }
+        ensures none { result ≡ None → self.now ≡ [] }
+        ensures few { IfSome result (λ p. length p.1.now < 18446744073709551615) }
+    {
+        let Some(shared) = &self.innermost else {
+            return None;
+        };
+        let opened: &Opened = shared;
+        Some((&opened.scope, &opened.outer))
+    }
+
+    /// The innermost.
+    #[inline]
+    pub fn innermost(&self) -> Option<&Scope>
+        ensures { option_copied result ≡ slice_get self.now 0 }
+    {
+        let (scope, _outer) = self.split_first()?;
+        Some(scope)
+    }
+
+    /// How many are open.
+    #[inline]
+    pub fn len(&self) -> usize
+        ensures { result ≡ length self.now }
+    {
+        match &self.innermost {
+            Some(opened) => opened.count,
+            None => 0,
+        }
+    }
+}
+
+impl Clone for OpenScopes {
+    ghost is_clone = { λ scopes copy. copy ≡ scopes };
+
+    fn clone(&self) -> Result<OpenScopes, AllocError> {
+        let innermost = self.innermost.clone()?;
+        Ok(OpenScopes { innermost })
+    }
+}
+
+impl PartialEq for OpenScopes {
+    ghost eq = { pointwise scope_eq };
+
+    ghost laws = { lists_per scope_per };
+
+    fn eq(&self, other: &OpenScopes) -> bool
+        ensures { result ≡ pointwise scope_eq self.now other.now }
+    {
+        let mut mine = self;
+        let mut theirs = other;
+        'scopes: while let Some((scope, outer)) = mine.split_first() {
+            let Some((beside, others)) = theirs.split_first() else {
+                return false;
+            };
+            if *scope != *beside {
+                return false;
+            }
+            mine = outer;
+            theirs = others;
+        }
+        theirs.len() == 0
+    }
+}
+
+impl Eq for OpenScopes {
+    ghost laws = { lists_equiv scope_equiv };
+}
+
+impl Datum for OpenScopes {
+    ghost same = { same_list scope_eq same_scope };
+
+    ghost copy = { λ x y h. h };
+}

@@ -1,0 +1,136 @@
+//! What a root asks, and what it is answered.
+
+ghost use Rattle.std.specs.Prelude.{◌≡◌, Some, refl};
+ghost use Rattle.std.specs.Cmp.{on_equiv, on_per, on_po, on_total, partial_equiv_from_equiv};
+ghost use Rattle.std.specs.Cmp.Lexicographic.{nat_list_cmp_total, nat_list_eq_equiv, texts_po, texts_ties};
+ghost use Rattle.idl_event.specs.Key.{key_cmp, key_code, key_eq};
+
+use crate::asked::lexed_file::LexedFile;
+use crate::asked::lexed_line::LexedLine;
+use idl_base::{Bytes, Datum, Seq, mixed, with_bytes};
+use idl_fault::FileName;
+use idl_map::Digest;
+use idl_source::Directory;
+use std::cmp::Ordering;
+
+/// What is asked of the bank of a root.
+#[derive(Clone, Drop)]
+pub enum Key {
+    /// The body of the session's macro with this word.
+    Macro(Bytes),
+    /// The file with this name.
+    File(FileName),
+    /// The directories in which included files are searched.
+    Search,
+}
+
+/// What is answered.
+#[derive(Clone, PartialEq, Eq, Drop)]
+pub enum Answer {
+    /// A macro's body: a file of that one line.
+    Macro(LexedLine),
+    /// A file.
+    File(LexedFile),
+    /// The directories, in the order in which they are searched.
+    Search(Seq<Directory>),
+}
+
+impl PartialEq for Key {
+    ghost eq = { key_eq };
+
+    ghost laws = { on_per key_code (partial_equiv_from_equiv nat_list_eq_equiv) };
+
+    fn eq(&self, other: &Key) -> bool
+        ensures { result ≡ key_eq self.now other.now }
+    {
+        match (self, other) {
+            (Key::Macro(word), Key::Macro(other)) => word == other,
+            (Key::File(name), Key::File(other)) => name == other,
+            (Key::Search, Key::Search) => true,
+            _ => false,
+        }
+    }
+}
+
+impl Eq for Key {
+    ghost laws = { on_equiv key_code nat_list_eq_equiv };
+}
+
+impl PartialOrd for Key {
+    ghost partial_cmp = { λ key other. Some (key_cmp key other) };
+
+    ghost laws = { on_po key_code texts_po };
+
+    fn partial_cmp(&self, other: &Key) -> Option<Ordering> {
+        Some(self.cmp(other))
+    }
+}
+
+impl Ord for Key {
+    ghost cmp = { key_cmp };
+
+    ghost total = { on_total key_code nat_list_cmp_total };
+
+    ghost matches_partial_cmp = { λ key other. refl };
+
+    ghost matches_eq = { λ key other. texts_ties (key_code key) (key_code other) };
+
+    fn cmp(&self, other: &Key) -> Ordering
+        ensures { result ≡ key_cmp self.now other.now }
+    {
+        match (self, other) {
+            (Key::Macro(word), Key::Macro(other)) => word.cmp(other),
+            (Key::File(name), Key::File(other)) => name.cmp(other),
+            (Key::Search, Key::Search) => Ordering::Equal,
+            (Key::Macro(_), _) | (_, Key::Search) => Ordering::Less,
+            _ => Ordering::Greater,
+        }
+    }
+}
+
+impl Datum for Key {
+    ghost use Rattle.std.proofs.Common.{ap};
+    ghost use Rattle.idl_event.specs.Key.{same_key};
+    ghost use Rattle.idl_event.specs.declared.asked.key.Key.TheVariants.{Macro, File, Search};
+
+    ghost same = { same_key };
+
+    ghost copy = { elim [
+      | Macro a ↦ elim [ Macro b ↦ λ h. ap Macro h | File b ↦ λ h. absurd h | Search ↦ λ h. absurd h ]
+      | File a ↦ elim [ Macro b ↦ λ h. absurd h | File b ↦ λ h. ap File h | Search ↦ λ h. absurd h ]
+      | Search ↦ elim [ Macro b ↦ λ h. absurd h | File b ↦ λ h. absurd h | Search ↦ λ h. refl ]
+    ] };
+}
+
+impl Digest for Key {
+    ghost use Rattle.idl_event.specs.Key.{key_digest};
+
+    ghost digest_of = { key_digest };
+
+    #[tactic(auto, unfolding(crate::specs::Key::key_digest))]
+    fn digest(&self) -> u64 {
+        match self {
+            Key::Macro(word) => with_bytes(0, word.as_bytes()),
+            Key::File(name) => with_bytes(mixed(0, 256), name.as_bytes()),
+            Key::Search => 0,
+        }
+    }
+}
+
+impl Datum for Answer {
+    ghost use Rattle.std.specs.Cmp.Lexicographic.{bytes_decides, pointwise_decides};
+    ghost use Rattle.std.proofs.Common.{ap};
+    ghost use Rattle.idl_event.specs.declared.asked.key.Answer.TheVariants.{Macro, File, Search};
+
+    ghost same = { elim [
+      | Macro a ↦ elim [ Macro b ↦ λ h. ap Macro ((pointwise_decides bytes_decides a b).0 h) | File b ↦ λ h. cc | Search b ↦ λ h. cc ]
+      | File a ↦ elim [ Macro b ↦ λ h. cc | File b ↦ λ h. ap File ((pointwise_decides bytes_decides a b).0 h) | Search b ↦ λ h. cc ]
+      | Search a ↦ elim [ Macro b ↦ λ h. cc | File b ↦ λ h. cc | Search b ↦ λ h. ap Search ((pointwise_decides bytes_decides a b).0 h) ]
+    ] };
+
+    ghost copy = { elim [
+      | Macro a ↦ elim [ Macro b ↦ λ h. ap Macro h | File b ↦ λ h. absurd h | Search b ↦ λ h. absurd h ]
+      | File a ↦ elim [ Macro b ↦ λ h. absurd h | File b ↦ λ h. ap File h | Search b ↦ λ h. absurd h ]
+      | Search a ↦ elim [ Macro b ↦ λ h. absurd h | File b ↦ λ h. absurd h | Search b ↦ λ h. ap Search h ]
+    ] };
+}

@@ -1,0 +1,94 @@
+//! Files that are held with their tokens.
+
+ghost use Rattle.std.specs.Prelude.{◌≡◌, ◌↔◌, IsTrue, IfOk};
+ghost use Rattle.std.specs.Cmp.{partial_equiv_from_equiv};
+ghost use Rattle.std.specs.Cmp.Lexicographic.{pointwise, pointwise_decides, bytes_decides, lists_per, lists_equiv, nat_list_eq_equiv};
+ghost use Rattle.std.specs.Str.{bytes_eq};
+ghost use Rattle.idl_lex.specs.tokens.Tokens.{tokens_of};
+
+use idl_base::Datum;
+use idl_source::File;
+use idl_text::{GroupedTokens, LinesLeft, lex};
+use std::alloc::{AllocError, Global};
+use std::marker::Model;
+use std::rc::Rc;
+
+/// A file, and beside it its tokens and the branches of its groups, so that they are made once. Its lines alone are its
+/// value, and a clone shares both.
+#[derive(Drop)]
+pub struct LexedFile {
+    file: File,
+    tokens: Rc<GroupedTokens>,
+}
+
+impl Model for LexedFile {
+    ghost use Rattle.std.specs.Prelude.{◌≡◌, List, ℕ};
+    ghost use Rattle.idl_lex.specs.tokens.Tokens.{tokens_of};
+
+    ghost Value = { List (List ℕ) };
+
+    ghost view = { λ it. it.file };
+
+    ghost invariant = { λ it. it.tokens.value ≡ tokens_of it.file };
+}
+
+impl LexedFile {
+    /// The file with its tokens, of which those of an earlier text are taken over that are the same.
+    pub fn new(alloc: Global, file: File, old: Option<&LexedFile>) -> Result<LexedFile, AllocError>
+        ensures { IfOk result (λ it. it ≡ file) }
+    {
+        let old = old.map(|old| old.tokens.lexed());
+        let tokens = GroupedTokens::new(alloc, lex(alloc, &file, old)?)?;
+        Ok(LexedFile {
+            tokens: Rc::new(alloc, tokens)?,
+            file,
+        })
+    }
+
+    /// The file.
+    pub fn file(&self) -> &File
+        ensures { result.now ≡ self.now }
+    {
+        &self.file
+    }
+
+    /// Its lines.
+    pub fn lines(&self) -> LinesLeft<'_>
+        ensures { result ≡ tokens_of self.now }
+    {
+        self.tokens.all()
+    }
+}
+
+impl Clone for LexedFile {
+    ghost is_clone = { λ it copy. copy ≡ it };
+
+    fn clone(&self) -> Result<LexedFile, AllocError> {
+        let tokens = self.tokens.clone()?;
+        let file = self.file.clone()?;
+        Ok(LexedFile { file, tokens })
+    }
+}
+
+impl PartialEq for LexedFile {
+    ghost eq = { pointwise bytes_eq };
+
+    ghost laws = { lists_per (partial_equiv_from_equiv nat_list_eq_equiv) };
+
+    fn eq(&self, other: &LexedFile) -> bool
+        ensures by_line { result ≡ pointwise bytes_eq self.now other.now }
+        ensures exact { IsTrue result ↔ (self.now ≡ other.now) }
+    {
+        self.file == other.file
+    }
+}
+
+impl Eq for LexedFile {
+    ghost laws = { lists_equiv nat_list_eq_equiv };
+}
+
+impl Datum for LexedFile {
+    ghost same = { λ x y. (pointwise_decides bytes_decides x y).0 };
+
+    ghost copy = { λ x y h. h };
+}

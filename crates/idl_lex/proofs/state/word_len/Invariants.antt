@@ -1,7 +1,0 @@
-use Rattle.std.proofs.Common.{◌≡◌, ◌+◌, drop}
-use Rattle.idl_lex.specs.Scan.{taken}
-use Rattle.idl_lex.specs.declared.state.State.TheVariants.{Word}
-use Rattle.idl_lex.proofs.state.word_len.Given as goal
-
-abbrev pub invariant-loop-i : goal.invariant-loop-i
-invariant-loop-i l = l.i + taken Word (drop l.i l.bytes) ≡ taken Word l.bytes

@@ -1,0 +1,7 @@
+-- Bytes, and what stands before one.
+pub mod Byte
+pub mod ByteTable
+pub mod Context
+pub mod Piece
+pub mod Scan
+pub mod Text

@@ -1,0 +1,5 @@
+//! Bytes, and what stands before one.
+
+pub(crate) mod byte;
+pub(crate) mod context;
+pub(crate) mod state;

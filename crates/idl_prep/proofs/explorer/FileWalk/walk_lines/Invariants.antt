@@ -1,5 +1,0 @@
-use Rattle.std.proofs.Common.{length}
-use Rattle.idl_prep.proofs.explorer.FileWalk.walk_lines.Given as goal
-
-abbrev pub decreases-lines : goal.decreases-lines
-decreases-lines g l = length l.self.left

@@ -1,6 +1,0 @@
-use Rattle.idl_prep.proofs.WalkLemmas.{to_come-stray-outside}
-use Rattle.idl_prep.proofs.stray.stray_outside.Goals as goal
-
-pub returns : goal.returns
-returns g c = λ bank enter lines.
-    to_come-stray-outside bank enter c.args.file.now c.args.directive.now lines c.args.root.now c.stray.new.root c.requires (c.in_ok-stray.ensures bank enter)

@@ -1,0 +1,18 @@
+use Rattle.std.proofs.Common.{ℕ, List, Some, ap, ◌∙◌}
+use Rattle.idl_fault.specs.declared.code.Code.TheVariants.{Error}
+use Rattle.idl_event.specs.declared.told.event.Event.TheVariants.{Fault}
+use Rattle.idl_event.specs.declared.told.event.Item.TheVariants.{Kept}
+use Rattle.idl_fault.specs.declared.place.Place.{Place}
+use Rattle.idl_lex.specs.tokens.Tokens.{tokens_in}
+use Rattle.idl_prep.specs.Directive.{parted}
+use Rattle.idl_prep.specs.Place.{place_in}
+use Rattle.idl_prep.specs.State.{telling}
+use Rattle.idl_prep.proofs.walk.perform.act_error.Goals as goal
+
+pub returns : goal.returns
+returns g c =
+    let root = c.args.root.now in
+    c.in_ok-fault.ensures
+    ∙ ap (λ (place : Place). telling (Kept (Fault place Error (Some c.in_ok-text.text))) root) c.in_ok-place.ensures
+    ∙ ap (λ (text : List ℕ). telling (Kept (Fault (place_in c.args.file.now c.args.directive.now) Error (Some text))) root)
+    (c.in_ok-text.ensures ∙ ap parted (c.as_slice.ensures ∙ ap tokens_in c.tokens.ensures))

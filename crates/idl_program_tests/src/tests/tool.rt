@@ -1,0 +1,4 @@
+//! What `idltool` answers.
+
+pub(super) mod explains;
+pub(super) mod rules;

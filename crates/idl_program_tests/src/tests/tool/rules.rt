@@ -1,0 +1,189 @@
+//! What `idltool deps` answers: rules of make, by the files that roots ask for.
+
+use crate::tests::support::are_tool_given;
+use std::alloc::{AllocError, AllocGlobal, Global};
+use std::process::Abort;
+use std::test::Fail;
+
+static ROWS: [(&str, &str, &str); 13] = [
+    // A file that isn't found in the first directory counts once it is there.
+    (
+        "deps -Iinc -Itypes shop.idl",
+        "shop.idl: #include <money.idl> | typedef Money Price; ¶ types/money.idl: typedef long Money;",
+        "0 out shop.listing: shop.idl $(wildcard inc/money.idl) types/money.idl /types/money.idl: /",
+    ),
+    // Each file has a rule, and a file that two of them include is told in both.
+    (
+        "deps a.idl ./s/b.idl c",
+        "a.idl: #include \"h\" ¶ s/b.idl: #include \"../h\" ¶ c ¶ h",
+        "0 out a.listing: a.idl h /h: /s/b.listing: s/b.idl h /h: /c.listing: c /",
+    ),
+    // The target that is given is that of each rule.
+    (
+        "deps -t out/all a.idl b.idl",
+        "a.idl: #include \"h\" ¶ b.idl ¶ h",
+        "0 out out/all: a.idl h /h: /out/all: b.idl /",
+    ),
+    // Errors in the sources are told, and leave the rules as they are.
+    (
+        "deps a.idl",
+        "a.idl: #include \"h\" | typedef No X; ¶ h",
+        "1 out a.listing: a.idl h /h: / err a.idl:2: E30 No /",
+    ),
+    (
+        "deps a.idl",
+        "a.idl: #include \"no.idl\"",
+        "1 out a.listing: a.idl $(wildcard no.idl) / err a.idl:1: E10 \"no.idl\" /",
+    ),
+    (
+        "deps z.idl",
+        "a.idl",
+        "1 out z.listing: $(wildcard z.idl) / err z.idl:0: E10 z.idl /",
+    ),
+    // A file that another rule makes stands plainly.
+    (
+        "deps --generated -I gen a.idl",
+        "a.idl: #include <made.idl>",
+        "1 out a.listing: a.idl gen/made.idl / err a.idl:1: E10 <made.idl> /",
+    ),
+    // A macro may decide what is included.
+    (
+        "deps -DN=1 a.idl",
+        "a.idl: #if N | #include \"one\" | #else | #include \"two\" | #endif ¶ one ¶ two",
+        "0 out a.listing: a.idl one /one: /",
+    ),
+    // What make gives a meaning to has a mark before it.
+    (
+        "deps a$#%.idl",
+        "a$#%.idl: #include \"h%\" ¶ h%",
+        "0 out a$$\\#\\%.listing: a$$\\#%.idl h% /h\\%: /",
+    ),
+    ("deps .A.idl", ".A.idl", "0 out .A.listing: .A.idl /"),
+    // Trouble with a file or a word ends the program, and no rule goes out.
+    (
+        "deps b.idl a.idl",
+        "b.idl ¶ a.idl: #include \"h\" ¶ h!",
+        "2 err idltool: h: cannot read /",
+    ),
+    (
+        "deps -U1x a.idl",
+        "a.idl",
+        "2 err idltool: 1x: refused 6: macro not allowed /",
+    ),
+    (
+        "deps a//../..//. a.idl",
+        "a.idl",
+        "2 err idltool: a//../..//.: refused 2: name not allowed /",
+    ),
+];
+
+#[test]
+fn rules_are_told(rt: HostRuntime) -> Result<(), Fail> {
+    are_tool_given(&rt, &ROWS)
+}
+
+// Names of which make would read something else; those of the second list no include can have.
+static OTHERS: [&str; 16] = [
+    "a:b",
+    "a=b",
+    "a;b",
+    "a(b",
+    "a)b",
+    "a*b",
+    "a?b",
+    "a|b",
+    "a\\b",
+    "a&b",
+    "a'b",
+    "a[b",
+    "~a",
+    "~/a",
+    ".PHONY",
+    ".ONE_SHELL",
+];
+
+static QUOTES: [&str; 2] = ["a<b", "a\"b"];
+
+static TAKEN: [&str; 11] = [
+    "a_b", "a.b", "a/b", "a+b", "a-b", "a,b", "a@b", "a!b", "a~b", ".a", "-a",
+];
+
+// What is given for words and files, in which `@` stands for a name.
+const TROUBLE: &str = "2 err idltool: @: no name for make /";
+
+#[test]
+fn names_that_make_can_not_take_are_trouble(rt: HostRuntime) -> Result<(), Fail> {
+    for row in [("deps @", "@", TROUBLE), ("deps -t @ h", "h", TROUBLE)] {
+        are_given_so(&rt, &OTHERS, row)?;
+        are_given_so(&rt, &QUOTES, row)?;
+    }
+    are_given_so(&rt, &OTHERS, ("deps -I. r", "r: #include <@> ¶ @", TROUBLE))?;
+    are_given_so(&rt, &TAKEN, ("deps -- @", "@", "0 out @.listing: @ /"))
+}
+
+// The row for each of the names.
+fn are_given_so(
+    rt: &(impl Abort + AllocGlobal),
+    names: &[&str],
+    row: (&str, &str, &str),
+) -> Result<(), Fail> {
+    for name in names {
+        is_given_so(rt, name, row)?;
+    }
+    Ok(())
+}
+
+fn is_given_so(
+    rt: &(impl Abort + AllocGlobal),
+    name: &str,
+    row: (&str, &str, &str),
+) -> Result<(), Fail> {
+    let words = filled(rt.alloc(), row.0, name)?;
+    let files = filled(rt.alloc(), row.1, name)?;
+    let want = filled(rt.alloc(), row.2, name)?;
+    are_tool_given(rt, &[(words.as_str(), files.as_str(), want.as_str())])
+}
+
+// The text with a name for each `@`.
+fn filled(alloc: Global, text: &str, name: &str) -> Result<String, AllocError> {
+    let mut full = String::new(alloc);
+    for (i, part) in text.split('@').enumerate() {
+        if i > 0 {
+            full.push_str(name)?;
+        }
+        full.push_str(part)?;
+    }
+    Ok(full)
+}
+
+#[test]
+fn three_hundred_files_are_told(rt: HostRuntime) -> Result<(), Fail> {
+    let includes = many(rt.alloc(), " | #include \"h@\"")?;
+    let headers = many(rt.alloc(), " ¶ h@")?;
+    let names = many(rt.alloc(), " h@")?;
+    let rules = many(rt.alloc(), "h@: /")?;
+    let files = format!(in rt.alloc(); "r.idl: {includes}{headers}")?;
+    let want = format!(in rt.alloc(); "0 out r.listing: r.idl{names} /{rules}")?;
+    let words = format!(in rt.alloc(); "deps{names}")?;
+    are_tool_given(
+        &rt,
+        &[
+            ("deps r.idl", files.as_str(), want.as_str()),
+            (
+                words.as_str(),
+                files.as_str(),
+                "2 err idltool: h256: refused 5: over a limit /",
+            ),
+        ],
+    )
+}
+
+// The text three hundred times, with a number for each `@`.
+fn many(alloc: Global, text: &str) -> Result<String, AllocError> {
+    let mut all = String::new(alloc);
+    for i in 0..300 {
+        let number = format!(in alloc; "{i}")?;
+        all.push_str(&filled(alloc, text, &number)?)?;
+    }
+    Ok(all)
+}

@@ -1,0 +1,5 @@
+use Rattle.idl_root.proofs.FactsTold.{facts-told}
+use Rattle.idl_root.proofs.compiling.laws.facts.Goals as goal
+
+pub returns : goal.returns
+returns c = facts-told

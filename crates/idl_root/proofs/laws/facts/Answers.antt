@@ -1,5 +1,0 @@
-use Rattle.idl_root.proofs.FactsTold.{facts-told}
-use Rattle.idl_root.proofs.laws.facts.Goals as goal
-
-pub returns : goal.returns
-returns c = facts-told

@@ -1,0 +1,9 @@
+//! The compilation of a root from its units.
+
+pub(crate) mod compiled;
+pub(crate) mod finding;
+pub(crate) mod judging;
+pub(crate) mod laws;
+pub(crate) mod memory;
+pub(crate) mod number;
+pub(crate) mod printing;

@@ -1,0 +1,41 @@
+//! The laws of what is told.
+
+ghost use Rattle.std.specs.Prelude.{◌≡◌, [], ℕ, All, List, filter, map, nat_eq};
+ghost use Rattle.idl_event.specs.declared.told.event.Event.{Event};
+ghost use Rattle.idl_fault.specs.declared.place.Place.{Place};
+ghost use Rattle.idl_check.specs.walk.Closing.{AreTold};
+ghost use Rattle.idl_root.specs.Compile.{compile};
+ghost use Rattle.idl_root.specs.Judged.{facts_after, judged_after};
+ghost use Rattle.idl_unit.specs.declared.unit.Unit.{Unit as RootUnit};
+ghost use Rattle.idl_root.specs.Told.{IsTold};
+ghost use Rattle.idl_unit.specs.Units.{units_of};
+ghost use Rattle.std.specs.List.Sorted.{IsNonDecreasingBy};
+ghost use Rattle.idl_root.specs.Findings.{finding_row, in_order};
+ghost use Rattle.idl_root.specs.declared.compiling.finding.EventFinding.{EventFinding};
+
+use idl_check::laws::numbering;
+
+/// What is found is told in the order of events: no finding names an event before that of an earlier one, and each event has
+/// the findings that it had, in their order. This does nothing: it carries the law.
+pub fn ordering()
+    ensures order { (found : List EventFinding) → IsNonDecreasingBy (λ f. f.event) (in_order found) }
+    ensures kept { (found : List EventFinding) (n : ℕ)
+        → filter (λ f. nat_eq n f.event) (in_order found) ≡ filter (λ f. nat_eq n f.event) found }
+{}
+
+/// The fault of each unit of a root is told: it is found once, with its code and its token. The rows of a root's diagnostics are
+/// those of what is found in it. This does nothing: it carries the laws.
+pub fn telling()
+    ensures told { (events : List Event) → All IsTold (judged_after [] (units_of events)) }
+    ensures rows { (end : Place) (events : List Event)
+        → (compile end events).diagnostics ≡ map finding_row (compile end events).findings }
+{
+    // It does nothing: it carries a law of verdicts.
+    numbering();
+}
+
+/// The facts of a root are what verdicts tell, each over those before it: of them the law of closed interfaces speaks
+/// (`inheriting` of `idl_check`). This does nothing: it carries the law.
+pub fn facts()
+    ensures { (units : List RootUnit) → AreTold (facts_after [] units) }
+{}

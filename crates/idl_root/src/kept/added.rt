@@ -1,0 +1,33 @@
+//! What a unit adds, on its way to the environment.
+
+ghost use Rattle.std.specs.Prelude.{◌≡◌, ◌++◌, IfOk};
+ghost use Rattle.idl_root.specs.Added.{told_by};
+
+use crate::kept::kept_units::Judgement;
+use idl_env::{Env, Room, Writes};
+use std::alloc::AllocError;
+use std::rc::Rc;
+
+/// What a unit adds.
+#[derive(Drop)]
+pub enum Added {
+    /// Not even how the open scopes change.
+    Nothing,
+    /// These facts, which are given up to the environment.
+    Given(Writes),
+    /// The facts of what is judged of it, which is kept.
+    Kept(Rc<Judgement>),
+}
+
+impl Added {
+    /// The facts of an environment, and these behind them. Facts that are given up leave their room.
+    pub fn behind(self, env: Env, room: &mut Room) -> Result<Env, AllocError>
+        ensures { IfOk result (λ after. after ≡ env ++ told_by self) }
+    {
+        match self {
+            Added::Nothing => Ok(env),
+            Added::Given(facts) => env.add_own(facts, room),
+            Added::Kept(judgement) => env.add(judgement.verdict.writes.get()),
+        }
+    }
+}

@@ -1,0 +1,4 @@
+-- What a reply is made of.
+pub mod Announced
+pub mod Replies
+pub mod Rows

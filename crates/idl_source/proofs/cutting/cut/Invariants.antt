@@ -1,6 +1,0 @@
-use Rattle.std.proofs.Common.{◌≡◌, ◌++◌}
-use Rattle.idl_source.specs.Cut.{cut_lines}
-use Rattle.idl_source.proofs.cutting.cut.Given as goal
-
-abbrev pub invariant-loop-line : goal.invariant-loop-line
-invariant-loop-line l = l.lines ++ l.line-iterator ≡ cut_lines l.fn.bytes

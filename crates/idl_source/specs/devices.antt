@@ -1,0 +1,3 @@
+-- Devices that give and take bytes.
+pub mod Device
+pub mod Memory

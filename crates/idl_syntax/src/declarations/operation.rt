@@ -1,0 +1,240 @@
+//! Operations.
+
+ghost use Rattle.std.specs.Prelude.{◌≡◌};
+ghost use Rattle.idl_lex.specs.declared.kinds.mark.Mark.TheVariants.{Comma};
+ghost use Rattle.idl_tree.specs.Lexeme.{lexemes};
+ghost use Rattle.idl_tree.specs.reading.ReadConstruction.{listed_with};
+ghost use Rattle.idl_tree.specs.reading.ReadExpression.{behind_with};
+ghost use Rattle.idl_tree.specs.reading.ReadInterface.{context_at, context_if, direction_of, operation_rest_with, operation_with, parameter_with, parameters_with, result_with, text_at};
+ghost use Rattle.idl_tree.specs.reading.ReadType.{type_at};
+ghost use Rattle.idl_tree.specs.reading.Reading.{first, many_of};
+ghost use Rattle.idl_tree.specs.reading.Tests.{is_mark};
+ghost use Rattle.idl_syntax.specs.Gives.{Advances, Reads, Remains};
+
+use crate::cursor::{behind, behind_word, closed, is_at, is_at_word, keyword, named};
+use crate::declarations::data_type::data_type;
+use crate::fault::SyntaxFault;
+use crate::literal::text;
+use crate::name::raises_if;
+use idl_base::{Boxed, Bytes, Seq};
+use idl_lex::Token;
+use idl_lex::kinds::{Keyword, Mark};
+use idl_tree::declarations::{DataType, Direction, Operation, Parameter};
+use idl_tree::{ScopedName, Several};
+use std::alloc::Global;
+
+/// The direction that the next token is.
+fn direction(tokens: &[Token]) -> Option<Direction>
+    ensures { result ≡ direction_of (first (lexemes tokens.now)) }
+{
+    match keyword(tokens) {
+        Some(Keyword::In) => Some(Direction::In),
+        Some(Keyword::Out) => Some(Direction::Out),
+        Some(Keyword::Inout) => Some(Direction::InOut),
+        _ => None,
+    }
+}
+
+/// A parameter.
+#[tactic(auto, unfolding(idl_tree::specs::reading::ReadInterface::parameter_with))]
+fn parameter(
+    alloc: Global,
+    depth: usize,
+    tokens: &[Token],
+) -> Result<(Parameter, &[Token]), SyntaxFault>
+    ensures reads { Reads (parameter_with (type_at depth)) tokens.now result }
+    ensures shorter { Advances tokens.now result }
+{
+    let Some(direction) = direction(tokens) else {
+        return Err(SyntaxFault::NoTree(tokens.len()));
+    };
+    let (kind, rest) = data_type(alloc, depth, &tokens[1..])?;
+    let ((kind, name), rest) = named(kind, rest)?;
+    let parameter = Parameter {
+        direction,
+        kind,
+        name,
+    };
+    Ok((parameter, rest))
+}
+
+/// One parameter or more, with commas between.
+#[tactic(auto, unfolding(idl_tree::specs::reading::ReadExpression::parted_with))]
+fn some_parameters(
+    alloc: Global,
+    depth: usize,
+    tokens: &[Token],
+) -> Result<(Several<Parameter>, &[Token]), SyntaxFault>
+    ensures reads { Reads (listed_with (parameter_with (type_at depth))) tokens.now result }
+    ensures shorter { Advances tokens.now result }
+{
+    let (first, rest) = parameter(alloc, depth, tokens)?;
+    let (more, rest) = more_parameters(alloc, depth, rest)?;
+    Ok((Several { first, rest: more }, rest))
+}
+
+/// The parameters before a closing parenthesis, if there are any.
+#[tactic(auto, unfolding(idl_tree::specs::reading::ReadInterface::parameters_with))]
+fn parameters(
+    alloc: Global,
+    depth: usize,
+    tokens: &[Token],
+) -> Result<(Option<Several<Parameter>>, &[Token]), SyntaxFault>
+    ensures reads { Reads (parameters_with (type_at depth)) tokens.now result }
+    ensures within { Remains tokens.now result }
+{
+    if is_at(tokens, Mark::CloseParenthesis) {
+        return Ok((None, tokens));
+    }
+    let (parameters, rest) = some_parameters(alloc, depth, tokens)?;
+    Ok((Some(parameters), rest))
+}
+
+/// Parameters, each behind a comma.
+fn more_parameters(
+    alloc: Global,
+    depth: usize,
+    tokens: &[Token],
+) -> Result<(Seq<Parameter>, &[Token]), SyntaxFault>
+    ensures reads { Reads (many_of (is_mark Comma) (behind_with Comma (parameter_with (type_at
+        depth)))) tokens.now result }
+    ensures within { Remains tokens.now result }
+{
+    let mut parameters = Vec::new(alloc);
+    let mut rest = tokens;
+    'parameters: while is_at(rest, Mark::Comma) {
+        let (one, after) = parameter(alloc, depth, &rest[1..])?;
+        parameters.push(one)?;
+        rest = after;
+    }
+    Ok((Seq::from_vec(parameters), rest))
+}
+
+/// An operation's result, which is none of `void`.
+#[tactic(auto, unfolding(idl_tree::specs::reading::ReadInterface::result_with))]
+fn operation_result(
+    alloc: Global,
+    depth: usize,
+    tokens: &[Token],
+) -> Result<(Option<DataType>, &[Token]), SyntaxFault>
+    ensures reads { Reads (result_with (type_at depth)) tokens.now result }
+    ensures shorter { Advances tokens.now result }
+{
+    if is_at_word(tokens, Keyword::Void) {
+        let rest = behind_word(tokens, Keyword::Void)?;
+        Ok((None, rest))
+    } else {
+        let (result, rest) = data_type(alloc, depth, tokens)?;
+        Ok((Some(result), rest))
+    }
+}
+
+/// One narrow string or more, with commas between.
+#[tactic(auto, unfolding(idl_tree::specs::reading::ReadExpression::parted_with))]
+fn texts(
+    alloc: Global,
+    tokens: &[Token],
+) -> Result<(Several<Several<Seq<u16>>>, &[Token]), SyntaxFault>
+    ensures reads { Reads (listed_with text_at) tokens.now result }
+    ensures shorter { Advances tokens.now result }
+{
+    let (first, rest) = text(alloc, tokens)?;
+    let (more, rest) = more_texts(alloc, rest)?;
+    Ok((Several { first, rest: more }, rest))
+}
+
+/// Narrow strings, each behind a comma.
+fn more_texts(
+    alloc: Global,
+    tokens: &[Token],
+) -> Result<(Seq<Several<Seq<u16>>>, &[Token]), SyntaxFault>
+    ensures reads { Reads (many_of (is_mark Comma) (behind_with Comma text_at)) tokens.now result }
+    ensures within { Remains tokens.now result }
+{
+    let mut texts = Vec::new(alloc);
+    let mut rest = tokens;
+    'texts: while is_at(rest, Mark::Comma) {
+        let (one, after) = text(alloc, &rest[1..])?;
+        texts.push(one)?;
+        rest = after;
+    }
+    Ok((Seq::from_vec(texts), rest))
+}
+
+/// `context` and narrow strings in parentheses.
+#[tactic(auto, unfolding(idl_tree::specs::reading::ReadInterface::context_at))]
+fn context(
+    alloc: Global,
+    tokens: &[Token],
+) -> Result<(Several<Several<Seq<u16>>>, &[Token]), SyntaxFault>
+    ensures reads { Reads context_at tokens.now result }
+    ensures shorter { Advances tokens.now result }
+{
+    let rest = behind_word(tokens, Keyword::Context)?;
+    let rest = behind(rest, Mark::OpenParenthesis)?;
+    let (texts, rest) = texts(alloc, rest)?;
+    closed(texts, rest, Mark::CloseParenthesis)
+}
+
+/// The same, if the keyword stands there.
+#[tactic(auto, unfolding(idl_tree::specs::reading::ReadInterface::context_if))]
+fn context_if(
+    alloc: Global,
+    tokens: &[Token],
+) -> Result<(Option<Boxed<Several<Several<Seq<u16>>>>>, &[Token]), SyntaxFault>
+    ensures reads { Reads context_if tokens.now result }
+    ensures within { Remains tokens.now result }
+{
+    if !is_at_word(tokens, Keyword::Context) {
+        return Ok((None, tokens));
+    }
+    let (texts, rest) = context(alloc, tokens)?;
+    Ok((Some(Boxed::new(alloc, texts)?), rest))
+}
+
+/// An operation.
+#[tactic(auto, unfolding(idl_tree::specs::reading::ReadInterface::operation_with))]
+pub fn operation(
+    alloc: Global,
+    depth: usize,
+    tokens: &[Token],
+) -> Result<(Operation, &[Token]), SyntaxFault>
+    ensures reads { Reads (operation_with (type_at depth)) tokens.now result }
+    ensures shorter { Advances tokens.now result }
+{
+    let is_oneway = is_at_word(tokens, Keyword::Oneway);
+    let rest = if is_oneway { &tokens[1..] } else { tokens };
+    let (result, rest) = operation_result(alloc, depth, rest)?;
+    let (head, rest) = named((is_oneway, result), rest)?;
+    operation_rest(alloc, depth, head, rest)
+}
+
+/// What stands behind the name of an operation, of which it is known whether it is oneway, and its
+/// result.
+#[tactic(auto, unfolding(idl_tree::specs::reading::ReadInterface::operation_rest_with))]
+fn operation_rest(
+    alloc: Global,
+    depth: usize,
+    head: ((bool, Option<DataType>), Bytes),
+    tokens: &[Token],
+) -> Result<(Operation, &[Token]), SyntaxFault>
+    ensures reads { Reads (operation_rest_with (type_at depth) head.0.0 head.0.1 head.1)
+        tokens.now result }
+    ensures shorter { Advances tokens.now result }
+{
+    let rest = behind(tokens, Mark::OpenParenthesis)?;
+    let (parameters, rest) = parameters(alloc, depth, rest)?;
+    let (parameters, rest) = closed(parameters, rest, Mark::CloseParenthesis)?;
+    let (raised, rest) = raises_if(alloc, Keyword::Raises, rest)?;
+    let (context, rest) = context_if(alloc, rest)?;
+    let ((is_oneway, result), name) = head;
+    let operation = Operation {
+        is_oneway,
+        result,
+        name,
+        parameters,
+        raises: raised,
+        context,
+    };
+    Ok((operation, rest))
+}

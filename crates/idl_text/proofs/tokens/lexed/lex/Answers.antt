@@ -1,0 +1,54 @@
+use Rattle.std.proofs.Common.{◌≡◌, ◌∙◌, ◌+◌, ◌≤◌, ◌++◌, ◌∷◌, [], ap, arith, drop, length, length-drop, rules, subst, sym}
+use Rattle.std.proofs.lemmas.List.{take_rest}
+use Rattle.idl_text.specs.Block.{AreBlocks, IsBlock, lines_in_blocks, tokens_in_blocks}
+use Rattle.idl_lex.specs.tokens.Tokens.{tokens_of}
+use Rattle.idl_text.specs.declared.tokens.block.Block.{Block}
+use Rattle.idl_text.specs.declared.tokens.block.PlacedBlock.{PlacedBlock}
+use Rattle.idl_text.proofs.BlockLemmas.{AreBlocks-push, AreBlocks-all, lines_in-push, tokens_in-push}
+use Rattle.idl_text.proofs.tokens.lexed.lex.Goals as goal
+
+pub next_block-requires-clause-room : goal.next_block-requires-clause-room
+next_block-requires-clause-room c =
+    let lines = c.lines-lines.result.now in
+    subst (λ ls. length ls ≤ 200000) (sym (take_rest lines c.cut.count)) (omega (arith, length-drop c.cut.count lines, ap length c.lines-lines.ensures, c.line_count-total.ensures.count, c.line_count-total.ensures.within))
+
+pub cut-preserved : goal.cut-preserved
+cut-preserved c =
+    let lines = c.lines-lines.result.now in
+    let count = c.cut.count in
+    let blocks = c.cut.placed.items in
+    let block = c.in_ok-block.block.value in
+    let b : PlacedBlock = record { block = c.in_ok-block.block; lines_before = count; tokens_before = c.cut.tokens } in
+    let is : IsBlock (drop count lines) block = subst (λ ls. IsBlock ls block) (take_rest lines count) c.in_ok-block.ensures in
+    let there : c.push.new.self.items ≡ blocks ++ b ∷ [] = search rules in
+    let same : c.deref.result.now.lines ≡ block.lines = ap (λ (x : Block). x.lines) c.deref.ensures in
+    let more : c.in_ok-tokens.tokens ≡ c.cut.tokens + length block.tokens = c.in_ok-tokens.ensures.sum ∙ ap (λ (x : Block). c.cut.tokens + length x.tokens) c.deref-in-cut.ensures in
+    let here = c.cut.invariant in
+    record {
+      within = omega (arith, same, is.within, length-drop count lines, here.within);
+      blocks = subst (AreBlocks lines 0 0) (sym there)
+          (AreBlocks-push lines 0 0 blocks b here.blocks (omega (arith, here.lines)) (omega (arith, here.tokens)) (subst (λ n. IsBlock (drop n lines) block) here.lines is));
+      lines = omega (arith, same, here.lines, lines_in-push blocks b, ap lines_in_blocks there);
+      room = c.in_ok-tokens.ensures.fits;
+      tokens = omega (arith, more, here.tokens, tokens_in-push blocks b, ap (λ bs. length (tokens_in_blocks bs)) there);
+    }
+
+pub invariant_of-result : goal.invariant_of-result
+invariant_of-result c =
+    let lines = c.lines-lines.result.now in
+    let file = c.in_ok-clone.field-0 in
+    let same : lines ≡ file = c.lines-lines.ensures ∙ sym c.in_ok-clone.ensures.cases in
+    let here = c.cut.invariant in
+    let size : length lines ≡ c.line_count-total.result = omega (arith, c.line_count-total.ensures.count, ap length c.lines-lines.ensures) in
+    record {
+      each = subst (λ ls. AreBlocks ls 0 0 c.cut.placed.items) same here.blocks;
+      whole = omega (arith, here.lines, here.within, c.cut-test.false, size, ap length same);
+      few = omega (arith, size, c.line_count-total.ensures.within, ap length same);
+      countable = omega (arith, here.tokens, here.room);
+    }
+
+pub returns : goal.returns
+returns c =
+    let lines = c.lines-lines.result.now in
+    let here = c.cut.invariant in
+    AreBlocks-all lines c.cut.placed.items here.blocks (omega (arith, here.lines, here.within, c.cut-test.false, c.line_count-total.ensures.count, ap length c.lines-lines.ensures)) ∙ ap tokens_of c.lines-lines.ensures

@@ -1,0 +1,8 @@
+//! The tokens of a file.
+
+pub(crate) mod block;
+pub(crate) mod blocks;
+pub(crate) mod file_tokens;
+pub(crate) mod lexed;
+pub(crate) mod token_range;
+pub(crate) mod tokens_left;

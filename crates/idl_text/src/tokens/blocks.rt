@@ -1,0 +1,87 @@
+//! The blocks of a text, of which a later text takes over what is the same.
+
+ghost use Rattle.std.specs.Prelude.{◌≡◌, ◌⊎◌, ◌≤◌, ◌<◌, IsTrue, length, take, IfSome};
+ghost use Rattle.std.specs.List.{Contains};
+ghost use Rattle.idl_text.specs.Block.{AreBlocksOf, IsBlock};
+
+use crate::tokens::block::{Block, PlacedBlock};
+use idl_source::{File, Line};
+use std::rc::Rc;
+
+/// A file and its blocks.
+#[derive(Drop)]
+pub struct Blocks {
+    pub file: File,
+    pub placed: Vec<PlacedBlock>,
+}
+
+impl Blocks {
+    /// Whether a block begins so many lines before the end.
+    pub fn begins_block(&self, left: usize) -> bool {
+        match self.file.line_count().checked_sub(left) {
+            Some(before) => self.block_behind(before).is_some(),
+            None => false,
+        }
+    }
+
+    // The block that begins behind so many lines.
+    fn block_behind(&self, before: usize) -> Option<&PlacedBlock>
+        ensures { IfSome result
+            (λ b. Contains self.now.placed.items b.now × (b.now.lines_before ≡ before)) }
+    {
+        match self
+            .placed
+            .binary_search_by_key(&before, |placed| placed.lines_before)
+        {
+            Ok(place) => Some(&self.placed[place]),
+            Err(_) => None,
+        }
+    }
+
+    /// The block with which these lines begin too, if they stand behind as many lines, or as far from the end.
+    pub fn block_for(&self, before: usize, lines: &[Line]) -> Option<&Rc<Block>>
+        requires { AreBlocksOf self.now.file self.now.placed.items }
+        ensures { IfSome result (λ block. IsBlock lines.now block.now.value) }
+    {
+        match self.same_block(before, lines) {
+            Some(block) => Some(block),
+            None => {
+                let start = self.file.line_count().checked_sub(lines.len())?;
+                if start == before {
+                    return None;
+                }
+                self.same_block(start, lines)
+            }
+        }
+    }
+
+    // The block behind so many lines, if these lines begin with its lines.
+    fn same_block(&self, before: usize, lines: &[Line]) -> Option<&Rc<Block>>
+        requires { AreBlocksOf self.now.file self.now.placed.items }
+        ensures { IfSome result (λ block. IsBlock lines.now block.now.value) }
+    {
+        let placed = self.block_behind(before)?;
+        let (_before, own) = self.file.lines().split_at(before);
+        if !begin_alike(placed.block.lines, lines, own) {
+            return None;
+        }
+        Some(&placed.block)
+    }
+}
+
+// Whether so many lines are the first ones of both, and the last ones of both or of neither: the last lines of a file may
+// stay open, where others follow.
+fn begin_alike(count: usize, lines: &[Line], own: &[Line]) -> bool
+    requires { count ≤ length own.now }
+    ensures within { IsTrue result → count ≤ length lines.now }
+    ensures same { IsTrue result → take count lines.now ≡ take count own.now }
+    ensures end { IsTrue result → (count < length own.now) ⊎ (count ≡ length lines.now) }
+{
+    if lines.len() < count {
+        return false;
+    }
+    if own.len() == count && lines.len() != count {
+        return false;
+    }
+    lines[..count] == own[..count]
+}

@@ -1,0 +1,110 @@
+//! A walk over the tokens of a file, line by line.
+
+ghost use Rattle.std.specs.Prelude.{◌≡◌, ◌≤◌, ◌<◌, ◌++◌, ◌∷◌, [], ◌↔◌, ◌+◌, IsTrue, drop, length, take, true};
+ghost use Rattle.idl_text.specs.Block.{AreOfSomeFile, tokens_in_blocks};
+ghost use Rattle.std.specs.List.{All};
+ghost use Rattle.idl_lex.specs.tokens.Tokens.{is_text, lines_of};
+
+use crate::tokens::block::PlacedBlock;
+use crate::tokens::file_tokens::FileTokens;
+use std::marker::Model;
+
+/// The tokens of a file that are left, from a place on. To every contract they are their list.
+#[derive(Drop)]
+pub struct TokensLeft<'a> {
+    blocks: &'a [PlacedBlock],
+    // The first of them: its block, its place in that, and how many tokens of the file are before it. Where none is left,
+    // there is no such block.
+    block: usize,
+    place: usize,
+    before: usize,
+}
+
+impl<'a> Model for TokensLeft<'a> {
+    ghost use Rattle.std.specs.Prelude.{List, drop};
+    ghost use Rattle.idl_text.specs.Block.{AreOfSomeFile, IsPlace, tokens_in_blocks};
+    ghost use Rattle.idl_lex.specs.declared.tokens.token.PlacedToken.{PlacedToken};
+
+    ghost Value = { List PlacedToken };
+
+    ghost view = { λ left. drop left.before (tokens_in_blocks left.blocks.now) };
+
+    ghost invariant = { λ left. AreOfSomeFile left.blocks.now
+        × IsPlace left.blocks.now left.block left.place left.before };
+}
+
+impl<'a> TokensLeft<'a> {
+    /// The tokens from a place of a block on, or of those behind it where it has fewer.
+    pub(crate) fn new(
+        blocks: &'a [PlacedBlock],
+        near: usize,
+        from: usize,
+        before: usize,
+    ) -> TokensLeft<'a>
+        requires blocks { AreOfSomeFile blocks.now }
+        requires place { before ≡ length (tokens_in_blocks (take near blocks.now)) + from }
+        requires within { before ≤ length (tokens_in_blocks blocks.now) }
+        ensures { result ≡ drop before (tokens_in_blocks blocks.now) }
+    {
+        let mut block = near;
+        let mut place = from;
+        'on: while block < blocks.len() && blocks[block].block.tokens.len() <= place {
+            place -= blocks[block].block.tokens.len();
+            block += 1;
+        }
+        TokensLeft {
+            blocks,
+            block,
+            place,
+            before,
+        }
+    }
+
+    /// Whether no token is left.
+    pub fn is_empty(&self) -> bool
+        ensures { IsTrue result ↔ (self.now ≡ []) }
+    {
+        self.blocks.len() <= self.block
+    }
+
+    /// The tokens of the first line, and those after it.
+    pub fn first_line(&self) -> (FileTokens<'a>, TokensLeft<'a>)
+        requires { 0 < length self.now }
+        ensures lines { lines_of self.now ≡ result.0 ∷ lines_of result.1 }
+        ensures all { self.now ≡ result.0 ++ result.1 }
+        ensures some { 0 < length result.0 }
+    {
+        let placed = &self.blocks[self.block];
+        let here = FileTokens::new(&placed.block, placed.lines_before as u32, self.place);
+        let count = here.first_line_len();
+        let (line, _rest) = here.split_at(count);
+        let rest = TokensLeft::new(
+            self.blocks,
+            self.block,
+            self.place + count,
+            self.before + count,
+        );
+        (line, rest)
+    }
+
+    /// The tokens of the lines that come first before one that begins with `#`, or of some of these lines, and those after
+    /// them.
+    pub fn first_text(&self) -> (FileTokens<'a>, TokensLeft<'a>)
+        requires { 0 < length self.now }
+        ensures lines { lines_of self.now ≡ lines_of result.0 ++ lines_of result.1 }
+        ensures all { self.now ≡ result.0 ++ result.1 }
+        ensures text { All (λ line. is_text line ≡ true) (lines_of result.0) }
+    {
+        let placed = &self.blocks[self.block];
+        let here = FileTokens::new(&placed.block, placed.lines_before as u32, self.place);
+        let count = here.text_len();
+        let (text, _rest) = here.split_at(count);
+        let rest = TokensLeft::new(
+            self.blocks,
+            self.block,
+            self.place + count,
+            self.before + count,
+        );
+        (text, rest)
+    }
+}

@@ -1,0 +1,205 @@
+-- Reading of units.
+use Rattle.std.specs.Prelude.{ℕ, List, drop, Option, Some, None, Ok, Bool, if◌then◌else◌}
+use Rattle.idl_lex.specs.declared.kinds.keyword.Keyword.{Keyword}
+use Rattle.idl_lex.specs.declared.kinds.keyword.Keyword.TheVariants as word
+use Rattle.idl_lex.specs.declared.kinds.mark.Mark.TheVariants as mark
+use Rattle.idl_tree.specs.reading.ReadConstruction.{listed_with, member_type_with, member_with, goes_on, structure_rest_with, union_rest_with, enumeration_at, construction_at}
+use Rattle.idl_tree.specs.reading.ReadExpression.{expression_at}
+use Rattle.idl_tree.specs.reading.ReadInterface.{readonly_attribute_with, attribute_with, operation_with}
+use Rattle.idl_tree.specs.reading.ReadName.{name_at}
+use Rattle.idl_tree.specs.reading.ReadType.{discrete_at, string_with, declarator_with, type_at}
+use Rattle.idl_tree.specs.reading.Reading.{Reader, ◌>>=◌, first, expect, many_of}
+use Rattle.idl_tree.specs.reading.Tests.{is_mark, is_word, keyword_of, identifier_at}
+use Rattle.idl_tree.specs.declared.declarations.construction.Construction.{Construction}
+use Rattle.idl_tree.specs.declared.declarations.construction.Construction.TheVariants as construction
+use Rattle.idl_tree.specs.declared.declarations.construction.Member.{Member}
+use Rattle.idl_tree.specs.declared.declarations.construction.MemberType.{MemberType}
+use Rattle.idl_tree.specs.declared.declarations.data_type.DataType.{DataType}
+use Rattle.idl_tree.specs.declared.declarations.declarator.Declarator.{Declarator}
+use Rattle.idl_tree.specs.declared.expression.Expression.{Expression}
+use Rattle.idl_tree.specs.declared.declarations.interface.Forward.TheVariants as forward
+use Rattle.idl_tree.specs.declared.name.ScopedName.{ScopedName}
+use Rattle.idl_tree.specs.declared.several.Several.{Several}
+use Rattle.idl_tree.specs.declared.unit.Constant.{Constant}
+use Rattle.idl_tree.specs.declared.unit.ConstantType.{ConstantType}
+use Rattle.idl_tree.specs.declared.unit.ConstantType.TheVariants as constant_type
+use Rattle.idl_tree.specs.declared.unit.Exception.{Exception}
+use Rattle.idl_tree.specs.declared.unit.Tree.{Tree}
+use Rattle.idl_tree.specs.declared.unit.Tree.TheVariants as tree
+use Rattle.idl_tree.specs.declared.unit.Typedef.{Typedef}
+
+abbrev pub made_typedef : MemberType → Several Declarator → Typedef
+made_typedef kind declarators = record { kind = kind; declarators = declarators }
+
+-- typedef = "typedef" ( type | constr ) declr/","
+unfoldable pub typedef_with : Reader Expression → Reader DataType → Reader Construction
+    → Reader Typedef
+typedef_with expression type inner ts = do
+  rest ← expect (is_word word.Typedef) ts
+  t ← member_type_with type inner rest
+  ds ← listed_with (declarator_with expression) t.1
+  Ok (made_typedef t.0 ds.0, ds.1)
+
+-- ctype, by its first keyword
+abbrev pub constant_type_by : Reader Expression → Option Keyword → Reader ConstantType
+constant_type_by expression (Some word.String) ts =
+    string_with expression ts >>= λ s. Ok (constant_type.String s.0, s.1)
+constant_type_by expression (Some word.Wstring) ts =
+    string_with expression ts >>= λ s. Ok (constant_type.String s.0, s.1)
+constant_type_by expression None ts = name_at ts >>= λ n. Ok (constant_type.Name n.0, n.1)
+constant_type_by expression others ts =
+    discrete_at ts >>= λ d. Ok (constant_type.Discrete d.0, d.1)
+
+unfoldable pub constant_type_with : Reader Expression → Reader ConstantType
+constant_type_with expression ts = constant_type_by expression (keyword_of (first ts)) ts
+
+abbrev pub made_constant : ConstantType → List ℕ → Expression → Constant
+made_constant kind name value = record { kind = kind; name = name; value = value }
+
+-- const = "const" ctype ID "=" expr
+unfoldable pub constant_with : Reader Expression → Reader Constant
+constant_with expression ts = do
+  rest ← expect (is_word word.Const) ts
+  kind ← constant_type_with expression rest
+  name ← identifier_at kind.1
+  rest2 ← expect (is_mark mark.Equals) name.1
+  value ← expression rest2
+  Ok (made_constant kind.0 name.0 value.0, value.1)
+
+abbrev pub made_exception : List ℕ → List Member → Exception
+made_exception name members = record { name = name; members = members }
+
+-- except = "exception" ID "{" member* "}"
+unfoldable pub exception_with : Reader Expression → Reader DataType → Reader Construction
+    → Reader Exception
+exception_with expression type inner ts = do
+  rest ← expect (is_word word.Exception) ts
+  name ← identifier_at rest
+  rest2 ← expect (is_mark mark.OpenBrace) name.1
+  members ← many_of goes_on (member_with expression type inner) rest2
+  rest3 ← expect (is_mark mark.CloseBrace) members.1
+  Ok (made_exception name.0 members.0, rest3)
+
+-- "native" ID
+unfoldable pub native_at : Reader (List ℕ)
+native_at ts = do
+  rest ← expect (is_word word.Native) ts
+  identifier_at rest
+
+-- closing = "}" ";"
+unfoldable pub closing_at : Reader Tree
+closing_at ts = do
+  rest ← expect (is_mark mark.CloseBrace) ts
+  rest2 ← expect (is_mark mark.Semicolon) rest
+  Ok (tree.Closing, rest2)
+
+-- "module" ID "{"
+unfoldable pub module_at : Reader Tree
+module_at ts = do
+  rest ← expect (is_word word.Module) ts
+  name ← identifier_at rest
+  rest2 ← expect (is_mark mark.OpenBrace) name.1
+  Ok (tree.Module name.0, rest2)
+
+-- [":" name/","]
+unfoldable pub bases_at : Reader (Option (Several ScopedName))
+bases_at ts =
+    if is_mark mark.Colon (first ts) then (do
+      rest ← expect (is_mark mark.Colon) ts
+      ns ← listed_with name_at rest
+      Ok (Some ns.0, ns.1))
+    else Ok (None, ts)
+
+abbrev pub ahead : Bool → List ℕ → Tree
+ahead is_local name = tree.Forward (forward.Interface is_local name)
+
+abbrev pub opened : Bool → List ℕ → Option (Several ScopedName) → Tree
+opened is_local name bases =
+    tree.Interface (record { is_local = is_local; name = name; bases = bases })
+
+-- [":" name/","] "{", or ";" of a declaration ahead
+unfoldable pub interface_rest : Bool → List ℕ → Reader Tree
+interface_rest is_local name ts =
+    if is_mark mark.Semicolon (first ts) then (do
+      rest ← expect (is_mark mark.Semicolon) ts
+      Ok (ahead is_local name, rest))
+    else (do
+      bases ← bases_at ts
+      rest ← expect (is_mark mark.OpenBrace) bases.1
+      Ok (opened is_local name bases.0, rest))
+
+-- ["local"] "interface" ID ( ";" | [":" name/","] "{" )
+unfoldable pub interface_at : Reader Tree
+interface_at ts = do
+  let is_local : Bool = is_word word.Local (first ts)
+  rest ← expect (is_word word.Interface) (if is_local then drop 1 ts else ts)
+  name ← identifier_at rest
+  interface_rest is_local name.0 name.1
+
+-- what ends in ";"
+unfoldable pub ended_with : {A : Type 0} → (A → Tree) → Reader A → Reader Tree
+ended_with make reader ts = do
+  x ← reader ts
+  rest ← expect (is_mark mark.Semicolon) x.1
+  Ok (make x.0, rest)
+
+-- ";" of a declaration ahead
+unfoldable pub ahead_at : Tree → Reader Tree
+ahead_at declaration ts = do
+  rest ← expect (is_mark mark.Semicolon) ts
+  Ok (declaration, rest)
+
+-- "struct" ID ( ";" | "{" member+ "}" ";" )
+unfoldable pub structure_unit_with : Reader Expression → Reader DataType → Reader Construction
+    → Reader Tree
+structure_unit_with expression type inner ts = do
+  rest ← expect (is_word word.Struct) ts
+  name ← identifier_at rest
+  if is_mark mark.OpenBrace (first name.1)
+      then ended_with (λ s. tree.Construction (construction.Structure s))
+      (structure_rest_with expression type inner name.0) name.1
+      else ahead_at (tree.Forward (forward.Structure name.0)) name.1
+
+-- "union" ID ( ";" | "switch" "(" disc ")" "{" case+ "}" ";" )
+unfoldable pub union_unit_with : Reader Expression → Reader DataType → Reader Construction
+    → Reader Tree
+union_unit_with expression type inner ts = do
+  rest ← expect (is_word word.Union) ts
+  name ← identifier_at rest
+  if is_word word.Switch (first name.1)
+      then ended_with (λ u. tree.Construction (construction.Union u))
+      (union_rest_with expression type inner name.0) name.1
+      else ahead_at (tree.Forward (forward.Union name.0)) name.1
+
+-- a unit that isn't a closing, by its first keyword
+abbrev pub unit_by : Reader Expression → Reader DataType → Reader Construction
+    → Option Keyword → Reader Tree
+unit_by expression type inner (Some word.Module) ts = module_at ts
+unit_by expression type inner (Some word.Local) ts = interface_at ts
+unit_by expression type inner (Some word.Interface) ts = interface_at ts
+unit_by expression type inner (Some word.Struct) ts = structure_unit_with expression type inner ts
+unit_by expression type inner (Some word.Union) ts = union_unit_with expression type inner ts
+unit_by expression type inner (Some word.Enum) ts =
+    ended_with (λ e. tree.Construction (construction.Enumeration e)) enumeration_at ts
+unit_by expression type inner (Some word.Typedef) ts =
+    ended_with tree.Typedef (typedef_with expression type inner) ts
+unit_by expression type inner (Some word.Native) ts = ended_with tree.Native native_at ts
+unit_by expression type inner (Some word.Const) ts =
+    ended_with tree.Constant (constant_with expression) ts
+unit_by expression type inner (Some word.Exception) ts =
+    ended_with tree.Exception (exception_with expression type inner) ts
+unit_by expression type inner (Some word.Readonly) ts =
+    ended_with tree.ReadonlyAttribute (readonly_attribute_with type) ts
+unit_by expression type inner (Some word.Attribute) ts =
+    ended_with tree.Attribute (attribute_with type) ts
+unit_by expression type inner others ts = ended_with tree.Operation (operation_with type) ts
+
+-- opening | closing | decl
+unfoldable pub unit_with : Reader Expression → Reader DataType → Reader Construction → Reader Tree
+unit_with expression type inner ts =
+    if is_mark mark.CloseBrace (first ts) then closing_at ts
+    else unit_by expression type inner (keyword_of (first ts)) ts
+
+-- a unit with parts at most n deep
+unfoldable pub unit_at : ℕ → Reader Tree
+unit_at n ts = unit_with (expression_at n) (type_at n) (construction_at n) ts

@@ -1,0 +1,49 @@
+-- The types of which there are constants.
+use Rattle.std.specs.Prelude.{ℕ, ℤ, pos, Bool, true, false, Option, None, Some}
+use Rattle.idl_tree.specs.declared.declarations.data_type.DiscreteType.{DiscreteType}
+use Rattle.idl_tree.specs.declared.declarations.data_type.DiscreteType.TheVariants as discrete
+use Rattle.idl_tree.specs.declared.declarations.data_type.IntegerSize.{IntegerSize}
+use Rattle.idl_tree.specs.declared.declarations.data_type.IntegerSize.TheVariants as size
+use Rattle.idl_value.specs.integers.Integer.{power, width}
+use Rattle.idl_value.specs.declared.integer.IntegerKind.{IntegerKind}
+use Rattle.idl_value.specs.declared.integer.IntegerKind.TheVariants.{Octet, Short, UnsignedShort, Long, UnsignedLong, LongLong, UnsignedLongLong}
+use Rattle.idl_value.specs.declared.constant_type.Target.{Target}
+use Rattle.idl_value.specs.declared.constant_type.Target.TheVariants as target
+
+-- the integer type of a size
+abbrev pub integer_of : Bool → IntegerSize → IntegerKind
+integer_of true size.Short = UnsignedShort
+integer_of true size.Long = UnsignedLong
+integer_of true size.LongLong = UnsignedLongLong
+integer_of false size.Short = Short
+integer_of false size.Long = Long
+integer_of false size.LongLong = LongLong
+
+-- the type that keywords name
+abbrev pub target_of : DiscreteType → Target
+target_of (discrete.Integer i) = target.Integer (integer_of i.is_unsigned i.size)
+target_of discrete.Char = target.Character
+target_of discrete.WideChar = target.WideCharacter
+target_of discrete.Boolean = target.Boolean
+target_of discrete.Octet = target.Integer Octet
+
+-- a union may have a discriminator of the type
+abbrev pub discriminates : Target → Bool
+discriminates (target.Integer Octet) = false
+discriminates (target.Integer other) = true
+discriminates target.Boolean = true
+discriminates target.Character = true
+discriminates (target.Enumeration path) = true
+discriminates target.WideCharacter = false
+discriminates (target.Text bound) = false
+discriminates (target.WideText bound) = false
+
+-- how many values the type has, where its enum has so many enumerators
+abbrev pub value_count : Target → ℕ → Option ℤ
+value_count (target.Integer kind) enumerators = Some (power (width kind))
+value_count target.Boolean enumerators = Some (pos 2)
+value_count target.Character enumerators = Some (pos 256)
+value_count target.WideCharacter enumerators = Some (pos 65536)
+value_count (target.Text bound) enumerators = None
+value_count (target.WideText bound) enumerators = None
+value_count (target.Enumeration path) enumerators = Some (pos enumerators)
